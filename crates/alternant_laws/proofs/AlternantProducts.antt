@@ -1,4 +1,4 @@
--- An alternant times a symmetric polynomial: a_β·f is the sum over the terms of f, of exponents α, of a_(β + α).
+-- An alternant times a symmetric polynomial f: a_β·f is the sum of c·a_(β + α) over the terms c·x^α of f.
 use Rattle.std.proofs.Common.{◌≡◌, ℕ, List, length, sym, ◌∙◌, ap, ℤ, ◌*ℤ◌}
 use Rattle.sym_model.specs.Sum.{total}
 use Rattle.sym_model.specs.Polynomial.{Poly, Term, Same, In, join, scale, times, pair}
@@ -11,7 +11,8 @@ use Rattle.sym_model.proofs.Polynomials.{pair_ext, pair_in, pair_factor, pair_to
 use Rattle.alternant_laws.proofs.OrderSums.{pair_orders, rearranged-join}
 use Rattle.alternant_laws.proofs.Symmetry.{pair_rearranged}
 
--- both sides are the sum over the orders of the sign times the pairing of f with φ at the rearranged sums of exponents
+-- if f is symmetric, the pairing of a_β·f with φ is the sum, over the orders w of 1, .., n and the terms c·x^α of f, of sign(w)·c times φ at β + α
+-- rearranged by w
 pub pair_alternant_times : (n : ℕ) (β : List ℕ) (f : Poly) (φ : List ℕ → ℤ) → length β ≡ n → In n f → Symmetric f
     → pair (times (alternant β) f) φ ≡ total (λ (w : List ℕ). sign w *ℤ pair f (λ α. φ (rearranged w (join β α)))) (orders (places n))
 pair_alternant_times n β f φ e i s =

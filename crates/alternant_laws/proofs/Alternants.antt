@@ -34,7 +34,7 @@ alternant_equal left middle right a =
 
 -- ---- an alternant of n exponents is a polynomial in n variables
 
--- each order of a list has the length of the list
+-- exchanging two neighbours keeps the length of a list
 length_kept : (n : ℕ) → KeptByExchanges (λ w. length w ≡ n)
 length_kept n [] a b r h = h
 length_kept n (c ∷ l) a b r h = omega (arith, length_kept (length (l ++ (a ∷ b ∷ r))) l a b r refl)

@@ -14,7 +14,7 @@ use Rattle.sym_model.proofs.PartitionLists.{partitions_of-tells, Among-partition
 use Rattle.alternant_laws.proofs.Degrees.{OfDegree, coefficient-other_degree, times-of_degree, alternant-of_degree, schur_product-of_degree}
 use lib.IntN.{+ℤ_idl}
 
--- terms with the coefficient 0 change no coefficient
+-- leaving out the terms with the coefficient 0 changes no coefficient
 coefficient-nonzero : (terms : WholeTerms) (α : List ℕ) → coefficient (nonzero terms) α ≡ coefficient terms α
 coefficient-nonzero [] α = refl
 coefficient-nonzero (t ∷ terms) α = by (ltb 0 (nat_abs t.1)) refl (coefficient-nonzero terms α)
@@ -32,7 +32,7 @@ coefficient-nonzero (t ∷ terms) α = by (ltb 0 (nat_abs t.1)) refl (coefficien
         ∙ sym (+ℤ_idl (coefficient terms α))
         ∙ ap (λ z. z +ℤ coefficient terms α) (none (same t.0 α) t.1 (ltb-false 0 (nat_abs t.1) e))
 
--- the partitions of the degree with at most k rows
+-- the partitions with at most k rows whose size is the sum of the sizes of the factors
 abbrev candidates : ℕ → List (List ℕ) → List (List ℕ)
 candidates k factors = filter (λ parts. leb (rows parts) k) (partitions_of (size (map size factors)))
 
@@ -41,7 +41,7 @@ candidates-once k factors =
     let d = size (map size factors) in
     Once-select (λ parts. leb (rows parts) k) (partitions_of d) (Once-FallsLexicographically _ (FallsLexicographically-partitions_within d d d))
 
--- a homogeneous polynomial has the Schur coefficient 0 at partitions of another size
+-- a homogeneous polynomial of degree d has the Schur coefficient 0 at partitions of another size than d
 schur_coefficient-other : (k d : ℕ) (parts : List ℕ) (f : Poly) → OfDegree d f → (size parts ≡ d → ⊥) → schur_coefficient k parts f ≡ pos 0
 schur_coefficient-other k d parts f h other =
     coefficient-other_degree (size (staircase k) + d) (times (alternant (staircase k)) f) (join parts (staircase k))

@@ -1,5 +1,5 @@
 -- Homogeneous polynomials: their products, alternants and Schur polynomials.
-use Rattle.std.proofs.Common.{◌≡◌, ℕ, zero, suc, ◌+◌, cond, List, [], ◌∷◌, ◌++◌, map, length, replicate, length-append, pos, ◌*ℤ◌, refl, sym, ap, ◌∙◌, subst, inl, inr, arith}
+use Rattle.std.proofs.Common.{◌≡◌, ℕ, ◌+◌, cond, List, [], ◌∷◌, ◌++◌, map, length, length-append, pos, ◌*ℤ◌, refl, sym, ap, ◌∙◌, subst, inl, inr, arith}
 use Rattle.std.proofs.lemmas.Bool.{cond-false}
 use Rattle.sym_model.specs.Sum.{Among}
 use Rattle.sym_model.specs.Polynomial.{Term, Poly, same, join, coefficient, one, times}
@@ -14,6 +14,7 @@ use Rattle.alternant_laws.proofs.OrderSums.{rearranged_places}
 use Rattle.sym_model.specs.Bounded.{AreLetters}
 use Rattle.sym_model.proofs.Contents.{size-content}
 use Rattle.sym_model.proofs.Tableaux.{word_tells}
+use Rattle.sym_model.proofs.Parts.{size-zeros}
 
 -- every term of f has degree d
 abbrev pub OfDegree : ℕ → Poly → Type 0
@@ -36,16 +37,12 @@ times-of_degree d e f g h k t m =
     joined ∙ (size-join s.0.0 u.0.0 ∙ (omega arith))
 
 one-of_degree : (n : ℕ) → OfDegree 0 (one n)
-one-of_degree n t (inl e) = ap (λ (v : Term). size v.0) e ∙ zeros n
-  where
-    zeros : (n : ℕ) → size (replicate n 0) ≡ 0
-    zeros zero = refl
-    zeros (suc n) = let h = zeros n in omega arith
+one-of_degree n t (inl e) = ap (λ (v : Term). size v.0) e ∙ size-zeros n
 one-of_degree n t (inr m) = absurd m
 
 -- ---- the degree of an alternant is the sum of its exponents
 
--- a list with a number inserted has the same sum as with it in front
+-- if w is `ys` with x inserted, the sum of f over w is f(x) plus the sum of f over `ys`
 insertions-size : (f : ℕ → ℕ) (x : ℕ) (ys w : List ℕ) → Among w (insertions x ys) → size (map f w) ≡ f x + size (map f ys)
 insertions-size f x [] w (inl e) = ap (λ v. size (map f v)) e
 insertions-size f x [] w (inr m) = absurd m
@@ -56,7 +53,7 @@ insertions-size f x (y ∷ ys) w (inr m) =
     let first : size (map f w) ≡ f y + size (map f z.0) = ap (λ v. size (map f v)) z.2 in
     omega arith
 
--- an order of a list has the sum of the list
+-- if w is an order of `xs`, the sums of f over w and over `xs` are equal
 orders-size : (f : ℕ → ℕ) (xs w : List ℕ) → Among w (orders xs) → size (map f w) ≡ size (map f xs)
 orders-size f [] w (inl e) = ap (λ v. size (map f v)) e
 orders-size f [] w (inr m) = absurd m

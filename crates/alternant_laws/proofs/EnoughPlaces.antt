@@ -67,6 +67,9 @@ suc_lt a b = grind (arith, nat_tests)
 zero_apart : (a : ℕ) → (0 == suc a) ≡ false
 zero_apart a = grind (arith, nat_tests)
 
+apart_zero : (a : ℕ) → (suc a == 0) ≡ false
+apart_zero a = grind (arith, nat_tests)
+
 not_below : (a : ℕ) → nat_lt (suc a) 0 ≡ false
 not_below a = grind (arith, nat_tests)
 
@@ -122,16 +125,13 @@ straightened-pushed α =
     ∙ ap₂ (λ t o. cond t None o) (equal-raised (shifted α))
     (ap₂ (λ k l. Some (minus_one_to k, l)) (rising-raised (shifted α)) (ap from_beta (sorted-raised (shifted α)) ∙ from_beta-raised (sorted_falling (shifted α))))
 
--- ---- a list of exponents with a part in the last place straightens to 0 or to a partition with as many rows as places
+-- ---- a list of exponents with a part in the last place straightens to 0, or to a partition with a row for each place
 
 -- if 0 is not among the entries, all of them are positive
 positive_entries : (b : List ℕ) → has 0 b ≡ false → ArePositive b
 positive_entries [] h = tt
 positive_entries (zero ∷ b) h = absurd (cc)
 positive_entries (suc a ∷ b) h = (omega arith, positive_entries b (sym (ap (λ t. t || has 0 b) (apart_zero a)) ∙ h))
-  where
-    apart_zero : (a : ℕ) → (suc a == 0) ≡ false
-    apart_zero a = grind (arith, nat_tests)
 
 -- a strictly decreasing list of n positive numbers is ρ plus a partition with n rows
 full_rows : (b : List ℕ) → FallsStrictly b → ArePositive b → ArePositive (less_the_rest b)
@@ -145,15 +145,12 @@ full_rows (a ∷ b) f p = (let h = above a b f p in omega arith, full_rows b (st
 pub rows-full : (b : List ℕ) → FallsStrictly b → ArePositive b → rows (from_beta b) ≡ length b
 rows-full b f p = ap length (without_last_zeros-positive (less_the_rest b) (full_rows b f p)) ∙ length-less b
 
--- the entries of α + ρ are positive, if α has a part in the last place
+-- if the last entry of a list is positive, the list plus ρ has no entry 0
 no_zero : (α : List ℕ) (x : ℕ) → has 0 (shifted (α ++ suc x ∷ [])) ≡ false
 no_zero [] x = ap (λ b. b || false) (alone x)
   where
     alone : (x : ℕ) → (suc x + 0 == 0) ≡ false
-    alone x = let e : suc x + 0 ≡ suc x = omega arith in ap (λ k. k == 0) e ∙ apart x
-      where
-        apart : (x : ℕ) → (suc x == 0) ≡ false
-        apart x = grind (arith, nat_tests)
+    alone x = let e : suc x + 0 ≡ suc x = omega arith in ap (λ k. k == 0) e ∙ apart_zero x
 no_zero (a ∷ α) x = ap (λ b. b || has 0 (shifted (α ++ suc x ∷ []))) (first a (length (α ++ suc x ∷ [])) (long α)) ∙ no_zero α x
   where
     long : (α : List ℕ) → 0 < length (α ++ suc x ∷ [])
@@ -163,7 +160,7 @@ no_zero (a ∷ α) x = ap (λ b. b || has 0 (shifted (α ++ suc x ∷ []))) (fir
     first : (a k : ℕ) → 0 < k → (a + k == 0) ≡ false
     first a k h = grind (arith, nat_tests)
 
--- the pairing of the straightened list of exponents, in n variables
+-- the pairing of φ with the Schur polynomial in n variables, with its sign, to which α straightens
 abbrev straight_value : ℕ → (List ℕ → ℤ) → List ℕ → ℤ
 straight_value n φ α = pair (combined (λ label. schur label n) (straightened_term (straightened α))) φ
 
@@ -207,11 +204,8 @@ last_zero : (F : List ℕ → ℤ) (k s : ℕ) → ((α : List ℕ) (x : ℕ) �
 last_zero F zero zero h = refl
 last_zero F zero (suc s) h =
     total_none F (exponent_lists 1 (suc s)) (λ α m. let t = members_of-exponent_lists α 1 (suc s) m in alone α t.0 t.1)
-    ∙ sym (ap (λ b. total (λ α. F (α ++ 0 ∷ [])) (cond b ([] ∷ []) [])) (apart s))
+    ∙ sym (ap (λ b. total (λ α. F (α ++ 0 ∷ [])) (cond b ([] ∷ []) [])) (apart_zero s))
   where
-    apart : (s : ℕ) → (suc s == 0) ≡ false
-    apart s = grind (arith, nat_tests)
-
     alone : (α : List ℕ) → length α ≡ 1 → size α ≡ suc s → F α ≡ pos 0
     alone [] e f = absurd (omega arith)
     alone (a ∷ b ∷ α) e f = absurd (omega arith)

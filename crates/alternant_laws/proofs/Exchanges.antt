@@ -1,5 +1,5 @@
 -- Two neighbouring entries of a list exchanged, and contents in which two letters have exchanged their numbers.
-use Rattle.std.proofs.Common.{◌≡◌, ℕ, zero, suc, ◌+◌, ◌<◌, ◌==◌, Bool, true, false, ◌&&◌, List, [], ◌∷◌, ◌++◌, map, length, sym, ◌∙◌, ap, ap₂, refl, arith}
+use Rattle.std.proofs.Common.{◌≡◌, ℕ, zero, suc, ◌+◌, ◌<◌, ◌==◌, false, ◌&&◌, List, [], ◌∷◌, ◌++◌, map, length, sym, ◌∙◌, ap, ap₂, refl, arith}
 use Rattle.sym_model.specs.Partition.{after}
 use Rattle.sym_model.specs.Polynomial.{same, join}
 use Rattle.sym_model.specs.Schur.{times_in, content}
@@ -7,16 +7,16 @@ use Rattle.std.proofs.lemmas.List.{length-map}
 use Rattle.sym_model.proofs.AfterLists.{length_after, after_among}
 use Rattle.sym_model.proofs.Restrictions.{and_middle}
 use Rattle.sym_model.proofs.Lists.{map-among}
+use Rattle.std.proofs.lemmas.Bool.{and_right}
 
--- the list with the entries at the places k and k + 1, counted from 0, exchanged; unchanged if there are no such
--- entries
+-- the list with the entries at the places k and k + 1, counted from 0, exchanged; a list without a place k + 1 does not change
 abbrev pub exchanged : ℕ → List ℕ → List ℕ
 exchanged k [] = []
 exchanged zero (a ∷ []) = a ∷ []
 exchanged zero (a ∷ b ∷ α) = b ∷ a ∷ α
 exchanged (suc k) (a ∷ α) = a ∷ exchanged k α
 
--- one list exchanged equals the other if and only if the other exchanged equals the first
+-- α with the entries at places k and k + 1 exchanged is β if and only if β with these exchanged is α
 pub same_exchanged : (k : ℕ) (α β : List ℕ) → same (exchanged k α) β ≡ same α (exchanged k β)
 same_exchanged k [] [] = refl
 same_exchanged zero [] (b ∷ []) = refl
@@ -26,20 +26,8 @@ same_exchanged zero (a ∷ []) [] = refl
 same_exchanged zero (a ∷ c ∷ α) [] = refl
 same_exchanged (suc k) (a ∷ α) [] = refl
 same_exchanged zero (a ∷ []) (b ∷ []) = refl
-same_exchanged zero (a ∷ []) (b ∷ d ∷ β) = short (a == b) (a == d)
-  where
-    short : (p q : Bool) → (p && false) ≡ (q && false)
-    short true true = refl
-    short true false = refl
-    short false true = refl
-    short false false = refl
-same_exchanged zero (a ∷ c ∷ α) (b ∷ []) = short (c == b) (a == b)
-  where
-    short : (p q : Bool) → (p && false) ≡ (q && false)
-    short true true = refl
-    short true false = refl
-    short false true = refl
-    short false false = refl
+same_exchanged zero (a ∷ []) (b ∷ d ∷ β) = and_right (a == b) false refl ∙ sym (and_right (a == d) false refl)
+same_exchanged zero (a ∷ c ∷ α) (b ∷ []) = and_right (c == b) false refl ∙ sym (and_right (a == b) false refl)
 same_exchanged zero (a ∷ c ∷ α) (b ∷ d ∷ β) = and_middle (c == b) (a == d) (same α β)
 same_exchanged (suc k) (a ∷ α) (b ∷ β) = ap (λ p. (a == b) && p) (same_exchanged k α β)
 
@@ -57,7 +45,7 @@ exchanged-join zero (a ∷ c ∷ α) (b ∷ []) e = absurd (omega arith)
 exchanged-join zero (a ∷ c ∷ α) (b ∷ d ∷ β) e = refl
 exchanged-join (suc k) (a ∷ α) (b ∷ β) e = ap (λ γ. (a + b) ∷ γ) (exchanged-join k α β (omega arith))
 
--- ---- the lists of the values of two functions that exchange two neighbouring values
+-- if g is f with the values at k and k + 1 exchanged, the list of the values of f is that of g with these exchanged
 
 map_exchanged : (f g : ℕ → ℕ) (a n i k : ℕ) → k ≡ a + suc i → suc i < n → f k ≡ g (suc k) → f (suc k) ≡ g k
     → ((j : ℕ) → (j ≡ k → ⊥) → (j ≡ suc k → ⊥) → f j ≡ g j) → map f (after a n) ≡ exchanged i (map g (after a n))

@@ -1,5 +1,5 @@
--- A column after which the sum reached is no longer decreasing: two neighbouring sums are x and x + 1, and the column
--- does not have the lower letter. Then the sum of the alternants over all tableaux left of the column is 0.
+-- A column c after which ν + content(c) is no longer weakly decreasing: two neighbouring entries of this sum are x and x + 1, and c does not have the
+-- letter of the first of them. Then the sum of the alternants over all tableaux left of c is 0.
 use Rattle.std.proofs.Common.{◌≡◌, ℕ, zero, suc, ◌+◌, ◌-◌, ◌<◌, ◌≤◌, ◌⊎◌, ◌==◌, Bool, true, false, cond, List, [], ◌∷◌, map, length, get_or, nat_le, nat_lt, sym, ◌∙◌, ap, ap₂, subst, refl, inl, inr, arith, ℤ, pos, neg_ℤ}
 use Rattle.std.proofs.lemmas.Bool.{and_parts, and_cases, leb-true, leb-false, ltb-true, eq-eqb, ne_eqb, cases_eq}
 use Rattle.sym_model.specs.Sum.{total}
@@ -67,7 +67,7 @@ at_most_ones f a (suc n) zero h = h 0
 at_most_ones f a (suc n) (suc i) h =
     at_most_ones f (a + 1) n i (λ j. let e : a + suc (suc j) ≡ a + 1 + suc j = omega arith in subst (λ k. f k ≤ 1) e (h (suc j)))
 
--- ---- the place where the sum reached is not decreasing
+-- ---- a place i at which the sum ν + κ increases by 1, and κ is 0
 
 pub record FailsAt (ν κ : List ℕ) : Type 0 where
   pub place : ℕ
@@ -99,7 +99,8 @@ fails (a ∷ b ∷ ν) (x ∷ y ∷ κ) l o f e =
         let w = r.within in
         record { place = suc r.place; within = omega arith; rises = r.rises; lacks = r.lacks }
 
--- the column does not have the letter of the place where the sum is not decreasing
+-- if ν is decreasing and ν plus the content of the column c is not, then at some place i the next entry of this sum is 1 more than the entry at i, and
+-- c does not have the letter of place i
 pub column_fails : (n : ℕ) (ν c : List ℕ) → length ν ≡ n → is_chain may_stand_above c ≡ true → is_falling ν ≡ true → is_falling (join ν (content n c)) ≡ false
     → FailsAt ν (content n c)
 column_fails n ν c l e f g =
@@ -130,15 +131,14 @@ alternating_exchanged zero (a ∷ []) φ h = absurd (omega arith)
 alternating_exchanged zero (a ∷ b ∷ β) φ h = alternating_swap b a β φ
 alternating_exchanged (suc i) (a ∷ β) φ h = alternating_exchanged i β (inserting a φ) (omega arith)
 
--- the pairing of a_(ν + ρ) in n variables
+-- the pairing of the alternant a_(ν + ρ) in n variables with φ
 abbrev pub at_sum : ℕ → (List ℕ → ℤ) → List ℕ → ℤ
 at_sum n φ ν = pair (alternant (join ν (staircase n))) φ
 
 pub join_right_comm : (α β γ : List ℕ) → join (join α β) γ ≡ join (join α γ) β
 join_right_comm α β γ = join_assoc α β γ ∙ ap (join α) (join_comm β γ) ∙ sym (join_assoc α γ β)
 
--- the sums at the places i and i + 1 are x and x + 1, so exchanging the exponents added there changes the sign of the
--- alternant
+-- if ν at place i + 1 is 1 more than ν at place i, exchanging the entries of κ at these places changes the sign of the alternant of ν + κ + ρ
 turned : (n i : ℕ) (ν κ : List ℕ) (φ : List ℕ → ℤ) → length ν ≡ n → length κ ≡ n → suc i < n → get_or ν (suc i) 0 ≡ suc (get_or ν i 0)
     → at_sum n φ (join ν (exchanged i κ)) ≡ neg_ℤ (at_sum n φ (join ν κ))
 turned n i ν κ φ l m h r =
@@ -165,7 +165,8 @@ turned n i ν κ φ l m h r =
         ∙ sym (exchanged-join i (join ν (staircase n)) κ (length-join_same n ν (staircase n) l (length-staircase n) ∙ sym m))
         ∙ ap (exchanged i) (join_right_comm ν (staircase n) κ)
 
--- if the sum fails to be decreasing, the sum of the alternants over all tableaux left of the column is 0
+-- if the entry of ν at i + 1 is 1 more than the entry at i, and the column `right` does not have the letter i + 1, the sum of the alternants over all
+-- tableaux left of this column is 0
 pub vanishes : (n i : ℕ) (lines : List (List Bool)) (right ν : List ℕ) (φ : List ℕ → ℤ) → Falls (map length lines) → AreLong (length right) lines
     → length ν ≡ n → suc i < n → get_or ν (suc i) 0 ≡ suc (get_or ν i 0) → Lacks (suc i) right
     → over_all n lines (λ s c. at_sum n φ s) ν right ≡ pos 0

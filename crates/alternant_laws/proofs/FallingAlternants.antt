@@ -85,7 +85,7 @@ descends_sum zero (a ∷ α) l e = absurd (omega arith)
 descends_sum (suc n) [] l e = absurd (omega arith)
 descends_sum (suc n) (a ∷ α) l e = (below_sum a n α (omega arith) (up_to_first a α e), descends_sum n α (omega arith) (falling_rest a α e))
 
--- a list padded with zeros has the same sum
+-- padding a partition with zeros does not change its sum with the staircase
 pub join_padded : (n : ℕ) (parts : List ℕ) → length parts ≤ n → join (resize n parts) (staircase n) ≡ join parts (staircase n)
 join_padded n [] h = ap (λ z. join z (staircase n)) (resize-nil n) ∙ join_zeros n (staircase n) (omega (arith, length-staircase n))
 join_padded zero (a ∷ parts) h = absurd (omega arith)
@@ -129,7 +129,8 @@ same_sums n α parts l p h =
     ap (λ β. join β (staircase n)) (sym (resize-without_last_zeros n α l) ∙ ap (resize n) (same_true (without_last_zeros α) parts e))
     ∙ join_padded n parts h))
 
--- for a decreasing list α and a partition ν, the coefficient of a_(α + ρ) at x^(ν + ρ) is 1 if ν is α without zeros at its end, and 0 otherwise
+-- for a decreasing list α and the partition ν = `parts`, the coefficient of a_(α + ρ) at x^(ν + ρ) is 1 if ν is α without zeros at its end, and 0
+-- otherwise
 pub coefficient_at_partition : (n : ℕ) (α parts : List ℕ) → length α ≡ n → is_falling α ≡ true → IsPartition parts → length parts ≤ n → is_falling (resize n parts) ≡ true
     → coefficient (alternant (join α (staircase n))) (join parts (staircase n)) ≡ cond (same (without_last_zeros α) parts) (pos 1) (pos 0)
 coefficient_at_partition n α parts l f p h g =

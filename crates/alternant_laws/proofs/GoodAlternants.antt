@@ -1,4 +1,4 @@
--- Stembridge's identity: an alternant times a skew Schur polynomial is the sum over the good tableaux of alternants.
+-- Stembridge's identity: an alternant times a skew Schur polynomial is a sum of alternants, one for each good tableau.
 use Rattle.std.proofs.Common.{◌≡◌, ℕ, suc, ◌<◌, ◌≤◌, ◌⊎◌, Bool, true, false, cond, ◌&&◌, List, [], ◌∷◌, ◌++◌, map, length, reverse, nat_le, sym, ◌∙◌, ap, subst, refl, inl, inr, arith, ℤ, pos, filter}
 use Rattle.std.proofs.lemmas.Bool.{le-leb, cases_Bool}
 use Rattle.std.proofs.lemmas.List.{reverse-append, reverse-reverse}
@@ -29,9 +29,10 @@ use Rattle.alternant_laws.proofs.AlternantProducts.{alternant_times, pair_altern
 use Rattle.alternant_laws.proofs.LeftColumns.{over_all, over_all-last, fit_left, total_fit_left, fit_left-nothing, AreLong, falls-transposed, falls_last}
 use Rattle.alternant_laws.proofs.FailingColumns.{join_right_comm, at_sum, column_fails, column_misses, vanishes}
 
--- ---- the condition that each sum reached is decreasing can be dropped
+-- the condition that start plus the contents of the columns is weakly decreasing after each column can be dropped
 
--- one more column: if the sum is not decreasing after it, the terms of the tableaux left of it add up to 0
+-- for one more column c: if ν + content(c) is weakly decreasing, the conditions on the later sums can be dropped by the last hypothesis; if it is
+-- not, the sum over all tableaux left of c is 0
 one_column : (n : ℕ) (φ : List ℕ → ℤ) (lines : List (List Bool)) (line : List Bool) (ν right c : List ℕ) → length ν ≡ n → is_falling ν ≡ true
     → Falls (map length lines) → AreLong (length line) lines → length c ≡ length line
     → (is_falling (join ν (content n c)) ≡ true
@@ -76,7 +77,7 @@ folds_equal n φ (line ∷ back) ν right l f falls =
 
 -- ---- sums over all tableaux, and over the good ones
 
--- the pairing at start plus the content of a filling
+-- the pairing of the alternant of start plus the content of the filling T plus ρ with φ
 abbrev pub at_filling : ℕ → (List ℕ → ℤ) → List ℕ → List (List ℕ) → ℤ
 at_filling n φ start T = at_sum n φ (join start (content n (letters_of T)))
 

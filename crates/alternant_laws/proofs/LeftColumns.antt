@@ -1,4 +1,4 @@
--- Sums over all ways to add columns left of a column, with no condition on the sum reached, as sums over padded rows.
+-- Sums over all ways to add columns left of a column, whether or not start plus their contents is weakly decreasing, as sums over padded rows.
 use Rattle.std.proofs.Common.{◌≡◌, ℕ, ◌≤◌, Bool, true, cond, ◌&&◌, List, [], ◌∷◌, ◌++◌, map, length, nat_le, sym, ◌∙◌, ap, ap₂, subst, refl, arith, ℤ, pos}
 use Rattle.std.proofs.lemmas.Bool.{and_parts, and_from, leb-true, le-leb}
 use Rattle.sym_model.specs.Sum.{total, Among}
@@ -20,7 +20,7 @@ use Rattle.alternant_laws.proofs.SymmetricSums.{is_left_of, stands_left, left_ta
 
 -- ---- the sums over the ways to add columns
 
--- the sum over the strictly increasing columns of a line that are nowhere greater than their right neighbour
+-- the sum of f(ν + content(c), c) over the columns c of a line that are strictly increasing and nowhere greater than the column `right`
 abbrev pub next_all : ℕ → List Bool → (List ℕ → List ℕ → ℤ) → List ℕ → List ℕ → ℤ
 next_all n line f ν right =
     total (λ c. cond (is_chain may_stand_above c && pass_by_place nat_le c right) (f (join ν (content n c)) c) (pos 0)) (words_over n line)
@@ -46,7 +46,7 @@ abbrev pub fit_left : List ℕ → List (List ℕ) → Bool
 fit_left right [] = true
 fit_left right (c ∷ cs) = is_chain may_stand_above c && (pass_by_place nat_le c (leftmost right cs) && fit_left right cs)
 
--- f of the sum reached and the last column added, if the columns fit left of `right`; otherwise 0
+-- f of ν plus the content of the columns, and of the leftmost column, if the columns fit left of `right`; otherwise 0
 abbrev of_left : ℕ → List ℕ → (List ℕ → List ℕ → ℤ) → List ℕ → List (List ℕ) → ℤ
 of_left n right f ν cs = cond (fit_left right cs) (f (join ν (content n (letters_of cs))) (leftmost right cs)) (pos 0)
 
@@ -89,7 +89,7 @@ abbrev pub AreLong : {A : Type 0} → ℕ → List (List A) → Type 0
 AreLong m [] = Unit {0}
 AreLong m (l ∷ ls) = (m ≤ length l) × AreLong m ls
 
--- if c is nowhere greater than d, and d nowhere greater than `right`, then c is nowhere greater than `right`
+-- if c is nowhere greater than d, and d, which is at least as long as `right`, nowhere greater than `right`, then c is nowhere greater than `right`
 pass_trans : (c d right : List ℕ) → length right ≤ length d → pass_by_place nat_le c d ≡ true → pass_by_place nat_le d right ≡ true → pass_by_place nat_le c right ≡ true
 pass_trans [] d right l p q = refl
 pass_trans (a ∷ c) d [] l p q = refl

@@ -1,5 +1,5 @@
 -- Sums over all orders of the places, with signs.
---     orders_reach        a property of lists that neighbouring exchanges keep holds of each order of the list
+--     orders_reach        if exchanges of neighbours keep a property, and a list has it, each order of the list has it
 --     orders_sum          the signed sum over the orders of an increasing list is its alternating sum
 --     pair_alternant      pairing an alternant with a test function, as a sum over orders and as an alternating sum
 use Rattle.std.proofs.Common.{◌≡◌, ℕ, zero, suc, ◌+◌, ◌-◌, ◌<◌, ◌≤◌, cond, nat_lt, List, [], ◌∷◌, ◌++◌, map, length, get_or, sym, ◌∙◌, ap, ap₂, subst, refl, inl, inr, arith, ℤ, ◌+ℤ◌, ◌*ℤ◌, neg_ℤ, append_assoc}

@@ -8,8 +8,9 @@ use Rattle.tableau_laws.specs.Grid.{is_chain}
 use Rattle.tableau_laws.proofs.PatternFillings.{MayStand, Fits}
 use Rattle.sym_model.specs.Bounded.{AreAtMost}
 use Rattle.tableau_laws.specs.Rows.{RisesFrom}
+use Rattle.sym_model.proofs.Numbers.{counts-less, counts-not_less}
 
--- ---- weakly increasing rows, and the same as chains
+-- ---- weakly increasing rows, as `RisesFrom` and as chains
 
 chain_from : (a : ℕ) (w : List ℕ) → is_chain nat_le (a ∷ w) ≡ true → RisesFrom a w
 chain_from a [] e = tt
@@ -27,24 +28,18 @@ pub rises_chain : (w : List ℕ) → RisesFrom 0 w → is_chain nat_le w ≡ tru
 rises_chain [] r = refl
 rises_chain (a ∷ w) r = chain_back a w r.1
 
--- ---- the number of smaller letters
+-- ---- the number of letters of a row that are smaller than j
 
 -- 1 if the letter a is smaller than j, otherwise 0
 abbrev pub is_smaller : ℕ → ℕ → ℕ
 is_smaller j a = cond (nat_lt a j) 1 0
-
-pub counts : (j a : ℕ) → a < j → is_smaller j a ≡ 1
-counts j a h = ap (λ (b : Bool). cond {A = ℕ} b 1 0) (lt-ltb a j h)
-
-pub passes : (j a : ℕ) → j ≤ a → is_smaller j a ≡ 0
-passes j a h = ap (λ (b : Bool). cond {A = ℕ} b 1 0) (le-ltb a j h)
 
 pub none_smaller : (j lo : ℕ) (w : List ℕ) → RisesFrom lo w → j ≤ lo → smaller j w ≡ 0
 none_smaller j lo [] r h = refl
 none_smaller j lo (a ∷ w) r h =
     let l = r.0 in
     let e = none_smaller j a w r.1 (omega arith) in
-    let p = passes j a (omega arith) in
+    let p = counts-not_less a j (omega arith) in
     omega arith
 
 pub smaller_next : (j : ℕ) (w : List ℕ) → smaller (suc j) w ≡ smaller j w + times_in j w
@@ -59,13 +54,13 @@ smaller_next j (a ∷ w) = let e = smaller_next j w in let o = by (cases_lt a j)
 
     by : (a < j) ⊎ (j ≤ a) → (a ≡ j) ⊎ (a ≡ j → ⊥) → is_smaller (suc j) a ≡ is_smaller j a + cond {A = ℕ} (a == j) 1 0
     by (inl h) (inl e) = absurd (omega arith)
-    by (inl h) (inr d) = omega (arith, counts (suc j) a (omega arith), counts j a h, differs d)
-    by (inr h) (inl e) = omega (arith, counts (suc j) a (omega arith), passes j a h, equals e)
-    by (inr h) (inr d) = omega (arith, passes (suc j) a (omega arith), passes j a h, differs d)
+    by (inl h) (inr d) = omega (arith, counts-less a (suc j) (omega arith), counts-less a j h, differs d)
+    by (inr h) (inl e) = omega (arith, counts-less a (suc j) (omega arith), counts-not_less a j h, equals e)
+    by (inr h) (inr d) = omega (arith, counts-not_less a (suc j) (omega arith), counts-not_less a j h, differs d)
 
 -- ---- one letter, recut into k or k + 1
 
--- a letter k or k + 1 becomes k if s places are left, s > 0, and k + 1 if none is left
+-- a letter k or k + 1 becomes k if s > 0, and k + 1 if s is 0; other letters do not change
 abbrev pub cut : ℕ → ℕ → ℕ → ℕ
 cut k s a = cond (nat_lt a k) a (cond (nat_lt (suc k) a) a (cond (s == 0) (suc k) k))
 
@@ -92,7 +87,7 @@ cut-first k s a h g l = cut-between k s a h g ∙ ap (λ (b : Bool). cond b (suc
 cut-second : (k s a : ℕ) → k ≤ a → a ≤ suc k → s ≡ 0 → cut k s a ≡ suc k
 cut-second k s a h g e = cut-between k s a h g ∙ ap (λ (b : Bool). cond b (suc k) k) (eq-eqb s 0 e)
 
--- the cases for a letter, recut with s places left
+-- the letter c that a letter a becomes by `cut`, in four cases
 pub data Cut (k s a c : ℕ) : Type 0 where
   low : a < k → c ≡ a → Cut k s a c
   first : k ≤ a → a ≤ suc k → 0 < s → c ≡ k → Cut k s a c
@@ -132,7 +127,7 @@ cut_rises k s lo a h = by (cut k s lo) (cut k (s - 1) a) (cases_cut k s lo) (cas
     by x y (high p e) (second q u v d) = omega arith
     by x y (high p e) (high q d) = omega arith
 
--- ---- a row with each of its letters k and k + 1 recut
+-- a row with each of its letters k and k + 1 replaced: by k in its first s places, by k + 1 after them
 
 pub length-recut : (k s : ℕ) (w : List ℕ) → length (recut k s w) ≡ length w
 length-recut k s [] = refl
@@ -146,23 +141,24 @@ pub recut_rises : (k s : ℕ) (w : List ℕ) → RisesFrom 0 w → RisesFrom 0 (
 recut_rises k s [] r = tt
 recut_rises k s (a ∷ w) r = (omega arith, recut_from k s a w r.1)
 
--- recutting keeps the number of letters smaller than j, for j other than k + 1
+-- replacing a by `cut k s a` does not change whether it is smaller than j, for j other than k + 1
 smaller-cut : (j k s a : ℕ) → (j ≤ k) ⊎ (suc k < j) → is_smaller j (cut k s a) ≡ is_smaller j a
 smaller-cut j k s a h = by (cut k s a) (cases_cut k s a) h
   where
     by : (c : ℕ) → Cut k s a c → (j ≤ k) ⊎ (suc k < j) → is_smaller j c ≡ is_smaller j a
     by c (low p e) g = ap (is_smaller j) e
     by c (high p e) g = ap (is_smaller j) e
-    by c (first p q t e) (inl g) = ap (is_smaller j) e ∙ passes j k g ∙ sym (passes j a (omega arith))
-    by c (first p q t e) (inr g) = ap (is_smaller j) e ∙ counts j k (omega arith) ∙ sym (counts j a (omega arith))
-    by c (second p q t e) (inl g) = ap (is_smaller j) e ∙ passes j (suc k) (omega arith) ∙ sym (passes j a (omega arith))
-    by c (second p q t e) (inr g) = ap (is_smaller j) e ∙ counts j (suc k) g ∙ sym (counts j a (omega arith))
+    by c (first p q t e) (inl g) = ap (is_smaller j) e ∙ counts-not_less k j g ∙ sym (counts-not_less a j (omega arith))
+    by c (first p q t e) (inr g) = ap (is_smaller j) e ∙ counts-less k j (omega arith) ∙ sym (counts-less a j (omega arith))
+    by c (second p q t e) (inl g) = ap (is_smaller j) e ∙ counts-not_less (suc k) j (omega arith) ∙ sym (counts-not_less a j (omega arith))
+    by c (second p q t e) (inr g) = ap (is_smaller j) e ∙ counts-less (suc k) j g ∙ sym (counts-less a j (omega arith))
 
 pub smaller-recut : (j k s : ℕ) (w : List ℕ) → (j ≤ k) ⊎ (suc k < j) → smaller j (recut k s w) ≡ smaller j w
 smaller-recut j k s [] h = refl
 smaller-recut j k s (a ∷ w) h = ap₂ ◌+◌ (smaller-cut j k s a h) (smaller-recut j k (s - 1) w h)
 
--- after recutting at s, s letters are smaller than k + 1
+-- if a weakly increasing row has at most s letters smaller than k and at least s smaller than k + 2, `recut k s` gives it exactly s letters smaller
+-- than k + 1
 pub smaller-recut_middle : (k s lo : ℕ) (w : List ℕ) → RisesFrom lo w → smaller k w ≤ s → s ≤ smaller (suc (suc k)) w → smaller (suc k) (recut k s w) ≡ s
 smaller-recut_middle k s lo [] r h g = omega arith
 smaller-recut_middle k s lo (a ∷ w) r h g = by (cut k s a) (cases_cut k s a) (smaller-recut_middle k (s - 1) a w r.1)
@@ -170,31 +166,31 @@ smaller-recut_middle k s lo (a ∷ w) r h g = by (cut k s a) (cases_cut k s a) (
     by : (c : ℕ) → Cut k s a c → (smaller k w ≤ s - 1 → s - 1 ≤ smaller (suc (suc k)) w → smaller (suc k) (recut k (s - 1) w) ≡ s - 1)
         → is_smaller (suc k) c + smaller (suc k) (recut k (s - 1) w) ≡ s
     by c (low p e) later =
-        let x = counts k a p in
-        let y = counts (suc (suc k)) a (omega arith) in
+        let x = counts-less a k p in
+        let y = counts-less a (suc (suc k)) (omega arith) in
         let z = later (omega arith) (omega arith) in
-        let t = counts (suc k) c (omega arith) in
+        let t = counts-less c (suc k) (omega arith) in
         omega arith
     by c (first p q l e) later =
         let x = none_smaller k a w r.1 p in
-        let y = counts (suc (suc k)) a (omega arith) in
+        let y = counts-less a (suc (suc k)) (omega arith) in
         let z = later (omega arith) (omega arith) in
-        let t = counts (suc k) c (omega arith) in
+        let t = counts-less c (suc k) (omega arith) in
         omega arith
     by c (second p q l e) later =
         let x = none_smaller k a w r.1 p in
         let z = later (omega arith) (omega arith) in
-        let t = passes (suc k) c (omega arith) in
+        let t = counts-not_less c (suc k) (omega arith) in
         omega arith
     by c (high p e) later =
         let x = none_smaller (suc (suc k)) a w r.1 (omega arith) in
-        let y = passes (suc (suc k)) a (omega arith) in
+        let y = counts-not_less a (suc (suc k)) (omega arith) in
         let v = none_smaller k a w r.1 (omega arith) in
         let z = later (omega arith) (omega arith) in
-        let t = passes (suc k) c (omega arith) in
+        let t = counts-not_less c (suc k) (omega arith) in
         omega arith
 
--- a row recut at s, and then recut so that as many letters are smaller than k + 1 as before, is the row again
+-- if a weakly increasing row w is recut at any s and then at the number of letters of w smaller than k + 1, the result is w
 pub recut_twice : (k s lo : ℕ) (w : List ℕ) → RisesFrom lo w → recut k (smaller (suc k) w) (recut k s w) ≡ w
 recut_twice k s lo [] r = refl
 recut_twice k s lo (a ∷ w) r =
@@ -202,12 +198,12 @@ recut_twice k s lo (a ∷ w) r =
     (ap (λ t. recut k t (recut k (s - 1) w)) (one_less (cases_lt k a)) ∙ recut_twice k (s - 1) a w r.1)
   where
     one_less : (k < a) ⊎ (a ≤ k) → is_smaller (suc k) a + smaller (suc k) w - 1 ≡ smaller (suc k) w
-    one_less (inl h) = let x = none_smaller (suc k) a w r.1 (omega arith) in let y = passes (suc k) a (omega arith) in omega arith
-    one_less (inr h) = let y = counts (suc k) a (omega arith) in omega arith
+    one_less (inl h) = let x = none_smaller (suc k) a w r.1 (omega arith) in let y = counts-not_less a (suc k) (omega arith) in omega arith
+    one_less (inr h) = let y = counts-less a (suc k) (omega arith) in omega arith
 
     places : (k < a) ⊎ (a ≤ k) → ((k < a) × (is_smaller (suc k) a + smaller (suc k) w ≡ 0)) ⊎ ((a ≤ k) × (0 < is_smaller (suc k) a + smaller (suc k) w))
-    places (inl h) = let x = none_smaller (suc k) a w r.1 (omega arith) in let y = passes (suc k) a (omega arith) in inl (h, omega arith)
-    places (inr h) = let y = counts (suc k) a (omega arith) in inr (h, omega arith)
+    places (inl h) = let x = none_smaller (suc k) a w r.1 (omega arith) in let y = counts-not_less a (suc k) (omega arith) in inl (h, omega arith)
+    places (inr h) = let y = counts-less a (suc k) (omega arith) in inr (h, omega arith)
 
     twice : (S c d : ℕ) → Cut k s a c → Cut k S c d → ((k < a) × (S ≡ 0)) ⊎ ((a ≤ k) × (0 < S)) → d ≡ a
     twice S c d (low p e) (low q f) g = omega arith

@@ -43,7 +43,7 @@ bialternant n parts p h =
     ∙ straight_columns n parts (at_sum n φ) p h
     ∙ ap (λ β. pair (alternant β) φ) (join_padded n parts h)))
 
--- ---- a Schur polynomial with more rows than variables is 0
+-- ---- the Schur polynomial of a partition with more rows than variables is 0
 
 no_columns : (n : ℕ) (lines : List (List Bool)) (cs : List (List ℕ)) → OnlyCells (leftmost_line lines) → n < length (leftmost_line lines) → AllFit n lines cs → are_tableau_columns cs ≡ false
 no_columns n [] cs o h f = absurd (omega arith)
@@ -63,7 +63,7 @@ schur_few_variables n parts p h =
 
 -- ---- sums of Schur polynomials over good tableaux
 
--- the properties of a good tableau: start plus its content is a partition
+-- for a good tableau T, start + content(T) is a weakly decreasing list of n numbers, and without its last zeros a partition with at most n rows
 record IsGoodSum (n : ℕ) (start : List ℕ) (T : List (List ℕ)) : Type 0 where
   falls : is_falling (join start (content n (letters_of T))) ≡ true
   length : length (join start (content n (letters_of T))) ≡ n
@@ -79,7 +79,7 @@ good_sum n start outer inner T h falls m =
     let s = length-without_last_zeros (join start (content n (letters_of T))) in
     record { falls = f; length = l; partition = IsPartition-without_last_zeros (join start (content n (letters_of T))) (falls_from_test (join start (content n (letters_of T))) f); few = omega arith }
 
--- a_ρ times the sum of Schur polynomials is the sum of alternants
+-- a_ρ times the sum of s_(start + content(T)) over the good tableaux T is the sum of a_(start + content(T) + ρ)
 staircase_times_good : (n : ℕ) (start outer inner : List ℕ) → rows start ≤ n → Falls outer
     → Same (times (alternant (staircase n)) (good_schurs n start outer inner)) (good_alternants n start outer inner)
 staircase_times_good n start outer inner h falls =
@@ -103,7 +103,7 @@ skew-good_schurs n outer inner o i =
     (stembridge n [] outer inner IsPartition-none (omega arith) o i)
     (Same_sym (times (alternant (staircase n)) (good_schurs n [] outer inner)) (good_alternants n [] outer inner) (staircase_times_good n [] outer inner (omega arith) o.falls)))
 
--- a_ρ times the product of a Schur polynomial with a skew one is the sum over the good tableaux of alternants
+-- a_ρ times the product of s_start and a skew Schur polynomial is the sum of a_(start + content(T) + ρ) over the good tableaux T
 pub staircase_product : (n : ℕ) (start outer inner : List ℕ) → IsPartition start → IsPartition outer → IsPartition inner → rows start ≤ n
     → Same (times (alternant (staircase n)) (times (schur start n) (skew_schur outer inner n))) (good_alternants n start outer inner)
 staircase_product n start outer inner p o i h =

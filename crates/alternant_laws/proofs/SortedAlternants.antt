@@ -1,16 +1,15 @@
 -- An alternant with two equal exponents is 0; any other is the sign of sorting its exponents times the alternant of the
 -- sorted list.
-use Rattle.std.proofs.Common.{◌≡◌, ◌⊎◌, ℕ, ◌+◌, ◌-◌, ◌≤◌, Bool, true, false, ◌||◌, ◌==◌, cond, nat_lt, List, [], ◌∷◌, ◌++◌, length, refl, sym, ◌∙◌, ap, ap₂, subst, inl, inr, arith, ℤ, pos, neg_ℤ, ◌*ℤ◌}
+use Rattle.std.proofs.Common.{◌≡◌, ◌⊎◌, ℕ, ◌+◌, ◌-◌, Bool, true, false, ◌||◌, ◌==◌, cond, List, [], ◌∷◌, ◌++◌, length, refl, sym, ◌∙◌, ap, ap₂, subst, inl, inr, arith, ℤ, pos, neg_ℤ, ◌*ℤ◌}
 use Rattle.std.proofs.lemmas.Int.{ints}
-use Rattle.std.proofs.lemmas.Bool.{cases_eq, eqb-true}
-use Rattle.std.proofs.lemmas.Bool.Decides.{nat_tests}
+use Rattle.std.proofs.lemmas.Bool.{cases_eq, eqb-true, le-ltb}
 use Rattle.sym_model.specs.Partition.{Falls}
 use Rattle.sym_model.specs.Polynomial.{join, pair, nothing, negate}
 use Rattle.sym_model.specs.Bases.{has}
 use Rattle.sym_model.specs.Alternant.{alternant, staircase}
 use Rattle.sym_model.specs.PlaceOrders.{minus_one_to}
 use Rattle.sym_model.specs.BetaList.{has_equal_entries, sorted_falling, greater, rising_pairs, sorting_sign, less_the_rest, from_beta}
-use Rattle.sym_model.proofs.Ring.{ring}
+use Rattle.sym_model.proofs.Ring.{ring, one-product}
 use Rattle.sym_model.proofs.SortedParts.{Falls_tail}
 use Rattle.sym_model.proofs.Polynomials.{pair_determined, pair_negate}
 use Rattle.sym_model.proofs.Parts.{length-without_last_zeros}
@@ -19,6 +18,7 @@ use Rattle.beta_list_laws.proofs.NeighbourExchanges.{KeptByExchanges, sort_back,
 use Rattle.beta_list_laws.proofs.BetaLists.{strict_tail, rest_within, length-less}
 use Rattle.alternant_laws.proofs.Alternants.{alternant_exchange, alternant_equal}
 use Rattle.alternant_laws.proofs.FallingAlternants.{join_padded, resize-without_last_zeros}
+use Rattle.std.proofs.Math.Seq.{append_snoc}
 
 -- ---- the alternant is 0 if two exponents are equal
 
@@ -36,12 +36,8 @@ place_of a (c ∷ b) h = by (cases_eq c a) (λ g. place_of a b g)
 
 alternant-equal_under : (left β : List ℕ) (φ : List ℕ → ℤ) → has_equal_entries β ≡ true → pair (alternant (left ++ β)) φ ≡ pos 0
 alternant-equal_under left [] φ h = absurd (cc)
-alternant-equal_under left (a ∷ b) φ h = by (has a b) refl h (λ g. subst (λ l. pair (alternant l) φ ≡ pos 0) (moved left a b) (alternant-equal_under (left ++ (a ∷ [])) b φ g))
+alternant-equal_under left (a ∷ b) φ h = by (has a b) refl h (λ g. subst (λ l. pair (alternant l) φ ≡ pos 0) (append_snoc left a b) (alternant-equal_under (left ++ (a ∷ [])) b φ g))
   where
-    moved : (left : List ℕ) (a : ℕ) (b : List ℕ) → (left ++ (a ∷ [])) ++ b ≡ left ++ (a ∷ b)
-    moved [] a b = refl
-    moved (x ∷ left) a b = ap (λ l. x ∷ l) (moved left a b)
-
     by : (t : Bool) → has a b ≡ t → (t || has_equal_entries b) ≡ true → (has_equal_entries b ≡ true → pair (alternant (left ++ (a ∷ b))) φ ≡ pos 0) → pair (alternant (left ++ (a ∷ b))) φ ≡ pos 0
     by true e g r =
         let p = place_of a b e in
@@ -56,11 +52,8 @@ alternant-equal β φ h = alternant-equal_under [] β φ h
 
 no_greater : (a : ℕ) (l : List ℕ) → Falls (a ∷ l) → greater a l ≡ 0
 no_greater a [] f = refl
-no_greater a (b ∷ l) f = ap₂ (λ (t : Bool) k. cond {A = ℕ} t 1 0 + k) (at_most a b f.0) (no_greater a l (skip a b l f)) ∙ omega arith
+no_greater a (b ∷ l) f = ap₂ (λ (t : Bool) k. cond {A = ℕ} t 1 0 + k) (le-ltb a b f.0) (no_greater a l (skip a b l f)) ∙ omega arith
   where
-    at_most : (a b : ℕ) → b ≤ a → nat_lt a b ≡ false
-    at_most a b h = grind (arith, nat_tests)
-
     skip : (a b : ℕ) (l : List ℕ) → Falls (a ∷ b ∷ l) → Falls (a ∷ l)
     skip a b [] f = tt
     skip a b (c ∷ l) f = let h = f.0 in let g = f.1.0 in (omega arith, f.1.1)
@@ -79,10 +72,7 @@ alternant-sorted β φ = sort_back P β kept sorted
     P s = has_equal_entries s ≡ false → pair (alternant s) φ ≡ sorting_sign s *ℤ pair (alternant (sorted_falling β)) φ
 
     sorted : P (sorted_falling β)
-    sorted h = sym (ap (λ k. minus_one_to k *ℤ pair (alternant (sorted_falling β)) φ) (no_rises (sorted_falling β) (sorted_falls β)) ∙ front (pair (alternant (sorted_falling β)) φ))
-      where
-        front : (x : ℤ) → pos 1 *ℤ x ≡ x
-        front x = omega (arith, ints)
+    sorted h = sym (ap (λ k. minus_one_to k *ℤ pair (alternant (sorted_falling β)) φ) (no_rises (sorted_falling β) (sorted_falls β)) ∙ one-product (pair (alternant (sorted_falling β)) φ))
 
     kept : KeptByExchanges P
     kept left a b right p h = by (cases_eq a b)

@@ -9,14 +9,16 @@ use Rattle.sym_model.proofs.Contents.{times_in-append}
 use Rattle.tableau_laws.specs.Grid.{is_chain, pass_by_place, first_line, may_stand_above, is_padded_tableau}
 use Rattle.tableau_laws.proofs.Grids.{falls_below}
 use Rattle.tableau_laws.proofs.PatternFillings.{AllFit}
-use Rattle.alternant_laws.proofs.Rows.{chain_tells, rises_chain, counts, passes, none_smaller, smaller_next, recut, length-recut, recut_rises, smaller-recut, smaller-recut_middle, recut_twice, recut_fits, recut_at_most}
+use Rattle.alternant_laws.proofs.Rows.{chain_tells, rises_chain, none_smaller, smaller_next, recut, length-recut, recut_rises, smaller-recut, smaller-recut_middle, recut_twice, recut_fits, recut_at_most}
 use Rattle.sym_model.specs.Bounded.{AreAtMost, Lacks}
 use Rattle.tableau_laws.specs.Rows.{RisesFrom}
 use Rattle.sym_model.proofs.Lists.{smaller-within}
+use Rattle.sym_model.proofs.Numbers.{counts-less, counts-not_less}
+use Rattle.std.proofs.Math.Nat.{add-sub_cancel_left}
 
 -- ---- two rows, one above the other
 
--- the letters below j + 1 of the lower row are under letters below j of the upper one
+-- for each j > 0 the lower row has at most as many letters less than j + 1 as the upper row has letters less than j
 abbrev pub StandsOver : List ℕ → List ℕ → Type 0
 StandsOver upper lower = (j : ℕ) → 0 < j → smaller (suc j) lower ≤ smaller j upper
 
@@ -32,12 +34,12 @@ stands_tells lo lo' (a ∷ upper) (b ∷ lower) r s l e j h =
   where
     by : a < b + (1 - a) → smaller (suc j) lower ≤ smaller j upper → (j < b) ⊎ (b ≤ j) → smaller (suc j) (b ∷ lower) ≤ smaller j (a ∷ upper)
     by q later (inl g) =
-        let x = passes (suc j) b g in
+        let x = counts-not_less b (suc j) g in
         let y = none_smaller (suc j) b lower s.1 g in
         omega arith
     by q later (inr g) =
-        let x = counts (suc j) b (omega arith) in
-        let y = counts j a (omega arith) in
+        let x = counts-less b (suc j) (omega arith) in
+        let y = counts-less a j (omega arith) in
         omega arith
 
 stands_back : (lo lo' : ℕ) (upper lower : List ℕ) → RisesFrom lo upper → RisesFrom lo' lower → StandsOver upper lower → pass_by_place may_stand_above upper lower ≡ true
@@ -52,8 +54,8 @@ stands_back lo lo' (a ∷ upper) (b ∷ lower) r s o =
     first (inl h) = h
     first (inr h) =
         let g = o a (omega arith) in
-        let x = counts (suc a) b (omega arith) in
-        let y = passes a a (omega arith) in
+        let x = counts-less b (suc a) (omega arith) in
+        let y = counts-not_less a a (omega arith) in
         let z = none_smaller a a upper r.1 (omega arith) in
         absurd (omega arith)
 
@@ -61,13 +63,13 @@ stands_back lo lo' (a ∷ upper) (b ∷ lower) r s o =
     later j h (inl g) c = let y = none_smaller (suc j) b lower s.1 g in omega arith
     later j h (inr g) (inl c) =
         let t = o j h in
-        let x = counts (suc j) b (omega arith) in
-        let y = counts j a c in
+        let x = counts-less b (suc j) (omega arith) in
+        let y = counts-less a j c in
         omega arith
     later j h (inr g) (inr c) =
         let t = o j h in
-        let x = counts (suc j) b (omega arith) in
-        let y = passes j a c in
+        let x = counts-less b (suc j) (omega arith) in
+        let y = counts-not_less a j c in
         let z = none_smaller j a upper r.1 c in
         absurd (omega arith)
 
@@ -82,6 +84,10 @@ lower_length : (w : List ℕ) (ws : List (List ℕ)) → Falls (map length (w �
 lower_length w [] f = omega arith
 lower_length w (v ∷ ws) f = f.0
 
+first_rises : (rows : List (List ℕ)) → IsStack rows → RisesFrom 0 (first_line rows)
+first_rises [] s = tt
+first_rises (w ∷ ws) s = s.0
+
 pub stack_tells : (rows : List (List ℕ)) → Falls (map length rows) → is_padded_tableau rows ≡ true → IsStack rows
 stack_tells [] f e = tt
 stack_tells (w ∷ ws) f e =
@@ -89,25 +95,17 @@ stack_tells (w ∷ ws) f e =
     let q = and_parts (pass_by_place may_stand_above w (first_line ws)) (is_padded_tableau ws) p.1 in
     let rest = stack_tells ws (falls_below w ws f) q.1 in
     (chain_tells w p.0, (stands_tells 0 0 w (first_line ws) (chain_tells w p.0) (first_rises ws rest) (lower_length w ws f) q.0, rest))
-  where
-    first_rises : (vs : List (List ℕ)) → IsStack vs → RisesFrom 0 (first_line vs)
-    first_rises [] s = tt
-    first_rises (v ∷ vs) s = s.0
 
 pub stack_back : (rows : List (List ℕ)) → IsStack rows → is_padded_tableau rows ≡ true
 stack_back [] s = refl
 stack_back (w ∷ ws) s =
     and_from (is_chain nat_le w) (pass_by_place may_stand_above w (first_line ws) && is_padded_tableau ws) (rises_chain w s.0)
     (and_from (pass_by_place may_stand_above w (first_line ws)) (is_padded_tableau ws) (stands_back 0 0 w (first_line ws) s.0 (first_rises ws s.1.1) s.1.0) (stack_back ws s.1.1))
-  where
-    first_rises : (vs : List (List ℕ)) → IsStack vs → RisesFrom 0 (first_line vs)
-    first_rises [] t = tt
-    first_rises (v ∷ vs) t = t.0
 
 -- ---- the involution on a stack of rows
 
--- the number of letters of w smaller than k + 1 after the exchange, if the row above has c letters smaller than k and the next row d smaller than k +
--- 2
+-- the number of letters smaller than k + 1 that the involution gives the row w, if the row above has c letters smaller than k and the next row d
+-- letters smaller than k + 2
 abbrev pub middle : ℕ → ℕ → List ℕ → ℕ → ℕ
 middle k c w d = (min c (smaller (suc (suc k)) w) + max (smaller k w) d) - smaller (suc k) w
 
@@ -135,11 +133,11 @@ has_room k c d w p q =
     let r = room_of c d (smaller k w) (smaller (suc k) w) (smaller (suc (suc k)) w) p q (omega arith) (omega arith) in
     record { low = r.0; high = r.1; above = r.2; below = r.3; sum = r.4 }
 
--- after recutting, the number of letters smaller than k + 1 is `middle`
+-- if w is weakly increasing and `middle` is in its range, w recut at `middle` has `middle` letters smaller than k + 1
 middle_smaller : (k c d : ℕ) (w : List ℕ) → RisesFrom 0 w → HasRoom k c d w → smaller (suc k) (recut k (middle k c w d) w) ≡ middle k c w d
 middle_smaller k c d w r h = smaller-recut_middle k (middle k c w d) 0 w r h.low h.high
 
--- if j is not k + 1, the exchange keeps the number of letters of the first row that are smaller than j
+-- if j is not k + 1, `toggled k` keeps the number of letters of the first row that are smaller than j
 first_smaller : (j k c : ℕ) (ws : List (List ℕ)) → (j ≤ k) ⊎ (suc k < j) → smaller j (first_line (toggled k c ws)) ≡ smaller j (first_line ws)
 first_smaller j k c [] h = refl
 first_smaller j k c (w ∷ ws) h = smaller-recut j k (middle k c w (smaller (suc (suc k)) (first_line ws))) w h
@@ -152,7 +150,7 @@ row_room : (k c : ℕ) (w : List ℕ) (ws : List (List ℕ)) → StandsOver w (f
     → HasRoom k c (smaller (suc (suc k)) (first_line ws)) w
 row_room k c w ws o h = has_room k c (smaller (suc (suc k)) (first_line ws)) w h (o (suc k) (omega arith))
 
--- if the first row has at most c letters smaller than k + 1, it still has at most c after the exchange
+-- if the first row of a stack has at most c letters smaller than k + 1, it has at most c also after `toggled k c`
 first_within : (k c : ℕ) (ws : List (List ℕ)) → IsStack ws → smaller (suc k) (first_line ws) ≤ c → smaller (suc k) (first_line (toggled k c ws)) ≤ c
 first_within k c [] s h = h
 first_within k c (w ∷ ws) s h =
@@ -198,10 +196,7 @@ toggled_stack k c (w ∷ ws) p s h = (
   (toggled_over k c w ws p s h, toggled_stack k (smaller k w) ws p s.1.1 (s.1.0 k p)),
 )
 
--- doing the exchange twice changes nothing
-back_again : (x y m : ℕ) → m + y ≡ x → x - m ≡ y
-back_again x y m e = omega arith
-
+-- `toggled`, done twice, changes nothing
 pub toggled_twice : (k c : ℕ) (rows : List (List ℕ)) → 0 < k → IsStack rows → smaller (suc k) (first_line rows) ≤ c → toggled k c (toggled k c rows) ≡ rows
 toggled_twice k c [] p s h = refl
 toggled_twice k c (w ∷ ws) p s h =
@@ -214,11 +209,11 @@ toggled_twice k c (w ∷ ws) p s h =
     let next = first_smaller (suc (suc k)) k (smaller k w) ws (inr (omega arith)) in
     let again : middle k c w' (smaller (suc (suc k)) (first_line (toggled k (smaller k w) ws))) ≡ smaller (suc k) w =
     ap₂ (λ i j. i - j) (ap₂ ◌+◌ (ap (min c) high) (ap₂ max low next)) e
-    ∙ back_again (min c (smaller (suc (suc k)) w) + max (smaller k w) d) (smaller (suc k) w) (middle k c w d) m.sum in
+    ∙ ap (λ i. i - middle k c w d) (sym m.sum) ∙ add-sub_cancel_left (middle k c w d) (smaller (suc k) w) in
     ap₂ ◌∷◌ (ap (λ i. recut k i w') again ∙ recut_twice k (middle k c w d) 0 w s.0)
     (ap (λ i. toggled k i (toggled k (smaller k w) ws)) low ∙ toggled_twice k (smaller k w) ws p s.1.1 (s.1.0 k p))
 
--- ---- the exchange swaps the numbers of letters k and k + 1 in the content
+-- `toggled` exchanges the numbers of letters k and k + 1 in the content
 
 -- the number of letters of all rows that are smaller than j
 abbrev pub all_smaller : ℕ → List (List ℕ) → ℕ
@@ -254,7 +249,8 @@ all_smaller_middle k c (w ∷ ws) p s h =
     ∙ add_up c d (smaller k w) (smaller (suc k) w) (smaller (suc (suc k)) w) (middle k c w d) (all_smaller (suc k) ws) (all_smaller (suc k) (toggled k (smaller k w) ws)) (all_smaller k ws) (all_smaller (suc (suc k)) ws)
     m.sum (all_smaller_middle k (smaller k w) ws p s.1.1 (s.1.0 k p))
 
--- the involution on all rows; the range of the first row is limited above only by the length of that row
+-- the Bender–Knuth involution on all rows, which exchanges the numbers of letters k and k + 1; as no row is above the
+-- first, the bound c of `toggled` is the length of the first row
 abbrev pub toggle : ℕ → List (List ℕ) → List (List ℕ)
 toggle k rows = toggled k (length (first_line rows)) rows
 
@@ -273,7 +269,7 @@ all_smaller_toggle k rows p s =
     let b = smaller-within (suc (suc k)) (first_line rows) in
     omega arith
 
--- after the involution there are as many letters k as there were letters k + 1, and as many others as before
+-- the number of letters k after the involution is the number of letters k + 1 before it
 pub toggle_lower : (k : ℕ) (rows : List (List ℕ)) → 0 < k → IsStack rows → times_in k (letters_of (toggle k rows)) ≡ times_in (suc k) (letters_of rows)
 toggle_lower k rows p s =
     let a = all_smaller_next k (toggle k rows) in
@@ -306,7 +302,7 @@ toggle_others j k rows n m =
     next (inl l) = inl l
     next (inr l) = inr (omega arith)
 
--- ---- the exchanged rows fill the same cells with letters from 1 to n
+-- the rows after `toggled` fill the same cells with letters from 1 to n
 
 pub toggled_fits : (n k c : ℕ) (pattern : List (List Bool)) (rows : List (List ℕ)) → 0 < k → k < n → AllFit n pattern rows → AllFit n pattern (toggled k c rows)
 toggled_fits n k c [] [] p q f = tt

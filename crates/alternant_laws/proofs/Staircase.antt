@@ -1,4 +1,4 @@
--- The leading coefficient of a_ρ is 1: each order of ρ other than ρ is below ρ. So a_ρ can be cancelled.
+-- The leading coefficient of a_ρ is 1: each order of ρ other than ρ is lexicographically smaller. So a_ρ can be cancelled.
 use Rattle.std.proofs.Common.{◌≡◌, ℕ, zero, suc, ◌<◌, cond, List, [], ◌∷◌, ◌∙◌, ap, ap₂, subst, refl, inl, inr, arith, ℤ, pos, ◌-ℤ◌}
 use Rattle.std.proofs.lemmas.Int.{ints}
 use Rattle.sym_model.specs.Polynomial.{Poly, Same, In, coefficient, times}
@@ -13,7 +13,7 @@ use Rattle.alternant_laws.proofs.OrderSums.{pair_alternant}
 use Rattle.alternant_laws.proofs.Alternants.{In_alternant}
 use Rattle.sym_model.specs.Bounded.{AreBelow}
 
--- ---- an alternating sum depends only on lists of the same entries
+-- ---- an alternating sum of entries below n depends only on the values of the test function at lists of entries below n
 
 inserting_below : (n x : ℕ) (φ ψ : List ℕ → ℤ) → x < n → ((l : List ℕ) → AreBelow n l → φ l ≡ ψ l) → (l : List ℕ) → AreBelow n l → inserting x φ l ≡ inserting x ψ l
 inserting_below n x φ ψ h e [] b = e (x ∷ []) (h, tt)
@@ -38,7 +38,7 @@ inserting_zero : (x : ℕ) (φ : List ℕ → ℤ) → ((l : List ℕ) → φ l 
 inserting_zero x φ e [] = e (x ∷ [])
 inserting_zero x φ e (y ∷ ys) = ap₂ ◌-ℤ◌ (e (x ∷ y ∷ ys)) (inserting_zero x (λ l. φ (y ∷ l)) (λ l. e (y ∷ l)) ys)
 
--- the test function is 0 at lists below top
+-- the test function is 0 at the lists that are lexicographically smaller than `top`
 abbrev VanishesBelow : (List ℕ → ℤ) → List ℕ → Type 0
 VanishesBelow φ top = (l : List ℕ) → Above top l → φ l ≡ pos 0
 
@@ -54,7 +54,7 @@ alternating_staircase (suc n) φ v =
     alternating_below n (staircase n) (inserting n φ) (λ l. φ (n ∷ l)) (staircase_below n) (inserting_greatest n φ v)
     ∙ alternating_staircase n (λ l. φ (n ∷ l)) (λ l h. v (n ∷ l) (inr (refl, h)))
 
--- at ρ and above it a_ρ has the coefficients of x^ρ
+-- at exponents that are not lexicographically smaller than ρ, a_ρ has the coefficients of x^ρ
 coefficient_staircase : (n : ℕ) (α : List ℕ) → (Above (staircase n) α → ⊥) → coefficient (alternant (staircase n)) α ≡ at_only α (staircase n)
 coefficient_staircase n α h =
     coefficient_pair (alternant (staircase n)) α

@@ -16,7 +16,7 @@ use Rattle.tableau_laws.specs.PaddedRows.{put_row, transposed, words_over, line_
 use Rattle.tableau_laws.specs.Grid.{is_chain, pass_by_place, may_stand_above}
 use Rattle.tableau_laws.specs.ColumnFold.{may_be_next, over_columns, column_lines}
 use Rattle.tableau_laws.proofs.PatternFillings.{Fits, MayStand, word_tells, word_from, words_once, fits_length}
-use Rattle.tableau_laws.proofs.Grids.{length-transposed, falls_below}
+use Rattle.tableau_laws.proofs.Grids.{length-transposed, falls_below, pass-nothing}
 use Rattle.tableau_laws.proofs.RowSums.{pattern_lengths}
 use Rattle.tableau_laws.proofs.ColumnCounts.{contains_nothing, falling-resize}
 use Rattle.tableau_laws.proofs.ColumnSums.{over_columns-last}
@@ -127,7 +127,7 @@ after_past : (k a h : ℕ) → a + h < k → times_in k (after a h) ≡ 0
 after_past k a zero p = refl
 after_past k a (suc h) p = times_in-other k (a + 1) (after (a + 1) h) (λ e. absurd (omega arith)) ∙ after_past k (a + 1) h (omega arith)
 
--- ---- the only column that can be next
+-- ---- the only column that can be added left of the column 1, .., m
 
 -- if the letters of w are strictly increasing from a + 1 on, at most their right neighbours a + 1, .., a + m, and no later letter occurs without the
 -- one before it, then w is a + 1, a + 2, ..
@@ -137,12 +137,8 @@ only_column a m [] s p o = refl
 only_column a zero (v ∷ w) s p o =
     let e = first (cases_eq v (a + 1)) in
     ap₂ ◌∷◌ e (subst (λ b. w ≡ after b (length w)) e
-    (only_column v zero w s.1 (nothing_right w) (λ k h. let g = o k (omega arith) in let x = times_in-other k v w (λ i. absurd (omega arith)) in let y = times_in-other (suc k) v w (λ i. absurd (omega arith)) in omega arith)))
+    (only_column v zero w s.1 (pass-nothing nat_le w) (λ k h. let g = o k (omega arith) in let x = times_in-other k v w (λ i. absurd (omega arith)) in let y = times_in-other (suc k) v w (λ i. absurd (omega arith)) in omega arith)))
   where
-    nothing_right : (u : List ℕ) → pass_by_place nat_le u [] ≡ true
-    nothing_right [] = refl
-    nothing_right (b ∷ u) = refl
-
     gap : (j : ℕ) → v ≡ suc j → a < j → ⊥
     gap j e h =
         let g = o j (omega arith) in
@@ -163,7 +159,7 @@ only_column a (suc m) (v ∷ w) s p o =
     (only_column v m w s.1 (subst (λ b. pass_by_place nat_le w (after b m) ≡ true) (sym e) q.1)
     (λ k g. let t = o k (omega arith) in let x = times_in-other k v w (λ i. absurd (omega arith)) in let y = times_in-other (suc k) v w (λ i. absurd (omega arith)) in omega arith)))
 
--- ---- the sums reached when the columns 1, 2, .. are added
+-- the sums of ν and the contents of the columns 1, 2, .. added to it
 
 -- ν has the entry 0 at each place from h on
 abbrev pub EndsAt : ℕ → List ℕ → Type 0
@@ -175,7 +171,7 @@ at_content n i w h = let e : 0 + suc i ≡ suc i = omega arith in at_letter (λ 
 pub past_content : (n i : ℕ) (w : List ℕ) → n ≤ i → get_or (content n w) i 0 ≡ 0
 past_content n i w h = past_end (content n w) i (omega (arith, length_content n w))
 
--- if a column can be next left of the column 1, .., m, it is the column 1, 2, 3 and so on
+-- if ν is 0 from place m on, a column without empty places that can be next left of the column 1, .., m is the column 1, 2, 3 and so on
 next_is : (n m : ℕ) (line : List Bool) (ν c : List ℕ) → OnlyCells line → Fits n line c → EndsAt m ν → may_be_next n ν (after 0 m) c ≡ true → c ≡ after 0 (length line)
 next_is n m line ν c o f ends e =
     let p = and_parts (is_chain may_stand_above c) (pass_by_place nat_le c (after 0 m) && is_falling (join ν (content n c))) e in
@@ -425,7 +421,7 @@ sum_is_shape n parts p =
         let f = at_resize n i parts h in
         omega arith
 
--- from the empty sum on, the columns of a straight shape can be added in only one way, so the sum over all ways has one summand
+-- for a partition with at most n rows and the empty start, the columns can be added in only one way: the sum of g over all ways is g at the partition
 pub straight_columns : (n : ℕ) (parts : List ℕ) (g : List ℕ → ℤ) → IsPartition parts → rows parts ≤ n
     → over_columns n (column_lines parts []) (λ s d. g s) (resize n []) [] ≡ g (resize n parts)
 straight_columns n parts g p h =
@@ -462,7 +458,7 @@ abbrev pub leftmost_line : List (List Bool) → List Bool
 leftmost_line [] = []
 leftmost_line (line ∷ lines) = line
 
--- the leftmost column has a place for each row
+-- a row on top that begins with a cell adds one cell to the leftmost column
 first_put : (row : List Bool) (lines : List (List Bool)) → leftmost_line (put_row (true ∷ row) lines) ≡ true ∷ leftmost_line lines
 first_put row [] = refl
 first_put row (c ∷ lines) = refl

@@ -1,7 +1,6 @@
 -- Monomial symmetric polynomials as sums of Schur polynomials, by straightening each arrangement.
 use Rattle.std.proofs.Common.{◌≡◌, ℕ, Bool, true, false, cond, eqb, List, [], ◌∷◌, ◌++◌, length, refl, sym, ◌∙◌, ap, ap₂, arith, ℤ, pos, ◌+ℤ◌, ◌*ℤ◌, flat_map}
 use Rattle.std.specs.Prelude.{Some, None}
-use Rattle.std.proofs.lemmas.Int.{ints}
 use Rattle.sym_model.specs.Sum.{total}
 use Rattle.sym_model.specs.Partition.{IsPartition, size, insert_part, sorted_parts}
 use Rattle.sym_model.specs.Polynomial.{Poly, Same, In, same, join, pair, times, scale}
@@ -29,6 +28,7 @@ use Rattle.alternant_laws.proofs.Staircase.{staircase_cancels}
 use Rattle.alternant_laws.proofs.SchurProducts.{bialternant}
 use Rattle.alternant_laws.specs.StraightenedTerms.{straightened_term, straightened_terms}
 use Rattle.alternant_laws.proofs.SortedAlternants.{alternant-equal, alternant-sorted, from_beta-join}
+use Rattle.std.proofs.Math.IntN.{+ℤ_idr}
 
 -- ---- m_λ is symmetric
 
@@ -64,12 +64,9 @@ pair-times_single : (f : Poly) (g : List ℕ → Poly) (label : List ℕ) (c : �
 pair-times_single f g label c φ =
     pair_times f (combined g ((label, c) ∷ [])) φ
     ∙ pair_ext f (λ α. pair (combined g ((label, c) ∷ [])) (λ β. φ (join α β))) (λ α. c *ℤ pair (g label) (λ β. φ (join α β)))
-    (λ α. pair_of_combined g ((label, c) ∷ []) (λ β. φ (join α β)) ∙ alone (c *ℤ pair (g label) (λ β. φ (join α β))))
+    (λ α. pair_of_combined g ((label, c) ∷ []) (λ β. φ (join α β)) ∙ +ℤ_idr (c *ℤ pair (g label) (λ β. φ (join α β))))
     ∙ pair_factor c f (λ α. pair (g label) (λ β. φ (join α β)))
     ∙ ap (λ z. c *ℤ z) (sym (pair_times f (g label) φ))
-  where
-    alone : (x : ℤ) → x +ℤ pos 0 ≡ x
-    alone x = omega (arith, ints)
 
 -- ---- a_(α + ρ) is a_ρ times the Schur polynomial to which α straightens
 
@@ -99,7 +96,7 @@ straight n α φ e = ap (λ l. pair (alternant l) φ) is ∙ by (has_equal_entri
         ∙ sym (pair_determined (times (alternant (staircase n)) (schur ν n)) (alternant (join ν (staircase n))) φ (bialternant n ν (from_beta_partition (sorted_falling (shifted α)) strict) (omega arith))))
         ∙ sym (pair-times_single (alternant (staircase n)) (λ label. schur label n) ν (sorting_sign (shifted α)) φ)
 
--- ---- m_λ is the sum of what its arrangements straighten to
+-- ---- m_λ is the sum of the Schur polynomials, with signs, to which its arrangements straighten
 
 In-combined : (n : ℕ) (terms : WholeTerms) → In n (combined (λ label. schur label n) terms)
 In-combined n terms = In_each n (λ (t : List ℕ × ℤ). scale t.1 (schur t.0 n)) terms (λ t m. In_scale n t.1 (schur t.0 n) (In-schur t.0 n))

@@ -38,7 +38,7 @@ map-exchanged : (g : ℕ → ℕ) (l : List ℕ) (a b : ℕ) (r : List ℕ) → 
 map-exchanged g [] a b r = refl
 map-exchanged g (c ∷ l) a b r = ap (λ β. g c ∷ β) (map-exchanged g l a b r)
 
--- an order w of the places does not change the pairings of f
+-- rearranging the exponents by w, an order of the places, changes no pairing of f
 abbrev ChangesNothing : Poly → List ℕ → Type 0
 ChangesNothing f w = (φ : List ℕ → ℤ) → pair f (λ α. φ (rearranged w α)) ≡ pair f φ
 

@@ -40,24 +40,20 @@ unpadded-padded : (inner : List ℕ) (rows : List (List ℕ)) → unpadded inner
 unpadded-padded inner [] = refl
 unpadded-padded inner (row ∷ rows) = ap₂ ◌∷◌ (drop_zeros (part inner 1) row) (unpadded-padded (drop 1 inner) rows)
 
--- ---- letters other than k and k + 1 do not change
+-- the involution does not change letters other than k and k + 1
 
 letters_agree : (k s a : ℕ) → AgreeBut k a (cut k s a)
 letters_agree k s a = by (cut k s a) (cases_cut k s a)
   where
+    either : k ≤ a → a ≤ suc k → (a ≡ k) ⊎ (a ≡ k → ⊥) → IsEither k a
+    either p q (inl e) = inl e
+    either p q (inr d) = inr (omega arith)
+
     by : (c : ℕ) → Cut k s a c → AgreeBut k a c
     by c (low p e) = inl (sym e)
     by c (high p e) = inl (sym e)
-    by c (first p q t e) = inr (either (cases_eq a k), inl e)
-      where
-        either : (a ≡ k) ⊎ (a ≡ k → ⊥) → IsEither k a
-        either (inl d) = inl d
-        either (inr d) = inr (omega arith)
-    by c (second p q t e) = inr (either (cases_eq a k), inr e)
-      where
-        either : (a ≡ k) ⊎ (a ≡ k → ⊥) → IsEither k a
-        either (inl d) = inl d
-        either (inr d) = inr (omega arith)
+    by c (first p q t e) = inr (either p q (cases_eq a k), inl e)
+    by c (second p q t e) = inr (either p q (cases_eq a k), inr e)
 
 rows_agree : (k s : ℕ) (w : List ℕ) → RowsAgreeBut k w (recut k s w)
 rows_agree k s [] = tt
@@ -75,12 +71,12 @@ fillings_agree : (k c : ℕ) (inner : List ℕ) (rows : List (List ℕ)) → Fil
 fillings_agree k c inner [] = tt
 fillings_agree k c inner (w ∷ ws) = (drop_agree k (part inner 1) w _ (rows_agree k _ w), fillings_agree k (smaller k w) (drop 1 inner) ws)
 
--- ---- the involution, and the properties of a tableau and its partner
+-- ---- the involution `exchange`, and the properties of a tableau and of its image
 
 abbrev pub exchange : ℕ → List ℕ → List (List ℕ) → List (List ℕ)
 exchange k inner T = unpadded inner (toggle k (padded inner T))
 
--- the properties of a tableau and its partner
+-- the padded rows of T are a stack; `exchange` takes T to a tableau of the list, whose padded rows are those of T toggled
 record HasPartner (n k : ℕ) (outer inner : List ℕ) (T : List (List ℕ)) : Type 0 where
   stack : IsStack (padded inner T)
   listed : Among (exchange k inner T) (tableaux n outer inner)

@@ -1,7 +1,7 @@
 -- Lists of whole numbers written as fractions.
 --     numerators-as_fractions   the numerators of the fractions are the list
 --     AreWhole-as_fractions     all denominators are 1
---     whole_counts              a list that has counts as its coefficients, with the conditions on its labels
+--     whole_counts              a list with given counts as its coefficients and labels of at most k rows is one as in `ListsCounts`
 use Rattle.std.proofs.Common.{◌≡◌, ℕ, ◌≤◌, ℤ, pos, List, [], ◌∷◌, refl, sym, ◌∙◌, ap, subst}
 use Rattle.sym_model.specs.Sum.{Among}
 use Rattle.sym_model.specs.Polynomial.{coefficient}

@@ -11,19 +11,21 @@ use Rattle.sym_model.specs.Expansion.{Fraction, Terms}
 use Rattle.sym_model.specs.WholeTerms.{AreWhole, numerators}
 use Rattle.sym_model.specs.GoodTableau.{good_tableaux}
 
--- the sum over the good tableaux T of a_(start + ω(T) + ρ)
+-- the sum of a_(start + ω(T) + ρ) over the tableaux T of outer/inner with entries from 1 to n that are good for
+-- start; ω(T) is the content of T
 abbrev pub good_alternants : ℕ → List ℕ → List ℕ → List ℕ → Poly
 good_alternants n start outer inner =
     flat_map (λ filling. alternant
     (join (join start (content n (letters_of filling))) (staircase n)))
     (good_tableaux n start outer inner)
 
--- start + ω(T), without the zeros at its end
+-- start plus the content of the filling, without the zeros at its end
 abbrev pub start_plus_content : ℕ → List ℕ → List (List ℕ) → List ℕ
 start_plus_content n start filling =
     without_last_zeros (join start (content n (letters_of filling)))
 
--- the sum over the good tableaux T of s_(start + ω(T)) in n variables
+-- the sum of s_(start + ω(T)), in n variables, over the tableaux T of outer/inner with entries from 1 to n that are
+-- good for start; ω(T) is the content of T
 abbrev pub good_schurs : ℕ → List ℕ → List ℕ → List ℕ → Poly
 good_schurs n start outer inner =
     flat_map (λ filling. schur (start_plus_content n start filling) n)

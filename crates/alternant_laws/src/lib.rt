@@ -9,11 +9,12 @@
 //! `bender_knuth_law`: the involutions on semistandard tableaux, and the symmetry of skew Schur
 //! polynomials. `alternant_law`: exchanging two exponents changes the sign of an alternant, and the
 //! leading monomial of a_ρ is x^ρ. `stembridge_law`: in every number of variables a_(λ+ρ)·s_(μ/ν)
-//! is the sum over the good tableaux. `littlewood_richardson_law`: products of Schur polynomials
-//! and skew Schur polynomials are sums over good tableaux, and their Schur coefficients are the
-//! counts; the classical product of several factors has the Schur coefficients of their product.
-//! `straighten_law`: a monomial symmetric polynomial as the sum of Schur polynomials, with signs,
-//! over the arrangements of its label, in every number of variables.
+//! is the sum of a_(λ+ω(T)+ρ) over the good tableaux T for the start λ, with ω(T) the content of T.
+//! `littlewood_richardson_law`: products of Schur polynomials and skew Schur polynomials are sums
+//! over good tableaux, and their Schur coefficients are the counts; the classical product of
+//! several factors has the Schur coefficients of their product. `straighten_law`: a monomial
+//! symmetric polynomial as the sum of Schur polynomials, with signs, over the arrangements of its
+//! label, in every number of variables.
 #![tactic(auto)]
 
 mod bender_knuth;

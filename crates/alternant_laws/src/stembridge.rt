@@ -11,7 +11,8 @@ ghost use Rattle.alternant_laws.specs.GoodSums.{good_alternants, good_schurs};
 
 /// In n variables, for each partition λ with at most n rows and each skew shape μ/ν: a_(λ+ρ) times
 /// s_(μ/ν) is the sum of a_(λ+ω(T)+ρ) over the good tableaux T of the shape μ/ν for the start λ,
-/// with entries from 1 to n, where ω(T) is the content of T (Stembridge).
+/// with entries from 1 to n, where ω(T) is the content of T (Stembridge). T is good if, for each
+/// column, λ plus the content of that column and of those right of it is a partition.
 ///
 /// So a_ρ·s_μ is a_(μ+ρ), and s_μ is 0 if μ has more rows than there are variables.
 pub fn stembridge_law()
@@ -28,7 +29,9 @@ pub fn stembridge_law()
 
 /// The Littlewood–Richardson rule, in every number n of variables: s_λ·s_(μ/ν) is the sum of
 /// s_(λ+ω(T)) over the good tableaux T of the shape μ/ν for the start λ, with entries from 1 to n;
-/// so s_(μ/ν) is the sum of s_(ω(T)) over those for the empty start.
+/// so s_(μ/ν) is the sum of s_(ω(T)) over those for the empty start. T is good if, for each column,
+/// λ plus the content of that column and of those right of it is a partition; ω(T) is the content
+/// of T.
 ///
 /// So the Schur coefficients of a product and of a skew Schur polynomial are the counts of good
 /// tableaux: for a decreasing α, the alternant a_(α+ρ) has at x^(ν+ρ) the coefficient 1 if ν is α

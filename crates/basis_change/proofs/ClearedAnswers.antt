@@ -1,6 +1,7 @@
--- The answer times its common denominator has integer coefficients, whose absolute values add up to at most those of
--- the converted terms.
-use Rattle.std.proofs.Common.{◌≡◌, ◌⊎◌, ℕ, ◌+◌, ◌/◌, ◌<◌, ◌≤◌, cond, List, [], ◌∷◌, map, sym, ◌∙◌, ap, ap₂, subst, refl, inl, inr, arith, pos}
+-- Lists of fractions and the same lists over one denominator.
+--     whole-bounded       the list times a number that clears its fractions is bounded as the list is
+--     cleared-answer      the answer times its denominator has integer coefficients, bounded as the converted terms are
+use Rattle.std.proofs.Common.{length, ◌≡◌, ◌⊎◌, ℕ, ◌+◌, ◌/◌, ◌<◌, ◌≤◌, cond, List, [], ◌∷◌, map, sym, ◌∙◌, ap, ap₂, subst, refl, inl, inr, arith, pos, ◌*◌, ◌^◌, ◌*ℤ◌}
 use Rattle.std.specs.Prelude.{nat_abs}
 use Rattle.std.specs.Int.{◌∣◌}
 use Rattle.std.proofs.lemmas.Int.{unsigned_abs-mul}
@@ -11,27 +12,36 @@ use Rattle.coeff_rings.specs.Proved.Fractions.{Stands, Stands-lowest_terms}
 use Rattle.coeff_rings.specs.Proved.Cleared.{scaled-Stands}
 use Rattle.sym_model.specs.Sum.{Among}
 use Rattle.sym_model.specs.Partition.{size}
-use Rattle.sym_model.specs.Polynomial.{Term, same, coefficient}
-use Rattle.sym_model.specs.Expansion.{Fraction, Terms}
-use Rattle.sym_model.specs.ListWeight.{absolute_sum}
+use Rattle.sym_model.specs.Polynomial.{Term, Poly, Same, same, coefficient}
+use Rattle.sym_model.specs.Expansion.{Basis, Fraction, Terms}
+use Rattle.sym_model.specs.ListWeight.{absolute_sum, factorials, IsBounded}
+use Rattle.sym_model.specs.Weight.{factorial, growth}
 use Rattle.sym_model.specs.WholeTerms.{WholeTerms}
-use Rattle.sym_model.proofs.Sums.{total_none}
+use Rattle.sym_model.proofs.Sums.{total_none, Among_from_map}
 use Rattle.sym_model.proofs.Orders.{is_reduced-tells}
 use Rattle.sym_model.proofs.Exponents.{same_apart}
-use Rattle.monomial_laws.proofs.DividedTerms.{labels_of}
+use Rattle.monomial_laws.specs.Majorant as majorant
+use Rattle.monomial_laws.specs.ExpressionTerms.{IsList, over}
+use Rattle.monomial_laws.proofs.Majorants.{coefficient_bound}
+use Rattle.monomial_laws.proofs.DividedTerms.{labels_of, among_or_not, over-there, over-missing}
+use Rattle.monomial_laws.proofs.Powers.{factorials-positive}
+use Rattle.monomial_laws.proofs.WeightBounds.{factorial-within_growth, growth-mono}
 use Rattle.sparse_polys.specs.MonomialProducts.{greatest_size}
 use Rattle.sparse_polys.proofs.Rows.{greatest_size-among}
 use Rattle.sparse_polys.proofs.Tables.{term-tests}
-use Rattle.sparse_polys.proofs.Bounds.{greatest-within}
-use Rattle.sparse_polys.specs.Tables.{IsFractionTable}
+use Rattle.sparse_polys.proofs.Bounds.{coefficient-list, greatest-within}
+use Rattle.sparse_polys.specs.Tables.{IsFractionTable, IsWholeTable}
 use Rattle.sparse_polys.specs.LabelSizes.{AreWithin}
-use Rattle.sparse_polys.proofs.WholeLists.{found-among, Once-keys}
+use Rattle.sparse_polys.proofs.WholeLists.{found-among, label-partition, Once-keys, labels-same, not_zero}
 use Rattle.sparse_polys.proofs.Quotients.{Quotients, lowest-zero}
 use Rattle.family_lists.proofs.Totals.{labels_few}
 use Rattle.linear_combinations.specs.Gains.{mass}
+use Rattle.linear_combinations.proofs.Found.{coefficient_of_term}
+use Rattle.basis_change.specs.Clearing.{IsBoundedBy}
 use Rattle.basis_change.specs.ClearedAnswer.{IsClearedBy}
+use native.Mathlib.Nat.{mul-le-mul_left}
 
--- a label with more than d cells has coefficient 0
+-- in a list whose labels have at most d cells, a label with more than d cells has coefficient 0
 nothing_past : (d : ℕ) (W : WholeTerms) (label : List ℕ) → AreWithin d W → d < size label → coefficient W label ≡ pos 0
 nothing_past d W label w h =
     total_none (λ (t : Term). cond (same t.0 label) t.1 (pos 0)) W
@@ -42,6 +52,48 @@ greatest_is d terms within least =
     let above = greatest-within d terms within in
     let below = least (greatest_size terms) (λ t m. greatest_size-among terms t m) in
     omega arith
+
+-- ---- the list times a number that clears its fractions
+
+-- let N and D bound a list with labels of at most d cells: if the absolute value of D times a coefficient is 2^127 or
+-- more, so is N times the growth into m at d
+pub large-term : (N D d : ℕ) (terms : Terms (List ℕ)) → IsBounded N D terms → AreWithin d terms
+    → (t : List ℕ × Fraction) × Among t terms × (2 ^ 127 ≤ nat_abs (scaled D t.1)) → 2 ^ 127 ≤ N * growth Basis.monomials d
+large-term N D d terms b w (t, m, h) =
+    let k = subst (λ k. k * factorials t.0 ≤ N * factorial (size t.0)) (sym (unsigned_abs-mul t.1.0 (pos (D / t.1.1)))) (b t m).1 in
+    let x = mul-le-mul_left (nat_abs (scaled D t.1)) (factorials-positive t.0) in
+    let g = factorial-within_growth (size t.0) in
+    let i = growth-mono (size t.0) d (w t m) in
+    let y = mul-le-mul_left N (let z : factorial (size t.0) ≤ growth Basis.monomials d = omega arith in z) in
+    omega arith
+
+-- W is D times the list
+module _ (D : ℕ) (terms : Terms (List ℕ)) (W : WholeTerms) (is : IsFractionTable terms) (also : IsWholeTable W) (same : Same W (over D terms)) where
+  pub whole-within : (d : ℕ) → AreWithin d terms → AreWithin d W
+  whole-within d w =
+      labels-same (λ (label : List ℕ). size label ≤ d) W (over D terms) also same
+      (λ t m.
+      let u = Among_from_map (λ (u : List ℕ × Fraction). (u.0, u.1.0 *ℤ pos (D / u.1.1))) t terms m in
+      subst (λ (v : Term). size v.0 ≤ d) (sym u.2) (w u.0 u.1))
+
+  pub whole-bounded : (N : ℕ) → IsBounded N D terms → IsBoundedBy N W
+  whole-bounded N b t m = by (among_or_not t.0 terms)
+    where
+      number : t.1 ≡ coefficient (over D terms) t.0
+      number = sym (coefficient_of_term W also.distinct t m) ∙ same t.0
+
+      by : ((u : List ℕ × Fraction) × Among u terms × (u.0 ≡ t.0)) ⊎ (Among t.0 (labels_of terms) → ⊥) → nat_abs t.1 * factorials t.0 ≤ N * factorial (size t.0)
+      by (inl (u, n, e)) =
+          let c = ap nat_abs (number ∙ ap (coefficient (over D terms)) (sym e) ∙ over-there D terms (Once-keys terms is) u n) ∙ unsigned_abs-mul u.1.0 (pos (D / u.1.1)) in
+          subst (λ l. nat_abs t.1 * factorials l ≤ N * factorial (size l)) e (subst (λ k. k * factorials u.0 ≤ N * factorial (size u.0)) (sym c) (b u n).1)
+      by (inr none) = absurd (not_zero W also t m (number ∙ over-missing D terms t.0 none))
+
+-- if N bounds the polynomials f n, it bounds a list in m that has these polynomials
+pub bounded-terms : (N d : ℕ) (terms : WholeTerms) (f : ℕ → Poly) → IsWholeTable terms → IsList terms f → ((n : ℕ) → majorant.IsBounded N d n (f n)) → IsBoundedBy N terms
+bounded-terms N d terms f is h b t m =
+    subst (λ z. nat_abs z * factorials t.0 ≤ N * factorial (size t.0))
+    (sym (coefficient-list terms f h t.0 (label-partition terms is t m)) ∙ coefficient_of_term terms is.distinct t m)
+    (coefficient_bound N d (length t.0) (f (length t.0)) (b (length t.0)) t.0 refl)
 
 -- ---- the answer is the quotient of the list by m
 

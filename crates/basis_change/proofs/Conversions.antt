@@ -1,6 +1,6 @@
 -- The terms that replace a label.
 --     conversion-cases                  the label is converted at its last part, or stays
---     converted_terms, target_terms     what is added to a table
+--     converted_terms, target_terms     the terms that are added to a table
 use Rattle.std.proofs.Common.{◌≡◌, ◌⊎◌, ℕ, ◌-◌, ◌<◌, ◌≤◌, cond, List, [], ◌∷◌, ◌++◌, length, refl, sym, ap, ap₂, ◌∙◌, inl, inr, arith, ℤ, pos, negsuc, neg_ℤ}
 use Rattle.std.proofs.lemmas.Bool.{cases_eq, cases_lt, eq-eqb, ne_eqb}
 use Rattle.sym_model.specs.Partition.{IsPartition}
@@ -16,7 +16,8 @@ use Rattle.family_lists.proofs.RowSteps.{row-gained}
 use Rattle.basis_change.specs.AugmentedProducts.{MixedLabel, Mixed, products, raised, conversion_of, conversion, in_target}
 use Rattle.basis_change.proofs.LastParts.{IsEnded, last_part, part-end, take-before}
 
--- the products with the terms of p_a, and minus the terms with a part of `rest` raised by a
+-- the terms that replace a label converted at its last part a: the products with the terms of p_a, and the labels with a part of `rest` raised by a,
+-- each with the coefficient -1
 abbrev pub at_last : List WholeTerms → List ℕ → ℕ → List ℕ → Mixed
 at_last factors converted a rest = products (list_at factors (a - 1)) converted rest ++ each_with (negsuc 0) (raised converted a rest rest)
 

@@ -1,7 +1,7 @@
 -- The greatest cost of a bounded list in m: the costs of all partitions up to 15 cells are computed and added up.
 --     cost-within          the cost of a bounded list
 --     has-factors          the factorials of the multiplicities divide the factorial of the greatest size
-use Rattle.std.proofs.Common.{◌≡◌, ◌⊎◌, ℕ, zero, suc, ◌+◌, ◌*◌, ◌/◌, ◌<◌, ◌≤◌, Bool, true, List, [], ◌∷◌, map, length, refl, sym, ap, ◌∙◌, subst, inl, inr, arith, pos, ◌*ℤ◌, flat_map}
+use Rattle.std.proofs.Common.{◌≡◌, ◌⊎◌, ℕ, zero, suc, ◌+◌, ◌*◌, ◌/◌, ◌<◌, ◌≤◌, Bool, true, List, [], ◌∷◌, length, refl, sym, ap, ◌∙◌, subst, inl, inr, arith, ℤ, pos, flat_map}
 use Rattle.std.specs.Prelude.{nat_abs, nat_le, ◌==◌, ◌&&◌}
 use Rattle.std.proofs.lemmas.Int.{unsigned_abs-mul}
 use Rattle.std.proofs.lemmas.Bool.{cases_lt, and_parts, eqb-true, leb-true}
@@ -9,17 +9,17 @@ use Rattle.sym_model.specs.Sum.{Among, Within}
 use Rattle.sym_model.specs.Partition.{IsPartition, size}
 use Rattle.sym_model.specs.Bases.{down_from}
 use Rattle.sym_model.specs.PartitionList.{partitions_of, partitions_within}
-use Rattle.sym_model.specs.Expansion.{Basis, Fraction, Terms}
-use Rattle.sym_model.specs.ListWeight.{IsBounded, factorials}
+use Rattle.sym_model.specs.Expansion.{Basis}
+use Rattle.sym_model.specs.ListWeight.{factorials}
+use Rattle.sym_model.specs.WholeTerms.{WholeTerms, labels}
 use Rattle.sym_model.specs.Weight.{factorial, growth}
 use Rattle.sym_model.proofs.Sums.{Among-each}
 use Rattle.sym_model.proofs.PartitionLists.{Among-partitions_of}
 use Rattle.basis_change_laws.specs.AugmentedMonomial.{multiplicity_factorials}
-use Rattle.sparse_polys.specs.Tables.{IsFractionTable}
+use Rattle.sparse_polys.specs.Tables.{IsWholeTable}
 use Rattle.sparse_polys.specs.LabelSizes.{AreWithin}
-use Rattle.sparse_polys.proofs.WholeLists.{Once-keys}
-use Rattle.basis_change.proofs.Fractions.{label-partition}
-use Rattle.basis_change.specs.Clearing.{cleared_number, cleared_terms, HasFactors}
+use Rattle.sparse_polys.proofs.WholeLists.{Once-labels, label-partition}
+use Rattle.basis_change.specs.Clearing.{IsBoundedBy, augmented_number, augmented_terms, HasFactors}
 use Rattle.basis_change.specs.Costs.{doubled, cost}
 use native.Mathlib.Nat.{mul-le-mul_left, mul-le-mul_right}
 use Rattle.monomial_laws.proofs.Growths.{factorial-positive}
@@ -108,21 +108,20 @@ cancel-le a b c p h = by (cases_lt b a)
     by (inl l) = absurd (let m : (b + 1) * c ≤ a * c = mul-le-mul_right c (let t : b + 1 ≤ a = omega arith in t) in let e : (b + 1) * c ≡ b * c + c = omega arith in omega arith)
     by (inr l) = l
 
-module _ (N D d : ℕ) (low : d ≤ 15) where
-  term-cost : (t : List ℕ × Fraction) → IsPartition t.0 → size t.0 ≤ d → nat_abs t.1.0 * (D / t.1.1) * factorials t.0 ≤ N * factorial (size t.0)
-      → nat_abs (cleared_number D (factorial d) t.0 t.1) * cost ([], t.0) ≤ N * label_cost d t.0
+module _ (N d : ℕ) (low : d ≤ 15) where
+  term-cost : (t : List ℕ × ℤ) → IsPartition t.0 → size t.0 ≤ d → nat_abs t.1 * factorials t.0 ≤ N * factorial (size t.0)
+      → nat_abs (augmented_number (factorial d) t.0 t.1) * cost ([], t.0) ≤ N * label_cost d t.0
   term-cost t p s b =
-      let W = nat_abs t.1.0 * (D / t.1.1) in
+      let W = nat_abs t.1 in
       let M = multinomial t.0 in
       let F = factorials t.0 in
       let k = factorial d / multiplicity_factorials t.0 in
       let C = factorial (length t.0) * doubled (size t.0) in
       let div = divides-at d t.0 low p s in
       let e : N * factorial (size t.0) ≡ (N * M) * F = ap (λ x. N * x) (sym div.parts_are) ∙ grouped N M F in
-      let h : W ≤ N * M = cancel-le W (N * M) F (factorials-positive t.0) (subst (λ x. nat_abs t.1.0 * (D / t.1.1) * factorials t.0 ≤ x) e b) in
+      let h : W ≤ N * M = cancel-le W (N * M) F (factorials-positive t.0) (subst (λ x. nat_abs t.1 * factorials t.0 ≤ x) e b) in
       let g : W * (k * C) ≤ (N * M) * (k * C) = mul-le-mul_right (k * C) h in
-      let u : nat_abs (cleared_number D (factorial d) t.0 t.1) ≡ W * k = unsigned_abs-mul (t.1.0 *ℤ pos (D / t.1.1)) (pos k) ∙ ap (λ x. x * k) (unsigned_abs-mul t.1.0 (pos (D / t.1.1))) in
-      closing (nat_abs (cleared_number D (factorial d) t.0 t.1)) W k C N M u g
+      closing (nat_abs (augmented_number (factorial d) t.0 t.1)) W k C N M (unsigned_abs-mul t.1 (pos k)) g
     where
       grouped : (x y z : ℕ) → x * (y * z) ≡ (x * y) * z
       grouped x y z = omega arith
@@ -134,33 +133,33 @@ module _ (N D d : ℕ) (low : d ≤ 15) where
           let e : (N * M) * (k * C) ≡ N * ((M * k) * C) = omega arith in
           omega arith
 
-  list-cost : (terms : Terms (List ℕ)) → ((t : List ℕ × Fraction) → Among t terms → IsPartition t.0) → AreWithin d terms → IsBounded N D terms
-      → weighed cost (cleared_terms D (factorial d) terms) ≤ N * sum_by (label_cost d) (map (λ (t : List ℕ × Fraction). t.0) terms)
+  list-cost : (terms : WholeTerms) → ((t : List ℕ × ℤ) → Among t terms → IsPartition t.0) → AreWithin d terms → IsBoundedBy N terms
+      → weighed cost (augmented_terms (factorial d) terms) ≤ N * sum_by (label_cost d) (labels terms)
   list-cost [] p w b = omega arith
   list-cost (t ∷ terms) p w b =
-      let here = term-cost t (p t (inl refl)) (w t (inl refl)) (b t (inl refl)).1 in
+      let here = term-cost t (p t (inl refl)) (w t (inl refl)) (b t (inl refl)) in
       let later = list-cost terms (λ u m. p u (inr m)) (λ u m. w u (inr m)) (λ u m. b u (inr m)) in
-      let e : N * (label_cost d t.0 + sum_by (label_cost d) (map (λ (t : List ℕ × Fraction). t.0) terms)) ≡ N * label_cost d t.0 + N * sum_by (label_cost d) (map (λ (t : List ℕ × Fraction). t.0) terms) = spread N (label_cost d t.0) (sum_by (label_cost d) (map (λ (t : List ℕ × Fraction). t.0) terms)) in
+      let e : N * (label_cost d t.0 + sum_by (label_cost d) (labels terms)) ≡ N * label_cost d t.0 + N * sum_by (label_cost d) (labels terms) = spread N (label_cost d t.0) (sum_by (label_cost d) (labels terms)) in
       omega arith
     where
       spread : (x y z : ℕ) → x * (y + z) ≡ x * y + x * z
       spread x y z = omega arith
 
-  labels_among : (terms : Terms (List ℕ)) → ((t : List ℕ × Fraction) → Among t terms → IsPartition t.0) → AreWithin d terms → Within (map (λ (t : List ℕ × Fraction). t.0) terms) (partitions_to d)
+  labels_among : (terms : WholeTerms) → ((t : List ℕ × ℤ) → Among t terms → IsPartition t.0) → AreWithin d terms → Within (labels terms) (partitions_to d)
   labels_among [] p w x m = absurd m
   labels_among (t ∷ terms) p w x (inl e) = subst (λ l. Among l (partitions_to d)) (sym e) (among_to d t.0 (p t (inl refl)) (w t (inl refl)))
   labels_among (t ∷ terms) p w x (inr m) = labels_among terms (λ u n. p u (inr n)) (λ u n. w u (inr n)) x m
 
-pub cost-within : (N D d : ℕ) (terms : Terms (List ℕ)) → d ≤ 15 → IsFractionTable terms → AreWithin d terms → IsBounded N D terms → weighed cost (cleared_terms D (factorial d) terms) ≤ N * growth Basis.completes d
-cost-within N D d terms low is w b =
+pub cost-within : (N d : ℕ) (terms : WholeTerms) → d ≤ 15 → IsWholeTable terms → AreWithin d terms → IsBoundedBy N terms → weighed cost (augmented_terms (factorial d) terms) ≤ N * growth Basis.completes d
+cost-within N d terms low is w b =
     let p = label-partition terms is in
-    let x = list-cost N D d low terms p w b in
-    let y = sum_by-part (label_cost d) (map (λ (t : List ℕ × Fraction). t.0) terms) (partitions_to d) (Once-keys terms is) (labels_among N D d low terms p w) in
+    let x = list-cost N d low terms p w b in
+    let y = sum_by-part (label_cost d) (labels terms) (partitions_to d) (Once-labels terms is) (labels_among N d low terms p w) in
     let z = costs-within d low in
-    let u : N * sum_by (label_cost d) (map (λ (t : List ℕ × Fraction). t.0) terms) ≤ N * growth Basis.completes d = mul-le-mul_left N (let t : sum_by (label_cost d) (map (λ (t : List ℕ × Fraction). t.0) terms) ≤ growth Basis.completes d = omega arith in t) in
+    let u : N * sum_by (label_cost d) (labels terms) ≤ N * growth Basis.completes d = mul-le-mul_left N (let t : sum_by (label_cost d) (labels terms) ≤ growth Basis.completes d = omega arith in t) in
     omega arith
 
-pub has-factors : (d : ℕ) (terms : Terms (List ℕ)) → d ≤ 15 → IsFractionTable terms → AreWithin d terms → HasFactors (factorial d) terms
+pub has-factors : (d : ℕ) (terms : WholeTerms) → d ≤ 15 → IsWholeTable terms → AreWithin d terms → HasFactors (factorial d) terms
 has-factors d terms low is w t m =
     let div = divides-at d t.0 low (label-partition terms is t m) (w t m) in
     let e = div.multiplicities in

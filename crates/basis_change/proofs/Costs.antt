@@ -1,8 +1,8 @@
 -- Bounds for the numbers of a conversion: the cost of a label is the factorial of the number of parts of its augmented
 -- monomial times about 2 to the number of its cells, and converting does not increase the cost.
 --     cost-conversion      the cost of the terms that replace a label
---     ready-conversion     the number of parts of their augmented monomials
---     mass-target, low-target    the terms of the target at the end
+--     ready-conversion     the conditions on the terms that replace a label
+--     mass-target, low-target    the absolute values and the sizes of the terms of the target at the end
 use Rattle.std.proofs.Common.{◌≡◌, ◌⊎◌, ℕ, zero, suc, ◌+◌, ◌-◌, ◌*◌, ◌^◌, ◌<◌, ◌≤◌, List, [], ◌∷◌, ◌++◌, length, refl, sym, ap, ap₂, ◌∙◌, subst, inl, inr, arith, ℤ, pos, negsuc, ◌*ℤ◌}
 use Rattle.std.proofs.lemmas.Int.{ints}
 use Rattle.std.specs.Prelude.{nat_abs}

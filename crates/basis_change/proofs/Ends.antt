@@ -1,34 +1,30 @@
 -- The list in m and the answer expand the same polynomials.
---     expansion-by          from a list in m to an answer in another basis
---     expansion-changed     to the answer in a family
+--     multiple-changed      a list in m, changed into a family
+--     expansion-by          from a list of fractions in m to a list of fractions in another basis
 use Rattle.std.proofs.Common.{◌≡◌, ℕ, ◌*◌, ◌/◌, ◌<◌, ◌≤◌, List, [], ◌∷◌, refl, sym, ap, ap₂, ◌∙◌, inl, inr, arith, ℤ, pos, ◌+ℤ◌, ◌*ℤ◌}
 use Rattle.std.proofs.lemmas.Int.{ints}
-use Rattle.std.proofs.Math.Nat.{div-mul_cancel}
-use Rattle.std.proofs.lemmas.Nat.Gcd.{dvd_of_mod-eq-zero}
-use Rattle.sym_model.specs.Sum.{total, Among}
-use Rattle.sym_model.specs.Polynomial.{Poly, coefficient, pair, times, one}
+use Rattle.sym_model.specs.Sum.{Among, total}
+use Rattle.sym_model.specs.Polynomial.{Poly, Same, coefficient, pair, times, one, scale}
 use Rattle.sym_model.specs.Bases.{monomial, product_over}
-use Rattle.sym_model.specs.Expansion.{Basis, basis_polynomial, Fraction, Terms, denominators, value_by, IsExpansionOf}
+use Rattle.sym_model.specs.Expansion.{Basis, basis_polynomial, Terms, denominators, value_by, Represents, IsExpansionOf}
 use Rattle.sym_model.specs.ListWeight.{IsBounded}
 use Rattle.sym_model.specs.Weight.{factorial}
 use Rattle.sym_model.specs.WholeTerms.{WholeTerms, combined}
-use Rattle.sym_model.proofs.Ring.{ring, product_assoc}
-use Rattle.sym_model.proofs.Sums.{total_map}
+use Rattle.sym_model.proofs.Ring.{ring}
 use Rattle.sym_model.proofs.Polynomials.{pair_scale, pair_determined, coefficient_scale, at_only, coefficient_pair}
 use Rattle.sym_model.proofs.PolynomialLaws.{one-times}
-use Rattle.sym_model.proofs.WholeTerms.{pair_of_combined}
+use Rattle.sym_model.proofs.WholeTerms.{pair_of_combined, combined_respects}
 use Rattle.monomial_laws.specs.ExpressionTerms.{in_monomials, over}
-use Rattle.monomial_laws.proofs.DividedTerms.{over-there, over-missing, IsDivided, value-divided}
+use Rattle.monomial_laws.proofs.DividedTerms.{IsDivided, IsDivided-over, value-divided}
 use Rattle.basis_change_laws.specs.AugmentedMonomial.{augmented, multiplicity_factorials}
-use Rattle.sparse_polys.specs.Tables.{IsFractionTable}
+use Rattle.sparse_polys.specs.Tables.{IsFractionTable, IsWholeTable}
 use Rattle.sparse_polys.specs.LabelSizes.{AreWithin}
-use Rattle.sparse_polys.proofs.WholeLists.{Once-keys}
+use Rattle.sparse_polys.proofs.WholeLists.{Once-keys, label-partition}
 use Rattle.sparse_polys.proofs.Quotients.{Quotients, IsDivided-quotients}
-use Rattle.basis_change.proofs.Fractions.{label-partition}
 use Rattle.sparse_polys.specs.declared.family.Family.{Family}
 use Rattle.sparse_polys.specs.declared.family.Family.TheVariants.{Elementary, Complete, PowerSum}
 use Rattle.linear_combinations.specs.Gains.{over as sum_over}
-use Rattle.basis_change.specs.Clearing.{cleared_number, cleared_terms}
+use Rattle.basis_change.specs.Clearing.{IsMultipleIn, augmented_number, augmented_terms}
 use Rattle.sparse_polys.specs.Families.{polynomial_of, basis_in}
 use Rattle.basis_change.specs.Factors.{target_value, product_value}
 use Rattle.basis_change.proofs.Values.{In-augmented}
@@ -39,118 +35,108 @@ use lib.IntN.{*ℤ-zero}
 
 -- ---- the value at the start of the rewriting
 
-start-term : (family : Family) (n D q : ℕ) (φ : List ℕ → ℤ) (t : List ℕ × Fraction) → (q / multiplicity_factorials t.0) * multiplicity_factorials t.0 ≡ q
-    → cleared_number D q t.0 t.1 *ℤ product_value family n φ ([], t.0) ≡ pos q *ℤ ((t.1.0 *ℤ pos (D / t.1.1)) *ℤ pair (monomial t.0 n) φ)
-start-term family n D q φ t e =
+start-term : (family : Family) (n q : ℕ) (φ : List ℕ → ℤ) (t : List ℕ × ℤ) → (q / multiplicity_factorials t.0) * multiplicity_factorials t.0 ≡ q
+    → augmented_number q t.0 t.1 *ℤ product_value family n φ ([], t.0) ≡ pos q *ℤ (t.1 *ℤ pair (monomial t.0 n) φ)
+start-term family n q φ t e =
     let m = multiplicity_factorials t.0 in
     let k = q / multiplicity_factorials t.0 in
-    let w = t.1.0 *ℤ pos (D / t.1.1) in
     let x = pair (monomial t.0 n) φ in
     let v : product_value family n φ ([], t.0) ≡ pos m *ℤ x =
     pair_determined (times (one n) (augmented t.0 n)) (augmented t.0 n) φ (one-times n (augmented t.0 n) (In-augmented t.0 n)) ∙ pair_scale (pos m) (monomial t.0 n) φ in
-    ap (λ z. (w *ℤ pos k) *ℤ z) v ∙ regroup w (pos k) (pos m) x ∙ ap (λ z. pos z *ℤ (w *ℤ x)) e
+    ap (λ z. (t.1 *ℤ pos k) *ℤ z) v ∙ regroup t.1 (pos k) (pos m) x ∙ ap (λ z. pos z *ℤ (t.1 *ℤ x)) e
   where
     regroup : (w k m x : ℤ) → (w *ℤ k) *ℤ (m *ℤ x) ≡ (k *ℤ m) *ℤ (w *ℤ x)
     regroup w k m x = simp ring (omega (arith, ints))
 
-start-value : (family : Family) (n D q : ℕ) (φ : List ℕ → ℤ) (terms : Terms (List ℕ)) → ((t : List ℕ × Fraction) → Among t terms → (q / multiplicity_factorials t.0) * multiplicity_factorials t.0 ≡ q)
-    → sum_over (product_value family n φ) (cleared_terms D q terms) ≡ pos q *ℤ total (λ (t : List ℕ × Fraction). (t.1.0 *ℤ pos (D / t.1.1)) *ℤ pair (monomial t.0 n) φ) terms
-start-value family n D q φ [] h = sym (*ℤ-zero (pos q))
-start-value family n D q φ (t ∷ terms) h =
-    ap₂ ◌+ℤ◌ (start-term family n D q φ t (h t (inl refl))) (start-value family n D q φ terms (λ u m. h u (inr m)))
-    ∙ spread (pos q) ((t.1.0 *ℤ pos (D / t.1.1)) *ℤ pair (monomial t.0 n) φ) (total (λ (t : List ℕ × Fraction). (t.1.0 *ℤ pos (D / t.1.1)) *ℤ pair (monomial t.0 n) φ) terms)
+start-value : (family : Family) (n q : ℕ) (φ : List ℕ → ℤ) (terms : WholeTerms) → ((t : List ℕ × ℤ) → Among t terms → (q / multiplicity_factorials t.0) * multiplicity_factorials t.0 ≡ q)
+    → sum_over (product_value family n φ) (augmented_terms q terms) ≡ pos q *ℤ total (λ (t : List ℕ × ℤ). t.1 *ℤ pair (monomial t.0 n) φ) terms
+start-value family n q φ [] h = sym (*ℤ-zero (pos q))
+start-value family n q φ (t ∷ terms) h =
+    ap₂ ◌+ℤ◌ (start-term family n q φ t (h t (inl refl))) (start-value family n q φ terms (λ u m. h u (inr m)))
+    ∙ spread (pos q) (t.1 *ℤ pair (monomial t.0 n) φ) (total (λ (t : List ℕ × ℤ). t.1 *ℤ pair (monomial t.0 n) φ) terms)
   where
     spread : (x y z : ℤ) → x *ℤ y +ℤ x *ℤ z ≡ x *ℤ (y +ℤ z)
     spread x y z = simp ring (omega (arith, ints))
 
-pub pair-over : (n D : ℕ) (φ : List ℕ → ℤ) (terms : Terms (List ℕ)) → pair (in_monomials (over D terms) n) φ ≡ total (λ (t : List ℕ × Fraction). (t.1.0 *ℤ pos (D / t.1.1)) *ℤ pair (monomial t.0 n) φ) terms
-pair-over n D φ terms =
-    pair_of_combined (λ label. monomial label n) (over D terms) φ
-    ∙ total_map (λ (t : List ℕ × ℤ). t.1 *ℤ pair (monomial t.0 n) φ) (λ (t : List ℕ × Fraction). (t.0, t.1.0 *ℤ pos (D / t.1.1))) terms
+same_combined : (family : Family) (n : ℕ) (end : WholeTerms) → combined (λ label. basis_polynomial (basis_in family) label n) end ≡ combined (λ label. product_over (polynomial_of family) label n) end
+same_combined Elementary n end = refl
+same_combined Complete n end = refl
+same_combined PowerSum n end = refl
 
--- ---- a list and D times the list
+pub multiple-changed : (family : Family) (d : ℕ) (terms end : WholeTerms) → d ≤ 15 → IsWholeTable terms → AreWithin d terms
+    → ((n : ℕ) (φ : List ℕ → ℤ) → sum_over (target_value family n φ) end ≡ sum_over (product_value family n φ) (augmented_terms (factorial d) terms))
+    → IsMultipleIn (basis_in family) (factorial d) terms end
+multiple-changed family d terms end low is w same_value n α =
+    ap (λ g. coefficient g α) (same_combined family n end)
+    ∙ coefficient_pair (combined (λ label. product_over (polynomial_of family) label n) end) α
+    ∙ pair_of_combined (λ label. product_over (polynomial_of family) label n) end (at_only α)
+    ∙ same_value n (at_only α)
+    ∙ start-value family n (factorial d) (at_only α) terms (λ t m. (divides-at d t.0 low (label-partition terms is t m) (w t m)).multiplicities)
+    ∙ ap (λ z. pos (factorial d) *ℤ z) (sym (pair_of_combined (λ label. monomial label n) terms (at_only α)) ∙ sym (coefficient_pair (in_monomials terms n) α))
+    ∙ sym (coefficient_scale (pos (factorial d)) (in_monomials terms n) α)
 
--- the list of the terms times D is D times the list
-pub IsDivided-list : (N D : ℕ) (terms : Terms (List ℕ)) → 0 < denominators terms → IsFractionTable terms → IsBounded N D terms → IsDivided D (over D terms) terms
-IsDivided-list N D terms positive is b = record {
-  once = Once-keys terms is;
-  positive = positive;
-  there = λ t m.
-      let e = div-mul_cancel t.1.1 (dvd_of_mod-eq-zero t.1.1 (b t m).0) in
-      sym (ap (λ z. z *ℤ pos t.1.1) (over-there D terms (Once-keys terms is) t m)
-      ∙ product_assoc t.1.0 (pos (D / t.1.1)) (pos t.1.1)
-      ∙ ap (λ k. t.1.0 *ℤ pos k) e);
-  missing = λ label n. over-missing D terms label n;
-}
+-- ---- a list of fractions, and the list times a number D
 
--- ---- the list in m and the answer expand the same
-
-crossed : (D q Q R p u v w r f : ℤ) → D *ℤ u ≡ Q *ℤ w → (D *ℤ q) *ℤ v ≡ R *ℤ r → r ≡ q *ℤ w → p *ℤ u ≡ Q *ℤ f
-    → (p *ℤ v) *ℤ ((D *ℤ q) *ℤ Q) ≡ (R *ℤ f) *ℤ ((D *ℤ q) *ℤ Q)
-crossed D q Q R p u v w r f a b c h =
-    one p v D q Q
-    ∙ ap (λ z. (p *ℤ Q) *ℤ z) (b ∙ ap (λ z. R *ℤ z) c)
-    ∙ two p Q R q w
-    ∙ ap (λ z. ((p *ℤ R) *ℤ q) *ℤ z) (sym a)
-    ∙ three p R q D u
-    ∙ ap (λ z. ((R *ℤ q) *ℤ D) *ℤ z) h
-    ∙ four R q D Q f
+crossed : (q a b x y f : ℤ) → b *ℤ y ≡ a *ℤ x → q *ℤ x ≡ b *ℤ f → (q *ℤ y) *ℤ b ≡ (a *ℤ f) *ℤ b
+crossed q a b x y f h k = one q y b ∙ ap (λ z. q *ℤ z) h ∙ two q a x ∙ ap (λ z. a *ℤ z) k ∙ three a b f
   where
-    one : (p v D q Q : ℤ) → (p *ℤ v) *ℤ ((D *ℤ q) *ℤ Q) ≡ (p *ℤ Q) *ℤ ((D *ℤ q) *ℤ v)
-    one p v D q Q = simp ring (omega (arith, ints))
+    one : (q y b : ℤ) → (q *ℤ y) *ℤ b ≡ q *ℤ (b *ℤ y)
+    one q y b = simp ring (omega (arith, ints))
 
-    two : (p Q R q w : ℤ) → (p *ℤ Q) *ℤ (R *ℤ (q *ℤ w)) ≡ ((p *ℤ R) *ℤ q) *ℤ (Q *ℤ w)
-    two p Q R q w = simp ring (omega (arith, ints))
+    two : (q a x : ℤ) → q *ℤ (a *ℤ x) ≡ a *ℤ (q *ℤ x)
+    two q a x = simp ring (omega (arith, ints))
 
-    three : (p R q D u : ℤ) → ((p *ℤ R) *ℤ q) *ℤ (D *ℤ u) ≡ ((R *ℤ q) *ℤ D) *ℤ (p *ℤ u)
-    three p R q D u = simp ring (omega (arith, ints))
+    three : (a b f : ℤ) → a *ℤ (b *ℤ f) ≡ (a *ℤ f) *ℤ b
+    three a b f = simp ring (omega (arith, ints))
 
-    four : (R q D Q f : ℤ) → ((R *ℤ q) *ℤ D) *ℤ (Q *ℤ f) ≡ (R *ℤ f) *ℤ ((D *ℤ q) *ℤ Q)
-    four R q D Q f = simp ring (omega (arith, ints))
+-- W is D times a list of fractions: q·W is D·f if the list expands f divided by q, and only then
+module _ (polynomial : List ℕ → Poly) (D q : ℕ) (W : WholeTerms) (terms : Terms (List ℕ)) (f : Poly) (d : IsDivided D W terms) where
+  pub clears : Represents polynomial terms f q → Same (scale (pos q) (combined polynomial W)) (scale (pos D) f)
+  clears h α =
+      let v = coefficient (value_by polynomial terms) α in
+      let w = coefficient (combined polynomial W) α in
+      let Q = denominators terms in
+      coefficient_scale (pos q) (combined polynomial W) α
+      ∙ product_cancel (pos q *ℤ w) (pos D *ℤ coefficient f α) (denominators terms) h.positive
+      (crossed (pos q) (pos D) (pos Q) v w (coefficient f α) (sym (value-divided polynomial D W terms d α))
+      (sym (coefficient_scale (pos q) (value_by polynomial terms) α) ∙ h.equal α ∙ coefficient_scale (pos Q) f α))
+      ∙ sym (coefficient_scale (pos D) f α)
 
--- if the answer is the quotient of a list with the same values, it expands what the terms in m expand
-pub expansion-by : (basis : Basis) (N D q : ℕ) (terms answer : Terms (List ℕ)) (R : WholeTerms) → 0 < D → 0 < q → IsFractionTable terms → IsBounded N D terms → IsFractionTable answer → Quotients (D * q) answer R
-    → (n : ℕ) → ((α : List ℕ) → coefficient (combined (λ label. basis_polynomial basis label n) R) α ≡ pos q *ℤ coefficient (in_monomials (over D terms) n) α)
-    → (f : Poly) (p : ℕ) → IsExpansionOf Basis.monomials terms n f p → IsExpansionOf basis answer n f p
-expansion-by basis N D q terms answer R some positive is b js quotients n same_values f p h =
-    let W = over D terms in
-    let Dq = mul-pos some positive in
-    let first = IsDivided-list N D terms h.positive is b in
-    let second = IsDivided-quotients (D * q) R answer Dq js quotients in
-    record {
-      positive = second.positive;
-      equal = λ α.
-          let u = coefficient (value_by (λ label. monomial label n) terms) α in
-          let v = coefficient (value_by (λ label. basis_polynomial basis label n) answer) α in
-          let A = value-divided (λ label. monomial label n) D W terms first α in
-          let B = value-divided (λ label. basis_polynomial basis label n) (D * q) R answer second α in
-          let H = sym (coefficient_scale (pos p) (value_by (λ label. monomial label n) terms) α) ∙ h.equal α ∙ coefficient_scale (pos (denominators terms)) f α in
-          coefficient_scale (pos p) (value_by (λ label. basis_polynomial basis label n) answer) α
-          ∙ product_cancel (pos p *ℤ v) (pos (denominators answer) *ℤ coefficient f α) ((D * q) * denominators terms) (mul-pos Dq h.positive)
-          (crossed (pos D) (pos q) (pos (denominators terms)) (pos (denominators answer)) (pos p) u v (coefficient (in_monomials W n) α) (coefficient (combined (λ label. basis_polynomial basis label n) R) α) (coefficient f α) A B (same_values α) H)
-          ∙ sym (coefficient_scale (pos (denominators answer)) f α);
-    }
+  pub expands : 0 < D → Same (scale (pos q) (combined polynomial W)) (scale (pos D) f) → Represents polynomial terms f q
+  expands some h = record {
+    positive = d.positive;
+    equal = λ α.
+        let v = coefficient (value_by polynomial terms) α in
+        let w = coefficient (combined polynomial W) α in
+        let Q = denominators terms in
+        coefficient_scale (pos q) (value_by polynomial terms) α
+        ∙ product_cancel (pos q *ℤ v) (pos Q *ℤ coefficient f α) D some
+        (crossed (pos q) (pos Q) (pos D) w v (coefficient f α) (value-divided polynomial D W terms d α)
+        (sym (coefficient_scale (pos q) (combined polynomial W) α) ∙ h α ∙ coefficient_scale (pos D) f α))
+        ∙ sym (coefficient_scale (pos Q) f α);
+  }
 
-pub expansion-changed : (family : Family) (N D d : ℕ) (terms answer : Terms (List ℕ)) (end : WholeTerms) → 0 < D → d ≤ 15 → IsFractionTable terms → AreWithin d terms → IsBounded N D terms
-    → ((n : ℕ) (φ : List ℕ → ℤ) → sum_over (target_value family n φ) end ≡ sum_over (product_value family n φ) (cleared_terms D (factorial d) terms))
-    → IsFractionTable answer → Quotients (D * factorial d) answer end → 0 < factorial d
-    → (n : ℕ) (f : Poly) (p : ℕ) → IsExpansionOf Basis.monomials terms n f p → IsExpansionOf (basis_in family) answer n f p
-expansion-changed family N D d terms answer end some low is w b same_value js quotients positive n f p h =
-    expansion-by (basis_in family) N D (factorial d) terms answer end some positive is b js quotients n total-value f p h
+-- W is D times a list of fractions in m, R is q times W in another basis, and the answer is R divided by D·q: then the
+-- answer expands every polynomial that the list expands
+pub expansion-by : (basis : Basis) (N D q : ℕ) (terms answer : Terms (List ℕ)) (W R : WholeTerms) → 0 < D → 0 < q → IsFractionTable terms → IsBounded N D terms → Same W (over D terms)
+    → IsMultipleIn basis q W R → IsFractionTable answer → Quotients (D * q) answer R
+    → (n : ℕ) (f : Poly) (p : ℕ) → IsExpansionOf Basis.monomials terms n f p → IsExpansionOf basis answer n f p
+expansion-by basis N D q terms answer W R some positive is b same multiple js quotients n f p h =
+    let P : List ℕ → Poly = λ label. basis_polynomial basis label n in
+    let V = in_monomials (over D terms) n in
+    let whole = clears (λ label. monomial label n) D p (over D terms) terms f (IsDivided-over D terms h.positive (Once-keys terms is) (λ t m. (b t m).0)) h in
+    expands P (D * q) p R answer f (IsDivided-quotients (D * q) R answer (mul-pos some positive) js quotients) (mul-pos some positive)
+    (λ α.
+    coefficient_scale (pos p) (combined P R) α
+    ∙ ap (λ z. pos p *ℤ z)
+    (multiple n α ∙ coefficient_scale (pos q) (in_monomials W n) α ∙ ap (λ z. pos q *ℤ z) (combined_respects (λ label. monomial label n) W (over D terms) same α))
+    ∙ turned (pos p) (pos q) (coefficient V α)
+    ∙ ap (λ z. pos q *ℤ z) (sym (coefficient_scale (pos p) V α) ∙ whole α ∙ coefficient_scale (pos D) f α)
+    ∙ regrouped (pos q) (pos D) (coefficient f α)
+    ∙ sym (coefficient_scale (pos (D * q)) f α))
   where
-    same_combined : combined (λ label. basis_polynomial (basis_in family) label n) end ≡ combined (λ label. product_over (polynomial_of family) label n) end
-    same_combined = by family
-      where
-        by : (g : Family) → combined (λ label. basis_polynomial (basis_in g) label n) end ≡ combined (λ label. product_over (polynomial_of g) label n) end
-        by Elementary = refl
-        by Complete = refl
-        by PowerSum = refl
+    turned : (p q v : ℤ) → p *ℤ (q *ℤ v) ≡ q *ℤ (p *ℤ v)
+    turned p q v = simp ring (omega (arith, ints))
 
-    total-value : (α : List ℕ) → coefficient (combined (λ label. basis_polynomial (basis_in family) label n) end) α ≡ pos (factorial d) *ℤ coefficient (in_monomials (over D terms) n) α
-    total-value α =
-        ap (λ g. coefficient g α) same_combined
-        ∙ coefficient_pair (combined (λ label. product_over (polynomial_of family) label n) end) α
-        ∙ pair_of_combined (λ label. product_over (polynomial_of family) label n) end (at_only α)
-        ∙ same_value n (at_only α)
-        ∙ start-value family n D (factorial d) (at_only α) terms (λ t m. (divides-at d t.0 low (label-partition terms is t m) (w t m)).multiplicities)
-        ∙ ap (λ z. pos (factorial d) *ℤ z) (sym (pair-over n D (at_only α) terms) ∙ sym (coefficient_pair (in_monomials (over D terms) n) α))
+    regrouped : (q D f : ℤ) → q *ℤ (D *ℤ f) ≡ (D *ℤ q) *ℤ f
+    regrouped q D f = simp ring (omega (arith, ints))

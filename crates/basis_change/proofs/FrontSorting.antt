@@ -4,7 +4,7 @@
 --     value-strict       the value at a strictly decreasing list
 --     value-front        the entries before the last one straightened first
 --     value-zero         a zero in a further place changes nothing
-use Rattle.std.proofs.Common.{◌≡◌, ◌⊎◌, ℕ, suc, ◌+◌, ◌-◌, Bool, true, false, ◌||◌, ◌==◌, cond, List, [], ◌∷◌, ◌++◌, map, length, refl, sym, ap, ap₂, ◌∙◌, inl, inr, arith, append_assoc, length-append, ℤ, pos, neg_ℤ, ◌*ℤ◌}
+use Rattle.std.proofs.Common.{◌≡◌, ◌⊎◌, ℕ, suc, ◌-◌, Bool, true, false, ◌||◌, ◌==◌, cond, List, [], ◌∷◌, ◌++◌, map, length, refl, sym, ap, ap₂, ◌∙◌, inl, inr, arith, append_assoc, length-append, ℤ, pos, neg_ℤ, ◌*ℤ◌}
 use Rattle.std.proofs.lemmas.Int.{ints}
 use Rattle.std.proofs.lemmas.Bool.{cases_eq}
 use Rattle.std.proofs.lemmas.Bool.Decides.{nat_tests}
@@ -114,7 +114,8 @@ equal-above x (a ∷ s) h = by (has a s) refl h (equal-above x s)
         either true = refl
         either false = refl
 
--- before a is sorted in, the entries before it can be replaced by the beta list of the partition to which they straighten
+-- if the list s is straightened first and a is inserted into the result, the value of g is that at the straightening of
+-- `above a s`
 pub value-front : (g : List ℕ → ℤ) (a : ℕ) (s : List ℕ) → straight_value g (above a s) ≡ straight_value (λ ν. straight_value g (above a (beta (length s) ν))) s
 value-front g a s = by (has_equal_entries s) refl
   where

@@ -1,4 +1,4 @@
--- The number of a rim hook, inserted among the beta numbers of the other rows.
+-- The entry of a rim hook, inserted among the beta numbers of the other rows.
 use Rattle.std.proofs.Common.{◌≡◌, ℕ, suc, ◌+◌, ◌-◌, ◌*◌, ◌^◌, ◌<◌, ◌≤◌, nat_le, Bool, true, false, cond, List, [], ◌∷◌, ◌++◌, map, length, refl, sym, ap, ap₂, ◌∙◌, subst, arith, ℤ, ◌*ℤ◌}
 use Rattle.std.specs.Prelude.{nat_lt, nat_abs, nat_eq}
 use Rattle.std.specs.Cmp.{nat_eq_equiv}
@@ -85,7 +85,7 @@ module _ (a set others : ℕ) (c : ℤ) (twice : others ≡ 2 * set) (none : has
       turned : (x y : ℤ) → x *ℤ y ≡ y *ℤ x
       turned x y = simp ring
 
-  -- if |c| is at least 2^127, so is the coefficient of the term
+  -- if |c| is at least 2^127, adding c times the term of the rim hook overflows
   pub hook-past : (old : WholeTermsOf ℕ) → 2 ^ 127 ≤ nat_abs c → Overflows nat_eq old (scaled c (hook a set))
   hook-past old large =
       let passed = length (numbers (2 * set)) - greater a (numbers (2 * set)) in

@@ -24,7 +24,7 @@ use lib.IntN.{+ℤ_idl}
 
 -- ---- the number of rows after the rim hook is added
 
--- a strictly decreasing list without 0 is the beta list of a partition with one row for each entry
+-- if a strictly decreasing list without 0 begins with a, fewer than a entries follow
 below_first : (a : ℕ) (b : List ℕ) → FallsStrictly (a ∷ b) → has 0 (a ∷ b) ≡ false → length b < a
 below_first zero [] f h = absurd (cc)
 below_first (suc a) [] f h = omega arith
@@ -83,7 +83,7 @@ value-rows n g ν count a h p = by (has_equal_entries (hooked ν count a)) refl
         ∙ sym (times_chosen (nat_le count n) (sorting_sign (hooked ν count a)) (g (from_beta (sorted_falling (hooked ν count a)))))
         ∙ ap (λ z. cond (nat_le count n) z (pos 0)) (sym (value-different g (hooked ν count a) e))
 
--- ---- the rim hook cannot begin more than a rows after the last row
+-- ---- a rim hook of a cells cannot begin more than a rows after the last row
 
 has-after : (f : ℕ → ℕ) (k b m i : ℕ) → b < i → i ≤ b + m → suc (f i) ≡ k → has k (map suc (map f (after b m))) ≡ true
 has-after f k b zero i l h e = absurd (omega arith)
@@ -117,7 +117,7 @@ value-far g ν count a p h =
     (has-after (λ i. part ν i + (count - 1 - i)) a 0 (count - 1) (count - a) (omega arith) (omega arith)
     (let e = past_end ν (count - a - 1) (omega arith) in omega arith)))
 
--- ---- a bound n on the number of rows, raised by 1
+-- ---- sums over the row in which the rim hook begins, which is at most n, with n raised by 1
 
 pub total_after-cut : (v : ℕ → ℤ) (start a n : ℕ) → ((count : ℕ) → start + a < count → v count ≡ pos 0)
     → total (λ (count : ℕ). cond (nat_le count (suc n)) (v count) (pos 0)) (after start a)

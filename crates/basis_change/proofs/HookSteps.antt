@@ -1,6 +1,6 @@
--- Adding a rim hook that begins in an empty row: its entry is inserted among the others, which are decreasing.
---     beta-last          the others are the beta list without its last entry, 0
---     value-put          the value of the result
+-- Adding a rim hook that begins in an empty row: its entry is inserted among the decreasing entries of the other rows.
+--     beta-last          the entries of the other rows are the beta list without its last entry, 0
+--     value-put          the value of g at the result
 --     size-put           the size of the result
 use Rattle.std.proofs.Common.{◌≡◌, ℕ, suc, ◌+◌, ◌-◌, ◌≤◌, true, false, ◌||◌, ◌==◌, cond, nat_lt, List, [], ◌∷◌, ◌++◌, map, length, refl, sym, ap, ap₂, ◌∙◌, subst, inl, inr, arith, length-append, ℤ, pos, ◌*ℤ◌}
 use Rattle.std.proofs.lemmas.Bool.{cases_lt, or_parts, ne_eqb, both_ways, eq-eqb}
@@ -24,7 +24,7 @@ use Rattle.basis_change.proofs.HookRows.{equal-last}
 use Rattle.beta_list_laws.proofs.BetaLowerings.{strict_distinct}
 use Rattle.beta_list_laws.proofs.Lowest.{strict_falls}
 
--- ---- the entries of the other rows
+-- ---- the beta numbers with one more row, which is empty
 
 pub beta-last : (ν : List ℕ) (k : ℕ) → rows ν ≤ k → beta (k + 1) ν ≡ above 0 (beta k ν)
 beta-last ν k h =
@@ -50,7 +50,7 @@ size-next : (s : List ℕ) → size (map suc s) ≡ size s + length s
 size-next [] = refl
 size-next (a ∷ s) = let e = size-next s in omega arith
 
--- ---- sorting a list with a appended
+-- ---- sorting a list to which the number a is appended
 
 sorted-last : (front : List ℕ) (a : ℕ) → sorted_falling (front ++ a ∷ []) ≡ put_falling a (sorted_falling front)
 sorted-last [] a = refl
@@ -71,7 +71,8 @@ greater-last : (b a : ℕ) (front : List ℕ) → greater b (front ++ a ∷ []) 
 greater-last b a [] = let e : cond {A = ℕ} (nat_lt b a) 1 0 + 0 ≡ 0 + cond (nat_lt b a) 1 0 = omega arith in e
 greater-last b a (c ∷ front) = let e = greater-last b a front in omega arith
 
--- the entry a moves before the entries that are not greater
+-- if a is not in the decreasing list `front`, sorting `front` with a appended moves a before all entries that are not
+-- greater
 pub passed : (front : List ℕ) (a : ℕ) → FallsStrictly front → has a front ≡ false → rising_pairs (front ++ a ∷ []) + greater a front ≡ length front
 passed [] a f h = refl
 passed (b ∷ front) a f h =

@@ -1,6 +1,6 @@
 -- Special rim hooks added to a table (specs/RimHooks).
---     hooks-next, hooks-end, hooks_gain, hooks_overflow     one more row
---     hooks-mass, hooks-over, hooks-labels                  those that begin in the next rows
+--     hooks-next, hooks-end, hooks_gain, hooks_overflow     the rim hooks that begin in one more row
+--     hooks-mass, hooks-over, hooks-labels                  the rim hooks that begin in the next rows
 use Rattle.std.proofs.Common.{◌≡◌, ℕ, zero, suc, ◌+◌, ◌*◌, ◌^◌, ◌<◌, ◌≤◌, List, ◌++◌, append-nil, refl, sym, ap, ap₂, ◌∙◌, subst, arith, ℤ, ◌+ℤ◌}
 use Rattle.std.specs.Prelude.{nat_eq}
 use Rattle.sym_model.specs.Partition.{size, after}

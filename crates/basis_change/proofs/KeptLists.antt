@@ -1,13 +1,10 @@
--- Kept lists (specs/KeptLists).
---     gains-multiple, overflows-multiple    a multiple of a kept list replaces the terms of the arrangements
+-- The lists to which the arrangements of partitions straighten, kept for each partition (specs/KeptLists).
 --     kept-empty, kept-step, not_large      the conditions for keeping a list
---     written-straightens, kept-small       the list with its partitions written out
 --     listed-next .. hooked_lists-append    the different parts one after another
-use Rattle.std.proofs.Common.{◌≡◌, ◌⊎◌, ℕ, zero, suc, ◌+◌, ◌-◌, ◌*◌, ◌^◌, ◌<◌, ◌≤◌, nat_le, Bool, true, false, cond, List, [], ◌∷◌, ◌++◌, map, length, refl, sym, ap, ◌∙◌, subst, append_assoc, inl, inr, arith, ℤ, pos, ◌+ℤ◌, ◌*ℤ◌}
-use Rattle.std.specs.Prelude.{nat_abs, drop, get_or, ◌==◌, nat_eq}
+use Rattle.std.proofs.Common.{◌≡◌, ◌⊎◌, ℕ, zero, suc, ◌+◌, ◌-◌, ◌*◌, ◌^◌, ◌<◌, ◌≤◌, Bool, true, false, cond, List, [], ◌∷◌, ◌++◌, map, length, refl, sym, ap, ◌∙◌, subst, append_assoc, inl, inr, arith, ℤ, pos, ◌+ℤ◌, ◌*ℤ◌}
+use Rattle.std.specs.Prelude.{drop, get_or, ◌==◌, nat_eq}
 use Rattle.std.proofs.lemmas.List.{map-append, append-nil, drop_all}
 use Rattle.std.proofs.lemmas.Grind.{flat_map-append}
-use Rattle.std.proofs.lemmas.Int.{ints}
 use Rattle.std.proofs.lemmas.Bool.Decides.{nat_tests}
 use Rattle.sym_model.specs.Sum.{Among}
 use Rattle.sym_model.specs.Polynomial.{pair}
@@ -15,7 +12,6 @@ use Rattle.sym_model.specs.Partition.{IsPartition, size, rows}
 use Rattle.sym_model.specs.RaisedPart.{without_one, distinct}
 use Rattle.sym_model.specs.WholeTerms.{WholeTerms, WholeTermsOf}
 use Rattle.sym_model.specs.Weight.{factorial}
-use Rattle.sym_model.proofs.Ring.{product-one}
 use Rattle.sym_model.proofs.Sums.{total_among, total_each, total_map, Among_from_append, Among_from_map}
 use Rattle.sym_model.proofs.SortedParts.{rows_within_size, size-without_one, has-zero}
 use Rattle.sym_model.proofs.Parts.{size-append}
@@ -24,91 +20,20 @@ use Rattle.sym_model.specs.Bases.{has}
 use Rattle.monomial_laws.proofs.Growths.{factorial-mono}
 use Rattle.basis_change.specs.SpecialRimHooks.{within_rows, hooks_value, IsStraightening, all_hooks}
 use Rattle.basis_change.proofs.StraightenedArrangements.{no_part, last_part}
-use Rattle.linear_combinations.specs.Gains.{over, only, mass, mass_at, scaled, replaced, Gains, Overflows}
-use Rattle.sparse_polys.specs.Tables.{equal, IsWholeTable}
-use Rattle.sparse_polys.proofs.WholeLists.{label-partition}
-use Rattle.std.specs.Prelude.{Option}
-use Rattle.std.specs.Cmp.Lexicographic.{nat_list_eq_equiv}
-use Rattle.std.specs.Option.{unwrap_or}
-use Rattle.std.specs.List.{IsDistinct}
-use Rattle.std.specs.Map.{keys_of}
-use Rattle.std.proofs.lemmas.Map.{lookup-none}
-use Rattle.std.proofs.lemmas.Map.Keys.{IsDistinct-tail}
-use Rattle.std.proofs.lemmas.Map.Entries.{none_past_head}
-use Rattle.sym_model.proofs.Integers.{nat_abs-product}
-use Rattle.linear_combinations.specs.Labels.{same_partition}
-use Rattle.linear_combinations.proofs.Gains.{gains_as, overflows_as, over_at, over_only_within, scaled_over, replaced_over}
+use Rattle.linear_combinations.specs.Gains.{over, mass, replaced, Gains, Overflows}
+use Rattle.linear_combinations.proofs.Gains.{replaced_over}
 use Rattle.sym_model.proofs.WholeTerms.{labels_append}
-use Rattle.linear_combinations.proofs.Masses.{mass_at_scaled, mass_append, mass_replaced, labels_replaced, labels_gained, overflow_mass}
-use Rattle.basis_change.specs.Arranging.{straight_terms}
-use Rattle.basis_change.specs.KeptLists.{IsKept, IsKeptRest, IsStraightened}
-use Rattle.basis_change.proofs.StraightTerms.{straight_terms-over}
+use Rattle.linear_combinations.proofs.Masses.{mass_append, mass_replaced, labels_replaced, labels_gained, overflow_mass}
+use Rattle.basis_change.specs.KeptLists.{IsKept, IsKeptRest}
 use Rattle.std.specs.Cmp.{nat_eq_equiv}
 use Rattle.beta_sets.specs.BetaSets.{shape, shapes, IsShape, AreShapes, IsShapeTable, same_set}
 use Rattle.basis_change.specs.RimHooks.{hooks_below, hooked_lists}
 use Rattle.beta_sets.proofs.BetaSets.{shape-empty, empty_shape}
-use Rattle.beta_sets.proofs.ShapeSums.{over-shapes, mass-shapes, labels-shapes, one_label}
+use Rattle.beta_sets.proofs.ShapeSums.{over-shapes, one_label}
 use Rattle.basis_change.proofs.HookSums.{hooks-mass, hooks-over, hooks-labels}
 use native.Mathlib.Nat.{mul-le-mul_left, mul-le-mul_right}
 use Rattle.linear_combinations.proofs.Weighed.{gains_mass}
-use lib.IntN.{+ℤ_idl, *ℤ-zero}
-
--- ---- the terms of arrangements, replaced by a multiple of a kept list
-
-pub over-pair : (φ : List ℕ → ℤ) (terms : WholeTerms) → pair terms φ ≡ over φ terms
-over-pair φ terms = refl
-
--- in a table the terms of a label do not cancel
-mass_at-table : (ν : List ℕ) (terms : WholeTerms) → IsDistinct equal (keys_of terms) → mass_at equal ν terms ≡ nat_abs (over (only equal ν) terms)
-mass_at-table ν [] distinct = refl
-mass_at-table ν (t ∷ terms) distinct = by (equal ν t.0) refl (mass_at-table ν terms (IsDistinct-tail equal t.0 (keys_of terms) distinct))
-  where
-    by : (b : Bool) → equal ν t.0 ≡ b → mass_at equal ν terms ≡ nat_abs (over (only equal ν) terms)
-        → cond b (nat_abs t.1) 0 + mass_at equal ν terms ≡ nat_abs (t.1 *ℤ cond b (pos 1) (pos 0) +ℤ over (only equal ν) terms)
-    by false p r = let z = *ℤ-zero t.1 in let e : t.1 *ℤ pos 0 +ℤ over (only equal ν) terms ≡ over (only equal ν) terms = omega (arith, ints) in let f = ap nat_abs e in omega arith
-    by true p r =
-        let none = lookup-none (equal ν) terms (none_past_head nat_list_eq_equiv ν t terms distinct p) in
-        let zero_sum : over (only equal ν) terms ≡ pos 0 =
-        over_at nat_list_eq_equiv same_partition terms (IsDistinct-tail equal t.0 (keys_of terms) distinct) ν ∙ ap (λ (o : Option ℤ). unwrap_or o (pos 0)) none in
-        let e : t.1 *ℤ pos 1 +ℤ over (only equal ν) terms ≡ t.1 = let o = product-one t.1 in omega (arith, ints) in
-        let f = ap nat_abs e in
-        let g = ap nat_abs zero_sum in
-        let h : nat_abs (pos 0) ≡ 0 = refl in
-        omega arith
-
-module _ (c : ℤ) (parts : List ℕ) (n : ℕ) (terms : WholeTerms) (kept : IsStraightened parts terms) (is : IsWholeTable terms) (low : size parts ≤ n) where
-  rows-within : (g : List ℕ → ℤ) → over (within_rows n g) terms ≡ over g terms
-  rows-within g =
-      total_among (λ (t : List ℕ × ℤ). t.1 *ℤ within_rows n g t.0) (λ (t : List ℕ × ℤ). t.1 *ℤ g t.0) terms
-      (λ t m.
-      let r = rows_within_size t.0 (label-partition terms is t m).positive in
-      let s = kept.within t m in
-      ap (λ b. t.1 *ℤ cond b (g t.0) (pos 0)) (below (rows t.0) n (omega arith)))
-    where
-      below : (a b : ℕ) → a ≤ b → nat_le a b ≡ true
-      below a b h = grind (arith, nat_tests)
-
-  multiple-over : (φ : List ℕ → ℤ) → over φ (scaled c terms) ≡ over φ (straight_terms c parts n)
-  multiple-over φ =
-      scaled_over c φ terms
-      ∙ ap (λ z. c *ℤ z) (sym (kept.straightens n φ ∙ over-pair (within_rows n φ) terms ∙ rows-within φ))
-      ∙ sym (straight_terms-over φ c parts n)
-
-  pub gains-multiple : (old new : WholeTerms) → Gains old (scaled c terms) new → Gains old (straight_terms c parts n) new
-  gains-multiple old new a = gains_as old (scaled c terms) (straight_terms c parts n) new multiple-over a
-
-  -- the terms of a label do not cancel, as each label occurs once
-  pub overflows-multiple : (old : WholeTerms) → Overflows equal old (scaled c terms) → Overflows equal old (straight_terms c parts n)
-  overflows-multiple old o = overflows_as equal old (scaled c terms) (straight_terms c parts n) within o
-    where
-      within : (ν : List ℕ) → mass_at equal ν (scaled c terms) ≤ mass_at equal ν (straight_terms c parts n)
-      within ν =
-          let a = mass_at_scaled equal ν c terms in
-          let b = ap (λ k. nat_abs c * k) (mass_at-table ν terms is.distinct) in
-          let d = nat_abs-product c (over (only equal ν) terms) in
-          let e = ap nat_abs (sym (scaled_over c (only equal ν) terms) ∙ multiple-over (only equal ν)) in
-          let f = over_only_within equal ν (straight_terms c parts n) in
-          omega arith
+use lib.IntN.{+ℤ_idl}
 
 -- ---- the conditions for keeping a list
 
@@ -126,26 +51,8 @@ kept-empty old new set c o s n is gained = record {
         subst (λ (x : WholeTermsOf ℕ). Gains x ((0, pos 1) ∷ []) new) o
         (subst (λ (m : ℕ). Gains old ((m, pos 1) ∷ []) new) s (subst (λ (z : ℤ). Gains old ((set, z) ∷ []) new) n gained))
 
--- the arrangements of the parts straighten to the list with its partitions written out
-pub written-straightens : (parts : List ℕ) (list : WholeTermsOf ℕ) (terms : WholeTerms) → IsKept parts list → Gains [] (shapes list) terms → IsWholeTable terms → IsStraightened parts terms
-written-straightens parts list terms kept gains is = record {
-  straightens = λ n g. kept.straightens n g ∙ sym (gains.sums (within_rows n g) ∙ +ℤ_idl (over (within_rows n g) (shapes list)));
-  within =
-      labels_gained nat_list_eq_equiv same_partition [] (shapes list) terms is gains (λ (ν : List ℕ). size ν ≤ size parts) (λ t m. absurd m)
-      (labels-shapes (size parts) list kept.within);
-}
-
 factorial_20 : factorial 20 ≡ 2432902008176640000
 factorial_20 = refl
-
-pub kept-small : (parts : List ℕ) (list : WholeTermsOf ℕ) → IsKept parts list → size parts ≤ 20 → Overflows equal [] (shapes list) → ⊥
-kept-small parts list kept low large =
-    let o = overflow_mass equal [] (shapes list) large in
-    let s = mass-shapes list in
-    let f = kept.few in
-    let m = factorial-mono (size parts) 20 low in
-    let n : factorial 20 < 2 ^ 127 = omega (arith, factorial_20) in
-    omega arith
 
 size-distinct : (numbers : List ℕ) → size (distinct numbers) ≤ size numbers
 size-distinct [] = omega arith
@@ -174,7 +81,7 @@ pub part-positive : (parts : List ℕ) (a : ℕ) → IsPartition parts → has a
 part-positive parts zero p h = absurd (let z = has-zero parts p.positive in cc)
 part-positive parts (suc a) p h = omega arith
 
--- ---- rim hooks below the lists for one part less
+-- ---- rim hooks added below the shapes of the lists that are kept for the partition without one part
 
 -- a number with its list, whose beta sets are replaced by their partitions
 abbrev with_shapes : ℕ × WholeTermsOf ℕ → ℕ × WholeTerms
@@ -255,7 +162,7 @@ module _ (parts : List ℕ) (p : IsPartition parts) (low : size parts ≤ 20) wh
     within = labels_gained nat_eq_equiv same_set [] (hooked_lists lists) sum is gains (IsShape (size parts)) (λ t m. absurd m) (all-labels lists rests);
   }
 
-  -- adding up the lists never overflows
+  -- adding up the lists, with rim hooks added below their shapes, never overflows
   pub not_large : (lists : List (ℕ × WholeTermsOf ℕ)) (later : List ℕ) → 0 < length parts → parts_of lists ++ later ≡ distinct parts → ((x : ℕ × WholeTermsOf ℕ) → Among x lists → IsKeptRest parts x)
       → Overflows nat_eq [] (hooked_lists lists) → ⊥
   not_large lists later l listed rests large =
@@ -294,7 +201,7 @@ listed-next parts at done list l h e =
 pub listed-end : (parts : List ℕ) (at : ℕ) (numbers : List ℕ) → length parts ≤ at → numbers ++ distinct (drop at parts) ≡ distinct parts → numbers ≡ distinct parts
 listed-end parts at numbers l e = sym (append-nil numbers) ∙ ap (λ (xs : List ℕ). numbers ++ distinct xs) (sym (drop_all at parts l)) ∙ e
 
--- if each list so far is kept for the parts without its number, and y is too, this holds for the lists with y appended
+-- if each number with its list in `done` has the property `IsKeptRest`, and so has y, this holds for `done` with y appended
 pub rests-next : (parts : List ℕ) (done : List (ℕ × WholeTermsOf ℕ)) (y : ℕ × WholeTermsOf ℕ) → ((x : ℕ × WholeTermsOf ℕ) → Among x done → IsKeptRest parts x) → IsKeptRest parts y
     → (x : ℕ × WholeTermsOf ℕ) → Among x (done ++ y ∷ []) → IsKeptRest parts x
 rests-next parts done y before here x m = by (Among_from_append x done (y ∷ []) m)

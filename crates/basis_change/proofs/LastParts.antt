@@ -1,6 +1,6 @@
 -- A partition by its last part and the parts before it.
 --     insert_part-end      a number that is at most every part is inserted after all parts
---     last_part            each partition that is not empty is such a number after a partition
+--     last_part            each nonempty partition is a partition followed by a positive number
 use Rattle.std.proofs.Common.{◌≡◌, ℕ, suc, ◌+◌, ◌-◌, ◌<◌, List, [], ◌∷◌, ◌++◌, length, take, refl, sym, ap, ◌∙◌, subst, arith}
 use Rattle.std.proofs.lemmas.List.{length-append}
 use Rattle.std.proofs.Math.Seq.{take-append_seam, get_or-append_seam}

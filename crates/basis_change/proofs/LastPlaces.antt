@@ -1,8 +1,8 @@
 -- Sums over the arrangements of a partition in places, by the number in the last place.
 --     arrangement           the properties of an arrangement
 --     arrangements-last     0 or one of the different parts is in the last place
---     arrangements-few      there are none with more parts than places
---     arrangements-none     there is one of no parts
+--     arrangements-few      no arrangement has more parts than places
+--     arrangements-none     there is one arrangement of no parts
 use Rattle.std.proofs.Common.{◌≡◌, ◌⊎◌, ℕ, zero, suc, ◌+◌, ◌-◌, ◌<◌, ◌≤◌, Bool, true, false, ◌==◌, cond, eqb, nat_le, List, [], ◌∷◌, ◌++◌, map, length, replicate, refl, sym, ap, ◌∙◌, inl, inr, arith, ℤ, pos, ◌+ℤ◌}
 use Rattle.std.proofs.lemmas.Bool.{cases_eq, le-leb, eq-eqb, ne_eqb}
 use Rattle.std.proofs.lemmas.Bool.Decides.{nat_tests}
@@ -45,7 +45,7 @@ arrangements-none F n =
     ∙ total_exponent_lists-zero (λ α. cond (same (sorted_parts α) []) (F α) (pos 0)) n
     ∙ ap (λ l. cond (same l []) (F (replicate n 0)) (pos 0)) (sorted_parts-zeros n)
 
--- ---- lists of exponents by the last one
+-- ---- sums over lists of exponents, by their last exponent
 
 -- a sum over the numbers up to e is a sum over those up to d ≥ e, with 0 for the numbers over e
 cut : (f : ℕ → ℤ) (b e d : ℕ) → d ≡ b + e → total f (down_from e) ≡ total (λ (a : ℕ). cond (nat_le a e) (f a) (pos 0)) (down_from d)
@@ -107,13 +107,13 @@ exponent_lists-last F (suc n) d =
     inner : ℕ → ℕ → ℕ → ℤ
     inner b a k = total (λ (α : List ℕ). F (b ∷ (α ++ a ∷ []))) (exponent_lists n k)
 
--- ---- arrangements by the last number
+-- ---- sums over the arrangements of a partition, by their last number
 
 sorted_parts-last : (α : List ℕ) (a : ℕ) → sorted_parts (α ++ a ∷ []) ≡ insert_part a (sorted_parts α)
 sorted_parts-last [] a = refl
 sorted_parts-last (b ∷ α) a = ap (insert_part b) (sorted_parts-last α a) ∙ insert_part_comm b a (sorted_parts α)
 
--- inserting the part a into σ gives λ if and only if σ is λ with one a removed
+-- inserting a, a part of λ or 0, into σ gives λ if and only if σ is λ with one a removed
 put_test : (a : ℕ) (parts σ : List ℕ) → IsPartition parts → has a (0 ∷ parts) ≡ true → same (insert_part a σ) parts ≡ same σ (without_one a parts)
 put_test zero parts σ p h = ap (λ l. same σ l) (sym (without_one-zero parts p.positive))
 put_test (suc a) parts σ p h =

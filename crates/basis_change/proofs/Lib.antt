@@ -17,12 +17,13 @@ pub mod Bounds
 pub mod CostTable
 pub mod Ends
 pub mod ClearedAnswers
+pub mod ChangedLists
 pub mod Starts
 pub mod StraightTerms
 pub mod KeptLists
+pub mod TwentyRows
 pub mod HookSums
 pub mod HookEntries
 pub mod MultinomialSums
 pub mod StraightBounds
 pub mod StraightValues
-mod Fractions

@@ -1,8 +1,8 @@
 -- The multinomial coefficients of all arrangements of all partitions of s in n places add up to at most n^s.
---     total-mono             sums of numbers of which each is at most the other
+--     total-mono             the sum of f is at most that of g if each value of f is at most that of g
 --     multinomial            the coefficient of an exponent list in the power of x_1 + .. + x_n with its sum
---     multinomials-within    those of the arrangements of different partitions of s add up to at most n^s
---     arranged-within        a number bounded by a multinomial, once for each arrangement
+--     multinomials-within    the coefficients of the arrangements of different partitions of s add up to at most n^s
+--     arranged-within        a number bounded by multinomials, added once for each arrangement
 use Rattle.std.proofs.Common.{◌≡◌, ◌⊎◌, ℕ, zero, suc, ◌*◌, ◌^◌, ◌≤◌, Bool, true, false, cond, eqb, List, [], ◌∷◌, map, refl, sym, ap, ◌∙◌, subst, inl, inr, arith, pow-suc, ℤ, pos, ◌+ℤ◌, ◌*ℤ◌}
 use Rattle.std.specs.Prelude.{◌≤ℤ◌}
 use Rattle.std.proofs.Common.{negsuc}

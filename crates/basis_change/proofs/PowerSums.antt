@@ -1,4 +1,4 @@
--- The lists of p_0, p_1, .. in a family's basis, without the first one.
+-- The lists of p_1, p_2 and so on in the basis of a family: the lists of p_0, p_1, .. without the first one.
 use Rattle.std.proofs.Common.{◌≡◌, ℕ, suc, ◌+◌, ◌-◌, ◌^◌, ◌<◌, List, [], ◌∷◌, length, ◌∙◌, ap, subst, arith, ℤ, pos, ◌*ℤ◌}
 use Rattle.std.specs.Prelude.{drop}
 use Rattle.std.proofs.lemmas.Int.{ints}

@@ -1,6 +1,6 @@
 -- Invariants of a step, which converts one part of each longest augmented monomial, and of the end.
---     step-value, step-cost, step-ready       a step
---     end-value, end-mass, end-low            the terms of the target
+--     step-value, step-cost, step-ready       a step keeps the value, the bound for the cost and the conditions on labels
+--     end-value, end-mass, end-low            the value, the bound and the sizes of the terms of the target at the end
 use Rattle.std.proofs.Common.{◌≡◌, ℕ, suc, ◌^◌, ◌≤◌, List, [], length, refl, ◌∙◌, arith, ℤ}
 use Rattle.std.specs.Cmp.Lexicographic.{nat_list_eq_equiv}
 use Rattle.sym_model.specs.Partition.{size}

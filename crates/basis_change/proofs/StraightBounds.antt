@@ -1,48 +1,46 @@
 -- Bounds for the numbers in straightening, for each partition of the target separately.
---     list-within          the terms of a bounded list
---     large-start          a refused number exceeds the bound
-use Rattle.std.proofs.Common.{◌≡◌, ◌⊎◌, ℕ, zero, suc, ◌+◌, ◌-◌, ◌*◌, ◌/◌, ◌^◌, ◌<◌, ◌≤◌, Bool, true, false, cond, eqb, List, [], ◌∷◌, map, length, refl, sym, ap, ◌∙◌, subst, inl, inr, arith, pow-suc, ℤ, pos, ◌*ℤ◌, flat_map}
+--     list-within          the bound for the terms to which a bounded list straightens
+--     large-straight       if a sum overflows, the bound times the growth is 2^127 or more
+use Rattle.std.proofs.Common.{◌≡◌, ◌⊎◌, ℕ, zero, suc, ◌+◌, ◌-◌, ◌*◌, ◌^◌, ◌<◌, ◌≤◌, Bool, true, false, cond, eqb, List, [], ◌∷◌, length, refl, sym, ap, ◌∙◌, subst, inl, inr, arith, pow-suc, ℤ, pos, ◌*ℤ◌, flat_map}
 use Rattle.std.specs.Prelude.{◌≤ℤ◌, nat_abs, Some, None}
 use Rattle.std.proofs.lemmas.Int.{ints, unsigned_abs-mul}
 use Rattle.std.proofs.lemmas.Bool.{cases_eq, cases_lt, eq-eqb, ne_eqb}
 use Rattle.std.proofs.Math.Nat.{pow-zero}
-use Rattle.sym_model.specs.Sum.{total, Among}
+use Rattle.sym_model.specs.Sum.{total}
 use Rattle.sym_model.specs.Partition.{size}
 use Rattle.sym_model.specs.Alternant.{staircase}
 use Rattle.sym_model.specs.Arrangement.{arrangements}
 use Rattle.sym_model.specs.BetaList.{has_equal_entries, sorted_falling, rising_pairs, sorting_sign, from_beta}
 use Rattle.sym_model.specs.Straightening.{shifted}
 use Rattle.sym_model.specs.PlaceOrders.{minus_one_to}
-use Rattle.sym_model.specs.Expansion.{Basis, Fraction, Terms}
-use Rattle.sym_model.specs.ListWeight.{IsBounded, factorials}
+use Rattle.sym_model.specs.Expansion.{Basis}
+use Rattle.sym_model.specs.ListWeight.{factorials}
 use Rattle.sym_model.specs.Weight.{factorial, growth}
 use Rattle.sym_model.proofs.Sums.{total_ext, total_map, total_each, total_scale, total_zero}
 use Rattle.sym_model.proofs.Exponents.{size-join, length-join_same}
 use Rattle.beta_list_laws.proofs.NeighbourExchanges.{size-sorted, length-sorted}
 use Rattle.beta_list_laws.proofs.SortedLists.{sorted_strict}
 use Rattle.beta_list_laws.proofs.BetaLists.{size-from_beta}
-use Rattle.monomial_laws.proofs.WeightBounds.{factorial-within_growth, growth-mono, growth-positive}
-use Rattle.sparse_polys.specs.Tables.{equal, IsFractionTable}
+use Rattle.sparse_polys.specs.Tables.{equal, IsWholeTable}
 use Rattle.sparse_polys.specs.LabelSizes.{AreWithin}
-use Rattle.sparse_polys.proofs.WholeLists.{Once-keys}
-use Rattle.sym_model.specs.WholeTerms.{WholeTerms}
-use Rattle.linear_combinations.specs.Gains.{mass_at}
+use Rattle.sparse_polys.proofs.WholeLists.{Once-labels}
+use Rattle.sym_model.specs.WholeTerms.{WholeTerms, labels}
+use Rattle.linear_combinations.specs.Gains.{mass_at, Overflows}
 use Rattle.linear_combinations.specs.Labels.{same_partition}
 use Rattle.linear_combinations.proofs.Gains.{over_only_within}
-use Rattle.coeff_rings.specs.Fractions.{scaled}
 use Rattle.basis_change.specs.Arranging.{times_straight, straight_term, straight_terms}
-use Rattle.basis_change.specs.Straightening.{straightened_list, IsPast}
+use Rattle.basis_change.specs.Clearing.{IsBoundedBy}
+use Rattle.basis_change.specs.Straightening.{straightened_list}
 use Rattle.basis_change.proofs.StraightTerms.{straight_term-some}
 use Rattle.basis_change.proofs.LastPlaces.{IsArrangement, arrangement}
 use Rattle.basis_change.proofs.MultinomialSums.{total-mono, multinomial, arranged, multinomials-within, arranged-within}
 use Rattle.sym_model.proofs.Ring.{distributes_right}
 use Rattle.sym_model.proofs.Sums.{total_among}
 use Rattle.sym_model.proofs.Parts.{length-staircase}
-use Rattle.monomial_laws.proofs.Powers.{factorials-positive}
-use native.Mathlib.Nat.{mul-le-mul_left, mul-le-mul_right}
+use native.Mathlib.Nat.{mul-le-mul_left}
 use lib.IntN.{*ℤ-zero, zero-*ℤ}
 
--- ---- the terms of one arrangement
+-- ---- the terms to which one arrangement straightens
 
 pub sign-size : (k : ℕ) (z : ℤ) → nat_abs (minus_one_to k *ℤ z) ≡ nat_abs z
 sign-size k z = unsigned_abs-mul (minus_one_to k) z ∙ ap (λ n. n * nat_abs z) (one k) ∙ single (nat_abs z)
@@ -65,7 +63,7 @@ straight-size α h =
     let s = ap (λ k. size (staircase k)) l in
     omega arith
 
--- an arrangement adds only to partitions of its own size
+-- an arrangement of a partition adds at most |z| at a partition of the same size, and nothing at a partition of another size
 one-within : (ν : List ℕ) (z : ℤ) (parts : List ℕ) (n : ℕ) (α : List ℕ) → IsArrangement parts n α
     → pos (mass_at equal ν (straight_term z (shifted α))) ≤ℤ cond (eqb (size parts) (size ν)) (pos (nat_abs z)) (pos 0)
 one-within ν z parts n α a = by (has_equal_entries (shifted α)) refl
@@ -92,7 +90,7 @@ one-within ν z parts n α a = by (has_equal_entries (shifted α)) refl
         subst (λ (xs : WholeTerms). pos (mass_at equal ν xs) ≤ℤ cond (eqb (size parts) (size ν)) (pos (nat_abs z)) (pos 0)) (sym (straight_term-some z (shifted α) h))
         (here (equal ν (from_beta (sorted_falling (shifted α)))) refl h)
 
--- ---- the terms of one label
+-- ---- the terms to which the arrangements of one label straighten
 
 mass-total : (ν : List ℕ) (es : WholeTerms) → pos (mass_at equal ν es) ≡ total (λ (t : List ℕ × ℤ). pos (cond (equal ν t.0) (nat_abs t.1) 0)) es
 mass-total ν [] = refl
@@ -123,19 +121,15 @@ label-within N n ν z parts h =
 
 -- ---- the bound for a list of terms
 
-abbrev sum_of : ℕ → ℕ → Terms (List ℕ) → ℤ
-sum_of s n terms = total (λ (t : List ℕ × Fraction). arranged s n t.0) terms
+abbrev sum_of : ℕ → ℕ → WholeTerms → ℤ
+sum_of s n terms = total (λ (t : List ℕ × ℤ). arranged s n t.0) terms
 
-number-bound : (N D : ℕ) (terms : Terms (List ℕ)) → IsBounded N D terms → (t : List ℕ × Fraction) → Among t terms → nat_abs (scaled D t.1) * factorials t.0 ≤ N * factorial (size t.0)
-number-bound N D terms b t m =
-    subst (λ k. k * factorials t.0 ≤ N * factorial (size t.0)) (sym (unsigned_abs-mul t.1.0 (pos (D / t.1.1)))) (b t m).1
-
-terms-within : (N D n : ℕ) (ν : List ℕ) (terms : Terms (List ℕ)) → IsBounded N D terms → pos (mass_at equal ν (straightened_list D n terms)) ≤ℤ (pos N *ℤ sum_of (size ν) n terms)
-terms-within N D n ν terms b =
-    let e = mass-each ν (λ (t : List ℕ × Fraction). straight_terms (scaled D t.1) t.0 n) terms in
-    let m = total-mono (λ (t : List ℕ × Fraction). pos (mass_at equal ν (straight_terms (scaled D t.1) t.0 n))) (λ (t : List ℕ × Fraction). pos N *ℤ arranged (size ν) n t.0) terms
-    (λ t i. label-within N n ν (scaled D t.1) t.0 (number-bound N D terms b t i)) in
-    let s = total_scale (pos N) (λ (t : List ℕ × Fraction). arranged (size ν) n t.0) terms in
+terms-within : (N n : ℕ) (ν : List ℕ) (terms : WholeTerms) → IsBoundedBy N terms → pos (mass_at equal ν (straightened_list n terms)) ≤ℤ (pos N *ℤ sum_of (size ν) n terms)
+terms-within N n ν terms b =
+    let e = mass-each ν (λ (t : List ℕ × ℤ). straight_terms t.1 t.0 n) terms in
+    let m = total-mono (λ (t : List ℕ × ℤ). pos (mass_at equal ν (straight_terms t.1 t.0 n))) (λ (t : List ℕ × ℤ). pos N *ℤ arranged (size ν) n t.0) terms
+    (λ t i. label-within N n ν t.1 t.0 (b t i)) in
+    let s = total_scale (pos N) (λ (t : List ℕ × ℤ). arranged (size ν) n t.0) terms in
     omega (arith, ints)
 
 power-more : (n s j : ℕ) → 0 < n → n ^ s ≤ n ^ (j + s)
@@ -158,63 +152,28 @@ scaled-le (suc N) x k h =
     let d = distributes_right (pos 1) (pos N) x in
     omega (arith, ints)
 
-pub list-within : (N D n : ℕ) (terms : Terms (List ℕ)) → IsFractionTable terms → AreWithin n terms → IsBounded N D terms → (ν : List ℕ) → mass_at equal ν (straightened_list D n terms) ≤ N * growth Basis.schurs n
-list-within N D n terms is w b ν = by (cases_lt n (size ν))
+pub list-within : (N n : ℕ) (terms : WholeTerms) → IsWholeTable terms → AreWithin n terms → IsBoundedBy N terms → (ν : List ℕ) → mass_at equal ν (straightened_list n terms) ≤ N * growth Basis.schurs n
+list-within N n terms is w b ν = by (cases_lt n (size ν))
   where
-    by : (n < size ν) ⊎ (size ν ≤ n) → mass_at equal ν (straightened_list D n terms) ≤ N * growth Basis.schurs n
+    by : (n < size ν) ⊎ (size ν ≤ n) → mass_at equal ν (straightened_list n terms) ≤ N * growth Basis.schurs n
     by (inl l) =
-        let t = terms-within N D n ν terms b in
+        let t = terms-within N n ν terms b in
         let z : sum_of (size ν) n terms ≡ pos 0 =
-        total_among (λ (t : List ℕ × Fraction). arranged (size ν) n t.0) (λ (t : List ℕ × Fraction). pos 0) terms
+        total_among (λ (t : List ℕ × ℤ). arranged (size ν) n t.0) (λ (t : List ℕ × ℤ). pos 0) terms
         (λ t m. let s = w t m in ap (λ b. cond b (total (multinomial (size ν) n) (arrangements t.0 n)) (pos 0)) (ne_eqb (size t.0) (size ν) (λ e. omega arith)))
-        ∙ total_zero {A = List ℕ × Fraction} terms in
+        ∙ total_zero {A = List ℕ × ℤ} terms in
         let x = ap (λ y. pos N *ℤ y) z ∙ *ℤ-zero (pos N) in
         omega (arith, ints)
     by (inr l) =
-        let t = terms-within N D n ν terms b in
-        let m = multinomials-within (size ν) n (map (λ (t : List ℕ × Fraction). t.0) terms) (Once-keys terms is) in
-        let e = total_map (arranged (size ν) n) (λ (t : List ℕ × Fraction). t.0) terms in
+        let t = terms-within N n ν terms b in
+        let m = multinomials-within (size ν) n (labels terms) (Once-labels terms is) in
+        let e = total_map (arranged (size ν) n) (λ (t : List ℕ × ℤ). t.0) terms in
         let p = power-within n (size ν) l in
         let u : N * n ^ size ν ≤ N * growth Basis.schurs n = mul-le-mul_left N p in
         let v : sum_of (size ν) n terms ≤ℤ pos (n ^ size ν) = omega (arith, ints) in
         let y = scaled-le N (sum_of (size ν) n terms) (n ^ size ν) v in
         omega (arith, ints)
 
--- ---- a number that is refused exceeds the bound
-
-same_growth : (d : ℕ) → growth Basis.schurs d ≡ growth Basis.monomials d
-same_growth zero = refl
-same_growth (suc d) = refl
-
-pub large-start : (N D n : ℕ) (terms : Terms (List ℕ)) → IsFractionTable terms → AreWithin n terms → IsBounded N D terms → IsPast D n terms → 2 ^ 127 ≤ N * growth Basis.schurs n
-large-start N D n terms is w b (inl (t, m, h)) =
-    let k = number-bound N D terms b t m in
-    let f = factorials-positive t.0 in
-    let x : nat_abs (scaled D t.1) * 1 ≤ nat_abs (scaled D t.1) * factorials t.0 = mul-le-mul_left (nat_abs (scaled D t.1)) f in
-    let s = w t m in
-    let g = factorial-within_growth (size t.0) in
-    let i = growth-mono (size t.0) n s in
-    let y : N * factorial (size t.0) ≤ N * growth Basis.monomials n = mul-le-mul_left N (let z : factorial (size t.0) ≤ growth Basis.monomials n = omega arith in z) in
-    let e = ap (λ q. N * q) (same_growth n) in
-    omega arith
-large-start N D n terms is w b (inr (ν, h)) = let l = list-within N D n terms is w b ν in let o = over_only_within equal ν [] in omega arith
-
-pub large-schur : (N D n d : ℕ) → 1 ≤ D → n ≤ d → 2 ^ 127 ≤ N * growth Basis.schurs n → 2 ^ 127 ≤ N * D * growth Basis.schurs d
-large-schur N D n d p l h =
-    let g = growth-mono n d l in
-    let x = same_growth n in
-    let y = same_growth d in
-    let a : N * growth Basis.schurs n ≤ N * growth Basis.schurs d = mul-le-mul_left N (let z : growth Basis.schurs n ≤ growth Basis.schurs d = omega arith in z) in
-    let b : (N * growth Basis.schurs d) * 1 ≤ (N * growth Basis.schurs d) * D = mul-le-mul_left (N * growth Basis.schurs d) p in
-    closing (2 ^ 127) N (growth Basis.schurs n) (growth Basis.schurs d) D h a b
-  where
-    closing : (n N g k D : ℕ) → n ≤ N * g → N * g ≤ N * k → (N * k) * 1 ≤ (N * k) * D → n ≤ N * D * k
-    closing n N g k D a b c = let e : (N * k) * D ≡ N * D * k = omega arith in omega arith
-
-pub large-denominator_schur : (N D d : ℕ) → 1 ≤ N → 2 ^ 127 ≤ D → 2 ^ 127 ≤ N * D * growth Basis.schurs d
-large-denominator_schur N D d p h =
-    let g = growth-positive d in
-    let y = same_growth d in
-    let a : 1 * D ≤ N * D = mul-le-mul_right D p in
-    let b : (N * D) * 1 ≤ (N * D) * growth Basis.schurs d = mul-le-mul_left (N * D) (let z : 1 ≤ growth Basis.schurs d = omega arith in z) in
-    omega arith
+-- if adding up the terms to which a list bounded by N straightens overflows, N times the growth into s is 2^127 or more
+pub large-straight : (N n : ℕ) (terms : WholeTerms) → IsWholeTable terms → AreWithin n terms → IsBoundedBy N terms → Overflows equal [] (straightened_list n terms) → 2 ^ 127 ≤ N * growth Basis.schurs n
+large-straight N n terms is w b (ν, h) = let l = list-within N n terms is w b ν in let o = over_only_within equal ν [] in omega arith

@@ -1,4 +1,4 @@
--- Terms that arrangements straighten to, added to a table.
+-- The terms to which arrangements straighten, added to a table.
 --     straight_terms-over         a sum over the terms of all arrangements
 --     straightened_list-append    the labels of a list one after another
 use Rattle.std.proofs.Common.{◌≡◌, ℕ, Bool, true, false, cond, List, [], ◌∷◌, ◌++◌, refl, sym, ap, ◌∙◌, arith, ℤ, pos, ◌+ℤ◌, ◌*ℤ◌}
@@ -6,7 +6,7 @@ use Rattle.std.specs.Prelude.{Some, None}
 use Rattle.std.proofs.lemmas.Grind.{flat_map-append}
 use Rattle.std.proofs.lemmas.Int.{ints}
 use Rattle.sym_model.specs.Sum.{total}
-use Rattle.sym_model.specs.Expansion.{Fraction, Terms}
+use Rattle.sym_model.specs.WholeTerms.{WholeTerms}
 use Rattle.sym_model.specs.BetaList.{has_equal_entries, sorted_falling, sorting_sign, from_beta}
 use Rattle.sym_model.specs.Arrangement.{arrangements}
 use Rattle.sym_model.specs.Straightening.{shifted}
@@ -14,7 +14,6 @@ use Rattle.sym_model.proofs.Ring.{ring}
 use Rattle.sym_model.proofs.Sums.{total_ext, total_each, total_scale}
 use Rattle.basis_change.specs.SpecialRimHooks.{straight_value, arranged_value}
 use Rattle.basis_change.proofs.FrontSorting.{value-equal, value-different}
-use Rattle.coeff_rings.specs.Fractions.{scaled}
 use Rattle.linear_combinations.specs.Gains.{over}
 use Rattle.basis_change.specs.Arranging.{times_straight, straight_term, straight_terms}
 use Rattle.basis_change.specs.Straightening.{straightened_list}
@@ -53,5 +52,5 @@ straight_terms-over φ c parts n =
 
 -- ---- the straightened terms of two lists, one after the other
 
-pub straightened_list-append : (den places : ℕ) (xs ys : Terms (List ℕ)) → straightened_list den places (xs ++ ys) ≡ straightened_list den places xs ++ straightened_list den places ys
-straightened_list-append den places xs ys = flat_map-append (λ (t : List ℕ × Fraction). straight_terms (scaled den t.1) t.0 places) xs ys
+pub straightened_list-append : (places : ℕ) (xs ys : WholeTerms) → straightened_list places (xs ++ ys) ≡ straightened_list places xs ++ straightened_list places ys
+straightened_list-append places xs ys = flat_map-append (λ (t : List ℕ × ℤ). straight_terms t.1 t.0 places) xs ys

@@ -1,39 +1,39 @@
--- The polynomial that the straightened list expands.
---     straightened-value     the list times D
---     expansion-straightened from the list in m to the answer in Schur polynomials
-use Rattle.std.proofs.Common.{◌≡◌, ℕ, ◌*◌, ◌<◌, ◌≤◌, List, [], ◌∷◌, sym, ap, ◌∙◌, subst, arith, ℤ, pos, ◌+ℤ◌, ◌*ℤ◌}
-use Rattle.std.specs.Prelude.{Option, Some, None}
+-- The polynomial of the straightened list.
+--     multiple-straightened                    a list in m and its straightened terms have the same polynomial
+--     straightened-again, straightened-large   the straightened list as a table of beta sets
+use Rattle.std.proofs.Common.{◌≡◌, ℕ, ◌≤◌, List, [], ◌∷◌, sym, ap, ◌∙◌, arith, ℤ, pos, ◌+ℤ◌, ◌*ℤ◌}
+use Rattle.std.specs.Prelude.{Option, Some, None, nat_abs}
 use Rattle.std.proofs.lemmas.Int.{ints}
 use Rattle.sym_model.specs.Sum.{total}
 use Rattle.sym_model.specs.Partition.{IsPartition, size}
-use Rattle.sym_model.specs.Polynomial.{Poly, coefficient, pair}
+use Rattle.sym_model.specs.Polynomial.{coefficient, pair}
 use Rattle.sym_model.specs.Bases.{monomial}
 use Rattle.sym_model.specs.Schur.{schur}
 use Rattle.sym_model.specs.Arrangement.{arrangements}
 use Rattle.sym_model.specs.Straightening.{shifted, straight, straightened}
-use Rattle.sym_model.specs.Expansion.{Basis, Fraction, Terms, IsExpansionOf}
-use Rattle.sym_model.specs.ListWeight.{IsBounded}
-use Rattle.sym_model.specs.WholeTerms.{WholeTerms, combined}
-use Rattle.sym_model.proofs.Ring.{ring}
+use Rattle.sym_model.specs.Expansion.{schurs}
+use Rattle.sym_model.specs.WholeTerms.{WholeTerms, WholeTermsOf, combined}
+use Rattle.sym_model.proofs.Ring.{ring, one-product}
 use Rattle.sym_model.proofs.Sums.{total_ext, total_among, total_each, total_scale}
-use Rattle.sym_model.proofs.Polynomials.{pair_determined, at_only, coefficient_pair}
+use Rattle.sym_model.proofs.Polynomials.{pair_determined, at_only, coefficient_pair, coefficient_scale}
 use Rattle.sym_model.proofs.WholeTerms.{pair_of_combined}
-use Rattle.monomial_laws.specs.ExpressionTerms.{in_monomials, over}
+use Rattle.monomial_laws.specs.ExpressionTerms.{in_monomials}
 use Rattle.alternant_laws.specs.StraightenedTerms.{straightened_term, straightened_terms}
 use Rattle.alternant_laws.proofs.EnoughPlaces.{enough_places}
-use Rattle.sparse_polys.specs.Tables.{IsFractionTable}
+use Rattle.sparse_polys.specs.Tables.{equal, IsWholeTable}
 use Rattle.sparse_polys.specs.LabelSizes.{AreWithin}
-use Rattle.sparse_polys.proofs.Quotients.{Quotients}
-use Rattle.basis_change.proofs.Fractions.{label-partition}
-use Rattle.linear_combinations.specs.Gains.{Gains, over as sum_over}
-use Rattle.coeff_rings.specs.Fractions.{scaled}
+use Rattle.sparse_polys.proofs.WholeLists.{label-partition}
+use Rattle.linear_combinations.specs.Gains.{Gains, Overflows, HaveLabels, only, over as sum_over}
+use Rattle.linear_combinations.proofs.Gains.{over_only_within}
+use Rattle.beta_sets.specs.BetaSets.{shapes, IsInRows, IsShapeTable}
+use Rattle.basis_change.proofs.TwentyRows.{mass-single, rows-apart}
 use Rattle.basis_change.specs.Arranging.{times_straight, straight_term, straight_terms}
+use Rattle.basis_change.specs.Clearing.{IsMultipleIn}
 use Rattle.basis_change.specs.Straightening.{straightened_list}
 use Rattle.basis_change.proofs.StraightTerms.{total-straight_terms}
-use Rattle.basis_change.proofs.Ends.{expansion-by, pair-over}
 use lib.IntN.{+ℤ_idl, *ℤ-zero}
 
--- the pairing of the Schur polynomial of a label with a test function
+-- Σ c·φ(α) over the terms c·x^α of the Schur polynomial of a label in n variables
 abbrev schur_value : ℕ → (List ℕ → ℤ) → List ℕ → ℤ
 schur_value n φ label = pair (schur label n) φ
 
@@ -49,7 +49,7 @@ one-value n φ c (Some s) =
     turned : (a c x : ℤ) → (a *ℤ c) *ℤ x +ℤ pos 0 ≡ c *ℤ (a *ℤ x +ℤ pos 0)
     turned a c x = simp ring (omega (arith, ints))
 
--- the terms of all arrangements of a partition have together the value c·m_λ
+-- the values of the terms of all arrangements of a partition λ add up to c times that of m_λ
 label-value : (n d : ℕ) (φ : List ℕ → ℤ) (c : ℤ) (parts : List ℕ) → IsPartition parts → size parts ≤ d
     → total (term_value n φ) (straight_terms c parts d) ≡ c *ℤ pair (monomial parts n) φ
 label-value n d φ c parts p h =
@@ -64,30 +64,38 @@ label-value n d φ c parts p h =
     (λ α. sym (pair_of_combined (λ label. schur label n) (straightened_term (straightened α)) φ)) (arrangements parts d))
     ∙ sym (pair_determined (monomial parts n) (combined (λ label. schur label n) (straightened_terms (arrangements parts d))) φ (enough_places n d parts p h)))
 
-straightened-value : (n d D : ℕ) (φ : List ℕ → ℤ) (terms : Terms (List ℕ)) → IsFractionTable terms → AreWithin d terms
-    → sum_over (schur_value n φ) (straightened_list D d terms) ≡ pair (in_monomials (over D terms) n) φ
-straightened-value n d D φ terms is w =
-    total_each (term_value n φ) (λ (t : List ℕ × Fraction). straight_terms (scaled D t.1) t.0 d) terms
-    ∙ total_among (λ (t : List ℕ × Fraction). total (term_value n φ) (straight_terms (scaled D t.1) t.0 d)) (λ (t : List ℕ × Fraction). scaled D t.1 *ℤ pair (monomial t.0 n) φ) terms
-    (λ t m. label-value n d φ (scaled D t.1) t.0 (label-partition terms is t m) (w t m))
-    ∙ sym (pair-over n D φ terms)
+straightened-value : (n d : ℕ) (φ : List ℕ → ℤ) (terms : WholeTerms) → IsWholeTable terms → AreWithin d terms
+    → sum_over (schur_value n φ) (straightened_list d terms) ≡ pair (in_monomials terms n) φ
+straightened-value n d φ terms is w =
+    total_each (term_value n φ) (λ (t : List ℕ × ℤ). straight_terms t.1 t.0 d) terms
+    ∙ total_among (λ (t : List ℕ × ℤ). total (term_value n φ) (straight_terms t.1 t.0 d)) (λ (t : List ℕ × ℤ). t.1 *ℤ pair (monomial t.0 n) φ) terms
+    (λ t m. label-value n d φ t.1 t.0 (label-partition terms is t m) (w t m))
+    ∙ sym (pair_of_combined (λ label. monomial label n) terms φ)
 
-pub expansion-straightened : (N D d : ℕ) (terms answer : Terms (List ℕ)) (end : WholeTerms) → 0 < D → IsFractionTable terms → AreWithin d terms → IsBounded N D terms
-    → Gains [] (straightened_list D d terms) end → IsFractionTable answer → Quotients D answer end
-    → (n : ℕ) (f : Poly) (p : ℕ) → IsExpansionOf Basis.monomials terms n f p → IsExpansionOf Basis.schurs answer n f p
-expansion-straightened N D d terms answer end some is w b a js quotients n f p h =
-    let one : D ≡ D * 1 = omega arith in
-    expansion-by Basis.schurs N D 1 terms answer end some (omega arith) is b js (subst (λ k. Quotients k answer end) one quotients) n same_values f p h
-  where
-    front : (x : ℤ) → x ≡ pos 1 *ℤ x
-    front x = omega (arith, ints)
+pub multiple-straightened : (d : ℕ) (terms end : WholeTerms) → IsWholeTable terms → AreWithin d terms → Gains [] (straightened_list d terms) end → IsMultipleIn schurs 1 terms end
+multiple-straightened d terms end is w a n α =
+    coefficient_pair (combined (λ label. schur label n) end) α
+    ∙ pair_of_combined (λ label. schur label n) end (at_only α)
+    ∙ a.sums (schur_value n (at_only α))
+    ∙ +ℤ_idl (sum_over (schur_value n (at_only α)) (straightened_list d terms))
+    ∙ straightened-value n d (at_only α) terms is w
+    ∙ sym (coefficient_pair (in_monomials terms n) α)
+    ∙ sym (one-product (coefficient (in_monomials terms n) α))
+    ∙ sym (coefficient_scale (pos 1) (in_monomials terms n) α)
 
-    same_values : (α : List ℕ) → coefficient (combined (λ label. schur label n) end) α ≡ pos 1 *ℤ coefficient (in_monomials (over D terms) n) α
-    same_values α =
-        coefficient_pair (combined (λ label. schur label n) end) α
-        ∙ pair_of_combined (λ label. schur label n) end (at_only α)
-        ∙ a.sums (schur_value n (at_only α))
-        ∙ +ℤ_idl (sum_over (schur_value n (at_only α)) (straightened_list D d terms))
-        ∙ straightened-value n d D (at_only α) terms is w
-        ∙ sym (coefficient_pair (in_monomials (over D terms) n) α)
-        ∙ front (coefficient (in_monomials (over D terms) n) α)
+-- ---- the straightened list as a table of beta sets
+
+pub straightened-again : (d : ℕ) (terms sum end : WholeTerms) → Gains [] (straightened_list d terms) sum → Gains [] sum end → Gains [] (straightened_list d terms) end
+straightened-again d terms sum end a b = record {
+  sums = λ φ. b.sums φ ∙ +ℤ_idl (sum_over φ sum) ∙ a.sums φ;
+}
+
+-- writing out the partitions of the table overflows only if adding up the straightened list does
+pub straightened-large : (d : ℕ) (terms : WholeTerms) (sum : WholeTermsOf ℕ) → IsShapeTable sum → HaveLabels (IsInRows 20 20) sum → Gains [] (straightened_list d terms) (shapes sum)
+    → Overflows equal [] (shapes sum) → Overflows equal [] (straightened_list d terms)
+straightened-large d terms sum is w a (ν, l) =
+    let m = mass-single rows-apart sum is w ν in
+    let e = ap nat_abs (a.sums (only equal ν) ∙ +ℤ_idl (sum_over (only equal ν) (straightened_list d terms))) in
+    let f = over_only_within equal ν (straightened_list d terms) in
+    let z = over_only_within equal ν [] in
+    (ν, omega arith)

@@ -26,7 +26,7 @@ use Rattle.basis_change.proofs.FrontSorting.{above, value-front, value-zero}
 use Rattle.basis_change.proofs.HookRows.{value-rows, value-far, total_after-cut}
 use lib.IntN.{+ℤ_idr, *ℤ-zero}
 
--- ---- a list of exponents by the number in its last place
+-- ---- straightening a list of exponents that has the number a in its last place
 
 length-shifted : (α : List ℕ) → length (shifted α) ≡ length α
 length-shifted α = length-join_same (length α) α (staircase (length α)) refl (length-staircase (length α))
@@ -39,8 +39,8 @@ shifted-last (b ∷ α) a = ap₂ (λ (k : ℕ) (l : List ℕ). k ∷ l) (let e 
     long [] = refl
     long (b ∷ α) = ap suc (long α)
 
--- the sum over the arrangements of n places, each followed by a, is the sum over the terms, with the part a hooked
--- on each label
+-- the sum over the arrangements in n places, each followed by a, is the sum over the terms with at most n rows, with a rim hook
+-- of a cells added to each label in the row n + 1
 ending_value : (g : List ℕ → ℤ) (parts : List ℕ) (terms : WholeTerms) (n a : ℕ) → IsStraightening parts terms
     → total (λ α. straight_value g (shifted (α ++ a ∷ []))) (arrangements parts n) ≡ pair terms (within_rows n (λ ν. straight_value g (hooked ν (suc n) a)))
 ending_value g parts terms n a s =

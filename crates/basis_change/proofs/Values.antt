@@ -94,7 +94,8 @@ value-raised f converted a rest numbers =
     each_over (negsuc 0) f (raised converted a rest numbers)
     ∙ ap (λ z. negsuc 0 *ℤ z) (total_map f (λ (b : ℕ). (converted, raise a b rest)) numbers)
 
--- p_a times C times an augmented monomial is C times that with a part a inserted, and C times those with a part increased by a
+-- p_a times C times an augmented monomial is the sum of C times the augmented monomial with a part a inserted and of C
+-- times each one with a part increased by a
 value-power_sum : (n a : ℕ) (C : Poly) (rest : List ℕ) (φ : List ℕ → ℤ) → 0 < a → IsPartition rest
     → pair (times (power_sum_of a n) (times C (augmented rest n))) φ ≡ pair (times C (augmented (insert_part a rest) n)) φ +ℤ total (λ (b : ℕ). pair (times C (augmented (raise a b rest) n)) φ) rest
 value-power_sum n a C rest φ h p =
@@ -132,7 +133,7 @@ value-last family n φ factor converted a rest parts p is e =
     left : (x y : ℤ) → (x +ℤ y) +ℤ negsuc 0 *ℤ y ≡ x
     left x y = omega (arith, ints)
 
--- replacing a label that can be converted changes no value
+-- replacing a label l that can be converted by the terms of its conversion does not change the value
 pub value-conversion : (family : Family) (most count n : ℕ) (φ : List ℕ → ℤ) (factors : List WholeTerms) (l : MixedLabel) → ArePowerSums family factors → IsReady (length factors) most l
     → over (product_value family n φ) (conversion factors count l) ≡ product_value family n φ l
 value-conversion family most count n φ factors l are ready = by (conversion-cases factors count l ready.augmented)
@@ -152,7 +153,7 @@ value-conversion family most count n φ factors l are ready = by (conversion-cas
         ap (over (product_value family n φ)) e.is
         ∙ value-last family n φ (list_at factors (e.a - 1)) l.0 e.a e.rest l.1 ready.converted (subst (λ k. IsPowerSum family k (list_at factors (e.a - 1))) j (are (e.a - 1) i)) p
 
--- the terms of the target at the end have the value of the label
+-- the terms of the target for a label whose augmented monomial has at most one part have the value of the label
 pub value-target : (family : Family) (n : ℕ) (φ : List ℕ → ℤ) (factors : List WholeTerms) (l : MixedLabel) → ArePowerSums family factors → IsReady (length factors) 1 l
     → over (target_value family n φ) (in_target factors l) ≡ product_value family n φ l
 value-target family n φ factors (converted, []) are ready =

@@ -1,5 +1,5 @@
 -- Sums on the way from one basis to another: each term is the product of a basis polynomial of the target and an
--- augmented monomial.
+-- augmented monomial, which is m_λ times the factorials of the multiplicities of the parts of λ.
 use Rattle.std.specs.Prelude.{ℕ, ◌+◌, ◌-◌, ◌^◌, ◌<◌, ◌≤◌, nat_eq, Bool, ◌&&◌, cond}
 use Rattle.std.specs.Prelude.{pos, negsuc, ℤ, List, [], ◌∷◌, ◌++◌, map, length, take}
 use Rattle.std.specs.Cmp.Lexicographic.{pointwise}
@@ -37,12 +37,12 @@ pub record IsReady (d most : ℕ) (label : MixedLabel) : Type 0 where
   pub low : size label.0 + size label.1 ≤ d
   pub few : length label.1 ≤ most
 
--- the list has absolute values that add up to at most 2^k - 1, and partitions of at most k cells
+-- the absolute values of the coefficients add up to at most 2^k - 1, and the labels are partitions of at most k cells
 pub record IsSmall (k : ℕ) (terms : WholeTerms) : Type 0 where
   pub few : mass terms + 1 ≤ 2 ^ k
   pub low : HaveLabels (IsLow k) terms
 
--- the list at each index i is small for k = i + 1, as is p_k in the target
+-- the list at each index i, which is to be p_k in the target for k = i + 1, is small for k
 abbrev pub AreSmall : List WholeTerms → Type 0
 AreSmall lists = (i : ℕ) → i < length lists → IsSmall (i + 1) (list_at lists i)
 
@@ -55,9 +55,9 @@ products factor converted augmented =
 abbrev pub raised : List ℕ → ℕ → List ℕ → List ℕ → List MixedLabel
 raised converted a augmented numbers = map (λ (b : ℕ). (converted, raise a b augmented)) numbers
 
--- an augmented monomial with its last part a converted, which is a smallest one: with `rest` the other parts, p_a
--- times the augmented monomial of `rest`, less those in which a part of `rest` is increased by a; the lists are those
--- of p_1, p_2 and so on
+-- the conversion of an augmented monomial at its last part a, a smallest one: p_a times the augmented monomial of the
+-- other parts `rest`, less the augmented monomials in which a part of `rest` is increased by a; the lists `factors` are
+-- those of p_1, p_2 and so on; without parts, the label stays
 abbrev pub conversion_of : List WholeTerms → List ℕ → List ℕ → Mixed
 conversion_of factors converted [] = ((converted, []), pos 1) ∷ []
 conversion_of factors converted (b ∷ others) =
@@ -74,7 +74,8 @@ conversion factors count label =
     cond (nat_eq (length label.1) count) (conversion_of factors label.0 label.1)
     ((label, pos 1) ∷ [])
 
--- the label can be converted with these lists of p_1, p_2 and so on
+-- what the conversion of a label needs: small lists of p_1, p_2 and so on, at most 15, as many as the label has cells
+-- or more, and at most `most` parts in its augmented monomial
 pub record IsConvertible (factors : List WholeTerms) (most : ℕ) (label : MixedLabel) : Type 0 where
   pub small : AreSmall factors
   pub lists : length factors ≤ 15

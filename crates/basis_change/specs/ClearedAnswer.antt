@@ -1,5 +1,7 @@
--- A number that clears all fractions of a list, and a bound for the list times this number.
-use Rattle.std.specs.Prelude.{◌≡◌, ℕ, ◌*◌, ◌%◌, ◌≤◌, List}
+-- The answers of a change of basis: with integer coefficients over one denominator, and as fractions.
+use Rattle.std.specs.Prelude.{◌≡◌, ℕ, ◌*◌, ◌%◌, ◌^◌, ◌≤◌, List, Result, IfOk, IsErrOf}
+use Rattle.calc_base.specs.declared.faults.SumFault.{SumFault}
+use Rattle.calc_base.specs.declared.faults.SumFault.TheVariants.{Large}
 use Rattle.sym_model.specs.Sum.{Among}
 use Rattle.sym_model.specs.Expansion.{Basis, monomials, elementaries, completes, power_sums, schurs}
 use Rattle.sym_model.specs.Expansion.{Fraction, Terms}
@@ -7,8 +9,14 @@ use Rattle.sym_model.specs.ListWeight.{absolute_sum}
 use Rattle.sym_model.specs.Weight.{factorial, growth}
 use Rattle.sparse_polys.specs.MonomialProducts.{greatest_size}
 use Rattle.sparse_polys.specs.LabelSizes.{AreWithin}
+use Rattle.sym_model.specs.WholeTerms.{WholeTerms}
+use Rattle.linear_combinations.specs.Gains.{mass}
+use Rattle.sym_model.specs.Polynomial.{coefficient}
+use Rattle.coeff_rings.specs.Fractions.{lowest_terms}
+use Rattle.sparse_polys.specs.Tables.{found, IsWholeTable}
+use Rattle.basis_change.specs.Clearing.{IsBoundedBy, IsMultipleIn, clearing_factor}
 
--- m times each coefficient is whole, the absolute values of these products add up to at most
+-- m times each coefficient is an integer, the absolute values of these products add up to at most
 -- `most`, and no label has more than d cells
 pub record IsClearedBy (m most d : ℕ) (terms : Terms (List ℕ)) : Type 0 where
   pub whole : (t : List ℕ × Fraction) → Among t terms → m % t.1.1 ≡ 0
@@ -24,9 +32,33 @@ IsMultiplied power_sums = Unit {0}
 IsMultiplied schurs = ⊥
 
 -- A change into e, h or p: with d the greatest size of a label, `den` times d! times each
--- coefficient of the answer is whole, the absolute values of these products add up to at most `num`
--- times the growth at d, and no label of the answer has more than d cells.
+-- coefficient of the answer is an integer, the absolute values of these products add up to at most
+-- `num` times the growth at d, and no label of the answer has more than d cells.
 abbrev pub MultipliesOut : Basis → ℕ → ℕ → Terms (List ℕ) → Terms (List ℕ) → Type 0
 MultipliesOut target num den list answer =
     let d = greatest_size list in
     IsMultiplied target → IsClearedBy (den * factorial d) (num * growth target d) d answer
+
+-- The change of a list in m, with labels of at most `size` cells, into the target: the answer is the
+-- list times the clearing factor. Into e, h and p, the absolute values of its coefficients add up to
+-- at most N times the growth at the size, for each N that bounds the list, and no label has more
+-- cells. `Large` is returned only if N times the growth is 2^127 or more, for each such N.
+pub record IsChanged (target : Basis) (size : ℕ) (list : WholeTerms)
+    (result : Result WholeTerms SumFault) : Type 0 where
+  pub value : IfOk result (IsMultipleIn target (clearing_factor target size) list)
+  pub few : IfOk result (λ answer. IsMultiplied target → (N : ℕ) → IsBoundedBy N list
+      → mass answer ≤ N * growth target size)
+  pub within : IfOk result (λ answer. IsMultiplied target → AreWithin size answer)
+  pub table : IfOk result IsWholeTable
+  pub large : IsErrOf result Large → (N : ℕ) → IsBoundedBy N list
+      → 2 ^ 127 ≤ N * growth target size
+
+-- The change of a list in m, with labels of at most `size` cells, into the target, as fractions: the coefficients of
+-- the answer are those of `whole` divided by `den`, and `whole` is the list times the clearing factor.
+pub record IsQuotientOf (target : Basis) (size den : ℕ) (list : WholeTerms)
+    (answer : Terms (List ℕ)) : Type 0 where
+  pub whole : WholeTerms
+  pub value : IsMultipleIn target (clearing_factor target size) list whole
+  pub few : IsMultiplied target → (N : ℕ) → IsBoundedBy N list → mass whole ≤ N * growth target size
+  pub within : IsMultiplied target → AreWithin size whole
+  pub quotients : (label : List ℕ) → found answer label ≡ lowest_terms (coefficient whole label) den

@@ -1,21 +1,51 @@
--- A list of terms in m with its fractions cleared, in augmented monomials.
-use Rattle.std.specs.Prelude.{ℕ, ◌/◌, ◌≤◌, ℤ, pos, ◌*ℤ◌, List, [], map}
-use Rattle.coeff_rings.specs.Fractions.{scaled}
+-- Lists of terms in m with integer coefficients: a bound, the same list in another basis, and the list in augmented
+-- monomials.
+use Rattle.std.specs.Prelude.{ℕ, ◌/◌, ◌*◌, ◌≤◌, ℤ, pos, nat_abs, ◌*ℤ◌, List, [], map}
 use Rattle.sym_model.specs.Sum.{Among}
-use Rattle.sym_model.specs.Expansion.{Fraction, Terms}
+use Rattle.sym_model.specs.Partition.{size}
+use Rattle.sym_model.specs.Polynomial.{Same, scale}
+use Rattle.sym_model.specs.Expansion.{Basis, monomials, elementaries, completes, power_sums, schurs}
+use Rattle.sym_model.specs.Expansion.{basis_polynomial}
+use Rattle.sym_model.specs.ListWeight.{factorials}
+use Rattle.sym_model.specs.Weight.{factorial}
+use Rattle.sym_model.specs.WholeTerms.{WholeTerms, combined}
+use Rattle.monomial_laws.specs.ExpressionTerms.{in_monomials}
 use Rattle.basis_change_laws.specs.AugmentedMonomial.{multiplicity_factorials}
 use Rattle.basis_change.specs.AugmentedProducts.{Mixed}
 
--- a fraction times den, times `factor` over the factorials of the multiplicities of a label
-abbrev pub cleared_number : ℕ → ℕ → List ℕ → Fraction → ℤ
-cleared_number den factor label c = scaled den c *ℤ pos (factor / multiplicity_factorials label)
+-- the absolute value of each coefficient times the product of the factorials of the parts of its
+-- label is at most N times the factorial of the size of the label
+abbrev pub IsBoundedBy : ℕ → WholeTerms → Type 0
+IsBoundedBy N terms =
+    (t : List ℕ × ℤ) → Among t terms → nat_abs t.1 * factorials t.0 ≤ N * factorial (size t.0)
 
--- the list times den and `factor`, in augmented monomials
-abbrev pub cleared_terms : ℕ → ℕ → Terms (List ℕ) → Mixed
-cleared_terms den factor terms =
-    map (λ (t : List ℕ × Fraction). (([], t.0), cleared_number den factor t.0 t.1)) terms
+-- the second list, read in the basis, is q times the first list in m, in every number of variables
+abbrev pub IsMultipleIn : Basis → ℕ → WholeTerms → WholeTerms → Type 0
+IsMultipleIn basis q terms answer =
+    (n : ℕ) → Same (combined (λ label. basis_polynomial basis label n) answer)
+    (scale (pos q) (in_monomials terms n))
 
--- no label has greater factorials of its multiplicities than `factor`
-abbrev pub HasFactors : ℕ → Terms (List ℕ) → Type 0
+-- the number that clears the fractions of every list in m with integer coefficients and labels of
+-- at most d cells, changed into the basis: d! for e, h and p, and 1 for m and s
+abbrev pub clearing_factor : Basis → ℕ → ℕ
+clearing_factor monomials d = 1
+clearing_factor elementaries d = factorial d
+clearing_factor completes d = factorial d
+clearing_factor power_sums d = factorial d
+clearing_factor schurs d = 1
+
+-- a coefficient times the integer quotient of `factor` by the product of the factorials of the multiplicities of a
+-- label
+abbrev pub augmented_number : ℕ → List ℕ → ℤ → ℤ
+augmented_number factor label c = c *ℤ pos (factor / multiplicity_factorials label)
+
+-- `factor` times the list, in augmented monomials, if the product of the factorials of the multiplicities of each label
+-- divides `factor`
+abbrev pub augmented_terms : ℕ → WholeTerms → Mixed
+augmented_terms factor terms =
+    map (λ (t : List ℕ × ℤ). (([], t.0), augmented_number factor t.0 t.1)) terms
+
+-- for each label, the product of the factorials of its multiplicities is at most `factor`
+abbrev pub HasFactors : ℕ → WholeTerms → Type 0
 HasFactors factor terms =
-    (t : List ℕ × Fraction) → Among t terms → multiplicity_factorials t.0 ≤ factor
+    (t : List ℕ × ℤ) → Among t terms → multiplicity_factorials t.0 ≤ factor

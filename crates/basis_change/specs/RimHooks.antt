@@ -1,4 +1,5 @@
--- Special rim hooks of a cells are added below a shape, on its beta numbers.
+-- Special rim hooks of a cells, which begin in the first column, added below a shape that is given by the set of its
+-- beta numbers.
 use Rattle.std.specs.Prelude.{ℕ, zero, suc, ◌+◌, ◌-◌, ◌*◌, ◌^◌, cond, List, [], ◌∷◌, ◌++◌, length}
 use Rattle.std.specs.Prelude.{flat_map}
 use Rattle.sym_model.specs.Bases.{has}
@@ -17,12 +18,13 @@ put_among a set =
 abbrev pub hook : ℕ → ℕ → WholeTermsOf ℕ
 hook a set = put_among a (2 * set)
 
--- The rim hook begins in one of the next `more` rows; the rows between remain empty.
+-- The rim hook begins in one of the next `more` rows below those of the set; the rows above the rim hook remain
+-- empty.
 abbrev pub hooks : ℕ → ℕ → ℕ → WholeTermsOf ℕ
 hooks a zero set = []
 hooks a (suc more) set = hook a set ++ hooks a more (2 * set + 1)
 
--- The rim hook begins in any of the a rows below.
+-- The rim hook begins in any of the a rows below those of the set.
 abbrev pub hooks_below : ℕ → ℕ → WholeTermsOf ℕ
 hooks_below a set = hooks a a set
 

@@ -13,7 +13,7 @@ use Rattle.sym_model.specs.Straightening.{shifted}
 use Rattle.sym_model.specs.WholeTerms.{WholeTerms}
 
 -- the value of g at the straightening of the exponents with this beta list: 0 if two entries are equal; otherwise
--- that at the partition of the sorted list, with the sign of sorting
+-- the value at the partition of the sorted list, with the sign of sorting
 abbrev pub straight_value : (List ℕ → ℤ) → List ℕ → ℤ
 straight_value g entries =
     cond (has_equal_entries entries) (pos 0)
@@ -33,7 +33,7 @@ hooked ν count a = map suc (beta (count - 1) ν) ++ a ∷ []
 abbrev pub hooks_value : (List ℕ → ℤ) → ℕ → List ℕ → ℤ
 hooks_value g a ν = total (λ count. straight_value g (hooked ν count a)) (after (rows ν) a)
 
--- g at the partitions of at most n rows, and 0 at the others
+-- g at partitions of at most n rows, and 0 at other partitions
 abbrev pub within_rows : ℕ → (List ℕ → ℤ) → List ℕ → ℤ
 within_rows n g ν = cond (nat_le (rows ν) n) (g ν) (pos 0)
 
@@ -42,13 +42,14 @@ abbrev pub IsStraightening : List ℕ → WholeTerms → Type 0
 IsStraightening parts terms =
     (n : ℕ) (g : List ℕ → ℤ) → arranged_value g parts n ≡ pair terms (within_rows n g)
 
--- the numbers are the different parts of λ, each with a list to which the arrangements of λ without one of it
+-- the numbers are the different parts of λ, each with a list to which the arrangements of λ without one such part
 -- straighten
 pub record AreStraightenings (parts : List ℕ) (lists : List (ℕ × WholeTerms)) : Type 0 where
   pub parts_are : map (λ (l : ℕ × WholeTerms). l.0) lists ≡ distinct parts
   pub straightens : (l : ℕ × WholeTerms) → Among l lists
       → IsStraightening (without_one l.0 parts) l.1
 
--- the sum of g over the results of adding special rim hooks of a cells to the terms of the list of each a
+-- the sum of g over the results of adding special rim hooks to the terms of the lists; to those of the list of the
+-- number a, rim hooks of a cells are added
 abbrev pub all_hooks : (List ℕ → ℤ) → List (ℕ × WholeTerms) → ℤ
 all_hooks g lists = total (λ (l : ℕ × WholeTerms). pair l.1 (hooks_value g l.0)) lists

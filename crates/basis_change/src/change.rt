@@ -1,33 +1,34 @@
 //! The change from the monomial basis to any other.
-ghost use Rattle.std.specs.Prelude.{ℕ, ◌*◌, ◌^◌, ◌≤◌, IfOk, IsErrOf};
+ghost use Rattle.std.specs.Prelude.{◌≡◌, ℕ, ◌*◌, ◌^◌, ◌<◌, ◌≤◌, IfOk, IsErrOf};
 ghost use Rattle.sym_model.specs.ExpressionOffence.{degree_limit};
 ghost use Rattle.sym_model.specs.Expansion.{monomials, IsExpansionOf};
 ghost use Rattle.sym_model.specs.ListWeight.{IsBounded};
 ghost use Rattle.sym_model.specs.Polynomial.{Poly};
-ghost use Rattle.sym_model.specs.Weight.{factorial, growth};
-ghost use Rattle.sparse_polys.specs.MonomialProducts.{greatest_size};
+ghost use Rattle.sym_model.specs.Weight.{growth};
 ghost use Rattle.expression_reading.specs.Trees.{basis_of};
 ghost use Rattle.sparse_polys.specs.LabelSizes.{AreWithin};
-ghost use Rattle.sparse_polys.specs.Tables.{IsFractionTable};
+ghost use Rattle.sparse_polys.specs.Tables.{IsFractionTable, IsWholeTable};
 ghost use Rattle.sparse_polys.specs.Families.{basis_in};
-ghost use Rattle.basis_change.specs.ClearedAnswer.{IsClearedBy, MultipliesOut};
+ghost use Rattle.basis_change.specs.Clearing.{clearing_factor, IsBoundedBy};
+ghost use Rattle.basis_change.specs.ClearedAnswer.{IsChanged, IsQuotientOf, MultipliesOut};
 
-use crate::clearing::{greatest_size, in_augmented};
+use crate::clearing::{greatest_size, in_augmented, whole_terms};
 use crate::rewriting::converted;
-use crate::straightening::by_arrangements;
+use crate::straightening::{by_arrangements, quotients_by_arrangements};
 use calc_base::{Basis, SumFault, Weight};
 use coeff_rings::{Frac, denominator_product, factorial};
 use family_lists::power_sums;
 use linear_combinations::Lin;
 use partitions::Partition;
-use sparse_polys::{Family, divided};
+use sparse_polys::{Family, Whole, divided};
 use std::alloc::Global;
 
 /// An expansion in m as an expansion in the target basis: the answer expands every polynomial that
 /// the list expands, in every number of variables.
 ///
-/// The list must satisfy the bound `bound`, whose two numbers are at least 1, and its labels have
-/// at most 20 cells for the targets m and s, at most 15 for e, h and p. Returns `Large` only if
+/// `bound` has two numbers of at least 1: `den`, a multiple of all denominators of the list, and
+/// `num`, with |c|·`den`·Π λ_i! ≤ `num`·|λ|! for each of its terms c·m_λ. The labels have at most
+/// 20 cells for the targets m and s, at most 15 for e, h and p. Returns `Large` only if
 /// `bound.num`·`bound.den` times the growth into the target at the greatest size of a label is
 /// 2^127 or more.
 ///
@@ -51,53 +52,86 @@ pub fn to_basis(
     ensures large { IsErrOf result SumFault.Large → (d : ℕ) → AreWithin d list.now
         → 2 ^ 127 ≤ bound.num * bound.den * growth (basis_of target) d }
 {
-    match target {
-        Basis::M => copy_of(alloc, list),
-        Basis::E => by_augmented(alloc, list, bound, Family::Elementary),
-        Basis::H => by_augmented(alloc, list, bound, Family::Complete),
-        Basis::P => by_augmented(alloc, list, bound, Family::PowerSum),
-        Basis::S => by_arrangements(alloc, list, bound),
-    }
-}
-
-/// A copy of the list.
-fn copy_of(alloc: Global, list: &Lin<Partition, Frac>) -> Result<Lin<Partition, Frac>, SumFault>
-    ensures value { IfOk result (λ answer. (n : ℕ) (f : Poly) (q : ℕ)
-        → IsExpansionOf monomials list.now n f q → IsExpansionOf monomials answer n f q) }
-    ensures table { IfOk result IsFractionTable }
-    ensures small { ¬ IsErrOf result SumFault.Large }
-{
-    if list.len() == 0 {
-        return Ok(Lin::new(alloc));
-    }
-    Ok(list.copy()?)
-}
-
-/// The change into e, h or p, by augmented monomials, whose parts become power sums one after
-/// another.
-fn by_augmented(
-    alloc: Global,
-    list: &Lin<Partition, Frac>,
-    bound: Weight,
-    family: Family,
-) -> Result<Lin<Partition, Frac>, SumFault>
-    requires bounded { IsBounded bound.num bound.den list.now }
-    requires positive { (1 ≤ bound.num) × (1 ≤ bound.den) }
-    requires sizes { AreWithin 15 list.now }
-    ensures value { IfOk result (λ answer. (n : ℕ) (f : Poly) (q : ℕ)
-        → IsExpansionOf monomials list.now n f q → IsExpansionOf (basis_in family) answer n f q) }
-    ensures cleared { let d = greatest_size list.now in
-        IfOk result (IsClearedBy (bound.den * factorial d)
-        (bound.num * growth (basis_in family) d) d) }
-    ensures table { IfOk result IsFractionTable }
-    ensures large { IsErrOf result SumFault.Large → (d : ℕ) → AreWithin d list.now
-        → 2 ^ 127 ≤ bound.num * bound.den * growth (basis_in family) d }
-{
     let size = greatest_size(list);
-    let factor = factorial(size);
-    let den = denominator_product(bound.den, factor)?;
+    let den = denominator_product(bound.den, clearing_factor(target, size))?;
+    let terms = whole_terms(alloc, list, bound.den)?;
+    quotients_in(alloc, terms, size, target, den)
+}
+
+/// The clearing factor times a list in m with integer coefficients, in the target basis, with each
+/// coefficient divided by `den`, which is positive and below 2^127. The labels have at most `size`
+/// cells. Returns `Large` only if N times the growth into the target at `size` is 2^127 or more,
+/// for each N that bounds the list.
+fn quotients_in(
+    alloc: Global,
+    list: Whole,
+    size: u16,
+    target: Basis,
+    den: u128,
+) -> Result<Lin<Partition, Frac>, SumFault>
+    requires low { size ≤ degree_limit (basis_of target) }
+    requires table { IsWholeTable list }
+    requires sizes { AreWithin size list }
+    requires den { (0 < den) × (den < 2 ^ 127) }
+    ensures value { IfOk result (IsQuotientOf (basis_of target) size den list) }
+    ensures table { IfOk result IsFractionTable }
+    ensures large { IsErrOf result SumFault.Large → (N : ℕ) → IsBoundedBy N list
+        → 2 ^ 127 ≤ N * growth (basis_of target) size }
+{
+    if let Basis::S = target {
+        return quotients_by_arrangements(alloc, &list, size, den);
+    }
+    let answer = in_basis(alloc, list, size, target)?;
+    divided(alloc, &answer, den)
+}
+
+/// The number that clears the fractions of every list in m with integer coefficients and labels of
+/// at most `size` cells, changed into the target: `size`! for e, h and p, and 1 for m and s.
+pub fn clearing_factor(target: Basis, size: u16) -> u128
+    requires { size ≤ 20 }
+    ensures { result ≡ clearing_factor (basis_of target) size }
+{
+    match target {
+        Basis::M => 1,
+        Basis::E => factorial(size),
+        Basis::H => factorial(size),
+        Basis::P => factorial(size),
+        Basis::S => 1,
+    }
+}
+
+/// The clearing factor times a list in m with integer coefficients, in the target basis, in every
+/// number of variables.
+///
+/// The labels have at most `size` cells: at most 20 for the targets m and s, at most 15 for e, h
+/// and p. Returns `Large` only if N times the growth into the target at `size` is 2^127 or more, for
+/// each N that bounds the list.
+pub fn in_basis(alloc: Global, list: Whole, size: u16, target: Basis) -> Result<Whole, SumFault>
+    requires low { size ≤ degree_limit (basis_of target) }
+    requires table { IsWholeTable list }
+    requires sizes { AreWithin size list }
+    ensures { IsChanged (basis_of target) size list result }
+{
+    match target {
+        Basis::M => Ok(list),
+        Basis::E => in_family(alloc, &list, size, Family::Elementary),
+        Basis::H => in_family(alloc, &list, size, Family::Complete),
+        Basis::P => in_family(alloc, &list, size, Family::PowerSum),
+        Basis::S => by_arrangements(alloc, &list, size),
+    }
+}
+
+/// `size`! times a list in m with integer coefficients, in e, h or p, in every number of variables:
+/// by augmented monomials, whose parts become power sums one after another. The labels have at most
+/// `size` cells. Returns `Large` only if N times the growth at `size` is 2^127 or more, for each N
+/// that bounds the list.
+pub fn in_family(alloc: Global, list: &Whole, size: u16, family: Family) -> Result<Whole, SumFault>
+    requires low { size ≤ 15 }
+    requires table { IsWholeTable list.now }
+    requires sizes { AreWithin size list.now }
+    ensures { IsChanged (basis_in family) size list.now result }
+{
     let powers = power_sums(alloc, family, size)?;
-    let start = in_augmented(alloc, list, bound.den, factor)?;
-    let end = converted(alloc, start, &powers[1..], size)?;
-    divided(alloc, &end, den)
+    let start = in_augmented(alloc, list, factorial(size))?;
+    converted(alloc, start, &powers[1..], size)
 }

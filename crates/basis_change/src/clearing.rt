@@ -1,29 +1,27 @@
-//! The fractions of a list of terms cleared: the list with integer coefficients, and a list in m as
-//! a list of augmented monomials.
-ghost use Rattle.std.specs.Prelude.{◌≡◌, ℕ, ◌*◌, ◌/◌, ◌^◌, ◌<◌, ◌≤◌, [], ◌∷◌, pos, nat_abs};
+//! Clears the fractions of a list of terms, and writes a list in m with integer coefficients in
+//! augmented monomials.
+ghost use Rattle.std.specs.Prelude.{◌≡◌, ℕ, ◌*◌, ◌/◌, ◌^◌, ◌<◌, ◌≤◌, List, [], ◌∷◌, pos, nat_abs};
 ghost use Rattle.std.specs.Prelude.{MatchOption, IfOk, OnOk, IsErrOf};
-ghost use Rattle.sym_model.specs.ListWeight.{absolute_sum};
+ghost use Rattle.sym_model.specs.Sum.{Among};
+ghost use Rattle.sym_model.specs.Expansion.{Fraction};
 ghost use Rattle.sym_model.specs.Polynomial.{Same};
 ghost use Rattle.monomial_laws.specs.ExpressionTerms.{over};
 ghost use Rattle.basis_change_laws.specs.AugmentedMonomial.{multiplicity_factorials};
 ghost use Rattle.sparse_polys.specs.LabelSizes.{AreWithin};
 ghost use Rattle.sparse_polys.specs.Tables.{IsFractionTable, IsWholeTable};
 ghost use Rattle.coeff_rings.specs.Fractions.{scaled};
-ghost use Rattle.basis_change.specs.Clearing.{cleared_number, cleared_terms, HasFactors};
+ghost use Rattle.basis_change.specs.Clearing.{augmented_number, augmented_terms, HasFactors};
 ghost use Rattle.basis_change.specs.AugmentedProducts.{equal, IsMixedTable};
 ghost use Rattle.linear_combinations.specs.Gains.{Gains, Overflows};
 
 use crate::parts::multiplicity_factorials;
 use crate::products::Mixed;
 use calc_base::SumFault;
-use coeff_rings::{Frac, Int, Ring};
+use coeff_rings::{Frac, Int, Ring, product_of};
 use linear_combinations::Lin;
 use partitions::Partition;
 use sparse_polys::{Pair, Whole};
 use std::alloc::Global;
-
-/// Denominators are below this limit.
-pub(crate) const LIMIT: u128 = 1 << 127;
 
 /// The greatest size of a label, 0 for the empty list.
 pub fn greatest_size(list: &Lin<Partition, Frac>) -> u16
@@ -65,8 +63,9 @@ pub fn denominator_of(c: Frac) -> u128
     c.den() as u128
 }
 
-/// The coefficient times the common denominator; `None` if it is too large.
-pub fn scaled_number(c: Frac, den: u128) -> Option<Int>
+/// The coefficient times the common denominator `den`; `None` only if the absolute value of the
+/// product is 2^127 or more.
+fn scaled_number(c: Frac, den: u128) -> Option<Int>
     requires { den < 2 ^ 127 }
     ensures { MatchOption result (2 ^ 127 ≤ nat_abs (scaled den c)) (λ z. z ≡ scaled den c) }
 {
@@ -74,13 +73,14 @@ pub fn scaled_number(c: Frac, den: u128) -> Option<Int>
     numerator_of(c).mul(whole_of(scale))
 }
 
-/// The list times `den`, with each coefficient computed from its own denominator. Returns `Large`
-/// only if the absolute values add up to 2^127 or more.
+/// The list times `den`, a common denominator of its coefficients. Returns `Large` only if the
+/// absolute value of one of the products is 2^127 or more.
 pub fn whole_terms(alloc: Global, list: &Lin<Partition, Frac>, den: u128) -> Result<Whole, SumFault>
     requires { den < 2 ^ 127 }
     ensures value { IfOk result (λ terms. Same terms (over den list.now)) }
     ensures table { IfOk result IsWholeTable }
-    ensures large { IsErrOf result SumFault.Large → 2 ^ 127 ≤ absolute_sum den list.now }
+    ensures large { IsErrOf result SumFault.Large
+        → (t : List ℕ × Fraction) × Among t list.now × (2 ^ 127 ≤ nat_abs (scaled den t.1)) }
 {
     let mut terms = Lin::new(alloc);
     for (label, c) in list.iter() {
@@ -92,43 +92,24 @@ pub fn whole_terms(alloc: Global, list: &Lin<Partition, Frac>, den: u128) -> Res
     Ok(terms)
 }
 
-/// The coefficient times the common denominator and `factor`, divided by the factorials of the
-/// multiplicities of the label; `None` if it is too large.
-fn cleared_number(c: Frac, den: u128, factor: u128, label: &Partition) -> Option<Int>
-    requires den { den < 2 ^ 127 }
-    requires factor { factor < 2 ^ 127 }
-    requires multiplicities { multiplicity_factorials label.now ≤ factor }
-    ensures { MatchOption result (2 ^ 127 ≤ nat_abs (cleared_number den factor label.now c))
-        (λ z. z ≡ cleared_number den factor label.now c) }
-{
-    let quotient = factor / multiplicity_factorials(label.parts());
-    let Some(scaled) = scaled_number(c, den) else {
-        return None;
-    };
-    scaled.mul(whole_of(quotient))
-}
-
-/// Adds a term of the list with its fraction cleared.
-fn add_cleared(
+/// Adds a term of the list times `factor`, in augmented monomials.
+fn add_augmented(
     alloc: Global,
     sum: &mut Mixed,
     label: &Partition,
-    c: Frac,
-    den: u128,
+    c: Int,
     factor: u128,
 ) -> Result<(), SumFault>
-    requires den { den < 2 ^ 127 }
     requires factor { factor < 2 ^ 127 }
     requires multiplicities { multiplicity_factorials label.now ≤ factor }
     ensures gains { OnOk result (Gains sum.old
-        ((([], label.now), cleared_number den factor label.now c) ∷ []) sum.new) }
+        ((([], label.now), augmented_number factor label.now c) ∷ []) sum.new) }
     ensures table { OnOk result (IsMixedTable sum.new) }
     ensures large { IsErrOf result SumFault.Large → Overflows equal sum.old
-        ((([], label.now), cleared_number den factor label.now c) ∷ []) }
+        ((([], label.now), augmented_number factor label.now c) ∷ []) }
 {
-    let Some(number) = cleared_number(c, den, factor, label) else {
-        return Err(SumFault::Large);
-    };
+    let quotient = factor / multiplicity_factorials(label.parts());
+    let number = product_of(c, whole_of(quotient))?;
     let label = Pair {
         first: Partition::from_valid_parts(alloc, &[])?,
         second: label.copy()?,
@@ -136,24 +117,18 @@ fn add_cleared(
     sum.add_owned(label, number)
 }
 
-/// The list times `den` and `factor`, in augmented monomials.
-pub(crate) fn in_augmented(
-    alloc: Global,
-    list: &Lin<Partition, Frac>,
-    den: u128,
-    factor: u128,
-) -> Result<Mixed, SumFault>
-    requires den { den < 2 ^ 127 }
+/// The list times `factor`, in augmented monomials.
+pub(crate) fn in_augmented(alloc: Global, list: &Whole, factor: u128) -> Result<Mixed, SumFault>
     requires factor { factor < 2 ^ 127 }
     requires multiplicities { HasFactors factor list.now }
-    ensures gains { IfOk result (Gains [] (cleared_terms den factor list.now)) }
+    ensures gains { IfOk result (Gains [] (augmented_terms factor list.now)) }
     ensures table { IfOk result IsMixedTable }
     ensures large { IsErrOf result SumFault.Large
-        → Overflows equal [] (cleared_terms den factor list.now) }
+        → Overflows equal [] (augmented_terms factor list.now) }
 {
     let mut sum = Lin::new(alloc);
     for (label, c) in list.iter() {
-        add_cleared(alloc, &mut sum, label, *c, den, factor)?;
+        add_augmented(alloc, &mut sum, label, *c, factor)?;
     }
     Ok(sum)
 }

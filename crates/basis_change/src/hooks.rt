@@ -10,7 +10,7 @@ use calc_base::SumFault;
 use coeff_rings::{Int, Ring};
 use linear_combinations::Rule;
 
-/// The number times (-1)^`times`; `None` if it is too large.
+/// The number times (-1)^`times`; `None` only if its absolute value is 2^127 or more.
 fn turned(c: Int, times: u32) -> Option<Int>
     ensures { MatchOption result (2 ^ 127 ≤ nat_abs c) (λ z. z ≡ minus_one_to times *ℤ c) }
 {
@@ -18,7 +18,8 @@ fn turned(c: Int, times: u32) -> Option<Int>
 }
 
 /// Adds c times the result of adding a rim hook of `a` cells that begins in the row below those of
-/// the beta set: the number `a` joins theirs. The last rows of the set may be empty.
+/// the beta set: each beta number increases by 1, and the number `a` is added to the set. The last
+/// rows of the set may be empty.
 fn add_hook(sum: &mut Shapes, beta: BetaSet, a: u16, c: Int) -> Result<(), SumFault>
     requires few { a ≤ 20 }
     requires low { beta < 2 ^ 63 }

@@ -1,22 +1,26 @@
 //! The lists to which the arrangements of a partition straighten, each computed once and kept.
-ghost use Rattle.std.specs.Prelude.{◌≤◌, [], IfOk, OnOk, IsErrOf};
+ghost use Rattle.std.specs.Prelude.{ℕ, ◌≤◌, [], IfOk, OnOk, IsErrOf};
 ghost use Rattle.sym_model.specs.Partition.{IsPartition, size};
+ghost use Rattle.linear_combinations.specs.Gains.{Gains, Overflows, HaveLabels};
+ghost use Rattle.sparse_polys.specs.Tables.{equal};
+ghost use Rattle.beta_sets.specs.BetaSets.{shapes, IsInRows, IsShapeTable};
 ghost use Rattle.family_lists.specs.KeptLists.{StandsAt};
-ghost use Rattle.basis_change.specs.KeptLists.{IsKept, IsStraightened, AreKept};
+ghost use Rattle.basis_change.specs.Arranging.{straight_terms};
+ghost use Rattle.basis_change.specs.KeptLists.{IsKept, AreKept};
 
 use crate::hooks::HooksBelow;
 use crate::parts::without_part;
 use crate::sorting::has;
-use beta_sets::{BetaSet, Shapes, partitions_of};
+use crate::twenty_rows::InTwentyRows;
+use beta_sets::{BetaSet, Shapes};
 use calc_base::SumFault;
 use coeff_rings::{Int, Scalar};
 use family_lists::{Lists, keep, list_at, place_of};
 use linear_combinations::Lin;
 use partitions::Partition;
-use sparse_polys::Whole;
 use std::alloc::Global;
 
-/// The list for no parts: the empty partition.
+/// The list to which the arrangements of the empty partition straighten: that partition, once.
 fn of_nothing(alloc: Global) -> Result<Shapes, SumFault>
     ensures kept { IfOk result (IsKept []) }
     ensures small { ¬ IsErrOf result SumFault.Large }
@@ -26,8 +30,8 @@ fn of_nothing(alloc: Global) -> Result<Shapes, SumFault>
     Ok(list)
 }
 
-/// The index of the list for `parts`. If it is not kept yet, it is computed from those for one part
-/// less.
+/// The index of the list to which the arrangements of `parts` straighten. If it is not kept yet, it
+/// is computed from the lists for the partitions with one part less.
 fn kept_list(alloc: Global, lists: &mut Lists<Shapes>, parts: &[u16]) -> Result<usize, SumFault>
     requires partition { IsPartition parts.now }
     requires low { size parts.now ≤ 20 }
@@ -57,20 +61,28 @@ fn kept_list(alloc: Global, lists: &mut Lists<Shapes>, parts: &[u16]) -> Result<
     Ok(keep(lists, label, sum)?)
 }
 
-/// The list to which the arrangements of the parts straighten, which is kept from then on.
-pub(crate) fn straightened_parts(
+/// Adds c times the list to which the arrangements of the parts straighten to a sum of beta sets in
+/// 20 rows. The list is kept from then on.
+pub(crate) fn add_straightened(
     alloc: Global,
     lists: &mut Lists<Shapes>,
     parts: &[u16],
-) -> Result<Whole, SumFault>
+    c: Int,
+    sum: &mut Shapes,
+) -> Result<(), SumFault>
     requires partition { IsPartition parts.now }
     requires low { size parts.now ≤ 20 }
     requires kept { AreKept lists.old.entries }
+    requires within { HaveLabels (IsInRows 20 20) sum.old }
     ensures kept { OnOk result (AreKept lists.new.entries) }
-    ensures list { IfOk result (IsStraightened parts.now) }
-    ensures small { ¬ IsErrOf result SumFault.Large }
+    ensures gains { OnOk result ((n : ℕ) → size parts.now ≤ n
+        → Gains (shapes sum.old) (straight_terms c parts.now n) (shapes sum.new)) }
+    ensures table { OnOk result (IsShapeTable sum.new) }
+    ensures within { OnOk result (HaveLabels (IsInRows 20 20) sum.new) }
+    ensures large { IsErrOf result SumFault.Large → (n : ℕ) → size parts.now ≤ n
+        → Overflows equal (shapes sum.old) (straight_terms c parts.now n) }
 {
     let at = kept_list(alloc, lists, parts)?;
     let (_, list) = list_at(lists, at);
-    partitions_of(alloc, list)
+    sum.add_by(&InTwentyRows { times: c }, list)
 }

@@ -1,4 +1,4 @@
-//! Partitions with parts inserted and increased, and numbers that belong to a partition.
+//! Inserts, removes and increases parts of partitions, and counts their multiplicities.
 ghost use Rattle.std.specs.Prelude.{◌≡◌, ◌+◌, ◌<◌, ◌≤◌, ◌^◌, length, insert, IfOk, OnOk};
 ghost use Rattle.sym_model.specs.Partition.{insert_part};
 ghost use Rattle.sym_model.specs.RaisedPart.{raise, without_one};
@@ -16,7 +16,8 @@ pub(crate) fn copy_of(alloc: Global, parts: &[u16]) -> Result<Vec<u16>, AllocErr
     Ok(copy)
 }
 
-/// The index of the first part that is not greater than `part`.
+/// The index of the first part that is not greater than `part`; the number of parts if there is
+/// none.
 fn place_of(parts: &[u16], part: u16) -> usize
     requires { 0 < part }
     ensures within { result ≤ length parts.now }
@@ -39,7 +40,8 @@ fn insert_part(parts: &mut Vec<u16>, part: u16) -> Result<(), AllocError>
     Ok(())
 }
 
-/// Replaces `raised` by the parts, with the first part `from` increased by `by`.
+/// Replaces `raised` by the parts, with the first part `from` increased by `by` and put at its new
+/// place.
 pub(crate) fn put_raised(
     raised: &mut Vec<u16>,
     parts: &[u16],

@@ -74,8 +74,8 @@ pub(crate) fn add_mixed(
     Ok(())
 }
 
-/// Subtracts c times the augmented monomial with one part `part` increased by `by`; its parts are
-/// built in the buffer `room`.
+/// Subtracts c times the target's polynomial of `converted`, times the augmented monomial of
+/// `augmented` with one part `part` increased by `by`, whose parts are built in the buffer `room`.
 fn take_one(
     alloc: Global,
     sum: &mut Mixed,
@@ -103,7 +103,8 @@ fn take_one(
     sum.add_owned(label, minus)
 }
 
-/// Subtracts c times each augmented monomial with one of the different parts increased by `by`.
+/// Subtracts, for each part of `augmented`, c times the target's polynomial of `converted`, times
+/// the augmented monomial with this part increased by `by`.
 pub(crate) fn take_raised(
     alloc: Global,
     sum: &mut Mixed,

@@ -94,7 +94,8 @@ impl Rule<Pair, Partition> for OnePart<'_> {
     }
 }
 
-/// The terms as terms of the target, if all augmented monomials have at most one part.
+/// The terms in the target basis, after the augmented monomials, each of at most one part, are
+/// converted.
 fn targets(alloc: Global, table: &Mixed, factors: &[Whole]) -> Result<Whole, SumFault>
     requires { HaveLabels (IsConvertible factors.now 1) table.now }
     ensures gains { IfOk result (Gains [] (replaced (in_target factors.now) table.now)) }
@@ -122,6 +123,7 @@ pub(crate) fn converted(
         → over (target_value family n φ) end ≡ over (product_value family n φ) start) }
     ensures mass { IfOk result (λ end. mass end ≤ weighed cost start) }
     ensures within { IfOk result (AreWithin (length factors.now)) }
+    ensures table { IfOk result IsWholeTable }
     ensures large { IsErrOf result SumFault.Large → 2 ^ 127 ≤ weighed cost start }
 {
     let mut table = start;

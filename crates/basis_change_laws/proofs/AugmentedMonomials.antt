@@ -2,7 +2,7 @@
 use Rattle.std.proofs.Common.{◌≡◌, ℕ, zero, suc, ◌+◌, ◌*◌, ◌<◌, ◌≤◌, ◌⊎◌, ◌==◌, Bool, true, false, cond, List, [], ◌∷◌, map, nat_le, sym, ◌∙◌, ap, ap₂, refl, inl, inr, arith, ℤ, pos, ◌+ℤ◌, ◌*ℤ◌, flat_map}
 use Rattle.std.proofs.lemmas.Int.{ints}
 use Rattle.std.proofs.lemmas.Bool.{cases_lt, cases_eq, cases_Bool, ne_eqb, leb-false, both_ways}
-use Rattle.std.proofs.Math.Nat.{mul_left_comm}
+use Rattle.std.proofs.Math.Nat.{mul_left_comm, mul_assoc, mul_comm}
 use Rattle.sym_model.specs.Sum.{total}
 use Rattle.sym_model.specs.Polynomial.{Same, scale, plus, times, pair}
 use Rattle.sym_model.specs.Partition.{IsPartition, insert_part}
@@ -28,17 +28,14 @@ use Rattle.sym_model.specs.ListWeight.{factorials}
 
 -- ---- the factorials of the multiplicities of a list with one more number
 
-same_whole : (m n : ℕ) → pos m ≡ pos n → m ≡ n
-same_whole m n e = omega (arith, ints)
-
 times_in-distinct : (k : ℕ) (l : List ℕ) → times_in k (distinct l) ≡ cond (has k l) 1 0
-times_in-distinct k l = same_whole (times_in k (distinct l)) (cond (has k l) 1 0) (sym (total_times_in k (distinct l)) ∙ total_distinct-only (λ b. pos 1) k l ∙ by (has k l))
+times_in-distinct k l = let e = sym (total_times_in k (distinct l)) ∙ total_distinct-only (λ b. pos 1) k l ∙ by (has k l) in omega (arith, ints)
   where
     by : (b : Bool) → cond b (pos 1) (pos 0) ≡ pos (cond b 1 0)
     by true = refl
     by false = refl
 
--- putting c in front of l does not change the factorials of the multiplicities of numbers other than c
+-- one more number c in front of l does not change the factorials of the multiplicities of the numbers of D, if c is not in D
 factorials_without : (c : ℕ) (l D : List ℕ) → times_in c D ≡ 0 → factorials (map (λ b. times_in b (c ∷ l)) D) ≡ factorials (map (λ b. times_in b l) D)
 factorials_without c l [] z = refl
 factorials_without c l (b ∷ D) z = by (cases_eq b c) (factorials_without c l D)
@@ -62,15 +59,12 @@ factorials_with c l (b ∷ D) z = by (cases_eq b c) (factorials_with c l D)
         → factorial (times_in b (c ∷ l)) * factorials (map (λ d. times_in d (c ∷ l)) D) ≡ times_in c (c ∷ l) * (factorial (times_in b l) * factorials (map (λ d. times_in d l) D))
     by (inl e) later =
         let t = times_in-here c b D e in
-        ap₂ ◌*◌ (here b e) (factorials_without c l D (omega arith)) ∙ product_right (times_in c (c ∷ l)) (factorial (times_in b l)) (factorials (map (λ d. times_in d l) D))
-      where
-        product_right : (x y w : ℕ) → (x * y) * w ≡ x * (y * w)
-        product_right x y w = omega arith
+        ap₂ ◌*◌ (here b e) (factorials_without c l D (omega arith)) ∙ mul_assoc (times_in c (c ∷ l)) (factorial (times_in b l)) (factorials (map (λ d. times_in d l) D))
     by (inr n) later =
         ap₂ ◌*◌ (ap factorial (times_in-other b c l (λ e. n (sym e)))) (later (sym (times_in-other c b D n) ∙ z))
         ∙ mul_left_comm (factorial (times_in b l)) (times_in c (c ∷ l)) (factorials (map (λ d. times_in d l) D))
 
--- putting c in front of l multiplies the product of the factorials by the new multiplicity of c
+-- one more number c in front of l multiplies the product of the factorials of the multiplicities by the new multiplicity of c
 pub multiplicity_factorials-cons : (c : ℕ) (l : List ℕ) → multiplicity_factorials (c ∷ l) ≡ times_in c (c ∷ l) * multiplicity_factorials l
 multiplicity_factorials-cons c l = by (cases_Bool (has c l))
   where
@@ -111,7 +105,8 @@ multiplicity_factorials-insert (suc a) (b ∷ parts) h = by (nat_le b (suc a)) r
         ∙ mul_left_comm (times_in b (b ∷ parts)) (times_in (suc a) (insert_part (suc a) parts)) (multiplicity_factorials parts)
         ∙ ap₂ ◌*◌ (sym v) (sym y)
 
--- if μ is λ with a part b replaced by a + b, m_b(λ)·Π m_i(μ)! = m_(a+b)(μ)·Π m_i(λ)!
+-- if a > 0, λ is the partition `parts`, and μ is λ with a part b replaced by a + b, then
+-- m_b(λ)·Π m_i(μ)! = m_(a+b)(μ)·Π m_i(λ)!, where m_i counts the parts i
 raise_factor : (a b : ℕ) (parts : List ℕ) → 0 < a → IsPartition parts → has b parts ≡ true
     → times_in b parts * multiplicity_factorials (raise a b parts) ≡ multiplicity_factorials parts * times_in (a + b) (raise a b parts)
 raise_factor a zero parts h p e = absurd (both_ways (has 0 parts) (has-zero parts p.positive) e)
@@ -133,7 +128,7 @@ pull_factor : (t : Bool) (x : ℤ) → cond t (pos 1) (pos 0) *ℤ x ≡ cond t 
 pull_factor true x = omega (arith, ints)
 pull_factor false x = omega (arith, ints)
 
--- a sum over the parts is a sum over the different parts, each times its multiplicity
+-- the sum of g over the parts is the sum over the different parts b of the multiplicity of b times g(b)
 total_parts : (g : ℕ → ℤ) (l : List ℕ) → total (λ (b : ℕ). pos (times_in b l) *ℤ g b) (distinct l) ≡ total g l
 total_parts g l =
     total_ext (λ (b : ℕ). pos (times_in b l) *ℤ g b) (λ (b : ℕ). total (λ (c : ℕ). cond (b == c) (g b) (pos 0)) l) spread (distinct l)
@@ -179,10 +174,7 @@ power_sum_times_augmented a n parts h p =
         let e : a + 0 ≡ a = omega arith in
         ap₂ (λ (i : ℕ) (l : List ℕ). pos (multiplicity_factorials parts) *ℤ (pos (times_in i l) *ℤ pair (monomial l n) φ)) e nothing_raised
         ∙ sym (product_assoc (pos (multiplicity_factorials parts)) (pos (times_in a (insert_part a parts))) (pair (monomial (insert_part a parts) n) φ))
-        ∙ ap (λ i. pos i *ℤ pair (monomial (insert_part a parts) n) φ) (turned (multiplicity_factorials parts) (times_in a (insert_part a parts)) ∙ sym (multiplicity_factorials-insert a parts h))
-      where
-        turned : (x y : ℕ) → x * y ≡ y * x
-        turned x y = omega arith
+        ∙ ap (λ i. pos i *ℤ pair (monomial (insert_part a parts) n) φ) (mul_comm (multiplicity_factorials parts) (times_in a (insert_part a parts)) ∙ sym (multiplicity_factorials-insert a parts h))
 
     made_greater : (φ : List ℕ → ℤ)
         → pos (multiplicity_factorials parts) *ℤ total (λ (b : ℕ). pos (times_in (a + b) (raise a b parts)) *ℤ pair (monomial (raise a b parts) n) φ) (distinct parts)

@@ -1,6 +1,6 @@
--- The growth into p, h and e is multiplicative.
-use Rattle.std.proofs.Common.{◌≡◌, ℕ, zero, suc, ◌+◌, ◌*◌, ◌^◌, ◌<◌, ◌≤◌, refl, ap, ◌∙◌, arith}
-use Rattle.std.proofs.Math.Nat.{pow-le-pow_right}
+-- The growth into p, h and e (specs/Weight), d!·(2d)^d at the degree d: bounds of the product of two growths by the growth at the sum of the degrees.
+use Rattle.std.proofs.Common.{◌≡◌, ℕ, zero, suc, ◌+◌, ◌*◌, ◌^◌, ◌<◌, ◌≤◌, refl, ap, ◌∙◌, arith, sym}
+use Rattle.std.proofs.Math.Nat.{pow-le-pow_right, mul_assoc}
 use Rattle.std.proofs.lemmas.Nat.{mul-le, pow-add}
 use Rattle.sym_model.specs.Expansion.{Basis}
 use Rattle.sym_model.specs.Weight.{factorial, growth}
@@ -29,13 +29,13 @@ pub grown-raised : (a d c : ℕ) → a ≤ d → c * factorial a ≡ factorial d
 grown-raised a d c h e =
     let x = (2 * a) ^ a in
     let p : factorial d * (2 * a) ^ a ≤ factorial d * (2 * d) ^ d = mul-le-mul_left (factorial d) (power-up a d h) in
-    let g : c * (factorial a * (2 * a) ^ a) ≡ factorial d * (2 * a) ^ a = grouped c (factorial a) ((2 * a) ^ a) ∙ ap (λ k. k * (2 * a) ^ a) e in
+    let g : c * (factorial a * (2 * a) ^ a) ≡ factorial d * (2 * a) ^ a = sym (mul_assoc c (factorial a) ((2 * a) ^ a)) ∙ ap (λ k. k * (2 * a) ^ a) e in
     rw (grown-is a, grown-is d) (omega arith)
-  where
-    grouped : (x y z : ℕ) → x * (y * z) ≡ (x * y) * z
-    grouped x y z = omega arith
 
--- the growths at a and b, times the binomial coefficient of a + b over a, are at most the growth at a + b
+grouped : (c u x v y : ℕ) → c * ((u * x) * (v * y)) ≡ (c * (u * v)) * (x * y)
+grouped c u x v y = omega arith
+
+-- the product of the growths at a and b, times the binomial coefficient (a + b)!/(a!·b!), is at most the growth at a + b
 pub grown-product : (a b c : ℕ) → c * (factorial a * factorial b) ≡ factorial (a + b) → c * (grown a * grown b) ≤ grown (a + b)
 grown-product a b c e =
     let x = (2 * a) ^ a in
@@ -48,9 +48,6 @@ grown-product a b c e =
     let t : factorial (a + b) * (x * y) ≤ factorial (a + b) * (2 * (a + b)) ^ (a + b) = mul-le-mul_left (factorial (a + b)) (let u : x * y ≤ (2 * (a + b)) ^ (a + b) = omega arith in u) in
     let g : c * ((factorial a * x) * (factorial b * y)) ≡ factorial (a + b) * (x * y) = grouped c (factorial a) x (factorial b) y ∙ ap (λ k. k * ((2 * a) ^ a * (2 * b) ^ b)) e in
     rw (grown-is a, grown-is b, grown-is (a + b)) (omega arith)
-  where
-    grouped : (c u x v y : ℕ) → c * ((u * x) * (v * y)) ≡ (c * (u * v)) * (x * y)
-    grouped c u x v y = omega arith
 
 -- if c is (k + s)!/(o·s!), then c·o·2^k times the growth at s is at most the growth at k + s
 pub grown-joined : (k s c o : ℕ) → c * (o * factorial s) ≡ factorial (k + s) → c * ((o * 2 ^ k) * grown s) ≤ grown (k + s)
@@ -68,9 +65,6 @@ grown-joined k s c o e =
     two-up : (k d : ℕ) → k ≤ d → 2 ^ k ≤ (2 * d) ^ k
     two-up zero d h = rw (pow-zero 2, pow-zero (2 * d)) (omega arith)
     two-up (suc k) d h = power-base 2 (2 * d) (suc k) (omega arith)
-
-    grouped : (c o x v y : ℕ) → c * ((o * x) * (v * y)) ≡ (c * (o * v)) * (x * y)
-    grouped c o x v y = omega arith
 
 pub grown-mono : (a d : ℕ) → a ≤ d → grown a ≤ grown d
 grown-mono a d h = rw (grown-is a, grown-is d) (mul-le (factorial a) ((2 * a) ^ a) (factorial d) ((2 * d) ^ d) (factorial-mono a d h) (power-up a d h))

@@ -1,5 +1,5 @@
--- Lists of terms in a basis that is multiplied over the parts of its labels.
---     stands-product, -plus, -scale, -raised, -weaken      products, sums and multiples of such lists
+-- Lists of terms in a multiplicative basis: the polynomial of a label is the product of the polynomials of its parts.
+--     `stands-product`, `-plus`, `-scale`, `-raised`, `-weaken`      products, sums and multiples of such lists
 use Rattle.std.proofs.Common.{◌≡◌, ℕ, ◌+◌, ◌*◌, ◌≤◌, List, [], ◌∷◌, map, refl, sym, ap, ap₂, ◌∙◌, inl, inr, arith, ℤ, pos, ◌+ℤ◌, ◌*ℤ◌}
 use Rattle.std.specs.Prelude.{nat_abs}
 use Rattle.std.proofs.lemmas.Int.{ints, unsigned_abs-mul}
@@ -9,7 +9,7 @@ use Rattle.sym_model.specs.Polynomial.{Poly, Same, In, pair, join, times, plus, 
 use Rattle.sym_model.specs.Partition.{ArePositive}
 use Rattle.sym_model.specs.Bases.{product_over}
 use Rattle.sym_model.specs.WholeTerms.{WholeTerms, absolute_total, HaveLabels}
-use Rattle.sym_model.proofs.Ring.{ring}
+use Rattle.sym_model.proofs.Ring.{ring, product_assoc, distributes_left, product_left_comm}
 use Rattle.sym_model.proofs.Sums.{total_ext, total_among, total_each, total_map, total_scale}
 use Rattle.sym_model.proofs.Polynomials.{pair_ext, pair_factor, pair_plus, pair_scale, pair_times, pair_determined, Same_refl, Same_sym, Same_trans, times_respects, In_one}
 use Rattle.sym_model.proofs.PolynomialLaws.{times_comm, times-one}
@@ -18,8 +18,9 @@ use Rattle.sym_model.proofs.WholeTerms.{labels_append, labels_map, labels_scaled
 use Rattle.basis_change_laws.specs.JoinedLists.{merged, joined, IsLow, Stands}
 use Rattle.basis_change_laws.proofs.MergedParts.{IsPartition-merged, size-merged, product_over-merged}
 use Rattle.sym_model.proofs.WholeTerms.{absolute-append}
+use Rattle.std.proofs.Math.Nat.{mul_assoc}
 
--- ---- the labels of a product have at most a + b cells
+-- ---- if two lists have labels of at most a and at most b cells, the labels of their product have at most a + b cells
 
 low-joined : (a b : ℕ) (W V : WholeTerms) → HaveLabels (IsLow a) W → HaveLabels (IsLow b) V → HaveLabels (IsLow (a + b)) (joined W V)
 low-joined a b [] V h k t m = absurd m
@@ -55,7 +56,7 @@ absolute-joined (s ∷ W) V =
     row [] = omega arith
     row (t ∷ U) = let u = unsigned_abs-mul s.1 t.1 in let r = row U in omega arith
 
--- ---- the polynomial of a product of two lists is the product
+-- ---- the polynomial of a product of two lists is the product of their polynomials
 
 pub pair-joined : (W V : WholeTerms) (ψ : List ℕ → ℤ) → pair (joined W V) ψ ≡ pair W (λ l. pair V (λ r. ψ (merged l r)))
 pair-joined W V ψ =
@@ -63,17 +64,14 @@ pair-joined W V ψ =
     ∙ total_ext (λ (s : List ℕ × ℤ). total (λ (t : List ℕ × ℤ). t.1 *ℤ ψ t.0) (map (λ (t : List ℕ × ℤ). (merged s.0 t.0, s.1 *ℤ t.1)) V)) (λ (s : List ℕ × ℤ). s.1 *ℤ pair V (λ r. ψ (merged s.0 r)))
     (λ s.
     total_map (λ (t : List ℕ × ℤ). t.1 *ℤ ψ t.0) (λ (t : List ℕ × ℤ). (merged s.0 t.0, s.1 *ℤ t.1)) V
-    ∙ total_ext (λ (t : List ℕ × ℤ). (s.1 *ℤ t.1) *ℤ ψ (merged s.0 t.0)) (λ (t : List ℕ × ℤ). s.1 *ℤ (t.1 *ℤ ψ (merged s.0 t.0))) (λ t. grouped s.1 t.1 (ψ (merged s.0 t.0))) V
+    ∙ total_ext (λ (t : List ℕ × ℤ). (s.1 *ℤ t.1) *ℤ ψ (merged s.0 t.0)) (λ (t : List ℕ × ℤ). s.1 *ℤ (t.1 *ℤ ψ (merged s.0 t.0))) (λ t. product_assoc s.1 t.1 (ψ (merged s.0 t.0))) V
     ∙ total_scale s.1 (λ (t : List ℕ × ℤ). t.1 *ℤ ψ (merged s.0 t.0)) V) W
-  where
-    grouped : (x y z : ℤ) → (x *ℤ y) *ℤ z ≡ x *ℤ (y *ℤ z)
-    grouped x y z = simp ring (omega (arith, ints))
 
 pair-among : (W : WholeTerms) (φ ψ : List ℕ → ℤ) → ((t : List ℕ × ℤ) → Among t W → φ t.0 ≡ ψ t.0) → pair W φ ≡ pair W ψ
 pair-among W φ ψ h = total_among (λ (t : List ℕ × ℤ). t.1 *ℤ φ t.0) (λ (t : List ℕ × ℤ). t.1 *ℤ ψ t.0) W (λ t m. ap (λ z. t.1 *ℤ z) (h t m))
 
 module _ (P : ℕ → ℕ → Poly) (places : (n k : ℕ) → In n (P k n)) where
-  -- the product over the merged parts is the product of both products
+  -- if the parts of l are positive, the product over the parts of l and r merged is the product over l times that over r
   pub merged-value : (n : ℕ) (l r : List ℕ) → ArePositive l → Same (product_over P (merged l r) n) (times (product_over P l n) (product_over P r n))
   merged-value n l r p =
       let M = product_over P (merged l r) n in
@@ -125,50 +123,40 @@ module _ (P : ℕ → ℕ → Poly) (places : (n k : ℕ) → In n (P k n)) wher
       closing : (t u c w v n m : ℕ) → t ≡ u * v → u ≡ c * w → w * v ≤ n → c * n ≤ m → t ≤ m
       closing t u c w v n m x y h k =
           let a = mul-le c (w * v) c n (omega arith) h in
-          let b : u * v ≡ c * (w * v) = ap (λ k. k * v) y ∙ grouped c w v in
+          let b : u * v ≡ c * (w * v) = ap (λ k. k * v) y ∙ mul_assoc c w v in
           omega arith
-        where
-          grouped : (x y z : ℕ) → (x * y) * z ≡ x * (y * z)
-          grouped x y z = omega arith
 
 pub stands-plus : (P : ℕ → ℕ → Poly) (q A B M d : ℕ) (f g : ℕ → Poly) (W V : WholeTerms) → Stands P q A d f W → Stands P q B d g V → A + B ≤ M → Stands P q M d (λ n. plus (f n) (g n)) (plus W V)
 stands-plus P q A B M d f g W V h k m = record {
   value = λ n φ.
       let ψ : List ℕ → ℤ = λ l. pair (product_over P l n) φ in
       pair_plus W V (λ l. pair (product_over P l n) φ) ∙ ap₂ ◌+ℤ◌ (h.value n φ) (k.value n φ)
-      ∙ spread (pos q) (pair (f n) φ) (pair (g n) φ) ∙ ap (λ z. pos q *ℤ z) (sym (pair_plus (f n) (g n) φ));
+      ∙ sym (distributes_left (pos q) (pair (f n) φ) (pair (g n) φ)) ∙ ap (λ z. pos q *ℤ z) (sym (pair_plus (f n) (g n) φ));
   few = let x = absolute-append W V in let y = h.few in let z = k.few in omega arith;
   labels = labels_append (IsLow d) W V h.labels k.labels;
 }
-  where
-    spread : (q x y : ℤ) → q *ℤ x +ℤ q *ℤ y ≡ q *ℤ (x +ℤ y)
-    spread q x y = simp ring (omega (arith, ints))
 
--- if W is a list for f, c·W is a list for c·f, with c times the bound
+-- if W is the list of q·f, and the absolute values of its coefficients add up to at most A, then c·W is the list of q·(c·f), and those of c·W add up
+-- to at most each M ≥ |c|·A
 pub stands-scale : (P : ℕ → ℕ → Poly) (q A M d : ℕ) (c : ℤ) (f : ℕ → Poly) (W : WholeTerms) → Stands P q A d f W → nat_abs c * A ≤ M → Stands P q M d (λ n. scale c (f n)) (scale c W)
 stands-scale P q A M d c f W h m = record {
   value = λ n φ.
       pair_scale c W (λ l. pair (product_over P l n) φ) ∙ ap (λ z. c *ℤ z) (h.value n φ)
-      ∙ turned c (pos q) (pair (f n) φ) ∙ ap (λ z. pos q *ℤ z) (sym (pair_scale c (f n) φ));
+      ∙ product_left_comm c (pos q) (pair (f n) φ) ∙ ap (λ z. pos q *ℤ z) (sym (pair_scale c (f n) φ));
   few = let x = absolute-scale c W in let y = mul-le (nat_abs c) (absolute_total W) (nat_abs c) A (omega arith) h.few in omega arith;
   labels = labels_scaled _ c W h.labels;
 }
-  where
-    turned : (c q x : ℤ) → c *ℤ (q *ℤ x) ≡ q *ℤ (c *ℤ x)
-    turned c q x = simp ring (omega (arith, ints))
 
--- if W is a list for f over the denominator q, c·W is one over c·q
+-- if W is the list of q·f, and the absolute values of its coefficients add up to at most A, then c·W is the list of (c·q)·f, and those of c·W add up
+-- to at most each M ≥ c·A
 pub stands-raised : (P : ℕ → ℕ → Poly) (q A M d r : ℕ) (c : ℕ) (f : ℕ → Poly) (W : WholeTerms) → Stands P q A d f W → c * q ≡ r → c * A ≤ M → Stands P r M d f (scale (pos c) W)
 stands-raised P q A M d r c f W h e m = record {
   value = λ n φ.
       pair_scale (pos c) W (λ l. pair (product_over P l n) φ) ∙ ap (λ z. pos c *ℤ z) (h.value n φ)
-      ∙ grouped (pos c) (pos q) (pair (f n) φ) ∙ ap (λ (k : ℕ). pos k *ℤ pair (f n) φ) e;
+      ∙ sym (product_assoc (pos c) (pos q) (pair (f n) φ)) ∙ ap (λ (k : ℕ). pos k *ℤ pair (f n) φ) e;
   few = let x = absolute-scale (pos c) W in let y = mul-le c (absolute_total W) c A (omega arith) h.few in omega arith;
   labels = labels_scaled _ (pos c) W h.labels;
 }
-  where
-    grouped : (c q x : ℤ) → c *ℤ (q *ℤ x) ≡ (c *ℤ q) *ℤ x
-    grouped c q x = simp ring (omega (arith, ints))
 
 pub stands-weaken : (P : ℕ → ℕ → Poly) (q A M d e : ℕ) (f : ℕ → Poly) (W : WholeTerms) → Stands P q A d f W → A ≤ M → d ≤ e → Stands P q M e f W
 stands-weaken P q A M d e f W h m l = record {

@@ -1,5 +1,5 @@
--- Newton's identities, coefficient by coefficient: for each i, i can be subtracted at the places of α with a number
--- of at least i, and these places, over all i, are size α in number.
+-- Newton's identities, coefficient by coefficient: for each i, i can be subtracted at the places of α with a number of at least i, and the number of
+-- these places, over all i, is the size of α.
 use Rattle.std.proofs.Common.{◌≡◌, ℕ, zero, suc, ◌+◌, ◌-◌, ◌<◌, ◌≤◌, ◌⊎◌, ◌==◌, Bool, true, false, cond, ◌&&◌, List, [], ◌∷◌, map, length, nat_le, sym, ◌∙◌, ap, ap₂, subst, refl, inl, inr, arith, ℤ, pos, neg_ℤ, ◌+ℤ◌, ◌*ℤ◌, flat_map}
 use Rattle.std.proofs.lemmas.Int.{ints}
 use Rattle.std.proofs.lemmas.Bool.{cases_lt, le-leb, lt-leb, eq-eqb, eqb-true, ne_eqb, and_parts}
@@ -53,9 +53,9 @@ total_last a (suc k) g =
     let f = ap g d in
     omega (arith, ints)
 
--- ---- the identity for complete symmetric polynomials
+-- Newton's identity for complete symmetric polynomials
 
--- the number of ways to subtract one of 1, .., m at a place of α is the size of α
+-- if |α| ≤ m, the number of ways to subtract one of 1, .., m at a place of α is |α|
 total_places : (m : ℕ) (α : List ℕ) → size α ≤ m → total (λ (i : ℕ). total (λ (γ : List ℕ). pos 1) (lowered i α)) (after 0 m) ≡ pos (size α)
 total_places m [] h = total_zero (after 0 m)
 total_places m (c ∷ α) h =
@@ -76,7 +76,8 @@ total_places m (c ∷ α) h =
 
 -- ---- the products of p_i and a complete or elementary symmetric polynomial
 
--- if γ is α with i subtracted at one place, γ has degree k - i if and only if α has degree k
+-- for i ≤ k: if γ is α with i subtracted at one place, γ has n places and the degree k - i if and only if α has n places and
+-- the degree k
 left_degree : (n k i : ℕ) (α γ : List ℕ) → i ≤ k → Among γ (lowered i α) → is_exponent_list n (k - i) γ ≡ is_exponent_list n k α
 left_degree n k i α γ h m =
     let l = length-lowered i α γ m in
@@ -86,8 +87,8 @@ left_degree n k i α γ h m =
     (λ e. let d = eqb-true (size γ) (k - i) e in eq-eqb (size α) k (omega arith))
     (λ e. let d = eqb-true (size α) k e in eq-eqb (size γ) (k - i) (omega arith)))
 
--- the coefficient at x^α of p_i times the sum of the monomials of degree k - i that pass a test is the number of ways to subtract i at a place of α
--- that leave exponents that pass
+-- for 0 < i ≤ k: if α has n places and the degree k, the coefficient at x^α of p_i times the sum of the monomials of degree
+-- k - i that pass a test is the number of ways to subtract i at a place of α and get exponents that pass the test; else 0
 one_product : (test : List ℕ → Bool) (n k i : ℕ) (α : List ℕ) → 0 < i → i ≤ k
     → coefficient (times (power_sum_of i n) (monomials test n (k - i))) α ≡ cond (is_exponent_list n k α) (total (λ (γ : List ℕ). cond (test γ) (pos 1) (pos 0)) (lowered i α)) (pos 0)
 one_product test n k i α p h =
@@ -113,7 +114,7 @@ newton_complete k n α =
     by true s = let e = s refl in product-one (pos k) ∙ ap pos (sym e) ∙ sym (total_places k α (omega arith))
     by false s = *ℤ-zero (pos k)
 
--- ---- the identity for elementary symmetric polynomials
+-- Newton's identity for elementary symmetric polynomials
 
 -- the sign (-1)^(i-1)
 abbrev turn : ℕ → ℤ
@@ -149,7 +150,7 @@ peak (suc (suc c)) =
     sum_up : (x y z p q t : ℤ) → x ≡ y +ℤ q → y ≡ z +ℤ p → z ≡ pos 0 → p ≡ t → q ≡ neg_ℤ t → x ≡ pos 0
     sum_up x y z p q t a b d e f = omega (arith, ints)
 
--- the signed sum, over the i that can be subtracted from c, of 1 if at most 1 is left and 0 otherwise
+-- for c ≤ m, the sum of (-1)^(i-1) over the i from 1 to m with i ≤ c and c - i ≤ 1 is 1 if c is 1, and otherwise 0
 one_peak : (m c : ℕ) → c ≤ m → total (λ (i : ℕ). cond (nat_le i c) (turn i *ℤ cond (nat_le (c - i) 1) (pos 1) (pos 0)) (pos 0)) (after 0 m) ≡ cond (c == 1) (pos 1) (pos 0)
 one_peak m c h =
     let e : c ≡ 0 + c = omega arith in
@@ -169,7 +170,8 @@ later_places : {A : Type 0} (b : Bool) (test : A → Bool) (xs : List A) (t : �
 later_places true test xs t = refl
 later_places false test xs t = ap (λ z. t *ℤ z) (total_zero xs) ∙ *ℤ-zero t
 
--- the signed sum over c ∷ α from that over α, given the number n for α and whether all numbers of α are at most 1
+-- a step of `elementary_places` from α to c ∷ α, with n for the size of α and b for whether no number of α is above 1; with [P] for 1 if P holds and
+-- 0 otherwise: [b and c = 1] + n·[c ≤ 1 and b] = (c + n)·[c ≤ 1 and b]
 with_first : (c n : ℕ) (b : Bool) → cond b (cond (c == 1) (pos 1) (pos 0)) (pos 0) +ℤ cond (nat_le c 1) (cond b (pos n) (pos 0)) (pos 0) ≡ cond (nat_le c 1 && b) (pos (c + n)) (pos 0)
 with_first zero n true = omega (arith, ints)
 with_first zero n false = refl
@@ -184,7 +186,8 @@ with_first (suc (suc c)) n b =
     none true = refl
     none false = refl
 
--- the signed number of ways to subtract one of 1, .., m at a place of α such that no number is above 1 is the size of α if none of α is, else 0
+-- if |α| ≤ m, the sum over i from 1 to m of (-1)^(i-1) times the number of ways to subtract i at a place of α and get a
+-- list of 0s and 1s is |α| if α is a list of 0s and 1s, else 0
 elementary_places : (m : ℕ) (α : List ℕ) → size α ≤ m
     → total (λ (i : ℕ). turn i *ℤ total (λ (γ : List ℕ). cond (at_most_one γ) (pos 1) (pos 0)) (lowered i α)) (after 0 m) ≡ cond (at_most_one α) (pos (size α)) (pos 0)
 elementary_places m [] h = total_none (λ (i : ℕ). turn i *ℤ pos 0) (after 0 m) (λ i n. *ℤ-zero (turn i))
@@ -201,7 +204,7 @@ elementary_places m (c ∷ α) h =
     (total_cond (nat_le c 1) (λ (i : ℕ). turn i *ℤ total (λ (γ : List ℕ). cond (at_most_one γ) (pos 1) (pos 0)) (lowered i α)) (after 0 m) ∙ ap (λ (z : ℤ). cond (nat_le c 1) z (pos 0)) (elementary_places m α (omega arith)))
     ∙ with_first c (size α) (at_most_one α)
 
-turn_inside : (b : Bool) (t x : ℤ) → t *ℤ cond b x (pos 0) ≡ cond b (t *ℤ x) (pos 0)
+pub turn_inside : (b : Bool) (t x : ℤ) → t *ℤ cond b x (pos 0) ≡ cond b (t *ℤ x) (pos 0)
 turn_inside true t x = refl
 turn_inside false t x = *ℤ-zero t
 

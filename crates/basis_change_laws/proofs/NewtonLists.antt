@@ -1,25 +1,25 @@
--- The two families with Newton's identities: h_k and e_k, with their signs.
-use Rattle.std.proofs.Common.{◌≡◌, ℕ, zero, suc, ◌-◌, ◌*◌, Bool, true, cond, List, [], ◌∷◌, replicate, refl, sym, ap, ap₂, ◌∙◌, arith, ℤ, pos, neg_ℤ, ◌*ℤ◌, filter, flat_map}
+-- The two families that satisfy Newton's identities: h_k and e_k, each with its signs.
+use Rattle.std.proofs.Common.{◌≡◌, ℕ, zero, suc, ◌-◌, ◌*◌, Bool, true, cond, List, [], ◌∷◌, replicate, refl, sym, ap, ap₂, ◌∙◌, ℤ, pos, ◌*ℤ◌, filter, flat_map}
 use Rattle.std.specs.Prelude.{nat_abs}
-use Rattle.std.proofs.lemmas.Int.{ints}
 use Rattle.sym_model.specs.Polynomial.{Poly, Same, pair, times, scale, one}
 use Rattle.sym_model.specs.Partition.{after}
 use Rattle.sym_model.specs.Bases.{power_sum_of, elementary_of, complete_of, monomials, at_most_one, exponent_lists}
 use Rattle.sym_model.specs.PlaceOrders.{minus_one_to}
 use Rattle.sym_model.specs.WholeTerms.{WholeTerms}
-use Rattle.sym_model.proofs.Ring.{ring, one-product}
+use Rattle.sym_model.proofs.Ring.{one-product, product_assoc}
 use Rattle.sym_model.proofs.Sums.{total_ext, total_select}
 use Rattle.sym_model.proofs.Polynomials.{pair_each, pair_scale, pair_monomials, pair_one, same_from_pair, Same_trans}
 use Rattle.sym_model.proofs.Monomials.{total_exponent_lists-zero}
 use Rattle.basis_change_laws.proofs.NewtonIdentities.{newton_complete, newton_elementary}
+use Rattle.sym_model.proofs.Integers.{sign_size}
 
--- a family with Newton's identities, whose signs are σ
+-- G_0 is 1, and k·G_k is the sum of σ(i)·p_i·G_(k-i) over i from 1 to k, each σ(i) being 1 or -1
 pub record IsNewton (G : ℕ → ℕ → Poly) (σ : ℕ → ℤ) : Type 0 where
   pub unit : (i : ℕ) → nat_abs (σ i) ≡ 1
   pub first : (n : ℕ) → Same (G 0 n) (one n)
   pub sums : (k n : ℕ) → Same (scale (pos k) (G k n)) (flat_map (λ i. scale (σ i) (times (power_sum_of i n) (G (k - i) n))) (after 0 k))
 
--- ---- h_k and e_k have Newton's identities
+-- ---- h_k and e_k satisfy Newton's identities
 
 pub zeros_low : (n : ℕ) → at_most_one (replicate n 0) ≡ true
 zeros_low zero = refl
@@ -35,17 +35,10 @@ one-monomials test n e = same_from_pair (monomials test n 0) (one n) (λ φ.
 
 pub newton-elementary : IsNewton elementary_of (λ i. minus_one_to (i - 1))
 newton-elementary = record {
-  unit = λ i. unit (i - 1);
+  unit = λ i. sign_size (i - 1);
   first = λ n. one-monomials at_most_one n (zeros_low n);
   sums = newton_elementary;
 }
-  where
-    unit : (k : ℕ) → nat_abs (minus_one_to k) ≡ 1
-    unit zero = refl
-    unit (suc k) = turned (minus_one_to k) ∙ unit k
-      where
-        turned : (c : ℤ) → nat_abs (neg_ℤ c) ≡ nat_abs c
-        turned c = omega (arith, ints)
 
 pub newton-complete : IsNewton complete_of (λ i. pos 1)
 newton-complete = record {
@@ -65,7 +58,4 @@ newton-complete = record {
 
 pub scale-scale : (x y : ℤ) (W : WholeTerms) → scale x (scale y W) ≡ scale (x *ℤ y) W
 scale-scale x y [] = refl
-scale-scale x y (t ∷ W) = ap₂ ◌∷◌ (ap (λ z. (t.0, z)) (grouped x y t.1)) (scale-scale x y W)
-  where
-    grouped : (x y z : ℤ) → x *ℤ (y *ℤ z) ≡ (x *ℤ y) *ℤ z
-    grouped x y z = simp ring (omega (arith, ints))
+scale-scale x y (t ∷ W) = ap₂ ◌∷◌ (ap (λ z. (t.0, z)) (sym (product_assoc x y t.1))) (scale-scale x y W)

@@ -1,4 +1,4 @@
--- Lists of terms in a basis that is multiplied over the parts of its labels.
+-- Lists of terms in a multiplicative basis: the polynomial of a label is the product of the polynomials of its parts.
 use Rattle.std.specs.Prelude.{◌≡◌, ℕ, ◌≤◌, ℤ, pos, ◌*ℤ◌, List, [], ◌∷◌, map, flat_map}
 use Rattle.sym_model.specs.Polynomial.{Poly, pair}
 use Rattle.sym_model.specs.Partition.{IsPartition, size, insert_part}
@@ -14,7 +14,7 @@ merged (a ∷ more) parts = merged more (insert_part a parts)
 abbrev pub row : List ℕ → ℤ → WholeTerms → WholeTerms
 row parts z V = map (λ (t : List ℕ × ℤ). (merged parts t.0, z *ℤ t.1)) V
 
--- the product of two lists
+-- the product of two lists, over all pairs of their terms
 abbrev pub joined : WholeTerms → WholeTerms → WholeTerms
 joined W V = flat_map (λ (s : List ℕ × ℤ). row s.0 s.1 V) W
 

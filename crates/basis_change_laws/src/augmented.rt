@@ -7,10 +7,11 @@ ghost use Rattle.sym_model.specs.Bases.{power_sum_of};
 ghost use Rattle.sym_model.specs.RaisedPart.{raise};
 ghost use Rattle.basis_change_laws.specs.AugmentedMonomial.{multiplicity_factorials, augmented};
 
-/// p_a times the augmented monomial symmetric polynomial of λ is the sum of that of λ with a part a
-/// inserted, and, for each part b of λ with its multiplicity, of that of λ with one b replaced by a
-/// + b, in every number of variables. So the one with the part a inserted is a combination of those
-/// with fewer parts.
+/// Let M_λ be the augmented monomial symmetric polynomial of λ: m_λ times the product of the
+/// factorials of the multiplicities of the parts. For a ≥ 1, p_a·M_λ is M of λ with a part a
+/// inserted, plus the sum, over the parts b of λ with their multiplicities, of M of λ with one b
+/// replaced by a + b, in every number of variables. So M of λ with a part a inserted is a
+/// combination of p_a·M_λ and of M for partitions with fewer parts.
 ///
 /// Example: p_1 times the augmented m_(1), which is m_(1), is 2·m_(1,1) + m_(2).
 pub fn augmented_monomial_law()

@@ -1,7 +1,7 @@
 -- Products over the parts of a partition, factor by factor.
 --     IsBounded-one, -product        bounds of one factor and of the product
---     list-more, large-later         one more factor
---     list-times                     one more factor, as a polynomial
+--     list-more, -times              the list with one more factor, from coefficients or a polynomial
+--     large-factor, -later           if a product of lists is refused, the growth is 2^127 or more
 --     have_room, few_cells           room for the cells of a factor
 use Rattle.std.proofs.Common.{◌≡◌, true, ℕ, ◌+◌, ◌^◌, ◌<◌, ◌≤◌, List, [], ◌∷◌, map, length, sym, ap, subst, refl, inl, inr, arith, pos, append-nil}
 use Rattle.std.specs.Prelude.{◌≤ℤ◌, Result, IfOk}
@@ -59,7 +59,8 @@ IsBounded-product Elementary parts n = bounded-atom Basis.elementaries parts n
 IsBounded-product Complete parts n = bounded-atom Basis.completes parts n
 IsBounded-product PowerSum parts n = bounded-atom Basis.power_sums parts n
 
--- if the product of the list of k and that of the other parts is refused as too large, the growth is 2^127 or more
+-- A is a list of e_k (h_k, p_k) and B of the product of e_j (h_j, p_j) over the parts j, neither with a label twice; if the
+-- product A·B is refused as too large, the growth at the degree k + size parts, for m, is 2^127 or more
 pub large-factor : (family : Family) (k : ℕ) (parts : List ℕ) (A B : WholeTerms) → Once (labels A) → Once (labels B)
     → IsList A (polynomial_of family k) → IsList B (product_over (polynomial_of family) parts) → ProductIsLarge A B → 2 ^ 127 ≤ growth Basis.monomials (k + size parts)
 large-factor family k parts A B o p h i (ν, is, l) =
@@ -69,7 +70,8 @@ large-factor family k parts A B o p h i (ν, is, l) =
     (λ n. bounded_respects 1 (size parts) n (product_over (polynomial_of family) parts n) (in_monomials B n) (Same_sym (in_monomials B n) (product_over (polynomial_of family) parts n) (i n)) (IsBounded-product family parts n)) ν in
     omega (arith, ints)
 
--- if the product with the list of k on the right is refused as too large, the growth is 2^127 or more
+-- A is a list of e_k (h_k, p_k) and B of the product of e_j (h_j, p_j) over the parts j, neither with a label twice; if the
+-- product B·A is refused as too large, the growth at the degree k + size parts, for m, is 2^127 or more
 pub large-factor_right : (family : Family) (k : ℕ) (parts : List ℕ) (A B : WholeTerms) → Once (labels A) → Once (labels B)
     → IsList A (polynomial_of family k) → IsList B (product_over (polynomial_of family) parts) → ProductIsLarge B A → 2 ^ 127 ≤ growth Basis.monomials (k + size parts)
 large-factor_right family k parts A B o p h i (ν, is, l) =
@@ -91,20 +93,22 @@ pub no_parts : (parts : List ℕ) → length parts < 1 → [] ≡ parts
 no_parts [] h = refl
 no_parts (k ∷ rest) h = absurd (omega arith)
 
--- the list with the one term 1 is the product over no parts
+-- if `parts` is empty, a list equal to the one term 1 at the empty label is a list of the product over `parts`
 pub list-none : (family : Family) (parts : List ℕ) (W : WholeTerms) → length parts < 1 → Same W (([], pos 1) ∷ []) → IsList W (product_over (polynomial_of family) parts)
 list-none family parts W h e =
     subst (λ p. IsList W (product_over (polynomial_of family) p)) (no_parts parts h)
     (list_respects (([], pos 1) ∷ []) W (product_over (polynomial_of family) []) (Same_sym W (([], pos 1) ∷ []) e) (list-no_factor (polynomial_of family)))
 
--- the product of a list for k and one for other parts is a list for k ∷ parts
+-- if A is a list of e_k, h_k or p_k, and B one of the product over `parts`, a list with the coefficients of A·B is one of
+-- the product over k ∷ parts
 pub list-more : (family : Family) (k : ℕ) (A B : WholeTerms) (r : Result WholeTerms SumFault) → IsList A (polynomial_of family k)
     → IfOk r (λ C. (ν : List ℕ) → IsPartition ν → coefficient C ν ≡ product_coefficient A B ν)
     → (parts : List ℕ) → IsList B (product_over (polynomial_of family) parts)
     → IfOk r (λ C. IsList C (product_over (polynomial_of family) (k ∷ parts)))
 list-more family k A B r h e parts i = if_answered r e (λ C f. list-factor (polynomial_of family) k parts A B C h i f)
 
--- one more factor, as a polynomial
+-- B is a list of the product over `parts`; if C = e_k·B (h_k·B, p_k·B) whenever r is Ok C, then C is a list of the product over
+-- k ∷ parts whenever r is Ok C
 pub list-times : (family : Family) (k : ℕ) (B : WholeTerms) (r : Result WholeTerms SumFault)
     → IfOk r (λ C. (n : ℕ) → Same (in_monomials C n) (times (polynomial_of family k n) (in_monomials B n)))
     → (parts : List ℕ) → IsList B (product_over (polynomial_of family) parts)
@@ -130,11 +134,11 @@ have_room k terms is h t m =
 pub few_cells : (k : ℕ) (terms : WholeTerms) → k + greatest_size terms ≤ 512 → HaveLabels (λ μ. size μ + k ≤ 512) terms
 few_cells k terms h t m = let s = greatest_size-among terms t m in omega (arith, h)
 
--- e_k is one term, so no label occurs twice
+-- no label occurs twice in the list of e_k
 pub once-elementary : (k : ℕ) → Once (labels (elementary_terms k))
 once-elementary k = (λ m. m, tt)
 
--- no label occurs twice in h_k
+-- no label occurs twice in the list of h_k
 pub once-complete : (k : ℕ) → Once (labels (complete_terms k))
 once-complete k = subst Once (labels_ones (partitions_of k)) (Once-FallsLexicographically (partitions_of k) (FallsLexicographically-partitions_within k k k))
   where
@@ -149,10 +153,10 @@ large-complete k B (ν, is, l) = (ν, is, subst (λ A. pos (2 ^ 127) ≤ℤ prod
     absolute_ones [] = refl
     absolute_ones (ν ∷ shapes) = ap (λ l. (ν, pos 1) ∷ l) (absolute_ones shapes)
 
--- if W is the same list as V, and V is a list of e_k or h_k, so is W
+-- if W and V are equal as formal sums, and V is a list of e_k, h_k or p_k, so is W
 pub list-family : (family : Family) (k : ℕ) (W V : WholeTerms) → Same W V → IsList V (polynomial_of family k) → IsList W (polynomial_of family k)
 list-family family k W V e h = list_respects V W (polynomial_of family k) (Same_sym W V e) h
 
--- the labels of the list of k have at most k cells
+-- the labels of a list of e_k, h_k or p_k have at most k cells
 pub factor-sizes : (family : Family) (k : ℕ) (A : WholeTerms) → IsWholeTable A → IsList A (polynomial_of family k) → greatest_size A ≤ k
 factor-sizes family k A is h = greatest-within k A (AreWithin-list 1 k A (polynomial_of family k) is h (IsBounded-one family k))

@@ -1,7 +1,8 @@
--- Contents found part by part, with the ways to remove them from a list of terms.
---     counts-end, -missed, -step          the contents by their next part, if any
+-- Contents found part by part, each with the number of ways to remove horizontal strips of the sizes of its parts from the shapes
+-- of a list in s.
+--     counts-end, -missed, -step          the contents are counted by their next part, if any
 --     fresh-longer, limits-longer         properties of the chosen parts hold with one more part
---     list-counted, lists-counted         with all contents the list is the Schur polynomial, or the list of these
+--     list-counted, lists-counted         if all contents are counted, the list in m has the polynomial s_λ, or that of the list in s
 use Rattle.std.proofs.Common.{◌≡◌, ◌⊎◌, ℕ, ◌-◌, ◌≤◌, ◌<◌, min, List, [], ◌∷◌, ◌++◌, length, sym, ◌∙◌, ap, ap₂, subst, inl, inr, arith, append_assoc, append-nil, cond, drop, length-append, ℤ, pos, ◌+ℤ◌, ◌*ℤ◌, Bool, true, false, refl}
 use Rattle.std.proofs.Math.Nat.{eq-or-lt_of_le}
 use Rattle.std.proofs.lemmas.Bool.{cases_lt}
@@ -35,7 +36,7 @@ content-more : (largest more left : ℕ) (rest : List ℕ) → largest ≤ more 
 content-more largest more left [] h c = c
 content-more largest more left (a ∷ rest) h c = ((c.0.0, let l = c.0.1 in omega arith, c.0.2), c.1)
 
--- a content is a partition
+-- a content is a partition of at most `left` cells
 content-falls : (largest left : ℕ) (rest : List ℕ) → IsContent largest left rest → Falls rest × ArePositive rest × (size rest ≤ left)
 content-falls largest left [] c = (tt, tt, omega arith)
 content-falls largest left (a ∷ []) c = (tt, (c.0.0, tt), let l = c.0.2 in omega arith)
@@ -43,7 +44,7 @@ content-falls largest left (a ∷ b ∷ rest) c =
     let r = content-falls a (left - a) (b ∷ rest) c.1 in
     ((c.1.0.1, r.0), (c.0.0, r.1), let l = c.0.2 in let e = r.2 in omega arith)
 
--- a partition is a content
+-- a partition of at most `left` cells, whose parts are at most `largest`, is a content
 partition-content : (largest left : ℕ) (parts : List ℕ) → IsPartition parts → size parts ≤ left → Falls (largest ∷ parts) → IsContent largest left parts
 partition-content largest left [] p e f = tt
 partition-content largest left (a ∷ []) p e f = ((p.positive.0, f.0, omega arith), tt)
@@ -56,7 +57,7 @@ first_few : (parts : List ℕ) (d : ℕ) → size parts ≤ d → Falls parts �
 first_few [] d e f = tt
 first_few (a ∷ parts) d e f = (omega arith, f)
 
--- contents are within the limits
+-- contents of at most 512 cells are within the limits of partitions
 pub limits-content : (largest d : ℕ) (rest : List ℕ) → d ≤ 512 → IsContent largest d rest → IsWithinLimits rest
 limits-content largest d rest h c =
     let is = content-falls largest d rest c in
@@ -82,7 +83,7 @@ same_behind (x ∷ chosen) a b xs ys e = same_behind chosen a b xs ys (ap (drop 
 not_nothing : (chosen : List ℕ) (b : ℕ) (ys : List ℕ) → chosen ++ [] ≡ chosen ++ (b ∷ ys) → ⊥
 not_nothing chosen b ys e = let h = ap length e in omega (arith, length-append chosen [], length-append chosen (b ∷ ys))
 
--- a content with smaller parts differs from one that begins with this part
+-- a content with smaller parts differs from one that begins with `part`
 apart : (chosen rest behind : List ℕ) (part left : ℕ) → 1 ≤ part → IsContent (part - 1) left rest → chosen ++ (part ∷ behind) ≡ chosen ++ rest → ⊥
 apart chosen [] behind part left p c e = not_nothing chosen part behind (sym e)
 apart chosen (a ∷ rest) behind part left p c e = let h = same_behind chosen part a behind rest e in let l = c.0.1 in omega arith
@@ -97,12 +98,14 @@ pub fresh-longer : (terms : WholeTerms) (chosen longer : List ℕ) (part left : 
 fresh-longer terms chosen longer part left old list l p none so_far rest =
     ap (coefficient list) (ap (λ xs. xs ++ rest) l ∙ append_assoc chosen (part ∷ []) rest) ∙ none_here terms chosen part left old list p none so_far rest
 
--- the ways to remove this part and the rest are those to remove the rest after one strip
+-- the ways to remove `part` and then `rest` from the terms are the ways to remove `rest` after one strip of `part` cells
 ways : (part : ℕ) (terms next : WholeTerms) (rest : List ℕ) → Same next (strip_terms part terms)
     → pair next (λ shape. kostka shape rest) ≡ pair terms (λ shape. kostka shape (part ∷ rest))
 ways part terms next rest e = pair_determined next (strip_terms part terms) (λ shape. kostka shape rest) e ∙ pair-strip_terms part terms (λ shape. kostka shape rest)
 
--- if no shape is left after the strip of `part` cells, no content that continues with `part` is counted
+-- if no term is left after removing horizontal strips of `part` cells, the labels of `old` that begin with the chosen parts have
+-- the coefficient 0, and the contents with a next part of at most `part - 1` have been counted, then those with a next part of
+-- at most `part` have been counted
 pub counts-missed : (terms next : WholeTerms) (chosen : List ℕ) (part left : ℕ) (old list : WholeTerms) → 1 ≤ part → next ≡ [] → Same next (strip_terms part terms)
     → HasNoneBehind chosen old → CountsContents terms chosen (part - 1) left old list → CountsContents terms chosen part left old list
 counts-missed terms next chosen part left old list p nothing e none so_far = record {
@@ -123,8 +126,8 @@ counts-missed terms next chosen part left old list p nothing e none so_far = rec
             ∙ ap (λ b. pair terms (λ shape. kostka shape (b ∷ rest))) (sym s)
         by (inr l) = so_far.counted (a ∷ rest) ((c.0.0, omega arith, c.0.2), c.1)
 
--- the contents that go on with a part of at most `part - 1`, and then those that go on with `part`, are those that
--- go on with at most `part`
+-- if the contents that continue with a part of at most `part - 1` have been counted, and then those that continue with
+-- `part`, all contents that continue with a part of at most `part` have been counted
 pub counts-step : (terms next : WholeTerms) (chosen longer : List ℕ) (part left : ℕ) (old list new : WholeTerms) → longer ≡ chosen ++ part ∷ [] → 1 ≤ part → part ≤ left
     → Same next (strip_terms part terms) → CountsContents terms chosen (part - 1) left old list → CountsContents next longer part (left - part) list new
     → CountsContents terms chosen part left old new
@@ -165,7 +168,8 @@ nothing-more label number list z other =
     none true = refl
     none false = refl
 
--- with no further part the only content is the chosen one, with the number of ways to the empty shape
+-- if no further part is allowed, all contents are counted once the term with the label `chosen` is added, whose coefficient is
+-- that of the empty shape in `terms`
 pub counts-end : (terms : WholeTerms) (chosen nothing : List ℕ) (left : ℕ) (number : ℤ) (old new : WholeTerms) → IsWholeTable terms → nothing ≡ []
     → number ≡ found equal (pos 0) terms nothing → HasNoneBehind chosen old → Same new (old ++ (chosen, number) ∷ []) → CountsContents terms chosen 0 left old new
 counts-end terms chosen nothing left number old new is n f none more = record {
@@ -187,14 +191,14 @@ counts-end terms chosen nothing left number old new is n f none more = record {
         ∙ +ℤ_idl (number +ℤ pos 0) ∙ +ℤ_idr number
         ∙ f ∙ ap (found equal (pos 0) terms) n ∙ sym (coefficient_found terms is.distinct []) ∙ coefficient_pair terms []
 
--- if no label that begins with the chosen parts has a coefficient, the table does not have the chosen label
+-- if each label that begins with the chosen parts has the coefficient 0, looking up the label of the chosen parts gives 0
 pub fresh-found : (chosen label : List ℕ) (old : WholeTerms) → IsWholeTable old → label ≡ chosen → HasNoneBehind chosen old → found equal (pos 0) old label ≡ pos 0
 fresh-found chosen label old is l none =
     ap (found equal (pos 0) old) l ∙ sym (coefficient_found old is.distinct chosen) ∙ ap (coefficient old) (sym (append-nil chosen)) ∙ none []
 
 -- ---- all contents are counted
 
--- contents with parts above `left` do not occur, so all contents are counted
+-- if the contents with parts up to min(largest, left) are counted, so are those with parts up to `largest`, as no part is above `left`
 pub counts-all : (terms : WholeTerms) (chosen : List ℕ) (most largest left : ℕ) (old new : WholeTerms) → most ≡ min largest left → CountsContents terms chosen most left old new
     → CountsContents terms chosen largest left old new
 counts-all terms chosen most largest left old new e counts = record {
@@ -206,7 +210,8 @@ counts-all terms chosen most largest left old new e counts = record {
     less [] c = c
     less (a ∷ rest) c = ((c.0.0, let l = c.0.1 in let few = c.0.2 in omega arith, c.0.2), c.1)
 
--- the coefficient of a partition of at most d cells is its count, that of a greater one is 0
+-- if all contents of at most d cells have been counted, from an empty list, the coefficient of a partition κ of at most d cells
+-- is Σ c·K_(λ,κ) over the terms c·s_λ of W
 at_most : (d : ℕ) (W old list : WholeTerms) (κ : List ℕ) → old ≡ [] → CountsContents W [] d d old list → IsPartition κ → size κ ≤ d
     → coefficient list κ ≡ pair W (λ shape. kostka shape κ)
 at_most d W old list κ none counts is low = counts.counted κ (partition-content d d κ is low (first_few κ d low is.falls))
@@ -224,7 +229,8 @@ list-counted shape d terms old list p is_d none e counts = list-schur shape list
     at κ is (inr low) = at_most d terms old list κ none counts is low ∙ ways-alone shape terms e κ
     at κ is (inl high) = past d terms old list κ none counts high ∙ sym (kostka-other_size shape κ p (λ same_size. omega arith))
 
--- with all contents counted, the list is that of a list of Schur polynomials
+-- if all contents of at most d cells have been counted, from an empty list, and the labels λ have at most d cells, the list in m
+-- has the value Σ c·s_λ over the terms c·λ
 pub lists-counted : (d : ℕ) (terms old list : WholeTerms) → IsWholeTable terms → AreWithin d terms → old ≡ [] → CountsContents terms [] d d old list
     → IsList list (λ n. combined (λ label. schur label n) terms)
 lists-counted d terms old list is within none counts =

@@ -1,5 +1,5 @@
--- Lists and the expressions for which they are made.
---     converted-number .. -product    values
+-- Lists without fractions, and the expressions whose values they represent.
+--     converted-number .. -product    the list of a node is the value of its expression times the denominator
 --     large-negation .. -product      a refusal shows a weight of 2^127 or more
 use Rattle.std.proofs.Common.{◌≡◌, ℕ, ◌*◌, ◌/◌, ◌^◌, ◌≤◌, max, List, [], ◌∷◌, sym, ◌∙◌, ap₂, subst, inl, inr, arith, ℤ, pos, negsuc, neg_ℤ, ◌*ℤ◌}
 use Rattle.std.specs.Prelude.{nat_abs}
@@ -23,7 +23,7 @@ use Rattle.basis_expand.specs.Clearing.{ClearsTo}
 use Rattle.sparse_polys.specs.Large.{HasLarge, SumIsLarge, ProductIsLarge}
 use Rattle.sparse_polys.proofs.Bounds.{coefficient-within, past-weight}
 
--- ---- the list of a node is the cleared value of its expression
+-- ---- the list of a node is the value of its expression times the denominator
 
 pub converted-number : (a : ℕ) (c : Cleared) → c.den ≡ 1 → Same c.terms (([], pos a) ∷ []) → ClearsTo (number a) c
 converted-number a c d h = record {
@@ -52,7 +52,8 @@ converted-negation e c d i h k = record {
       (cleared-negation c.terms e k.value);
 }
 
--- the sum of the two multiples is the cleared value of the sum
+-- if l is the lcm of the denominators of e and f, p = l/den e and q = l/den f, then p times the list of e plus q times the list
+-- of f is the value of e + f times its denominator
 multiples : (e f : Tree) (c d : Cleared) (p q : ℤ) → p ≡ pos (lcm c.den d.den / c.den) → q ≡ pos (lcm c.den d.den / d.den) → ClearsTo e c → ClearsTo f d
     → IsCleared (plus (scale p c.terms) (scale q d.terms)) (sum e f)
 multiples e f c d p q i j h k =

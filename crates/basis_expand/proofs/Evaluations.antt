@@ -33,7 +33,8 @@ postorder-last waits node =
     ∙ sym (append_assoc (flat_map postorder waits) (flat_map postorder (operands node)) (node ∷ []))
     ∙ ap (λ (xs : List Expr). xs ++ node ∷ []) (sym (flat_map-append postorder waits (operands node)))
 
--- the nodes of a tree in postorder are those of the waiting expressions, followed by the visited nodes, the last one first
+-- the invariant of the loop of `postorder`: the nodes of the waiting expressions in postorder, followed by the visited
+-- nodes, the last one first, are the nodes of the tree in postorder
 module _ {A : Type 0} (now : A → Expr) where
   pub nodes-first : (waiting nodes : List A) (tree : A) → waiting ≡ tree ∷ [] → nodes ≡ []
       → flat_map postorder (map now waiting) ++ map now (reverse nodes) ≡ postorder (now tree)
@@ -70,7 +71,7 @@ module _ {A : Type 0} (now : A → Expr) where
 both : (P : Expr → Type 0) (left right e : Expr) → All P (postorder left) → All P (postorder right) → P e → All P (postorder left ++ (postorder right ++ e ∷ []))
 both P left right e h k p = All-append P (postorder left) (postorder right ++ e ∷ []) h (All-append P (postorder right) (e ∷ []) k (All-cons P e [] p (All-nil P)))
 
--- if a property of an expression holds for its operands, it holds for all nodes
+-- if the property P passes from each expression to its operands, it passes from an expression to all its nodes
 pub All-postorder : (P : Expr → Type 0) → ((e : Expr) → P e → All P (operands e)) → (e : Expr) → P e → All P (postorder e)
 All-postorder P on (Number num) h = All-cons P (Number num) [] h (All-nil P)
 All-postorder P on (Fraction num den) h = All-cons P (Fraction num den) [] h (All-nil P)
@@ -89,7 +90,8 @@ All-postorder P on (Product' p left q right) h =
     both P left right (Product' p left q right) (All-postorder P on left (All-head P left (right ∷ []) s)) (All-postorder P on right (All-head P right [] (All-tail P left (right ∷ []) s))) h
 
 module _ {V : Type 0} (R : Expr → V → Type 0) where
-  -- a node with two operands is evaluated after its operands
+  -- if `left` and `right` can be evaluated, and `nodes` over `below` and any value of `node`, then the nodes of `left`, those of
+  -- `right`, `node` and `nodes` can be evaluated, in this order, over `below`
   evaluates-two : (goal left right node : Expr) (nodes : List Expr) (below : List V) → operands node ≡ left ∷ right ∷ []
       → ((xs : List Expr) (at : List V) → ((v : V) → R left v → Evaluates R goal xs (at ++ v ∷ [])) → Evaluates R goal (postorder left ++ xs) at)
       → ((xs : List Expr) (at : List V) → ((v : V) → R right v → Evaluates R goal xs (at ++ v ∷ [])) → Evaluates R goal (postorder right ++ xs) at)
@@ -119,13 +121,13 @@ module _ {V : Type 0} (R : Expr → V → Type 0) where
   evaluates-part goal (Product' p left q right) nodes below h =
       evaluates-two goal left right (Product' p left q right) nodes below refl (evaluates-part goal left) (evaluates-part goal right) h
 
-  -- an expression is evaluated by its nodes
+  -- evaluating the nodes of an expression in postorder, from the empty stack, leaves only its value
   pub evaluates-all : (e : Expr) → Evaluates R e (postorder e) []
   evaluates-all e = subst (λ (xs : List Expr). Evaluates R e xs []) (append-nil (postorder e)) (evaluates-part e e [] [] (λ v h. (v ∷ [], refl, (h, tt))))
 
   -- ---- the values of operands, which are removed from the stack
 
-  -- the number of values is the number of expressions
+  -- a list of the values of expressions has one value for each expression
   length-values : (exprs : List Expr) (values : List V) → AreValues R exprs values → length values ≡ length exprs
   length-values [] [] h = refl
   length-values [] (v ∷ values) h = elim h [ ]
@@ -140,18 +142,18 @@ module _ {V : Type 0} (R : Expr → V → Type 0) where
         sym (drop-append_seam xs us) ∙ ap₂ (λ (i : ℕ) (zs : List V). drop i zs) k e ∙ drop-append_seam ys vs,
       )
 
-  -- the values below those of the expressions are determined
+  -- the values before those of the expressions are determined by all values and the expressions
   same-below : (exprs : List Expr) (a b values : List V) → EndsWith R exprs a values → EndsWith R exprs b values → a ≡ b
   same-below exprs a b values (us, e, h) (vs, f, k) =
       (same_ends a b us vs (length-values exprs us h ∙ sym (length-values exprs vs k)) (sym e ∙ f)).0
 
-  -- the removed values are those of the expressions
+  -- if the number of values removed at the end is the number of expressions, the removed values are those of the expressions
   pub values-taken : (exprs : List Expr) (below values after taken : List V) → length taken ≡ length exprs → EndsWith R exprs below values → values ≡ after ++ taken
       → AreValues R exprs taken
   values-taken exprs below values after taken n (given, is, are) e =
       subst (AreValues R exprs) (same_ends below after given taken (length-values exprs given are ∙ sym n) (sym is ∙ e)).1 are
 
-  -- evaluating a node replaces the values of its operands by its own
+  -- evaluating a node replaces the values of its operands by the value of the node
   pub evaluates-next : (goal node : Expr) (nodes : List Expr) (values after more : List V) (v : V) → Evaluates R goal (node ∷ nodes) values
       → EndsWith R (operands node) after values → R node v → more ≡ after ++ v ∷ [] → Evaluates R goal nodes more
   evaluates-next goal node nodes values after more v (below, ends, on) took h e =

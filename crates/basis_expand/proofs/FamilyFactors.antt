@@ -3,22 +3,18 @@ use Rattle.std.proofs.Common.{◌≡◌, ℕ, ◌+◌, ◌<◌, ◌≤◌, List,
 use Rattle.sym_model.specs.Bases.{product_over}
 use Rattle.sym_model.specs.Partition.{size, rows}
 use Rattle.sym_model.specs.Polynomial.{Poly, In, one, times}
-use Rattle.sym_model.specs.Schur.{schur}
 use Rattle.sym_model.specs.Expansion.{schurs, Fraction, Terms, basis_polynomial, IsExpansionOf}
-use Rattle.sym_model.proofs.Polynomials.{In_one, Same_sym}
-use Rattle.sym_model.proofs.PolynomialLaws.{times_assoc, one-times, times-one}
-use Rattle.monomial_laws.proofs.Powers.{In-product_over}
+use Rattle.sym_model.proofs.Polynomials.{Same_sym}
+use Rattle.sym_model.proofs.PolynomialLaws.{times_assoc, one-times}
 use Rattle.strip_rules.specs.Room.{HaveRoomForStrips}
 use Rattle.sparse_polys.specs.declared.family.Family.{Family}
 use Rattle.sparse_polys.specs.declared.family.Family.TheVariants.{Elementary, Complete, PowerSum}
 use Rattle.sparse_polys.specs.Families.{polynomial_of, basis_in}
-use Rattle.sparse_polys.proofs.Families.{In-family}
 use Rattle.sym_model.specs.Expression.{Tree, cleared_value, denominator}
 use Rattle.monomial_laws.proofs.Majorants.{In-cleared_value}
 use Rattle.basis_expand.proofs.AtomLists.{no_parts}
 use Rattle.basis_expand.specs.SchurLists.{StandsFor}
 use Rattle.basis_expand.specs.SchurLaws.{expansion_respects}
-use Rattle.strip_rules.proofs.BeadSums.{schur-nothing}
 
 -- the product over the parts of a partition is its polynomial in the basis of the family
 pub product_basis : (family : Family) (parts : List ℕ) (n : ℕ) → product_over (polynomial_of family) parts n ≡ basis_polynomial (basis_in family) parts n
@@ -26,15 +22,15 @@ product_basis Elementary parts n = refl
 product_basis Complete parts n = refl
 product_basis PowerSum parts n = refl
 
--- the product over no parts leaves the list
+-- a list that expands f also expands the product over no parts times f
 pub times-no_parts : (family : Family) (parts : List ℕ) (list : Terms (List ℕ)) → length parts < 1
     → (n : ℕ) (f : Poly) (q : ℕ) → In n f → IsExpansionOf schurs list n f q → IsExpansionOf schurs list n (times (product_over (polynomial_of family) parts n) f) q
 times-no_parts family parts list h n f q i e =
     subst (λ (p : List ℕ). IsExpansionOf schurs list n (times (product_over (polynomial_of family) p n) f) q) (no_parts parts h)
     (expansion_respects list n f (times (one n) f) q (Same_sym (times (one n) f) f (one-times n f i)) e)
 
--- if a list expands the product of the factor k, the factors `rest` and f, it expands the product of all these
--- factors and f
+-- if a list expands the polynomial of k times the product over `rest` times f, and `parts` is k ∷ rest, it expands the product over
+-- `parts` times f
 pub times-more_parts : (family : Family) (k : ℕ) (rest parts : List ℕ) (list : Terms (List ℕ)) → k ∷ rest ≡ parts
     → (n : ℕ) (f : Poly) (q : ℕ) → IsExpansionOf schurs list n (times (polynomial_of family k n) (times (product_over (polynomial_of family) rest n) f)) q
     → IsExpansionOf schurs list n (times (product_over (polynomial_of family) parts n) f) q
@@ -43,16 +39,6 @@ times-more_parts family k rest parts list split n f q e =
     (expansion_respects list n (times (polynomial_of family k n) (times (product_over (polynomial_of family) rest n) f)) (times (times (polynomial_of family k n) (product_over (polynomial_of family) rest n)) f) q
     (Same_sym (times (times (polynomial_of family k n) (product_over (polynomial_of family) rest n)) f) (times (polynomial_of family k n) (times (product_over (polynomial_of family) rest n) f))
     (times_assoc (polynomial_of family k n) (product_over (polynomial_of family) rest n) f)) e)
-
--- if the list has the factors multiplied to every f that `start` expands, and `start` expands s_() = 1, the list
--- expands the product of the factors
-pub product_alone : (family : Family) (parts : List ℕ) (start list : Terms (List ℕ)) (n : ℕ)
-    → ((f : Poly) (q : ℕ) → In n f → IsExpansionOf schurs start n f q → IsExpansionOf schurs list n (times (product_over (polynomial_of family) parts n) f) q)
-    → IsExpansionOf schurs start n (schur [] n) 1 → IsExpansionOf schurs list n (product_over (polynomial_of family) parts n) 1
-product_alone family parts start list n h e =
-    expansion_respects list n (times (product_over (polynomial_of family) parts n) (one n)) (product_over (polynomial_of family) parts n) 1
-    (times-one n (product_over (polynomial_of family) parts n) (In-product_over (polynomial_of family) parts n (λ k. In-family family n k)))
-    (h (one n) 1 (In_one n) (subst (λ g. IsExpansionOf schurs start n g 1) (schur-nothing n) e))
 
 -- ---- the labels after each factor have room for the next strip
 

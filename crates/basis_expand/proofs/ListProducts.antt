@@ -80,7 +80,7 @@ module _ (D E : ℕ) (left right : Terms (List ℕ)) (n : ℕ) (φ : List ℕ �
       ∙ pair_cleared D left n (λ α. pair (cleared (λ label. schur label n) E right) (λ β. φ (join α β)))
       ∙ pair_ext (over D left) (λ l. pair (schur l n) (λ α. pair (cleared (λ label. schur label n) E right) (λ β. φ (join α β)))) (λ l. row_at l E right n φ) row-times
 
--- the product of a·f and b·g is a·b times the product of f and g
+-- the product of a·f and b·g, paired with φ, is a·b times the product of f and g, paired with φ
 both_scaled : (a b : ℤ) (f g : Poly) (φ : List ℕ → ℤ) → pair (times (scale a f) (scale b g)) φ ≡ a *ℤ (b *ℤ pair (times f g) φ)
 both_scaled a b f g φ =
     sym (pair_determined (scale a (times f (scale b g))) (times (scale a f) (scale b g)) φ (scale-times a f (scale b g)))
@@ -120,7 +120,7 @@ product-list left right both sums n f g p q h k =
     ∙ both_scaled (pos D) (pos E) f g φ
     ∙ sym (product_assoc (pos D) (pos E) (pair (times f g) φ)))
 
--- ---- a number times an integer coefficient
+-- ---- a fraction c times an integer v, with its denominator cleared by a multiple q of that of c
 
 pub counted : (q : ℕ) (c p : Fraction) (v : ℤ) → InLowestTerms c → p ≡ fraction_product c (whole v) → 0 < q → c.1 ∣ q → (p.1 ∣ q) × (scaled q p ≡ scaled q c *ℤ v)
 counted q c p v lc e some cd =

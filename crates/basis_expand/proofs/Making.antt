@@ -1,4 +1,4 @@
--- The results of an evaluation, passed from one expression to another.
+-- Correct results of evaluating one expression, as correct results for another.
 use Rattle.std.proofs.Common.{◌≡◌, List, ◌++◌, length, subst, ap, Ok, Err}
 use Rattle.std.specs.Prelude.{Result, IsErr, IsErrAnd}
 use Rattle.calc_base.specs.declared.faults.SumFault.{SumFault}
@@ -10,7 +10,7 @@ use Rattle.basis_expand.proofs.Evaluations.{values-taken}
 use Rattle.basis_expand.specs.Values.{IsMade}
 
 module _ {V : Type 0} (S : Tree → V → Type 0) (H : Tree → Type 0) where
-  -- if the result r is the error `fault`, then r is correct for e, provided that H e holds if `fault` is `Large`
+  -- if the result r is the error `fault`, then r is correct for e, provided that e is heavy (H e) if `fault` is `Large`
   pub failed : (e : Tree) (r : Result V SumFault) (fault : SumFault) → IsErr r → IsErrAnd r (λ y. y ≡ fault) → (fault ≡ Large → H e) → IsMade S H e r
   failed e (Ok v) fault h k l = cc
   failed e (Err x) fault h k l = record { ok = tt; large = λ i. l (let j : x ≡ fault = k in let m = i in cc) }
@@ -19,22 +19,18 @@ module _ {V : Type 0} (S : Tree → V → Type 0) (H : Tree → Type 0) where
   pub done : (e : Tree) (v : V) → S e v → IsMade S H e (Ok v)
   done e v h = record { ok = h; large = λ i. cc }
 
-  -- `Large` is a correct result for an expression for which H holds
-  pub refused : (e : Tree) → H e → IsMade S H e (Err Large)
-  refused e h = record { ok = tt; large = λ i. h }
-
   -- if a part of an expression is refused, so is the expression
   pub failed-part : (e part : Tree) (r : Result V SumFault) (fault : SumFault) → IsErr r → IsErrAnd r (λ y. y ≡ fault) → IsMade S H part (Err fault) → (H part → H e)
       → IsMade S H e r
   failed-part e part r fault h k p w = failed e r fault h k (λ i. w (p.large (ap Err i)))
 
-  -- if what represents e represents f, and f is heavy if e is, then a correct result for e is one for f
+  -- if every value that represents e also represents f, and f is heavy if e is, then a correct result for e is one for f
   pub made-again : (e f : Tree) (r : Result V SumFault) → ((v : V) → S e v → S f v) → (H e → H f) → IsMade S H e r → IsMade S H f r
   made-again e f (Ok v) s h m = record { ok = s v m.ok; large = λ i. h (m.large i) }
   made-again e f (Err x) s h m = record { ok = tt; large = λ i. h (m.large i) }
 
 module _ {V : Type 0} (R : Expr → V → Type 0) where
-  -- the removed values are those of the operands
+  -- if as many values are removed from the end as the node has operands, they are the values of the operands
   pub operands-taken : (node : Expr) (exprs : List Expr) (below values after taken : List V) → operands node ≡ exprs → length taken ≡ length exprs
       → EndsWith R (operands node) below values → values ≡ after ++ taken → AreValues R exprs taken
   operands-taken node exprs below values after taken is n ends e =

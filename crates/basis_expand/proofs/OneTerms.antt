@@ -1,5 +1,5 @@
--- Lists of one term.
-use Rattle.std.proofs.Common.{◌≡◌, ◌+ℤ◌, ℕ, zero, suc, ◌+◌, ◌*◌, ◌/◌, ◌<◌, List, [], ◌∷◌, sym, ◌∙◌, ap, subst, refl, arith, ℤ, pos, ◌*ℤ◌}
+-- Lists of one term, and the polynomials that they expand.
+use Rattle.std.proofs.Common.{◌≡◌, ◌+ℤ◌, ℕ, zero, suc, ◌*◌, ◌/◌, ◌<◌, List, [], ◌∷◌, sym, ◌∙◌, ap, subst, refl, arith, ℤ, pos, ◌*ℤ◌}
 use Rattle.std.specs.Prelude.{nat_eq, nat_abs, ◌≤ℤ◌}
 use Rattle.std.specs.Int.{◌∣◌}
 use Rattle.std.proofs.lemmas.Int.{ints}

@@ -32,7 +32,7 @@ HasDenominators-plain (Difference' p left q right) h =
 HasDenominators-plain (Product' p left q right) h =
     let s = and_parts (has_no_signs left) (has_no_signs right) h in (HasDenominators-plain left s.0, HasDenominators-plain right s.1)
 
--- an expression without signs has the properties that a target needs
+-- an expression without signs, of degree at most `limit`, meets the conditions of `IsTaken`: positive denominators and that degree
 pub taken-plain : (limit : ℕ) (t : Expr) → IsTrue (has_no_signs t) → degree (tree_of t) ≤ limit → IsTaken limit (tree_of t)
 taken-plain limit t h k = record { plain = HasDenominators-plain t h; low = k }
 
@@ -45,7 +45,7 @@ taken-right limit e f h = let l = h.low in record { plain = h.plain.1; low = ome
 pub taken-sum : (limit : ℕ) (e f : Tree) → IsTaken limit (difference e f) → IsTaken limit (sum e (negation f))
 taken-sum limit e f h = record { plain = (h.plain.0, h.plain.1); low = h.low }
 
--- ---- numerator, denominator and degree of a part are at most those of the expression
+-- ---- numerator, denominator and degree of a subexpression are at most those of the expression
 
 pub within-itself : (e : Tree) → IsNoHeavier e e
 within-itself e = record { num = omega arith; den = omega arith; deg = omega arith }
@@ -71,7 +71,7 @@ within_right e f h k =
     let d = times-more (denominator f) r (complement_right e f h k) in
     record { num = omega arith; den = omega arith; deg = omega arith }
 
--- a difference has the weight of the sum
+-- the numerator, denominator and degree of e + f are at most those of e - f
 pub within-difference : (e f : Tree) → IsNoHeavier (sum e f) (difference e f)
 within-difference e f = record { num = omega arith; den = omega arith; deg = omega arith }
 
@@ -91,7 +91,7 @@ within_right_factor e f h k =
     let d = times-more (denominator f) (denominator e) (denominator-positive e h) in
     record { num = omega arith; den = omega arith; deg = omega arith }
 
--- ---- the parts of an expression have no signs and at most its weight
+-- ---- the subexpressions of an expression without signs have no signs, and at most its weight
 
 pub record IsPart (goal e : Expr) : Type 0 where
   pub plain : IsTrue (has_no_signs e)

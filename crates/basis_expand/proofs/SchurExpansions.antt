@@ -3,7 +3,7 @@
 --     pair_cleared          the cleared list and the sum over its terms
 --     expansion-tells       the sum over the terms of an expansion in s
 --     expansion-from        a list with this sum is an expansion
---     expansion_times       a list that is f times the value of a list
+--     expansion_times       a list that expands h times the value of a list
 use Rattle.std.proofs.Common.{◌≡◌, ℕ, ◌/◌, ◌<◌, List, [], ◌∷◌, sym, ◌∙◌, ap, ap₂, refl, inl, inr, ℤ, pos, ◌+ℤ◌, ◌*ℤ◌}
 use Rattle.std.specs.Int.{◌∣◌}
 use Rattle.std.proofs.Math.Nat.{div-mul_cancel}
@@ -51,7 +51,7 @@ two_denominators q r (t ∷ terms) n φ h k =
     (ap pos (div-mul_cancel t.1.1 (h t (inl refl)))) (ap pos (div-mul_cancel t.1.1 (k t (inl refl))))
     (two_denominators q r terms n φ (λ u m. h u (inr m)) (λ u m. k u (inr m)))
 
--- from D·X = q·Y and d·Y = D·f follows d·X = q·f
+-- if D > 0, D·X = q·Y and d·Y = D·f, then d·X = q·f
 pub through : (D q d : ℕ) (X Y f : ℤ) → 0 < D → pos D *ℤ X ≡ pos q *ℤ Y → pos d *ℤ Y ≡ pos D *ℤ f → pos d *ℤ X ≡ pos q *ℤ f
 through D q d X Y f some e h =
     product_cancel (pos d *ℤ X) (pos q *ℤ f) D some
@@ -92,7 +92,7 @@ expansion-from terms n f d q is common h =
           ∙ sym (pair_scale (pos (denominators terms)) f φ));
     }
 
--- if a/d = b/e, an expansion of a·g over d is one of b·g over e
+-- if d > 0 and a·e = b·d, an expansion of a·g over d is one of b·g over e
 pub expansion_rescaled : (terms : Terms (List ℕ)) (n : ℕ) (g : Poly) (a b : ℤ) (d e : ℕ) → 0 < d → a *ℤ pos e ≡ b *ℤ pos d
     → IsExpansionOf schurs terms n (scale a g) d → IsExpansionOf schurs terms n (scale b g) e
 expansion_rescaled terms n g a b d e some cross h = record {
@@ -124,7 +124,7 @@ expansion_rescaled terms n g a b d e some cross h = record {
         third : (D b d G : ℤ) → D *ℤ ((b *ℤ d) *ℤ G) ≡ (D *ℤ (b *ℤ G)) *ℤ d
         third D b d G = simp ring
 
--- f times the value of a list, for any polynomial that the list expands
+-- if `product` expands h times the value of the list, it expands h times f for each f that the list expands
 pub expansion_times : (list product : Terms (List ℕ)) (n : ℕ) (h f : Poly) (q : ℕ)
     → IsExpansionOf schurs product n (times h (value schurs list n)) (denominators list)
     → IsExpansionOf schurs list n f q → IsExpansionOf schurs product n (times h f) q

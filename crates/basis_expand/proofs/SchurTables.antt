@@ -1,5 +1,5 @@
--- Tables in Schur polynomials by their look-ups.
---     cleared_at            a common denominator clears each look-up
+-- Tables in Schur polynomials, described by the coefficients that look-ups return.
+--     cleared_at            a common denominator clears the coefficient that a look-up returns
 --     sum_at-found          the look-ups determine the sum over the terms
 --     ComeTo-one, -multiple the value of one Schur polynomial, and of a multiple of terms
 --     ComeTo-both           the value of two lists of terms
@@ -41,7 +41,7 @@ cleared_at q (t ∷ terms) h ν = by (pointwise nat_eq ν t.0) (cleared_at q ter
     by true r = h t (inl refl)
     by false r = r
 
--- a multiple of the denominators of all look-ups in a table is a common denominator
+-- a positive multiple of the denominators of all coefficients that look-ups in a table return is a common denominator
 pub common_of : (q : ℕ) (terms : Terms (List ℕ)) → 0 < q → IsFractionTable terms
     → AreCleared (pointwise nat_eq) q terms → IsCommonDenominator q terms
 common_of q terms some is h = record { positive = some; multiple = divides_terms q terms is (λ ν p. h ν) }

@@ -23,7 +23,7 @@ each-all_none : {A B : Type 0} (f : A → List B) (xs : List A) → ((x : A) →
 each-all_none f [] h = refl
 each-all_none f (x ∷ xs) h = ap (λ l. l ++ flat_map f xs) (h x (inl refl)) ∙ each-all_none f xs (λ y m. h y (inr m))
 
--- the shapes that remain after a strip with i of its k cells in the first row is removed
+-- the shapes that remain of row ∷ rest after a strip of k cells, i of them in the first row, is removed
 abbrev pub with_cells : ℕ → ℕ → List ℕ → ℕ → List (List ℕ)
 with_cells k row rest i = map (in_front (row - i)) (strips_off (k - i) rest)
 
@@ -60,7 +60,7 @@ rows-lower above rest a b p r h l =
 
 -- ---- listing the shapes, for each number of cells in the first row
 
--- the shapes below some rows
+-- the shapes made of the rows `above` and, below them, the rows of each of `shapes`
 abbrev pub under : List ℕ → List (List ℕ) → List (List ℕ)
 under above shapes = map (λ rest. without_last_zeros (above ++ rest)) shapes
 
@@ -78,7 +78,7 @@ under-row above b [] = refl
 under-row above b (rest ∷ shapes) =
     ap₂ ◌∷◌ (ap without_last_zeros (append_assoc above (b ∷ []) rest) ∙ row_between above b rest) (under-row above b shapes)
 
--- before the first number of cells no shape is listed
+-- before `start`, the first number of cells in the first row, no shape is listed
 pub strips-none : (k row next start : ℕ) (rest above : List ℕ) (shapes : List (List ℕ)) → next ≡ part rest 1 → start ≡ k - next → IsPartition rest
     → shapes ≡ shapes ++ under above (flat_map (with_cells k row rest) (below start))
 strips-none k row next start rest above shapes e s p =
@@ -103,7 +103,7 @@ strips-next k row i rest above longer given old new l h e =
     ∙ ap (under above) (ap (λ xs. before ++ xs) (sym (append-nil (with_cells k row rest i)))
     ∙ sym (ap (λ n. flat_map (with_cells k row rest) (below n)) more ∙ each-append (with_cells k row rest) (below i) (i ∷ []))))
 
--- all shapes are listed
+-- if i is one more than the greatest number of cells in the first row, all shapes are listed
 pub strips-all : (k row i : ℕ) (rest parts above : List ℕ) (given all : List (List ℕ)) → row ∷ rest ≡ parts → i ≡ suc (min k (row - part rest 1))
     → all ≡ given ++ under above (flat_map (with_cells k row rest) (below i)) → all ≡ given ++ under above (strips_off k parts)
 strips-all k row i rest parts above given all split last e =
@@ -122,7 +122,7 @@ pub rows-end : (above rows numbers : List ℕ) → length rows < 1 → numbers �
 rows-end above [] numbers h e r = subst AreRows (append-nil above ∙ sym e) r
 rows-end above (a ∷ rows) numbers h e r = absurd (omega arith)
 
--- with no rows above, the listed shapes are all
+-- if there are no rows above, the listed shapes are all shapes that remain
 pub under_none : (k : ℕ) (parts : List ℕ) (all : List (List ℕ)) → IsPartition parts → all ≡ [] ++ under [] (strips_off k parts) → all ≡ strips_off k parts
 under_none k parts all p e = e ∙ same (strips_off k parts) (λ rest m. (strips_off-tell k parts rest p m).partition)
   where

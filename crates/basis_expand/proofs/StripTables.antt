@@ -27,13 +27,13 @@ use Rattle.basis_expand.specs.Strips.{strips, strip_terms}
 use Rattle.basis_expand.proofs.AbsoluteTerms.{table-within}
 use lib.IntN.{+ℤ_idr}
 
--- for the table of one shape, the ways to remove strips are those of the shape
+-- in the table with only one shape, the number of ways to remove the content `rest` is that of the shape
 pub ways-alone : (shape : List ℕ) (terms : WholeTerms) → Same terms ((shape, pos 1) ∷ []) → (rest : List ℕ) → pair terms (λ left. kostka left rest) ≡ kostka shape rest
 ways-alone shape terms e rest =
     pair_determined terms ((shape, pos 1) ∷ []) (λ left. kostka left rest) e
     ∙ +ℤ_idr (pos 1 *ℤ kostka shape rest) ∙ one-product (kostka shape rest)
 
--- removing a strip from one shape, times c, is the list of the shapes left, each with the coefficient c
+-- c times the list of the shapes left when a strip of k cells is removed is the list of these shapes, each with the coefficient c
 pub scaled-strips : (c : ℤ) (k : ℕ) (shape : List ℕ) → scaled c (strips k shape) ≡ each_with c (strips_off k shape)
 scaled-strips c k shape = scaled_each c (pos 1) (strips_off k shape) ∙ ap (λ z. each_with z (strips_off k shape)) (product-one c)
 
@@ -56,8 +56,8 @@ absolute-strips k (t ∷ W) =
     (ap absolute (scaled-strips t.1 k t.0) ∙ absolute-each t.1 (strips_off k t.0) ∙ sym (scaled-strips (pos (nat_abs t.1)) k t.0))
     (absolute-strips k W)
 
--- with absolute values: the ways to take off a strip of k cells and then `rest` are the Kostka numbers of the
--- content k, rest
+-- with the absolute values of the coefficients: the number of ways to remove a strip of k cells and then the content `rest` is the number of ways to
+-- remove the content k, `rest`
 ways-stripped : (k : ℕ) (terms : WholeTerms) (rest : List ℕ)
     → pair (absolute (strip_terms k terms)) (λ left. kostka left rest) ≡ pair (absolute terms) (λ shape. kostka shape (k ∷ rest))
 ways-stripped k terms rest =
@@ -81,7 +81,8 @@ leads-next start content k old new h is e rest =
 
 -- ---- bounds for the coefficients and for the ways to remove strips
 
--- each shape can be removed cell by cell, so the ways to do so bound its coefficient
+-- the absolute values of the coefficients at the partition x add up to at most the number of ways to remove the shapes of W
+-- cell by cell
 mass-ways : (W : WholeTerms) (x : List ℕ) → HaveLabels IsPartition W
     → pos (mass_at equal x W) ≤ℤ pair (absolute W) (λ shape. kostka shape (replicate (size x) 1))
 mass-ways [] x h = omega (arith, ints)

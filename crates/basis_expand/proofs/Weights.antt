@@ -5,7 +5,7 @@ use Rattle.sym_model.specs.Expansion.{monomials, schurs}
 use Rattle.sym_model.specs.Expression.{Tree, degree, denominator}
 use Rattle.sym_model.specs.Weight.{growth, numerator, weight}
 
--- the growth into s is that into m
+-- the factor `growth` of the weight is the same for the targets m and s
 same_growth : (d : ℕ) → growth monomials d ≡ growth schurs d
 same_growth zero = omega arith
 same_growth (suc d) = omega arith

@@ -1,4 +1,4 @@
--- The contents of the horizontal strips that are removed from shapes, part by part.
+-- Contents: lists of the numbers of cells of the horizontal strips that are removed from a shape, one after another.
 use Rattle.std.specs.Prelude.{◌≡◌, ◌<◌, ◌≤◌, ◌≤ℤ◌, ◌-◌, ◌^◌, ℕ, pos, List, [], ◌∷◌, ◌++◌}
 use Rattle.sym_model.specs.Polynomial.{coefficient, pair}
 use Rattle.sym_model.specs.WholeTerms.{WholeTerms}
@@ -11,25 +11,25 @@ IsContent largest left [] = Unit {0}
 IsContent largest left (part ∷ rest) =
     ((0 < part) × (part ≤ largest) × (part ≤ left)) × IsContent part (left - part) rest
 
--- with the absolute values of the coefficients, the number of ways to remove any further content from these terms is
--- at most that to remove the content so far and the further one from the first list
+-- for every content `rest`, the sum of |c|·K(λ, rest) over the terms (λ, c) is at most the sum of |c|·K(λ, `content`
+-- and then `rest`) over the terms of `start`; K(λ, content) is the Kostka number
 abbrev pub Leads : WholeTerms → List ℕ → WholeTerms → Type 0
 Leads start content terms = (rest : List ℕ)
     → pair (absolute terms) (λ shape. kostka shape rest)
     ≤ℤ pair (absolute start) (λ shape. kostka shape (content ++ rest))
 
--- with the absolute values of the coefficients, the number of ways to remove some content from the terms is 2^127 or
--- more
+-- for some content, the sum of |c|·K(λ, content) over the terms (λ, c) is 2^127 or more; K is the Kostka number
 abbrev pub HasManyWays : WholeTerms → Type 0
 HasManyWays terms =
     (content : List ℕ) × (pos (2 ^ 127) ≤ℤ pair (absolute terms) (λ shape. kostka shape content))
 
--- no label that begins with the chosen parts has a coefficient
+-- each label that begins with the chosen parts has the coefficient 0 in the list
 abbrev pub HasNoneBehind : List ℕ → WholeTerms → Type 0
 HasNoneBehind chosen list = (rest : List ℕ) → coefficient list (chosen ++ rest) ≡ pos 0
 
--- each content that continues the chosen parts has gained the number of ways to remove the further parts from the
--- terms, and all other coefficients are unchanged
+-- each label of `chosen` and then a content `rest`, whose first part is at most `largest` and whose sum is at most
+-- `left`, has in `new` the coefficient Σ c·K(λ, rest) over the terms (λ, c), with K the Kostka number; every other
+-- label has the coefficient that it has in `old`
 pub record CountsContents (terms : WholeTerms) (chosen : List ℕ) (largest left : ℕ)
     (old new : WholeTerms) : Type 0 where
   pub counted : (rest : List ℕ) → IsContent largest left rest

@@ -1,4 +1,5 @@
--- The laws of the target m.
+-- Laws of conversions into m: what represents the sum of e and -f represents e - f, and the weight increases weakly
+-- with the numerator, the denominator and the degree.
 use Rattle.sym_model.specs.Expansion.{Basis}
 use Rattle.sym_model.specs.Expression.{Tree, negation, sum, difference, cleared_value}
 use Rattle.sym_model.proofs.Polynomials.{Same_trans}
@@ -9,7 +10,7 @@ use Rattle.basis_expand.specs.TargetLaws.{difference-value, heavy-more}
 use Rattle.basis_expand.specs.declared.cleared.Cleared.{Cleared}
 use Rattle.basis_expand.specs.Clearing.{ClearsTo, IsHeavyInMonomials}
 
--- a list for the sum with the negation is one for the difference
+-- a list that represents e + (-f) represents e - f
 pub clears-difference : (e f : Tree) (c : Cleared) → ClearsTo (sum e (negation f)) c
     → ClearsTo (difference e f) c
 clears-difference e f c h = record {

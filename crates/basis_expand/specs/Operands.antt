@@ -6,7 +6,7 @@ use Rattle.basis_expand.specs.declared.operand.Operand.{Operand}
 use Rattle.basis_expand.specs.declared.operand.Operand.TheVariants.{Atom, Expanded}
 use Rattle.basis_expand.specs.SchurLists.{StandsFor}
 
--- the expression is this atom, or this list is its expansion
+-- the expression is this atom, or this list is its expansion in Schur polynomials
 abbrev pub IsOperand : Tree → Operand → Type 0
 IsOperand e (Atom basis label) = e ≡ atom (basis_of basis) label
 IsOperand e (Expanded list) = StandsFor e list

@@ -1,4 +1,4 @@
--- The laws of the target s.
+-- Laws of conversions into s: what represents the sum of e and -f represents e - f.
 use Rattle.std.specs.Prelude.{ℕ, List, pos}
 use Rattle.sym_model.specs.Polynomial.{Poly, Same, scale}
 use Rattle.sym_model.specs.Expansion.{schurs, Terms, denominators, value, IsExpansionOf}

@@ -18,19 +18,20 @@ StandsFor e terms = (n : ℕ) → IsExpansionOf schurs terms n (cleared_value e 
 abbrev pub IsOneTerm : List ℕ → Fraction → Terms (List ℕ) → Type 0
 IsOneTerm label c terms = IsFractionTable terms × HasMoreAt (pointwise nat_eq) [] label c terms
 
--- q times the list, in n variables, paired with a test function of the exponents
+-- Σ c·φ(α) over the terms c·x^α of q times the list, read in Schur polynomials of n variables
 abbrev pub sum_at : ℕ → Terms (List ℕ) → ℕ → (List ℕ → ℤ) → ℤ
 sum_at q terms n φ = pair (over q terms) (λ label. pair (schur label n) φ)
 
--- the product of two Schur polynomials in n variables, paired with a test function
+-- Σ c·φ(α) over the terms c·x^α of the product of two Schur polynomials in n variables
 abbrev pub product_at : List ℕ → List ℕ → ℕ → (List ℕ → ℤ) → ℤ
 product_at left right n φ = pair (times (schur left n) (schur right n)) φ
 
--- the product of a Schur polynomial and e times a list, in n variables, paired with a test function
+-- Σ c·φ(α) over the terms c·x^α of s_left times e times the list `right`, read in Schur polynomials of n variables
 abbrev pub row_at : List ℕ → ℕ → Terms (List ℕ) → ℕ → (List ℕ → ℤ) → ℤ
 row_at left e right n φ = pair (over e right) (λ label. product_at left label n φ)
 
--- the product of d times a list and e times a list, in n variables, paired with a test function
+-- Σ c·φ(α) over the terms c·x^α of d times the list `left` times e times the list `right`, both read in Schur
+-- polynomials of n variables
 abbrev pub products_at : ℕ → Terms (List ℕ) → ℕ → Terms (List ℕ) → ℕ → (List ℕ → ℤ) → ℤ
 products_at d left e right n φ = pair (over d left) (λ label. row_at label e right n φ)
 

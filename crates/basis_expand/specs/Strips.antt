@@ -15,6 +15,6 @@ pub record AreRows (numbers : List ℕ) : Type 0 where
 abbrev pub strips : ℕ → List ℕ → WholeTerms
 strips k shape = each_with (pos 1) (strips_off k shape)
 
--- each shape of a list with a strip removed in all ways, with the shape's coefficient
+-- each shape of a list replaced by the ρ with shape/ρ a horizontal strip of k cells, with the shape's coefficient
 abbrev pub strip_terms : ℕ → WholeTerms → WholeTerms
 strip_terms k terms = replaced (strips k) terms

@@ -1,4 +1,5 @@
--- The laws that a target needs: differences as sums with a negation, and weights that grow.
+-- Laws of conversions into any basis: a difference has the value of the sum with the negation, and the weight
+-- increases weakly with the numerator, the denominator and the degree.
 use Rattle.std.proofs.Common.{◌≡◌, ◌≤◌, ◌*◌, ◌/◌, ◌^◌, ◌∙◌, ℕ, ap, sym, arith, ℤ, pos, neg_ℤ, ◌*ℤ◌}
 use Rattle.std.proofs.lemmas.Nat.{mul-le}
 use Rattle.sym_model.specs.Polynomial.{Poly, Same, coefficient, negate, scale}
@@ -31,7 +32,8 @@ difference-value e f n =
     (Same_refl (scale (pos q) (cleared_value e n)))
     (negated_multiple (pos r) (cleared_value f n))
 
--- if none of the three numbers of e is greater than that of f, the weight of e is at most that of f
+-- if the growth increases weakly with the degree, and the numerator, the denominator and the degree of e are at most those
+-- of f, the weight of e is at most that of f
 pub weight-more : (target : Basis) → ((d e : ℕ) → d ≤ e → growth target d ≤ growth target e) → (e f : Tree) → IsNoHeavier e f → weight target e ≤ weight target f
 weight-more target mono e f h =
     mul-le (numerator e * denominator e) (growth target (degree e)) (numerator f * denominator f) (growth target (degree f))

@@ -1,4 +1,4 @@
--- The results of a target for an expression.
+-- The results of converting an expression into a basis.
 use Rattle.std.specs.Prelude.{ℕ, ◌≤◌, Result, IfOk, IsErrOf}
 use Rattle.calc_base.specs.declared.faults.SumFault.{SumFault}
 use Rattle.calc_base.specs.declared.faults.SumFault.TheVariants.{Large}
@@ -6,7 +6,8 @@ use Rattle.sym_model.specs.Expression.{Tree, denominator, degree}
 use Rattle.sym_model.specs.Weight.{numerator}
 use Rattle.monomial_laws.specs.ExpressionTerms.{HasDenominators}
 
--- a value represents the expression, and `Large` is returned only if the expression is heavy
+-- a result without a fault is a value of the expression e by `Stands`, and `Large` is returned only if `Heavy` holds
+-- for e
 pub record IsMade {V : Type 0} (Stands : Tree → V → Type 0) (Heavy : Tree → Type 0) (e : Tree)
     (result : Result V SumFault) : Type 0 where
   pub ok : IfOk result (Stands e)
@@ -17,21 +18,22 @@ pub record IsTaken (limit : ℕ) (e : Tree) : Type 0 where
   pub plain : HasDenominators e
   pub low : degree e ≤ limit
 
--- the two values are those of expressions whose node is accepted
+-- the two values are those of expressions e and f such that `node e f` has positive denominators and a degree of at
+-- most the limit
 abbrev pub AreOperands : {V : Type 0} → (Tree → Tree → Tree) → ℕ → (Tree → V → Type 0) → V → V
     → Type 0
 AreOperands node limit Stands left right =
     (e f : Tree) × IsTaken limit (node e f) × Stands e left × Stands f right
 
--- the result is a value of the node of any two expressions with these values, or a refusal of it
+-- for any e and f with these values such that `node e f` has positive denominators and a degree of at most the
+-- limit, a result without a fault is a value of `node e f`, and `Large` is returned only if `Heavy` holds for it
 abbrev pub IsMadeOf : {V : Type 0} → (Tree → Tree → Tree) → ℕ → (Tree → V → Type 0)
     → (Tree → Type 0) → V → V → Result V SumFault → Type 0
 IsMadeOf node limit Stands Heavy left right result =
     (e f : Tree) → IsTaken limit (node e f) → Stands e left → Stands f right
     → IsMade Stands Heavy (node e f) result
 
--- of the three numbers that make a weight, none is greater for the first expression than for the
--- second
+-- none of the three numbers that make a weight (numerator, denominator and degree) is greater for e than for f
 pub record IsNoHeavier (e f : Tree) : Type 0 where
   pub num : numerator e ≤ numerator f
   pub den : denominator e ≤ denominator f

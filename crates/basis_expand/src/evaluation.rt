@@ -12,7 +12,7 @@ use calc_base::SumFault;
 use expression_reading::Expr;
 use std::alloc::Global;
 
-/// The value of the difference, as that of the sum with the negation.
+/// The value of a difference: that of the sum of `left` and the negation of `right`.
 fn subtracted<T: Target>(
     alloc: Global,
     target: &T,
@@ -29,7 +29,8 @@ fn subtracted<T: Target>(
     target.added(alloc, left, turned)
 }
 
-/// The value of a node, from the values of its operands, which are removed from the end.
+/// The value of a node, from the values of its operands, which are removed from the end of
+/// `values`.
 fn value_of<T: Target>(
     alloc: Global,
     target: &T,
@@ -65,8 +66,9 @@ fn value_of<T: Target>(
     }
 }
 
-/// The value of an expression. A tree may be deep: its nodes are evaluated one after another,
-/// on a stack of values.
+/// The value of an expression in the target. Its numbers and numerators must be at least 0, its
+/// denominators positive, and its degree at most the limit of the target. A tree may be deep: its
+/// nodes are evaluated one after another, on a stack of values.
 pub fn evaluate<T: Target>(alloc: Global, target: &T, tree: &Expr) -> Result<T::Value, SumFault>
     requires plain { IsTrue (has_no_signs tree.now) }
     requires low { degree (tree_of tree.now) ≤ T.limit }

@@ -17,7 +17,8 @@ use std::alloc::Global;
 
 /// The expansion of a formula in Schur polynomials, in every number of variables.
 ///
-/// Returns `Large` only if the weight for the target s is 2^127 or more.
+/// Returns `Large` only if N·D·d^d is 2^127 or more, with N and D the two numbers of
+/// `Formula::weight`, and d the degree of the formula (0^0 is 1).
 pub fn to_schur(alloc: Global, formula: &Formula) -> Result<Lin<Partition, Frac>, SumFault>
     ensures value { let e = tree_of formula.now.tree in
         IfOk result (λ list. (n : ℕ)
@@ -32,7 +33,7 @@ pub fn to_schur(alloc: Global, formula: &Formula) -> Result<Lin<Partition, Frac>
     }
 }
 
-/// The same expansion, computed from the expansion in m.
+/// The expansion of a formula in Schur polynomials, computed from that in m.
 fn through_monomials(alloc: Global, formula: &Formula) -> Result<Lin<Partition, Frac>, SumFault>
     ensures value { let e = tree_of formula.now.tree in
         IfOk result (λ list. (n : ℕ)

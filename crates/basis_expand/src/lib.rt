@@ -1,17 +1,16 @@
-//! Expressions expanded in m and in s: one walk over the nodes of an expression for every target,
-//! and those two targets.
+//! Expands expressions in m and in s. One function, `evaluate`, visits the nodes of an expression
+//! for every target, the basis of the result; this crate has the targets m and s.
 //!
 //! What is proved:
 //!
 //! `evaluate`: the value represents the expression, as the target defines it; `Large` is returned
-//! only if the expression is heavy, as the target defines it.
+//! only if the target says that the expression is heavy, that is, too large.
 //!
 //! `to_monomial`: the list is the expression in m, in every number of variables, bounded by the two
-//! numbers of its weight; `Large` is returned only if the weight is 2^127 or more.
-//! `atom_to_monomial`: the same for one partition in a basis. `schurs_to_monomials`: a list in s
-//! with integer coefficients as a list in m, in every number of variables; `Large` is returned only
-//! if, with the absolute values of the coefficients, some coefficient of the result is 2^127 or
-//! more.
+//! numbers of `Formula::weight`; `Large` is returned only if the weight for the target m
+//! (`Formula::weight_below`) is 2^127 or more. `schurs_to_monomials`: a list in s with integer
+//! coefficients as a list in m, in every number of variables; `Large` is returned only if, with the
+//! absolute values of the coefficients, some coefficient of the result is 2^127 or more.
 //!
 //! `to_schur`: the list is the expression in s, in every number of variables: a factor in h, e or p
 //! is multiplied by strips or rim hooks, other products are computed pair by pair by the
@@ -40,7 +39,7 @@ mod target;
 mod through_schurs;
 
 pub use evaluation::evaluate;
-pub use into_monomials::{atom_to_monomial, to_monomial};
+pub use into_monomials::to_monomial;
 pub use into_schurs::to_schur;
 pub use target::Target;
 pub use through_schurs::to_monomial_by_schurs;

@@ -1,4 +1,4 @@
-//! Partitions in the five bases, as lists of terms in m.
+//! The basis polynomials m_λ, e_λ, h_λ, p_λ and s_λ as lists of terms in m.
 ghost use Rattle.std.specs.Prelude.{◌≡◌, ℕ, ◌+◌, ◌<◌, ◌≤◌, ◌^◌, List, ◌∷◌, IfOk, IsErrOf};
 ghost use Rattle.sym_model.specs.Bases.{product_over};
 ghost use Rattle.sym_model.specs.Expansion.{basis_polynomial, monomials};
@@ -21,7 +21,8 @@ use sparse_polys::{Family, Whole, single, times_whole_in_m};
 use std::alloc::Global;
 use strip_rules::{times_complete, times_elementary};
 
-/// The product of the polynomial of a part and a list, which is the product over the other parts.
+/// The product of e_k, h_k or p_k, by the family, and the list `others`, which is the product over
+/// the other parts.
 fn times_factor(alloc: Global, family: Family, k: u16, others: &Whole) -> Result<Whole, SumFault>
     requires positive { 0 < k }
     requires low { k + greatest_size others.now ≤ 512 }
@@ -40,7 +41,8 @@ fn times_factor(alloc: Global, family: Family, k: u16, others: &Whole) -> Result
     }
 }
 
-/// The product over the parts, computed from the smallest part on.
+/// The product of e_k, h_k or p_k, by the family, over the parts k, as a list in m, computed from
+/// the smallest part on.
 fn over_parts(alloc: Global, family: Family, parts: &[u16]) -> Result<Whole, SumFault>
     requires positive { ArePositive parts.now }
     requires low { size parts.now ≤ 512 }
@@ -74,7 +76,7 @@ fn terms_of(alloc: Global, basis: Basis, label: &Partition) -> Result<Whole, Sum
     }
 }
 
-/// A basis polynomial as a cleared list.
+/// A basis polynomial as a list in m, with the denominator 1.
 pub(crate) fn atom(alloc: Global, basis: Basis, label: &Partition) -> Result<Cleared, SumFault>
     requires { size label.now ≤ 512 }
     ensures { IsConverted (atom (basis_of basis) label.now) result }

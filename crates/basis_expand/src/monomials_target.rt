@@ -1,7 +1,9 @@
 //! The target m: numbers, atoms, negations, sums and products as cleared lists.
-ghost use Rattle.std.specs.Prelude.{ℕ};
+ghost use Rattle.std.specs.Prelude.{ℕ, ◌^◌, ◌≤◌, IsErrOf};
+ghost use Rattle.sym_model.specs.Expression.{lcm, sum};
 ghost use Rattle.basis_expand.specs.Clearing.{ClearsTo, IsHeavyInMonomials};
 ghost use Rattle.basis_expand.specs.MonomialLaws.{clears-difference, heavy-whole};
+ghost use Rattle.basis_expand.specs.Values.{IsMadeOf};
 
 use crate::cleared::Cleared;
 use crate::monomial_atoms::atom;
@@ -40,8 +42,12 @@ impl Target for Monomials {
         Ok(Cleared { terms, den })
     }
 
-    /// The sum, over the least common denominator.
-    fn added(&self, _: Global, left: Cleared, right: Cleared) -> Result<Cleared, SumFault> {
+    /// The sum, over the least common denominator. If that is 2^127 or more, this returns `Large`
+    /// before any memory is allocated.
+    fn added(&self, _: Global, left: Cleared, right: Cleared) -> Result<Cleared, SumFault>
+        ensures made { IsMadeOf sum 20 ClearsTo IsHeavyInMonomials left right result }
+        ensures past { 2 ^ 127 ≤ lcm left.den right.den → IsErrOf result SumFault.Large }
+    {
         let common = common_denominator(left.den, right.den)?;
         let terms = sum_of(left.terms, common.from_left, right.terms, common.from_right)?;
         Ok(Cleared {

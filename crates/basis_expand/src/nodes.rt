@@ -1,5 +1,5 @@
-//! The nodes of an expression in the order in which they are evaluated, so that a deep tree takes
-//! no stack.
+//! The nodes of an expression in the order in which they are evaluated, so that a deep tree needs
+//! no deep recursion.
 ghost use Rattle.std.specs.Prelude.{◌≡◌, ◌<◌, ◌++◌, [], ◌∷◌, length, map, IfOk, OnOk};
 ghost use Rattle.basis_expand.specs.Postorder.{operands, postorder};
 
@@ -19,7 +19,8 @@ pub fn postorder(alloc: Global, tree: &Expr) -> Result<Vec<&Expr>, NoMemory>
         nodes.push(node)?;
         push_operands(&mut waiting, node)?;
     }
-    // Each node is listed before its operands, and of these the right one first.
+    // Up to here each node is listed before its operands, the right operand first; reversed, this
+    // is the postorder.
     nodes.reverse();
     Ok(nodes)
 }

@@ -1,4 +1,4 @@
-//! The values of the parts of an expression.
+//! The values of subexpressions: atoms or lists.
 use calc_base::Basis;
 use coeff_rings::Frac;
 use linear_combinations::Lin;

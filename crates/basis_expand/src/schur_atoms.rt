@@ -1,6 +1,6 @@
 //! Numbers and atoms as lists of terms in Schur polynomials.
 ghost use Rattle.std.specs.Prelude.{◌<◌, ◌≤◌, ◌^◌, ◌≤ℤ◌, ℕ, pos, nat_abs, IfOk};
-ghost use Rattle.sym_model.specs.Bases.{monomial, power_sum_of, product_over};
+ghost use Rattle.sym_model.specs.Bases.{monomial};
 ghost use Rattle.sym_model.specs.Expansion.{schurs, basis_polynomial, IsExpansionOf};
 ghost use Rattle.sym_model.specs.Expression.{fraction};
 ghost use Rattle.sym_model.specs.Partition.{size};
@@ -10,15 +10,13 @@ ghost use Rattle.partitions.specs.Limits.{IsWithinLimits};
 ghost use Rattle.expression_reading.specs.Trees.{basis_of};
 ghost use Rattle.basis_expand.specs.SchurLists.{IsOneTerm, StandsFor};
 
-use crate::strips_added::times_parts;
 use basis_change::to_basis;
 use calc_base::{Basis, SumFault, Weight};
 use coeff_rings::{Frac, Int, Scalar, quotient_of};
 use linear_combinations::Lin;
 use partitions::Partition;
-use sparse_polys::Family;
 use std::alloc::Global;
-use strip_rules::{columns_product, rows_product};
+use strip_rules::{columns_product, hooks_product, rows_product};
 
 /// The list with one term; it is empty if the coefficient is 0.
 fn single(alloc: Global, parts: &[u16], c: Frac) -> Result<Lin<Partition, Frac>, SumFault>
@@ -59,16 +57,6 @@ fn from_schur(alloc: Global, label: &Partition) -> Result<Lin<Partition, Frac>, 
     single(alloc, label.parts(), Frac::one())
 }
 
-/// The product of p_k over the parts k of a partition.
-fn from_power_sums(alloc: Global, label: &Partition) -> Result<Lin<Partition, Frac>, SumFault>
-    requires { size label.now ≤ 20 }
-    ensures { IfOk result (λ list. (n : ℕ)
-        → IsExpansionOf schurs list n (product_over power_sum_of label.now n) 1) }
-{
-    let one = single(alloc, &[], Frac::one())?;
-    times_parts(alloc, Family::PowerSum, one, label.parts())
-}
-
 /// A basis polynomial in Schur polynomials.
 pub(crate) fn atom(
     alloc: Global,
@@ -83,7 +71,7 @@ pub(crate) fn atom(
         Basis::M => from_monomial(alloc, label),
         Basis::E => columns_product(alloc, label),
         Basis::H => rows_product(alloc, label),
-        Basis::P => from_power_sums(alloc, label),
+        Basis::P => hooks_product(alloc, label),
         Basis::S => from_schur(alloc, label),
     }
 }

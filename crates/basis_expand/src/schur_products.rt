@@ -19,7 +19,7 @@ use lr_product::mult;
 use partitions::Partition;
 use std::alloc::Global;
 
-/// The greatest numbers of cells and of rows of two labels that are multiplied.
+/// The most cells that two labels together can have if they are multiplied; and the most rows.
 const MAX_CELLS: u16 = 4096;
 
 const MAX_ROWS: u16 = 512;

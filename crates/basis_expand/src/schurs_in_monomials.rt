@@ -45,8 +45,8 @@ fn with_part(alloc: Global, parts: &[u16], part: u16) -> Result<Vec<u16>, NoMemo
     Ok(longer)
 }
 
-/// Adds the label of the chosen parts, with the number of ways to the empty shape, if this is not
-/// 0.
+/// Adds the chosen parts as a label, with the number of ways to remove all cells, which is the
+/// coefficient of the empty shape in `terms`. A coefficient 0 is left out.
 fn add_content(
     alloc: Global,
     terms: &Whole,
@@ -71,9 +71,10 @@ fn add_content(
     list.add_term(label, ways)
 }
 
-/// Adds each content that begins with the chosen parts and continues with parts of at most `left`
-/// cells together, each at most `largest`, with the number of ways to remove strips of these
-/// further parts from the terms.
+/// A content is the list of the numbers of cells of the strips that are removed. Adds each
+/// content that begins with the chosen parts and continues with parts of at most `left` cells
+/// together, each at most `largest`, with the number of ways to remove strips of these further
+/// parts from the terms.
 ///
 /// The terms are what remains of the shapes of a list after strips of the chosen parts are removed.
 /// So contents that begin alike share these steps, and a content is dropped as soon as no shape is
@@ -110,7 +111,7 @@ fn add_contents(
     Ok(())
 }
 
-/// s_λ in m: each partition of its size with its Kostka number.
+/// s_λ in m, for λ = `label`: each partition κ of the size of λ with the Kostka number K(λ,κ).
 pub(crate) fn schur(alloc: Global, label: &Partition) -> Result<Whole, SumFault>
     requires { size label.now ≤ 512 }
     ensures value { IfOk result (λ list. IsList list (schur label.now)) }

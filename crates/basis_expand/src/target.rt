@@ -72,6 +72,7 @@ pub trait Target {
     ghost differs: { (t : Self) (e f : Tree) (v : Self.Value) → stands t (sum e (negation f)) v
         → stands t (difference e f) v };
 
-    /// An expression with a weight of at least that of a heavy one is heavy.
+    /// If e is heavy, and the numerator, the denominator and the degree of f are at least those of
+    /// e, then f is heavy.
     ghost grows: { (t : Self) (e f : Tree) → IsNoHeavier e f → heavy t e → heavy t f };
 }

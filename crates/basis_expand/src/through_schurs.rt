@@ -23,7 +23,7 @@ use std::alloc::Global;
 /// The greatest number of cells of a label that is changed into m.
 const MAX_CELLS: u16 = 512;
 
-/// The least common denominator of the coefficients. Refused if it is 2^127 or more.
+/// The least common denominator of the coefficients. Returns an error if it is 2^127 or more.
 fn denominator_of_all(list: &Lin<Partition, Frac>) -> Result<u128, Large>
     ensures { IfOk result (λ den. (den < 2 ^ 127) × IsCommonDenominator den list.now) }
 {
@@ -66,9 +66,9 @@ fn by_schurs(alloc: Global, formula: &Formula) -> Result<Lin<Partition, Frac>, S
     in_monomials(alloc, &list)
 }
 
-/// Whether the way by Schur polynomials is faster; either way gives the same expansion. It is if
-/// each atom is in e, h or s, and one is in s, or one in h beside a product: a partition in e or h
-/// is expanded in m part by part, and products of such lists are found faster in s.
+/// Whether the way by Schur polynomials is faster; both ways give the same expansion. It is faster
+/// if each atom is in e, h or s, and either some atom is in s, or some atom is in h and a product
+/// occurs: a partition in e or h is expanded in m part by part, and products are faster in s.
 fn goes_by_schurs(alloc: Global, tree: &Expr) -> Result<bool, NoMemory> {
     let mut schur = false;
     let mut complete = false;
@@ -89,7 +89,8 @@ fn goes_by_schurs(alloc: Global, tree: &Expr) -> Result<bool, NoMemory> {
 /// The expansion of a formula in m, in every number of variables: by way of Schur polynomials if
 /// that is faster, otherwise by `to_monomial`.
 ///
-/// Returns `Large` only if the weight for the target m is 2^127 or more.
+/// Returns `Large` only if N·D·d^d is 2^127 or more, with N and D the two numbers of
+/// `Formula::weight`, and d the degree of the formula (0^0 is 1).
 pub fn to_monomial_by_schurs(
     alloc: Global,
     formula: &Formula,

@@ -1,4 +1,4 @@
--- The next line, piece by piece.
+-- The next line of a source, which is read piece by piece.
 use Rattle.std.proofs.Common.{◌≡◌, ℕ, ◌+◌, ◌≤◌, Bool, true, false, List, [], ◌∷◌, ◌++◌, append_assoc, length, length-append, refl, sym, ap, ◌∙◌, subst, arith, Option, Some, None, inl, inr}
 use Rattle.std.specs.Prelude.{IfSome}
 use Rattle.std.specs.Io.KnownBytes.{IsAtEnd, Keeps}
@@ -23,7 +23,7 @@ took_nothing (Some rest) = refl
 pub took_more : (before between now : Option (List ℕ)) (first more : List ℕ) → Took before between first → Took between now more → Took before now (first ++ more)
 took_more before between now first more h k = Consumes-trans before between now first more h k
 
--- ---- the first part of a line was read, and the line goes on
+-- ---- the first bytes of a line, `text`, were read, and `pending` are the bytes that were read after them
 
 pub record ReadsSo (before now : SourceSeen) (first pending kept : List ℕ) (is_long : Bool) : Type 0 where
   pub taken : List ℕ

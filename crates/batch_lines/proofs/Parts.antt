@@ -16,7 +16,7 @@ some_feed [] at h is none = absurd (omega (arith, h))
 some_feed (b ∷ bytes) zero h is none = none.0 is
 some_feed (b ∷ bytes) (suc at) h is none = some_feed bytes at (omega (arith, h)) is none.1
 
--- if the place of a line feed was found, the bytes have one
+-- if a search for a line feed found a place, the bytes have a line feed
 pub found_feed : (bytes : List ℕ) (found : Option ℕ)
     → MatchOption found (HasNoFeed bytes) (λ at. (at < length bytes) × HasNoFeed (take at bytes) × (slice_index bytes at ≡ 10))
     → is_some found ≡ true → HasNoFeed bytes → ⊥

@@ -6,12 +6,12 @@ use Rattle.calc_base.specs.Puts.{Puts}
 use Rattle.calc_base.specs.Sink.{SinkSeen}
 use Rattle.batch_lines.specs.declared.progress.Progress.{Progress}
 
--- the text before a block: empty before the first one, and the line `--` before the others
+-- the text before a block: empty before the first one, and the line `--` before each later one
 abbrev pub separator : Bool → List ℕ
 separator true = []
 separator false = codes "--\n"
 
--- whether the status says that the line was not refused
+-- whether the status is `Done`
 abbrev pub is_done_status : Status → Bool
 is_done_status status.Done = true
 is_done_status status.SomeRefused = false

@@ -11,12 +11,12 @@ pub record IsHeard (text kept : List ℕ) (is_long : Bool) : Type 0 where
   pub whole : is_long ≡ false → kept ≡ text
   pub little : length kept ≤ most_bytes
 
--- `part` is what was read of the bytes `before`: those up to a line feed, which is dropped, or all of them
+-- `part` are the bytes that were read of `before`: those up to a line feed, which is dropped, or all of them
 abbrev pub IsTaken : List ℕ → List ℕ → List ℕ → Bool → Type 0
 IsTaken part before now true = before ≡ part ++ 10 ∷ now
 IsTaken part before now false = (before ≡ part) × (now ≡ [])
 
--- a part of a line was read after the text
+-- after `text`, a further part of the line was read from the bytes `before`: `now` is left of them, and `kept` are the bytes kept
 pub record Hears (text before now kept : List ℕ) (h : Heard) : Type 0 where
   pub part : List ℕ
   pub no_feed : HasNoFeed part

@@ -26,6 +26,7 @@ parts_drawn t x = record {
 abbrev pub numbers_of : Parts → List ℕ
 numbers_of p = p.first ∷ p.second ∷ p.third ∷ []
 
--- the letter plus 1 if the other letter is not greater, otherwise the letter: the numbering with `other` left out
+-- the letter with the index `letter` among the letters other than `other`: one more than `letter` if `other` is not greater
+-- than `letter`
 abbrev pub past : ℕ → ℕ → ℕ
 past letter other = cond (nat_le other letter) (letter + 1) letter

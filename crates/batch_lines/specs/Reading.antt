@@ -26,7 +26,7 @@ pub record Reading : Type 0 where
 abbrev pub Took : Option (List ℕ) → Option (List ℕ) → List ℕ → Type 0
 Took before now taken = Consumes before now taken
 
--- the bytes are the text of a line, a line feed, and what follows it
+-- the bytes `all` are the text of a line, a line feed, and the bytes `pending` after it
 abbrev pub EndsAtFeed : List ℕ → List ℕ → List ℕ → Type 0
 EndsAtFeed all text pending = all ≡ text ++ 10 ∷ pending
 
@@ -78,7 +78,7 @@ next_at_end line true = TooLong
 next_at_end [] false = End
 next_at_end (byte ∷ line) false = Line
 
--- the count of faults is one more after `SourceFault`, and the same otherwise
+-- the count of faults is one more after `SourceFault`, and unchanged otherwise
 abbrev pub CountsLine : (before now : ℕ) → Result Next LineFault → Type 0
 CountsLine before now (Ok next) = now ≡ before
 CountsLine before now (Err SourceFault) = Rose before now
@@ -90,7 +90,8 @@ pub record TookPart (before now : Option (List ℕ)) (pending : List ℕ) : Type
   pub took : Took before now taken
   pub no_feed : HasNoFeed (pending ++ taken)
 
--- if the source failed, it had not ended before, and what was taken has no line feed
+-- if the source failed, it had not ended before, and neither the pending bytes nor those that were taken from it
+-- have a line feed
 abbrev pub CutsLine : (before now : Option (List ℕ)) → List ℕ → (had_ended : Bool)
     → Result Next LineFault → Type 0
 CutsLine before now pending had_ended (Ok next) = Unit {0}

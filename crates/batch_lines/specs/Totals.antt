@@ -1,4 +1,4 @@
--- The sums over blocks.
+-- The numbers of terms and bytes, added up over the blocks of a workload.
 use Rattle.std.specs.Prelude.{ℕ, ◌+◌, ◌*◌, ◌^◌, ◌≤◌, List, ◌++◌, map, length, codes, decimal}
 use Rattle.sym_model.specs.Partition.{size}
 use Rattle.sym_model.specs.Workload.{terms_in}
@@ -23,7 +23,7 @@ pub record AreSmall (s : Sums) : Type 0 where
   pub terms : s.terms ≤ s.lines * 2 ^ 64
   pub bytes : s.bytes ≤ s.lines * 2 ^ 64
 
--- the text of sums
+-- the text of the sums: a line for each of the three numbers
 abbrev pub sums_text : Sums → List ℕ
 sums_text s =
     codes "lines "

@@ -1,4 +1,4 @@
-//! The draws of the generator.
+//! Draws of the pseudo-random generator whose lines the command `work` runs.
 
 ghost use Rattle.std.specs.Prelude.{◌≡◌, ◌<◌, ◌≤◌, ◌%◌};
 ghost use Rattle.sym_model.specs.Workload.{draw as next_state, after_draws};
@@ -35,7 +35,7 @@ pub(crate) fn draw_below(state: &mut u32, modulus: u8) -> u8
     (draw(state) % u32::from(modulus)) as u8
 }
 
-/// Three parts from three draws modulo a number of at most 4: a + b + c, b + c and c.
+/// Three parts from three draws a, b and c modulo a number of at most 4: a + b + c, b + c and c.
 pub(crate) fn draw_parts(state: &mut u32, modulus: u8) -> Parts
     requires within { state.old ≤ 65536 }
     requires some { 0 < modulus }

@@ -17,8 +17,8 @@ pub(crate) struct Heard {
     pub has_ended: bool,
 }
 
-/// Appends bytes to a line, and returns whether the line is too long. Fails only if memory runs
-/// out.
+/// Appends bytes to a line, unless it has or would then have more than 4,096 bytes, and returns
+/// whether it does. Fails only if memory runs out.
 fn add(line: &mut Vec<u8>, is_long: bool, bytes: &[u8]) -> Result<bool, NoMemory>
     ensures { (text : List ℕ) → IsHeard text line.old.items is_long
         → IfOk result (λ long. IsHeard (text ++ bytes.now) line.new.items long) }
@@ -30,7 +30,8 @@ fn add(line: &mut Vec<u8>, is_long: bool, bytes: &[u8]) -> Result<bool, NoMemory
     Ok(false)
 }
 
-/// Reads the bytes of the piece up to the end of the line.
+/// Reads the bytes that were taken from the source up to the end of the line, and appends them to
+/// the line unless it is too long.
 pub(crate) fn hear(
     pieces: &mut Pieces,
     line: &mut Vec<u8>,

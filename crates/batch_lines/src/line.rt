@@ -1,4 +1,4 @@
-//! One line.
+//! One line of a workload.
 
 ghost use Rattle.std.specs.Prelude.{◌≡◌, ◌≤◌, ◌<◌, ◌++◌, [], length};
 ghost use Rattle.sym_model.specs.Workload.{work_line as line_from, after_line, after_draws};
@@ -9,8 +9,8 @@ use crate::LineBuf;
 use crate::draws::{draw_below, draw_parts};
 use crate::numbers::{put_list, put_partition, put_permutation};
 
-/// Writes the line that begins at the state, and advances the state to the next line. No memory is
-/// allocated.
+/// Writes to `out` the line that the generator gives from `state` on, and advances the state, which
+/// is at most 65,536, to the next line. No memory is allocated.
 ///
 /// A draw modulo 5 picks the command, `mult`, `skew`, `coprod`, `schubmult` or `expand p m[..]`,
 /// and further draws its partitions, of at most three parts, or its permutations of four letters.
@@ -42,7 +42,7 @@ pub fn work_line(state: &mut u32, out: &mut LineBuf)
     }
 }
 
-/// Writes a name, a partition, a sign and another partition.
+/// Writes `name`, a partition drawn modulo `modulus`, `sign`, and a partition drawn modulo `other`.
 fn put_pair(name: &[u8], modulus: u8, sign: &[u8], other: u8, state: &mut u32, out: &mut LineBuf)
     requires within { state.old ≤ 65536 }
     requires some { 0 < modulus }

@@ -59,7 +59,7 @@ impl LineBuf {
         self.len = end;
     }
 
-    /// Appends a digit.
+    /// Appends a digit, for which there must be room.
     pub(crate) fn put_digit(&mut self, digit: u8)
         requires room { length self.old < 64 }
         requires one { digit < 10 }
@@ -70,7 +70,7 @@ impl LineBuf {
         self.put(buffer.format(digit).as_bytes());
     }
 
-    /// Appends a space and a digit.
+    /// Appends a space and a digit, for which there must be room.
     pub(crate) fn put_word(&mut self, digit: u8)
         requires room { length self.old ≤ 62 }
         requires one { digit < 10 }

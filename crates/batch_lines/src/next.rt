@@ -10,7 +10,7 @@ use thiserror::Error;
 pub enum Next {
     /// A line of at most 4,096 bytes.
     Line,
-    /// A line of more bytes.
+    /// A line of more than 4,096 bytes.
     TooLong,
     /// No line: the source has ended.
     End,

@@ -106,8 +106,8 @@ fn put_letters(first: u8, second: u8, third: u8, out: &mut LineBuf)
     out.put_word(10 - a - b - c);
 }
 
-/// The letter plus 1 if the other letter is not greater, otherwise the letter: the numbering with
-/// `other` left out.
+/// The letter with the index `letter` among the letters other than `other`: one more than `letter`
+/// if `other` is not greater than `letter`.
 fn past_one(letter: u8, other: u8) -> u8
     requires { letter ≤ 4 }
     ensures { result ≡ past letter other }

@@ -4,7 +4,7 @@ ghost use Rattle.batch_lines.specs.Ends.{is_done_status, progress_after, end_sta
 
 use calc_base::Status;
 
-/// The progress of a batch.
+/// The state of a batch: whether a block has been written, and whether a line has been refused.
 #[derive(Clone, Copy, Debug)]
 pub struct Progress {
     /// Whether the next block is the first one.

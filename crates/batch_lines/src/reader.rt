@@ -68,9 +68,9 @@ impl LineReader {
     /// line.
     ///
     /// A line of more than 4,096 bytes is skipped as `TooLong`, and its further bytes are not kept.
-    /// It returns `SourceFault` if and only if a call of the source failed; the bytes that were
-    /// taken then have no line feed. After an error bytes may be lost, and the reader must not be
-    /// used. After the source has ended it is not called, and the result is `End`. The clause
+    /// The call returns `SourceFault` if and only if a call of the source failed; the bytes that
+    /// were taken then have no line feed. After an error bytes may be lost, and the reader must not
+    /// be used. After the source has ended it is not called, and the result is `End`. The clause
     /// `reads` assumes that a source that had ended before has nothing left.
     pub fn next<S: Source>(&mut self, source: &mut S) -> Result<Next, LineFault>
         ensures reads { IsAtEnd self.old.has_ended (S.seen source.old).left

@@ -1,9 +1,9 @@
 -- The end of the reflections of a strictly decreasing list depends only on the remainders and the sum.
 --     alcove_reduced      the result of the reflections
---     alcove_found        an end that is found in a window is the result, with the sign of sorting
-use Rattle.std.proofs.Common.{◌↔◌, ◌≡◌, ℕ, zero, suc, ◌+◌, ◌-◌, ◌%◌, ◌<◌, ◌≤◌, ◌⊎◌, inl, inr, Bool, true, false, ◌==◌, ◌||◌, cond, List, [], ◌∷◌, ◌++◌, map, refl, sym, ◌∙◌, ap, ap₂, subst, arith, ℤ, ◌*ℤ◌, pos, Option, Some, None}
-use Rattle.std.proofs.lemmas.Bool.{cases_lt, cases_eq, cases_Bool, eq-eqb, eqb-true, or_cases, or_right as or_either}
-use Rattle.std.proofs.Math.Nat.{add-mod_right, mod-mod}
+--     alcove_found        a list c in a window of n numbers with the remainders and the sum of b is the result, with the sign of sorting
+use Rattle.std.proofs.Common.{◌↔◌, ◌≡◌, ℕ, zero, suc, ◌+◌, ◌-◌, ◌%◌, ◌<◌, ◌≤◌, ◌⊎◌, inl, inr, true, false, ◌==◌, ◌||◌, cond, List, [], ◌∷◌, ◌++◌, map, refl, sym, ◌∙◌, ap, ap₂, subst, arith, ℤ, ◌*ℤ◌, pos, Option, Some, None}
+use Rattle.std.proofs.lemmas.Bool.{cases_lt, cases_eq, cases_Bool, eq-eqb, eqb-true, or_cases, or_right as or_either, both_ways, ne_eqb}
+use Rattle.std.proofs.Math.Nat.{add-mod_right, mod-mod, mod-eq-sub-mod}
 use Rattle.std.proofs.Math.Bool.{or-true}
 use Rattle.sym_model.specs.Partition.{size}
 use Rattle.sym_model.specs.Bases.{has}
@@ -18,10 +18,10 @@ use Rattle.beta_list_laws.proofs.BetaLists.{strict_tail}
 use Rattle.beta_list_laws.proofs.NeighbourExchanges.{KeptByExchanges, sort_reach, equal-exchange, has-sorted, size-sorted, resorts_exchange, same_sign}
 use Rattle.beta_list_laws.proofs.SortedLists.{sorted_strict}
 use Rattle.beta_list_laws.specs.AlcoveEnd.{remainders, match_in, IsAlcoveEnd, up}
-use Rattle.beta_list_laws.proofs.Remainders.{alike_same, test_unlike}
-use Rattle.beta_list_laws.proofs.Lowest.{strict_pairs}
+use Rattle.beta_list_laws.proofs.Remainders.{alike_same}
+use Rattle.beta_list_laws.proofs.Lowest.{strict_pairs, strict_second}
 use Rattle.beta_list_laws.proofs.Windows.{LieIn, up_low, up_high, up-remainder, up_is, sorted-map-sorted, spread_is, last_below, narrow_lie, alcove_only}
-use Rattle.beta_list_laws.proofs.BetaLowerings.{map_append}
+use Rattle.std.proofs.lemmas.List.{map-append}
 
 -- ---- equal entries of a list and of its remainders
 
@@ -43,10 +43,7 @@ pub equal_inside : (left : List ℕ) (x y : ℕ) (right : List ℕ) → x ≡ y 
 equal_inside [] x y right e = ap (λ t. t || has_equal_entries (y ∷ right)) (has_here x y right (sym e))
 equal_inside (c ∷ left) x y right e = or_either (has c (left ++ (x ∷ y ∷ right))) (has_equal_entries (left ++ (x ∷ y ∷ right))) (equal_inside left x y right e)
 
-pub not_both : (t : Bool) → t ≡ true → t ≡ false → ⊥
-not_both t e f = let h = sym e ∙ f in cc
-
--- ---- values in a window depend only on the remainders
+-- ---- the least numbers from t on with the remainders of a list depend only on these remainders
 
 pub up_alike : (n t x y : ℕ) → 1 ≤ n → x % n ≡ y % n → up n t x ≡ up n t y
 up_alike n t x y h e = up_is n t x (up n t y) h (up_low n t y h) (up_high n t y h) (up-remainder n t y h ∙ sym e)
@@ -70,17 +67,17 @@ ups_stay n t (x ∷ b) h w = ap₂ ◌∷◌ (up_is n t x x h w.0 w.1 refl) (ups
 pub ups_differ : (n t : ℕ) (b : List ℕ) → 1 ≤ n → has_equal_entries (remainders n b) ≡ false → has_equal_entries (map (up n t) b) ≡ false
 ups_differ n t b h e = elim (cases_Bool (has_equal_entries (map (up n t) b))) [
   | inr f ↦ f
-  | inl f ↦ absurd (not_both (has_equal_entries (remainders n b)) (ap has_equal_entries (sym (remainders_of_ups n t b h)) ∙ equal_map (λ x. x % n) (map (up n t) b) f) e)
+  | inl f ↦ absurd (both_ways (has_equal_entries (remainders n b)) e (ap has_equal_entries (sym (remainders_of_ups n t b h)) ∙ equal_map (λ x. x % n) (map (up n t) b) f))
 ]
 
--- if c lies in the window at t and has an entry with the remainder of x, that entry is the least number from t on with this remainder
+-- if c lies in the window [t, t + n) and has an entry with the remainder of x, that entry is the least number from t on with this remainder
 match_up : (n t x : ℕ) (c : List ℕ) → 1 ≤ n → LieIn n t c → has (x % n) (remainders n c) ≡ true → match_in n c x ≡ up n t x
 match_up n t x [] h w e = absurd (cc)
 match_up n t x (y ∷ c) h w e = by (cases_eq (y % n) (x % n)) (match_up n t x c h w.2)
   where
     by : (y % n ≡ x % n) ⊎ (y % n ≡ x % n → ⊥) → (has (x % n) (remainders n c) ≡ true → match_in n c x ≡ up n t x) → match_in n (y ∷ c) x ≡ up n t x
     by (inl d) later = ap (λ t. cond t y (match_in n c x)) (eq-eqb (y % n) (x % n) d) ∙ sym (up_is n t x y h w.0 w.1 d)
-    by (inr d) later = ap (λ t. cond t y (match_in n c x)) (test_unlike (y % n) (x % n) d) ∙ later (sym (has_past (x % n) (y % n) (remainders n c) d) ∙ e)
+    by (inr d) later = ap (λ t. cond t y (match_in n c x)) (ne_eqb (y % n) (x % n) d) ∙ later (sym (has_past (x % n) (y % n) (remainders n c) d) ∙ e)
 
 pub matches_up : (n t : ℕ) (b c : List ℕ) → 1 ≤ n → LieIn n t c → ((r : ℕ) → has r (remainders n b) ≡ true → has r (remainders n c) ≡ true)
     → map (match_in n c) b ≡ map (up n t) b
@@ -93,17 +90,13 @@ matches_up n t (x ∷ b) c h w m =
 pub same_remainders_has : (n : ℕ) (b c : List ℕ) → sorted_falling (remainders n c) ≡ sorted_falling (remainders n b) → (r : ℕ) → has r (remainders n b) ≡ true → has r (remainders n c) ≡ true
 same_remainders_has n b c e r h = sym (has-sorted r (remainders n c)) ∙ ap (has r) e ∙ has-sorted r (remainders n b) ∙ h
 
--- ---- a list with a spread below n has different remainders
+-- a strictly decreasing list whose spread, its first entry less its last, is below n has different remainders
 
 absent_remainder : (n t x : ℕ) (b : List ℕ) → FallsStrictly (x ∷ b) → t ≤ x → x < t + n → LieIn n t b → has (x % n) (remainders n b) ≡ false
 absent_remainder n t x [] f a c w = refl
 absent_remainder n t x (y ∷ b) f a c w =
     has_past (x % n) (y % n) (remainders n b) (λ e. let d = alike_same n t y x e w.0 w.1 a c in let l = f.0 in omega arith)
-    ∙ absent_remainder n t x b (second b f) a c w.2
-  where
-    second : (b : List ℕ) → FallsStrictly (x ∷ y ∷ b) → FallsStrictly (x ∷ b)
-    second [] g = tt
-    second (z ∷ b) g = let p = g.0 in let q = g.1.0 in (omega arith, g.1.1)
+    ∙ absent_remainder n t x b (strict_second x y b f) a c w.2
 
 distinct_narrow : (n t : ℕ) (b : List ℕ) → FallsStrictly b → LieIn n t b → has_equal_entries (remainders n b) ≡ false
 distinct_narrow n t [] f w = refl
@@ -120,15 +113,12 @@ raised_size : (n a : ℕ) (b : List ℕ) → size (last_raised n (a ∷ b)) ≡ 
 raised_size n a [] = omega arith
 raised_size n a (c ∷ b) = let e = raised_size n c b in omega arith
 
-lowered_remainder : (n a : ℕ) → n ≤ a → (a - n) % n ≡ a % n
-lowered_remainder n a h = let e : a - n + n ≡ a = omega arith in sym (add-mod_right (a - n) n) ∙ ap (λ x. x % n) e
-
 reflected_remainders : (n : ℕ) (b : List ℕ) → n < spread b → remainders n (reflected n b) ≡ remainders n b
 reflected_remainders n [] h = refl
 reflected_remainders n (a ∷ []) h = absurd (let e = spread_is a [] in omega arith)
 reflected_remainders n (a ∷ c ∷ b) h =
     let e = spread_is a (c ∷ b) in
-    ap₂ ◌∷◌ (lowered_remainder n a (omega arith)) (raised_remainders n c b)
+    ap₂ ◌∷◌ (sym (mod-eq-sub-mod {n = a} {m = n} (omega arith))) (raised_remainders n c b)
 
 reflected_size : (n : ℕ) (b : List ℕ) → n < spread b → size (reflected n b) ≡ size b
 reflected_size n [] h = refl
@@ -156,10 +146,10 @@ wall_equal n (a ∷ c ∷ b) h f e =
 
 keeps_turns : (f : ℕ → ℕ) (k : ℕ) → KeptByExchanges (λ l. (has_equal_entries (map f l) ≡ false) × ((rising_pairs (map f l) + rising_pairs l + k) % 2 ≡ 0))
 keeps_turns f k left a b right p =
-    let there = map_append f left (a ∷ b ∷ right) in
-    let here = map_append f left (b ∷ a ∷ right) in
+    let there = map-append f left (a ∷ b ∷ right) in
+    let here = map-append f left (b ∷ a ∷ right) in
     let apart = sym (ap has_equal_entries there) ∙ p.0 in
-    let differ : (f a ≡ f b → ⊥) = λ e. not_both (has_equal_entries (map f left ++ (f a ∷ f b ∷ map f right))) (equal_inside (map f left) (f a) (f b) (map f right) e) apart in
+    let differ : (f a ≡ f b → ⊥) = λ e. both_ways (has_equal_entries (map f left ++ (f a ∷ f b ∷ map f right))) apart (equal_inside (map f left) (f a) (f b) (map f right) e) in
     let values = (resorts_exchange (map f left) (f a) (f b) (map f right) differ).parity in
     let entries = (resorts_exchange left a b right (λ e. differ (ap f e))).parity in
     let x = ap rising_pairs there in
@@ -185,16 +175,16 @@ equal_map_sorted : (f : ℕ → ℕ) (s : List ℕ) → has_equal_entries (map f
 equal_map_sorted f s =
     sort_reach (λ l. has_equal_entries (map f l) ≡ has_equal_entries (map f s)) s
     (λ left a b right e.
-    ap has_equal_entries (map_append f left (b ∷ a ∷ right))
+    ap has_equal_entries (map-append f left (b ∷ a ∷ right))
     ∙ sym (equal-exchange (map f left) (f a) (f b) (map f right))
-    ∙ sym (ap has_equal_entries (map_append f left (a ∷ b ∷ right)))
+    ∙ sym (ap has_equal_entries (map-append f left (a ∷ b ∷ right)))
     ∙ e)
     refl
 
 -- ---- the result of the reflections
 
--- a list reduces to 0 if two entries leave one remainder, and otherwise to a list in some window, with the sign of
--- sorting the values in that window
+-- the result of reflecting b: None if two entries of b leave the same remainder modulo n. Otherwise it is a strictly decreasing list with the sum and the
+-- remainders of b and entries in some window [t, t + n), and the sign of sorting b with each entry replaced by the number of the window with its remainder
 abbrev pub Reduced : ℕ → List ℕ → Option (List ℕ × ℤ) → Type 0
 Reduced n b None = has_equal_entries (remainders n b) ≡ true
 Reduced n b (Some answer) =
@@ -274,7 +264,7 @@ alcove_none n b h f e = by (reflected_into_alcove n b) (alcove_reduced n b h f)
   where
     by : (answer : Option (List ℕ × ℤ)) → Reduced n b answer → answer ≡ None
     by None r = refl
-    by (Some a) r = absurd (not_both (has_equal_entries (remainders n b)) e r.0)
+    by (Some a) r = absurd (both_ways (has_equal_entries (remainders n b)) r.0 e)
 
 pub alcove_end : (n : ℕ) (b c : List ℕ) (sign : ℤ) → 1 ≤ n → FallsStrictly b → reflected_into_alcove n b ≡ Some (c, sign) → IsAlcoveEnd n b c
 alcove_end n b c sign h f e = (subst (Reduced n b) e (alcove_reduced n b h f)).1
@@ -284,7 +274,7 @@ alcove_sign n b c sign h f e =
     let r = subst (Reduced n b) e (alcove_reduced n b h f) in
     r.4 ∙ ap sorting_sign (sym (matches_up n r.2 b c h r.3 (same_remainders_has n b c r.1.alike)))
 
--- ---- a list in a window with the same remainders and sum is the end
+-- ---- a list that lies in a window [t, t + n) and has the remainders and the sum of b is the end of the reflections of b
 
 lies_kept : (n t : ℕ) → KeptByExchanges (LieIn n t)
 lies_kept n t [] a b right w = (w.2.0, w.2.1, (w.0, w.1, w.2.2))
@@ -314,7 +304,7 @@ pub alcove_found : (n t : ℕ) (b : List ℕ) → 1 ≤ n → FallsStrictly b �
 alcove_found n t b h f d s = by (reflected_into_alcove n b) (alcove_reduced n b h f)
   where
     by : (answer : Option (List ℕ × ℤ)) → Reduced n b answer → answer ≡ Some (sorted_falling (map (up n t) b), sorting_sign (map (up n t) b))
-    by None r = absurd (not_both (has_equal_entries (remainders n b)) r d)
+    by None r = absurd (both_ways (has_equal_entries (remainders n b)) d r)
     by (Some a) r =
         let found = end_found n t b h d s in
         let same : a.0 ≡ sorted_falling (map (up n t) b) = alcove_only n b a.0 (sorted_falling (map (up n t) b)) h r.1 found in

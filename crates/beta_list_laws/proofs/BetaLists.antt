@@ -13,7 +13,7 @@ use Rattle.beta_list_laws.specs.StrictFall.{FallsStrictly}
 use Rattle.sym_model.proofs.AfterLists.{length_after}
 use Rattle.sym_model.proofs.Parts.{length-without_last_zeros, get_or-without_last_zeros, in_front-positive}
 
--- ---- lists of values at the places
+-- ---- lists of the values of a function at the numbers after a
 
 pub length-beta : (k : ℕ) (parts : List ℕ) → length (beta k parts) ≡ k
 length-beta k parts = length-map (after 0 k) (λ i. part parts i + (k - i)) ∙ length_after 0 k
@@ -56,10 +56,7 @@ part_next x parts (suc i) h =
 
 parts_none : (a k : ℕ) → map (part []) (after a k) ≡ replicate k 0
 parts_none a zero = refl
-parts_none a (suc k) = ap₂ ◌∷◌ (none (a + 1 - 1)) (parts_none (a + 1) k)
-  where
-    none : (n : ℕ) → get_or {A = ℕ} [] n 0 ≡ 0
-    none n = refl
+parts_none a (suc k) = ap (λ l. 0 ∷ l) (parts_none (a + 1) k)
 
 parts_padded : (parts : List ℕ) (k : ℕ) → length parts ≤ k → map (part parts) (after 0 k) ≡ parts ++ replicate (k - length parts) 0
 parts_padded [] k h = let e : k ≡ k - 0 = omega arith in parts_none 0 k ∙ ap (λ n. replicate n 0) e

@@ -1,6 +1,6 @@
--- Each removal of a rim hook lowers an entry of the beta list, and no entry can be lowered if the list is full.
+-- Each removal of a rim hook lowers an entry of the beta list; a list is full if no entry can be lowered.
 --     removal_lowers      the entry that a removal lowers, and the entries between its old and its new place
---     fewer_rows          the number of rows after a removal is not greater
+--     fewer_rows          a removal does not increase the number of rows
 --     lowers_or_full      a strictly decreasing list has an entry that can be lowered, or is full
 --     full_none           nothing can be lowered in a full list
 use Rattle.std.proofs.Common.{◌≡◌, ℕ, zero, suc, ◌+◌, ◌-◌, ◌<◌, ◌≤◌, ◌⊎◌, inl, inr, true, false, List, [], ◌∷◌, ◌++◌, map, length, refl, sym, ◌∙◌, ap, ap₂, subst, arith, Bool, ◌||◌}
@@ -13,14 +13,15 @@ use Rattle.sym_model.specs.RimHookReduction.{IsRemoval, HasNoRemoval}
 use Rattle.sym_model.proofs.AfterLists.{length_after, after-append}
 use Rattle.sym_model.proofs.SortedParts.{has_here, has_past}
 use Rattle.sym_model.proofs.Parts.{past_end, at_least_one, part-get_or}
-use Rattle.std.proofs.lemmas.List.{length-map}
+use Rattle.std.proofs.lemmas.List.{length-map, map-append}
 use Rattle.strip_laws.specs.HookRows.{IsHookRows}
 use Rattle.strip_laws.proofs.RimHooks.{hook_rows, height_of_rows}
 use Rattle.strip_laws.proofs.HookSizes.{hook_size}
 use Rattle.beta_list_laws.specs.StrictFall.{FallsStrictly}
 use Rattle.beta_list_laws.specs.FullBetaList.{IsFull}
 use Rattle.beta_list_laws.proofs.BetaLists.{beta_strict, from_beta-beta, strict_tail, map_after_ext}
-use Rattle.beta_list_laws.proofs.BetaRemovals.{before, lowered, shown_removal}
+use Rattle.beta_list_laws.proofs.BetaRemovals.{before, lowered, shown_removal, above_lowered}
+use Rattle.std.proofs.Math.Nat.{zero-add, add_right_comm}
 
 -- c is b with an entry lowered by n and moved after the entries of `middle`, of which there are `passed`
 pub record Lowers (n : ℕ) (b c : List ℕ) (passed : ℕ) : Type 0 where
@@ -46,10 +47,6 @@ fewer_rows n shape left r = elim (cases_lt (length shape) (length left)) [
       absurd (omega (arith, a, b, c, d, e)))
 ]
 
-pub map_append : (f : ℕ → ℕ) (s t : List ℕ) → map f (s ++ t) ≡ map f s ++ map f t
-map_append f [] t = refl
-map_append f (x ∷ s) t = ap (λ l. f x ∷ l) (map_append f s t)
-
 map_after_next : (f g : ℕ → ℕ) (a k : ℕ) → ((i : ℕ) → a < i → i ≤ a + k → f (i + 1) ≡ g i) → map f (after (a + 1) k) ≡ map g (after a k)
 map_after_next f g a zero e = refl
 map_after_next f g a (suc k) e = ap₂ ◌∷◌ (e (a + 1) (omega arith) (omega arith)) (map_after_next f g (a + 1) k (λ i h l. e i (omega arith) (omega arith)))
@@ -59,33 +56,24 @@ split_at : (f : ℕ → ℕ) (k a d c : ℕ) → k ≡ a + suc (d + c) → map f
 split_at f k a d c e =
     ap (λ m. map f (after 0 m)) e
     ∙ ap (map f) (after-append 0 a (suc (d + c)))
-    ∙ map_append f (after 0 a) (after (0 + a) (suc (d + c)))
-    ∙ ap (λ z. map f (after 0 a) ++ map f (after z (suc (d + c)))) zero_plus
+    ∙ map-append f (after 0 a) (after (0 + a) (suc (d + c)))
+    ∙ ap (λ z. map f (after 0 a) ++ map f (after z (suc (d + c)))) (zero-add a)
     ∙ ap (λ l. map f (after 0 a) ++ (f (a + 1) ∷ map f l)) (after-append (a + 1) d c)
-    ∙ ap (λ l. map f (after 0 a) ++ (f (a + 1) ∷ l)) (map_append f (after (a + 1) d) (after (a + 1 + d) c))
-  where
-    zero_plus : 0 + a ≡ a
-    zero_plus = omega arith
+    ∙ ap (λ l. map f (after 0 a) ++ (f (a + 1) ∷ l)) (map-append f (after (a + 1) d) (after (a + 1 + d) c))
 
 -- the values at the places 1, .., k are split before and after the place a + d + 1
 split_later : (f : ℕ → ℕ) (k a d c : ℕ) → k ≡ a + suc (d + c) → map f (after 0 k) ≡ map f (after 0 a) ++ (map f (after a d) ++ (f (a + d + 1) ∷ map f (after (a + 1 + d) c)))
 split_later f k a d c e =
     ap (λ m. map f (after 0 m)) length_is
     ∙ ap (map f) (after-append 0 a (d + suc c))
-    ∙ map_append f (after 0 a) (after (0 + a) (d + suc c))
-    ∙ ap (λ z. map f (after 0 a) ++ map f (after z (d + suc c))) zero_plus
+    ∙ map-append f (after 0 a) (after (0 + a) (d + suc c))
+    ∙ ap (λ z. map f (after 0 a) ++ map f (after z (d + suc c))) (zero-add a)
     ∙ ap (λ l. map f (after 0 a) ++ map f l) (after-append a d (suc c))
-    ∙ ap (λ l. map f (after 0 a) ++ l) (map_append f (after a d) (after (a + d) (suc c)))
-    ∙ ap (λ z. map f (after 0 a) ++ (map f (after a d) ++ (f (a + d + 1) ∷ map f (after z c)))) place
+    ∙ ap (λ l. map f (after 0 a) ++ l) (map-append f (after a d) (after (a + d) (suc c)))
+    ∙ ap (λ z. map f (after 0 a) ++ (map f (after a d) ++ (f (a + d + 1) ∷ map f (after z c)))) (add_right_comm a d 1)
   where
     length_is : k ≡ a + (d + suc c)
     length_is = omega (arith, e)
-
-    zero_plus : 0 + a ≡ a
-    zero_plus = omega arith
-
-    place : a + d + 1 ≡ a + 1 + d
-    place = omega arith
 
 -- f and g at the places 1, .., k: f at a + 1 is y + n, g at a + d + 1 is y, f at i + 1 is g at i for the places
 -- between, and the other values are equal
@@ -133,7 +121,7 @@ rows_lower k n shape left first last l r h =
     (λ i u v. let e = h.chained i (omega arith) (omega arith) in omega arith)
     (λ i u v. ap (λ m. m + (k - i)) (h.below i (omega arith)))
 
--- a removal lowers an entry of the beta list and moves it after one entry less than its rim hook has rows
+-- a removal lowers an entry of the beta list and moves it after `passed` entries; the rim hook has passed + 1 rows
 pub removal_lowers : (k n : ℕ) (shape left : List ℕ) → IsPartition shape → rows shape ≤ k → IsRemoval n shape left
     → (passed : ℕ) × Lowers n (beta k shape) (beta k left) passed × (height shape left ≡ passed + 1)
 removal_lowers k n shape left p l r =
@@ -179,7 +167,7 @@ pub record CanLower (n : ℕ) (b : List ℕ) : Type 0 where
   pub from : b ≡ before n entry front middle back
   pub strict : FallsStrictly (lowered entry front middle back)
 
--- an entry that can be lowered in b can be lowered in b with a greater entry in front
+-- an entry of b that can be lowered can be lowered in x ∷ b too, if x is greater than the entries of b
 under_first : (n x : ℕ) (b : List ℕ) (l : CanLower n b) → FallsStrictly (x ∷ b) → CanLower n (x ∷ b)
 under_first n x b l f = record {
   front = x ∷ l.front;
@@ -226,11 +214,7 @@ not_below y z (x ∷ b) f l = let h = f.0 in has_past z x b (λ e. omega (arith,
 absent : (y : ℕ) (middle back : List ℕ) → FallsStrictly (middle ++ (y ∷ back)) → has y (middle ++ back) ≡ false
 absent y [] back f = not_below y y back f (omega arith)
 absent y (x ∷ middle) back f =
-    has_past y x (middle ++ back) (λ e. let l = above x middle f in omega (arith, e, l)) ∙ absent y middle back (strict_tail x (middle ++ (y ∷ back)) f)
-  where
-    above : (z : ℕ) (m : List ℕ) → FallsStrictly (z ∷ (m ++ (y ∷ back))) → y < z
-    above z [] g = g.0
-    above z (w ∷ m) g = let a = g.0 in let c = above w m g.1 in omega (arith, a, c)
+    has_past y x (middle ++ back) (λ e. let l = above_lowered y x middle back f in omega (arith, e, l)) ∙ absent y middle back (strict_tail x (middle ++ (y ∷ back)) f)
 
 pub full_none : (n y : ℕ) (front middle back : List ℕ) → IsFull n (before n y front middle back) → FallsStrictly (lowered y front middle back) → ⊥
 full_none n y [] middle back g f =

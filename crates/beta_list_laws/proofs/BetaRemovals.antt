@@ -25,7 +25,7 @@ strict_drop (a ∷ left) c f = strict_drop left c (strict_tail a (left ++ c) f)
 
 -- ---- the entries less the number of those after them
 
--- the entries in front do not change
+-- the parts of the entries in `left` depend only on the number of later entries
 same_front : (left c d : List ℕ) (i : ℕ) → length c ≡ length d → i < length left → get_or (less_the_rest (left ++ c)) i 0 ≡ get_or (less_the_rest (left ++ d)) i 0
 same_front [] c d i e h = absurd (omega arith)
 same_front (a ∷ left) c d zero e h = let p = length-append left c in let q = length-append left d in ap (λ n. a - n) (omega arith)
@@ -48,21 +48,21 @@ chained_middle x y (p ∷ middle) right zero f h =
     omega arith
 chained_middle x y (p ∷ middle) right (suc i) f h = chained_middle p y middle right i (strict_tail p (middle ++ (y ∷ right)) f) (omega arith)
 
--- the entries at the back do not change
+-- the parts of the entries after `middle` and the lowered entry do not change
 same_back : (x y : ℕ) (middle right : List ℕ) (i : ℕ) → length middle < i → get_or (less_the_rest (x ∷ (middle ++ right))) i 0 ≡ get_or (less_the_rest (middle ++ (y ∷ right))) i 0
 same_back x y middle right zero h = absurd (omega arith)
 same_back x y [] right (suc i) h = refl
 same_back x y (p ∷ middle) right (suc i) h = same_back p y middle right i (omega arith)
 
--- the part of the lowered entry is less than the last part that was there
+pub above_lowered : (y z : ℕ) (middle back : List ℕ) → FallsStrictly (z ∷ (middle ++ (y ∷ back))) → y < z
+above_lowered y z [] back f = f.0
+above_lowered y z (m ∷ middle) back f = let p = f.0 in let q = above_lowered y m middle back f.1 in omega arith
+
+-- the part of the lowered entry y is less than the part at its place before the lowering
 below_last : (x y : ℕ) (middle right : List ℕ) → y < x → FallsStrictly (middle ++ (y ∷ right))
     → get_or (less_the_rest (middle ++ (y ∷ right))) (length middle) 0 < get_or (less_the_rest (x ∷ (middle ++ right))) (length middle) 0
 below_last x y [] right h f = let w = rest_within y right f in omega arith
-below_last x y (p ∷ middle) right h f = below_last p y middle right (first p middle f) (strict_tail p (middle ++ (y ∷ right)) f)
-  where
-    first : (q : ℕ) (m : List ℕ) → FallsStrictly (q ∷ (m ++ (y ∷ right))) → y < q
-    first q [] g = g.0
-    first q (r ∷ m) g = let k = g.0 in let e = first r m g.1 in omega arith
+below_last x y (p ∷ middle) right h f = below_last p y middle right (above_lowered y p middle right f) (strict_tail p (middle ++ (y ∷ right)) f)
 
 -- ---- the parts of the partitions before and after the removal
 
@@ -111,7 +111,7 @@ shown_rows n y left middle right h f = record {
       omega arith;
 }
 
--- ---- the removal, and its height
+-- ---- the removal of the rim hook, and its height
 
 pub shown_removal : (n y : ℕ) (left middle right : List ℕ) → 1 ≤ n → FallsStrictly (before n y left middle right) → FallsStrictly (lowered y left middle right)
     → IsRemoval n (from_beta (before n y left middle right)) (from_beta (lowered y left middle right))

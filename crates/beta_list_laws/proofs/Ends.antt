@@ -1,4 +1,4 @@
--- All ends of the removals from one partition are the partition of its lowest list, sorted.
+-- Every end of the removals of rim hooks from a partition is the partition of the sorted lowest list (specs/LowestList) of its beta list.
 --     goes_ends       the end of the removals
 use Rattle.std.proofs.Common.{◌≡◌, ℕ, zero, suc, ◌+◌, ◌-◌, ◌*◌, ◌/◌, ◌<◌, ◌≤◌, ◌⊎◌, inl, inr, List, ◌∷◌, ◌++◌, length, refl, sym, ◌∙◌, ap, ap₂, subst, arith, length-append, ℤ, ◌*ℤ◌, pos, Bool, true, false, nat_le, cond, Option, Some, None}
 use Rattle.std.proofs.Math.Nat.{mul-div_cancel_left}
@@ -98,7 +98,7 @@ goes_ends k n shape end sign zero h p (r, none, e, s) = stays_ends k n shape end
 goes_ends k n shape end sign (suc power) h p (r, left, t, m, g, s) =
     step_ends k n shape left end t sign power p r m (goes_ends k n left end t power h m.partition g) s
 
--- ---- each partition has an end
+-- ---- the removals from each partition have an end
 
 abbrev HasEnd : ℕ → ℕ → List ℕ → Type 0
 HasEnd k n shape = (end : List ℕ) × (sign : ℤ) × (power : ℕ) × GoesTo k n shape end sign power
@@ -176,7 +176,7 @@ narrow k n shape l =
     let t : nat_le (k + columns (end_of k n shape)) n ≡ true = grind (arith, nat_tests) in
     ap (λ v. cond {A = Option (List ℕ × ℤ × ℕ)} v (Some (end_of k n shape, end_sign k n shape, power_of k n shape)) None) t
 
--- a partition has no other reduction
+-- each reduction of a partition is its reduction by remainders
 pub reduces_only : (k n : ℕ) (shape : List ℕ) (answer : Option (List ℕ × ℤ × ℕ)) → 1 ≤ n → IsPartition shape → ReducesTo k n shape answer → answer ≡ reduction_by_remainders k n shape
 reduces_only k n shape None h p (end, sign, power, g, l) =
     let e = ap columns (goes_end k n shape end sign power h p g) in

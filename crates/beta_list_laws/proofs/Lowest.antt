@@ -1,5 +1,5 @@
--- The lowest list: lowering an entry only moves one entry of it, and a full list is its own lowest list.
---     lowest_moves      lowering an entry moves one entry of the lowest list to the right of those between
+-- The lowest list (specs/LowestList): lowering an entry of a list moves one entry of its lowest list, and a full list is its own lowest list.
+--     lowest_moves      lowering an entry moves one entry of the lowest list to the right of the entries of `middle`
 --     full_lowest       the lowest list of a full list is that list
 use Rattle.std.proofs.Common.{◌≡◌, ℕ, suc, ◌+◌, ◌-◌, ◌*◌, ◌%◌, ◌<◌, ◌≤◌, ◌⊎◌, inl, inr, true, List, [], ◌∷◌, ◌++◌, length, refl, sym, ◌∙◌, ap, ap₂, subst, arith}
 use Rattle.std.proofs.lemmas.Bool.{cases_lt, cases_eq}
@@ -12,7 +12,7 @@ use Rattle.sym_model.proofs.Numbers.{counts-not_less}
 use Rattle.beta_list_laws.specs.StrictFall.{FallsStrictly}
 use Rattle.beta_list_laws.specs.FullBetaList.{IsFull}
 use Rattle.beta_list_laws.proofs.BetaLists.{strict_tail}
-use Rattle.beta_list_laws.proofs.BetaRemovals.{before, lowered}
+use Rattle.beta_list_laws.proofs.BetaRemovals.{before, lowered, above_lowered}
 use Rattle.beta_list_laws.proofs.NeighbourExchanges.{Resorts, resorts_itself, resorts_then, resorts_under, resorts_exchange}
 use Rattle.beta_list_laws.specs.LowestList.{alike, lowest}
 use Rattle.beta_list_laws.proofs.Remainders.{alike_far, between_unlike, alike-here, alike-past, alike-remainder, alike-append, lowered_remainder}
@@ -20,15 +20,11 @@ use Rattle.beta_list_laws.proofs.BetaLowerings.{not_below}
 
 -- ---- the lowest list after an entry is lowered and moved
 
-strict_second : (a b : ℕ) (c : List ℕ) → FallsStrictly (a ∷ b ∷ c) → FallsStrictly (a ∷ c)
+pub strict_second : (a b : ℕ) (c : List ℕ) → FallsStrictly (a ∷ b ∷ c) → FallsStrictly (a ∷ c)
 strict_second a b [] f = tt
 strict_second a b (d ∷ c) f = let p = f.0 in let q = f.1.0 in (omega arith, f.1.1)
 
-above_lowered : (y z : ℕ) (middle back : List ℕ) → FallsStrictly (z ∷ (middle ++ (y ∷ back))) → y < z
-above_lowered y z [] back f = f.0
-above_lowered y z (m ∷ middle) back f = let p = f.0 in let q = above_lowered y m middle back f.1 in omega arith
-
--- the count of an entry in front is the same before y + n is lowered and moved as after
+-- the number of entries with the remainder of x does not change when y + n is lowered by n and moved after `middle`
 same_counts : (n x y : ℕ) (middle back : List ℕ) → alike n x ((y + n) ∷ (middle ++ back)) ≡ alike n x (middle ++ (y ∷ back))
 same_counts n x y middle back =
     let a = alike-append n x middle back in
@@ -42,7 +38,7 @@ same_counts n x y middle back =
       | inr d ↦ alike-past n x u [] (λ g. d (sym e ∙ g)) ∙ sym (alike-past n x v [] d)
     ]
 
--- the count of an entry between does not depend on the lowered entry, which has another remainder
+-- if y and m leave different remainders, the number of entries with the remainder of m does not depend on y
 unseen : (n y m : ℕ) (middle back : List ℕ) → (y % n ≡ m % n → ⊥) → alike n m (middle ++ back) ≡ alike n m (middle ++ (y ∷ back))
 unseen n y m middle back d =
     let a = alike-append n m middle back in
@@ -101,20 +97,17 @@ count_full n x [] f g = elim (cases_lt x n) [
 count_full n x (w ∷ b) f g =
     by (cases_lt x n) (cases_eq w (x - n)) (count_full n w b (strict_tail x (w ∷ b) f) g.1) (λ h. count_full n x b (strict_second x w b f) (h, g.1.1))
   where
-    less : w < x
-    less = f.0
-
     further : (w ≡ x - n → ⊥) → n ≤ x → has (x - n) b ≡ true
     further d l = sym (has_past (x - n) w b d) ∙ g.0 l
 
     unlike : (w ≡ x - n → ⊥) → n ≤ x → w % n ≡ x % n → ⊥
     unlike d l e = elim (cases_lt w (x - n)) [
       | inl m ↦ (let t = sym (further d l) ∙ not_below w (x - n) b (strict_tail x (w ∷ b) f) (omega arith) in cc)
-      | inr m ↦ (let a = alike_far n x w (sym e) less in d (omega arith))
+      | inr m ↦ (let a = alike_far n x w (sym e) f.0 in d (omega arith))
     ]
 
     small_unlike : x < n → w % n ≡ x % n → ⊥
-    small_unlike l e = let h = less in let a = alike_far n x w (sym e) less in omega arith
+    small_unlike l e = let h = f.0 in let a = alike_far n x w (sym e) f.0 in omega arith
 
     by : (x < n) ⊎ (n ≤ x) → (w ≡ x - n) ⊎ (w ≡ x - n → ⊥) → w % n + alike n w b * n ≡ w → ((n ≤ x → has (x - n) b ≡ true) → x % n + alike n x b * n ≡ x)
         → x % n + alike n x (w ∷ b) * n ≡ x
@@ -156,9 +149,6 @@ lowered_below n x [] f = let e = mod-le x n in omega arith
 lowered_below n x (w ∷ b) f =
     by (cases_eq (w % n) (x % n)) (lowered_below n w b (strict_tail x (w ∷ b) f)) (lowered_below n x b (strict_second x w b f))
   where
-    less : w < x
-    less = f.0
-
     by : (w % n ≡ x % n) ⊎ (w % n ≡ x % n → ⊥) → w % n + alike n w b * n ≤ w → x % n + alike n x b * n ≤ x → x % n + alike n x (w ∷ b) * n ≤ x
     by (inr d) first later = let e = ap (λ a. a * n) (alike-past n x w b d) in omega arith
     by (inl e) first later =
@@ -166,5 +156,5 @@ lowered_below n x (w ∷ b) f =
         let r = alike-remainder n x w b (sym e) in
         let c : alike n x (w ∷ b) ≡ suc (alike n w b) = a ∙ ap suc r in
         let m = ap (λ a. a * n) c in
-        let g = alike_far n x w (sym e) less in
+        let g = alike_far n x w (sym e) f.0 in
         omega arith

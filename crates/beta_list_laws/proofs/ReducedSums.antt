@@ -1,7 +1,7 @@
 -- Sums of reductions: they depend only on the coefficients of the list that is reduced, not on its order.
 --     reduced_sum         the coefficient at a label, if terms are reduced by rim hooks
 --     reflected_sum       the coefficient at a label, if terms are reflected into the alcove
---     absolute_within     a list with each label once has no greater absolute values than one with the same coefficients
+--     absolute_within     the sum of the absolute values of a list with each label once is at most that of any list with the same coefficients
 use Rattle.std.proofs.Common.{◌≡◌, ℕ, ◌≤◌, Bool, true, false, cond, List, [], ◌∷◌, refl, sym, ◌∙◌, ap, ap₂, subst, inl, inr, arith, ℤ, pos, negsuc, ◌+ℤ◌, ◌*ℤ◌, ◌≤ℤ◌, Option, Some, None}
 use Rattle.std.specs.Prelude.{nat_abs}
 use Rattle.std.proofs.lemmas.Int.{ints}

@@ -1,9 +1,8 @@
--- Numbers with one remainder modulo n.
---     alike_far           the greater of two of them is at least n greater
---     alike-append        counts of entries with a remainder, added up
+-- Numbers that leave the same remainder modulo n.
+--     alike_far           two different numbers that leave the same remainder differ by at least n
+--     alike-append        the number of entries with a remainder, for two lists one after the other
 use Rattle.std.proofs.Common.{◌≡◌, ℕ, suc, ◌+◌, ◌*◌, ◌/◌, ◌%◌, ◌<◌, ◌≤◌, inl, inr, true, false, ◌==◌, cond, List, [], ◌∷◌, ◌++◌, refl, sym, ◌∙◌, ap, arith}
-use Rattle.std.proofs.lemmas.Bool.{cases_lt, eq-eqb}
-use Rattle.std.proofs.lemmas.Bool.Decides.{nat_tests}
+use Rattle.std.proofs.lemmas.Bool.{cases_lt, eq-eqb, ne_eqb}
 use Rattle.std.proofs.Math.Nat.{mod-add-div', mod-mod, add-mul-mod_self_right, mul-le-mul_left}
 use Rattle.beta_list_laws.specs.LowestList.{alike}
 
@@ -18,7 +17,7 @@ alike_far n x y e h =
     let m = mul-le-mul_left n l in
     omega arith
 
--- two numbers in a window of n numbers with one remainder are the same
+-- two numbers in a window of n numbers that leave the same remainder are equal
 pub alike_same : (n t x y : ℕ) → x % n ≡ y % n → t ≤ x → x < t + n → t ≤ y → y < t + n → x ≡ y
 alike_same n t x y e a b c d = elim (cases_lt x y) [
   | inl l ↦ (let f = alike_far n y x (sym e) l in absurd (omega arith))
@@ -29,16 +28,13 @@ alike_same n t x y e a b c d = elim (cases_lt x y) [
 pub between_unlike : (n x y : ℕ) → y < x → x < y + n → x % n ≡ y % n → ⊥
 between_unlike n x y h l e = let f = alike_far n x y e h in omega arith
 
-pub test_unlike : (x y : ℕ) → (x ≡ y → ⊥) → (x == y) ≡ false
-test_unlike x y n = grind (arith, nat_tests)
-
 pub alike-here : (n x y : ℕ) (b : List ℕ) → y % n ≡ x % n → alike n x (y ∷ b) ≡ suc (alike n x b)
 alike-here n x y b e = let t : (y % n == x % n) ≡ true = eq-eqb (y % n) (x % n) e in ap (λ v. cond {A = ℕ} v 1 0 + alike n x b) t ∙ omega arith
 
 pub alike-past : (n x y : ℕ) (b : List ℕ) → (y % n ≡ x % n → ⊥) → alike n x (y ∷ b) ≡ alike n x b
-alike-past n x y b d = let t : (y % n == x % n) ≡ false = test_unlike (y % n) (x % n) d in ap (λ v. cond {A = ℕ} v 1 0 + alike n x b) t ∙ omega arith
+alike-past n x y b d = let t : (y % n == x % n) ≡ false = ne_eqb (y % n) (x % n) d in ap (λ v. cond {A = ℕ} v 1 0 + alike n x b) t ∙ omega arith
 
--- if x and y leave the same remainder, as many entries leave the remainder of x as that of y
+-- if x and y leave the same remainder, b has equally many entries with the remainder of x and with that of y
 pub alike-remainder : (n x y : ℕ) (b : List ℕ) → x % n ≡ y % n → alike n x b ≡ alike n y b
 alike-remainder n x y [] e = refl
 alike-remainder n x y (z ∷ b) e = let r = alike-remainder n x y b e in let t = ap (λ m. cond {A = ℕ} (z % n == m) 1 0) e in omega arith
@@ -47,6 +43,6 @@ pub alike-append : (n x : ℕ) (s t : List ℕ) → alike n x (s ++ t) ≡ alike
 alike-append n x [] t = omega arith
 alike-append n x (y ∷ s) t = let r = alike-append n x s t in omega arith
 
--- a lowered entry leaves the same remainder modulo n
+-- x % n + a·n leaves the same remainder modulo n as x
 pub lowered_remainder : (n x a : ℕ) → (x % n + a * n) % n ≡ x % n
 lowered_remainder n x a = add-mul-mod_self_right (x % n) a n ∙ mod-mod x n

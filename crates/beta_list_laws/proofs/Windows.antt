@@ -1,10 +1,10 @@
 -- Lists in a window of n numbers from t on.
---     up_low, up_high, up-remainder     the least number of at least t with a remainder
---     up_is                             each number of the window is the least with its remainder
+--     up_low, up_high, up-remainder     the least number from t on with a given remainder
+--     up_is                             each number of the window [t, t + n) is the least from t on with its remainder
 --     alcove_only                       a list with a spread below n is determined by its sum and its remainders
-use Rattle.std.proofs.Common.{◌≡◌, ℕ, zero, suc, ◌+◌, ◌-◌, ◌*◌, ◌/◌, ◌%◌, ◌||◌, Bool, true, false, ◌<◌, ◌≤◌, ◌⊎◌, inl, inr, cond, List, [], ◌∷◌, ◌++◌, map, length, get_or, refl, sym, ◌∙◌, ap, ap₂, arith}
-use Rattle.std.proofs.lemmas.Bool.{cases_lt, cases_eq, eq-eqb}
-use Rattle.std.proofs.lemmas.List.{length-map}
+use Rattle.std.proofs.Common.{◌≡◌, ℕ, zero, suc, ◌+◌, ◌-◌, ◌*◌, ◌/◌, ◌%◌, true, false, ◌<◌, ◌≤◌, ◌⊎◌, inl, inr, cond, List, [], ◌∷◌, ◌++◌, map, length, get_or, refl, sym, ◌∙◌, ap, ap₂, arith}
+use Rattle.std.proofs.lemmas.Bool.{cases_lt, cases_eq, eq-eqb, or_parts, ne_eqb}
+use Rattle.std.proofs.lemmas.List.{length-map, map-append}
 use Rattle.std.proofs.Math.Nat.{add-mod_right, add-mul-mod_self_left, mod-add-div', mod-lt, mod-mod}
 use Rattle.sym_model.specs.Partition.{size}
 use Rattle.sym_model.specs.Bases.{has}
@@ -15,9 +15,8 @@ use Rattle.beta_list_laws.proofs.NeighbourExchanges.{sort_reach, sorted-exchange
 use Rattle.sym_model.proofs.SortedParts.{has_here, has_past}
 use Rattle.beta_list_laws.specs.LowestList.{alike}
 use Rattle.beta_list_laws.specs.AlcoveEnd.{remainders, IsAlcoveEnd, past, up}
-use Rattle.beta_list_laws.proofs.Remainders.{alike_same, test_unlike, alike-here, alike-past}
+use Rattle.beta_list_laws.proofs.Remainders.{alike_same, alike-here, alike-past}
 use Rattle.beta_list_laws.proofs.Lowest.{strict_falls}
-use Rattle.beta_list_laws.proofs.BetaLowerings.{map_append}
 use Rattle.strip_laws.proofs.Reflections.{last_of, last_is}
 
 -- ---- the least number from t on with a remainder
@@ -31,7 +30,7 @@ past-here : (n t u : ℕ) → u ≡ t → past n t u ≡ t + n
 past-here n t u e = ap (λ v. cond v (t + n) u) (eq-eqb u t e)
 
 past-other : (n t u : ℕ) → (u ≡ t → ⊥) → past n t u ≡ u
-past-other n t u d = ap (λ v. cond v (t + n) u) (test_unlike u t d)
+past-other n t u d = ap (λ v. cond v (t + n) u) (ne_eqb u t d)
 
 up_window : (n t x : ℕ) → 1 ≤ n → InWindow n t x (up n t x)
 up_window n zero x h = record { low = omega arith; high = let l = mod-lt x h in omega arith; remainder = mod-mod x n }
@@ -57,7 +56,7 @@ up_high n t x h = (up_window n t x h).high
 pub up-remainder : (n t x : ℕ) → 1 ≤ n → up n t x % n ≡ x % n
 up-remainder n t x h = (up_window n t x h).remainder
 
--- a number of the window is the least with its remainder
+-- if u is in the window [t, t + n) and leaves the remainder of x, it is the least number from t on with this remainder
 pub up_is : (n t x u : ℕ) → 1 ≤ n → t ≤ u → u < t + n → u % n ≡ x % n → up n t x ≡ u
 up_is n t x u h a b e = alike_same n t (up n t x) u (up-remainder n t x h ∙ sym e) (up_low n t x h) (up_high n t x h) a b
 
@@ -86,12 +85,12 @@ same_where_sums n t (x ∷ s) d e =
     let b = map_up_same n t s d in
     ap₂ ◌∷◌ (omega arith) (same_where_sums n t s d (omega arith))
 
--- sorting before the values are taken gives the same sorted list of values
+-- exchanging two neighbours of a list does not change the sorted list of the values of f at its entries
 pub sorted-map-exchange : (f : ℕ → ℕ) (left : List ℕ) (a b : ℕ) (right : List ℕ) → sorted_falling (map f (left ++ (a ∷ b ∷ right))) ≡ sorted_falling (map f (left ++ (b ∷ a ∷ right)))
 sorted-map-exchange f left a b right =
-    ap sorted_falling (map_append f left (a ∷ b ∷ right))
+    ap sorted_falling (map-append f left (a ∷ b ∷ right))
     ∙ sorted-exchange (map f left) (f a) (f b) (map f right)
-    ∙ ap sorted_falling (sym (map_append f left (b ∷ a ∷ right)))
+    ∙ ap sorted_falling (sym (map-append f left (b ∷ a ∷ right)))
 
 pub sorted-map-sorted : (f : ℕ → ℕ) (s : List ℕ) → sorted_falling (map f (sorted_falling s)) ≡ sorted_falling (map f s)
 sorted-map-sorted f s = sort_reach (λ l. sorted_falling (map f l) ≡ sorted_falling (map f s)) s (λ left a b right e. sym (sorted-map-exchange f left a b right) ∙ e) refl
@@ -106,7 +105,7 @@ pub last_below : (a : ℕ) (b : List ℕ) → FallsStrictly (a ∷ b) → last_o
 last_below a [] f = omega arith
 last_below a (c ∷ b) f = let h = f.0 in let l = last_below c b f.1 in omega arith
 
--- each entry lies in the window
+-- each entry of the list is in the window [t, t + n)
 abbrev pub LieIn : ℕ → ℕ → List ℕ → Type 0
 LieIn n t [] = Unit {0}
 LieIn n t (x ∷ b) = (t ≤ x) × (x < t + n) × LieIn n t b
@@ -121,12 +120,12 @@ strict_lie n t a (c ∷ b) f e l =
 pub narrow_lie : (n a : ℕ) (b : List ℕ) → FallsStrictly (a ∷ b) → spread (a ∷ b) < n → LieIn n (last_of a b) (a ∷ b)
 narrow_lie n a b f l = let e = spread_is a b in let h = last_below a b f in strict_lie n (last_of a b) a b f refl (omega arith)
 
--- the numbers in the window are determined by their remainders
+-- a list b in the window [t, t + n) is determined by its remainders: each entry is the least number from t on with its remainder
 pub window_back : (n t : ℕ) (b : List ℕ) → 1 ≤ n → LieIn n t b → map (up n t) (remainders n b) ≡ b
 window_back n t [] h w = refl
 window_back n t (x ∷ b) h w = ap₂ ◌∷◌ (up_is n t (x % n) x h w.0 w.1 (sym (mod-mod x n))) (window_back n t b h w.2)
 
--- a narrow strictly decreasing list is determined by its remainders
+-- a strictly decreasing list with a spread below n is determined by its last entry and its remainders
 narrow_shown : (n a : ℕ) (b : List ℕ) → 1 ≤ n → FallsStrictly (a ∷ b) → spread (a ∷ b) < n
     → a ∷ b ≡ sorted_falling (map (up n (last_of a b)) (sorted_falling (remainders n (a ∷ b))))
 narrow_shown n a b h f l =
@@ -175,9 +174,9 @@ alcove_only n b (x ∷ c) (y ∷ d) h w v =
         let m : last_of y d ≡ last_of x c + k = omega arith in
         shown_same n (last_of x c) k (sorted_falling (remainders n b)) (x ∷ c) (y ∷ d) p (q ∙ ap (λ t. sorted_falling (map (up n t) (sorted_falling (remainders n b)))) m) e
 
--- ---- the sum of the values, as the window moves
+-- ---- the sum of the least numbers from t on with the remainders of a list, as t increases by 1
 
--- in the window from n·q on, the value of x is the remainder of x plus n·q
+-- the least number from n·q on with the remainder of x is x % n + n·q
 up-multiple : (n q x : ℕ) → 1 ≤ n → up n (n * q) x ≡ x % n + n * q
 up-multiple n q x h =
     let l = mod-lt x h in
@@ -187,7 +186,7 @@ pub size-multiple : (n q : ℕ) (b : List ℕ) → 1 ≤ n → size (map (up n (
 size-multiple n q [] h = omega arith
 size-multiple n q (x ∷ b) h = let e = up-multiple n q x h in let r = size-multiple n q b h in omega arith
 
--- if the window moves by one, the numbers with the remainder of t increase by n
+-- if the window [t, t + n) moves by one, the numbers with the remainder of t increase by n
 pub size-next : (n t : ℕ) (b : List ℕ) → 1 ≤ n → size (map (up n (suc t)) b) ≡ size (map (up n t) b) + n * alike n t b
 size-next n t [] h = omega arith
 size-next n t (x ∷ b) h = by (cases_eq (x % n) (t % n)) (size-next n t b h)
@@ -231,12 +230,8 @@ lacks_alike n x (y ∷ b) h = by (cases_eq (y % n) (x % n)) (lacks_alike n x b)
 
 pub alike_once : (n x : ℕ) (b : List ℕ) → has_equal_entries (remainders n b) ≡ false → alike n x b ≤ 1
 alike_once n x [] d = omega arith
-alike_once n x (y ∷ b) d = by (cases_eq (y % n) (x % n)) (parts (has (y % n) (remainders n b)) (has_equal_entries (remainders n b)) d) (alike_once n x b)
+alike_once n x (y ∷ b) d = by (cases_eq (y % n) (x % n)) (or_parts (has (y % n) (remainders n b)) (has_equal_entries (remainders n b)) d) (alike_once n x b)
   where
-    parts : (s t : Bool) → (s || t) ≡ false → (s ≡ false) × (t ≡ false)
-    parts true t e = absurd (cc)
-    parts false t e = (refl, e)
-
     none : (c : ℕ) → y % n ≡ x % n → has (y % n) (remainders n b) ≡ false → alike n x b ≡ c → c ≡ 0
     none zero e f g = refl
     none (suc c) e f g = let t = sym (has_alike n x b (omega arith)) ∙ ap (λ v. has v (remainders n b)) (sym e) ∙ f in absurd (cc)

@@ -9,7 +9,7 @@ use Rattle.beta_list_laws.specs.StrictFall.{FallsStrictly}
 abbrev pub remainders : ℕ → List ℕ → List ℕ
 remainders n b = map (λ x. x % n) b
 
--- the first entry of the list that leaves the same remainder as x; 0 if there is none
+-- the first entry of the list that leaves the same remainder modulo n as x; 0 if there is none
 abbrev pub match_in : ℕ → List ℕ → ℕ → ℕ
 match_in n [] x = 0
 match_in n (y ∷ c) x = cond (y % n == x % n) y (match_in n c x)
@@ -22,11 +22,11 @@ pub record IsAlcoveEnd (n : ℕ) (b c : List ℕ) : Type 0 where
   pub alike : sorted_falling (remainders n c) ≡ sorted_falling (remainders n b)
   pub narrow : spread c < n
 
--- u, or t + n if u is t: from a number of at least t to one of at least t + 1
+-- u if u ≠ t, and t + n if u = t: for the least number u ≥ t with some remainder modulo n, the least number above t with it
 abbrev pub past : ℕ → ℕ → ℕ → ℕ
 past n t u = cond (u == t) (t + n) u
 
--- the least number of at least t that leaves the same remainder as x
+-- the least number of at least t that leaves the same remainder modulo n as x
 abbrev pub up : ℕ → ℕ → ℕ → ℕ
 up n zero x = x % n
 up n (suc t) x = past n t (up n t x)

@@ -1,5 +1,5 @@
--- The end of all removals of rim hooks from a partition,
--- by the remainders of its beta list (James and Kerber, 2.7).
+-- The n-core of a partition, which all removals of rim hooks of n cells lead to, by the remainders of its beta list
+-- (James and Kerber, 2.7).
 use Rattle.std.specs.Prelude.{ℕ, ◌+◌, ◌-◌, ◌*◌, ◌/◌, ◌%◌, ◌==◌, nat_le, cond, ℤ, List, [], ◌∷◌}
 use Rattle.std.specs.Prelude.{Option, Some, None}
 use Rattle.sym_model.specs.Partition.{size, columns}
@@ -17,21 +17,22 @@ abbrev pub lowest : ℕ → List ℕ → List ℕ
 lowest n [] = []
 lowest n (x ∷ b) = (x % n + alike n x b * n) ∷ lowest n b
 
--- the end of all removals of n-cell rim hooks from a partition with at most k rows
+-- the n-core of a partition with at most k rows: what is left when no rim hook of n cells can be removed
 abbrev pub end_of : ℕ → ℕ → List ℕ → List ℕ
 end_of k n shape = from_beta (sorted_falling (lowest n (beta k shape)))
 
--- the number of the removals that lead from the shape to its end
+-- the number of rim hooks of n cells whose removals lead from the shape to its n-core
 abbrev pub power_of : ℕ → ℕ → List ℕ → ℕ
 power_of k n shape = (size shape - size (end_of k n shape)) / n
 
--- the product of the signs of the removals that lead from the shape to its end
+-- the product of the signs (-1)^(k - h) of the removals that lead from the shape to its n-core, h being the height
+-- of the rim hook
 abbrev pub end_sign : ℕ → ℕ → List ℕ → ℤ
 end_sign k n shape =
     minus_one_to (power_of k n shape * (k + 1) + rising_pairs (lowest n (beta k shape)))
 
--- the reduction of a partition with at most k rows: its end, with the sign and the power; None if the end has more than
--- n - k columns
+-- the reduction of a partition with at most k rows: its n-core, with the product of the signs and the number of the
+-- removals; None if the n-core has more than n - k columns
 abbrev pub reduction_by_remainders : ℕ → ℕ → List ℕ → Option (List ℕ × ℤ × ℕ)
 reduction_by_remainders k n shape =
     cond (nat_le (k + columns (end_of k n shape)) n)

@@ -8,11 +8,13 @@ ghost use Rattle.sym_model.specs.AlcoveReduction.{reflected_into_alcove};
 ghost use Rattle.beta_list_laws.specs.StrictFall.{FallsStrictly};
 ghost use Rattle.beta_list_laws.specs.AlcoveEnd.{remainders, match_in, IsAlcoveEnd, up};
 
-/// The reflections of a strictly decreasing list end in 0 if and only if two entries leave one
-/// remainder modulo n. Otherwise they end in the only strictly decreasing list with that sum, these
-/// remainders and a spread below n, with the sign of the order in which its entries are matched
-/// with those of the list. It is computed by raising or lowering each entry into a window of n
-/// numbers.
+/// A strictly decreasing list whose spread, the first entry minus the last, is at least n is
+/// reflected: n is subtracted from its first entry and added to its last, and the list is sorted,
+/// until the spread is below n; the result is 0 if the spread is n or two entries become equal. It
+/// is 0 if and only if two entries of the given list leave the same remainder modulo n. Otherwise
+/// it is the only strictly decreasing list with the same sum, the same remainders and a spread
+/// below n, with the sign of the order in which its entries are matched with those of the given
+/// list. It is computed by raising or lowering each entry into a window of n numbers.
 pub fn alcove_law()
     ensures zero { (n : ℕ) (b : List ℕ) → 1 ≤ n → FallsStrictly b
         → (reflected_into_alcove n b ≡ None ↔ has_equal_entries (remainders n b) ≡ true) }

@@ -6,9 +6,10 @@ ghost use Rattle.sym_model.specs.RimHookReduction.{GoesTo, ReducesTo};
 ghost use Rattle.beta_list_laws.specs.LowestList.{end_of, power_of, end_sign};
 ghost use Rattle.beta_list_laws.specs.LowestList.{reduction_by_remainders};
 
-/// Removing rim hooks of n cells, as long as possible and in any order, leads from one partition to
-/// one end, with one sign and one number of removals. The end is computed from the beta list by
-/// lowering each entry by multiples of n as far as possible.
+/// Removing rim hooks of n cells, as long as possible and in any order, leads from one partition
+/// with at most k rows to one end, with one sign, the product of (-1)^(k - height) over the removed
+/// rim hooks, and one number of removals. The end is computed from the beta list by lowering each
+/// entry by multiples of n as far as possible.
 pub fn removals_end_law()
     ensures goes { (k n : ℕ) (shape : List ℕ) → 1 ≤ n → IsPartition shape → rows shape ≤ k
         → GoesTo k n shape (end_of k n shape) (end_sign k n shape) (power_of k n shape) }

@@ -1,25 +1,21 @@
 -- The operations on sets of beta numbers (specs/BetaSets).
-use Rattle.std.proofs.Common.{◌≡◌, ℕ, zero, suc, ◌+◌, ◌*◌, ◌%◌, ◌^◌, ◌<◌, ◌≤◌, Bool, true, false, cond, List, [], ◌∷◌, ◌++◌, map, refl, sym, ap, ◌∙◌, append_assoc, subst, arith}
+use Rattle.std.proofs.Common.{◌≡◌, ℕ, zero, suc, ◌+◌, ◌*◌, ◌%◌, ◌^◌, ◌<◌, ◌≤◌, true, false, [], ◌++◌, map, refl, sym, ap, ◌∙◌, subst, arith}
 use Rattle.std.specs.Prelude.{nat_eq, bit_or}
 use Rattle.std.specs.Int.{bit_at}
 use Rattle.std.proofs.Math.Nat.{pow-le-pow_right}
 use Rattle.std.proofs.lemmas.Nat.{one_shl, or_disjoint}
 use Rattle.std.proofs.lemmas.Nat.Bits.{and_pow, bit_at-lt}
-use Rattle.std.proofs.lemmas.List.{append-nil}
 use Rattle.sym_model.specs.Bases.{has}
 use Rattle.sym_model.specs.BetaList.{beta, from_beta}
 use Rattle.sym_model.specs.Partition.{IsPartition, rows, size}
 use Rattle.sym_model.specs.WholeTerms.{WholeTermsOf}
-use Rattle.linear_combinations.specs.Gains.{HaveLabels}
-use Rattle.partitions.specs.Limits.{IsWithinLimits}
-use Rattle.sparse_polys.proofs.PartitionTerms.{IsWithinLimits-low}
 use Rattle.beta_sets.specs.BetaSets.{numbers, places, shape, IsShape, AreShapes}
-use Rattle.beta_sets.proofs.BinaryPlaces.{lowest, places-suc, has-places, places-top, places-none}
+use Rattle.beta_sets.proofs.BinaryPlaces.{lowest, places-suc, has-places, places-none}
 
 pub below_power : (x n m : ℕ) → x < 2 ^ n → n ≤ m → x < 2 ^ m
 below_power x n m h l = let p : 2 ^ n ≤ 2 ^ m = pow-le-pow_right {n = 2} (omega arith) l in omega arith
 
--- a number that is not in the set has the digit 0
+-- if a number a < 64 is not in the set, digit a of the set is 0
 pub digit-absent : (set a : ℕ) → a < 64 → has a (numbers set) ≡ false → bit_at set a ≡ 0
 digit-absent set a l h = by (bit_at set a) (bit_at-lt set a) (sym (has-places 64 a set l) ∙ h)
   where
@@ -37,25 +33,7 @@ or_digit set a l h = or_disjoint set (2 ^ a) (and_pow set a ∙ ap (λ d. d * 2 
 pub with_digit : (set a : ℕ) → a < 64 → has a (numbers set) ≡ false → bit_or set (1 * 2 ^ a % 2 ^ 64) ≡ set + 2 ^ a
 with_digit set a l h = ap (bit_or set) (one_shl a 64 l) ∙ or_digit set a l h
 
--- ---- one step of listing the numbers of a set, from the greatest one on
-
-module _ (set k n : ℕ) (all : List ℕ) (e : n ≡ suc k) (l : n ≤ 64) (so_far : all ++ places n set ≡ numbers set) where
-  top : (b : Bool) → has k (numbers set) ≡ b → all ++ (cond b (k ∷ []) [] ++ places k set) ≡ numbers set
-  top b h =
-      ap (λ t. all ++ (cond t (k ∷ []) [] ++ places k set)) (sym h ∙ has-places 64 k set (omega arith))
-      ∙ ap (λ xs. all ++ xs) (sym (places-top k set) ∙ ap (λ m. places m set) (sym e))
-      ∙ so_far
-
-  pub with_next : has k (numbers set) ≡ true → (all ++ k ∷ []) ++ places k set ≡ numbers set
-  with_next h = append_assoc all (k ∷ []) (places k set) ∙ top true h
-
-  pub without_next : has k (numbers set) ≡ false → all ++ places k set ≡ numbers set
-  without_next h = top false h
-
-pub all_numbers : (set n : ℕ) (all : List ℕ) → n ≡ 0 → all ++ places n set ≡ numbers set → all ≡ numbers set
-all_numbers set n all e so_far = sym (append-nil all) ∙ ap (λ xs. all ++ xs) (sym (places-none set) ∙ ap (λ m. places m set) (sym e)) ∙ so_far
-
--- ---- the numbers of the empty set, and numbers of a set from a greater limit on
+-- ---- the empty set, and a greater bound on the cells of the partitions of sets
 
 places-zero : (k : ℕ) → places k 0 ≡ []
 places-zero zero = places-none 0
@@ -79,8 +57,3 @@ pub within_more : (d e : ℕ) (terms : WholeTermsOf ℕ) → d ≤ e → AreShap
 within_more d e terms l are t m =
     let is = are t m in
     record { beta = is.beta; cells = let s = is.cells in omega arith; low = below_power t.0 (d + 1) (e + 1) is.low (omega arith) }
-
-pub shape_limits : (terms : WholeTermsOf ℕ) → AreShapes 20 terms → HaveLabels (λ s. IsWithinLimits (shape s)) terms
-shape_limits terms are t m =
-    let is = are t m in
-    IsWithinLimits-low (shape t.0) is.beta.partition (let s = is.cells in omega arith)

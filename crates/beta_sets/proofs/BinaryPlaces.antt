@@ -1,9 +1,9 @@
 -- The places of the binary digits 1 of a number (specs/BetaSets).
---     places-more                 digits above the highest 1 do not count
---     places-even, places-odd     of 2n, and of 2n + 1
---     places-put                  one more digit 1
---     has-places, length-places, greater-places
---     places-top                  the highest digit removed
+--     places-more                 the places do not depend on the number of digits above the highest 1
+--     places-even, places-odd     the places of 2n, and of 2n + 1
+--     places-put                  the places after one more digit 1 is set
+--     has-places, length-places, greater-places     membership in the places, their number, and that of the greater ones
+--     places-top                  the places without the highest one
 use Rattle.std.proofs.Common.{◌≡◌, ℕ, zero, suc, ◌+◌, ◌*◌, ◌/◌, ◌%◌, ◌^◌, ◌<◌, ◌≤◌, nat_le, Bool, true, false, ◌==◌, ◌||◌, cond, List, [], ◌∷◌, ◌++◌, map, length, refl, sym, ap, ap₂, ◌∙◌, arith, length-append}
 use Rattle.std.specs.Prelude.{nat_eq, nat_lt, count_ones}
 use Rattle.std.specs.Int.{bit_at}

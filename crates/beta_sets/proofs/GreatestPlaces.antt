@@ -1,20 +1,17 @@
 -- The places of binary digits from the greatest one on, and a number from its places.
---     places-greatest, split_at   the greatest place, and the others
+--     places-greatest, split_at   the greatest place, and the other places
 --     places_strict               the places are strictly decreasing
---     places_below                each is below the number of digits
 use Rattle.std.proofs.Common.{◌≡◌, ◌⊎◌, ℕ, zero, suc, ◌+◌, ◌-◌, ◌*◌, ◌/◌, ◌%◌, ◌^◌, ◌<◌, ◌≤◌, Bool, true, false, List, [], ◌∷◌, ◌++◌, map, refl, sym, ap, ap₂, ◌∙◌, subst, inl, inr, arith}
 use Rattle.std.specs.Prelude.{nat_eq}
 use Rattle.std.proofs.lemmas.Bool.{cases_lt}
 use Rattle.std.proofs.lemmas.Nat.Bits.{bit_at_above}
 use Rattle.sym_model.specs.Bases.{has}
-use Rattle.sym_model.specs.Sum.{Among}
-use Rattle.sym_model.proofs.Sums.{Among_from_append, Among_from_map}
 use Rattle.beta_list_laws.specs.StrictFall.{FallsStrictly}
 use Rattle.beta_sets.specs.BetaSets.{numbers, places, IsSplit}
 use Rattle.beta_sets.proofs.BinaryPlaces.{lowest, places-suc, places-none, places-more, has-places}
 use Rattle.beta_sets.proofs.BetaSets.{below_power}
 
--- if n is less than 2^k, more than k digits have the same places
+-- if n is less than 2^k, its places among the d + k lowest digits are those among the k lowest digits
 pub places-enough : (d k n : ℕ) → n < 2 ^ k → places (d + k) n ≡ places k n
 places-enough zero k n h = ap (λ m. places m n) (let e : 0 + k ≡ k = omega arith in e)
 places-enough (suc d) k n h =
@@ -76,21 +73,7 @@ places_strict zero n = subst FallsStrictly (sym (places-none n)) tt
 places_strict (suc k) n =
     subst FallsStrictly (sym (places-suc k n)) (raised_strict (places k (n / 2)) (nat_eq (n % 2) 1) (places_strict k (n / 2)))
 
-pub places_below : (k n c : ℕ) → Among c (places k n) → c < k
-places_below zero n c m = absurd (subst (Among c) (places-none n) m)
-places_below (suc k) n c m =
-    by (λ d. places_below k (n / 2) d) (Among_from_append c (map suc (places k (n / 2))) (lowest (nat_eq (n % 2) 1)) (subst (Among c) (places-suc k n) m))
-  where
-    none : (b : Bool) → Among c (lowest b) → c < suc k
-    none true (inl e) = omega arith
-    none true (inr i) = absurd i
-    none false i = absurd i
-
-    by : ((d : ℕ) → Among d (places k (n / 2)) → d < k) → Among c (map suc (places k (n / 2))) ⊎ Among c (lowest (nat_eq (n % 2) 1)) → c < suc k
-    by less (inl i) = let r = Among_from_map suc c (places k (n / 2)) i in let l = less r.0 r.1 in let e = r.2 in omega arith
-    by less (inr i) = none (nat_eq (n % 2) 1) i
-
--- ---- a number a of the set: 2^a is at most the set
+-- ---- 2^a, for a number a of a set, compared with the set as a number
 
 pub digit_low : (set a : ℕ) → a < 64 → has a (numbers set) ≡ true → 2 ^ a ≤ set
 digit_low set a l h = by (cases_lt set (2 ^ a))

@@ -2,3 +2,5 @@ pub mod BinaryPlaces
 pub mod BetaSets
 pub mod GreatestPlaces
 pub mod ShapeSums
+pub mod SetNumbers
+pub mod WrittenSets

@@ -1,29 +1,16 @@
 -- Tables of beta sets as lists of partitions (specs/BetaSets).
---     over-shapes, mass-shapes, labels-shapes     their sums and labels
---     written_out                                 each set replaced by its partition
---     one_label                                   the label of a list of one term
-use Rattle.std.proofs.Common.{◌≡◌, ℕ, List, [], ◌∷◌, refl, sym, ap, ap₂, inl, inr, subst, arith, ℤ, pos, ◌*ℤ◌}
-use Rattle.sym_model.specs.Partition.{size}
+--     over-shapes     the sums of the lists of partitions
+--     written_out     each set replaced by its partition
+--     one_label       the label of a list of one term
+use Rattle.std.proofs.Common.{◌≡◌, ℕ, List, [], ◌∷◌, refl, sym, ap₂, inl, inr, subst, ℤ, pos, ◌*ℤ◌}
 use Rattle.sym_model.specs.WholeTerms.{WholeTermsOf}
 use Rattle.sym_model.proofs.Ring.{product-one}
-use Rattle.sym_model.proofs.Sums.{total_map, Among_from_map}
-use Rattle.linear_combinations.specs.Gains.{over, mass, replaced, HaveLabels}
-use Rattle.sparse_polys.specs.LabelSizes.{AreWithin}
-use Rattle.beta_sets.specs.BetaSets.{shape, shapes, AreShapes}
+use Rattle.sym_model.proofs.Sums.{total_map}
+use Rattle.linear_combinations.specs.Gains.{over, replaced, HaveLabels}
+use Rattle.beta_sets.specs.BetaSets.{shape, shapes}
 
 pub over-shapes : (φ : List ℕ → ℤ) (terms : WholeTermsOf ℕ) → over φ (shapes terms) ≡ over (λ s. φ (shape s)) terms
 over-shapes φ terms = total_map (λ (t : List ℕ × ℤ). t.1 *ℤ φ t.0) (λ (t : ℕ × ℤ). (shape t.0, t.1)) terms
-
-pub mass-shapes : (terms : WholeTermsOf ℕ) → mass (shapes terms) ≡ mass terms
-mass-shapes [] = omega arith
-mass-shapes (t ∷ terms) = let r = mass-shapes terms in omega arith
-
-pub labels-shapes : (d : ℕ) (terms : WholeTermsOf ℕ) → AreShapes d terms → AreWithin d (shapes terms)
-labels-shapes d terms are t m =
-    let r = Among_from_map (λ (t : ℕ × ℤ). (shape t.0, t.1)) t terms m in
-    let s = (are r.0 r.1).cells in
-    let e = ap (λ (t : List ℕ × ℤ). size t.0) r.2 in
-    omega arith
 
 pub written_out : (terms : WholeTermsOf ℕ) → replaced (λ s. (shape s, pos 1) ∷ []) terms ≡ shapes terms
 written_out [] = refl

@@ -1,11 +1,15 @@
 -- Partitions as sets of beta numbers (James and Kerber, 2.7), and a set as the number with the binary
 -- digit 1 at each number of the set.
-use Rattle.std.specs.Prelude.{◌≡◌, ℕ, zero, suc, ◌+◌, ◌/◌, ◌%◌, ◌^◌, ◌<◌, ◌≤◌, true, nat_eq}
-use Rattle.std.specs.Prelude.{cond, ℤ, List, [], ◌∷◌, ◌++◌, map, IsTrue}
-use Rattle.std.specs.Cmp.{unsigned_tied, unsigned_Decides}
+use Rattle.std.specs.Prelude.{◌≡◌, ℕ, zero, suc, ◌+◌, ◌-◌, ◌*◌, ◌/◌, ◌%◌, ◌^◌, ◌<◌, ◌≤◌, true, nat_eq}
+use Rattle.std.specs.Prelude.{nat_le, nat_lt, not, cond, ℤ, List, [], ◌∷◌, ◌++◌, map, filter, length}
+use Rattle.std.specs.Prelude.{IsTrue}
+use Rattle.std.specs.Cmp.{unsigned_tied, unsigned_Decides, nat_cmp_total, IsTotalOrder}
 use Rattle.std.specs.Ordering.{nat_cmp, is_eq}
+use Rattle.std.specs.declared.cmp.Ordering.{Ordering}
 use Rattle.std.specs.declared.cmp.Ordering.TheVariants.{Equal}
 use Rattle.std.proofs.Common.{sym, ap, ◌∙◌}
+use Rattle.std.proofs.lemmas.Cmp.{back_total}
+use Rattle.sym_model.specs.Bases.{has}
 use Rattle.sym_model.specs.BetaList.{beta, from_beta}
 use Rattle.sym_model.specs.Partition.{IsPartition, rows, size}
 use Rattle.sym_model.specs.WholeTerms.{WholeTerms, WholeTermsOf}
@@ -22,9 +26,29 @@ places (suc k) n = map suc (places k (n / 2)) ++ cond (nat_eq (n % 2) 1) (0 ∷ 
 abbrev pub numbers : ℕ → List ℕ
 numbers set = places 64 set
 
--- the partition of a set
+-- the set of the numbers b of the list: the sum of 2^b over them
+unfoldable pub set_of : List ℕ → ℕ
+set_of [] = 0
+set_of (b ∷ beads) = 2 ^ b + set_of beads
+
+-- the numbers b of the list such that b + k is not in it
+abbrev pub free : ℕ → List ℕ → List ℕ
+free k beads = filter (λ b. not (has (b + k) beads)) beads
+
+-- the numbers of the list that are at least `place`, and those below it
+abbrev pub from_place : ℕ → List ℕ → List ℕ
+from_place place beads = filter (λ b. nat_le place b) beads
+
+abbrev pub below_place : ℕ → List ℕ → List ℕ
+below_place place beads = filter (λ b. nat_lt b place) beads
+
+-- the partition whose beta numbers are those of the set
 abbrev pub shape : ℕ → List ℕ
 shape set = from_beta (numbers set)
+
+-- the beta set, in n rows, of the partition of a set of at most n numbers
+abbrev pub in_rows : ℕ → ℕ → ℕ
+in_rows n set = (set + 1) * 2 ^ (n - length (numbers set)) - 1
 
 -- `number` is the greatest number of the set, and `others` is the set of the other numbers
 pub record IsSplit (set number others : ℕ) : Type 0 where
@@ -38,6 +62,12 @@ pub record IsBetaSet (ν : List ℕ) (k set : ℕ) : Type 0 where
   pub partition : IsPartition ν
   pub enough : rows ν ≤ k
   pub numbers : numbers set ≡ beta k ν
+
+-- `set` is below 2^64 and has n numbers, and its partition has at most d cells
+pub record IsInRows (n d set : ℕ) : Type 0 where
+  pub word : set < 2 ^ 64
+  pub rows : length (numbers set) ≡ n
+  pub cells : size (shape set) ≤ d
 
 -- `set` has the beta numbers of a partition of at most d cells, in exactly the number of its rows
 pub record IsShape (d set : ℕ) : Type 0 where
@@ -60,5 +90,12 @@ shapes terms = map (λ (t : ℕ × ℤ). (shape t.0, t.1)) terms
 pub same_set : (a b : ℕ) → nat_eq a b ≡ true → a ≡ b
 same_set a b h = (unsigned_Decides a b).0 h
 
-pub sets_tie : (a b : ℕ) → IsTrue true → IsTrue true → nat_cmp a b ≡ Equal → a ≡ b
-sets_tie a b s t e = same_set a b (sym (unsigned_tied a b) ∙ ap is_eq e)
+-- the greater set first: in a fixed number of rows, the printed order of partitions of one size
+abbrev pub falling : ℕ → ℕ → Ordering
+falling a b = nat_cmp b a
+
+pub falling_total : IsTotalOrder falling
+falling_total = back_total nat_cmp_total
+
+pub sets_tie : (a b : ℕ) → IsTrue true → IsTrue true → falling a b ≡ Equal → a ≡ b
+sets_tie a b s t e = sym (same_set b a (sym (unsigned_tied b a) ∙ ap is_eq e))

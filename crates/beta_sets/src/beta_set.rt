@@ -1,25 +1,31 @@
 //! Partitions as sets of beta numbers.
-ghost use Rattle.std.specs.Prelude.{◌≡◌, ◌+◌, ◌-◌, ◌*◌, ◌^◌, ◌<◌, true, false, [], length};
+ghost use Rattle.std.specs.Prelude.{◌≡◌, ◌+◌, ◌-◌, ◌*◌, ◌^◌, ◌<◌, ◌≤◌, ℕ, true, false, List, []};
+ghost use Rattle.std.specs.Prelude.{length};
 ghost use Rattle.std.specs.Prelude.{IfOk, IsErrOf, MatchOption};
 ghost use Rattle.sym_model.specs.Bases.{has};
 ghost use Rattle.sym_model.specs.BetaList.{greater};
+ghost use Rattle.sym_model.specs.Polynomial.{coefficient};
+ghost use Rattle.coeff_rings.specs.Fractions.{lowest_terms};
 ghost use Rattle.linear_combinations.specs.Gains.{Gains, Overflows, HaveLabels};
 ghost use Rattle.partitions.specs.Limits.{IsWithinLimits};
-ghost use Rattle.sparse_polys.specs.Tables.{equal, IsWholeTable};
-ghost use Rattle.beta_sets.specs.BetaSets.{numbers, shape, shapes, IsSplit};
+ghost use Rattle.sparse_polys.specs.Tables.{equal, found, IsFractionTable, IsWholeTable};
+ghost use Rattle.beta_sets.specs.BetaSets.{numbers, free, from_place, below_place, shape, shapes, in_rows};
+ghost use Rattle.beta_sets.specs.BetaSets.{IsInRows, IsSplit};
 
 use calc_base::{NoMemory, SumFault};
-use coeff_rings::Int;
+use coeff_rings::{Frac, Int, quotient_of};
 use linear_combinations::{Label, Lin, Rule};
 use partitions::Partition;
+use smallvec::SmallVec;
 use sparse_polys::Whole;
-use std::alloc::{AllocError, Global};
+use std::alloc::Global;
 use std::cmp::Ordering;
 use std::marker::Model;
 
-/// A partition, as the set of its beta numbers, all below 64, in at least its number of rows. In
-/// exactly that number of rows they are the hook lengths of the first column. `digits` has the
-/// binary digit 1 at each beta number.
+/// A partition, as the set of its beta numbers in some number of rows, which is at least the number
+/// of its parts. All beta numbers are below 64. If the number of rows is that of the parts, the
+/// beta numbers are the hook lengths of the first column. `digits` has the binary digit 1 at each
+/// beta number.
 #[derive(Clone, Copy, PartialEq, Eq, Hash, Drop)]
 pub struct BetaSet {
     digits: u64,
@@ -40,26 +46,6 @@ impl BetaSet {
     {
         BetaSet {
             digits: (1 << rows) - 1,
-        }
-    }
-
-    /// The set of one number, at most 63.
-    pub fn single(number: u16) -> BetaSet
-        requires { number < 64 }
-        ensures { result ≡ 2 ^ number }
-    {
-        BetaSet {
-            digits: 1 << number,
-        }
-    }
-
-    /// The union of two sets, if no number is in both.
-    pub fn joined(self, other: BetaSet) -> BetaSet
-        requires { self + other < 2 ^ 64 }
-        ensures { result ≡ self + other }
-    {
-        BetaSet {
-            digits: self.digits + other.digits,
         }
     }
 
@@ -112,6 +98,19 @@ impl BetaSet {
         }
     }
 
+    /// The beta numbers of the same partition in `rows` rows, at least as many as the set has numbers.
+    /// They must be below 64, and not be 0, .., 63.
+    pub fn in_rows(self, rows: u16) -> BetaSet
+        requires rows { (length (numbers self) ≤ rows) × (rows < 64) }
+        requires room { (self + 1) * 2 ^ (rows - length (numbers self)) < 2 ^ 64 }
+        ensures { result ≡ in_rows rows self }
+    {
+        let more = rows - self.len() as u16;
+        BetaSet {
+            digits: ((self.digits + 1) << more) - 1,
+        }
+    }
+
     /// The set with `number`, at most 63, which must not be in it yet.
     pub fn with(self, number: u16) -> BetaSet
         requires place { number < 64 }
@@ -139,17 +138,73 @@ impl BetaSet {
         (self.digits >> than >> 1).count_ones()
     }
 
-    /// The beta numbers in decreasing order. Fails only if memory runs out.
-    fn numbers(self, alloc: Global) -> Result<Vec<u16>, AllocError>
-        ensures { IfOk result (λ all. all.items ≡ numbers self) }
+    /// The numbers b of the set such that b + `by` is not in it. `by` is at most 63.
+    pub fn free(self, by: u16) -> BetaSet
+        requires { by < 64 }
+        ensures { numbers result ≡ free by (numbers self) }
     {
-        let mut all = Vec::with_capacity(alloc, self.len() as usize)?;
-        for number in (0..64).rev() {
-            if self.has(number) {
-                all.push(number)?;
-            }
+        BetaSet {
+            digits: self.digits & !(self.digits >> by),
         }
-        Ok(all)
+    }
+
+    /// The numbers of the set that are at least `place`, which is at most 63.
+    pub fn from(self, place: u16) -> BetaSet
+        requires { place < 64 }
+        ensures { numbers result ≡ from_place place (numbers self) }
+    {
+        BetaSet {
+            digits: self.digits & !((1 << place) - 1),
+        }
+    }
+
+    /// The numbers of the set below `place`, which is at most 63.
+    pub fn below(self, place: u16) -> BetaSet
+        requires { place < 64 }
+        ensures { numbers result ≡ below_place place (numbers self) }
+    {
+        BetaSet {
+            digits: self.digits & ((1 << place) - 1),
+        }
+    }
+
+    /// The set with `number`, one of its numbers and below 63, increased by 1. The next number must
+    /// not be in the set.
+    pub fn raised_at(self, number: u16) -> BetaSet
+        requires place { number < 64 }
+        requires room { self + 2 ^ number < 2 ^ 64 }
+        ensures { result ≡ self + 2 ^ number }
+    {
+        BetaSet {
+            digits: self.digits + (1 << number),
+        }
+    }
+
+    /// The set with the number `from`, one of its numbers, replaced by `to`, which must not be in
+    /// the set. Both are at most 63.
+    pub fn moved(self, from: u16, to: u16) -> BetaSet
+        requires from { (from < 64) × (2 ^ from ≤ self) }
+        requires to { (to < 64) × (self - 2 ^ from + 2 ^ to < 2 ^ 64) }
+        ensures { result ≡ self - 2 ^ from + 2 ^ to }
+    {
+        BetaSet {
+            digits: self.digits - (1 << from) + (1 << to),
+        }
+    }
+
+    /// The greatest of the `rows` numbers of the set; `None` if the partition of the set is empty.
+    fn first_bead(self, rows: u16) -> Option<u16>
+        requires { rows ≡ length (numbers self) }
+        ensures { MatchOption result (shape self ≡ []) (λ b. IsSplit self b (self - 2 ^ b)
+            × (rows ≤ b)) }
+    {
+        let Some(number) = self.greatest() else {
+            return None;
+        };
+        if number < rows {
+            return None;
+        }
+        Some(number)
     }
 
     /// The partition with these beta numbers, which must be within the limits of `Partition`. Fails
@@ -158,7 +213,15 @@ impl BetaSet {
         requires { IsWithinLimits (shape self) }
         ensures { IfOk result (λ p. p ≡ shape self) }
     {
-        Partition::from_beta(alloc, &self.numbers(alloc)?)
+        let mut parts: SmallVec<u16, 16> = SmallVec::new(alloc);
+        let mut rest = self;
+        let mut rows = self.len() as u16;
+        while let Some(number) = rest.first_bead(rows) {
+            parts.push(number + 1 - rows)?;
+            rest = rest.without(number);
+            rows -= 1;
+        }
+        Partition::from_valid_parts(alloc, parts.as_slice())
     }
 }
 
@@ -174,18 +237,16 @@ impl Model for BetaSet {
 
 impl Label for BetaSet {
     ghost use Rattle.std.specs.Prelude.{true};
-    ghost use Rattle.std.specs.Ordering.{nat_cmp};
-    ghost use Rattle.std.specs.Cmp.{nat_cmp_total};
-    ghost use Rattle.beta_sets.specs.BetaSets.{same_set, sets_tie};
+    ghost use Rattle.beta_sets.specs.BetaSets.{falling, falling_total, same_set, sets_tie};
 
     ghost is_label = { λ s. true };
 
     ghost is_short = { λ s. true };
 
-    ghost order = { nat_cmp };
+    ghost order = { falling };
 
     fn cmp_printed(&self, other: &BetaSet) -> Ordering {
-        self.digits.cmp(&other.digits)
+        other.digits.cmp(&self.digits)
     }
 
     fn copy(&self) -> Result<BetaSet, NoMemory> {
@@ -194,7 +255,7 @@ impl Label for BetaSet {
 
     ghost same_label = { same_set };
 
-    ghost order_total = { nat_cmp_total };
+    ghost order_total = { falling_total };
 
     ghost order_equal = { sets_tie };
 }
@@ -234,4 +295,26 @@ pub fn partitions_of(alloc: Global, list: &Shapes) -> Result<Whole, SumFault>
     let mut terms = Lin::new(alloc);
     terms.add_by(&AsPartition { alloc }, list)?;
     Ok(terms)
+}
+
+/// The list with each beta set replaced by its partition, and each coefficient divided by `den`,
+/// which is positive and below 2^127. Each set has 20 numbers, and its partition at most 20 cells.
+/// It never returns `Large`.
+pub fn in_partitions(
+    alloc: Global,
+    list: Shapes,
+    den: u128,
+) -> Result<Lin<Partition, Frac>, SumFault>
+    requires den { (0 < den) × (den < 2 ^ 127) }
+    requires within { HaveLabels (IsInRows 20 20) list }
+    ensures value { IfOk result (λ answer. (label : List ℕ)
+        → found answer label ≡ lowest_terms (coefficient (shapes list) label) den) }
+    ensures table { IfOk result IsFractionTable }
+    ensures small { ¬ IsErrOf result SumFault.Large }
+{
+    let mut answer = Lin::new(alloc);
+    for (set, c) in list.sorted_terms()? {
+        answer.add_term(set.partition(alloc)?, quotient_of(c, den))?;
+    }
+    Ok(answer)
 }

@@ -2,11 +2,13 @@
 //!
 //! What is proved:
 //!
-//! A `BetaSet` is the set of beta numbers of a partition in at least its number of rows, all below
-//! 64, held as the number with the binary digit 1 at each of them. `partitions_of` replaces the
-//! sets of a table by their partitions and keeps the coefficients.
+//! A `BetaSet` is the set of the beta numbers of a partition, in some number of rows that is at
+//! least the number of its parts. All of them are below 64, and the set is kept as the number with
+//! the binary digit 1 at each of them. `partitions_of` replaces the sets of a table by their
+//! partitions and keeps the coefficients. `in_partitions` does so in the printed order, and divides
+//! the coefficients by one number.
 #![tactic(auto)]
 
 mod beta_set;
 
-pub use beta_set::{BetaSet, Shapes, partitions_of};
+pub use beta_set::{BetaSet, Shapes, in_partitions, partitions_of};

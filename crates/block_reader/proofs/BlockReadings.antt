@@ -24,7 +24,7 @@ use Rattle.block_reader.specs.Readings.{IsReading}
 
 -- ---- the terms that are read from the lines of a text
 
--- the tests that the terms of a text must pass
+-- whether the terms of the text are canonical, can be printed, and print to this text
 abbrev passes : {L : Type 0} → LabelRules L → List ℕ → Bool
 passes rules text = is_canonical_by rules (terms_of rules text) && is_printable (terms_of rules text) && same (block_by rules (terms_of rules text)) text
 
@@ -47,7 +47,7 @@ canonical-fit {L} rules (t ∷ terms) h k =
     (and_from (fits rules.has_fractions t.1) (rules.is_within_limits t.0) (and_from (is_coefficient rules.has_fractions t.1) (fits_128_bits t.1.0 && fits_128_bits (pos t.1.1)) r.0 q.0) r.1)
     (canonical-fit rules terms p.1 q.1)
 
--- if a block cannot have the terms of the text, the text is not read
+-- if the terms of the text are not in order, or a block cannot have them all, the text is not read
 refused-none : {L : Type 0} (rules : LabelRules L) (text : List ℕ)
     → (is_ordered rules.order (terms_of rules text) && all_fit rules.has_fractions rules.is_within_limits (terms_of rules text)) ≡ false → read_by rules text ≡ None
 refused-none {L} rules text h =
@@ -65,7 +65,7 @@ reading-refused kind text NoMemory h = tt
 
 -- ---- texts that are read as a number
 
--- the text is the line of a number, with these terms
+-- the first line of the text is a number of 128 bits, and `terms` are the terms of this number
 record IsOnLine (text : List ℕ) (terms : Terms (Label kinds.number)) : Type 0 where
   fits : FitsSigned w128 (signed_value (cut_at 10 text).0)
   told : number_terms (signed_value (cut_at 10 text).0) ≡ terms
@@ -111,7 +111,7 @@ number-refused text large = none_else (read_by (label_rules kinds.number) text) 
 
 -- ---- a text is compared with the block of the answer that was read
 
--- if the only answer that can have this block prints to another text, no answer has this block
+-- if every list that `text` is read as is that of the answer a, and a prints to another text, `text` is not read
 pub not_printed : (kind : Kind) (text : List ℕ) (a : PlainAnswer)
     → ((terms : Terms (Label kind)) → read_by (label_rules kind) text ≡ Some terms → a ≡ answer kind terms) → answer_text a ≢ text
     → read_by (label_rules kind) text ≡ None

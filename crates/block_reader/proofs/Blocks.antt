@@ -51,7 +51,7 @@ number-stays bare n rest h = some-digits-stay bare (decimal n) rest (decimal-non
 
 -- ---- the atoms of a line become labels
 
--- the numbers of an atom are kept, and the `]` after them ends the line
+-- the numbers of an atom, each below 10^64, are kept, and the `]` after them becomes a `)` and a line feed
 numbers-rewritten : (bare : Bool) (numbers rest : List ℕ) → AreShort numbers
     → block_from bare (numbers_text numbers ++ (93 ∷ rest)) ≡ numbers_text numbers ++ (41 ∷ 10 ∷ block_from true rest)
 numbers-rewritten true [] rest h = refl
@@ -63,11 +63,11 @@ numbers-rewritten bare (a ∷ b ∷ numbers) rest h =
     ∙ ap (λ t. decimal a ++ (44 ∷ t)) (numbers-rewritten false (b ∷ numbers) rest h.1)
     ∙ sym (append_assoc (decimal a) (44 ∷ numbers_text (b ∷ numbers)) (41 ∷ 10 ∷ block_from true rest))
 
--- the label of a line and its end
+-- two spaces, the numbers in parentheses and a line feed, followed by `rest`
 abbrev label_end : List ℕ → List ℕ → List ℕ
 label_end numbers rest = 32 ∷ 32 ∷ 40 ∷ (numbers_text numbers ++ (41 ∷ 10 ∷ rest))
 
--- an atom after a coefficient becomes the label and the end of a line
+-- an atom with numbers below 10^64, after a coefficient, becomes the label and the end of a line
 atom-rewritten : (basis : Basis) (numbers rest : List ℕ) → AreShort numbers → block_from false (atom_text basis numbers ++ rest) ≡ label_end numbers (block_from true rest)
 atom-rewritten basis numbers rest h = by basis
   where
@@ -82,7 +82,7 @@ atom-rewritten basis numbers rest h = by basis
     by power_sums = inner
     by schurs = inner
 
--- an atom without a coefficient becomes a line with the coefficient 1
+-- an atom with numbers below 10^64, without a coefficient, becomes a line with the coefficient 1
 bare_atom-rewritten : (basis : Basis) (numbers rest : List ℕ) → AreShort numbers → block_from true (atom_text basis numbers ++ rest) ≡ 49 ∷ label_end numbers (block_from true rest)
 bare_atom-rewritten basis numbers rest h = by basis
   where
@@ -99,7 +99,7 @@ bare_atom-rewritten basis numbers rest h = by basis
 
 -- ---- the terms of a line become the lines of a block
 
--- a coefficient is kept, and the `*` after it is dropped
+-- a coefficient with numerator and denominator below 10^64 is kept, and the `*` after it is dropped
 coefficient-rewritten : (num den : ℕ) (rest : List ℕ) → num < 10 ^ 64 → den < 10 ^ 64
     → block_from true ((fraction_text (pos num, den) ++ (42 ∷ [])) ++ rest) ≡ fraction_text (pos num, den) ++ block_from false rest
 coefficient-rewritten num den rest h k =
@@ -119,7 +119,7 @@ unit-text c h =
     let p = and_parts (eqb (nat_abs c.0) 1) (eqb c.1 1) h in
     ap₂ (λ (n d : ℕ). fraction_text (pos n, d)) (eqb-true (nat_abs c.0) 1 p.0) (eqb-true c.1 1 p.1)
 
--- a term without its sign is rewritten as its line without the sign
+-- a term with numbers below 10^64 (`IsReadable`), without its sign, is rewritten as its line without the sign
 unsigned-rewritten : (basis : Basis) (t : List ℕ × Fraction) (rest : List ℕ) → IsReadable t
     → block_from true (unsigned_text basis t ++ rest) ≡ fraction_text (without_sign t.1) ++ label_end t.0 (block_from true rest)
 unsigned-rewritten basis t rest h = by (is_unit t.1) refl
@@ -150,7 +150,7 @@ module _ (has_fractions : Bool) (basis : Basis) where
   abbrev lines : Terms (List ℕ) → List ℕ
   lines terms = lines_by (list_rules printed_order is_label has_fractions) terms
 
-  -- the terms after the first are rewritten as their lines
+  -- the terms after the first, with numbers below 10^64, are rewritten as their lines
   later-rewritten : (terms : Terms (List ℕ)) → AreReadable terms → block_from true (later_text basis terms ++ (10 ∷ [])) ≡ lines terms
   later-rewritten [] h = refl
   later-rewritten ((label, (pos n, den)) ∷ terms) h =
@@ -165,7 +165,7 @@ module _ (has_fractions : Bool) (basis : Basis) where
       ∙ ap (λ s. s ++ label_end label (lines terms)) (sym (negative-text n den))
       ∙ line-front (label, (negsuc n, den)) (lines terms)
 
-  -- the line of a list of terms is rewritten as the block of the list
+  -- the line of a list of terms with numbers below 10^64 is rewritten as the block of the list
   pub line-rewritten : (terms : Terms (List ℕ)) → AreReadable terms → block_from true (one_line basis terms) ≡ block_by (list_rules printed_order is_label has_fractions) terms
   line-rewritten [] h = refl
   line-rewritten ((label, (pos n, den)) ∷ terms) h =

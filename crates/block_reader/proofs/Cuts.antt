@@ -37,7 +37,7 @@ split-cut s (b ∷ text) = by (b == s) (split-cut s text)
     by true ih = refl
     by false ih = ap (before_first b) ih
 
--- the text after the first separator is shorter than the whole
+-- if a text has a separator, the text after the first one is shorter than the whole
 pub after_one-cut : (s : ℕ) (text : List ℕ) → 0 < length (cut_at s text).1 → length (after_one (cut_at s text).1) < length text
 after_one-cut s [] some = absurd (omega arith)
 after_one-cut s (b ∷ text) some = by (b == s) (after_one-cut s text) some

@@ -47,13 +47,13 @@ module _ {L : Type 0} (has_fractions : Bool) (is_label : L → Bool) where
   alone : (label : L) (c : Fraction) → (fits has_fractions c && is_label label) ≡ false → all_fit has_fractions is_label ((label, c) ∷ []) ≡ false
   alone label c h = ap (λ b. b && true) h
 
-  -- a term does not fit if a block cannot have its coefficient
+  -- a term with a numerator other than 0 does not fit if a block cannot have its coefficient
   pub term-unfit : (z : ℤ) (den : List ℕ) (label : L) → z ≢ pos 0 → fits has_fractions (z, denominator_after den) ≡ false
       → all_fit has_fractions is_label (term_with z den label) ≡ false
   term-unfit z den label other h =
       ap (all_fit has_fractions is_label) (term-counts z den label other) ∙ alone label (z, denominator_after den) (ap (λ b. b && is_label label) h)
 
-  -- a term does not fit if a block cannot have its label
+  -- a term with a numerator other than 0 does not fit if a block cannot have its label
   pub term-unlabelled : (z : ℤ) (den : List ℕ) (label : L) → z ≢ pos 0 → is_label label ≡ false
       → all_fit has_fractions is_label (term_with z den label) ≡ false
   term-unlabelled z den label other h =
@@ -68,7 +68,7 @@ module _ {L : Type 0} (has_fractions : Bool) (is_label : L → Bool) where
       (false_from_ne_true (fits has_fractions (z, denominator_after den)) (λ k.
       large (fits_from_test z (and_parts (fits_128_bits z) (fits_128_bits (pos (denominator_after den))) (and_parts (is_coefficient has_fractions (z, denominator_after den)) _ k).1).0)))
 
-  -- if a list of terms does not fit, neither does a longer list with it
+  -- if a list of terms does not fit, neither does a longer list that ends with it
   pub unfit-behind : (xs ys : Terms L) → all_fit has_fractions is_label ys ≡ false → all_fit has_fractions is_label (xs ++ ys) ≡ false
   unfit-behind [] ys h = h
   unfit-behind (x ∷ xs) ys h = false_from_ne_true (all_fit has_fractions is_label (x ∷ xs ++ ys))

@@ -19,7 +19,7 @@ use Rattle.partitions.specs.Limits.{RisesFirstAt}
 use Rattle.perm_codes.specs.Limits.{OffendsFirstAt}
 use Rattle.block_reader.specs.Parts.{AreSmall}
 
--- if the option is `None`, the clause for `None` holds
+-- if the option is `None`, `MatchOption` says that P holds
 pub at_none : {A : Type 0} (P : Type 0) (Q : A → Type 0) (o : Option A) → o ≡ None → MatchOption o P Q → P
 at_none P Q None e h = h
 at_none P Q (Some x) e h = cc
@@ -164,7 +164,7 @@ pub not_permutation-numbers : (w : List ℕ) → (AreSmall w → ⊥) → is_per
 not_permutation-numbers w large = false_from_ne_true (is_permutation_label w) (λ h.
     let p = permutation-tells w h in large (letters-small (length w) w p.few p.letters))
 
--- if the number of kept letters of w is the number of all its letters, all are kept
+-- if w without its fixed letters at the end has as many letters as w, it is w
 pub kept-long : (w : List ℕ) → length (kept w) ≡ length w → kept w ≡ w
 kept-long w long =
     let t = kept_whole w in

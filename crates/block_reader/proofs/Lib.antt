@@ -1,4 +1,4 @@
--- Lemmas of the crate.
+-- Lemmas about printed texts that are cut into lines, labels and numbers, and read back as answers.
 pub mod Cuts
 pub mod Digits
 pub mod NumberLists

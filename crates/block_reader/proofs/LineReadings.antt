@@ -55,7 +55,8 @@ refused_line basis kind atoms text block is none =
     none_else (read_in (as_line basis) kind text) (λ terms h.
     let clash : None ≡ Some terms = sym none ∙ ap (read_by (label_rules kind)) is ∙ reads-block basis kind atoms text terms h in cc)
 
--- the list of the block is that of the line
+-- if a text is the line of a list, and another list prints to the block that the line is rewritten as, this list prints to
+-- the same line
 same_line : (basis : Basis) (kind : Kind) → HasAtoms kind → (text : List ℕ) (terms : Terms (Label kind)) → read_in (as_line basis) kind text ≡ Some terms
     → (found : Terms (Label kind)) → IsPrintable (answer kind found) → block_by (label_rules kind) found ≡ block_from true text → text_in (as_line basis) kind found ≡ text
 same_line basis kind atoms text terms h found printable same =
@@ -64,7 +65,7 @@ same_line basis kind atoms text terms h found printable same =
     ∙ ap (read_by (label_rules kind)) same ∙ reads-block basis kind atoms text terms h in
     ap (text_in (as_line basis) kind) (same_Some found terms e) ∙ (read_in-tells (as_line basis) kind text terms h).text_is
 
--- if the only answer that can have this line prints to another text, no answer has this line
+-- if the answer a has the block that `text` is rewritten as, and its one-line form is another text, `text` is not read as a line
 pub not_line : (basis : Basis) (kind : Kind) → HasAtoms kind → (text : List ℕ) (a : PlainAnswer) → plain_kind a ≡ kind → IsPrintable a → answer_text a ≡ block_from true text
     → answer_text_in (as_line basis) a ≢ text → read_in (as_line basis) kind text ≡ None
 not_line basis kind atoms text (answer k found) e printable same other =

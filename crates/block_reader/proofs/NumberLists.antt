@@ -1,4 +1,4 @@
--- Lists of numbers, piece by piece.
+-- Texts of numbers that are cut at a separator into their pieces.
 use Rattle.std.proofs.Common.{◌≡◌, ℕ, ◌^◌, ◌<◌, length, arith, List, [], ◌∷◌, ◌++◌, refl, sym, ◌∙◌, ap, subst, map, append_assoc}
 use Rattle.sym_model.specs.Kind.{after_one}
 use Rattle.sym_model.specs.NumberText.{cut_at, decimal_value, split_at, numbers_of}
@@ -32,13 +32,13 @@ module _ (text : List ℕ) (some : 0 < length text) (numbers : List ℕ) (rest :
   all_numbers : (n : ℕ) (others : List ℕ) → map decimal_value (split_at 44 rest) ≡ n ∷ others → numbers ++ n ∷ others ≡ numbers_of text
   all_numbers n others e = ap (λ ns. numbers ++ ns) (sym e) ∙ so_far ∙ sym (numbers_of-nonempty text some)
 
-  -- if a piece has a value of 2^16 or more, the numbers of the text are not all small
+  -- if the value of a piece is not below 2^16, the numbers of the text are not all below 2^16
   pub numbers-past : (piece : List ℕ) → piece ≡ (cut_at 44 rest).0 → (decimal_value piece < 2 ^ 16 → ⊥) → AreSmall (numbers_of text) → ⊥
   numbers-past piece is past small =
       let e = all_numbers (decimal_value (cut_at 44 rest).0) (map decimal_value (pieces_after 44 (cut_at 44 rest).1)) (ap (map decimal_value) (split-cut 44 rest)) in
       past (subst (λ p. decimal_value p < 2 ^ 16) (sym is) (small-behind numbers _ (subst AreSmall (sym e) small)).0)
 
-  -- after a number that another follows, the numbers so far and those of the rest are the numbers of the text
+  -- after a number that another follows, the numbers so far and those of the rest of the text are the numbers of the text
   pub numbers-more : (piece tail others : List ℕ) (n : ℕ) → piece ≡ (cut_at 44 rest).0 → tail ≡ (cut_at 44 rest).1 → others ≡ after_one tail
       → n ≡ decimal_value piece → 0 < length tail
       → (numbers ++ n ∷ []) ++ map decimal_value (split_at 44 others) ≡ map decimal_value (split_at 44 text)

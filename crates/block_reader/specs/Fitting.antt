@@ -5,12 +5,13 @@ use Rattle.sym_model.specs.Expansion.{Fraction, Terms}
 use Rattle.sym_model.specs.Canonical.{is_coefficient, each_term, fits_128_bits}
 use Rattle.block_reader.specs.Parts.{denominator_after}
 
--- whether a fraction can be a coefficient in a block
+-- whether a fraction can be a coefficient in a block: not 0, in lowest terms, whole if there are no fractions, and
+-- with a numerator and a denominator of 128 bits with a sign
 abbrev pub fits : Bool → Fraction → Bool
 fits has_fractions c =
     is_coefficient has_fractions c && (fits_128_bits c.0 && fits_128_bits (pos c.1))
 
--- whether a block can have each of the terms
+-- whether each coefficient can be one in a block, and each label passes the test
 abbrev pub all_fit : {L : Type 0} → Bool → (L → Bool) → Terms L → Bool
 all_fit has_fractions is_label terms = each_term (λ t. fits has_fractions t.1 && is_label t.0) terms
 

@@ -18,7 +18,7 @@ IsLineOfExpression basis (answer expansion terms) = IsExpression basis terms
 IsLineOfExpression basis (answer product terms) = IsExpression basis terms
 IsLineOfExpression basis _ = ⊥
 
--- whether the block has nothing for a byte: `+`, `*`, a letter, and an LF if no number was read since the last atom
+-- whether a byte adds nothing to the block: `+`, `*`, a letter, and an LF if no number was read since the last atom
 abbrev pub is_dropped : Bool → ℕ → Bool
 is_dropped bare byte = (((byte == 43) || (byte == 42)) || nat_le 97 byte) || (bare && (byte == 10))
 
@@ -29,12 +29,12 @@ emitted bare byte =
     (cond (byte == 91) (cond bare (codes "1  (") (codes "  ("))
     (cond (byte == 93) (codes ")\n") (byte ∷ [])))
 
--- whether no number was read since the last atom, once this byte has been read
+-- whether, after this byte, no number has been read since the last atom
 abbrev pub is_bare_after : Bool → ℕ → Bool
 is_bare_after bare byte =
     cond (byte == 93) true (cond (nat_le 48 byte && nat_le byte 57) false bare)
 
--- the block for the rest of a line
+-- the text that the rest of a one-line form becomes; `bare`: no number was read since the last atom
 abbrev pub block_from : Bool → List ℕ → List ℕ
 block_from bare [] = []
 block_from bare (byte ∷ text) = emitted bare byte ++ block_from (is_bare_after bare byte) text

@@ -10,7 +10,7 @@ use Rattle.block_reader.specs.declared.fault.ReadBackFault.{ReadBackFault}
 use Rattle.block_reader.specs.declared.fault.ReadBackFault.TheVariants.{NotPrinted, NoMemory}
 
 -- The answer is the only one of its kind that can have this text as its block; `NotPrinted` means that there is none.
--- Out of memory says nothing.
+-- Nothing is required if memory runs out.
 abbrev pub IsReading : Kind → List ℕ → Result Answer ReadBackFault → Type 0
 IsReading kind text (Ok a) = (kind_of_answer a ≡ kind)
     × ((terms : Terms (Label kind)) → read_by (label_rules kind) text ≡ Some terms

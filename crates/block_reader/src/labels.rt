@@ -19,10 +19,10 @@ use std::alloc::Global;
 
 /// Labels that can be read back.
 pub(crate) trait Spelled: Label {
-    // The rules of a block for these labels.
+    // The rules by which these labels are printed in a block and read back.
     ghost line_rules: { LabelRules Self };
 
-    /// The label that the text after a coefficient spells, or `None` if it is not within the
+    /// The label that the text after a coefficient spells, or `None` if it is no label within the
     /// limits.
     fn spelled(alloc: Global, text: &[u8]) -> Result<Option<Self>, NoMemory>
         ensures { IfOk result (λ found. MatchOption found
@@ -99,7 +99,7 @@ impl Spelled for Shifted {
     }
 }
 
-/// The partition of a label, or `None` if it is not within the limits.
+/// The partition of a label, or `None` if its numbers are no partition within the limits.
 fn shape_of(alloc: Global, label: &[u8]) -> Result<Option<Partition>, NoMemory>
     ensures { IfOk result (λ found.
         MatchOption found (is_label (label_of label.now) ≡ false)
@@ -111,7 +111,7 @@ fn shape_of(alloc: Global, label: &[u8]) -> Result<Option<Partition>, NoMemory>
     }
 }
 
-/// The partition with these parts, or `None` if they are not a partition.
+/// The partition with these parts, or `None` if they are no partition within the limits.
 fn partition_of(alloc: Global, parts: &[u16]) -> Result<Option<Partition>, NoMemory>
     ensures { IfOk result (λ found.
         MatchOption found (is_label parts.now ≡ false) (λ shape. shape ≡ parts.now)) }
@@ -125,7 +125,7 @@ fn partition_of(alloc: Global, parts: &[u16]) -> Result<Option<Partition>, NoMem
     }
 }
 
-/// The partition that was made of these parts, if they have no zeros at the end.
+/// The partition `shape`, which was made of these parts, if they have no zeros at the end.
 fn whole_shape(shape: Partition, parts: &[u16]) -> Option<Partition>
     requires { shape ≡ without_last_zeros parts.now }
     ensures { MatchOption result (is_label parts.now ≡ false) (λ shape. shape ≡ parts.now) }
@@ -136,7 +136,8 @@ fn whole_shape(shape: Partition, parts: &[u16]) -> Option<Partition>
     None
 }
 
-/// The permutation of a label, or `None` if it is not within the limits.
+/// The permutation of a label, or `None` if its numbers are no permutation within the limits and
+/// without fixed letters at its end.
 fn labelled_permutation(alloc: Global, label: &[u8]) -> Result<Option<Perm>, NoMemory>
     ensures { IfOk result (λ found.
         MatchOption found (is_permutation_label (label_of label.now) ≡ false)
@@ -148,8 +149,8 @@ fn labelled_permutation(alloc: Global, label: &[u8]) -> Result<Option<Perm>, NoM
     }
 }
 
-/// The permutation with these letters, or `None` if they are not a permutation, or not one without
-/// fixed letters at its end.
+/// The permutation with these letters, or `None` if they are no permutation within the limits and
+/// without fixed letters at its end.
 fn permutation_of(alloc: Global, letters: &[u16]) -> Result<Option<Perm>, NoMemory>
     ensures { IfOk result (λ found.
         MatchOption found (is_permutation_label letters.now ≡ false) (λ w. w ≡ letters.now)) }
@@ -163,7 +164,7 @@ fn permutation_of(alloc: Global, letters: &[u16]) -> Result<Option<Perm>, NoMemo
     }
 }
 
-/// The permutation that was made of these letters, if none of them was dropped.
+/// The permutation `w`, which was made of these letters, if it has all of them.
 fn whole_permutation(w: Perm, letters: &[u16]) -> Option<Perm>
     requires { w ≡ kept letters.now }
     ensures { MatchOption result (is_permutation_label letters.now ≡ false) (λ w. w ≡ letters.now) }
@@ -174,7 +175,7 @@ fn whole_permutation(w: Perm, letters: &[u16]) -> Option<Perm>
     None
 }
 
-/// The monomial of a label, or `None` if it is not within the limits.
+/// The monomial of a label, or `None` if its exponents exceed the limits or end in a zero.
 fn labelled_monomial(alloc: Global, label: &[u8]) -> Result<Option<Monomial>, NoMemory>
     ensures { IfOk result (λ found.
         MatchOption found (is_monomial_label (label_of label.now) ≡ false)
@@ -199,7 +200,7 @@ fn monomial_of(alloc: Global, exponents: &[u16]) -> Result<Option<Monomial>, NoM
     }
 }
 
-/// The monomial that was made of these exponents, if they have no zeros at the end.
+/// The monomial `m`, which was made of these exponents, if they have no zeros at the end.
 fn whole_monomial(m: Monomial, exponents: &[u16]) -> Option<Monomial>
     requires { m ≡ without_last_zeros exponents.now }
     ensures { MatchOption result (is_monomial_label exponents.now ≡ false)

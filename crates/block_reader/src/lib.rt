@@ -3,12 +3,11 @@
 //!
 //! What is proved:
 //!
-//! `read_back`: the answer of a kind whose block a text is. It has that kind, prints to the same
-//! bytes and is canonical; `NotPrinted` is returned only if the text is not a block of that kind.
-//! `read_one_line`: the expansion or product whose one-line form in a basis a text is. It has that
-//! kind, prints to the same bytes and is canonical, and the text without its LF is an expression
-//! that denotes the list of the answer; `NotPrinted` is returned only if the text is not such a
-//! form.
+//! `read_back`: the answer of a given kind whose block is a given text. It prints to the same bytes
+//! and is canonical; `NotPrinted` is returned only if the text is not a block of that kind.
+//! `read_one_line`: the expansion or product whose one-line form in a basis is a given text. It
+//! prints to the same bytes and is canonical, and the text without its LF is an expression that
+//! denotes the list of the answer; `NotPrinted` is returned only if the text is not such a form.
 #![tactic(auto)]
 
 mod coefficients;

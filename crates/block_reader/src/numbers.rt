@@ -30,7 +30,7 @@ fn with_digit(value: u128, digit: u8) -> Option<u128>
         .checked_add(u128::from(digit.saturating_sub(48)))
 }
 
-/// The whole number that a text spells, if it is a signed number of 128 bits.
+/// The integer that a text spells, if it is a signed number of 128 bits.
 pub(crate) fn signed_of(text: &[u8]) -> Option<i128>
     ensures { SomeIff result (FitsSigned w128 (signed_value text.now)) (signed_value text.now) }
 {
@@ -40,7 +40,7 @@ pub(crate) fn signed_of(text: &[u8]) -> Option<i128>
     }
 }
 
-/// A number as a signed number of 128 bits, if it is one.
+/// A number as a signed number of 128 bits, if it fits.
 fn positive(number: Option<u128>) -> Option<i128>
     ensures { (n : ℕ) → SomeIff number (n < 2 ^ 128) n
         → SomeIff result (FitsSigned w128 (pos n)) (pos n) }

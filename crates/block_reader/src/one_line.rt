@@ -54,7 +54,7 @@ fn checked(
     ensures not_printed { IsErrOf result ReadBackFault.NotPrinted
         → answer_text_in (as_line (basis_of basis)) (plain_answer answer) ≢ text.now }
 
-    // Memory is allocated only if the line has the length of the text.
+    // Memory can run out only if the line has the length of the text.
     ensures no_memory { IsErrOf result ReadBackFault.NoMemory
         → length (answer_text_in (as_line (basis_of basis)) (plain_answer answer))
         ≡ length text.now }

@@ -39,7 +39,7 @@ fn checked(alloc: Global, answer: Answer, text: &[u8]) -> Result<Answer, ReadBac
     ensures not_printed { IsErrOf result ReadBackFault.NotPrinted
         → answer_text (plain_answer answer) ≢ text.now }
 
-    // Memory is allocated only if the block has the length of the text.
+    // Memory can run out only if the block has the length of the text.
     ensures no_memory { IsErrOf result ReadBackFault.NoMemory
         → length (answer_text (plain_answer answer)) ≡ length text.now }
 {
@@ -119,7 +119,7 @@ fn read_expansion(alloc: Global, text: &[u8]) -> Result<Answer, ReadBackFault>
     Ok(Answer::Expansion { terms })
 }
 
-/// Reads partitions with whole coefficients.
+/// Reads partitions with integer coefficients.
 fn read_product(alloc: Global, text: &[u8]) -> Result<Answer, ReadBackFault>
     ensures { IsReading product text.now result }
 {
@@ -151,7 +151,7 @@ fn read_permutations(alloc: Global, text: &[u8]) -> Result<Answer, ReadBackFault
     Ok(Answer::Permutations { terms })
 }
 
-/// Reads monomials.
+/// Reads monomials with integer coefficients.
 fn read_polynomial(alloc: Global, text: &[u8]) -> Result<Answer, ReadBackFault>
     ensures { IsReading polynomial text.now result }
 {
@@ -159,7 +159,7 @@ fn read_polynomial(alloc: Global, text: &[u8]) -> Result<Answer, ReadBackFault>
     Ok(Answer::Polynomial { terms })
 }
 
-/// Reads permutations with a monomial beside them.
+/// Reads permutations, each with a monomial in the variables y.
 fn read_shifts(alloc: Global, text: &[u8]) -> Result<Answer, ReadBackFault>
     ensures { IsReading shifts text.now result }
 {

@@ -19,7 +19,8 @@ pub(crate) fn as_block(alloc: Global, text: &[u8]) -> Result<Vec<u8>, NoMemory>
     Ok(block)
 }
 
-/// Appends the text for a byte.
+/// Appends the part of the block for a byte of the one-line form; `bare` is whether no coefficient
+/// of the next atom has been read.
 fn put_byte(block: &mut Vec<u8>, bare: bool, byte: u8) -> Result<(), NoMemory>
     ensures { OnOk result (block.new.items ≡ block.old.items ++ emitted bare byte) }
 {
@@ -54,7 +55,7 @@ fn opening(bare: bool) -> &'static [u8]
     b"  ("
 }
 
-/// Whether the block has nothing for a byte: `+`, `*`, a letter, and the end of the line after an
+/// Whether a byte adds nothing to the block: `+`, `*`, a letter, and the end of the line after an
 /// atom.
 fn is_dropped(bare: bool, byte: u8) -> bool
     ensures { result ≡ is_dropped bare byte }
@@ -62,7 +63,7 @@ fn is_dropped(bare: bool, byte: u8) -> bool
     byte == b'+' || byte == b'*' || byte >= b'a' || bare && byte == b'\n'
 }
 
-/// Whether no coefficient of the next atom was read, once this byte has been read.
+/// Whether, after this byte, no coefficient of the next atom has been read.
 fn is_bare_after(bare: bool, byte: u8) -> bool
     ensures { result ≡ is_bare_after bare byte }
 {

@@ -1,4 +1,4 @@
--- A sink over a writer, if nothing waits in its buffer.
+-- If nothing waits in the buffer of a sink over a writer, the writer holds all that was written to the sink.
 use Rattle.std.proofs.Common.{◌≡◌, ℕ, List, [], ◌∷◌, Option, Some, None, true, false, refl, ap, ◌∙◌, append-nil}
 use Rattle.std.proofs.lemmas.Bool.{and_parts}
 use Rattle.std.specs.Io.KnownBytes.{append_known}

@@ -3,11 +3,11 @@
 //!
 //! What is proved:
 //!
-//! The program: it is proved safe, and its stored run is `expand m p[2,1]`. `code_of_run`: the exit
-//! code of the program is the code of a status that the words after the program's name may have, by
-//! `AnswersWords`. `code_for`: 7 or 8 if the system refuses the words. `run_over`: all clauses of
-//! `run`, over any reader and any writer with a buffer in front of it; and its clauses `headline`
-//! and `lines` also of the bytes that the writer itself holds.
+//! The program is proved safe; the run that is kept as its example is `expand m p[2,1]`.
+//! `code_of_run`: the exit code of the program is the code of a status that the words after the
+//! program's name may have, by `AnswersWords`. `code_for`: 7 or 8 if the system refuses the words.
+//! `run_over`: all clauses of `run`, over any reader and any writer with a buffer in front of it;
+//! its clauses `headline` and `lines` hold also for the bytes that the writer itself holds.
 #![tactic(auto)]
 
 ghost use Rattle.std.specs.Prelude.{◌≡◌, ◌≢◌, ℕ, List, Some, drop, map, string_bytes};
@@ -95,7 +95,7 @@ fn run_over<R: Read, W: Write + Drop>(
     source: &mut StdIn<R>,
     sink: &mut StdOut<W>,
 ) -> Status
-    // The clauses `headline` and `lines` of `run`, of the bytes that the writer itself holds:
+    // The clauses `headline` and `lines` of `run`, for the bytes that the writer itself holds:
     // nothing waits in the buffer.
     ensures headline { result ≡ Status.Done → (before : List ℕ)
         → told_bytes W.contents sink.old ≡ Some before
@@ -105,7 +105,7 @@ fn run_over<R: Read, W: Write + Drop>(
         → told_bytes W.contents sink.old ≡ Some before
         → PrintsLines before (R.remaining source.old.reader) (W.contents sink.new.writer) }
 
-    // The other clauses of `run`, of this source and this sink.
+    // The other clauses of `run`, for this source and this sink.
     ensures cut { RunsLines (map string_bytes words.now) → result ≡ Status.SinkFault
         → CutsLines (outlet_seen W.contents sink.old) (outlet_seen W.contents sink.new)
         (intake_seen R.remaining source.old)

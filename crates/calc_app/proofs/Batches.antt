@@ -49,7 +49,7 @@ line_reply too_long command outcome read reply = absurd read
 line_reply passed_over command outcome read reply = absurd read
 line_reply (spoken words) command outcome read reply = computes_reply batch_entries words (command_of command) (Ok outcome) read.0 reply
 
--- the block of the line has this text, and an ending that matches the status
+-- the block of the line consists of this text and an ending whose status is `answer`
 pub record HasBlockOf (line : BatchLine) (text : List ℕ) (answer : Status) : Type 0 where
   pub ending : Ending
   pub are : AreBlocks batch_entries (line ∷ []) ((text, ending) ∷ [])
@@ -90,7 +90,7 @@ abbrev pub is_none : List Block → Bool
 is_none [] = true
 is_none (b ∷ blocks) = false
 
--- the lines were read, and their blocks were written
+-- the lines `lines` of the source were read, their blocks were written, and no fault was counted
 pub record Runs (first now : SinkSeen) (source here : SourceSeen) (pending : List ℕ) (has_ended : Bool) (progress : Progress) : Type 0 where
   pub lines : List (List ℕ)
   pub spelled : List ℕ
@@ -121,7 +121,7 @@ begins sink source = record {
   source_still = refl;
 }
 
--- a line was read next, and `comes` is its outcome
+-- a line was read after the pending bytes, and `comes` is its outcome, `None` if it has none
 pub record TookLine (before now : SourceSeen) (pending behind : List ℕ) (ended : Bool) (comes : Option Outcome) : Type 0 where
   pub taken : List ℕ
   pub took : Took before.left now.left taken
@@ -193,7 +193,7 @@ pub passed_took : {before now : SourceSeen} {pending behind : List ℕ} {ended :
     → TakesTurn before now pending behind ended turn.Passed → TookLine before now pending behind ended None
 passed_took t = took_line None t (λ e. subst (λ r. IsTurn r t.line turn.Passed) e t.is) passed_comes
 
--- the end of the source was read: it has no further line
+-- the source was read to its end, without a further line
 pub record TookEnd (before now : SourceSeen) (pending behind : List ℕ) : Type 0 where
   pub taken : List ℕ
   pub took : Took before.left now.left taken
@@ -213,7 +213,7 @@ last_took {before = before} {now = now} {pending = pending} {behind = behind} t 
       ends = subst (λ x. EndsAtEnd (pending ++ t.reads.taken) x behind now.left) e.0 e.1;
     }
 
--- ---- after one more line was read, and its block written
+-- ---- the state of a batch after one more line was read and its block written
 
 map_more : (lines : List (List ℕ)) (line : List ℕ) → map batch_line (lines ++ line ∷ []) ≡ map batch_line lines ++ batch_line line ∷ []
 map_more lines line = map-append batch_line lines (line ∷ [])
@@ -289,7 +289,7 @@ runs_block {first = first} {sink = sink} {next_sink = next_sink} {source = sourc
 
 -- ---- the end of a batch
 
--- `SinkFault` and `NoMemory` are not statuses of a batch that was read to its end
+-- `SinkFault`, `NoMemory` and `SourceFault` are not statuses of a batch that was read to its end
 is_cut : IsThrough status.SinkFault → ⊥
 is_cut (inl e) = cc
 is_cut (inr e) = cc
@@ -305,7 +305,7 @@ is_source_fault (inr e) = cc
 no_end : {answer : Status} {Read : Type 0} → (IsThrough answer → ⊥) → IsThrough answer → Read
 no_end none through = absurd (none through)
 
--- a text over the lines of an input is a text over the input
+-- the text of the blocks of the lines of an input is the text of a batch over the input
 runs_input : (input : List ℕ) (lines : List (List ℕ)) (blocks : List Block) → AreBlocks batch_entries (map batch_line lines) blocks → lines_of input ≡ lines
     → RunsInput batch_entries input (batch_text blocks) (batch_ending blocks)
 runs_input input lines blocks are same = record {
@@ -315,7 +315,7 @@ runs_input input lines blocks are same = record {
   ends = refl;
 }
 
--- if the blocks of the lines were written whole, and a prefix of the next block, this is what `CutsBlock` states
+-- if the blocks of the lines were written whole, and after them a prefix of the separator and the next block, `CutsBlock` holds
 cuts_block : (first sink next_sink : SinkSeen) (lines : List (List ℕ)) (line : List ℕ) (blocks : List Block) (b : Block) → AreBlocks batch_entries (map batch_line lines) blocks → AreBlocks batch_entries (batch_line line ∷ []) (b ∷ [])
     → Appends first sink (batch_text blocks) → AppendsPrefix sink next_sink (separator (is_none blocks) ++ b.0)
     → CutsBlock first next_sink (map batch_line (lines ++ line ∷ []))
@@ -377,7 +377,7 @@ ends_cut {first = first} {sink = sink} {next_sink = next_sink} {source = source}
       };
     }
 
--- if memory runs out after these lines, the batch ends with `NoMemory`
+-- if memory runs out while a further line is read, the batch ends with `NoMemory`
 pub ends_full : {first sink : SinkSeen} {source before now : SourceSeen} (Untouched : Type 0) {pending : List ℕ} {had : Bool} {progress : Progress}
     → Runs first sink source before pending had progress → now.faults ≡ before.faults
     → (taken : List ℕ) × Took before.left now.left taken → EndsBatch first sink source now Untouched status.NoMemory
@@ -414,7 +414,7 @@ put_nothing first sink next_sink text appended cut =
     subst (Appends first next_sink)
     (ap (λ xs. text ++ xs) (no_front cut.front cut.is_prefix.rest cut.is_prefix.joined) ∙ append-nil text) (Appends-then appended cut.appends)
 
--- if the finish fails after the blocks of the lines so far, these blocks were written whole
+-- if `finish` of the sink fails after the blocks of the lines so far, and no further line feed was read, the batch ends with `SinkFault`
 finish_cut : {first sink next_sink : SinkSeen} {source now : SourceSeen} (Untouched : Type 0) {lines : List (List ℕ)} {piece : List ℕ} (blocks : List Block)
     → AreBlocks batch_entries (map batch_line lines) blocks → Appends first sink (batch_text blocks) → sink.faults ≡ first.faults
     → Puts true sink false next_sink [] → Cut source.left now.left lines piece → HasNoFeed piece → source.faults ≤ now.faults
@@ -447,7 +447,7 @@ finished_text : (first sink next_sink : SinkSeen) (text : List ℕ) → Appends 
 finished_text first sink next_sink text appended puts =
     subst (Appends first next_sink) (append-nil text) (Appends-then appended (puts.whole refl))
 
--- after a finish that succeeded, the blocks of the same lines have been written
+-- if `finish` of the sink succeeds, the blocks of the lines read so far have been written
 pub runs_handed : {first sink next_sink : SinkSeen} {source now : SourceSeen} {pending : List ℕ} {had : Bool} {progress : Progress}
     → Runs first sink source now pending had progress → Puts true sink true next_sink [] → Runs first next_sink source now pending had progress
 runs_handed {first = first} {sink = sink} {next_sink = next_sink} r puts = record {
@@ -465,7 +465,7 @@ runs_handed {first = first} {sink = sink} {next_sink = next_sink} r puts = recor
   source_still = r.source_still;
 }
 
--- if the finish before a further line is read fails, the batch ends with `SinkFault`
+-- if `finish` of the sink fails before a further line is read, the batch ends with `SinkFault`
 pub ends_held : {first sink next_sink : SinkSeen} {source now : SourceSeen} (Untouched : Type 0) {pending : List ℕ} {had : Bool} {progress : Progress}
     → Runs first sink source now pending had progress → HasNoFeed pending → Puts true sink false next_sink []
     → EndsBatch first next_sink source now Untouched status.SinkFault
@@ -474,7 +474,7 @@ ends_held {source = source} {now = now} Untouched {pending = pending} {had = had
     (read_cut source.left now.left now.left [] pending r.spelled r.lines had r.read r.is_spelled r.is_whole (took_nothing now.left))
     (subst HasNoFeed (sym (append-nil pending)) none) (let s = r.source_still in omega (arith, s))
 
--- the status at the end of a batch is the status of its ending
+-- if `is_done` says whether all blocks have the ending `done`, the status at the end is that of the ending of the blocks
 end_same : (progress : Progress) (blocks : List Block) → progress.is_done ≡ are_done blocks → end_status progress ≡ status_of (batch_ending blocks)
 end_same progress blocks same = ap (λ x. cond x status.Done status.SomeRefused) same ∙ by (are_done blocks)
   where
@@ -482,7 +482,7 @@ end_same progress blocks same = ap (λ x. cond x status.Done status.SomeRefused)
     by true = refl
     by false = refl
 
--- if the end of the source was read and the sink was finished, the batch ends with the status of its blocks
+-- if the end of the source was read, the batch ends with the status of its blocks, or with `SinkFault` if `finish` failed
 pub ends_last : {first sink next_sink : SinkSeen} {source before now : SourceSeen} (Untouched : Type 0) {pending behind : List ℕ} {had : Bool}
     {progress : Progress} {answer result : Status} → Runs first sink source before pending had progress
     → TookEnd before now pending behind → now.faults ≡ before.faults → answer ≡ end_status progress
@@ -510,7 +510,7 @@ ends_last {first = first} {sink = sink} {next_sink = next_sink} {source = source
         (read_cut source.left before.left now.left t.taken pending r.spelled r.lines had r.read r.is_spelled r.is_whole t.took)
         (subst HasNoFeed (sym t.ends.whole) tt) (let s = same ∙ r.source_still in omega (arith, s)))
 
--- if the source failed and the sink was finished, the batch ends with `SourceFault`
+-- if the source failed, the batch ends with `SourceFault`, or with `SinkFault` if `finish` failed
 pub ends_source : {first sink next_sink : SinkSeen} {source before now : SourceSeen} (Untouched : Type 0) {pending : List ℕ} {progress : Progress}
     {result : Status} → Runs first sink source before pending false progress
     → TookPart before.left now.left pending → Rose before.faults now.faults → before.faults ≤ now.faults

@@ -1,5 +1,5 @@
--- The three kinds of commands: those that name an expansion, those that print lines (tableaux, words, grids), and those
--- that run other commands.
+-- The three kinds of commands: those that ask for an expansion (a number or a list of terms), those that print other lines
+-- (tableaux, words, grids), and those that run other commands.
 use Rattle.std.proofs.Common.{ℕ, List, Option, inl, inr, ◌⊎◌, refl}
 use Rattle.std.specs.Prelude.{ℤ}
 use Rattle.sym_model.specs.Answer.{Answer as PlainAnswer}
@@ -18,7 +18,7 @@ use Rattle.calc_replies.specs.Computed.{Tells}
 use Rattle.calc_app.specs.Top.{IsInput, Says, SaysOver}
 use Rattle.sym_model.specs.Partition.{ArePartitions}
 
--- the command names an expansion
+-- the command asks for an expansion: a text answers it if and only if it is the text of an expansion that it asks for
 pub record NamesExpansion (command : Command) : Type 0 where
   pub answers : (text : List ℕ) (ending : Ending) → Expands command text ending → Answers command text ending
   pub expands : (text : List ℕ) (ending : Ending) → Answers command text ending → Expands command text ending
@@ -28,7 +28,7 @@ pub record NamesExpansion (command : Command) : Type 0 where
   pub says : (text : List ℕ) → KeepsLimits command → ReadsBack command text → Says command text
   pub says_over : (left : Option (List ℕ)) (text : List ℕ) → Says command text → SaysOver left command text
 
--- the command prints lines
+-- the command prints lines that are not terms: tableaux, words or grids
 pub record TellsLines (command : Command) : Type 0 where
   pub answers : (text : List ℕ) → Tells command text → Answers command text done
   pub over : (input text : List ℕ) (ending : Ending) → Answers command text ending → AnswersWith batch_entries input command text ending
@@ -47,17 +47,17 @@ pub record RunsOthers (command : Command) : Type 0 where
   pub says_over : (left : Option (List ℕ)) (input text : List ℕ) → IsInput left input
       → AnswersWith batch_entries input command text done → SaysOver left command text
 
--- a command with no defined coefficient and no weight is never too large
+-- a command with no defined coefficient and no weight cannot be refused as too large
 not_large : (command : Command) → ((c : ℤ) → IsDefinedCoefficient command c → ⊥) → ((weight : ℕ) → HasWeight command weight → ⊥)
     → MayBeLarge command → ⊥
 not_large command h k (inl large) = h large.0 large.1
 not_large command h k (inr heavy) = k heavy.0 heavy.1
 
--- the factors of words are partitions
+-- factors that are written within the limits are partitions
 are_partitions : (factors : List (List ℕ)) → EachOf IsWritten factors → ArePartitions factors
 are_partitions factors written parts among = (each_in IsWritten parts factors written among).partition
 
--- every command is of one of the three kinds
+-- every command asks for an expansion, prints tableaux, words or grids, or runs other commands
 pub kind : (command : Command) → NamesExpansion command ⊎ TellsLines command ⊎ RunsOthers command
 kind (tab outer inner last) = inr (inl (record { answers = λ t h. (h, refl); over = λ i t e h. h; alone = λ i t e h. h; unnamed = λ a h. h; small = not_large (tab outer inner last) (λ c h. h) (λ w h. h); says = λ t h. h; says_over = λ l t h. h }))
 kind (rsk w) = inr (inl (record { answers = λ t h. (h, refl); over = λ i t e h. h; alone = λ i t e h. h; unnamed = λ a h. h; small = not_large (rsk w) (λ c h. h) (λ w h. h); says = λ t h. h; says_over = λ l t h. h }))

@@ -1,4 +1,4 @@
--- The clauses of the top call after an outcome was written, and after lines were run.
+-- The clauses of the top call `run` after an outcome was written, and after lines were run.
 use Rattle.std.proofs.Common.{◌≡◌, ◌⊎◌, ℕ, List, [], ◌∷◌, ◌++◌, Bool, true, false, cond, map, Some, refl, sym, ◌∙◌, ap, subst, inl, inr, arith}
 use Rattle.std.specs.Prelude.{Ok}
 use Rattle.calc_base.specs.declared.status.Status.{Status}
@@ -30,7 +30,7 @@ use Rattle.calc_app.specs.Batch.{EndsBatch}
 use Rattle.calc_app.proofs.Faults.{no_faults, sink_failed, ends_well}
 use Rattle.calc_app.proofs.Outcomes.{has_outcome, headline, leaves_whole, leaves_prefix, answers_say, not_done, accepted, refuses_offence, refuses_place, cut_answers}
 
--- the properties of the task for the words
+-- the clauses that `task_of` ensures of the task for the words
 pub record HasTask (words : List (List ℕ)) (task : Task) : Type 0 where
   pub computes : IsTaskFor words (Ok task)
   pub accepts : (command : Command) → SpellsWithoutOffence command_entries words command → AcceptsTask command (Ok task)
@@ -54,7 +54,7 @@ pub record Ran (words : List (List ℕ)) (old new : SinkSeen) (source now : Sour
   pub faults : HidesNoFault old new source now result
   pub all_read : RunsLines words → IsThrough result → IsEmptied now.left
 
--- ---- the clauses after an outcome was written
+-- ---- the clauses of the top call after an outcome was written
 
 put_leaves : (words : List (List ℕ)) (old new : SinkSeen) (source : SourceSeen) (Untouched : Type 0) (outcome : Outcome) (result : Status)
     → HasTask words (Put outcome) → PutsOutcome old new outcome result
@@ -108,7 +108,7 @@ put_ran words old new source Untouched outcome result task p =
       all_read = λ runs. absurd ((task.accepts batch runs).1 refl);
     }
 
--- ---- the clauses after lines were run
+-- ---- the clauses of the top call after lines were run
 
 -- a text that is defined for the lines of an input is defined for the words that run them
 runs_outcome : (words : List (List ℕ)) (input text : List ℕ) (ending : Ending) → RunsLines words → RunsInput batch_entries input text ending

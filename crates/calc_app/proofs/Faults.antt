@@ -8,7 +8,7 @@ use Rattle.calc_base.specs.Source.{SourceSeen}
 use Rattle.sym_model.specs.Ending.{Ending, done, some_refused, syntax, range, past}
 use Rattle.calc_app.specs.Top.{status_of, HidesNoFault}
 
--- if no fault was counted and the status is not a fault, none is hidden
+-- if neither count of faults changed, and the status is not that of a fault of the sink or the source, no fault is hidden
 pub no_faults : {old new : SinkSeen} {source now : SourceSeen} {answer : Status} → (answer ≡ status.SinkFault → ⊥) × (answer ≡ status.SourceFault → ⊥)
     → new.faults ≡ old.faults → now.faults ≡ source.faults → HidesNoFault old new source now answer
 no_faults others still source_still = record {
@@ -32,7 +32,7 @@ sink_failed rose later source_later = record {
   source_later = source_later;
 }
 
--- if the source failed and the sink did not, `SourceFault` hides no fault
+-- if the source counted one more fault, its count did not decrease and that of the sink did not change, `SourceFault` hides no fault
 pub source_failed : {old new : SinkSeen} {source now : SourceSeen} → new.faults ≡ old.faults → Rose source.faults now.faults → source.faults ≤ now.faults
     → HidesNoFault old new source now status.SourceFault
 source_failed still rose later = record {

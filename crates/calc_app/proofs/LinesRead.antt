@@ -6,11 +6,12 @@ use Rattle.batch_lines.specs.Reading.{Took, IsAtEnd, EndsAtFeed, EndsAtEnd, Took
 use Rattle.sym_model.specs.BatchLine.{lines_of}
 use Rattle.calc_app.specs.Top.{IsInput, IsFrontOf, IsWholeLines}
 
--- the text ends at the end of a line: its lines are these, followed by the lines of whatever comes after it
+-- the text `front` ends at the end of a line: with any text after it, the lines are `lines` followed by the lines of that
+-- text
 abbrev pub IsEnded : List ℕ → List (List ℕ) → Type 0
 IsEnded front lines = (text : List ℕ) → lines_of (front ++ text) ≡ lines ++ lines_of text
 
--- the lines that were read: the last one ends at a line feed, or the source was found at its end
+-- either the last line read ends at a line feed, or the source was found at its end and these are all its lines
 abbrev Stands : Bool → (front behind : List ℕ) → List (List ℕ) → Type 0
 Stands false front behind lines = IsEnded front lines × IsWholeLines front
 Stands true front behind lines = (behind ≡ []) × (lines_of front ≡ lines)
@@ -47,9 +48,9 @@ read_end None now lines pending true r = r
 pub begin_spelled : IsEnded [] []
 begin_spelled = λ text. refl
 
--- ---- after one more line was read
+-- ---- the lines read so far, after one more line was read
 
--- the bytes of a line that is read next, and what comes after it
+-- the bytes `all` are `text`, a line feed and `behind`; or they are `text`, which is not empty, at the end of the source
 abbrev pub EndsLine : Bool → (all text behind : List ℕ) → Option (List ℕ) → Type 0
 EndsLine false all text behind now = EndsAtFeed all text behind
 EndsLine true all text behind now = EndsAtEnd all text behind now × (0 < length text)
@@ -130,7 +131,7 @@ fewer_left allowance less taken pending text behind now true spent e =
 front_lines : (front : List ℕ) (lines : List (List ℕ)) → IsEnded front lines → lines_of front ≡ lines
 front_lines front lines h = ap lines_of (sym (append-nil front)) ∙ h [] ∙ append-nil lines
 
--- an input with these lines, which is all that the source had left if it records that
+-- an input whose lines are `lines`; it is all that the source had left if the source records that
 pub record Whole (left : Option (List ℕ)) (lines : List (List ℕ)) : Type 0 where
   pub input : List ℕ
   pub is_input : IsInput left input
@@ -172,7 +173,7 @@ front_told input rest lines pending had r = by had r.state
     by true s =
         (s.1, [], ap lines_of (r.cut ∙ ap (λ t. r.front ++ t) s.0 ∙ append-nil r.front) ∙ sym (append-nil (lines_of r.front)))
 
--- the first lines, each of which ends in what was read, and a piece that was read after them
+-- `front` is the text of the first lines `lines`, each of which ends in what was read, and `piece` was read after it
 pub record Cut (left now : Option (List ℕ)) (lines : List (List ℕ)) (piece : List ℕ) : Type 0 where
   pub front : List ℕ
   pub took : Took left now (front ++ piece)
@@ -204,7 +205,7 @@ read_cut (Some input) None now taken pending spelled lines had r ended whole too
 read_cut None before now taken pending spelled lines had r ended whole took =
     record { front = spelled; took = tt; is_ended = inl whole; is_front = tt; are = front_lines spelled lines ended }
 
--- the first lines, and what was read after them, in which no line ends
+-- `front` is the text of the first lines `lines`, and `piece`, which has no line feed, was read after it
 pub record Part (left now : Option (List ℕ)) (lines : List (List ℕ)) : Type 0 where
   pub front : List ℕ
   pub piece : List ℕ

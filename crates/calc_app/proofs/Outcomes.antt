@@ -1,4 +1,4 @@
--- The text written for what was computed is one that is defined for the words.
+-- The text that is written for a computed outcome is one that is defined for the words.
 use Rattle.std.proofs.Common.{◌≡◌, ℕ, List, ◌++◌, true, Option, Some, refl, sym, ◌∙◌, ap, subst, inl, inr, ◌⊎◌}
 use Rattle.std.specs.Prelude.{codes, None, Ok, []}
 use Rattle.calc_base.specs.declared.status.Status.{Status}
@@ -39,7 +39,7 @@ use Rattle.calc_app.specs.Top.{IsOutcome, IsInput, IsFrontOf, RunsLines, Says, S
 
 -- ---- the text of the answer to a command
 
--- the text of an answer to a command, in the form that the command asks for, is what `PrintsAnswer` requires
+-- the text of an answer to a command, in the form that the command asks for, satisfies `PrintsAnswer`
 prints : (command : Command) (answer : Answer) (form : Form) → Meets command (plain_answer answer) → plain_form form ≡ printed_form command
     → IsPrintable (plain_answer answer) → PrintsAnswer command (answer_text_in (plain_form form) (plain_answer answer))
 prints command answer form meets asked printable = record {
@@ -129,7 +129,7 @@ has_outcome entries words (Told lines) computes block = record {
   same = refl;
 }
 
--- a command that runs no other ones has the same outcome over every input
+-- a text that answers a command answers it over every input
 answers_alone : (input : List ℕ) (command : Command) (text : List ℕ) (ending : Ending) → Answers command text ending
     → AnswersWith batch_entries input command text ending
 answers_alone input command text ending answers = by (kind command)
@@ -157,7 +157,8 @@ no_some_refused (Refused fault.NoMemory) is = cc
 no_some_refused Large is = cc
 no_some_refused (Told lines) is = cc
 
--- if a text that is defined for the words was written whole, the clause `Leaves` holds
+-- if a text that is defined for the words was written whole, `finish` succeeded, and lines are run if the status is `SomeRefused`,
+-- the clause `Leaves` holds
 pub leaves_ending : (old new : SinkSeen) (source now : SourceSeen) (Untouched Runs : Type 0) (Defined : List ℕ → List ℕ → Ending → Type 0)
     (input text : List ℕ) (ending : Ending) → IsInput source.left input → Defined input text ending → (status_of ending ≡ status.SomeRefused → Runs)
     → Appends old new text → new.settled ≡ true → Leaves old new source now Untouched Runs Defined (status_of ending)
@@ -228,7 +229,7 @@ expands_say command text (inl expands) =
     subst (ReadsBack command) (sym prints.printed) (says_text command prints.answer prints.meets prints.printable)
 expands_say command text (inr refused) = let clash : done ≡ past = refused.2 in cc
 
--- the text of a command that was answered is the answer to the command
+-- if a command keeps its limits, the text that answers it with the ending `done` satisfies `Says`
 pub answers_say : (command : Command) (text : List ℕ) → KeepsLimits command → Answers command text done → Says command text
 answers_say command text keeps answers = by (kind command)
   where
@@ -331,7 +332,7 @@ cut_answers words IsPut answer cut = record {
   no_command = λ word byte place. was_cut_off syntax (IsPut (refusal_line (codes "Syntax") word byte)) answer cut;
 }
 
--- a reply to words with P of the line that was written is one with Q, if P implies Q
+-- if P implies Q, the clause `AnswersWords` with P for the line that was written implies the clause with Q
 pub answers_as : {words : List (List ℕ)} {status : Status} (P Q : List ℕ → Type 0) → ((line : List ℕ) → P line → Q line) → AnswersWords words P status
     → AnswersWords words Q status
 answers_as P Q carry a = record {

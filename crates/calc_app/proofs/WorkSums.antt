@@ -50,7 +50,7 @@ add_some line outcome (Err e) old new comes sums small block = tt
 pub add_none : (line : BatchLine) (sums : Sums) → ComesOfLine line None → AreSmall sums → AddsLine line sums sums
 add_none line sums comes small = record { blocks = []; are = comes_nothing line comes; added = refl; small = small; one = omega arith }
 
--- ---- the sums over the lines so far
+-- ---- the sums over the blocks of the lines run so far
 
 pub record SoFar (lines seed index state : ℕ) (sums : Sums) : Type 0 where
   pub ran : List (List ℕ)
@@ -183,7 +183,7 @@ work_leaves words old new source Untouched lines seed result spelled (inr w) = b
           appended = puts.cut refl refl;
         })
 
--- the three statuses of `work`, and its faults
+-- the clauses of the top call on acceptance and on faults, after `work` has ended
 record WorkEnded (old new : SinkSeen) (source : SourceSeen) (result : Status) : Type 0 where
   accepted : (command : Command) → IsAccepted command result
   faults : HidesNoFault old new source source result

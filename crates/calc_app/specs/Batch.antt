@@ -52,7 +52,7 @@ IsTurn next.End line Passed = ⊥
 IsTurn next.End line (Block outcome) = ⊥
 IsTurn next.End line Last = Unit {0}
 
--- the next line was read, and this is its outcome
+-- the next line was read, and `turn` is its outcome
 pub record TakesTurn (before now : SourceSeen) (pending left_pending : List ℕ) (has_ended : Bool)
     (turn : Turn) : Type 0 where
   pub line : List ℕ
@@ -60,7 +60,8 @@ pub record TakesTurn (before now : SourceSeen) (pending left_pending : List ℕ)
   pub reads : ReadsNext before now pending left_pending line has_ended read
   pub is : IsTurn read line turn
 
--- if the source failed, it had not ended before, and what was taken has no complete line
+-- if the source failed, it had not ended before, and neither the pending bytes nor those that were taken from it
+-- have a line feed
 abbrev pub CutsTurn : (before now : Option (List ℕ)) → List ℕ → (had_ended : Bool)
     → Result Turn LineFault → Type 0
 CutsTurn before now pending had_ended (Ok turn) = Unit {0}
@@ -68,7 +69,7 @@ CutsTurn before now pending had_ended (Err line_fault.SourceFault) =
     (had_ended ≡ false) × TookPart before now pending
 CutsTurn before now pending had_ended (Err line_fault.NoMemory) = Unit {0}
 
--- the count of faults is one more after `SourceFault`, and the same otherwise
+-- the count of faults is one more after `SourceFault`, and unchanged otherwise
 abbrev pub CountsTurn : (before now : ℕ) → Result Turn LineFault → Type 0
 CountsTurn before now (Ok turn) = now ≡ before
 CountsTurn before now (Err line_fault.SourceFault) = Rose before now
@@ -76,8 +77,8 @@ CountsTurn before now (Err line_fault.NoMemory) = now ≡ before
 
 -- ---- the end of a batch
 
--- The end of a batch: the bytes in the sink, the faults that were counted, and, if the status says so, that the whole
--- input was read.
+-- The end of a batch: the bytes in the sink; the faults that were counted; if the status says so, that the whole
+-- input was read; and after a fault of the sink, the lines that were read and written.
 pub record EndsBatch (old new : SinkSeen) (source now : SourceSeen) (Untouched : Type 0)
     (result : Status) : Type 0 where
   pub leaves : Leaves old new source now Untouched (Unit {0}) (RunsInput batch_entries) result

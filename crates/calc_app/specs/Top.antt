@@ -1,4 +1,4 @@
--- The promises of the top call, by cases on the status that it returns.
+-- The contract of the call that runs a command, by cases on the status that it returns.
 use Rattle.std.specs.Prelude.{◌≡◌, ◌≢◌, ◌⊎◌, ◌+◌, ◌≤◌, ℕ, List, [], ◌∷◌, ◌++◌, length, Bool, true}
 use Rattle.std.specs.Prelude.{codes, map, Option, Some, IfSome}
 use Rattle.calc_base.specs.declared.status.Status.{Status}
@@ -32,7 +32,7 @@ use Rattle.rim_hooks.specs.PrintedSteps.{ReadsReducedInSteps, ReadsReflectedInSt
 
 -- ---- the texts that are defined for words and an input
 
--- the text is defined for the words over an input, with this ending
+-- the text and the ending are an outcome of the words if the source has this input
 abbrev pub IsOutcome : List (List ℕ) → List ℕ → List ℕ → Ending → Type 0
 IsOutcome words input text ending =
     IsOutcomeOf command_entries batch_entries words input text ending
@@ -58,7 +58,7 @@ IsEmptied left = IfSome left (λ rest. rest ≡ [])
 abbrev pub IsWholeLines : List ℕ → Type 0
 IsWholeLines text = (text ≡ []) ⊎ ((front : List ℕ) × (text ≡ front ++ 10 ∷ []))
 
--- the status of a command that ends in this way
+-- the status of a command with this ending
 abbrev pub status_of : Ending → Status
 status_of done = Done
 status_of some_refused = SomeRefused
@@ -68,8 +68,7 @@ status_of past = Past
 
 -- ---- the bytes left in the sink; `Defined input text ending` says which texts are defined over an input
 
--- a text that is defined over the whole input, with this ending, was appended whole,
--- and the sink is settled
+-- a text that is defined over the whole input, with this ending, was appended whole, and `finish` succeeded after it
 pub record PutsWhole (old new : SinkSeen) (source : SourceSeen)
     (Defined : List ℕ → List ℕ → Ending → Type 0) (ending : Ending) : Type 0 where
   pub input : List ℕ
@@ -103,8 +102,8 @@ pub record PutsFront (old new : SinkSeen) (source now : SourceSeen)
   pub outcome : Defined front text ending
   pub appended : Appends old new text
 
--- The text of the lines that were read completely was appended whole, and the sink is settled. The piece that was read
--- after those lines has no line feed.
+-- The text of the lines that were read completely was appended whole, and `finish` succeeded after it. The piece that was
+-- read after those lines has no line feed.
 pub record PutsRead (old new : SinkSeen) (source now : SourceSeen)
     (Defined : List ℕ → List ℕ → Ending → Type 0) : Type 0 where
   pub front : List ℕ
@@ -119,10 +118,11 @@ pub record PutsRead (old new : SinkSeen) (source now : SourceSeen)
   pub appended : Appends old new text
   pub is_settled : new.settled ≡ true
 
--- The bytes that a command leaves in the sink, by its status: the whole text, settled; after a fault of the sink a
--- prefix of the text of the first lines; after a fault of the source the text of the lines read completely, settled;
--- without memory nothing or, if lines are run, the text of the first ones. `Untouched` says that no call of the sink
--- was made, and `Runs` that lines are run; only then can the status be `SomeRefused` or `SourceFault`.
+-- The bytes that a command leaves in the sink, by its status: the whole text, with a successful `finish` after it; after a
+-- fault of the sink a prefix of the text of the first lines; after a fault of the source the text of the lines read
+-- completely, with a successful `finish` after it; without memory nothing or, if lines are run, the text of the first ones.
+-- `Untouched` says that no call of the sink was made, and `Runs` that lines are run; only then can the status be
+-- `SomeRefused` or `SourceFault`.
 abbrev pub Leaves : (old new : SinkSeen) (source now : SourceSeen) (Untouched Runs : Type 0)
     → (List ℕ → List ℕ → Ending → Type 0) → Status → Type 0
 Leaves old new source now Untouched Runs Defined Done = PutsWhole old new source Defined done
@@ -137,9 +137,9 @@ Leaves old new source now Untouched Runs Defined SourceFault =
 Leaves old new source now Untouched Runs Defined NoMemory =
     Untouched ⊎ (Runs × PutsFront old new source now Defined)
 
--- No fault is hidden: with `SinkFault` the sink's count of faults is greater by exactly one, or is 2^64 - 1, and with
--- every other status it has not changed. The same holds of the source with `SourceFault`, except that a fault of the
--- sink can follow one of the source. No count decreases.
+-- No fault is hidden: with `SinkFault` the sink's count of faults is greater by exactly one, or is 2^64 - 1, and
+-- with every other status it has not changed. With `SourceFault` the source's count is greater by exactly one, or is
+-- 2^64 - 1; with every status but `SourceFault` and `SinkFault` it has not changed. No count decreases.
 pub record HidesNoFault (old new : SinkSeen) (source now : SourceSeen)
     (status : Status) : Type 0 where
   pub sink_fault : status ≡ SinkFault → Rose old.faults new.faults
@@ -152,8 +152,8 @@ pub record HidesNoFault (old new : SinkSeen) (source now : SourceSeen)
 -- ---- the headline: the text that was written is the answer
 
 -- The meaning of the text of a command that runs no lines. For `tab`, `rsk`, `unrsk`, `rect` and `growth` it is the
--- text that is defined for them. For the others the text reads back as a canonical list of terms, which is the answer
--- to the command; for `quantum` and `fusion` that list is also the result of reducing after each factor.
+-- text that is defined for them. For any other command the text reads back as a canonical list of terms, which is the
+-- answer to the command; for `quantum` and `fusion` that list is also the result of reducing after each factor.
 abbrev pub Says : Command → List ℕ → Type 0
 Says (quantum rows columns factors) text =
     ReadsBack (quantum rows columns factors) text
@@ -178,10 +178,11 @@ SaysOver left batch text =
 SaysOver left (work lines seed) text = RunsWorkload batch_entries lines seed text
 SaysOver left command text = Says command text
 
--- The headline. A text was appended to the bytes written before. The words spell a command without an error; the text,
--- read back, is a canonical list of terms; and that list is the answer to the command; for `tab` the text is the list
--- of tableaux. For `expand m` and an expression: in every number of variables the list, read in the monomial basis, is
--- the expression.
+-- The headline: the words spell a command without an error, and the text that was appended to the bytes written
+-- before is the answer to it: read back, a canonical list of terms; for `tab`, `rsk`, `unrsk`, `rect` and `growth`
+-- the text that is defined for it; for `batch` the blocks of its lines and for `work` the sums over them. For
+-- `expand m` and an expression, for example, the list, read in the monomial basis, is the expression in every number
+-- of variables.
 pub record PrintsAnswerTo (words : List (List ℕ)) (before : List ℕ)
     (left now : Option (List ℕ)) : Type 0 where
   pub text : List ℕ
@@ -231,7 +232,7 @@ pub record CutsBlock (old new : SinkSeen) (lines : List BatchLine) : Type 0 wher
   pub is_shown : IsPrefix (batch_text blocks ++ shown) (batch_text (blocks ++ last ∷ []))
   pub appended : Appends old new (batch_text blocks ++ shown)
 
--- the lines have blocks by the definition, and the texts of all these blocks were written whole
+-- `blocks` are the outcomes of the lines that are not skipped, and their texts were appended whole
 pub record PutsBlocks (old new : SinkSeen) (lines : List BatchLine) : Type 0 where
   pub blocks : List Block
   pub are_blocks : AreBlocks batch_entries lines blocks
@@ -286,8 +287,8 @@ pub record AnswersWords (words : List (List ℕ)) (IsPut : List ℕ → Type 0)
 
 -- ---- writing an outcome to the sink
 
--- The text of the outcome was written and the sink finished, with the status of the outcome; or the sink failed. The
--- block of an answer can be read back.
+-- The text of the outcome was written and the sink finished, and the result is the status of the outcome; or the
+-- sink failed, and the result is `SinkFault`. The block of an answer can be read back.
 pub record PutsOutcome (old new : SinkSeen) (outcome : Outcome) (result : Status) : Type 0 where
   pub well : Bool
   pub puts : Puts true old well new (text_of outcome)

@@ -16,7 +16,7 @@ use Rattle.batch_lines.specs.Totals.{sums_over, sums_with, AreSmall, sums_text}
 abbrev pub texts_of : List Block → List (List ℕ)
 texts_of blocks = map (λ (b : Block). b.0) blocks
 
--- the sums after the blocks with these texts, in order
+-- the sums s with the blocks of the given texts added
 abbrev pub sums_more : Sums → List (List ℕ) → Sums
 sums_more s [] = s
 sums_more s (text ∷ texts) = sums_more (sums_with s text) texts
@@ -35,7 +35,8 @@ pub record AreSumsOf (lines seed : ℕ) (sums : Sums) : Type 0 where
   pub are : AreBlocks batch_entries (map batch_line (work_lines lines seed)) blocks
   pub sum_up : sums ≡ sums_over (texts_of blocks)
 
--- The text of the sums was written and the sink finished, or the sink failed.
+-- The text of the sums was written, the sink finished, and the result is `Done`; or the sink failed, and the result
+-- is `SinkFault`.
 pub record PutsSums (old new : SinkSeen) (sums : Sums) (result : Status) : Type 0 where
   pub well : Bool
   pub puts : Puts true old well new (sums_text sums)

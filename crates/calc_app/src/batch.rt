@@ -138,7 +138,7 @@ fn reply_once(alloc: Global, memo: &mut Memo, command: Command) -> Result<Outcom
     ensures { IsReplyTo (command_of command) result }
 {
     let reply = reply_by(alloc, memo, &command);
-    // Dropped by a call, so that the proof need not unfold the type of commands.
+    // The command is dropped by a call, so that the proof need not unfold the type of commands.
     drop(command);
     reply
 }

@@ -1,4 +1,4 @@
-//! The top call.
+//! The top call of the calculator.
 
 ghost use Rattle.std.specs.Prelude.{◌≡◌, ℕ, List, Some, map, string_bytes};
 ghost use Rattle.calc_base.specs.Sink.{Appends};
@@ -25,9 +25,9 @@ use std::alloc::Global;
 /// First the words are read. They are refused by one line if they are no command (`Syntax`), exceed
 /// a limit or have a wrong shape (`Range`), or have a number that is too large (`Past`). Then the
 /// whole answer is computed. It is refused by the line `! Large` (`Past`) only if a coefficient of
-/// its definition exceeds 2^127 - 1 or a weight of the command is 2^127 or more. The tableaux of
-/// `tab` are not kept: each is written when it is found. Last, `finish` is called, also after a
-/// refusal.
+/// its definition exceeds 2^127 - 1, or a weight of the command, which bounds the numbers of its
+/// computation, is 2^127 or more. The tableaux of `tab` are not kept: each is written when it is
+/// found. Last, `finish` is called, also after a refusal.
 ///
 /// Returns `SinkFault` if and only if a call of the sink failed; the sink is not called after that.
 /// If memory runs out it returns `NoMemory` and writes nothing, except that a batch has written the
@@ -65,17 +65,18 @@ pub fn run<S: Source, K: Sink>(
     ensures cut { RunsLines (map string_bytes words.now) → result ≡ Status.SinkFault
         → CutsLines (K.seen sink.old) (K.seen sink.new) (S.seen source.old) (S.seen source.new) }
 
-    // The text that was written, by the status: the whole text that is defined for the words, and
-    // the sink is settled; after a fault of the sink, a prefix of it; after a fault of the source,
-    // the text of the lines read completely, and the sink is settled; if memory ran out, nothing
-    // or, in a batch, the text of its first lines.
+    // The text that was written, by the status. It is the whole text that is defined for the words,
+    // with a successful `finish` after it; after a fault of the sink it is a prefix of this text;
+    // after a fault of the source it is the text of the lines read completely, with a successful
+    // `finish` after it; if memory ran out, it is empty or, in a batch, the text of its first lines.
     ensures leaves { Leaves (K.seen sink.old) (K.seen sink.new) (S.seen source.old)
         (S.seen source.new) (sink.new ≡ sink.old)
         (RunsLines (map string_bytes words.now)) (IsOutcome (map string_bytes words.now)) result }
 
     // Words that spell a command without an error are answered, and refused only if a coefficient
-    // of the answer's definition exceeds 2^127 - 1, or a weight of the command is 2^127 or more.
-    // Words with a first error, and words that are no command, are refused by their own line.
+    // of the answer's definition exceeds 2^127 - 1, or a weight of the command, which bounds the
+    // numbers of its computation, is 2^127 or more. Words with a first error, and words that are no
+    // command, are refused by their own line.
     ensures answers { AnswersWords (map string_bytes words.now)
         (Appends (K.seen sink.old) (K.seen sink.new)) result }
 

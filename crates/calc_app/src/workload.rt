@@ -13,7 +13,8 @@ use calc_replies::{Outcome, put_text};
 use schubert_transition::Memo;
 use std::alloc::Global;
 
-/// Runs `lines` lines of the generator from the seed on, and writes the sums over their blocks.
+/// Runs `lines` lines of the generator from the seed on, which is at most 65,536, and writes the
+/// sums over their blocks.
 ///
 /// One block is kept at a time. If memory runs out it returns `NoMemory` and writes nothing.
 pub fn work<K: Sink>(alloc: Global, lines: u16, seed: u32, sink: &mut K) -> Status
@@ -36,7 +37,7 @@ fn put_sums<K: Sink>(sums: &Sums, sink: &mut K) -> Status
     finished(Status::Done, sink)
 }
 
-/// The sums over the blocks of the lines.
+/// The numbers of blocks, terms and bytes of the answers to drawn lines.
 fn sums_of(alloc: Global, lines: u16, seed: u32) -> Result<Sums, NoMemory>
     requires { seed ≤ 65536 }
     ensures { IfOk result (AreSumsOf lines seed) }
@@ -53,7 +54,7 @@ fn sums_of(alloc: Global, lines: u16, seed: u32) -> Result<Sums, NoMemory>
     Ok(sums)
 }
 
-/// Adds the block of a line.
+/// Adds the numbers of terms and bytes of the block of a line to the sums.
 fn add_line(
     alloc: Global,
     memo: &mut Memo,
@@ -71,7 +72,7 @@ fn add_line(
     }
 }
 
-/// Adds the block of an outcome.
+/// Adds the numbers of terms and bytes of the block of an outcome to the sums.
 fn add_block(outcome: Outcome, text: &mut GrowingSink, sums: &mut Sums) -> Result<(), NoMemory>
     requires has_text { HasText outcome }
     requires small { AreSmall sums.old }

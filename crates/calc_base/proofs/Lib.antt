@@ -1,4 +1,4 @@
--- Lemmas of the crate, for its own proofs and those of the crates above.
+-- Lemmas about texts written to sinks, sources and sinks in memory, and numbers combined for hashing.
 pub mod PutsLaws
 pub mod Memory
 pub mod Written

@@ -6,7 +6,8 @@ use Rattle.std.proofs.lemmas.Grind.{common_steps}
 use Rattle.calc_base.specs.Source.{Takes}
 use Rattle.calc_base.specs.Sink.{greatest_length, seen_bytes, AppendsPrefix}
 
--- a call that moves the first bytes of the rest to the front of a buffer is a `take`
+-- a read that moves the first `count` bytes of `rest` to the front of a buffer that is not empty satisfies `Takes`, if
+-- `count` is the least of the length of the buffer, the number of bytes in `rest`, and `piece` ≥ 1
 pub Takes-front : (rest later filled behind buffer : List ℕ) (piece count : ℕ)
     → filled ≡ take count rest → later ≡ drop count rest → buffer ≡ filled ++ behind
     → count ≡ min (length buffer) (min piece (length rest)) → 0 < length buffer → 1 ≤ piece

@@ -1,4 +1,4 @@
--- The number that a list of numbers is combined into for hashing, number by number.
+-- The combination of a list of numbers into one number for hashing, one number of the list after another.
 use Rattle.std.proofs.Common.{◌≡◌, ℕ, zero, suc, ◌+◌, ◌*◌, ◌%◌, ◌^◌, ◌<◌, ◌≤◌, List, [], ◌∷◌, length, drop, get_or, refl, ap, ◌∙◌, arith}
 use Rattle.calc_base.specs.Mixing.{mixed}
 

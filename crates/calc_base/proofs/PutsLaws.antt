@@ -8,7 +8,8 @@ use Rattle.calc_base.specs.Fault.{counted_up, Rose}
 use Rattle.calc_base.specs.Sink.{SinkSeen, greatest_length, IsLonger, Appends, AppendsPrefix}
 use Rattle.calc_base.specs.Puts.{Puts, Prints}
 
--- the recorded number of bytes after two texts is that after their concatenation
+-- updating the recorded number n of bytes, up to the limit, for texts of a and then b bytes gives the same as for a text of
+-- c = a + b bytes
 number-number : (n a b c limit : ℕ) → c ≡ a + b
     → max (max n (min (n + a) limit)) (min (max n (min (n + a) limit) + b) limit) ≡ max n (min (n + c) limit)
 number-number n a b c limit e = omega arith
@@ -49,7 +50,7 @@ Appends-told {old = old} {new = new} {text = text} before h told = by old.writte
     by (Some x) None e g = absurd g
     by (Some x) (Some y) e g = let same : x ≡ before = cc in ap Some (g ∙ ap (λ t. t ++ text) same)
 
--- if a prefix of a was appended, a prefix of a followed by b was
+-- if a prefix of a was appended, it is also a prefix of a ++ b
 pub AppendsPrefix-more : {old new : SinkSeen} {a : List ℕ} (b : List ℕ)
     → AppendsPrefix old new a → AppendsPrefix old new (a ++ b)
 AppendsPrefix-more b cut = record {
@@ -61,7 +62,7 @@ AppendsPrefix-more b cut = record {
   appends = cut.appends;
 }
 
--- if a was appended whole and then a prefix of b, a prefix of a followed by b was appended
+-- if a was appended whole and then a prefix of b, a prefix of a ++ b was appended
 pub AppendsPrefix-then : {old mid new : SinkSeen} {a b : List ℕ}
     → Appends old mid a → AppendsPrefix mid new b
     → AppendsPrefix old new (a ++ b)
@@ -80,7 +81,7 @@ AppendsPrefix-whole {a = a} all = record { front = a; is_prefix = record { rest 
 
 -- ---- the text that several calls appended
 
--- if two texts were written one after the other, their concatenation was written
+-- writing a and then b is writing a ++ b, also if a call fails
 pub Puts-then : {before mid now : Bool} {old between new : SinkSeen} {a b : List ℕ}
     → Puts before old mid between a → Puts mid between now new b
     → Puts before old now new (a ++ b)
@@ -119,7 +120,7 @@ pub Puts-as : {before now : Bool} {old new : SinkSeen} {a b : List ℕ} → a �
 Puts-as {before = before} {now = now} {old = old} {new = new} same goes =
     let P : List ℕ → Type 0 = λ t. Puts before old now new t in subst P same goes
 
--- writing the empty text leaves a sink unchanged
+-- an unchanged sink is one to which the empty text was written
 pub Puts-nothing : (before : Bool) (s : SinkSeen)
     → Puts before s before s []
 Puts-nothing before s = record {
@@ -143,13 +144,13 @@ Puts-prints {now = now} (Err e) goes answer =
     let ended : now ≡ false = sym answer in
     record { whole = tt; cut = goes.cut refl ended; counted = record { still = tt; rose = goes.rose refl ended; later = goes.later } }
 
--- if a text was written and then the sink was finished, the text was written
+-- if a text was written and a finish then wrote nothing more, the two calls together wrote the text
 pub Puts-finished : {before mid now : Bool} {old between new : SinkSeen} {text : List ℕ}
     → Puts before old mid between text → Puts mid between now new []
     → Puts before old now new text
 Puts-finished {text = text} first finish = Puts-as (append-nil text) (Puts-then first finish)
 
--- after a fault nothing more is written, for any text
+-- after a failed call, a sink that is left unchanged satisfies `Puts` for any text
 pub Puts-stopped : (s : SinkSeen) (text : List ℕ)
     → Puts false s false s text
 Puts-stopped s text = record {

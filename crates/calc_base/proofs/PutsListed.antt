@@ -7,7 +7,7 @@ use Rattle.calc_base.specs.Puts.{Puts}
 use Rattle.calc_base.specs.Sink.{SinkSeen}
 use Rattle.calc_base.proofs.PutsLaws.{Puts-then, Puts-as, Puts-nothing, Puts-stopped}
 
--- The first items were written to the sink, and those left are still to be written.
+-- `front` was written to the sink; followed by the texts of the items that are left, it is the text of all items.
 pub record PutsUpTo {X : Type 0} (before : Bool) (old : SinkSeen) (now : Bool) (new : SinkSeen)
     (text : X → List ℕ) (all left : List X) : Type 0 where
   pub front : List ℕ
@@ -22,7 +22,7 @@ PutsUpTo-start before s text all = record {
   joined = refl;
 }
 
--- after one more item was listed and written, one item fewer is left to be written
+-- if the next item x was listed and its text written, the items after it are left to be written
 pub PutsUpTo-more : {X : Type 0} {before mid now : Bool} {old between new : SinkSeen} (text : X → List ℕ) (all listed left : List X) (item : Option X) (x : X)
     → PutsUpTo before old mid between text all listed
     → listed ≡ option_to_list item ++ left → item ≡ Some x

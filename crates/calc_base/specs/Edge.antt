@@ -16,7 +16,7 @@ intake_seen remaining s =
     record { left = remaining s.reader; allowance = s.allowance; faults = s.failed }
 
 -- the writer, the bytes that wait for it in a buffer, the number of writes and flushes that failed, and whether the
--- last call finished
+-- last call finished the sink
 pub record Outlet (W : Type 0) : Type 0 where
   pub writer : W
   pub waiting : List ℕ

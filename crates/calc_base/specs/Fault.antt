@@ -10,12 +10,12 @@ counted_up count = min (count + 1) (2 ^ 64 - 1)
 abbrev pub Rose : (before now : ℕ) → Type 0
 Rose before now = now ≡ counted_up before
 
--- the count of faults after a call that failed or not
+-- the count of faults after a call, given whether the call failed
 abbrev pub faults_after : ℕ → Bool → ℕ
 faults_after before fails = cond fails (counted_up before) before
 
--- A call that succeeds leaves the count of faults unchanged, and one that fails increases it. The count never
--- decreases.
+-- A call that succeeds leaves the count of faults unchanged, and one that fails increases it by 1, up to 2^64 - 1.
+-- The count never decreases.
 pub record CountsFaults {T E : Type 0} (before now : ℕ) (result : Result T E) : Type 0 where
   pub still : OnOk result (now ≡ before)
   pub rose : OnErr result (Rose before now)

@@ -1,7 +1,8 @@
 -- One number combined from many, for hashing.
 use Rattle.std.specs.Prelude.{ℕ, ◌+◌, ◌*◌, ◌%◌, ◌^◌, List, [], ◌∷◌}
 
--- the number with the digits of `sum` and then these numbers, modulo 2^64
+-- for the k numbers a_1, .., a_k and b = 1000003: sum·b^k + a_1·b^(k-1) + .. + a_k modulo 2^64; the sum itself for k
+-- = 0
 abbrev pub mixed : ℕ → List ℕ → ℕ
 mixed sum [] = sum
 mixed sum (a ∷ numbers) = mixed (((sum * 1000003) % 2 ^ 64 + a) % 2 ^ 64) numbers

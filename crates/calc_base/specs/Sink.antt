@@ -18,7 +18,8 @@ pub record SinkSeen : Type 0 where
 abbrev pub greatest_length : ℕ
 greatest_length = 2 ^ 128 - 1
 
--- the recorded number of bytes increased by the length of a text; `max`, so that the empty text changes nothing
+-- the recorded number of bytes, if there is one, increased by the length of the text, up to `greatest_length`; because
+-- of `max`, the empty text changes no number
 abbrev pub IsLonger : (before now : Option ℕ) → List ℕ → Type 0
 IsLonger None now text = Unit {0}
 IsLonger (Some n) now text = now ≡ Some (max n (min (n + length text) greatest_length))

@@ -23,7 +23,7 @@ store_seen s = seen_bytes (Some s.bytes) s.failed s.finished
 abbrev pub fails_now : Store → Bool
 fails_now s = is_listed s.fails s.calls
 
--- the room left
+-- the number of further bytes for which there is room
 abbrev pub room_left : Store → ℕ
 room_left s = s.room - length s.bytes
 

@@ -18,7 +18,7 @@ pub record Supply : Type 0 where
 abbrev pub supply_seen : Supply → SourceSeen
 supply_seen s = record { left = Some s.rest; allowance = length s.rest; faults = s.failed }
 
--- whether a call is one of those that fail
+-- whether the call with this number is one of those that fail
 abbrev pub is_listed : List ℕ → ℕ → Bool
 is_listed fails call = list_any (λ k. k == call) fails
 
@@ -31,7 +31,7 @@ abbrev pub after_take : {E : Type 0} → Supply → Result ℕ E → Supply
 after_take s (Ok count) = record s { rest = drop count s.rest; calls = counted_up s.calls }
 after_take s (Err e) = record s { calls = counted_up s.calls; failed = counted_up s.failed }
 
--- a buffer after a call with this result: the bytes given are at its front, and the others are unchanged
+-- a buffer after a call with this result: the bytes given are at its front, and the bytes after them are unchanged
 abbrev pub filled_buffer : {E : Type 0} → Supply → Result ℕ E → List ℕ → List ℕ
 filled_buffer s (Ok count) buffer = take count s.rest ++ drop count buffer
 filled_buffer s (Err e) buffer = buffer

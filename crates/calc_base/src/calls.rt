@@ -6,7 +6,8 @@ ghost use Rattle.calc_base.specs.Supply.{is_listed};
 use crate::NoMemory;
 use std::alloc::Global;
 
-/// The numbers of the calls that fail, the number of calls so far, and the number of faults.
+/// The calls that fail, by their numbers counted from 0, the number of calls so far, and the number
+/// of faults.
 #[derive(Drop)]
 pub(crate) struct Calls {
     pub(crate) fails: Vec<u64>,
@@ -28,7 +29,7 @@ impl Calls {
         })
     }
 
-    /// Counts one more call, and returns whether it is one that fails.
+    /// Counts one more call, up to 2^64 - 1, and returns whether it is one that fails.
     pub(crate) fn begin(&mut self) -> bool
         ensures listed { result ≡ is_listed self.old.fails.items self.old.made }
         ensures fails { self.new.fails.items ≡ self.old.fails.items }
@@ -40,7 +41,7 @@ impl Calls {
         listed
     }
 
-    /// Counts one more fault.
+    /// Counts one more fault, up to 2^64 - 1.
     pub(crate) fn fault(&mut self)
         ensures fails { self.new.fails.items ≡ self.old.fails.items }
         ensures made { self.new.made ≡ self.old.made }

@@ -31,7 +31,7 @@ impl<'a> Model for FixedSink<'a> {
 }
 
 impl<'a> FixedSink<'a> {
-    /// An empty sink with the room of the buffer.
+    /// An empty sink. The length of the buffer is the greatest number of bytes that it can take.
     pub fn new(buffer: &'a mut [u8]) -> FixedSink<'a>
         ensures { result ≡ record {
           bytes = [];

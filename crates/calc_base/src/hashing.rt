@@ -5,8 +5,8 @@ ghost use Rattle.calc_base.specs.Mixing.{mixed as mixed_of};
 /// The base of the digits that are combined into one number: a prime.
 const BASE: u64 = 1_000_003;
 
-/// The number with these numbers as its digits, modulo 2^64. To hash it is quicker than to hash the
-/// list, as a hasher takes a list number by number.
+/// The number with these numbers as its digits to the base `BASE`, modulo 2^64. Hashing it is
+/// faster than hashing the list, which a hasher reads number by number.
 pub fn mixed(numbers: &[u16]) -> u64
     ensures { result ≡ mixed_of 0 numbers.now }
 {

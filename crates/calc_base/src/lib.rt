@@ -3,11 +3,11 @@
 //!
 //! What is proved:
 //!
-//! The traits `Source`, `Sink`, `Lister`; sources and sinks in memory do exactly what their records
-//! say, and exactly the chosen calls fail; `StdIn` and `StdOut` meet the traits, and if `StdOut` is
-//! settled, its buffer is empty; a call that succeeds leaves the count of faults unchanged, and one
-//! that fails adds 1; `put_if` writes a text whole or a prefix of it; `mixed` is the number with
-//! the given digits, modulo 2^64.
+//! The traits `Source`, `Sink` and `Lister`; sources and sinks in memory do exactly what the
+//! functions of specs/ say, and exactly the chosen calls fail; `StdIn` and `StdOut` meet the
+//! traits, and if `StdOut` is settled, its buffer is empty; a call that succeeds leaves the count
+//! of faults unchanged, and one that fails adds 1; `put_if` writes a text whole, or a prefix of it;
+//! `mixed` is the number with the given digits to a fixed base, modulo 2^64.
 #![tactic(auto)]
 
 mod calls;

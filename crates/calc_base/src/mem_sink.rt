@@ -1,4 +1,5 @@
-//! A sink into memory, at which chosen calls fail, and calls for which its room is too small.
+//! A sink into memory with a fixed room. Chosen calls fail, and so do calls that write more bytes
+//! than the room left.
 ghost use Rattle.std.specs.Prelude.{◌≡◌, ◌≤◌, [], false, IfOk, OnOk, OnErr, is_ok, is_err, refl};
 ghost use Rattle.std.specs.Prelude.{length as list_length, vec_capacity};
 ghost use Rattle.calc_base.specs.Fault.{CountsFaults};

@@ -35,8 +35,8 @@ impl Model for MemSource {
 }
 
 impl MemSource {
-    /// A source of these bytes. A call gives at most `piece` of them, and fails if its number,
-    /// counted from 0, is in `fails`.
+    /// A source of these bytes. A call gives at most `piece` of them, a number of at least 1, and
+    /// fails if its number, counted from 0, is in `fails`.
     pub fn new(
         alloc: Global,
         bytes: &[u8],

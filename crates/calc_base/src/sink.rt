@@ -6,13 +6,13 @@ ghost use Rattle.calc_base.specs.Sink.{SinkSeen, Appends, AppendsPrefix, IsCount
 use crate::SinkFault;
 
 /// A sink of bytes. It may record the bytes written, or only their number; each call of `put`
-/// extends this record. Of the bytes of a sink without a record the contracts say nothing, as the
+/// extends this record. If a sink records nothing, the contracts say nothing of its bytes, as the
 /// standard library says nothing of a writer whose bytes are not known.
 pub trait Sink {
-    /// The visible state of the sink: the bytes so far (`written`) and their number (`length`, up
-    /// to 2^128 - 1), each if it is recorded; the number of calls that failed (`faults`, up to 2^64
-    /// - 1); and whether the last call was a `finish` that returned `Ok`, so that no byte waits in
-    /// the sink (`settled`).
+    /// The visible state of the sink: the bytes so far (`written`) and their number, up to 2^128 -
+    /// 1 (`length`), each if it is recorded; the number of failed calls, up to 2^64 - 1 (`faults`);
+    /// and whether the last call was a `finish` that returned `Ok`, so that no byte waits in the
+    /// sink (`settled`).
     ghost seen: { Self → SinkSeen };
 
     /// Appends the bytes. After an `Err` a prefix of them was appended, and the count of faults is
@@ -23,7 +23,8 @@ pub trait Sink {
         ensures counts { CountsFaults (seen self.old).faults (seen self.new).faults result }
         ensures settled { (seen self.new).settled ≡ false };
 
-    /// Flushes the bytes that wait, and appends none. The count of faults changes as for `put`.
+    /// Flushes the bytes that wait, and appends none. After an `Err` the count of faults is greater
+    /// by 1, or is at its greatest value. After an `Ok` the count is unchanged.
     fn finish(&mut self) -> Result<(), SinkFault>
         ensures same { Appends (seen self.old) (seen self.new) [] }
         ensures counts { CountsFaults (seen self.old).faults (seen self.new).faults result }

@@ -11,8 +11,7 @@ use crate::SourceFault;
 pub trait Source {
     /// The visible state of the source: the bytes that are left, if it records them (`left`); a
     /// number that decreases by at least the number of bytes read, so that a loop that reads some
-    /// each time ends (`allowance`); and the number of calls that failed (`faults`, up to 2^64 -
-    /// 1).
+    /// each time ends (`allowance`); and the number of failed calls, up to 2^64 - 1 (`faults`).
     ghost seen: { Self → SourceSeen };
 
     /// Writes the next bytes to the front of `buf`, and returns their number: 0 only at the end of

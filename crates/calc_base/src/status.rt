@@ -10,7 +10,7 @@ pub enum Status {
     SomeRefused,
     /// The words are not a command.
     Syntax,
-    /// A number in the words exceeds a limit, or a list in them is not one of its kind.
+    /// A number in the words exceeds a limit, or a list in them is not of the required kind.
     Range,
     /// A number in the words, or a number of the answer, is too large.
     Past,

@@ -12,7 +12,7 @@ use std::marker::Model;
 const ALLOWANCE: u64 = 1 << 62;
 
 /// The source over the program's input, from any reader. It records the bytes that the reader has
-/// left, if they are known, and gives at most 2^62 bytes.
+/// left, if they are known, and gives at most 2^62 bytes in all.
 #[derive(Drop)]
 pub struct StdIn<R> {
     reader: R,

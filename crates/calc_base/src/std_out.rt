@@ -50,7 +50,7 @@ impl<W: Write + Drop> StdOut<W> {
 }
 
 impl<W: Write + Drop> Sink for StdOut<W> {
-    /// If it is settled, the buffer is empty.
+    /// The state of the sink. If it is settled, the buffer is empty.
     ghost seen = { outlet_seen W.contents };
 
     /// Writes until all bytes are written. It fails if a write fails or writes nothing.

@@ -1,4 +1,4 @@
-//! The types that the words of a command name, and the errors of words.
+//! Places in the words of a command, the errors of words, bases, and weights.
 ghost use Rattle.std.specs.Prelude.{◌≡◌};
 ghost use Rattle.calc_base.specs.declared.words.WordsFault.TheVariants.{NoMemory as no_memory};
 
@@ -28,7 +28,7 @@ pub enum WordsFault {
     /// A limit is exceeded here.
     #[error("past a limit, at byte {byte} of word {word}", byte = .at.byte, word = .at.word)]
     Range { at: Place },
-    /// A list here is not one of its kind, such as increasing parts.
+    /// A list here is not of the required kind, for example a partition with increasing parts.
     #[error("a list out of shape, at byte {byte} of word {word}", byte = .at.byte, word = .at.word)]
     Shape { at: Place },
     /// Out of memory.
@@ -77,8 +77,8 @@ pub enum Basis {
 }
 
 /// Two numbers that bound the coefficients of a list of terms: each denominator divides `den`, and
-/// a coefficient times `den` is at most `num` times a number that depends on the degree of the
-/// list.
+/// the absolute value of a coefficient times `den` is at most `num` times a number that depends on
+/// the label.
 #[derive(Clone, Copy, Debug, PartialEq, Eq, Hash)]
 pub struct Weight {
     /// The bound for the coefficients times `den`.

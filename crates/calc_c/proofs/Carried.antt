@@ -40,7 +40,7 @@ whole_left words input old new ending empty l =
     subst (λ (text : List ℕ). IsOutcome words input text ending) (sym (appended_bytes old new l.text empty l.appended))
     (subst (λ (all : List ℕ). IsOutcome words all l.text ending) (sym l.is_input) l.outcome)
 
--- if the sink was empty before, its bytes are the text that a call leaves
+-- if the sink was empty before, and the status is not `SourceFault`, its bytes are the text that a call leaves
 pub left_text : (words : List (List ℕ)) (input : List ℕ) (old new : Growing) (now : SourceSeen) (Untouched : Type 0) (status : Status)
     → old.bytes ≡ [] → (Untouched → new.bytes ≡ []) → (status ≡ statuses.SourceFault → ⊥)
     → Leaves (growing_seen old) (growing_seen new) (slice_seen input) now Untouched (RunsLines words) (IsOutcome words) status

@@ -9,11 +9,11 @@ use Rattle.calc_base.specs.declared.status.Status.TheVariants.{Past, SinkFault, 
 use Rattle.calc_base.specs.declared.status.Status.TheVariants.{NoMemory}
 use Rattle.sym_model.specs.Ending.{Ending, done, some_refused, syntax, range, past}
 
--- a source over lent bytes records the bytes left, and none of its calls fails
+-- the state of a source over borrowed bytes, of which `rest` is left: the bytes are known, and no call has failed
 abbrev pub slice_seen : List ℕ → SourceSeen
 slice_seen rest = record { left = Some rest; allowance = length rest; faults = 0 }
 
--- the text is defined for the words over the first lines of the input
+-- the text is one that is defined for the words over the first lines of the input
 pub record IsTextOfFirst (words : List (List ℕ)) (input text : List ℕ) : Type 0 where
   pub front : List ℕ
   pub is_front : IsFrontOf (Some input) front

@@ -4,12 +4,12 @@
 //! What is proved:
 //!
 //! `calc_run`, the call of the C library, over the words of a line and the caller's buffer.
-//! `leaves`: with codes 0 to 4 the text is the whole one that is defined for the words; with 5 a
-//! prefix of it; with 7 nothing or, in a batch, the text of its first lines. `needed` is the length
-//! of the text. If the buffer has room, it begins with the text and is otherwise unchanged; if not,
-//! it is unchanged. `headline` and `lines` of `run`, for the bytes in the buffer. `answers`, with
-//! the line that refuses the words at the front of the buffer. The code is that of a status, and
-//! never that of a source that failed (`ends`).
+//! `leaves`: with codes 0 to 4 the text is the whole one that is defined for the words; with 5 it
+//! is a prefix of that text; with 7 it is empty or, in a batch, the text of its first lines.
+//! `needed` is the length of the text. If the buffer has room, it begins with the text and is
+//! otherwise unchanged; if not, it is unchanged. `headline`, `lines` and `answers`: the clauses of
+//! `run` with these names, for the bytes in the buffer. The code is that of a status, and never
+//! that of a source that failed (`ends`).
 #![tactic(auto)]
 
 ghost use Rattle.std.specs.Prelude.{◌≡◌, ◌≢◌, ◌++◌, ◌<◌, ◌≤◌, [], Some, drop, length, take, map};
@@ -63,8 +63,9 @@ pub extern "C" fn calc_run(
         (map seen (words_of_line line.now)) input.now needed.new out.old out.new) result }
 
     // Words that spell a command without an error are answered, and refused only if a coefficient
-    // that is defined for them exceeds 2^127 - 1, or their weight is 2^127 or more. Words with a
-    // first error, and words that are no command, are refused by their own line.
+    // that is defined for them exceeds 2^127 - 1, or their weight, which bounds the numbers of the
+    // computation, is 2^127 or more. Words with a first error, and words that are no command, are
+    // refused by their own line.
     ensures answers { IsCodeOf (AnswersWords (map seen (words_of_line line.now))
         (StandsIn needed.new out.new)) result }
 

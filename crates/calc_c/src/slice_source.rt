@@ -7,7 +7,7 @@ ghost use Rattle.calc_c.specs.Calls.{slice_seen};
 
 use calc_base::{Source, SourceFault};
 
-/// A source over lent bytes. It allocates no memory, and none of its calls fails.
+/// A source over borrowed bytes. It allocates no memory, and none of its calls fails.
 #[derive(Drop)]
 pub(crate) struct SliceSource<'a> {
     pub(crate) rest: &'a [u8],

@@ -106,7 +106,8 @@ pub none_from : (x : Written (optional from_words)) (words : Words) → words �
 none_from (inl x) words e b = refl
 none_from (inr x) words e b = absurd (subst (BeginsOtherwise (λ t. t ≡ codes "-from")) e b refl)
 
--- if the tableau after `-from` has a row, its rows are lists of numbers, and they spell the words after `-from`
+-- if the words are `-from` and `more`, the tableau that they write has a row, its rows are lists of numbers, and `more`
+-- are their words
 pub some_from : (x : Written (optional from_words)) (words more : Words) → May (optional from_words) x → words ≡ words_of (optional from_words) x → words ≡ codes "-from" ∷ more
     → (0 < length (from_rows x)) × EachOf (EachOf IsNumber) (from_rows x) × (more ≡ rows_text (from_rows x))
 some_from (inl x) words more m e f = let z = sym e ∙ f in cc
@@ -149,7 +150,7 @@ pub number_row : (row words ns rest : Words) (rows : List Words) → EachOf IsNu
 number_row [] words ns rest rows n e d f m b = absurd (subst (BeginsOtherwise (λ t. t ≡ codes ".")) e d refl)
 number_row (t ∷ row) words ns rest rows n e d f m b = one_run IsNumber ns (t ∷ row) rest (further_text rows) m n b (no_number rows) (sym f ∙ e)
 
--- `rows` are the rows of a tableau that have been read, and the words `rest` write its later rows
+-- the tableau `all` has the rows `rows`, which have been read, and later rows, whose words are `rest`
 pub record FurtherLeft (rows : List Words) (rest : Words) (all : List Words) : Type 0 where
   pub later : List Words
   pub all_are : all ≡ rows ++ later

@@ -1,4 +1,4 @@
--- Rows without numbers, one after another.
+-- The errors of rows without numbers in a tableau that has other rows, one row after another.
 use Rattle.std.proofs.Common.{◌≡◌, ℕ, ◌+◌, ◌<◌, ◌≤◌, ◌==◌, false, cond, List, [], ◌∷◌, ◌++◌, length, refl, ap, subst, arith, Some, inl, inr, flat_map}
 use Rattle.std.proofs.lemmas.Bool.Decides.{nat_tests}
 use Rattle.sym_model.specs.Sum.{Among}

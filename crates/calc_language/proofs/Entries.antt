@@ -58,7 +58,7 @@ none_named w (e ∷ entries) h = ap (λ b. cond b (Some e) (entry_named w entrie
 
 -- ---- commands that are distinguished by their names
 
--- the names of the commands distinguish them
+-- the commands are distinguished by their names: the words of each begin with its name, and the names are different
 pub record AreTold (entries : List Entry) : Type 0 where
   pub led : EachOf IsLed entries
   pub can : CanBe (forms_of entries)
@@ -69,8 +69,8 @@ wrong_first : (entries : List Entry) (words : Words) (r : Result Command WordsFa
     → r ≡ Err (Syntax (record { word = 0; byte = 0 })) → IsReadBy entries words r
 wrong_first entries words r p h = subst (λ x. IsReadBy entries words x) (sym h) p
 
--- if words with the first word w are read by that name in a list of commands, they are read so in a part of the list that has all its commands named
--- w
+-- `entries` is a part of `all` that contains each entry of `all` with the name w: if r is a correct result for words
+-- with the first word w by the entry that `all` has for w, or by its absence, r is correct for `entries`
 pub named_among : (all entries : List Entry) → AreTold entries → (w : List ℕ) (words rest : Words) (r : Result Command WordsFault) → words ≡ w ∷ rest
     → ((e : Entry) → Among e all → w ≡ e.name → Among e entries) → ((e : Entry) → Among e entries → Among e all)
     → IsReadAs (entry_named w all) words r → IsReadBy entries words r
@@ -137,13 +137,13 @@ read_in_line w words rest r is b k h = named_among command_entries batch_entries
         by (inr (inr (inl q))) = absurd (k (n ∙ ap (λ (x : Entry). x.name) q))
         by (inr (inr (inr q))) = absurd q
 
--- if there are no words, they are refused as no command, at word 0 and byte 0
+-- the refusal as no command at word 0 and byte 0 is the correct result of reading no words
 pub no_words : (words : Words) (r : Result Command WordsFault) (entries : List Entry) → AreTold entries → words ≡ [] → r ≡ Err (Syntax (record { word = 0; byte = 0 }))
     → IsReadBy entries words r
 no_words words r entries t is h =
     wrong_first entries words r (subst (λ ws. IsSyntaxPlace entries ws 0 0) (sym is) (unnamed entries t.led t.can t.some [] (λ e m b. let k = b.1 in cc))) h
 
--- words without an error keep the limits
+-- the command that words without an error spell is within the limits
 pub kept_by_all : (words : Words) (c : PlainCommand) → SpellsWithoutOffence command_entries words c → KeepsLimits c
 kept_by_all words c h =
     some_keeps (entries_of all_bases) (all_keep all_bases) words c h
@@ -152,7 +152,7 @@ pub within : (words : Words) (result : Result Command WordsFault) → IsRead wor
 within words (Ok command) h = kept_by_all words (command_of command) h.0
 within words (Err fault) h = tt
 
--- words whose first word is the name of no command of a line first fail at that word
+-- if the first word is the name of no command of a line, the refusal as no command at word 0 and byte 0 is correct
 pub elsewhere : (w : List ℕ) (words rest : Words) (r : Result Command WordsFault) → words ≡ w ∷ rest
     → EachOf (λ (e : Entry). w ≡ e.name → ⊥) batch_entries → r ≡ Err (Syntax (record { word = 0; byte = 0 })) → IsReadBy batch_entries words r
 elsewhere w words rest r is apart h =

@@ -51,13 +51,13 @@ pub first-placed : (k : ℕ) (os : List WordOffence) → first_offence (map (at_
 first-placed k [] = refl
 first-placed k (o ∷ os) = ap (earlier_of (at_word k o)) (first-placed k os) ∙ earlier-placed k o (first_of os)
 
--- the first error of the expression that is read is the first error of the expression that the word spells
+-- if a word spells the expressions f and g, the first error of f, at word k of the command, is that of g
 placed_as : (k : ℕ) (offends : Phrase → List WordOffence) (w : List ℕ) (f g : Phrase) (first : Option WordOffence) → SpellsPhrase w f → SpellsPhrase w g
     → first_of (offends g) ≡ first → first_offence (offences_in_word k (offends f)) ≡ option_map (at_word k) first
 placed_as k offends w f g first s r h =
     first-placed k (offends f) ∙ ap (option_map (at_word k)) (ap (λ p. first_of (offends p)) (one_phrase w f g s r) ∙ h)
 
--- a fault of an expression that is spelled is its first error
+-- if a word that spells an expression is refused, the fault is the first error of the expression
 pub placed_first : (k : ℕ) (offends : Phrase → List WordOffence) (w : List ℕ) (f : Phrase) (e : ExpressionFault) → SpellsPhrase w f → IsReadBy offends w (Err e)
     → IsFirst (first_offence (offences_in_word k (offends f))) (placed k e)
 placed_first k offends w f (Wrong byte) s h = h.0 f s
@@ -66,7 +66,7 @@ placed_first k offends w f (Past byte) s h = placed_as k offends w f h.0 _ s h.1
 placed_first k offends w f (Misshapen byte) s h = placed_as k offends w f h.0 _ s h.1 h.2
 placed_first k offends w f Full s h = tt
 
--- an expression without error has no first error
+-- if a word is read as a formula, the expression that it spells has no error
 pub none_placed : (k : ℕ) (offends : Phrase → List WordOffence) (w : List ℕ) (f : Phrase) (x : Formula) → SpellsPhrase w f → IsReadBy offends w (Ok x)
     → first_offence (offences_in_word k (offends f)) ≡ None
 none_placed k offends w f x s h = placed_as k offends w f h.0 None s h.1 h.2
@@ -103,7 +103,7 @@ expand_fine words places k b m x h i read =
       none_placed (2 + n) (offences k.parts.3.0) (spelling f) f x spells (subst (λ t. IsReadAs t (spelling f) (Ok x)) h read),
     )
 
--- if the expression is read, the words that were cut without looking at it are cut
+-- words whose last word v was not looked at when they were cut are cut correctly if v spells an expression
 pub cut_of : (name : List ℕ) (ps : List Part) (places : List ℕ) (words : Words) (v : List ℕ) → AreCutUnread name ps places words
     → ((u : IsUnread name ps places words) → v ≡ u.text) → (f : Phrase) → SpellsPhrase v f → AreCut name ps places words
 cut_of name ps places words v (inl a) e f s = a

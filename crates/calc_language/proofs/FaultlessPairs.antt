@@ -84,7 +84,7 @@ straight k ws f p e d = record {
   order = faultless_order 0 [] [] k ws tt d;
 }
 
--- the number of entries is at most 256
+-- if no entry is refused as the 257th, the number of entries is at most 256
 row_few : (count : ℕ) (before : List ℕ) (k : ℕ) (ns : List ℕ) → count + length before ≤ 256
     → offences_after (λ before a. when (count + length before == most_letters) range) before k ns ≡ [] → count + length before + length ns ≤ 256
 row_few count before k [] l h = omega (arith, l)
@@ -190,7 +190,7 @@ all_single cells earlier upper k (w ∷ ws) s h x =
     let f = times_in-append x (numbers w) (letters_of (map numbers ws)) in
     omega (arith, r, e, f)
 
--- all entries are from 1 to the number of cells
+-- all numbers of the list are from 1 to n
 abbrev AllIn : ℕ → List ℕ → Type 0
 AllIn n [] = Unit {0}
 AllIn n (a ∷ ns) = (1 ≤ a) × (a ≤ n) × AllIn n ns
@@ -223,7 +223,7 @@ all_in cells earlier upper k (w ∷ ws) e h =
     in_append cells (numbers w) (letters_of (map numbers ws)) (row_in cells earlier upper [] [] k k (numbers w) f.0 n.0)
     (all_in cells (numbers w ++ earlier) (numbers w) m ws f.1 n.1)
 
--- if n entries are from 1 to n and none occurs twice, each number occurs once
+-- a number b ≤ a is not among a + 1, .., a + n
 place_none : (a n b : ℕ) → b ≤ a → size (map (λ k. cond (b == k) 1 0) (after a n)) ≡ 0
 place_none a zero b h = refl
 place_none a (suc n) b h =

@@ -66,7 +66,8 @@ row_fine c upper d k [] h = refl
 row_fine c upper d k (a ∷ ns) h =
     let n = none_next (λ before a. when (is_disordered c upper d before a) shape) [] k a ns h in rises_after c upper d a [] (k + 1) ns n.1
 
--- if an entry below an entry b of the row above has no error, it is greater than b
+-- if `stays` is false for an entry a and the entry b above it, at index j of the row `upper`, then b < a (and `rest`
+-- holds, which is true if there is such an entry)
 below_one : (upper : List ℕ) (j a : ℕ) (rest : Bool) → stays (slice_get upper j) a ≡ false
     → (j < length upper → rest ≡ true) → (b : ℕ) → b ≡ get_or upper j 0 → j < length upper → (nat_lt b a && rest) ≡ true
 below_one [] j a rest h r b e l = absurd (omega (arith, l))

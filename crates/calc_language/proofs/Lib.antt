@@ -1,6 +1,7 @@
 pub mod CutTableaux
 pub mod CellJudging
 pub mod RowJudging
+pub mod OnceJudged
 pub mod EmptyRows
 pub mod WrittenTableaux
 pub mod PairJudging

@@ -15,12 +15,12 @@ use Rattle.word_laws.proofs.LongestPrefixes.{CanBe, some_words, some_out}
 use Rattle.calc_words.specs.Joined.{Named}
 use Rattle.calc_words.proofs.Joining.{first_spells, first_awaits}
 
--- the second of two forms in sequence
+-- the second of two forms in sequence; of any other form, the form itself
 abbrev pub behind : Form → Form
 behind (sequence f g) = g
 behind f = f
 
--- the words of the command begin with its name, or are its name
+-- the form of the command is its name, followed by another form or by nothing
 abbrev pub IsLed : Entry → Type 0
 IsLed e = (e.form ≡ sequence (the e.name) (behind e.form)) ⊎ (e.form ≡ the e.name)
 

@@ -1,18 +1,18 @@
--- The first error of two tableaux that are a pair.
-use Rattle.std.proofs.Common.{◌≡◌, ℕ, ◌+◌, ◌<◌, ◌≤◌, ◌==◌, min, Bool, true, false, cond, List, [], ◌∷◌, ◌++◌, map, length, refl, sym, ap, ◌∙◌, subst, arith, Option, Some, None, Result, ◌⊎◌, inl, inr}
+-- The first error of two tableaux, which must be the insertion and the recording tableau of a word.
+use Rattle.std.proofs.Common.{◌≡◌, ℕ, ◌+◌, ◌<◌, ◌≤◌, ◌==◌, Bool, true, false, cond, List, [], ◌∷◌, ◌++◌, map, length, refl, sym, ap, ◌∙◌, subst, arith, Option, Some, None, Result, ◌⊎◌, inl, inr}
 use Rattle.std.proofs.lemmas.List.{length-map, append-nil}
 use Rattle.sym_model.specs.Sum.{Among}
 use Rattle.sym_model.proofs.Sums.{Among_from_append}
 use Rattle.sym_model.specs.Partition.{size}
 use Rattle.sym_model.specs.PrintedBlock.{decimal_value}
-use Rattle.sym_model.specs.ExpressionOffence.{literal, range, shape, is_wide}
+use Rattle.sym_model.specs.ExpressionOffence.{range, shape}
 use Rattle.sym_model.specs.Form.{EachOf}
 use Rattle.sym_model.specs.Command.{unrsk}
-use Rattle.sym_model.specs.CommandOffence.{Offence, PlacedRow, first_offence, offences_by, offences_after, judged_against, entry_rule, row_offences, count_offences, length_offences, empty_row_offences, order_offences, standard_offences, when, is_outside, greatest_letter, most_letters, rows_in}
+use Rattle.sym_model.specs.CommandOffence.{Offence, PlacedRow, first_offence, offences_by, judged_against, entry_rule, row_offences, count_offences, empty_row_offences, standard_offences, when, most_letters, rows_in}
 use Rattle.sym_model.specs.Grammar.{insertion_offences, filled_offences, unrsk_entry, unrsk_offends}
 use Rattle.sym_model.specs.WordForms.{tableau_words, numbers, placed_rows, tableau_rows, shape_offences}
 use Rattle.sym_model.specs.Form.{words_of}
-use Rattle.calc_language.proofs.RowJudging.{further_length, numbers_fit}
+use Rattle.calc_language.proofs.RowJudging.{further_length, numbers_fit, row_width}
 use Rattle.word_laws.specs.Words.{Words}
 use Rattle.word_laws.proofs.FirstOffences.{first-among, first_none}
 use Rattle.word_laws.specs.WrittenRows.{row_text, further_text, rows_text, written_rows, rows_at, left_at}
@@ -21,26 +21,20 @@ use Rattle.word_laws.proofs.EarlierOffences.{first_of_both, tally_append, first_
 use Rattle.word_laws.proofs.JudgedRows.{inserted_first, recorded_first}
 use Rattle.word_laws.proofs.LeftShapes.{left_shape}
 use Rattle.calc_base.specs.declared.words.WordsFault.{WordsFault}
-use Rattle.calc_language.specs.declared.found.Found.{Found}
-use Rattle.calc_language.specs.FoundOffences.{offence_of, at_most_entry}
 use Rattle.calc_language.specs.PairOffences.{offences_of_pair, pair_offences}
-use Rattle.calc_words.specs.Faults.{fault_of}
-use Rattle.calc_words.specs.declared.offence.Kind.{Kind}
-use Rattle.calc_words.specs.declared.offence.Kind.TheVariants.{Literal, Range, Shape}
 use Rattle.calc_words.specs.NumberRuns.{IsNumber}
-use Rattle.calc_words.specs.Reading.{IsJudged, IsRead, IsFirst}
+use Rattle.calc_words.specs.Reading.{IsJudged, IsRead}
 use Rattle.calc_language.specs.TableauWords.{AreTwoTableaux}
 use Rattle.calc_words.specs.Commands.{StandsFor}
 use Rattle.calc_words.specs.declared.command.Command.{Command as Read}
 use Rattle.calc_words.proofs.Commands.{read_standing}
 use Rattle.calc_language.proofs.EmptyRows.{empties}
 use Rattle.calc_words.proofs.FirstOffences.{within, no_later_word}
-use Rattle.calc_words.proofs.WrittenLists.{inside}
-use Rattle.word_laws.proofs.NoOffences.{none_append, none_next, none_judged, not_when}
+use Rattle.word_laws.proofs.NoOffences.{none_judged}
 use Rattle.calc_language.proofs.WrittenTableaux.{rows_placed, rows_entered}
 use Rattle.calc_language.proofs.CutTableaux.{rows_spelled}
 
--- ---- the words at which the errors of rows are
+-- ---- the words of a command at which rows can have errors
 
 abbrev pub After : ℕ → List Offence → Type 0
 After k os = (p : Offence) → Among p os → k ≤ p.0
@@ -125,7 +119,7 @@ first_before k ws o h =
     (inserted_before 0 None [] k ws) (empty_rows_before k ws) o
     (first-among (inserted 0 None [] (rows_at k ws) ++ empty_row_offences (rows_at k ws)) o (sym (inserted_first (rows_at k ws)) ∙ h))
 
--- ---- the first error of a pair
+-- ---- the first error of the two tableaux
 
 pub earlier_word : (o : Offence) (rest : Option Offence) → ((q : Offence) → rest ≡ Some q → o.0 < q.0) → earlier (Some o) rest ≡ Some o
 earlier_word o None h = refl
@@ -196,8 +190,8 @@ second_of_pair first second k lengths s t e p q h =
     ∙ ap (λ os. first_offence ((os ++ filled_offences (rows_at m second)) ++ judged_against inserts (shape_offences m ls (rows_text second) ++ standard_offences (size ls) [] [] (rows_at m second))))
     (sym (first_none inserts h))
 
--- judging the numbers, then what is left, then standardness finds the same first error as judging row by row, with
--- what is left
+-- the first of the errors of the numbers, of the errors `lefts` of leaving the shape, and of those of standardness is the
+-- earlier of the first error found row by row and of the first of `lefts`
 pub recording_first : (cells : ℕ) (rows : List PlacedRow) (lefts : List Offence)
     → first_offence (filled_offences rows ++ (lefts ++ standard_offences cells [] [] rows)) ≡ earlier (first_offence (recorded cells 0 [] [] rows)) (first_offence lefts)
 recording_first cells rows lefts =
@@ -213,56 +207,9 @@ recording_first cells rows lefts =
     ∙ first_of_both (fills ++ stands) lefts
     ∙ ap (λ x. earlier x (first_offence lefts)) (recorded_first cells rows)
 
--- ---- the pair is refused by its first error, or returned
-
-pub found_judged : (first : Option Offence) (f : Found) (fault : WordsFault) → first ≡ Some (offence_of f) → fault ≡ fault_of f.word f.kind
-    → IsFirst first fault
-found_judged first f fault e h = subst (λ x. IsFirst first x) (sym h) (by f.kind refl)
-  where
-    by : (k : Kind) → f.kind ≡ k → IsFirst first (fault_of f.word f.kind)
-    by Literal g = subst (λ x. IsFirst first (fault_of f.word x)) (sym g) (e ∙ ap (λ x. Some (offence_of (record { word = f.word; kind = x }))) g)
-    by Range g = subst (λ x. IsFirst first (fault_of f.word x)) (sym g) (e ∙ ap (λ x. Some (offence_of (record { word = f.word; kind = x }))) g)
-    by Shape g = subst (λ x. IsFirst first (fault_of f.word x)) (sym g) (e ∙ ap (λ x. Some (offence_of (record { word = f.word; kind = x }))) g)
-
-small_row : (before : List ℕ) (k : ℕ) (ns : List ℕ) → offences_after entry_rule before k ns ≡ [] → map at_most_entry ns ≡ ns
-small_row before k [] h = refl
-small_row before k (a ∷ ns) h =
-    let n = none_next entry_rule before k a ns h in
-    let o = none_append (when (is_wide a) literal) (when (is_outside greatest_letter a) range) n.0 in
-    let i = inside greatest_letter a (not_when (is_outside greatest_letter a) range o.1) in
-    let z : min a greatest_letter ≡ a = omega (arith, i.1) in
-    ap (λ x. x ∷ map at_most_entry ns) z ∙ ap (λ xs. a ∷ xs) (small_row (a ∷ before) (k + 1) ns n.1)
-
-pub small_rows : {A : Type 0} (f : A → Words) (k : ℕ) (rows : List A) → row_offences entry_rule (rows_at k (map f rows)) ≡ []
-    → map (λ r. map at_most_entry (numbers (f r))) rows ≡ map (λ r. numbers (f r)) rows
-small_rows f k [] h = refl
-small_rows f k (r ∷ rows) h =
-    let n = none_append (offences_by entry_rule k (numbers (f r))) (row_offences entry_rule (rows_at (k + length (row_text (f r)) + 1) (map f rows))) h in
-    ap (λ x. x ∷ map (λ r. map at_most_entry (numbers (f r))) rows) (small_row [] k (numbers (f r)) n.0)
-    ∙ ap (λ xs. numbers (f r) ∷ xs) (small_rows f (k + length (row_text (f r)) + 1) rows n.1)
-
-pub no_entry_first : (ws : List Words) (k : ℕ) → first_offence (insertion_offences (rows_at k ws)) ≡ None → row_offences entry_rule (rows_at k ws) ≡ []
-no_entry_first [] k h = refl
-no_entry_first (w ∷ ws) k h =
-    let rows = rows_at (k + length (row_text w) + 1) ws in
-    let all = rows_at k (w ∷ ws) in
-    let a = none_append (((filled_offences all ++ length_offences (numbers w) rows) ++ empty_row_offences all)) (order_offences 0 [] [] all) (first_none (insertion_offences all) h) in
-    let b = none_append (filled_offences all ++ length_offences (numbers w) rows) (empty_row_offences all) a.0 in
-    let c = none_append (filled_offences all) (length_offences (numbers w) rows) b.0 in
-    (none_append (row_offences entry_rule all) (count_offences 0 all) c.0).0
-
-pub no_entry_second : (rows : List PlacedRow) (more : List Offence) → first_offence (filled_offences rows ++ more) ≡ None → row_offences entry_rule rows ≡ []
-no_entry_second rows more h =
-    let a = none_append (filled_offences rows) more (first_none (filled_offences rows ++ more) h) in
-    (none_append (row_offences entry_rule rows) (count_offences 0 rows) a.0).0
-
 pub lengths_fit : (ws : List Words) → size (map length ws) ≤ length (further_text ws)
 lengths_fit [] = omega arith
-lengths_fit (w ∷ ws) = let e = further_length w ws in let i = lengths_fit ws in let r = wide w in omega (arith, e, i, r)
-  where
-    wide : (w : Words) → length w ≤ length (row_text w)
-    wide [] = omega arith
-    wide (t ∷ w) = omega arith
+lengths_fit (w ∷ ws) = let e = further_length w ws in let i = lengths_fit ws in let r = row_width w in omega (arith, e, i, r)
 
 pub place_of_second : (ws : List Words) → 0 < length ws → 1 + length (further_text ws) ≡ 2 + length (rows_text ws)
 place_of_second [] h = absurd (omega (arith, h))
@@ -272,12 +219,17 @@ pub map_twice : {A : Type 0} (f : A → Words) (g : Words → List ℕ) (rows : 
 map_twice f g [] = refl
 map_twice f g (r ∷ rows) = ap (λ xs. g (f r) ∷ xs) (map_twice f g rows)
 
-pub lengths_twice : {A B : Type 0} (f : A → List B) (h : B → List ℕ) (rows : List A) → map (λ r. length (f r)) rows ≡ map length (map (λ r. map h (f r)) rows)
-lengths_twice f h [] = refl
-lengths_twice f h (r ∷ rows) =
-    ap (λ n. n ∷ map (λ r. length (f r)) rows) (sym (length-map (f r) h)) ∙ ap (λ ns. length (map h (f r)) ∷ ns) (lengths_twice f h rows)
+each_length : {A : Type 0} (g : A → List ℕ) (xs : List A) → map (λ x. length (g x)) xs ≡ map length (map g xs)
+each_length g [] = refl
+each_length g (x ∷ xs) = ap (λ ns. length (g x) ∷ ns) (each_length g xs)
 
--- ---- the words of `unrsk` are read by their two tableaux
+-- the lengths of rows as they were read are those of their words
+pub read_lengths : {A B : Type 0} (g : A → List ℕ) (f : B → Words) (xs : List A) (rows : List B) → map g xs ≡ map (λ r. numbers (f r)) rows
+    → map (λ x. length (g x)) xs ≡ map length (map f rows)
+read_lengths g f xs rows h =
+    each_length g xs ∙ ap (map length) (h ∙ sym (map_twice f numbers rows)) ∙ number_lengths (map f rows)
+
+-- ---- the reading of the words of `unrsk` is judged by its two tableaux
 
 abbrev offends_so : List PlacedRow → List (List ℕ) → Words → Words → (ℕ → List PlacedRow) → List Offence
 offends_so first nss words more second = offences_of_pair first nss (2 + length words) more (second (2 + length words))

@@ -34,7 +34,7 @@ use Rattle.calc_words.specs.declared.command.Command.{Command}
 use Rattle.calc_language.specs.Reading.{placed}
 use Rattle.calc_language.proofs.ExpressionJudging.{at_word, first-placed, same_order, placed_first, none_placed, tree_read}
 
--- the errors of the first expression, of the second one, and of the two together
+-- the errors of the first expression, f, which is word 2 of the command
 abbrev outer_found : Phrase → List Offence
 outer_found f = offences_in_word 2 (offences_within plethysm_degree_limit f)
 
@@ -87,7 +87,8 @@ rest_only : (f g : Phrase) → first_offence (outer_found f) ≡ None
 rest_only f g n =
     ap (λ (os : List Offence). first_offence ((os ++ inner_found g) ++ judged_against os (too_high (is_past f g) g))) (first_none (outer_found f) n)
 
--- an error of the second expression is no later than that of the two together
+-- if an error o is no later than the end of the second expression g, it is the first of o and the error at this end, if
+-- there is one
 stays : (past : Bool) (g : Phrase) (o : Offence) → is_no_later o (end_of g) ≡ true → earlier_of o (first_offence (too_high past g)) ≡ Some o
 stays true g o h = ap (λ b. cond b (Some o) (Some (end_of g))) h
 stays false g o h = refl

@@ -1,7 +1,9 @@
--- The rows of a tableau, judged one after another.
-use Rattle.std.proofs.Common.{◌≡◌, ℕ, zero, suc, ◌+◌, ◌-◌, ◌^◌, ◌<◌, ◌≤◌, ◌==◌, min, Bool, true, false, cond, List, [], ◌∷◌, ◌++◌, map, length, length-append, length-drop, take, drop, get_or, drop-cons, refl, sym, ap, ◌∙◌, arith, Option, Some, None, ◌⊎◌, inl, inr}
+-- The rows of a tableau, read one after another.
+use Rattle.std.proofs.Common.{◌≡◌, ℕ, zero, suc, ◌+◌, ◌-◌, ◌^◌, ◌<◌, ◌≤◌, ◌==◌, min, Bool, true, false, not, cond, List, [], ◌∷◌, ◌++◌, map, length, length-append, length-drop, take, drop, reverse, get_or, drop-cons, refl, sym, ap, ap₂, ◌∙◌, subst, arith, Option, Some, None, ◌⊎◌, inl, inr}
 use Rattle.std.proofs.lemmas.Bool.{eq-eqb, eqb-true}
-use Rattle.std.proofs.lemmas.List.{length-map, take_more, take_all}
+use Rattle.std.proofs.lemmas.List.{length-map, drop-drop, take_more, take_all}
+use Rattle.std.specs.Bool.{then_some}
+use Rattle.std.specs.Prelude.{IfSome}
 use Rattle.std.proofs.Math.ListN.{drop_of_length-le}
 use Rattle.sym_model.specs.Sum.{Among}
 use Rattle.sym_model.proofs.Sums.{Among_from_append}
@@ -12,9 +14,12 @@ use Rattle.sym_model.specs.CommandOffence.{Offence, Rule, first_offence, offence
 use Rattle.sym_model.specs.WordForms.{numbers}
 use Rattle.word_laws.specs.Words.{Words}
 use Rattle.word_laws.specs.WrittenRows.{row_text, further_text, rows_at, left_behind, left_at}
-use Rattle.word_laws.specs.JudgedRows.{cell_rule, is_disordered, is_no_record, inserted, recorded, skewed}
-use Rattle.calc_language.specs.declared.found.Found.{Found}
-use Rattle.calc_language.specs.FoundOffences.{offence_of, found_of, gathered}
+use Rattle.word_laws.specs.JudgedRows.{cell_rule}
+use Rattle.calc_base.specs.declared.words.WordsFault.{WordsFault}
+use Rattle.calc_words.specs.Reading.{IsFirst}
+use Rattle.calc_language.specs.FoundOffences.{found_of, marked, is_no_entry, counted_on, last_row, judged}
+use Rattle.calc_language.specs.declared.cells.Bounds.{Bounds}
+use Rattle.calc_words.proofs.Commands.{judged_on}
 use Rattle.calc_words.proofs.FirstOffences.{within, first-append, none-append}
 
 -- the rows from place i on are the row at place i and those after it
@@ -25,102 +30,66 @@ rows_next f (y ∷ xs) zero x h e = ap (λ z. f z ∷ map f xs) (sym e)
 rows_next f (y ∷ xs) (suc i) x h e =
     rows_next f xs i x (omega (arith, h)) e ∙ ap (λ n. f x ∷ drop n (map f (y ∷ xs))) (let z : suc (i + 1) ≡ suc i + 1 = omega arith in z)
 
+row_there : {A : Type 0} (f : A → List ℕ) (xs : List A) (i : ℕ) (x : A) → i < length xs → x ≡ get_or xs i x → get_or (map f xs) i [] ≡ f x
+row_there f [] i x h e = absurd (omega (arith, h))
+row_there f (y ∷ xs) zero x h e = ap f (sym e)
+row_there f (y ∷ xs) (suc i) x h e = row_there f xs i x (omega (arith, h)) e
+
 pub no_rows : {A : Type 0} (f : A → Words) (xs : List A) (i : ℕ) → length xs ≤ i → drop i (map f xs) ≡ []
 no_rows f xs i h = let k = length-map xs f in drop_of_length-le (map f xs) (omega (arith, h, k))
-
--- the error that was found in a row, or otherwise that of the later rows
-abbrev pub found_next : Option Found → Option Offence → Option Offence
-found_next None rest = rest
-found_next (Some f) rest = Some (offence_of f)
-
-row_then : (rule : Rule) (k : ℕ) (ns : List ℕ) (m : ℕ) (later : List Offence) (found : Option Found) → k + length ns ≤ m
-    → ((q : Offence) → Among q later → m ≤ q.0) → found_of found ≡ first_offence (offences_by rule k ns)
-    → first_offence (offences_by rule k ns ++ later) ≡ found_next found (first_offence later)
-row_then rule k ns m later None h l e = none-append (offences_by rule k ns) later (sym e)
-row_then rule k ns m later (Some f) h l e =
-    first-append (offences_by rule k ns) later (offence_of f) (sym e)
-    (λ p q a b. let x = within rule [] k ns p a in let y = l q b in let z = x.1 in omega (arith, z, y, h))
 
 pub numbers_fit : (w : Words) → length (numbers w) ≤ length (row_text w)
 numbers_fit [] = omega arith
 numbers_fit (t ∷ w) = let e = length-map w decimal_value in omega (arith, e)
 
--- the errors of the rows of an insertion tableau are not before its first word
-inserted_from : (count : ℕ) (most : Option ℕ) (upper : List ℕ) (k : ℕ) (ws : List Words) (q : Offence) → Among q (inserted count most upper (rows_at k ws)) → k ≤ q.0
-inserted_from count most upper k [] q m = absurd m
-inserted_from count most upper k (w ∷ ws) q m =
-    by (Among_from_append q (offences_by (cell_rule (Some count) most (is_disordered 0 upper 0)) k (numbers w))
-    (inserted (count + length (numbers w)) (Some (length (numbers w))) (numbers w) (rows_at (k + length (row_text w) + 1) ws)) m)
-    (inserted_from (count + length (numbers w)) (Some (length (numbers w))) (numbers w) (k + length (row_text w) + 1) ws q)
+-- the errors of the rows of a tableau are not before its first word
+judged_from : (straight : Bool) (count most : Option ℕ) (c : ℕ) (upper inner : List ℕ) (flags : List Bool) (k : ℕ) (ws : List Words) (q : Offence)
+    → Among q (judged straight count most c upper inner flags (rows_at k ws)) → k ≤ q.0
+judged_from straight count most c upper inner flags k [] q m = absurd m
+judged_from straight count most c upper inner flags k (w ∷ ws) q m =
+    by (Among_from_append q (offences_by rule k ns) (later ws) m)
+    (judged_from straight (counted_on count ns) (cond straight (Some (length ns)) None) (part inner 1) ns (drop 1 inner) (marked (reverse ns) flags) (k + length (row_text w) + 1) ws q)
   where
-    by : Among q (offences_by (cell_rule (Some count) most (is_disordered 0 upper 0)) k (numbers w))
-        ⊎ Among q (inserted (count + length (numbers w)) (Some (length (numbers w))) (numbers w) (rows_at (k + length (row_text w) + 1) ws))
-        → (Among q (inserted (count + length (numbers w)) (Some (length (numbers w))) (numbers w) (rows_at (k + length (row_text w) + 1) ws)) → k + length (row_text w) + 1 ≤ q.0)
-        → k ≤ q.0
-    by (inl a) again = (within (cell_rule (Some count) most (is_disordered 0 upper 0)) [] k (numbers w) q a).0
+    ns : List ℕ
+    ns = numbers w
+
+    rule : Rule
+    rule = cell_rule count most (is_no_entry c upper (part inner 1) flags)
+
+    later : List Words → List Offence
+    later ws = judged straight (counted_on count ns) (cond straight (Some (length ns)) None) (part inner 1) ns (drop 1 inner) (marked (reverse ns) flags) (rows_at (k + length (row_text w) + 1) ws)
+
+    by : Among q (offences_by rule k ns) ⊎ Among q (later ws) → (Among q (later ws) → k + length (row_text w) + 1 ≤ q.0) → k ≤ q.0
+    by (inl a) again = (within rule [] k ns q a).0
     by (inr a) again = let z = again a in omega (arith, z)
 
-pub inserted_next : (count : ℕ) (most : Option ℕ) (upper : List ℕ) (k : ℕ) (w : Words) (ws : List Words) (found : Option Found)
-    → found_of found ≡ first_offence (offences_by (cell_rule (Some count) most (is_disordered 0 upper 0)) k (numbers w))
-    → first_offence (inserted count most upper (rows_at k (w ∷ ws)))
-    ≡ found_next found (first_offence (inserted (count + length (numbers w)) (Some (length (numbers w))) (numbers w) (rows_at (k + length (row_text w) + 1) ws)))
-inserted_next count most upper k w ws found e =
+-- if a number of the row w has an error, the first such error is the first error of w and the rows ws after it
+pub row_fails : (straight : Bool) (count most : Option ℕ) (c : ℕ) (upper inner : List ℕ) (flags : List Bool) (k : ℕ) (w : Words) (ws : List Words) (fault : WordsFault)
+    → IsFirst (first_offence (offences_by (cell_rule count most (is_no_entry c upper (part inner 1) flags)) k (numbers w))) fault
+    → IsFirst (first_offence (judged straight count most c upper inner flags (rows_at k (w ∷ ws)))) fault
+row_fails straight count most c upper inner flags k w ws fault e =
+    let ns = numbers w in
+    let rule = cell_rule count most (is_no_entry c upper (part inner 1) flags) in
+    let m = k + length (row_text w) + 1 in
+    let later = judged straight (counted_on count ns) (cond straight (Some (length ns)) None) (part inner 1) ns (drop 1 inner) (marked (reverse ns) flags) (rows_at m ws) in
     let fit = numbers_fit w in
-    row_then (cell_rule (Some count) most (is_disordered 0 upper 0)) k (numbers w) (k + length (row_text w) + 1)
-    (inserted (count + length (numbers w)) (Some (length (numbers w))) (numbers w) (rows_at (k + length (row_text w) + 1) ws)) found (omega (arith, fit))
-    (λ q m. inserted_from (count + length (numbers w)) (Some (length (numbers w))) (numbers w) (k + length (row_text w) + 1) ws q m) e
+    judged_on (first_offence (offences_by rule k ns)) (first_offence (offences_by rule k ns ++ later)) fault
+    (λ o h. first-append (offences_by rule k ns) later o h
+    (λ p q a b. let x = (within rule [] k ns p a).1 in
+    let y = judged_from straight (counted_on count ns) (cond straight (Some (length ns)) None) (part inner 1) ns (drop 1 inner) (marked (reverse ns) flags) m ws q b in
+    omega (arith, x, y, fit))) e
 
--- the errors of the rows of a recording tableau are not before its first word
-recorded_from : (cells count : ℕ) (earlier upper : List ℕ) (k : ℕ) (ws : List Words) (q : Offence) → Among q (recorded cells count earlier upper (rows_at k ws)) → k ≤ q.0
-recorded_from cells count earlier upper k [] q m = absurd m
-recorded_from cells count earlier upper k (w ∷ ws) q m =
-    by (Among_from_append q (offences_by (cell_rule (Some count) None (is_no_record cells earlier upper)) k (numbers w))
-    (recorded cells (count + length (numbers w)) (numbers w ++ earlier) (numbers w) (rows_at (k + length (row_text w) + 1) ws)) m)
-    (recorded_from cells (count + length (numbers w)) (numbers w ++ earlier) (numbers w) (k + length (row_text w) + 1) ws q)
-  where
-    by : Among q (offences_by (cell_rule (Some count) None (is_no_record cells earlier upper)) k (numbers w))
-        ⊎ Among q (recorded cells (count + length (numbers w)) (numbers w ++ earlier) (numbers w) (rows_at (k + length (row_text w) + 1) ws))
-        → (Among q (recorded cells (count + length (numbers w)) (numbers w ++ earlier) (numbers w) (rows_at (k + length (row_text w) + 1) ws)) → k + length (row_text w) + 1 ≤ q.0)
-        → k ≤ q.0
-    by (inl a) again = (within (cell_rule (Some count) None (is_no_record cells earlier upper)) [] k (numbers w) q a).0
-    by (inr a) again = let z = again a in omega (arith, z)
+pub row_passes : (straight : Bool) (count most : Option ℕ) (c : ℕ) (upper inner : List ℕ) (flags : List Bool) (k : ℕ) (w : Words) (ws : List Words)
+    → first_offence (offences_by (cell_rule count most (is_no_entry c upper (part inner 1) flags)) k (numbers w)) ≡ None
+    → first_offence (judged straight count most c upper inner flags (rows_at k (w ∷ ws)))
+    ≡ first_offence (judged straight (counted_on count (numbers w)) (cond straight (Some (length (numbers w))) None) (part inner 1) (numbers w) (drop 1 inner)
+    (marked (reverse (numbers w)) flags) (rows_at (k + length (row_text w) + 1) ws))
+row_passes straight count most c upper inner flags k w ws e =
+    none-append (offences_by (cell_rule count most (is_no_entry c upper (part inner 1) flags)) k (numbers w))
+    (judged straight (counted_on count (numbers w)) (cond straight (Some (length (numbers w))) None) (part inner 1) (numbers w) (drop 1 inner)
+    (marked (reverse (numbers w)) flags) (rows_at (k + length (row_text w) + 1) ws)) e
 
-pub recorded_next : (cells count : ℕ) (earlier upper : List ℕ) (k : ℕ) (w : Words) (ws : List Words) (found : Option Found)
-    → found_of found ≡ first_offence (offences_by (cell_rule (Some count) None (is_no_record cells earlier upper)) k (numbers w))
-    → first_offence (recorded cells count earlier upper (rows_at k (w ∷ ws)))
-    ≡ found_next found (first_offence (recorded cells (count + length (numbers w)) (numbers w ++ earlier) (numbers w) (rows_at (k + length (row_text w) + 1) ws)))
-recorded_next cells count earlier upper k w ws found e =
-    let fit = numbers_fit w in
-    row_then (cell_rule (Some count) None (is_no_record cells earlier upper)) k (numbers w) (k + length (row_text w) + 1)
-    (recorded cells (count + length (numbers w)) (numbers w ++ earlier) (numbers w) (rows_at (k + length (row_text w) + 1) ws)) found (omega (arith, fit))
-    (λ q m. recorded_from cells (count + length (numbers w)) (numbers w ++ earlier) (numbers w) (k + length (row_text w) + 1) ws q m) e
-
--- the errors of the rows of a skew tableau are not before its first word
-skewed_from : (c : ℕ) (upper inner : List ℕ) (k : ℕ) (ws : List Words) (q : Offence) → Among q (skewed c upper inner (rows_at k ws)) → k ≤ q.0
-skewed_from c upper inner k [] q m = absurd m
-skewed_from c upper inner k (w ∷ ws) q m =
-    by (Among_from_append q (offences_by (cell_rule None None (is_disordered c upper (part inner 1))) k (numbers w))
-    (skewed (part inner 1) (numbers w) (drop 1 inner) (rows_at (k + length (row_text w) + 1) ws)) m)
-    (skewed_from (part inner 1) (numbers w) (drop 1 inner) (k + length (row_text w) + 1) ws q)
-  where
-    by : Among q (offences_by (cell_rule None None (is_disordered c upper (part inner 1))) k (numbers w))
-        ⊎ Among q (skewed (part inner 1) (numbers w) (drop 1 inner) (rows_at (k + length (row_text w) + 1) ws))
-        → (Among q (skewed (part inner 1) (numbers w) (drop 1 inner) (rows_at (k + length (row_text w) + 1) ws)) → k + length (row_text w) + 1 ≤ q.0)
-        → k ≤ q.0
-    by (inl a) again = (within (cell_rule None None (is_disordered c upper (part inner 1))) [] k (numbers w) q a).0
-    by (inr a) again = let z = again a in omega (arith, z)
-
-pub skewed_next : (c : ℕ) (upper inner : List ℕ) (k : ℕ) (w : Words) (ws : List Words) (found : Option Found)
-    → found_of found ≡ first_offence (offences_by (cell_rule None None (is_disordered c upper (part inner 1))) k (numbers w))
-    → first_offence (skewed c upper inner (rows_at k (w ∷ ws)))
-    ≡ found_next found (first_offence (skewed (part inner 1) (numbers w) (drop 1 inner) (rows_at (k + length (row_text w) + 1) ws)))
-skewed_next c upper inner k w ws found e =
-    let fit = numbers_fit w in
-    row_then (cell_rule None None (is_disordered c upper (part inner 1))) k (numbers w) (k + length (row_text w) + 1)
-    (skewed (part inner 1) (numbers w) (drop 1 inner) (rows_at (k + length (row_text w) + 1) ws)) found (omega (arith, fit))
-    (λ q m. skewed_from (part inner 1) (numbers w) (drop 1 inner) (k + length (row_text w) + 1) ws q m) e
-
--- the number of words still to be read
+-- the rows w ∷ ws, each after a `/`, have the words of w, those of the rows ws, each after a `/`, and one word more
 pub further_length : (w : Words) (ws : List Words) → length (further_text (w ∷ ws)) ≡ length (row_text w) + length (further_text ws) + 1
 further_length w ws = let e = length-append (row_text w) (further_text ws) in omega (arith, e)
 
@@ -133,27 +102,98 @@ pub row_width : (w : Words) → length w ≤ length (row_text w)
 row_width [] = omega arith
 row_width (t ∷ w) = omega arith
 
--- if a row is appended to the rows, its entries come before the gathered entries
-gathered_last : (es : List ℕ) (xs : List (List ℕ)) (row : List ℕ) → gathered es (xs ++ row ∷ []) ≡ row ++ gathered es xs
-gathered_last es [] row = refl
-gathered_last es (x ∷ xs) row = gathered_last (x ++ es) xs row
-
-pub gathered_more : (rows : List (List ℕ)) (i : ℕ) (row : List ℕ) → i < length rows → get_or rows i [] ≡ row
-    → gathered [] (take (i + 1) rows) ≡ row ++ gathered [] (take i rows)
-gathered_more rows i row h e =
-    ap (gathered []) (take_more rows i [] h) ∙ gathered_last [] (take i rows) (get_or rows i []) ∙ ap (λ r. r ++ gathered [] (take i rows)) e
-
-pub drop_next : (xs : List ℕ) (i : ℕ) → drop 1 (drop i xs) ≡ drop (i + 1) xs
-drop_next [] zero = refl
-drop_next [] (suc i) = sym (drop_of_length-le [] (omega arith))
-drop_next (x ∷ xs) zero = refl
-drop_next (x ∷ xs) (suc i) = drop_next xs i ∙ (let z : suc (i + 1) ≡ suc i + 1 = omega arith in ap (λ n. drop n (x ∷ xs)) z)
-
 pub part_there : (xs : List ℕ) (i : ℕ) → i < length xs → get_or xs i 0 ≡ part (drop i xs) 1
 part_there xs i h = sym (ap (λ ys. part ys 1) (drop-cons xs i 0 h))
 
 pub part_past : (xs : List ℕ) (i : ℕ) → length xs ≤ i → 0 ≡ part (drop i xs) 1
 part_past xs i h = sym (ap (λ ys. part ys 1) (drop_of_length-le xs h))
+
+-- ---- the rows, read one after another
+
+last_appended : (rows : List (List ℕ)) (row : List ℕ) → last_row (rows ++ row ∷ []) ≡ row
+last_appended [] row = refl
+last_appended (r ∷ rows) row =
+    let l = length-append rows (row ∷ []) in
+    (let z : length (r ∷ (rows ++ row ∷ [])) - 1 ≡ suc (length (rows ++ row ∷ []) - 1) = omega (arith, l) in ap (λ n. get_or (r ∷ (rows ++ row ∷ [])) n []) z)
+    ∙ last_appended rows row
+
+few_next : (count : Option ℕ) (ns : List ℕ) (place next : ℕ) → IfSome count (λ n. n ≤ place) → place + length ns ≤ next
+    → IfSome (counted_on count ns) (λ n. n ≤ next)
+few_next None ns place next h l = h
+few_next (Some n) ns place next h l = omega (arith, h, l)
+
+pub few_fit : (count : Option ℕ) (ns : List ℕ) (place : ℕ) → IfSome count (λ n. n ≤ place) → place + length ns < 2 ^ 64
+    → IfSome count (λ n. n + length ns < 2 ^ 64)
+few_fit None ns place h l = h
+few_fit (Some n) ns place h l = omega (arith, h, l)
+
+-- the first i rows are read and have no error; the next row begins at the word `place`, below a row that begins at column c
+pub record RowsTo {A : Type 0} (f : A → Words) (first : Option Offence) (inner : List ℕ) (rows : List A) (i : ℕ) (read : List (List ℕ)) (place : ℕ) (bounds : Bounds) (c : ℕ) (taken : List Bool) : Type 0 where
+  pub first_is : first ≡ first_offence (judged bounds.is_straight bounds.counted bounds.most c (last_row read) (drop i inner) taken (rows_at place (drop i (map f rows))))
+  pub read_is : read ≡ take i (map (λ r. numbers (f r)) rows)
+  pub room : place + length (further_text (drop i (map f rows))) < 2 ^ 64
+  pub few : IfSome bounds.counted (λ count. count ≤ place)
+
+pub row_room : {A : Type 0} (f : A → Words) (first : Option Offence) (inner : List ℕ) (rows : List A) (i : ℕ) (read : List (List ℕ)) (place : ℕ) (bounds : Bounds) (c : ℕ) (taken : List Bool)
+    (x : A) → RowsTo f first inner rows i read place bounds c taken → i < length rows → x ≡ get_or rows i x
+    → (place + length (row_text (f x)) + 1 < 2 ^ 64) × (place + length (f x) < 2 ^ 64)
+row_room f first inner rows i read place bounds c taken x r h e =
+    let z = room_next place (drop i (map f rows)) (drop (i + 1) (map f rows)) (f x) (rows_next f rows i x h e) r.room in
+    let y = row_width (f x) in
+    (omega (arith, z), omega (arith, z, y))
+
+-- the errors of the next row x, which begins at column d
+abbrev pub next_offences : {A : Type 0} (f : A → Words) (upper : List ℕ) (place : ℕ) (bounds : Bounds) (c d : ℕ) (taken : List Bool) (x : A) → List Offence
+next_offences f upper place bounds c d taken x =
+    offences_by (cell_rule bounds.counted bounds.most (is_no_entry c upper d taken)) place (numbers (f x))
+
+pub rows_fail : {A : Type 0} (f : A → Words) (first : Option Offence) (inner : List ℕ) (rows : List A) (i : ℕ) (read : List (List ℕ)) (place : ℕ) (bounds : Bounds) (c : ℕ) (taken : List Bool)
+    (x : A) (upper : List ℕ) (d : ℕ) (fault : WordsFault) → RowsTo f first inner rows i read place bounds c taken → i < length rows → x ≡ get_or rows i x
+    → upper ≡ last_row read → d ≡ part (drop i inner) 1 → IsFirst (first_offence (next_offences f upper place bounds c d taken x)) fault → IsFirst first fault
+rows_fail f first inner rows i read place bounds c taken x upper d fault r h e u p j =
+    subst (λ o. IsFirst o fault)
+    (sym (r.first_is ∙ ap (λ ds. first_offence (judged bounds.is_straight bounds.counted bounds.most c (last_row read) (drop i inner) taken (rows_at place ds))) (rows_next f rows i x h e)))
+    (row_fails bounds.is_straight bounds.counted bounds.most c (last_row read) (drop i inner) taken place (f x) (drop (i + 1) (map f rows)) fault
+    (subst (λ n. IsFirst (first_offence (next_offences f (last_row read) place bounds c n taken x)) fault) p
+    (subst (λ ns. IsFirst (first_offence (next_offences f ns place bounds c d taken x)) fault) u j)))
+
+pub rows_go_on : {A : Type 0} (f : A → Words) (first : Option Offence) (inner : List ℕ) (rows : List A) (i : ℕ) (read : List (List ℕ)) (place : ℕ) (bounds : Bounds) (c : ℕ) (taken : List Bool)
+    (x : A) (upper : List ℕ) (d : ℕ) (v : List ℕ) (next : ℕ) → RowsTo f first inner rows i read place bounds c taken → i < length rows → x ≡ get_or rows i x
+    → upper ≡ last_row read → d ≡ part (drop i inner) 1 → v ≡ numbers (f x) → first_offence (next_offences f upper place bounds c d taken x) ≡ None → next ≡ place + (length (row_text (f x)) + 1)
+    → RowsTo f first inner rows (i + 1) (read ++ v ∷ []) next
+    (record { counted = counted_on bounds.counted v; most = cond bounds.is_straight (Some (length v)) None; is_straight = bounds.is_straight }) d (marked (reverse v) taken)
+rows_go_on f first inner rows i read place bounds c taken x upper d v next r h e u p g o q =
+    let w = f x in
+    let rest = drop (i + 1) (map f rows) in
+    let cut = rows_next f rows i x h e in
+    let fit = numbers_fit w in
+    let after = λ (xs : List ℕ) (m j : ℕ) (upper ys : List ℕ).
+    first_offence (judged bounds.is_straight (counted_on bounds.counted xs) (cond bounds.is_straight (Some (length xs)) None) m upper ys (marked (reverse xs) taken) (rows_at j rest)) in
+    record {
+      first_is =
+          r.first_is
+          ∙ ap (λ ds. first_offence (judged bounds.is_straight bounds.counted bounds.most c (last_row read) (drop i inner) taken (rows_at place ds))) cut
+          ∙ row_passes bounds.is_straight bounds.counted bounds.most c (last_row read) (drop i inner) taken place w rest
+          (ap (λ n. first_offence (next_offences f (last_row read) place bounds c n taken x)) (sym p)
+          ∙ ap (λ ns. first_offence (next_offences f ns place bounds c d taken x)) (sym u) ∙ o)
+          ∙ ap (λ xs. after xs (part (drop i inner) 1) (place + length (row_text w) + 1) xs (drop 1 (drop i inner))) (sym g)
+          ∙ ap (λ m. after v m (place + length (row_text w) + 1) v (drop 1 (drop i inner))) (sym p)
+          ∙ (let z : place + length (row_text w) + 1 ≡ next = omega (arith, q) in ap (λ j. after v d j v (drop 1 (drop i inner))) z)
+          ∙ ap (after v d next v) (drop-drop 1 i inner)
+          ∙ ap (λ xs. after v d next xs (drop (i + 1) inner)) (sym (last_appended read v));
+      read_is =
+          ap₂ (λ xs y. xs ++ y ∷ []) r.read_is (g ∙ sym (row_there (λ y. numbers (f y)) rows i x h e))
+          ∙ sym (take_more (map (λ y. numbers (f y)) rows) i [] (let l = length-map rows (λ y. numbers (f y)) in omega (arith, l, h)));
+      room = let z = room_next place (drop i (map f rows)) rest w cut r.room in omega (arith, z, q);
+      few = few_next bounds.counted v place next r.few (let z = ap (length {A = ℕ}) g in omega (arith, z, fit, q));
+    }
+
+pub rows_end : {A : Type 0} (f : A → Words) (first : Option Offence) (inner : List ℕ) (rows : List A) (i : ℕ) (read : List (List ℕ)) (place : ℕ) (bounds : Bounds) (c : ℕ) (taken : List Bool)
+    → RowsTo f first inner rows i read place bounds c taken → length rows ≤ i → (read ≡ map (λ r. numbers (f r)) rows) × (first ≡ None)
+rows_end f first inner rows i read place bounds c taken r h = (
+  r.read_is ∙ take_all i (map (λ y. numbers (f y)) rows) (let l = length-map rows (λ y. numbers (f y)) in omega (arith, l, h)),
+  r.first_is ∙ ap (λ ds. first_offence (judged bounds.is_straight bounds.counted bounds.most c (last_row read) (drop i inner) taken (rows_at place ds))) (no_rows f rows i h),
+)
 
 -- ---- the word at which rows leave a shape
 
@@ -208,7 +248,7 @@ split_first (x ∷ xs) h =
     ap (λ ys. x ∷ ys) (sym (take_all (suc (length xs) - 1) xs (omega arith)))
 
 pub left_last : (k n : ℕ) (ls : List ℕ) (w : Words) (ws : List Words) (b : Bool) → length w ≡ n → length ls ≡ 0 → (b ≡ true → length ws ≡ 0) → (b ≡ false → 0 < length ws)
-    → first_offence (left_at k (n ∷ ls) (w ∷ ws)) ≡ cond b None (Some (k + length (row_text w), 0, shape))
+    → first_offence (left_at k (n ∷ ls) (w ∷ ws)) ≡ found_of (then_some (not b) (k + length (row_text w)))
 left_last k n ls w ws true h e t f = left_ends k n ls w ws h e (t refl)
 left_last k n ls w ws false h e t f = left_more k n ls w ws h e (f refl)
 

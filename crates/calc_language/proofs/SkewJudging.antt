@@ -29,7 +29,7 @@ use Rattle.calc_words.specs.declared.command.Command.{Command as Read}
 use Rattle.calc_language.specs.SkewWords.{AreSkewWords, skew_offences}
 use Rattle.calc_words.proofs.Commands.{read_standing}
 use Rattle.calc_words.proofs.FirstOffences.{within}
-use Rattle.word_laws.proofs.NoOffences.{none_append, none_judged}
+use Rattle.word_laws.proofs.NoOffences.{none_judged}
 use Rattle.calc_language.proofs.PairJudging.{After, entries_after, earlier_word, some_judged, left_shape_of, map_twice, after_append}
 use Rattle.calc_language.proofs.WrittenTableaux.{rows_placed, rows_entered}
 use Rattle.calc_language.proofs.CutTableaux.{rows_spelled}
@@ -62,13 +62,6 @@ rows_first_offence k outer inner rows s e =
     omega (arith, a, b, c, d))
     ∙ first_of_both (fills ++ orders) lefts
     ∙ ap (λ x. earlier x (first_offence lefts)) (skewed_first inner (rows_at k rows))
-
-pub no_entry_skew : (k : ℕ) (outer inner : List ℕ) (rows : List Words) → first_offence (skew_offences k outer inner rows) ≡ None
-    → row_offences entry_rule (rows_at k rows) ≡ []
-no_entry_skew k outer inner rows h =
-    (none_append (row_offences entry_rule (rows_at k rows))
-    (shape_offences k (row_lengths outer inner) (rows_text rows) ++ order_offences 0 [] inner (rows_at k rows))
-    (first_none (skew_offences k outer inner rows) h)).0
 
 -- ---- zeros at the end of a partition as it is written
 
@@ -184,7 +177,7 @@ neither_first outer inner rows parts e n h =
     ∙ ap (λ os. first_offence (fills ++ os)) (sym (none_judged (outers ++ inners) later none))
     ∙ ap (λ os. first_offence ((os ++ fills) ++ judged_against (outers ++ inners) later)) (sym (first_none (outers ++ inners) none))
 
--- ---- the words of `rect` are read by their two shapes and their tableau
+-- ---- the reading of the words of `rect` is judged by its two shapes and its tableau
 
 pub skew_read : (words outer inner : Words) (rows : List Words) (r : Result Read WordsFault) → AreSkewWords outer inner rows words
     → IsJudged (StandsFor (rect (partition outer) (partition inner) (rows_in (partition outer) (map numbers rows)))) (first_offence (all_skew_offences outer inner rows)) r

@@ -1,4 +1,4 @@
--- A skew tableau without an error is a tableau.
+-- Rows of a skew shape that have no error are a tableau of this shape.
 use Rattle.std.proofs.Common.{◌≡◌, ℕ, zero, suc, ◌+◌, ◌-◌, ◌<◌, ◌≤◌, nat_lt, true, List, [], ◌∷◌, ◌++◌, map, length, get_or, refl, sym, ap, ◌∙◌, subst, arith, None}
 use Rattle.std.proofs.lemmas.Bool.{ltb-false}
 use Rattle.sym_model.specs.Partition.{part, IsPartition, without_last_zeros}

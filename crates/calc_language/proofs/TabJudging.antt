@@ -20,7 +20,7 @@ use Rattle.word_laws.specs.Words.{Words}
 use Rattle.word_laws.specs.WrittenRows.{row_text, written_rows, rows_at}
 use Rattle.tableau_iter.proofs.EntryLimits.{RowsWithin, rows_within}
 use Rattle.calc_base.specs.declared.words.WordsFault.{WordsFault}
-use Rattle.calc_words.specs.declared.offence.Kind.TheVariants.{Shape as Misshapen}
+use Rattle.expression_reading.specs.declared.offence.Kind.TheVariants.{Shape as Misshapen}
 use Rattle.calc_words.specs.Faults.{fault_of}
 use Rattle.calc_language.specs.FoundOffences.{at_most_entry}
 use Rattle.calc_words.specs.Reading.{IsJudged, IsRead, IsFirst}
@@ -33,7 +33,7 @@ use Rattle.calc_language.proofs.PairJudging.{entries_after, map_twice}
 use Rattle.calc_language.proofs.WrittenTableaux.{rows_placed, rows_entered}
 use Rattle.sym_model.specs.Bounded.{AreLetters as AreWithin}
 
--- ---- a number from 1 to a limit that is at most the greatest entry has no error as an entry
+-- ---- a number from 1 to n, for n ≤ 512, has no error as an entry
 
 entry_none : (n : ℕ) (before : List ℕ) (a : ℕ) → n ≤ 512 → 1 ≤ a → a ≤ n → entry_rule before a ≡ []
 entry_none n before a f l h =
@@ -52,7 +52,7 @@ rows_none n k [] f h = refl
 rows_none n k (w ∷ ws) f h =
     ap₂ (λ xs ys. xs ++ ys) (row_none n [] k (numbers w) f h.0) (rows_none n (k + length (row_text w) + 1) ws f h.1)
 
--- ---- capping the entries at the greatest does not change which tableaux are listed
+-- ---- replacing greater entries by 65,535 does not change which rows are a lattice tableau
 
 abbrev capped : List (List ℕ) → List (List ℕ)
 capped rows = map (map at_most_entry) rows
@@ -84,7 +84,8 @@ rows_in_capped [] ([] ∷ []) = refl
 rows_in_capped [] ([] ∷ row ∷ rows) = refl
 rows_in_capped [] ((a ∷ row) ∷ rows) = refl
 
--- the rows with entries capped at the greatest entry are a tableau of the list if and only if the rows themselves are
+-- the rows with entries capped at the greatest entry are a lattice tableau of outer/inner if and only if the rows
+-- themselves are
 capped_listed : (outer inner : List ℕ) (rows : List (List ℕ)) → Falls outer → length outer ≤ 512
     → is_lattice_tableau outer inner (capped rows) ≡ is_lattice_tableau outer inner rows
 capped_listed outer inner rows f n =
@@ -96,8 +97,8 @@ capped_each : {A : Type 0} (f : A → Words) (xs : List A) → map (λ r. map at
 capped_each f [] = refl
 capped_each f (x ∷ xs) = ap (λ rs. map at_most_entry (numbers (f x)) ∷ rs) (capped_each f xs)
 
--- the rows that were read, with a greater entry replaced by the greatest, are in the list if and only if the written
--- rows are
+-- the rows that were read, with each entry over 65,535 replaced by 65,535, are a lattice tableau of outer/inner if and
+-- only if the written rows are
 pub read_listed : {A : Type 0} (f : A → Words) (outer inner : List ℕ) (xs : List A) (read : List (List ℕ)) → Falls outer → length outer ≤ 512
     → read ≡ rows_in outer (map (λ r. map at_most_entry (numbers (f r))) xs)
     → is_lattice_tableau outer inner read ≡ is_lattice_tableau outer inner (rows_in outer (map (λ r. numbers (f r)) xs))
@@ -116,17 +117,17 @@ read_same f outer inner xs read h n e l =
     ∙ rows_kept (length outer) (rows_in outer (map (λ r. numbers (f r)) xs)) n
     (rows_within outer inner (capped (rows_in outer (map (λ r. numbers (f r)) xs))) h (ap (is_lattice_tableau outer inner) (sym is) ∙ l))
 
--- ---- the tableau after `-from` is in the list or not
+-- ---- the tableau after `-from` is a lattice tableau or not
 
 pub some_rows : {A : Type 0} (xs : List A) → (length xs == 0) ≡ false → 0 < length xs
 some_rows [] h = absurd (let e = eqb-false 0 0 h in omega (arith, e))
 some_rows (x ∷ xs) h = omega arith
 
--- the tableaux of the shape that are asked for
+-- the command c lists the tableaux of outer/inner: all, or those after the column reading `after`
 abbrev pub IsTab : List ℕ → List ℕ → Option (List ℕ) → Read → Type 0
 IsTab outer inner after c = c ≡ Tab outer inner after
 
--- if the tableau is not in the list, the error is at the word `-from`
+-- if the rows are no lattice tableau of outer/inner, the error is at the word `-from`, word k
 pub unlisted_last : {A : Type 0} (f : A → Words) (k : ℕ) (outer inner : List ℕ) (xs : List A) (fault : WordsFault) → 0 < length xs
     → is_lattice_tableau outer inner (rows_in outer (map (λ r. numbers (f r)) xs)) ≡ false → fault ≡ fault_of k Misshapen
     → IsFirst (first_offence (from_offences k outer inner (map f xs))) fault
@@ -142,7 +143,7 @@ unlisted_last f k outer inner (x ∷ xs) fault l n e =
     before p q (inl m) h = let z = ap (λ (o : Offence). o.0) m in omega (arith, z, h)
     before p q (inr m) h = absurd m
 
--- if the tableau is in the list, the result is the command with its column reading
+-- if the rows are a lattice tableau of outer/inner, the command with its column reading is the right result
 pub listed_last : {A : Type 0} (f : A → Words) (k : ℕ) (outer inner : List ℕ) (xs : List A) (s : Read) → 0 < length xs → Falls outer → length outer ≤ 512
     → is_lattice_tableau outer inner (rows_in outer (map (λ r. numbers (f r)) xs)) ≡ true
     → IsTab outer inner (Some (column_reading outer inner (rows_in outer (map (λ r. numbers (f r)) xs)))) s
@@ -206,7 +207,7 @@ after_shapes outer inner rows p q m n =
     later (inl a) = from_judged (two_partitions 1 outer inner) a
     later (inr a) = let z = entries_after (2 + length outer + length inner + 1) rows q a in omega (arith, z)
 
--- if the shapes have an error, the words are refused by it
+-- if the shapes have an error, the first one is the first error of all words
 pub shapes_faulty : (outer inner : Words) (rows : List Words) (fault : WordsFault)
     → IsFirst (first_offence (two_partitions 1 outer inner)) fault → IsFirst (first_offence (all_tab_offences outer inner rows)) fault
 shapes_faulty outer inner rows fault h =
@@ -217,7 +218,7 @@ shapes_faulty outer inner rows fault h =
     subst (λ os. IsFirst (first_offence os) fault) (sym (append_assoc lists judged fills))
     (judged_err lists (judged ++ fills) fault (after_shapes outer inner rows) h)
 
--- ---- the words of `tab` are read by their two shapes and their tableau
+-- ---- the reading of the words of `tab` is judged by its two shapes and its rows
 
 abbrev IsTabJudged : Words → Words → List Words → Result Read WordsFault → Type 0
 IsTabJudged outer inner rows r =

@@ -1,53 +1,62 @@
 -- Errors as they are found, and the tests of a number at its place in a row.
-use Rattle.std.specs.Prelude.{ℕ, ◌+◌, ◌-◌, ◌==◌, nat_lt, min, Bool, ◌||◌, cond, List, [], ◌∷◌, ◌++◌}
-use Rattle.std.specs.Prelude.{take, slice_get, Option, Some, None}
-use Rattle.sym_model.specs.ExpressionOffence.{OffenceKind, literal, range, shape}
-use Rattle.sym_model.specs.CommandOffence.{Offence, greatest_letter, falls, stays, stands_in}
-use Rattle.sym_model.specs.CommandOffence.{entry_above}
-use Rattle.calc_words.specs.declared.offence.Kind.{Kind}
-use Rattle.calc_words.specs.declared.offence.Kind.TheVariants.{Literal, Range, Shape}
-use Rattle.calc_language.specs.declared.found.Found.{Found}
+use Rattle.std.specs.Prelude.{ℕ, ◌+◌, ◌-◌, min, Bool, true, false, ◌||◌, cond, List, [], ◌∷◌, ◌++◌, length}
+use Rattle.std.specs.Prelude.{drop, reverse, slice_index_or, slice_set, Option, Some, None, Result, Ok, Err}
+use Rattle.sym_model.specs.Partition.{part}
+use Rattle.sym_model.specs.ExpressionOffence.{shape}
+use Rattle.sym_model.specs.CommandOffence.{Offence, PlacedRow, offences_by, greatest_letter}
+use Rattle.word_laws.specs.JudgedRows.{cell_rule, is_disordered}
+use Rattle.expression_reading.specs.declared.offence.Kind.{Kind}
+use Rattle.expression_reading.specs.declared.offence.Kind.TheVariants.{Literal}
 use Rattle.calc_words.specs.PartRules.{range_or_shape}
 
--- the kind as the model has it
-abbrev pub kind_of : Kind → OffenceKind
-kind_of Literal = literal
-kind_of Range = range
-kind_of Shape = shape
-
--- the error as the model has it
-abbrev pub offence_of : Found → Offence
-offence_of f = (f.word, 0, kind_of f.kind)
-
--- the error, if one was found
-abbrev pub found_of : Option Found → Option Offence
+-- the error of shape at the word, if one was found
+abbrev pub found_of : Option ℕ → Option Offence
 found_of None = None
-found_of (Some f) = Some (offence_of f)
+found_of (Some word) = Some (word, 0, shape)
 
 -- the kind of a number with the tests x (over 2^127 - 1), y (outside a limit) and z (wrong shape)
 abbrev pub kind_by : Bool → Bool → Bool → Option Kind
 kind_by x y z = cond x (Some Literal) (range_or_shape y z)
 
--- the left neighbour of the number at place i, if there is one
-abbrev pub left_at : List ℕ → ℕ → Option ℕ
-left_at ns i = cond (i == 0) None (slice_get ns (i - 1))
+-- the number, unless an error of it is given
+abbrev pub entry_or : ℕ → Option Kind → Result ℕ Kind
+entry_or a None = Ok a
+entry_or a (Some kind) = Err kind
 
--- whether the number a at place i of a row that begins at column d, below a row that begins at column c, is smaller
--- than its left neighbour or not greater than the entry above it
-abbrev pub is_disordered_at : ℕ → List ℕ → ℕ → List ℕ → ℕ → ℕ → Bool
-is_disordered_at c upper d ns i a = falls (left_at ns i) a || stays (entry_above upper c (d + i)) a
+-- the flags after the flag of each number of the list is set
+abbrev pub marked : List ℕ → List Bool → List Bool
+marked [] flags = flags
+marked (a ∷ ns) flags = slice_set (marked ns flags) a true
 
--- whether a, at place i of a row of a recording tableau with this number of cells, is greater than that number, not
--- greater than its left neighbour or the entry above it, or equal to an earlier entry
-abbrev pub is_no_record_at : ℕ → List ℕ → List ℕ → List ℕ → ℕ → ℕ → Bool
-is_no_record_at cells earlier upper ns i a =
-    nat_lt cells a || stays (left_at ns i) a || stays (slice_get upper i) a
-    || stands_in a (take i ns) || stands_in a earlier
+-- whether there are flags, and the flag of the number is missing or set
+abbrev pub is_taken : List Bool → ℕ → Bool
+is_taken [] a = false
+is_taken (f ∷ flags) a = slice_index_or (f ∷ flags) a true
 
--- the entries of the rows, the last row first, and then `entries`
-abbrev pub gathered : List ℕ → List (List ℕ) → List ℕ
-gathered entries [] = entries
-gathered entries (row ∷ rows) = gathered (row ++ entries) rows
+-- whether a number of a row that begins at column d, after the entries `before` of that row and below a row that begins at
+-- column c, is out of order, or its flag is set once those of `before` are
+abbrev pub is_no_entry : ℕ → List ℕ → ℕ → List Bool → List ℕ → ℕ → Bool
+is_no_entry c upper d flags before a =
+    is_disordered c upper d before a || is_taken (marked before flags) a
+
+-- the last row, or no number if there is no row
+abbrev pub last_row : List (List ℕ) → List ℕ
+last_row rows = slice_index_or rows (length rows - 1) []
+
+-- the count, if one is given, after the numbers `ns` are counted, too
+abbrev pub counted_on : Option ℕ → List ℕ → Option ℕ
+counted_on None ns = None
+counted_on (Some count) ns = Some (count + length ns)
+
+-- the errors of the rows of a tableau, which begin at the columns `inner`, below a row of the numbers `upper` that begins
+-- at column c. If entries are counted, `count` were counted before; the first row has at most `most` numbers, if that is
+-- given, and if `straight`, no row is longer than the one above it; no number may have its flag set.
+abbrev pub judged : Bool → Option ℕ → Option ℕ → ℕ → List ℕ → List ℕ → List Bool → List PlacedRow → List Offence
+judged straight count most c upper inner flags [] = []
+judged straight count most c upper inner flags (row ∷ rows) =
+    offences_by (cell_rule count most (is_no_entry c upper (part inner 1) flags)) row.0 row.1
+    ++ judged straight (counted_on count row.1) (cond straight (Some (length row.1)) None) (part inner 1) row.1
+    (drop 1 inner) (marked (reverse row.1) flags) rows
 
 -- the number, or 65,535 if it is greater
 abbrev pub at_most_entry : ℕ → ℕ

@@ -1,6 +1,5 @@
 pub mod TableauWords
 pub mod FoundOffences
-pub mod ReadTableaux
 pub mod PairOffences
 pub mod SkewWords
 pub mod AskedLengths

@@ -12,7 +12,7 @@ use Rattle.calc_words.specs.declared.command.Command.{Command}
 use Rattle.calc_language.specs.Reading.{command_of, IsWithinItsLimits}
 
 -- A line that is too long is refused with its error, one that is skipped gives no command, and the words of any other
--- line are read as a command of a line. Out of memory says nothing about the line.
+-- line are read as a command of a line. Nothing is required if memory runs out.
 abbrev pub IsLineRead : BatchLine → Result (Option Command) WordsFault → Type 0
 IsLineRead too_long (Ok answer) = ⊥
 IsLineRead too_long (Err NoMemory) = Unit {0}

@@ -18,7 +18,7 @@ offences_of_pair first nss k words second =
     (shape_offences k (map length (rows_in [] nss)) words
     ++ standard_offences (size (map length (rows_in [] nss))) [] [] second)
 
--- the errors from the number words of their rows, of which the first begin at the second word
+-- the errors of two tableaux, given the number words of their rows; the first tableau begins at the second word
 abbrev pub pair_offences : List (List (List ℕ)) → List (List (List ℕ)) → List Offence
 pair_offences first second =
     let k = 2 + length (rows_text first) in

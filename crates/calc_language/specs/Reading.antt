@@ -33,12 +33,12 @@ abbrev pub IsWithinItsLimits : Command → Type 0
 IsWithinItsLimits command = KeepsLimits (command_of command)
 
 -- If the result is a command, the words spell it without error, and it is sound; if it is an
--- error, that is their first error or the place where they first fail. Out of memory says nothing
--- about the words.
+-- error, that is their first error or the place where they first fail. Nothing is required if
+-- memory runs out.
 abbrev pub IsRead : List (List ℕ) → Result Command WordsFault → Type 0
 IsRead words result = IsReadBy command_entries words result
 
--- the refusal of the expression that is this word
+-- the refusal of the expression at word `word`
 abbrev pub placed : ℕ → ExpressionFault → WordsFault
 placed word (Wrong byte) = Syntax (record { word = word; byte = byte })
 placed word (Wide byte) = Literal (record { word = word; byte = byte })

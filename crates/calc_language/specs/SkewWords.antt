@@ -1,5 +1,5 @@
 -- Two shapes and a tableau among the words of a command.
-use Rattle.std.specs.Prelude.{◌≡◌, ℕ, ◌<◌, List, [], ◌∷◌, ◌++◌, map, length, codes}
+use Rattle.std.specs.Prelude.{◌≡◌, ℕ, ◌<◌, List, [], ◌∷◌, ◌++◌, length, codes}
 use Rattle.sym_model.specs.CommandOffence.{Offence, row_offences, entry_rule, order_offences}
 use Rattle.sym_model.specs.Form.{EachOf, Has}
 use Rattle.sym_model.specs.Grammar.{rect_words}
@@ -7,7 +7,6 @@ use Rattle.sym_model.specs.Schur.{row_lengths}
 use Rattle.sym_model.specs.WordForms.{shape_offences}
 use Rattle.word_laws.specs.WrittenRows.{rows_text, rows_at, written_rows}
 use Rattle.calc_words.specs.NumberRuns.{IsNumber}
-use Rattle.calc_language.specs.declared.skew_tableaux.SkewRows.{SkewRows}
 
 -- the words are `rect` and two lists of numbers with `/` between them and, after `-`,
 -- a tableau of these rows
@@ -21,14 +20,6 @@ pub record AreSkewWords (outer inner : List (List ℕ)) (rows : List (List (List
       ∷ (outer ++ codes "/" ∷ (inner ++ codes "-" ∷ rows_text rows))
   pub rows_some : 0 < length rows
   pub rows_numbers : EachOf (EachOf IsNumber) rows
-
--- the rows of s, the result of reading the words of `rect`
-abbrev pub rows_of : SkewRows → List (List ℕ)
-rows_of s = map (λ r. r.items) s.rows.items
-
--- the shapes of s are outer and inner, and its rows are `rows`
-abbrev pub AreSkewRows : List ℕ → List ℕ → List (List ℕ) → SkewRows → Type 0
-AreSkewRows outer inner rows s = (s.outer ≡ outer) × (s.inner ≡ inner) × (rows_of s ≡ rows)
 
 -- the errors of the rows of a tableau of shape outer/inner, the first of which begins at word k
 abbrev pub skew_offences : ℕ → List ℕ → List ℕ → List (List (List ℕ)) → List Offence

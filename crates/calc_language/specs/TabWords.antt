@@ -38,7 +38,8 @@ abbrev pub last_of : List ℕ → List ℕ → List (List ℕ) → Option (List 
 last_of outer inner [] = None
 last_of outer inner (row ∷ rows) = Some (column_reading outer inner (rows_in outer (row ∷ rows)))
 
--- an error at the word `-from`, if the tableau with rows of these numbers is not in the list
+-- an error at the word `-from`, if the tableau with rows of these numbers, if there is a row, is no lattice tableau of
+-- outer/inner
 abbrev pub unlisted : ℕ → List ℕ → List ℕ → List (List ℕ) → List Offence
 unlisted k outer inner [] = []
 unlisted k outer inner (row ∷ rows) =

@@ -1,32 +1,32 @@
-//! The numbers of the rows of a tableau, each judged at its place.
-ghost use Rattle.std.specs.Prelude.{◌≡◌, ◌<◌, ◌≤◌, ◌+◌, ◌-◌, ◌^◌, ◌==◌, ◌||◌, ℕ, List, [], map};
-ghost use Rattle.std.specs.Prelude.{length, take, string_bytes, slice_get, slice_index, Some, None};
+//! The numbers of a row of a tableau, each read once and judged at its place.
+ghost use Rattle.std.specs.Prelude.{◌≡◌, ◌<◌, ◌≤◌, ◌+◌, ◌-◌, ◌^◌, ◌||◌, ℕ, map, length, IfOk};
+ghost use Rattle.std.specs.Prelude.{string_bytes, reverse, slice_get, slice_set, true};
 ghost use Rattle.sym_model.specs.CommandOffence.{first_offence, offences_by, is_outside};
-ghost use Rattle.sym_model.specs.CommandOffence.{greatest_letter, falls, stays};
-ghost use Rattle.sym_model.specs.CommandOffence.{stands_in as stands_in_list};
+ghost use Rattle.sym_model.specs.CommandOffence.{greatest_letter, falls, stays, entry_above};
 ghost use Rattle.sym_model.specs.ExpressionOffence.{is_wide};
-ghost use Rattle.sym_model.specs.PrintedBlock.{decimal_value};
 ghost use Rattle.sym_model.specs.WordForms.{numbers as numbers_of};
 ghost use Rattle.word_laws.specs.JudgedRows.{is_too_much, is_too_long, cell_rule, is_disordered};
-ghost use Rattle.word_laws.specs.JudgedRows.{is_no_record};
-ghost use Rattle.calc_language.specs.FoundOffences.{found_of, kind_by, is_disordered_at};
-ghost use Rattle.calc_language.specs.FoundOffences.{is_no_record_at, gathered, left_at};
-ghost use Rattle.calc_words.specs.PartRules.{range_or_shape};
+ghost use Rattle.calc_language.specs.FoundOffences.{kind_by, entry_or, is_taken as is_taken_of};
+ghost use Rattle.calc_language.specs.FoundOffences.{marked, is_no_entry};
+ghost use Rattle.calc_words.specs.NumberRuns.{narrow};
+ghost use Rattle.calc_words.specs.Reading.{IsJudged};
 
-use crate::found::Found;
-use calc_words::{Kind, value_of};
+use calc_base::WordsFault;
+use calc_words::{Kind, refused as offence, value_of};
+use std::alloc::Global;
 
 /// The greatest entry, and the greatest number of entries of a tableau whose entries are counted.
 const GREATEST_ENTRY: u128 = 65_535;
 
 const MOST_ENTRIES: usize = 256;
 
-/// The number of entries in the rows before, if entries are counted, and the greatest length of the
-/// row, if that is bounded.
+/// The number of entries in the rows before, if entries are counted; the greatest length of the
+/// row, if that is bounded; and whether the length of each row bounds that of the next one.
 #[derive(Clone, Copy, Debug)]
 pub(crate) struct Bounds {
     pub(crate) counted: Option<usize>,
     pub(crate) most: Option<usize>,
+    pub(crate) is_straight: bool,
 }
 
 /// The columns at which the row above and a row begin, counted from 0.
@@ -36,7 +36,8 @@ pub(crate) struct Columns {
     pub(crate) here: usize,
 }
 
-/// Whether the number after `place` entries of its row is the 257th of the tableau.
+/// Whether entries are counted, and the number after `place` entries of its row is the 257th of the
+/// tableau.
 fn is_past_the_most(counted: Option<usize>, place: usize) -> bool
     ensures { result ≡ is_too_much counted place }
 {
@@ -56,253 +57,127 @@ fn makes_too_long(most: Option<usize>, place: usize) -> bool
     }
 }
 
-/// Whether a value is smaller than the number at this place, if there is one.
-fn is_smaller(words: &[String], place: usize, value: u128) -> bool
-    requires { value < 2 ^ 127 }
-    ensures { result ≡ falls (slice_get (numbers_of (map string_bytes words.now)) place) value }
+/// Whether there is a number at this place that is at least `value`.
+fn is_not_greater(numbers: &[u16], place: usize, value: u128) -> bool
+    ensures { result ≡ stays (slice_get numbers.now place) value }
 {
-    if place >= words.len() {
-        return false;
-    }
-    match value_of(words[place].as_bytes()) {
-        None => true,
-        Some(other) => value < other,
-    }
-}
-
-/// Whether there is a number at this place and a value is not greater than it.
-fn is_not_greater(words: &[String], place: usize, value: u128) -> bool
-    requires { value < 2 ^ 127 }
-    ensures { result ≡ stays (slice_get (numbers_of (map string_bytes words.now)) place) value }
-{
-    if place >= words.len() {
-        return false;
-    }
-    match value_of(words[place].as_bytes()) {
-        None => true,
-        Some(other) => value <= other,
-    }
-}
-
-/// Whether the number is this value.
-fn is_value(word: &String, value: u128) -> bool
-    requires { value < 2 ^ 127 }
-    ensures { result ≡ (value == decimal_value (string_bytes word.now)) }
-{
-    match value_of(word.as_bytes()) {
+    match numbers.get(place) {
         None => false,
-        Some(number) => value == number,
+        Some(number) => value <= u128::from(*number),
     }
 }
 
-/// Whether a value is among the numbers.
-fn stands_in(words: &[String], value: u128) -> bool
-    requires { value < 2 ^ 127 }
-    ensures { result ≡ stands_in_list value (numbers_of (map string_bytes words.now)) }
+/// Whether a value is smaller than the last of the numbers, if there is one.
+fn is_smaller(numbers: &[u16], value: u128) -> bool
+    ensures { result ≡ falls (slice_get numbers.now (length numbers.now - 1)) value }
 {
-    for word in words {
-        if is_value(word, value) {
-            return true;
-        }
+    match numbers.last() {
+        None => false,
+        Some(number) => value < u128::from(*number),
     }
-    false
 }
 
-/// Whether a value is among the numbers of some row.
-fn stands_in_some(rows: &[&[String]], value: u128) -> bool
-    requires { value < 2 ^ 127 }
-    ensures { result ≡ stands_in_list value
-        (gathered [] (map (λ r. numbers_of (map string_bytes r.now)) rows.now)) }
+/// Whether a value in a column is not greater than the entry above it, which is in a row that
+/// begins at the column `first`.
+fn is_not_below(above: &[u16], first: usize, column: usize, value: u128) -> bool
+    ensures { result ≡ stays (entry_above above.now first column) value }
 {
-    for row in rows {
-        if stands_in(row, value) {
-            return true;
-        }
+    column >= first && is_not_greater(above, column - first, value)
+}
+
+/// Whether a value after the entries of its row is smaller than the last of them, or not greater
+/// than the entry above.
+fn is_out_of_order(row: &[u16], above: &[u16], columns: Columns, value: u128) -> bool
+    requires { columns.here + length row.now < 2 ^ 64 }
+    ensures { result ≡ is_disordered columns.above above.now columns.here (reverse row.now) value }
+{
+    is_smaller(row, value) || is_not_below(above, columns.above, columns.here + row.len(), value)
+}
+
+/// Whether there are flags, which say which entries have occurred, and the flag of the value is
+/// missing or set.
+fn is_taken(taken: &[bool], value: u128) -> bool
+    requires { value < 2 ^ 64 }
+    ensures { result ≡ is_taken_of taken.now value }
+{
+    if taken.is_empty() {
+        return false;
     }
-    false
-}
-
-/// The first `count` words.
-fn front(words: &[String], count: usize) -> &[String]
-    requires { count ≤ length words.now }
-    ensures { numbers_of (map string_bytes result.now)
-        ≡ take count (numbers_of (map string_bytes words.now)) }
-{
-    &words[..count]
-}
-
-/// Whether a value is out of order at its place in a row below another row.
-fn is_out_of_order(
-    row: &[String],
-    place: usize,
-    above: &[String],
-    columns: Columns,
-    value: u128,
-) -> bool
-    requires value { value < 2 ^ 127 }
-    requires columns { columns.here + place < 2 ^ 64 }
-    ensures { result ≡ is_disordered_at columns.above
-        (numbers_of (map string_bytes above.now)) columns.here
-        (numbers_of (map string_bytes row.now)) place value }
-{
-    if place > 0 && is_smaller(row, place - 1, value) {
-        return true;
+    match taken.get(value as usize) {
+        None => true,
+        Some(flag) => *flag,
     }
-    let column = columns.here + place;
-    column >= columns.above && is_not_greater(above, column - columns.above, value)
 }
 
-/// Whether a value at its place in a row, below the rows before, cannot be an entry of a recording
-/// tableau.
-fn is_no_entry(
-    row: &[String],
-    place: usize,
-    above: &[String],
-    earlier: &[&[String]],
-    cells: usize,
-    value: u128,
-) -> bool
-    requires value { value < 2 ^ 127 }
-    requires place { place < length row.now }
-    ensures { result ≡ is_no_record_at cells
-        (gathered [] (map (λ r. numbers_of (map string_bytes r.now)) earlier.now))
-        (numbers_of (map string_bytes above.now))
-        (numbers_of (map string_bytes row.now)) place value }
+/// Sets the flag of an entry that has one.
+fn take(taken: &mut [bool], entry: u16)
+    ensures { taken.new ≡ slice_set taken.old entry true }
 {
-    value > cells as u128
-        || (place > 0 && is_not_greater(row, place - 1, value))
-        || is_not_greater(above, place, value)
-        || stands_in(front(row, place), value)
-        || stands_in_some(earlier, value)
+    if usize::from(entry) < taken.len() {
+        taken[usize::from(entry)] = true;
+    }
 }
 
-/// The error of a value at a place of its row that does not depend on the other numbers.
-fn kind_within(bounds: Bounds, place: usize, value: u128) -> Option<Kind>
-    ensures { result ≡ range_or_shape
-        (is_outside greatest_letter value || is_too_much bounds.counted place)
-        (is_too_long bounds.most place) }
-{
-    if value == 0 || value > GREATEST_ENTRY || is_past_the_most(bounds.counted, place) {
-        return Some(Kind::Range);
-    }
-    if makes_too_long(bounds.most, place) {
-        return Some(Kind::Shape);
-    }
-    None
-}
-
-/// The error of the number at a place of a row below another row.
-fn ordered_kind(
-    row: &[String],
-    place: usize,
+/// The entry that is the number after the entries `row`, below the row `above`; or its error. Its
+/// flag must not be set.
+fn entry_of(
+    number: Option<u128>,
+    row: &[u16],
     bounds: Bounds,
-    above: &[String],
+    above: &[u16],
     columns: Columns,
-) -> Option<Kind>
-    requires place { place < length row.now }
-    requires columns { columns.here + place < 2 ^ 64 }
-    ensures { (a : ℕ) → a ≡ slice_index (numbers_of (map string_bytes row.now)) place
-        → result ≡ kind_by (is_wide a)
-        (is_outside greatest_letter a || is_too_much bounds.counted place)
-        (is_too_long bounds.most place
-        || is_disordered_at columns.above (numbers_of (map string_bytes above.now)) columns.here
-        (numbers_of (map string_bytes row.now)) place a) }
+    taken: &[bool],
+) -> Result<u16, Kind>
+    requires { columns.here + length row.now < 2 ^ 64 }
+    ensures { (a : ℕ) → number ≡ narrow a → result ≡ entry_or a (kind_by (is_wide a)
+        (is_outside greatest_letter a || is_too_much bounds.counted (length row.now))
+        (is_too_long bounds.most (length row.now)
+        || (is_disordered columns.above above.now columns.here (reverse row.now) a
+        || is_taken_of taken.now a))) }
 {
-    let Some(value) = value_of(row[place].as_bytes()) else {
-        return Some(Kind::Literal);
+    let Some(value) = number else {
+        return Err(Kind::Literal);
     };
-    if let Some(kind) = kind_within(bounds, place, value) {
-        return Some(kind);
+    if value == 0 || value > GREATEST_ENTRY || is_past_the_most(bounds.counted, row.len()) {
+        return Err(Kind::Range);
     }
-    if is_out_of_order(row, place, above, columns, value) {
-        return Some(Kind::Shape);
+    if makes_too_long(bounds.most, row.len())
+        || is_out_of_order(row, above, columns, value)
+        || is_taken(taken, value)
+    {
+        return Err(Kind::Shape);
     }
-    None
+    Ok(value as u16)
 }
 
-/// The error of the number at a place of a row of a recording tableau.
-fn recorded_kind(
-    row: &[String],
-    place: usize,
-    count: usize,
-    above: &[String],
-    earlier: &[&[String]],
-    cells: usize,
-) -> Option<Kind>
-    requires place { place < length row.now }
-    ensures { (a : ℕ) → a ≡ slice_index (numbers_of (map string_bytes row.now)) place
-        → result ≡ kind_by (is_wide a)
-        (is_outside greatest_letter a || is_too_much (Some count) place)
-        (is_no_record_at cells (gathered []
-        (map (λ r. numbers_of (map string_bytes r.now)) earlier.now))
-        (numbers_of (map string_bytes above.now)) (numbers_of (map string_bytes row.now)) place a) }
-{
-    let Some(value) = value_of(row[place].as_bytes()) else {
-        return Some(Kind::Literal);
-    };
-    let bounds = Bounds {
-        counted: Some(count),
-        most: None,
-    };
-    if let Some(kind) = kind_within(bounds, place, value) {
-        return Some(kind);
-    }
-    if is_no_entry(row, place, above, earlier, cells, value) {
-        return Some(Kind::Shape);
-    }
-    None
-}
-
-/// The first error of a row that begins at the word `at`, below another row.
-pub(crate) fn ordered_offence(
+/// The entries of a row that begins at the word `at`, below the row `above`, or its first error. An
+/// entry must not have its flag set, and sets it.
+pub(crate) fn read_row(
+    alloc: Global,
     at: u64,
-    row: &[String],
+    words: &[String],
     bounds: Bounds,
-    above: &[String],
+    above: &[u16],
     columns: Columns,
-) -> Option<Found>
-    requires room { at + length row.now < 2 ^ 64 }
-    requires columns { columns.here + length row.now < 2 ^ 64 }
-    ensures { found_of result ≡ first_offence (offences_by
-        (cell_rule bounds.counted bounds.most
-        (is_disordered columns.above (numbers_of (map string_bytes above.now)) columns.here))
-        at (numbers_of (map string_bytes row.now))) }
+    taken: &mut [bool],
+) -> Result<Vec<u16>, WordsFault>
+    requires room { at + length words.now < 2 ^ 64 }
+    requires columns { columns.here + length words.now < 2 ^ 64 }
+    ensures judged { IsJudged (λ v. v.items ≡ numbers_of (map string_bytes words.now))
+        (first_offence (offences_by (cell_rule bounds.counted bounds.most
+        (is_no_entry columns.above above.now columns.here taken.old))
+        at (numbers_of (map string_bytes words.now)))) result }
+    ensures taken { IfOk result (λ v. taken.new ≡ marked (reverse v.items) taken.old) }
 {
-    for place in 0..row.len() {
-        if let Some(kind) = ordered_kind(row, place, bounds, above, columns) {
-            return Some(Found {
-                word: at + place as u64,
-                kind,
-            });
-        }
+    let mut row = Vec::new(alloc);
+    for (i, word) in words.iter().enumerate() {
+        let number = value_of(word.as_bytes());
+        let entry = match entry_of(number, row.as_slice(), bounds, above, columns, taken) {
+            Ok(entry) => entry,
+            Err(kind) => return Err(offence(at + i as u64, kind)),
+        };
+        take(taken, entry);
+        row.push(entry)?;
     }
-    None
-}
-
-/// The first error of a row of a recording tableau that begins at the word `at`.
-pub(crate) fn recorded_offence(
-    at: u64,
-    row: &[String],
-    count: usize,
-    above: &[String],
-    earlier: &[&[String]],
-    cells: usize,
-) -> Option<Found>
-    requires room { at + length row.now < 2 ^ 64 }
-    ensures { found_of result ≡ first_offence (offences_by
-        (cell_rule (Some count) None
-        (is_no_record cells (gathered []
-        (map (λ r. numbers_of (map string_bytes r.now)) earlier.now))
-        (numbers_of (map string_bytes above.now))))
-        at (numbers_of (map string_bytes row.now))) }
-{
-    for place in 0..row.len() {
-        if let Some(kind) = recorded_kind(row, place, count, above, earlier, cells) {
-            return Some(Found {
-                word: at + place as u64,
-                kind,
-            });
-        }
-    }
-    None
+    Ok(row)
 }

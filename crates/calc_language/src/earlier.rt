@@ -1,54 +1,36 @@
 //! The earlier of two errors.
-ghost use Rattle.std.specs.Prelude.{◌≡◌, ℕ, Option, Err};
+ghost use Rattle.std.specs.Prelude.{◌≡◌, Option};
 ghost use Rattle.sym_model.specs.CommandOffence.{Offence, is_no_later};
-ghost use Rattle.sym_model.specs.ExpressionOffence.{rank as rank_of};
+ghost use Rattle.sym_model.specs.ExpressionOffence.{literal, range, shape};
 ghost use Rattle.word_laws.specs.JudgedRows.{earlier as earlier_of_both};
-ghost use Rattle.calc_language.specs.FoundOffences.{kind_of, offence_of, found_of};
+ghost use Rattle.calc_language.specs.FoundOffences.{found_of};
+ghost use Rattle.calc_words.specs.Reading.{IsFirst};
 
-use crate::found::Found;
-use calc_base::Place;
-use calc_words::Kind;
+use calc_base::{Place, WordsFault};
+use calc_words::{Kind, refused as offence};
 
-/// The order of the kinds of errors at one place.
-fn rank(kind: Kind) -> u8
-    ensures { result ≡ rank_of (kind_of kind) }
+/// Whether an error is no later than an error of shape at byte 0 of the word `word`. Among the
+/// errors at one place, those of shape are the last.
+fn stands_first(at: Place, word: u64) -> bool
+    ensures literal { result ≡ is_no_later (at.word, at.byte, literal) (word, 0, shape) }
+    ensures range { result ≡ is_no_later (at.word, at.byte, range) (word, 0, shape) }
+    ensures shape { result ≡ is_no_later (at.word, at.byte, shape) (word, 0, shape) }
 {
-    match kind {
-        Kind::Literal => 0,
-        Kind::Range => 1,
-        Kind::Shape => 2,
-    }
+    at.word < word || (at.word == word && at.byte == 0)
 }
 
-/// Whether the first error is before the second, or at the same place and of no later kind.
-fn comes_first(first: Found, second: Found) -> bool
-    ensures { result ≡ is_no_later (offence_of first) (offence_of second) }
+/// The refusal of an error or of an error of shape that was found at a word, whichever is earlier.
+pub(crate) fn earlier_refusal(fault: WordsFault, found: Option<u64>) -> WordsFault
+    ensures { (first : Option Offence) → IsFirst first fault
+        → IsFirst (earlier_of_both first (found_of found)) result }
 {
-    first.word < second.word || (first.word == second.word && rank(first.kind) <= rank(second.kind))
-}
-
-/// The earlier of two errors, or the only one, if any.
-pub(crate) fn earlier(first: Option<Found>, second: Option<Found>) -> Option<Found>
-    ensures { found_of result ≡ earlier_of_both (found_of first) (found_of second) }
-{
-    let Some(one) = first else {
-        return second;
+    let Some(word) = found else {
+        return fault;
     };
-    let Some(other) = second else {
-        return first;
-    };
-    if comes_first(one, other) {
-        first
-    } else {
-        second
+    match fault {
+        WordsFault::Literal { at } if !stands_first(at, word) => offence(word, Kind::Shape),
+        WordsFault::Range { at } if !stands_first(at, word) => offence(word, Kind::Shape),
+        WordsFault::Shape { at } if !stands_first(at, word) => offence(word, Kind::Shape),
+        _ => fault,
     }
-}
-
-/// Whether an error at a place is before one that was found, or at the same place and of no later
-/// kind.
-pub(crate) fn stands_first(at: Place, kind: Kind, found: Found) -> bool
-    ensures { result ≡ is_no_later (at.word, at.byte, kind_of kind) (offence_of found) }
-{
-    at.word < found.word
-        || (at.word == found.word && (at.byte == 0 && rank(kind) <= rank(found.kind)))
 }

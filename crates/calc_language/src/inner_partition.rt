@@ -1,20 +1,18 @@
 //! The words of an inner partition, which must be inside an outer one.
-ghost use Rattle.std.specs.Prelude.{◌≡◌, ◌<◌, ◌+◌, ◌++◌, ◌^◌, nat_lt, true, IfOk, Option, Some};
+ghost use Rattle.std.specs.Prelude.{◌≡◌, ◌<◌, ◌+◌, ◌++◌, ◌^◌, nat_lt, true, IfOk};
 ghost use Rattle.std.specs.Prelude.{map, length, string_bytes};
-ghost use Rattle.sym_model.specs.CommandOffence.{Offence, first_offence, offences_by, inside_rule};
+ghost use Rattle.sym_model.specs.CommandOffence.{first_offence, offences_by, inside_rule};
 ghost use Rattle.sym_model.specs.CommandOffence.{part_offences};
 ghost use Rattle.sym_model.specs.Partition.{part};
 ghost use Rattle.sym_model.specs.Schur.{contains};
 ghost use Rattle.sym_model.specs.PrintedBlock.{decimal_value};
 ghost use Rattle.sym_model.specs.WordForms.{numbers as numbers_of, partition};
-ghost use Rattle.word_laws.specs.JudgedRows.{earlier as earlier_of_both};
-ghost use Rattle.calc_language.specs.FoundOffences.{found_of, kind_of, offence_of};
-ghost use Rattle.calc_words.specs.Reading.{IsJudged, IsFirst};
+ghost use Rattle.calc_language.specs.FoundOffences.{found_of};
+ghost use Rattle.calc_words.specs.Reading.{IsJudged};
 
-use crate::earlier::stands_first;
-use crate::found::Found;
+use crate::earlier::earlier_refusal;
 use crate::row_offences::part_at;
-use calc_base::{Place, WordsFault};
+use calc_base::WordsFault;
 use calc_words::{Kind, read_partition, refused as offence, value_of};
 use partitions::Partition;
 use std::alloc::Global;
@@ -29,52 +27,18 @@ fn exceeds(outer: &[u16], place: usize, word: &String) -> bool
     }
 }
 
-/// The first number that is greater than the outer part of the same row, as an error.
-fn outside_offence(at: u64, outer: &[u16], words: &[String]) -> Option<Found>
+/// The word of the first number that is greater than the outer part of the same row.
+fn outside_offence(at: u64, outer: &[u16], words: &[String]) -> Option<u64>
     requires { at + length words.now < 2 ^ 64 }
     ensures { found_of result ≡ first_offence
         (offences_by (inside_rule outer.now) at (numbers_of (map string_bytes words.now))) }
 {
     for place in 0..words.len() {
         if exceeds(outer, place, &words[place]) {
-            return Some(Found {
-                word: at + place as u64,
-                kind: Kind::Shape,
-            });
+            return Some(at + place as u64);
         }
     }
     None
-}
-
-/// The refusal of an error or of the one that was found, whichever is earlier.
-fn earlier_refusal(fault: WordsFault, found: Option<Found>) -> WordsFault
-    ensures { (first : Option Offence) → IsFirst first fault
-        → IsFirst (earlier_of_both first (found_of found)) result }
-{
-    let Some(found) = found else {
-        return fault;
-    };
-    match fault {
-        WordsFault::Literal { at } => sooner(at, Kind::Literal, found),
-        WordsFault::Range { at } => sooner(at, Kind::Range, found),
-        WordsFault::Shape { at } => sooner(at, Kind::Shape, found),
-        other => other,
-    }
-}
-
-/// The refusal of an error at the place, or of the one that was found if that is earlier.
-fn sooner(at: Place, kind: Kind, found: Found) -> WordsFault
-    ensures { IsFirst (earlier_of_both (Some (at.word, at.byte, kind_of kind))
-        (Some (offence_of found))) result }
-{
-    if !stands_first(at, kind, found) {
-        return offence(found.word, found.kind);
-    }
-    match kind {
-        Kind::Literal => WordsFault::Literal { at },
-        Kind::Range => WordsFault::Range { at },
-        Kind::Shape => WordsFault::Shape { at },
-    }
 }
 
 /// Reads words as an inner partition, or returns their first error; the first of them is word
@@ -96,7 +60,7 @@ pub(crate) fn read_inner(
     match read_partition(alloc, at, words) {
         Err(fault) => Err(earlier_refusal(fault, outside)),
         Ok(partition) => match outside {
-            Some(found) => Err(offence(found.word, found.kind)),
+            Some(word) => Err(offence(word, Kind::Shape)),
             None => Ok(partition),
         },
     }

@@ -1,6 +1,6 @@
-//! The words of a command, and how they are read: those of the commands on tableaux (`unrsk`, `rect`
-//! and `tab`) and on expressions here, all others by `calc_words`. The expressions in them are those
-//! of `expression_reading`, which are re-exported.
+//! Reads the words of every command: those of the commands on tableaux (`unrsk`, `rect` and `tab`)
+//! and on expressions here, all others by `calc_words`. Expressions are read by
+//! `expression_reading`, whose public items are re-exported.
 //!
 //! What is proved:
 //!
@@ -9,15 +9,14 @@
 //! within the limits of words. `read_line` does the same for a line of a batch.
 //!
 //! The words of `tab`, `unrsk` and `rect`, with the rows of tableaux, are read in the same way: an
-//! entry that is out of order is refused at its word, and a tableau after `-from` that is not in
-//! the list at the word `-from`.
+//! entry that is out of order is refused at its word, and a tableau after `-from` that is no
+//! lattice tableau of the shape, at the word `-from`.
 #![tactic(auto)]
 
 mod by_name;
 mod cells;
 mod earlier;
 mod expand;
-mod found;
 mod inner_partition;
 mod lines;
 mod pairs;

@@ -5,15 +5,13 @@ ghost use Rattle.sym_model.specs.Command.{unrsk};
 ghost use Rattle.sym_model.specs.CommandOffence.{first_offence, standard_offences, rows_in};
 ghost use Rattle.sym_model.specs.CommandOffence.{most_letters};
 ghost use Rattle.sym_model.specs.Form.{EachOf};
-ghost use Rattle.sym_model.specs.Grammar.{unrsk_entry, filled_offences};
+ghost use Rattle.sym_model.specs.Grammar.{unrsk_entry, filled_offences, insertion_offences};
 ghost use Rattle.sym_model.specs.Partition.{size};
 ghost use Rattle.sym_model.specs.Schur.{letters_of};
 ghost use Rattle.sym_model.specs.Tableau.{IsStraightTableau, shape_of};
 ghost use Rattle.sym_model.specs.WordForms.{numbers as numbers_of};
 ghost use Rattle.word_laws.specs.WrittenRows.{further_text, rows_at, left_at};
-ghost use Rattle.calc_language.specs.FoundOffences.{found_of, at_most_entry};
 ghost use Rattle.calc_words.specs.NumberRuns.{IsNumber};
-ghost use Rattle.calc_language.specs.ReadTableaux.{AreFillings, first_rows_of, second_rows_of};
 ghost use Rattle.calc_language.specs.WrittenPairs.{IsWrittenPair};
 ghost use Rattle.calc_words.specs.Commands.{StandsFor};
 ghost use Rattle.calc_words.specs.Pairs.{IsPair};
@@ -21,93 +19,72 @@ ghost use Rattle.calc_words.specs.Reading.{IsRead, IsRefusal, IsJudged};
 ghost use Rattle.calc_language.specs.TableauWords.{AreTwoTableaux};
 ghost use Rattle.calc_language.specs.PairOffences.{pair_offences};
 
-use crate::earlier::earlier;
-use crate::found::Found;
-use crate::row_numbers::rows_numbers;
-use crate::row_offences::{
-    insertion_offence, left_shape, recorded_number, row_lengths, text_length, total,
-};
+use crate::cells::Bounds;
+use crate::row_offences::{empty_row, left_shape, read_rows, row_lengths, text_length, total};
 use crate::row_words::rows_of_words;
 use crate::tableaux::tableau_of;
 use calc_base::{NoMemory, WordsFault};
-use calc_words::{Command, Part, cut, piece_at, refused as offence};
+use calc_words::{Command, Part, cut, piece_at};
 use partitions::Partition;
 use skew_shapes::{Standard, Tableau};
 use std::alloc::Global;
 
-/// The rows of two tableaux.
-#[derive(Drop)]
-struct TwoFillings {
-    first: Vec<Vec<u16>>,
-    second: Vec<Vec<u16>>,
+/// The rows of an insertion tableau that begins at the second word, or its first error.
+fn read_insertion(alloc: Global, rows: &[&[String]]) -> Result<Vec<Vec<u16>>, WordsFault>
+    requires { 1 + length (further_text (map (λ r. map string_bytes r.now) rows.now)) < 2 ^ 64 }
+    ensures { IsJudged (λ v. map (λ r. r.items) v.items
+        ≡ map (λ r. numbers_of (map string_bytes r.now)) rows.now)
+        (first_offence (insertion_offences (rows_at 1 (map (λ r. map string_bytes r.now) rows.now))))
+        result }
+{
+    let first = Bounds {
+        counted: Some(0),
+        most: None,
+        is_straight: true,
+    };
+    read_rows(alloc, 1, rows, first, &[], &mut [], empty_row(1, rows))
 }
 
-/// The first error of a recording tableau that begins at the word `at`, for a shape with rows of
-/// these lengths.
-fn recording_offence(at: u64, lengths: &[usize], rows: &[&[String]]) -> Option<Found>
+/// The rows of a recording tableau that begins at the word `at`, for a shape with rows of these
+/// lengths, or its first error.
+fn read_recording(
+    alloc: Global,
+    at: u64,
+    lengths: &[usize],
+    rows: &[&[String]],
+) -> Result<Vec<Vec<u16>>, WordsFault>
     requires some { 0 < length lengths.now }
-    requires few { size lengths.now < 2 ^ 64 }
+    requires few { size lengths.now + 1 < 2 ^ 64 }
     requires room { at + length (further_text (map (λ r. map string_bytes r.now) rows.now))
         < 2 ^ 64 }
-    ensures { found_of result ≡ first_offence
-        (filled_offences (rows_at at (map (λ r. map string_bytes r.now) rows.now))
+    ensures { IsJudged (λ v. map (λ r. r.items) v.items
+        ≡ map (λ r. numbers_of (map string_bytes r.now)) rows.now)
+        (first_offence (filled_offences (rows_at at (map (λ r. map string_bytes r.now) rows.now))
         ++ (left_at at lengths.now (map (λ r. map string_bytes r.now) rows.now)
         ++ standard_offences (size lengths.now) [] []
-        (rows_at at (map (λ r. map string_bytes r.now) rows.now)))) }
+        (rows_at at (map (λ r. map string_bytes r.now) rows.now))))) result }
 {
-    earlier(
-        recorded_number(at, rows, total(lengths)),
-        left_shape(at, lengths, rows),
-    )
+    let first = Bounds {
+        counted: Some(0),
+        most: None,
+        is_straight: false,
+    };
+    let mut taken = vec![in alloc; false; total(lengths) + 1]?;
+    let left = left_shape(at, lengths, rows);
+    read_rows(alloc, at, rows, first, &[], taken.as_mut_slice(), left)
 }
 
-/// The rows; one row without numbers counts as no row.
-pub(crate) fn rows_of_tableau(alloc: Global, rows: &[&[String]]) -> Result<Vec<Vec<u16>>, NoMemory>
-    ensures { IfOk result (λ v. map (λ r. r.items) v.items
-        ≡ rows_in [] (map (λ r. map at_most_entry (numbers_of (map string_bytes r.now)))
-        rows.now)) }
+/// The rows of a tableau; one row without numbers counts as no row.
+pub(crate) fn without_dot(rows: Vec<Vec<u16>>) -> Vec<Vec<u16>>
+    ensures { map (λ r. r.items) result.items ≡ rows_in [] (map (λ r. r.items) rows.items) }
 {
-    if let [row] = rows {
+    let mut rows = rows;
+    if let [row] = rows.as_slice() {
         if row.is_empty() {
-            return Ok(Vec::new(alloc));
+            rows.clear();
         }
     }
-    rows_numbers(alloc, rows)
-}
-
-/// The rows of two tableaux, of which the first begins at the second word; or the first error.
-fn judge_pair(
-    alloc: Global,
-    first: &[&[String]],
-    second: &[&[String]],
-) -> Result<TwoFillings, WordsFault>
-    requires first { (0 < length first.now)
-        × EachOf (EachOf IsNumber) (map (λ r. map string_bytes r.now) first.now) }
-    requires second { (0 < length second.now)
-        × EachOf (EachOf IsNumber) (map (λ r. map string_bytes r.now) second.now) }
-    requires room { 2 + length (further_text (map (λ r. map string_bytes r.now) first.now))
-        + length (further_text (map (λ r. map string_bytes r.now) second.now)) < 2 ^ 64 }
-    ensures judged { IsJudged (AreFillings
-        (rows_in [] (map (λ r. numbers_of (map string_bytes r.now)) first.now))
-        (rows_in [] (map (λ r. numbers_of (map string_bytes r.now)) second.now)))
-        (first_offence (pair_offences (map (λ r. map string_bytes r.now) first.now)
-        (map (λ r. map string_bytes r.now) second.now))) result }
-    ensures pair { IfOk result (λ s. IsWrittenPair (first_rows_of s) (second_rows_of s)) }
-{
-    if let Some(found) = insertion_offence(1, first) {
-        return Err(offence(found.word, found.kind));
-    }
-    let lengths = row_lengths(alloc, first)?;
-    let at = 1 + text_length(first);
-    if let Some(found) = recording_offence(at, lengths.as_slice(), second) {
-        return Err(offence(found.word, found.kind));
-    }
-    let insertion = rows_of_tableau(alloc, first)?;
-    let recording = rows_of_tableau(alloc, second)?;
-    Ok(TwoFillings {
-        first: insertion,
-        second: recording,
-    })
+    rows
 }
 
 /// The tableaux with these rows.
@@ -146,8 +123,13 @@ fn read_tableaux(
         (first_offence (pair_offences (map (λ r. map string_bytes r.now) first.now)
         (map (λ r. map string_bytes r.now) second.now))) result }
 {
-    let TwoFillings { first, second } = judge_pair(alloc, first, second)?;
-    let (p, q) = tableaux_of(alloc, first.as_slice(), second.as_slice())?;
+    let insertion = read_insertion(alloc, first)?;
+    let lengths = row_lengths(alloc, insertion.as_slice())?;
+    let at = 1 + text_length(first);
+    let recording = read_recording(alloc, at, lengths.as_slice(), second)?;
+    let insertion = without_dot(insertion);
+    let recording = without_dot(recording);
+    let (p, q) = tableaux_of(alloc, insertion.as_slice(), recording.as_slice())?;
     Ok(Command::Unrsk { p, q })
 }
 

@@ -21,7 +21,7 @@ fn entry(word: &String) -> u16
     }
 }
 
-/// The numbers of a row.
+/// The numbers of a row, each replaced by 65,535 if it is greater.
 fn row_numbers(alloc: Global, row: &[String]) -> Result<Vec<u16>, NoMemory>
     ensures { IfOk result (λ v. v.items
         ≡ map at_most_entry (numbers_of (map string_bytes row.now))) }
@@ -33,7 +33,7 @@ fn row_numbers(alloc: Global, row: &[String]) -> Result<Vec<u16>, NoMemory>
     Ok(numbers)
 }
 
-/// The numbers of rows, row by row.
+/// The numbers of rows, row by row, each replaced by 65,535 if it is greater.
 pub(crate) fn rows_numbers(alloc: Global, rows: &[&[String]]) -> Result<Vec<Vec<u16>>, NoMemory>
     ensures { IfOk result (λ v. map (λ r. r.items) v.items
         ≡ map (λ r. map at_most_entry (numbers_of (map string_bytes r.now))) rows.now) }

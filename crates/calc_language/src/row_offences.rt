@@ -1,23 +1,21 @@
-//! The errors of the rows of a tableau, row after row.
-ghost use Rattle.std.specs.Prelude.{◌≡◌, ◌<◌, ◌+◌, ◌++◌, ◌^◌, map, length, drop, cond};
-ghost use Rattle.std.specs.Prelude.{string_bytes, [], Some, None, IfOk};
-ghost use Rattle.sym_model.specs.ExpressionOffence.{shape};
+//! The rows of a tableau, read row after row.
+ghost use Rattle.std.specs.Prelude.{◌≡◌, ◌<◌, ◌≤◌, ◌+◌, ◌^◌, map, length, drop, cond};
+ghost use Rattle.std.specs.Prelude.{string_bytes, [], Some, None, IfOk, IfSome};
 ghost use Rattle.sym_model.specs.Partition.{part, size};
 ghost use Rattle.sym_model.specs.CommandOffence.{first_offence, empty_row_offences};
-ghost use Rattle.sym_model.specs.Grammar.{insertion_offences};
 ghost use Rattle.sym_model.specs.WordForms.{numbers as numbers_of};
+ghost use Rattle.word_laws.specs.JudgedRows.{earlier};
 ghost use Rattle.word_laws.specs.WrittenRows.{row_text, further_text, rows_at, left_at};
-ghost use Rattle.word_laws.specs.JudgedRows.{inserted, recorded, skewed};
-ghost use Rattle.calc_language.specs.FoundOffences.{found_of};
+ghost use Rattle.calc_language.specs.FoundOffences.{found_of, judged, counted_on, last_row};
+ghost use Rattle.calc_words.specs.Reading.{IsJudged};
 
-use crate::cells::{Bounds, Columns, ordered_offence, recorded_offence};
-use crate::earlier::earlier;
-use crate::found::Found;
-use calc_base::NoMemory;
-use calc_words::Kind;
+use crate::cells::{Bounds, Columns, read_row};
+use crate::earlier::earlier_refusal;
+use calc_base::{NoMemory, WordsFault};
+use calc_words::{Kind, refused as offence};
 use std::alloc::Global;
 
-/// The number of words of a row.
+/// The number of words of a row: one, the word `.`, if it has no numbers.
 fn width(row: &[String]) -> u64
     ensures { result ≡ length (row_text (map string_bytes row.now)) }
 {
@@ -27,36 +25,8 @@ fn width(row: &[String]) -> u64
     row.len() as u64
 }
 
-/// The first error of a number in the rows of an insertion tableau, the first of which begins at
-/// the word `at`.
-fn inserted_number(at: u64, rows: &[&[String]]) -> Option<Found>
-    requires { at + length (further_text (map (λ r. map string_bytes r.now) rows.now)) < 2 ^ 64 }
-    ensures { found_of result ≡ first_offence
-        (inserted 0 None [] (rows_at at (map (λ r. map string_bytes r.now) rows.now))) }
-{
-    let mut place = at;
-    let mut count = 0usize;
-    let mut most: Option<usize> = None;
-    let mut above: &[String] = &[];
-    for row in rows {
-        let bounds = Bounds {
-            counted: Some(count),
-            most,
-        };
-        let columns = Columns { above: 0, here: 0 };
-        if let Some(found) = ordered_offence(place, row, bounds, above, columns) {
-            return Some(found);
-        }
-        place += width(row) + 1;
-        count += row.len();
-        most = Some(row.len());
-        above = row;
-    }
-    None
-}
-
-/// The first row without numbers in a tableau that has other rows, as an error.
-fn empty_row(at: u64, rows: &[&[String]]) -> Option<Found>
+/// The word of the first row without numbers in a tableau that has other rows.
+pub(crate) fn empty_row(at: u64, rows: &[&[String]]) -> Option<u64>
     requires { at + length (further_text (map (λ r. map string_bytes r.now) rows.now)) < 2 ^ 64 }
     ensures { found_of result ≡ first_offence
         (empty_row_offences (rows_at at (map (λ r. map string_bytes r.now) rows.now))) }
@@ -67,41 +37,9 @@ fn empty_row(at: u64, rows: &[&[String]]) -> Option<Found>
     let mut place = at;
     for row in rows {
         if row.is_empty() {
-            return Some(Found {
-                word: place,
-                kind: Kind::Shape,
-            });
+            return Some(place);
         }
         place += width(row) + 1;
-    }
-    None
-}
-
-/// The first error of the rows of an insertion tableau, the first of which begins at the word `at`.
-pub(crate) fn insertion_offence(at: u64, rows: &[&[String]]) -> Option<Found>
-    requires { at + length (further_text (map (λ r. map string_bytes r.now) rows.now)) < 2 ^ 64 }
-    ensures { found_of result ≡ first_offence
-        (insertion_offences (rows_at at (map (λ r. map string_bytes r.now) rows.now))) }
-{
-    earlier(inserted_number(at, rows), empty_row(at, rows))
-}
-
-/// The first error of a number in the rows of a recording tableau with this number of cells.
-pub(crate) fn recorded_number(at: u64, rows: &[&[String]], cells: usize) -> Option<Found>
-    requires { at + length (further_text (map (λ r. map string_bytes r.now) rows.now)) < 2 ^ 64 }
-    ensures { found_of result ≡ first_offence
-        (recorded cells 0 [] [] (rows_at at (map (λ r. map string_bytes r.now) rows.now))) }
-{
-    let mut place = at;
-    let mut count = 0usize;
-    let mut above: &[String] = &[];
-    for (i, row) in rows.iter().enumerate() {
-        if let Some(found) = recorded_offence(place, row, count, above, &rows[..i], cells) {
-            return Some(found);
-        }
-        place += width(row) + 1;
-        count += row.len();
-        above = row;
     }
     None
 }
@@ -117,48 +55,104 @@ pub(crate) fn part_at(parts: &[u16], place: usize) -> usize
     usize::from(parts[place])
 }
 
-/// The first error of a number in the rows of a skew tableau with these inner parts.
-pub(crate) fn skewed_number(at: u64, rows: &[&[String]], inner: &[u16]) -> Option<Found>
-    requires { at + length (further_text (map (λ r. map string_bytes r.now) rows.now)) < 2 ^ 64 }
-    ensures { found_of result ≡ first_offence
-        (skewed 0 [] inner.now (rows_at at (map (λ r. map string_bytes r.now) rows.now))) }
+/// The bounds of a row after a row of this length.
+fn bounds_after(bounds: Bounds, row: &[u16]) -> Bounds
+    requires { IfSome bounds.counted (λ count. count + length row.now < 2 ^ 64) }
+    ensures { result ≡ record {
+      counted = counted_on bounds.counted row.now;
+      most = cond bounds.is_straight (Some (length row.now)) None;
+      is_straight = bounds.is_straight;
+    } }
 {
+    let counted = match bounds.counted {
+        None => None,
+        Some(count) => Some(count + row.len()),
+    };
+    Bounds {
+        counted,
+        most: bounds.is_straight.then_some(row.len()),
+        ..bounds
+    }
+}
+
+/// The numbers of the last row, none if there is no row.
+fn last_of(rows: &[Vec<u16>]) -> &[u16]
+    ensures { result.now ≡ last_row (map (λ r. r.items) rows.now) }
+{
+    match rows.last() {
+        None => &[],
+        Some(row) => row.as_slice(),
+    }
+}
+
+/// The rows of a tableau, the first of which begins at the word `at`, or the first error of a
+/// number. If there are flags, an entry must not have its flag set, and sets it.
+fn numbers_of_rows(
+    alloc: Global,
+    at: u64,
+    rows: &[&[String]],
+    first: Bounds,
+    inner: &[u16],
+    taken: &mut [bool],
+) -> Result<Vec<Vec<u16>>, WordsFault>
+    requires room { at + length (further_text (map (λ r. map string_bytes r.now) rows.now))
+        < 2 ^ 64 }
+    requires counted { IfSome first.counted (λ count. count ≤ at) }
+    ensures { IsJudged (λ v. map (λ r. r.items) v.items
+        ≡ map (λ r. numbers_of (map string_bytes r.now)) rows.now)
+        (first_offence (judged first.is_straight first.counted first.most 0 [] inner.now taken.old
+        (rows_at at (map (λ r. map string_bytes r.now) rows.now)))) result }
+{
+    let mut read: Vec<Vec<u16>> = Vec::new(alloc);
     let mut place = at;
+    let mut bounds = first;
     let mut columns = Columns { above: 0, here: 0 };
-    let mut above: &[String] = &[];
     for (i, row) in rows.iter().enumerate() {
         columns = Columns {
             above: columns.here,
             here: part_at(inner, i),
         };
-        let bounds = Bounds {
-            counted: None,
-            most: None,
-        };
-        if let Some(found) = ordered_offence(place, row, bounds, above, columns) {
-            return Some(found);
-        }
+        let above = last_of(read.as_slice());
+        let numbers = read_row(alloc, place, row, bounds, above, columns, taken)?;
         place += width(row) + 1;
-        above = row;
+        bounds = bounds_after(bounds, numbers.as_slice());
+        read.push(numbers)?;
     }
-    None
+    Ok(read)
 }
 
-/// An error of shape at the word, unless `is_fine`.
-fn shape_unless(is_fine: bool, word: u64) -> Option<Found>
-    ensures { found_of result ≡ cond is_fine None (Some (word, 0, shape)) }
+/// The rows of a tableau, the first of which begins at the word `at`; or the earlier one of the
+/// first error of a number and the error of shape at the word `found`, if that is given. If there
+/// are flags, an entry must not have its flag set, and sets it.
+pub(crate) fn read_rows(
+    alloc: Global,
+    at: u64,
+    rows: &[&[String]],
+    first: Bounds,
+    inner: &[u16],
+    taken: &mut [bool],
+    found: Option<u64>,
+) -> Result<Vec<Vec<u16>>, WordsFault>
+    requires room { at + length (further_text (map (λ r. map string_bytes r.now) rows.now))
+        < 2 ^ 64 }
+    requires counted { IfSome first.counted (λ count. count ≤ at) }
+    ensures { IsJudged (λ v. map (λ r. r.items) v.items
+        ≡ map (λ r. numbers_of (map string_bytes r.now)) rows.now)
+        (earlier (first_offence (judged first.is_straight first.counted first.most 0 [] inner.now
+        taken.old (rows_at at (map (λ r. map string_bytes r.now) rows.now)))) (found_of found))
+        result }
 {
-    if is_fine {
-        return None;
+    match numbers_of_rows(alloc, at, rows, first, inner, taken) {
+        Err(fault) => Err(earlier_refusal(fault, found)),
+        Ok(read) => match found {
+            Some(word) => Err(offence(word, Kind::Shape)),
+            None => Ok(read),
+        },
     }
-    Some(Found {
-        word,
-        kind: Kind::Shape,
-    })
 }
 
-/// The word at which the rows leave the shape with rows of these lengths, as an error.
-pub(crate) fn left_shape(at: u64, lengths: &[usize], rows: &[&[String]]) -> Option<Found>
+/// The word at which the rows leave the shape with rows of these lengths.
+pub(crate) fn left_shape(at: u64, lengths: &[usize], rows: &[&[String]]) -> Option<u64>
     requires some { 0 < length lengths.now }
     requires room { at + length (further_text (map (λ r. map string_bytes r.now) rows.now))
         < 2 ^ 64 }
@@ -172,15 +166,15 @@ pub(crate) fn left_shape(at: u64, lengths: &[usize], rows: &[&[String]]) -> Opti
             return None;
         };
         if row.len() != *length {
-            return shape_unless(false, place + row.len().min(*length) as u64);
+            return Some(place + row.len().min(*length) as u64);
         }
         place += width(row);
         let is_last_row = i + 1 == rows.len();
         if later.is_empty() {
-            return shape_unless(is_last_row, place);
+            return (!is_last_row).then_some(place);
         }
         if is_last_row {
-            return shape_unless(false, place);
+            return Some(place);
         }
         place += 1;
         left = later;
@@ -189,8 +183,8 @@ pub(crate) fn left_shape(at: u64, lengths: &[usize], rows: &[&[String]]) -> Opti
 }
 
 /// The number of entries of each row.
-pub(crate) fn row_lengths(alloc: Global, rows: &[&[String]]) -> Result<Vec<usize>, NoMemory>
-    ensures { IfOk result (λ v. v.items ≡ map (λ r. length r.now) rows.now) }
+pub(crate) fn row_lengths(alloc: Global, rows: &[Vec<u16>]) -> Result<Vec<usize>, NoMemory>
+    ensures { IfOk result (λ v. v.items ≡ map (λ r. length r.items) rows.now) }
 {
     let mut lengths = Vec::new(alloc);
     for row in rows {
@@ -211,7 +205,7 @@ pub(crate) fn total(lengths: &[usize]) -> usize
     sum
 }
 
-/// The number of words of the rows, each with one word after it.
+/// The number of words of the rows, with one more word for each row.
 pub(crate) fn text_length(rows: &[&[String]]) -> u64
     requires { length (further_text (map (λ r. map string_bytes r.now) rows.now)) < 2 ^ 64 }
     ensures { result ≡ length (further_text (map (λ r. map string_bytes r.now) rows.now)) }

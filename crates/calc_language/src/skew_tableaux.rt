@@ -10,32 +10,22 @@ ghost use Rattle.sym_model.specs.Grammar.{rect_entry};
 ghost use Rattle.sym_model.specs.WordForms.{numbers as numbers_of, partition};
 ghost use Rattle.word_laws.specs.WrittenRows.{further_text};
 ghost use Rattle.calc_language.specs.AskedLengths.{asked_lengths};
-ghost use Rattle.calc_language.specs.FoundOffences.{at_most_entry};
 ghost use Rattle.calc_words.specs.NumberRuns.{IsNumber};
 ghost use Rattle.calc_words.specs.Commands.{StandsFor};
 ghost use Rattle.calc_words.specs.Reading.{IsRead, IsRefusal, IsJudged};
 ghost use Rattle.calc_language.specs.SkewTotals.{all_skew_offences};
-ghost use Rattle.calc_language.specs.SkewWords.{AreSkewRows, AreSkewWords, skew_offences, rows_of};
+ghost use Rattle.calc_language.specs.SkewWords.{AreSkewWords, skew_offences};
 
-use crate::earlier::earlier;
+use crate::cells::Bounds;
 use crate::inner_partition::read_inner;
-use crate::pairs::rows_of_tableau;
-use crate::row_numbers::rows_numbers;
-use crate::row_offences::{left_shape, part_at, skewed_number};
+use crate::pairs::without_dot;
+use crate::row_offences::{left_shape, part_at, read_rows};
 use crate::row_words::rows_of_words;
 use crate::tableaux::tableau_of;
 use calc_base::{NoMemory, WordsFault};
-use calc_words::{Command, Part, cut, piece_at, read_partition, refused as offence};
+use calc_words::{Command, Part, cut, piece_at, read_partition};
 use partitions::Partition;
 use std::alloc::Global;
-
-/// Two shapes, and the rows of a filling of the first over the second.
-#[derive(Drop)]
-struct SkewRows {
-    outer: Partition,
-    inner: Partition,
-    rows: Vec<Vec<u16>>,
-}
 
 /// The number of entries in each row of the skew shape outer/inner; one row of length 0 if outer
 /// has no row.
@@ -54,19 +44,13 @@ fn skew_lengths(alloc: Global, outer: &[u16], inner: &[u16]) -> Result<Vec<usize
 
 /// The rows of a tableau with the outer shape; for the empty shape, one row without numbers counts
 /// as no row.
-pub(crate) fn rows_of_shape(
-    alloc: Global,
-    outer: &[u16],
-    rows: &[&[String]],
-) -> Result<Vec<Vec<u16>>, NoMemory>
-    ensures { IfOk result (λ v. map (λ r. r.items) v.items
-        ≡ rows_in outer.now (map (λ r. map at_most_entry (numbers_of (map string_bytes r.now)))
-        rows.now)) }
+pub(crate) fn rows_of_shape(outer: &[u16], rows: Vec<Vec<u16>>) -> Vec<Vec<u16>>
+    ensures { map (λ r. r.items) result.items ≡ rows_in outer.now (map (λ r. r.items) rows.items) }
 {
     if outer.is_empty() {
-        rows_of_tableau(alloc, rows)
+        without_dot(rows)
     } else {
-        rows_numbers(alloc, rows)
+        rows
     }
 }
 
@@ -75,62 +59,30 @@ pub(crate) fn rows_of_shape(
 fn judge_rows(
     alloc: Global,
     at: u64,
-    outer: Partition,
-    inner: Partition,
+    outer: &Partition,
+    inner: &Partition,
     rows: &[&[String]],
-) -> Result<SkewRows, WordsFault>
-    requires holds { contains outer inner ≡ true }
+) -> Result<Vec<Vec<u16>>, WordsFault>
+    requires holds { contains outer.now inner.now ≡ true }
     requires some { (0 < length rows.now)
         × EachOf (EachOf IsNumber) (map (λ r. map string_bytes r.now) rows.now) }
     requires room { at + length (further_text (map (λ r. map string_bytes r.now) rows.now))
         < 2 ^ 64 }
-    ensures judged { IsJudged (AreSkewRows outer inner
-        (rows_in outer (map (λ r. numbers_of (map string_bytes r.now)) rows.now)))
-        (first_offence (skew_offences at outer inner (map (λ r. map string_bytes r.now) rows.now)))
-        result }
-    ensures tableau { IfOk result (λ s. IsTableau s.outer s.inner (rows_of s)) }
+    ensures judged { IsJudged (λ v. map (λ r. r.items) v.items
+        ≡ rows_in outer.now (map (λ r. numbers_of (map string_bytes r.now)) rows.now))
+        (first_offence (skew_offences at outer.now inner.now
+        (map (λ r. map string_bytes r.now) rows.now))) result }
+    ensures tableau { IfOk result (λ v. IsTableau outer.now inner.now (map (λ r. r.items) v.items)) }
 {
     let lengths = skew_lengths(alloc, outer.parts(), inner.parts())?;
-    let found = earlier(
-        skewed_number(at, rows, inner.parts()),
-        left_shape(at, lengths.as_slice(), rows),
-    );
-    if let Some(found) = found {
-        return Err(offence(found.word, found.kind));
-    }
-    let filled = rows_of_shape(alloc, outer.parts(), rows)?;
-    Ok(SkewRows {
-        outer,
-        inner,
-        rows: filled,
-    })
-}
-
-/// The two shapes, of which the first begins at the second word, and the rows of a tableau; or the
-/// first error.
-fn judge_skew(
-    alloc: Global,
-    outer: &[String],
-    inner: &[String],
-    rows: &[&[String]],
-) -> Result<SkewRows, WordsFault>
-    requires some { (0 < length rows.now)
-        × EachOf (EachOf IsNumber) (map (λ r. map string_bytes r.now) rows.now) }
-    requires room { 3 + length outer.now + length inner.now
-        + length (further_text (map (λ r. map string_bytes r.now) rows.now)) < 2 ^ 64 }
-    ensures judged { IsJudged (AreSkewRows (partition (map string_bytes outer.now))
-        (partition (map string_bytes inner.now))
-        (rows_in (partition (map string_bytes outer.now))
-        (map (λ r. numbers_of (map string_bytes r.now)) rows.now)))
-        (first_offence (all_skew_offences (map string_bytes outer.now) (map string_bytes inner.now)
-        (map (λ r. map string_bytes r.now) rows.now))) result }
-    ensures tableau { IfOk result (λ s. IsTableau s.outer s.inner (rows_of s)) }
-{
-    let behind_outer = 2 + outer.len() as u64;
-    let behind_inner = 3 + outer.len() as u64 + inner.len() as u64;
-    let outer_shape = read_partition(alloc, 1, outer)?;
-    let inner_shape = read_inner(alloc, behind_outer, outer_shape.parts(), inner)?;
-    judge_rows(alloc, behind_inner, outer_shape, inner_shape, rows)
+    let first = Bounds {
+        counted: None,
+        most: None,
+        is_straight: false,
+    };
+    let left = left_shape(at, lengths.as_slice(), rows);
+    let read = read_rows(alloc, at, rows, first, inner.parts(), &mut [], left)?;
+    Ok(rows_of_shape(outer.parts(), read))
 }
 
 /// The tableau of two shapes, the first of which begins at the second word; or the first error.
@@ -151,8 +103,12 @@ fn read_skew_tableau(
         (first_offence (all_skew_offences (map string_bytes outer.now) (map string_bytes inner.now)
         (map (λ r. map string_bytes r.now) rows.now))) result }
 {
-    let SkewRows { outer, inner, rows } = judge_skew(alloc, outer, inner, rows)?;
-    let tableau = tableau_of(alloc, outer, inner, rows.as_slice())?;
+    let behind_outer = 2 + outer.len() as u64;
+    let behind_inner = 3 + outer.len() as u64 + inner.len() as u64;
+    let outer_shape = read_partition(alloc, 1, outer)?;
+    let inner_shape = read_inner(alloc, behind_outer, outer_shape.parts(), inner)?;
+    let read = judge_rows(alloc, behind_inner, &outer_shape, &inner_shape, rows)?;
+    let tableau = tableau_of(alloc, outer_shape, inner_shape, read.as_slice())?;
     Ok(Command::Rect { tableau })
 }
 
@@ -188,11 +144,11 @@ fn skew_parts(
 /// `.` is a row without numbers.
 ///
 /// Words that are no such command are refused as `Syntax`, at the word where they first fail.
-/// Otherwise the first error is refused: those of the partitions as `read_skew` says, and as
-/// `Shape` an inner number greater than the outer part of its row; an entry over 2^127 - 1 as
-/// `Literal`, one that is 0 or over 65,535 as `Range`; as `Shape` the word at which the tableau
-/// leaves the shape, an entry smaller than its left neighbour, and one not greater than the entry
-/// above it.
+/// Otherwise the first error is refused: a number over 2^127 - 1 as `Literal`; the 65th number of a
+/// partition, the one at which its sum exceeds 512, and an entry that is 0 or over 65,535, as
+/// `Range`; as `Shape` a number of a partition greater than the one before it, an inner number
+/// greater than the outer part of its row, the word at which the tableau leaves the shape, an entry
+/// smaller than its left neighbour, and one not greater than the entry above it.
 pub fn read_rect(alloc: Global, words: &[String]) -> Result<Command, WordsFault>
     ensures { IsRead (rect_entry ∷ []) (map string_bytes words.now) result }
 {

@@ -10,6 +10,7 @@ ghost use Rattle.calc_words.specs.Reading.{IsRead, IsRefusal, IsJudged};
 ghost use Rattle.calc_language.specs.TabWords.{AreTabWords, last_of, from_offences};
 ghost use Rattle.calc_language.specs.TabWords.{all_tab_offences};
 
+use crate::row_numbers::rows_numbers;
 use crate::row_words::rows_of_words;
 use crate::skew_tableaux::rows_of_shape;
 use calc_base::WordsFault;
@@ -18,8 +19,9 @@ use partitions::Partition;
 use std::alloc::Global;
 use tableau_iter::lattice_reading;
 
-/// The shapes with the tableau of these rows, which follows the word `-from` at `at`; or its first
-/// error, if it is not in the list of the shapes. No rows mean no tableau.
+/// The command `tab` of the shapes and of the tableau of these rows, which follows the word
+/// `-from`, word `at`; or an error at that word, if it is no lattice tableau of outer/inner.
+/// Without rows, the command has no tableau.
 fn judge_last(
     alloc: Global,
     at: u64,
@@ -40,7 +42,8 @@ fn judge_last(
             after: None,
         });
     }
-    let filled = rows_of_shape(alloc, outer.parts(), rows)?;
+    let read = rows_numbers(alloc, rows)?;
+    let filled = rows_of_shape(outer.parts(), read);
     match lattice_reading(alloc, &outer, &inner, filled.as_slice())? {
         None => Err(refused(at, Kind::Shape)),
         Some(after) => Ok(Command::Tab {
@@ -102,9 +105,10 @@ fn tab_parts(
 /// separated by words `/`; `.` is a row without numbers.
 ///
 /// Words that are no such command are refused as `Syntax`, at the word where they first fail.
-/// Otherwise the first error is refused: those of the partitions as `read_mult` says, and as
-/// `Shape`, at the word `-from`, a tableau that is not one of the list of the lattice tableaux of
-/// the outer over the inner partition.
+/// Otherwise the first error is refused: a number of a partition over 2^127 - 1 as `Literal`; the
+/// 65th number of a partition, and the one at which its sum exceeds 512, as `Range`; as `Shape`, a
+/// number of a partition greater than the one before it, and, at the word `-from`, a tableau that
+/// is not one of the list of the lattice tableaux of the outer over the inner partition.
 pub fn read_tab(alloc: Global, words: &[String]) -> Result<Command, WordsFault>
     ensures { IsRead (tab_entry ∷ []) (map string_bytes words.now) result }
 {

@@ -14,15 +14,15 @@ use calc_base::WordsFault;
 use calc_words::syntax;
 use std::alloc::Global;
 
-/// Reads the words of a command: its name, and then what the entry of that name asks for
+/// Reads the words of a command: its name, and then the words that the entry of that name asks for
 /// (`sym_model/specs/Grammar.antt`).
 ///
 /// Words that are no command are refused as `Syntax`, at the word where they first fail, and within
 /// the word of an expression at the byte after its longest prefix that begins an expression.
-/// Otherwise the first error is refused, as the readers of the commands say:
-/// `calc_words::read_mult` and its like, and `expression_reading::{read_expression, read_outer,
-/// read_inner}`. Two expressions of a `plethysm` whose degrees have a product over 10 are refused
-/// as `Range` at the end of the second.
+/// Otherwise the first error is refused, as the reader of the command (in `calc_words` or here) or
+/// of the expression (`expression_reading::{read_expression, read_outer, read_inner}`) says. Two
+/// expressions of a `plethysm` whose degrees have a product over 10 are refused as `Range` at the
+/// end of the second.
 pub fn read_words(alloc: Global, words: &[String]) -> Result<Command, WordsFault>
     ensures read { IsRead (map string_bytes words.now) result }
     ensures within { IfOk result IsWithinItsLimits }

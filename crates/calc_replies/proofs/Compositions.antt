@@ -12,7 +12,7 @@ use Rattle.plethysm_laws.proofs.NonnegativeTerms.{denominator-one}
 use Rattle.expression_reading.proofs.WeightFacts.{Positive}
 use Rattle.plethysm_laws.proofs.PathWeights.{weight-outer, weight-product}
 
--- the weight of the outer expression in m is at most that of the plethysm
+-- for K, N and D of at least 1, N and D those of the outer expression, its weight in m is at most that of the plethysm
 pub outer-weight : (e : Tree) (K b : ℕ) → 1 ≤ numerator e → 1 ≤ denominator e → 1 ≤ K
     → weight monomials e ≤ plethysm_weight (numerator e) (denominator e) (degree e) K b
 outer-weight e K b n d k =
@@ -43,13 +43,13 @@ pub outer-large : (e f : Tree) → Positive e → Positive f → 2 ^ 127 ≤ wei
     → 2 ^ 127 ≤ plethysm_weight (numerator e) (denominator e) (degree e) (numerator f) (degree f)
 outer-large e f p q h = omega (arith, h, outer-weight e (numerator f) (degree f) (omega (arith, p.0)) (omega (arith, p.1)) (omega (arith, q.0)))
 
--- if the weight of the inner expression in m is 2^127 or more and the outer one is not constant, so is that of the
--- plethysm
+-- if the inner expression has no minus and no fraction, its weight in m is 2^127 or more, and the outer one is not constant, the
+-- weight of the plethysm is 2^127 or more
 pub inner-large : (e f : Tree) → Positive e → Positive f → 1 ≤ degree e → HasNoSigns f → 2 ^ 127 ≤ weight monomials f
     → 2 ^ 127 ≤ plethysm_weight (numerator e) (denominator e) (degree e) (numerator f) (degree f)
 inner-large e f p q some h heavy =
     omega (arith, heavy, inner-weight (numerator e) (denominator e) (degree e) f (omega (arith, p.0)) (omega (arith, p.1)) some (omega (arith, q.0)) (denominator-one f h))
 
--- for a constant outer expression the weight does not depend on the inner expression
+-- for a constant outer expression the weight does not depend on the numerator K of the inner expression
 pub constant-weight : (N D K b : ℕ) → plethysm_weight N D 0 1 b ≡ plethysm_weight N D 0 K b
 constant-weight N D K b = rw (pow-zero (1 * (b + 1)), pow-zero (K * (b + 1))) refl

@@ -1,4 +1,4 @@
--- The result of a printer as a truth value, and a text in front of another.
+-- Printers that return whether they succeeded, and a text that is written in front of another.
 use Rattle.std.proofs.Common.{◌≡◌, ℕ, List, ◌++◌, Bool, true, false, sym, ◌∙◌, subst}
 use Rattle.std.specs.Prelude.{Result, Ok, Err, is_ok}
 use Rattle.calc_base.proofs.PutsLaws.{Puts-then}
@@ -27,7 +27,7 @@ Puts-from_prints (Err e) prints is = record {
   ill = λ ill. let clash : true ≡ false = ill in cc;
 }
 
--- if `front` was written whole and then `text`, then `front` followed by `text` was written
+-- if `front` was written whole and then `text`, or a prefix of it if `now` is false, so was `front` followed by `text`
 pub Puts-behind : {well now : Bool} {old mid new : SinkSeen} {front text : List ℕ} → well ≡ true
     → Puts true old well mid front → Puts true mid now new text
     → Puts true old now new (front ++ text)

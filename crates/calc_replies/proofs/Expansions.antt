@@ -6,7 +6,7 @@ use Rattle.sym_model.specs.Expansion.{Basis, monomials, elementaries, completes,
 use Rattle.sym_model.specs.Expression.{Tree, degree, denominator}
 use Rattle.sym_model.specs.Weight.{numerator, growth, weight}
 
--- the growth into m is the least: that into s is the same, and that into e, h and p the greatest
+-- the growth into m is at most that into any other basis
 least_growth : (b : Basis) (d : ℕ) → growth monomials d ≤ growth b d
 least_growth b zero = omega arith
 least_growth monomials (suc d) = omega arith
@@ -15,6 +15,6 @@ least_growth elementaries (suc d) = growth-most monomials (suc d)
 least_growth completes (suc d) = growth-most monomials (suc d)
 least_growth power_sums (suc d) = growth-most monomials (suc d)
 
--- an expression with weight 2^127 or more for m has such a weight for every target
+-- if the weight of an expression for m is 2^127 or more, so is its weight for every target
 pub heavy_for_m : (b : Basis) (e : Tree) → 2 ^ 127 ≤ weight monomials e → 2 ^ 127 ≤ weight b e
 heavy_for_m b e h = omega (arith, h, mul-le-mul_left (numerator e * denominator e) (least_growth b (degree e)))

@@ -15,7 +15,7 @@ either : (x : Bool) (u v : List ℕ) → length u ≤ 16 → length v ≤ 16 →
 either true u v h k = omega (arith, inversions_upto 16 u h, pairs_of_sixteen)
 either false u v h k = omega (arith, inversions_upto 16 v k, pairs_of_sixteen)
 
--- if u and v have at most 16 letters each, their Schubert product is within the limits
+-- if u and v have at most 16 letters, the length of the longer one plus the inversions of the one with fewer is at most 255
 pub product-within : (u v : List ℕ) → length u ≤ 16 → length v ≤ 16 → max (length u) (length v) + inversions (shorter u v) ≤ 255
 product-within u v h k =
     let longest : max (length u) (length v) ≤ 16 = max-le h k in

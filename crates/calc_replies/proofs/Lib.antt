@@ -1,4 +1,4 @@
--- Lemmas of the crate.
+-- Lemmas about replies: weights of plethysms and expansions, listed tableaux, growth grids, and the outcome of words.
 pub mod Replies
 pub mod Delivered
 pub mod Compositions

@@ -21,7 +21,7 @@ pub readings_text-more : (outer inner w : List ℕ) (ws : List (List ℕ))
     → line outer inner w ++ flat_map (line outer inner) ws ≡ readings_text outer inner (w ∷ ws)
 readings_text-more outer inner w ws = sym (each-flat (line outer inner) (w ∷ ws))
 
--- ---- a shape that is not contained in the other has no tableaux
+-- ---- if the outer shape does not contain the inner one, no tableau is listed
 
 among_none : (ws : List (List ℕ)) → filter (λ w. is_among w []) ws ≡ []
 among_none [] = refl
@@ -42,8 +42,7 @@ pub none_after : (outer inner : List ℕ) (after : Option (List ℕ)) → contai
 none_after outer inner None h = none_outside outer inner h
 none_after outer inner (Some last) h = ap (later_than last) (none_outside outer inner h)
 
--- the list of good tableaux with an empty start in k letters, for k the number of rows of the outer shape, is the list
--- of the lattice tableaux
+-- with an empty start and as many letters as the outer shape has rows, the readings to be listed are those of the lattice tableaux
 pub all_listed : (outer inner start : List ℕ) (k : ℕ) (rest : List (List ℕ)) → k ≡ rows outer → start ≡ [] → rest ≡ good_readings k start outer inner
     → rest ≡ lattice_readings outer inner
 all_listed outer inner start k rest l e is = is ∙ ap (λ j. good_readings j start outer inner) l ∙ ap (λ s. good_readings (rows outer) s outer inner) e

@@ -32,7 +32,7 @@ accepts_reply command (Ok Large) other reply same = subst MayBeLarge same reply
 accepts_reply command (Ok (Told lines)) other reply same = tt
 accepts_reply command (Err e) other reply same = tt
 
--- the task of a command that was read is that of its words
+-- if the words spell the command, its task is the task of the words
 pub task_reply : (words : List (List ℕ)) (command : Command) (result : Result Task NoMemory)
     → SpellsWithoutOffence command_entries words command → IsTaskOf command result → IsTaskFor words result
 task_reply words command (Ok Lines) spelled task = subst (SpellsWithoutOffence command_entries words) task spelled
@@ -40,7 +40,7 @@ task_reply words command (Ok (Workload lines seed)) spelled task = subst (Spells
 task_reply words command (Ok (Put outcome)) spelled task = computes_reply command_entries words command (Ok outcome) spelled task
 task_reply words command (Err e) spelled task = tt
 
--- the command that runs lines has no outcome of its own
+-- `batch`, which runs lines, has no outcome of its own
 no_reply : (outcome : Outcome) → IsReplyTo batch (Ok outcome) → ⊥
 no_reply (Answered answer form) reply = reply.1
 no_reply (Refused reason) reply = reply

@@ -38,7 +38,7 @@ use Rattle.calc_replies.specs.declared.outcome.Task.TheVariants.{Lines, Workload
 use Rattle.calc_replies.specs.declared.outcome.Outcome.{Outcome}
 use Rattle.calc_replies.specs.declared.outcome.Outcome.TheVariants.{Answered, Refused, Large, Told}
 
--- the text of a list: a line for each tableau, or the line 0 if there is none
+-- the text of a list of tableaux: a line for each tableau that is still to be listed, or the line 0 if there is none
 abbrev pub listing_text : Option Listing → List ℕ
 listing_text None = codes "0\n"
 listing_text (Some l) = readings_text l.order.0 l.order.1 l.lattice.rest
@@ -62,14 +62,14 @@ Tells (rect outer inner rows) text =
 Tells (growth w) text = text ≡ grid_text w
 Tells _ text = ⊥
 
--- the outcome of a command that names an expansion, by what was computed for it
+-- the outcome of a command that asks for an expansion, by the result that was computed for it
 abbrev pub reply_of : Result Answer SumFault → Form → Result Outcome NoMemory
 reply_of (Ok answer) form = Ok (Answered answer form)
 reply_of (Err sums.Large) form = Ok Large
 reply_of (Err sums.NoMemory) form = Err (record {})
 
 -- The outcome of a command: the answer to the command, in the form that it asks for, if the command need not be refused
--- as too large; or `Large`, if it may be refused. Out of memory says nothing.
+-- as too large; or `Large`, if it may be refused. Nothing is required if memory runs out.
 abbrev pub IsReplyTo : PlainCommand → Result Outcome NoMemory → Type 0
 IsReplyTo command (Ok (Answered answer form)) =
     (MustBeLarge command → ⊥) × Meets command (plain_answer answer)
@@ -90,8 +90,8 @@ pub record RepliesTo (entries : List Entry) (words : List (List ℕ))
 abbrev pub AreRefused : List Entry → List (List ℕ) → WordsFault → Type 0
 AreRefused entries words reason = IsRefusal entries words reason × (reason ≢ fault.NoMemory)
 
--- The outcome of the words: that of the command of the list that they spell, or their refusal. Out of memory says
--- nothing.
+-- The outcome of the words: that of the command of the list that they spell, or their refusal. Nothing is required if
+-- memory runs out.
 abbrev pub Computes : List Entry → List (List ℕ) → Result Outcome NoMemory → Type 0
 Computes entries words (Ok (Answered answer form)) =
     RepliesTo entries words (Ok (Answered answer form))
@@ -100,7 +100,8 @@ Computes entries words (Ok Large) = RepliesTo entries words (Ok Large)
 Computes entries words (Ok (Told lines)) = RepliesTo entries words (Ok (Told lines))
 Computes entries words (Err e) = Unit {0}
 
--- words that spell the command without an error are refused only as too large, and only if the command can be
+-- words that spell the command without an error are refused only as too large, and only if the command may be refused
+-- as too large
 abbrev pub Accepts : PlainCommand → Result Outcome NoMemory → Type 0
 Accepts command (Ok (Answered answer form)) = Unit {0}
 Accepts command (Ok (Refused reason)) = ⊥
@@ -116,7 +117,7 @@ Refuses offence (Ok Large) = ⊥
 Refuses offence (Ok (Told lines)) = ⊥
 Refuses offence (Err e) = Unit {0}
 
--- words that first fail at this place are refused there
+-- words that first fail at this word and byte are refused there
 abbrev pub GoesWrong : ℕ → ℕ → Result Outcome NoMemory → Type 0
 GoesWrong word byte (Ok (Answered answer form)) = ⊥
 GoesWrong word byte (Ok (Refused reason)) =
@@ -133,14 +134,14 @@ RunsNoOther batch = ⊥
 RunsNoOther (work lines seed) = ⊥
 RunsNoOther command = Unit {0}
 
--- the task of a command: to run lines for `batch` and `work`, and to write the outcome for the others
+-- the task of a command: to run lines for `batch` and `work`, and to write the outcome for any other command
 abbrev pub IsTaskOf : PlainCommand → Result Task NoMemory → Type 0
 IsTaskOf command (Ok Lines) = command ≡ batch
 IsTaskOf command (Ok (Workload lines seed)) = command ≡ work lines seed
 IsTaskOf command (Ok (Put outcome)) = IsReplyTo command (Ok outcome)
 IsTaskOf command (Err e) = Unit {0}
 
--- the task for words
+-- the task for words: to run lines if the words spell `batch` or `work`, and otherwise to write their outcome
 abbrev pub IsTaskFor : List (List ℕ) → Result Task NoMemory → Type 0
 IsTaskFor words (Ok Lines) = SpellsWithoutOffence command_entries words batch
 IsTaskFor words (Ok (Workload lines seed)) =
@@ -148,7 +149,7 @@ IsTaskFor words (Ok (Workload lines seed)) =
 IsTaskFor words (Ok (Put outcome)) = Computes command_entries words (Ok outcome)
 IsTaskFor words (Err e) = Unit {0}
 
--- the words are not refused with an error, and lines are run for `batch`
+-- a command without an error is not refused, except as too large; `batch` runs lines, and `work` runs generated lines
 abbrev pub AcceptsTask : PlainCommand → Result Task NoMemory → Type 0
 AcceptsTask command (Ok Lines) = command ≡ batch
 AcceptsTask command (Ok (Workload lines seed)) = command ≡ work lines seed
@@ -162,7 +163,7 @@ RefusesTask offence (Ok (Workload lines seed)) = ⊥
 RefusesTask offence (Ok (Put outcome)) = Refuses offence (Ok outcome)
 RefusesTask offence (Err e) = Unit {0}
 
--- words that first fail at this place are refused there
+-- words that first fail at this word and byte are refused there
 abbrev pub TaskGoesWrong : ℕ → ℕ → Result Task NoMemory → Type 0
 TaskGoesWrong word byte (Ok Lines) = ⊥
 TaskGoesWrong word byte (Ok (Workload lines seed)) = ⊥

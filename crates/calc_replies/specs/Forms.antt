@@ -6,7 +6,7 @@ use Rattle.sym_model.specs.PrintedForm.{PrintedForm, as_block, as_line}
 use Rattle.calc_replies.specs.declared.form.Form.{Form}
 use Rattle.calc_replies.specs.declared.form.Form.TheVariants.{Block, Line}
 
--- the printed form of the model
+-- the form, as a printed form of the definitions
 abbrev pub plain_form : Form → PrintedForm
 plain_form Block = as_block
 plain_form (Line basis) = as_line (basis_of basis)

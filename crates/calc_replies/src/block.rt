@@ -34,7 +34,7 @@ fn put_front<K: Sink>(front: &[u8], sink: &mut K) -> bool
     front.is_empty() || sink.put(front).is_ok()
 }
 
-/// The status at the end, if the sink does not fail.
+/// The status at the end for this outcome, if the sink does not fail.
 pub fn status_if_put(outcome: &Outcome) -> Status
     ensures { result ≡ status_for outcome.now }
 {

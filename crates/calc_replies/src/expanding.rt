@@ -81,8 +81,8 @@ fn in_target(
     }
 }
 
-/// The expansion in e, h or p, unordered: node by node in the target, and if that is too large by
-/// way of m.
+/// The expansion in e, h or p, unordered: node by node in the target and, if a number is then too
+/// large, by way of m.
 fn by_family(
     alloc: Global,
     target: Basis,
@@ -103,7 +103,7 @@ fn by_family(
     }
 }
 
-/// The expansion in the target by way of that in m, unordered.
+/// The expansion of the formula in the target, by way of that in m; unordered.
 fn by_monomials(
     alloc: Global,
     target: Basis,

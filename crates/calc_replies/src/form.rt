@@ -13,9 +13,9 @@ use expansion_printer::{Answer, print_after, print_one_line_after};
 /// The printed form of an answer.
 #[derive(Clone, Copy, Debug)]
 pub enum Form {
-    /// As a block, with a line for each term.
+    /// A block, with a line for each term.
     Block,
-    /// On one line, with the atoms of a basis.
+    /// One line, with the atoms of a basis.
     Line { basis: Basis },
 }
 

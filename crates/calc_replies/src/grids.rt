@@ -13,7 +13,7 @@ use growth_diagrams::{Grid, grow};
 use perm_codes::Perm;
 use std::alloc::Global;
 
-/// The growth grid of a permutation.
+/// The growth diagram of a permutation.
 pub(crate) fn growth(alloc: Global, perm: &Perm) -> Result<Outcome, NoMemory>
     ensures { IsReplyTo (commands.growth perm.now) result }
 {
@@ -21,7 +21,7 @@ pub(crate) fn growth(alloc: Global, perm: &Perm) -> Result<Outcome, NoMemory>
     Ok(told(TableauAnswer::Grown { grid }))
 }
 
-/// Writes the lines of a growth grid until the sink fails; returns whether it did not.
+/// Writes the lines of a growth diagram until the sink fails; returns whether it did not.
 pub(crate) fn put_grid<K: Sink>(grid: &Grid, sink: &mut K) -> bool
     ensures { Puts true (K.seen sink.old) result (K.seen sink.new) (grid_text grid.now) }
 {

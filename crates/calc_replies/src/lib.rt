@@ -3,10 +3,10 @@
 //!
 //! What is proved:
 //!
-//! `task_of`: the task for words, with the whole answer of their command, that it is too large, or
-//! their refusal. `reply_to` and `reply_by`: the outcome of a command, without and with a store of
-//! Schubert polynomials. `put_text` writes a given text and then the text that is defined for an
-//! outcome, whose block can be read back; `status_if_put` is its status.
+//! `task_of`: the task for words: the whole answer to their command, `Large` if the answer is too
+//! large, or their refusal. `reply_to` and `reply_by`: the outcome of a command, without and with a
+//! store of Schubert polynomials. `put_text` writes a given text and then the text that is defined
+//! for an outcome, whose block can be read back; `status_if_put` is its status.
 #![tactic(auto)]
 
 mod block;

@@ -22,7 +22,7 @@ use tableau_iter::{Lattice, ResumeFault};
 /// The lattice tableaux of a skew shape.
 #[derive(Drop)]
 pub struct Listing {
-    /// The skew shape, as its tableaux are printed.
+    /// The skew shape, with the order in which its cells are printed.
     pub order: ReadingOrder,
     /// The column readings of the tableaux that have not been listed yet.
     pub lattice: Lattice,

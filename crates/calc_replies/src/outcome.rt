@@ -67,8 +67,8 @@ pub(crate) fn as_block(answer: Answer) -> Outcome
     }
 }
 
-/// The outcome of a command that names an expansion: its answer, which is printed in the form, or
-/// that the answer is too large.
+/// The outcome of a command that asks for an expansion: its answer, which is printed in the form
+/// `form`, or `Large`.
 pub(crate) fn answered(answer: Result<Answer, SumFault>, form: Form) -> Result<Outcome, NoMemory>
     ensures { result ≡ reply_of answer form }
 {
@@ -96,7 +96,8 @@ pub fn task_of(alloc: Global, words: &[String]) -> Result<Task, NoMemory>
     match read_words(alloc, words) {
         Ok(command) => {
             let task = task_for(alloc, &command);
-            // Dropped by a call, so that the proof need not unfold the type of commands.
+            // The command is dropped by a call, so that the proof need not unfold the type of
+            // commands.
             drop(command);
             task
         }
@@ -126,8 +127,8 @@ fn task_for(alloc: Global, command: &Command) -> Result<Task, NoMemory>
     }
 }
 
-/// The outcome of a command of a line, with a store of Schubert polynomials of earlier lines. Fails
-/// only if memory runs out.
+/// The outcome of a command of a line, with a store of Schubert polynomials of earlier lines. The
+/// command must be within its limits, and not be `batch` or `work`. Fails only if memory runs out.
 pub fn reply_by(alloc: Global, memo: &mut Memo, command: &Command) -> Result<Outcome, NoMemory>
     requires limits { IsWithinItsLimits command.now }
     requires sound { IsSound command.now }
@@ -140,7 +141,8 @@ pub fn reply_by(alloc: Global, memo: &mut Memo, command: &Command) -> Result<Out
     }
 }
 
-/// The outcome of a command: its answer, or that it is too large. Fails only if memory runs out.
+/// The outcome of a command: its answer, or that it is too large. The command must be within its
+/// limits, and not be `batch` or `work`. Fails only if memory runs out.
 pub fn reply_to(alloc: Global, command: &Command) -> Result<Outcome, NoMemory>
     requires limits { IsWithinItsLimits command.now }
     requires sound { IsSound command.now }

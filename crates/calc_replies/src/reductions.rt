@@ -10,7 +10,7 @@ use expansion_printer::Answer;
 use partitions::Factors;
 use std::alloc::Global;
 
-/// The quantum product of shapes, among those with at most k rows and n columns.
+/// The product of the classes of shapes in the quantum cohomology of Gr(rows, rows + cols).
 pub(crate) fn quantum(
     alloc: Global,
     rows: u16,
@@ -26,7 +26,7 @@ pub(crate) fn quantum(
     )
 }
 
-/// The fusion product of shapes, with at most k rows, at a level.
+/// The fusion product of shapes, for partitions with at most `rows` rows, at level `level`.
 pub(crate) fn fusion(
     alloc: Global,
     rows: u16,

@@ -12,7 +12,7 @@ use expansion_printer::{print_letters, print_tableau};
 use growth_diagrams::Grid;
 use skew_shapes::{Standard, Tableau};
 
-/// The answer of a command on tableaux, which names no expansion.
+/// The answer of a command on tableaux. Such a command asks for no expansion.
 #[derive(Drop)]
 pub enum TableauAnswer {
     /// The tableaux to be listed; `None` if the shape is not a skew shape.
@@ -23,7 +23,7 @@ pub enum TableauAnswer {
     Spelled { word: Word },
     /// A tableau of a straight shape.
     Straight { tableau: Tableau },
-    /// The growth grid of a permutation.
+    /// The growth diagram of a permutation.
     Grown { grid: Grid },
 }
 

@@ -18,7 +18,7 @@ use Rattle.calc_words.specs.declared.command.Command.{Command as Read}
 use Rattle.calc_words.proofs.FirstOffences.{within, AllBefore, first-append, none-append}
 use Rattle.calc_words.specs.Reading.{IsRead, IsRefusal, IsJudged, IsFirst}
 
--- words of the form are refused by their first error
+-- if words have the form of the command e, a fault that is their first error is a correct refusal of them
 pub first_refused : (e : Entry) (words : Words) (has : Has e.form words) (fault : WordsFault) → IsFirst (first_offence (e.offends has.written)) fault
     → IsRefusal (e ∷ []) words fault
 first_refused e words has (Syntax at) h = absurd h
@@ -27,8 +27,8 @@ first_refused e words has (Range at) h = inl (record { has = has; first_is = sym
 first_refused e words has (Shape at) h = inl (record { has = has; first_is = sym h })
 first_refused e words has NoMemory h = tt
 
--- The result of reading words of the form, if their errors have been judged: `said` is the plain command that the
--- result stands for, or x is the command that is read.
+-- if words have the form of the command e and spell the command `said`, a result that is correct for `said` and the
+-- first error of the words is a correct result of reading them
 pub read_standing : (e : Entry) (words : Words) (has : Has e.form words) (said : Command) → said ≡ e.says has.written → (r : Result Read WordsFault)
     → IsJudged (StandsFor said) (first_offence (e.offends has.written)) r → IsRead (e ∷ []) words r
 read_standing e words has said is (Ok command) h = (inl (record { has = has; says_it = h.0.0 ∙ is; no_offence = h.1 }), h.0.1)
@@ -40,7 +40,7 @@ read_judged e words has x is sound (Ok command) h =
     (inl (record { has = has; says_it = ap command_of h.0 ∙ is; no_offence = h.1 }), subst IsSound (sym h.0) sound)
 read_judged e words has x is sound (Err fault) h = first_refused e words has fault h
 
--- if a fault is the refusal of one first error, it is that of an equal first error
+-- if `later` is `first` whenever `first` is an error, a fault that is the error `first` is the error `later`
 pub judged_on : (first later : Option Offence) (fault : WordsFault) → ((o : Offence) → first ≡ Some o → later ≡ Some o)
     → IsFirst first fault → IsFirst later fault
 judged_on first later (Syntax at) f h = h
@@ -49,7 +49,7 @@ judged_on first later (Range at) f h = f (at.word, at.byte, range) h
 judged_on first later (Shape at) f h = f (at.word, at.byte, shape) h
 judged_on first later NoMemory f h = h
 
--- two lists of errors, the second one later: the refusal of the first error of the first list is that of both
+-- if all errors of xs are before those of ys, a fault that is the first error of xs is the first error of xs ++ ys
 pub judged_err : (xs ys : List Offence) (fault : WordsFault) → AllBefore xs ys
     → IsFirst (first_offence xs) fault → IsFirst (first_offence (xs ++ ys)) fault
 judged_err xs ys fault b h = judged_on (first_offence xs) (first_offence (xs ++ ys)) fault (λ o e. first-append xs ys o e b) h
@@ -89,6 +89,7 @@ both_fine k m left right e n h =
     none-append (part_offences k (numbers left)) (part_offences (k + length left + 1) (numbers right)) n
     ∙ (ap (λ j. first_offence (part_offences j (numbers right))) (sym e) ∙ h)
 
--- the second list begins at the same word, whether the words of the first list or their texts are counted
+-- if words ws begin at word k, the word after them and a separator has the same number, whether ws or their texts f w
+-- are counted
 pub second_place : {A : Type 0} (f : A → List ℕ) (k : ℕ) (ws : List A) → k + length ws + 1 ≡ k + length (map f ws) + 1
 second_place f k ws = ap (λ n. k + n + 1) (sym (length-map ws f))

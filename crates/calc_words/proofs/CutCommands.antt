@@ -62,7 +62,8 @@ has_of name ps places words k = record {
       ∙ said_spelled name ps (written_of ps 0 1 places words k.parts);
 }
 
--- if some part has an error, the words are refused by the first one
+-- if the errors of the command are those of its parts, of which none but the last is a list of factors, a fault that is
+-- the first error of the first part that has one is a correct refusal of the words
 pub faulty : (name : List ℕ) (ps : List Part) (places : List ℕ) (words : Words) (k : AreCut name ps places words)
     (says : Written (command_form name ps) → Command) (offends : Written (command_form name ps) → List Offence) (fault : WordsFault)
     → offends (said_of name ps (written_of ps 0 1 places words k.parts)) ≡ parts_offend ps 1 (written_of ps 0 1 places words k.parts)
@@ -72,7 +73,8 @@ faulty name ps places words k says offends fault o b h =
     first_refused (record { name = name; form = command_form name ps; says = says; offends = offends }) words (has_of name ps places words k) fault
     (subst (λ os. IsFirst (first_offence os) fault) (sym o) (parts_faulty ps 1 (written_of ps 0 1 places words k.parts) fault b h))
 
--- if no part has an error, the words spell the command
+-- if the errors of the command are those of its parts and no part has an error, the command that the parts spell is the
+-- correct result of reading the words
 pub fine : (name : List ℕ) (ps : List Part) (places : List ℕ) (words : Words) (k : AreCut name ps places words)
     (says : Written (command_form name ps) → Command) (offends : Written (command_form name ps) → List Offence) (c d : Read)
     → offends (said_of name ps (written_of ps 0 1 places words k.parts)) ≡ parts_offend ps 1 (written_of ps 0 1 places words k.parts)

@@ -26,7 +26,7 @@ use Rattle.calc_words.specs.Reading.{IsRefusal}
 use Rattle.calc_words.specs.declared.word_parts.Part.{Part}
 use Rattle.calc_words.specs.declared.word_parts.Part.TheVariants.{Expression}
 
--- the number of words is the number of their texts
+-- if the form g fails with all words left, their number may be counted in the words instead of their texts
 pub counted : {A : Type 0} (f : A → List ℕ) (g : Form) (words : List A) → StopsIn g (map f words) (length (map f words)) → StopsIn g (map f words) (length words)
 counted f g words w = subst (StopsIn g (map f words)) (length-map words f) w
 
@@ -37,7 +37,7 @@ empty_map f (x ∷ xs) h = absurd (omega (arith, h))
 pub first_text : (t u : List ℕ) (ts us : Words) → t ∷ ts ≡ u ∷ us → t ≡ u
 first_text t u ts us e = cc
 
--- each part has words of its form
+-- for each part there are words that have its form
 can_be_part : (p : Part) → can_be (form_of_part p) ≡ true
 can_be_part Expression = refl
 can_be_part p = refl
@@ -47,7 +47,7 @@ can_be_parts [] = refl
 can_be_parts (p ∷ []) = can_be_part p
 can_be_parts (p ∷ q ∷ ps) = and_from (can_be (form_of_part p)) (can_be (form_of (q ∷ ps))) (can_be_part p) (can_be_parts (q ∷ ps))
 
--- after the words of a part, its form does not wait for an expression
+-- after words of a part, no further words lead to a place where its form has an expression
 settled : (p : Part) (piece rest words : Words) → IsTaken (form_of_part p) piece rest words → IsSettled (form_of_part p) piece
 settled Expression piece rest words t us a = let k = sym (ap (λ ws. ws ++ us) t.piece_is) ∙ a in cc
 settled p piece rest words t us a = none_awaited (form_of_part p) (piece ++ us) refl a
@@ -254,7 +254,8 @@ unread name ps at places words s all five n one = record { at = at; text = t; pi
         (subst (λ us. IsWrongAt (word formula) us 1 byte) (sym last.1) (stops.0, here))))
         (omega (arith, one)) refl
 
--- the words left after the first wrong one are no more than all words
+-- if the form g fails in the words after the first one, the number `left` of words from the first wrong one on is at
+-- most the number of all words
 pub left_within : {A : Type 0} (f : A → List ℕ) (g : Form) (words : List A) (left byte : ℕ) → IsWrongAt g (drop 1 (map f words)) left byte → left ≤ length words
 left_within f g words left byte (w, b) =
     let a = ap length w.words_are in
@@ -264,7 +265,8 @@ left_within f g words left byte (w, b) =
     let e = w.left_is in
     omega (arith, a, b, c, d, e)
 
--- the words of the i-th part are a slice of the words of the command, also if those are kept in another form
+-- the i-th part of the words f w, for w in `words`, is the image under f of a slice of `words`, the one between the
+-- places i and i + 1 of `places`
 pub piece_is : {A : Type 0} (f : A → List ℕ) (words : List A) (places : List ℕ) (i k at end : ℕ) (us : Words) → IsPiece places (map f words) i k us
     → slice_index_or places i 0 ≡ at → slice_index_or places (i + 1) 0 ≡ end
     → (at ≤ end) × (end ≤ length words) × (at ≡ k) × (map f (take (end - at) (drop at words)) ≡ us)

@@ -10,7 +10,7 @@ use Rattle.calc_words.specs.NumberRuns.{IsNumber, BeginsOtherwise}
 use Rattle.calc_words.proofs.Commands.{may_be, singles}
 use Rattle.calc_words.specs.FactorWords.{IsPieceWord, next_text, BeginsWithDigit}
 
--- numbers, and further factors after them
+-- the words are the numbers `second` of the second factor, and the further factors `others`, each after a `-`
 pub record Cut (words : Words) : Type 0 where
   pub second : Words
   pub others : List Words
@@ -40,7 +40,7 @@ cut (t ∷ words) e = by e.0 (cut words e.1)
           other_numbers = (k.second_numbers, k.other_numbers);
         }
 
--- a number begins with a digit, and the word after a factor does not
+-- a number begins with a digit
 number_begins : (t : List ℕ) → IsNumber t → BeginsWithDigit t
 number_begins [] h = cc
 number_begins (byte ∷ text) h = (and_parts (is_digit byte) (are_digits text) h).0
@@ -61,7 +61,7 @@ abbrev behind_first : Words → Words
 behind_first [] = []
 behind_first (t ∷ words) = words
 
--- if words begin with a longest run of words of a kind, that run is determined
+-- the longest run of words with the property P at the front of a list of words is determined by the list
 pub one_run : (P : List ℕ → Type 0) (ps qs us vs : Words) → EachOf P ps → EachOf P qs → BeginsOtherwise P us → BeginsOtherwise P vs
     → ps ++ us ≡ qs ++ vs → (ps ≡ qs) × (us ≡ vs)
 one_run P [] [] us vs m n b d e = (refl, e)
@@ -71,13 +71,14 @@ one_run P (p ∷ ps) (q ∷ qs) us vs m n b d e =
     let r = one_run P ps qs us vs m.1 n.1 b d (ap behind_first e) in
     (ap (λ t. t ∷ ps) (ap (first_of []) e) ∙ ap (λ ws. q ∷ ws) r.0, r.1)
 
--- the second factor is the longest run of numbers at the front of the words
+-- if words are the numbers `second` and further factors, each after a `-`, then `second` is the longest run at their
+-- front of words that begin with a digit
 pub run_cut : (words second list rest : Words) (others : List Words) → words ≡ second ++ next_text others → EachOf IsNumber second
     → words ≡ list ++ rest → EachOf BeginsWithDigit list → BeginsOtherwise BeginsWithDigit rest → (second ≡ list) × (rest ≡ next_text others)
 run_cut words second list rest others e n f m b =
     let r = one_run BeginsWithDigit second list (next_text others) rest (all_begin second n) m (next_begins others) b (sym e ∙ f) in (r.0, sym r.1)
 
--- the numbers `list` after a `-` are the next factor, and `more` are the later factors
+-- of the factors `others`, the numbers `list` are the next one, and `more` are the later ones, whose words are `rest`
 pub record NextCut (others : List Words) (list rest : Words) : Type 0 where
   pub more : List Words
   pub others_are : others ≡ list ∷ more
@@ -91,7 +92,7 @@ next_cut words later list rest (l ∷ more) e n f g m b =
     let r = run_cut later l list rest more (ap behind_first (sym f ∙ e)) n.0 g m b in
     record { more = more; others_are = ap (λ x. x ∷ more) r.0; rest_are = r.1; more_numbers = n.1 }
 
--- no word follows the last factor
+-- if the words of the factors `others`, each after a `-`, do not begin with `-`, there are no such factors
 pub nothing_behind : (words : Words) (others : List Words) → words ≡ next_text others → BeginsOtherwise (λ t. t ≡ codes "-") words → others ≡ []
 nothing_behind words [] e b = refl
 nothing_behind words (l ∷ others) e b = absurd (subst (BeginsOtherwise (λ t. t ≡ codes "-")) e b refl)
@@ -115,7 +116,7 @@ pub all_partitions : (others : List Words) → map without_last_zeros (map numbe
 all_partitions [] = refl
 all_partitions (list ∷ others) = ap (λ ps. partition list ∷ ps) (all_partitions others)
 
--- the words are two factors and the others, as the grammar writes them
+-- the words are two factors and further factors, as the grammar writes them
 pub record AreWritten (words first second : Words) (others : List Words) : Type 0 where
   pub written : Written factors_words
   pub allowed : May factors_words written

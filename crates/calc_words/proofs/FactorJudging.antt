@@ -71,14 +71,14 @@ next_is count at list more =
     let e : at + 1 - 1 ≡ at = omega arith in
     ap (λ w. (ninth_offences count w ++ part_offences (at + 1) (numbers list)) ++ rest_offences count at list more) e
 
--- a ninth factor has its error at the word in front of it
+-- the first error of a ninth factor is at the word `at` in front of it
 pub ninth_first : (count at : ℕ) (list : Words) → (count == most_factors) ≡ true → first_offence (next_offences count at list) ≡ Some (at, 0, range)
 ninth_first count at list h =
     ap (λ b. first_offence (cond b ((at, 0, range) ∷ []) [] ++ part_offences (at + 1) (numbers list))) h
     ∙ first-head (at, 0, range) (part_offences (at + 1) (numbers list))
     (λ p m. no_later_word (at, 0, range) p (let w = within part_rule [] (at + 1) (numbers list) p m in let l = w.0 in omega (arith, l)))
 
--- an error of the next factor is the first error of it and the later factors
+-- if the next factor has an error, its first error is the first error of this factor and the later ones
 pub next_faulty : (count at : ℕ) (list : Words) (more : List Words) (fault : WordsFault)
     → IsFirst (first_offence (next_offences count at list)) fault
     → IsFirst (first_offence (factor_offences count (at + 1) (map numbers (list ∷ more)))) fault
@@ -86,7 +86,7 @@ next_faulty count at list more fault h =
     subst (λ os. IsFirst (first_offence os) fault) (sym (next_is count at list more))
     (judged_err (next_offences count at list) (rest_offences count at list more) fault (next_before count at list more) h)
 
--- if the next factor has no error, the result is that of the later factors
+-- if the next factor has no error, a correct result for the factors after it is correct for all factors from it on
 pub next_fine : (factors next : List (List ℕ)) (at after : ℕ) (list : Words) (more : List Words) (r : Result (List (List ℕ)) WordsFault)
     → next ≡ factors ++ partition list ∷ [] → after ≡ at + 1 + length list → first_offence (next_offences (length factors) at list) ≡ None
     → IsJudged (λ f. f ≡ next ++ map partition more) (first_offence (factor_offences (length next) (after + 1) (map numbers more))) r
@@ -104,7 +104,7 @@ next_fine factors next at after list more r e f n h =
     (subst (λ m. IsJudged Q (first_offence (factor_offences m (after + 1) (map numbers more))) r) c
     (subst (λ (fs : List (List ℕ)). IsJudged (λ (g : List (List ℕ)). g ≡ fs) (first_offence (factor_offences (length next) (after + 1) (map numbers more))) r) whole h))))
 
--- the errors of the factors are those of the first two and those of the others
+-- the errors of the factors are those of the first two and those of the factors after them
 pub two_are : (at : ℕ) (first second : Words) (others : List Words)
     → factor_offences 0 at (numbers first ∷ numbers second ∷ map numbers others)
     ≡ two_partitions at first second ++ factor_offences 2 (at + length first + 1 + length second + 1) (map numbers others)

@@ -1,4 +1,4 @@
--- Factors that are written keep the limits of all factors together.
+-- Factors each of which is within its limits are within the limits of a list of factors.
 use Rattle.std.proofs.Common.{◌≡◌, ℕ, ◌+◌, ◌*◌, ◌<◌, ◌≤◌, List, [], ◌∷◌, ◌++◌, length, length-append, arith, inl, inr, None}
 use Rattle.sym_model.specs.Form.{EachOf}
 use Rattle.sym_model.specs.CommandOffence.{first_offence, part_offences}
@@ -32,7 +32,7 @@ pub fits_more : (ps : List (List ℕ)) (p : List ℕ) → EachOf IsWritten ps �
 fits_more ps p e w n h =
     let l = length-append ps (p ∷ []) in fits (ps ++ p ∷ []) (each_more ps p e w) (omega (arith, n, l)) h
 
--- if the next factor has no error, the factors with it appended are within their limits
+-- if the factors are within their limits and the next one has no error, the factors with it appended are within theirs
 pub next_written : (factors : List (List ℕ)) (count at : ℕ) (list : List (List ℕ)) → EachOf IsWritten factors
     → first_offence (ninth_offences count at ++ part_offences (at + 1) (numbers list)) ≡ None → EachOf IsWritten (factors ++ partition list ∷ [])
 next_written factors count at list e h =

@@ -29,7 +29,7 @@ no_later_kind k a b h =
     ∙ ap (λ x. nat_lt k k || x) h
     ∙ or_true (nat_lt k k)
 
--- each error is after the word k
+-- each error of the list is at a word after word k
 abbrev pub Behind : ℕ → List Offence → Type 0
 Behind k os = (p : Offence) → Among p os → k < p.0
 
@@ -45,7 +45,8 @@ first-kind k kind kinds rest h l =
         subst (λ q. is_no_later (k, 0, kind) q ≡ true) (sym b.2) (no_later_kind k kind b.0 (h b.0 b.1))
     by p (inr a) = no_later_word (k, 0, kind) p (l p a)
 
--- the error of the number at word k: `literal` if x, otherwise `range` if y, otherwise `shape` if z; if none holds, that of the rest
+-- the error at word k of kind `literal` if x, otherwise of kind `range` if y, otherwise of kind `shape` if z, otherwise
+-- `rest`
 abbrev pub first_of_three : ℕ → Bool → Bool → Bool → Option Offence → Option Offence
 first_of_three k x y z rest =
     cond x (Some (k, 0, literal)) (cond y (Some (k, 0, range)) (cond z (Some (k, 0, shape)) rest))
@@ -73,7 +74,7 @@ three_kinds_left k x y z rest l =
     ap (λ kinds. first_offence (map (of_kind k) kinds ++ rest)) (append_assoc (when x literal) (when y range) (when z shape))
     ∙ three_kinds k x y z rest l
 
--- the errors of a list of numbers are at its words
+-- the errors of a list of numbers that begins at word k are at its words
 pub within : (rule : Rule) (before : List ℕ) (k : ℕ) (ns : List ℕ) (p : Offence) → Among p (offences_after rule before k ns)
     → (k ≤ p.0) × (p.0 < k + length ns)
 within rule before k [] p m = absurd m

@@ -92,7 +92,8 @@ moved_byte before u v x b c rest more k byte n m h l = by (at_most k (length bef
         subst (λ t. IsLongestPrefix BeginsExpression t byte) (sym new)
         (longest_same BeginsExpression u b c v x byte (stops_bytes u b n) (stops_bytes u c m) (subst (λ t. IsLongestPrefix BeginsExpression t byte) old l))
 
--- if two lists of words agree up to a byte that is plain in neither, they first fail at the same place
+-- if two lists of words agree up to a byte that in neither is plain (ASCII other than `?`), they first fail at the same
+-- place, for commands whose words are plain
 moved_place : (entries : List Entry) → entries_plain entries ≡ true → (before : Words) (u v x : List ℕ) (b c : ℕ) (rest more : Words) (k byte : ℕ)
     → is_plain b ≡ false → is_plain c ≡ false → IsSyntaxPlace entries (before ++ (u ++ b ∷ v) ∷ rest) k byte
     → IsSyntaxPlace entries (before ++ (u ++ c ∷ x) ∷ more) k byte
@@ -193,7 +194,8 @@ foreign_place entries p words f k byte h =
     (moved_place entries p f.before g.front (seen g.behind) g.behind 63 g.byte (map seen f.rest) f.rest k byte refl (not_ascii g.byte g.foreign)
     (subst (λ ws. IsSyntaxPlace entries ws k byte) (seen_words words f) h))
 
--- a result of reading the words as they are kept is a result of reading the words themselves
+-- for commands whose words are plain, a result of reading the words with each byte outside ASCII replaced by `?` is a
+-- result of reading the words themselves
 pub seen_read : (entries : List Entry) → entries_plain entries ≡ true → (words : Words) (r : Result Read WordsFault)
     → IsRead entries (map seen words) r → IsRead entries words r
 seen_read entries p words r h = by (told_words words)

@@ -1,4 +1,5 @@
--- A command in a list of commands with different names: its words are read for the list as they are read for it.
+-- A command in a list of commands with different names: reading its words for the list has the same result as reading them
+-- for this command.
 use Rattle.std.proofs.Common.{◌≡◌, ℕ, zero, suc, ◌≤◌, List, [], ◌∷◌, ◌++◌, length, take, ap, ◌∙◌, subst, arith, Option, Some, Result, Ok, Err, inl, inr}
 use Rattle.sym_model.specs.Sum.{Among}
 use Rattle.sym_model.specs.Form.{Form, sequence, SomeOf, Has, Begins, Awaits, words_of}
@@ -28,8 +29,8 @@ first_awaits text g words (inr h) = (h.1, h.2 ∙ ap (λ ws. ws ++ h.1) h.3.spel
 same_first : (a b : List ℕ) (xs ys words : Words) → words ≡ a ∷ xs → words ≡ b ∷ ys → b ≡ a
 same_first a b xs ys words h k = cc
 
--- a property that some command of the list has, and that implies that the words begin with its name, holds of this
--- command
+-- if the words begin with the name of e, and with that of each command of the list that has P, and some command of the list
+-- has P, then e has P
 own : (e : Entry) (entries : List Entry) → Joined e entries → (P : Entry → Type 0) (words rest : Words) → words ≡ e.name ∷ rest
     → ((f : Entry) → Among f entries → P f → (more : Words) × (words ≡ f.name ∷ more)) → SomeOf P entries → P e
 own e entries j P words rest w n s =
@@ -118,7 +119,7 @@ joined_syntax e entries j words rest word byte w p = record {
   byte_is = joined_byte e entries j words rest word byte w p.byte_is;
 }
 
--- a result of reading words for one command is one of reading them for the list
+-- if words begin with the name of e, a correct result of reading them for e alone is correct for the list
 pub joined_read : (e : Entry) (entries : List Entry) → Joined e entries → (words rest : Words) → words ≡ e.name ∷ rest
     → (r : Result Read WordsFault) → IsRead (e ∷ []) words r → IsRead entries words r
 joined_read e entries j words rest w (Ok command) h = (joined_freely e entries j words (command_of command) h.0, h.1)

@@ -1,4 +1,4 @@
--- The numbers of a partition, judged one after another.
+-- The test of the numbers of a partition, one after another.
 use Rattle.std.proofs.Common.{◌≡◌, ℕ, zero, suc, ◌+◌, ◌<◌, ◌≤◌, ◌==◌, nat_le, nat_lt, Bool, true, false, ◌&&◌, ◌||◌, cond, List, [], ◌∷◌, ◌++◌, map, length, take, drop, get_or, drop-cons, refl, sym, ap, ◌∙◌, subst, arith, Option, Some, None}
 use Rattle.std.proofs.lemmas.Bool.{le-leb, ltb-false, eqb-false}
 use Rattle.std.proofs.Math.ListN.{drop_of_length-le, set, length-set}
@@ -7,8 +7,8 @@ use Rattle.sym_model.specs.Partition.{size}
 use Rattle.sym_model.specs.ExpressionOffence.{is_wide, rises, literal, range, shape}
 use Rattle.sym_model.specs.CommandOffence.{Offence, first_offence, part_offences, part_rule, offences_after, left_of, when, most_parts, most_cells}
 use Rattle.calc_base.specs.declared.words.WordsFault.{WordsFault}
-use Rattle.calc_words.specs.declared.offence.Kind.{Kind}
-use Rattle.calc_words.specs.declared.offence.Kind.TheVariants.{Literal, Range, Shape}
+use Rattle.expression_reading.specs.declared.offence.Kind.{Kind}
+use Rattle.expression_reading.specs.declared.offence.Kind.TheVariants.{Literal, Range, Shape}
 use Rattle.calc_words.specs.Faults.{fault_of}
 use Rattle.calc_words.specs.NumberRuns.{narrow}
 use Rattle.calc_words.specs.PartRules.{part_kind, range_or_shape}
@@ -16,7 +16,7 @@ use Rattle.calc_words.specs.Reading.{IsFirst}
 use Rattle.calc_words.proofs.FirstOffences.{first_of_three, three_kinds_left, within}
 use Rattle.word_laws.proofs.JudgedRows.{of_kind}
 
--- the state after the first i numbers of a list that begins at the word `at`: `heard` has these numbers, the last one
+-- the state after the first i numbers of a list that begins at the word `at`: `heard` contains these numbers, the last one
 -- first
 pub record Judging (at : ℕ) (ns : List ℕ) (i cells : ℕ) (last : Option ℕ) (parts : List ℕ) : Type 0 where
   pub heard : List ℕ
@@ -29,7 +29,7 @@ pub record Judging (at : ℕ) (ns : List ℕ) (i cells : ℕ) (last : Option ℕ
   pub parts_are : take i parts ≡ take i ns
   pub room : length parts ≡ 64
 
--- the number at place i of the words f x is the value of the i-th word
+-- if x is the i-th word of ws, the i-th of the numbers g (f w), for the words w of ws, is g (f x)
 pub number_at : {A : Type 0} (f : A → List ℕ) (g : List ℕ → ℕ) (ws : List A) (i : ℕ) (x : A) → i < length ws → x ≡ get_or ws i x
     → get_or (map g (map f ws)) i 0 ≡ g (f x)
 number_at f g [] i x h e = absurd (omega (arith, h))
@@ -53,7 +53,8 @@ three at ns i cells a last parts j h e =
     (offences_after part_rule (a ∷ j.heard) (at + i + 1) (drop (suc i) ns))
     (λ p m. let w = within part_rule (a ∷ j.heard) (at + i + 1) (drop (suc i) ns) p m in omega arith)
 
--- the first error of the list is given by the tests on the state: the number of numbers, their sum and the last of them
+-- the first error of the list is given by three tests of the next number a, with the count, the sum and the last of the
+-- numbers before it, or it is that of the numbers after a
 pub judged : (at : ℕ) (ns : List ℕ) (i cells a : ℕ) (last : Option ℕ) (parts : List ℕ) (j : Judging at ns i cells last parts) → i < length ns → get_or ns i 0 ≡ a
     → first_offence (part_offences at ns)
     ≡ first_of_three (at + i) (is_wide a) ((i == most_parts) || nat_lt most_cells (cells + a)) (rises last a)
@@ -73,7 +74,7 @@ narrow_none a h = by (is_wide a) refl
     by true e = refl
     by false e = let k : None ≡ Some a = sym h ∙ ap (λ b. cond b None (Some a)) e in cc
 
--- a number over 2^127 - 1 is the first error
+-- if the numbers before it have no error, a number over 2^127 - 1 is the first error
 pub wide_first : (at : ℕ) (ns : List ℕ) (i cells a : ℕ) (last : Option ℕ) (parts : List ℕ) → Judging at ns i cells last parts → i < length ns → get_or ns i 0 ≡ a
     → narrow a ≡ None → (fault : WordsFault) → fault ≡ fault_of (at + i) Literal
     → IsFirst (first_offence (part_offences at ns)) fault
@@ -83,7 +84,7 @@ wide_first at ns i cells a last parts j h e w fault f =
     ∙ ap (λ b. first_of_three (at + i) b ((i == most_parts) || nat_lt most_cells (cells + a)) (rises last a)
     (first_offence (offences_after part_rule (a ∷ j.heard) (at + i + 1) (drop (suc i) ns)))) (narrow_none a w))
 
--- if a number has a value in `narrow`, it is at most 2^127 - 1 and is its value
+-- if v is the value of `narrow a`, then a is at most 2^127 - 1, and v = a
 pub narrow_some : (a v : ℕ) → Some v ≡ narrow a → (is_wide a ≡ false) × (v ≡ a)
 narrow_some a v h = by (is_wide a) refl
   where
@@ -91,7 +92,7 @@ narrow_some a v h = by (is_wide a) refl
     by true e = let k : Some v ≡ None = h ∙ ap (λ b. cond b None (Some a)) e in cc
     by false e = let k : Some v ≡ Some a = h ∙ ap (λ b. cond b None (Some a)) e in (e, cc)
 
--- if a number has an error of a kind, it is refused as that kind
+-- if the tests y and z of a number give an error of a kind, a fault of this kind at its word is the first error
 pub kind_judged : (k : ℕ) (y z : Bool) (rest first : Option Offence) (kind : Kind) → first ≡ first_of_three k false y z rest
     → Some kind ≡ range_or_shape y z → IsFirst first (fault_of k kind)
 kind_judged k true z rest first kind h e = subst (λ x. IsFirst first (fault_of k x)) (sym (let g : kind ≡ Range = cc in g)) h
@@ -110,7 +111,7 @@ kind_first at ns i cells a v last parts j h e w kind k fault f =
     ∙ ap (λ b. first_of_three (at + i) b ((i == most_parts) || nat_lt most_cells (cells + a)) (rises last a) rest) n.0)
     (k ∙ ap (part_kind i cells last) n.1))
 
--- if a number has no error, it exceeds no limit (y) and is at its place (z)
+-- if a number has no error, it exceeds no limit (y is false) and is allowed in the list (z is false)
 pub none_kinds : (y z : Bool) → range_or_shape y z ≡ None → (y ≡ false) × (z ≡ false)
 none_kinds true z h = cc
 none_kinds false true h = cc
@@ -170,7 +171,7 @@ goes_on at ns i cells a v last parts j h e w k =
       room = length-set parts i v ∙ j.room;
     }
 
--- when all numbers have been judged, the list has no error
+-- when all numbers have been tested, the list has no error
 pub ends : (at : ℕ) (ns : List ℕ) (i cells : ℕ) (last : Option ℕ) (parts : List ℕ) → Judging at ns i cells last parts → length ns ≤ i
     → first_offence (part_offences at ns) ≡ None
 ends at ns i cells last parts j h = ap first_offence (j.rest_is ∙ ap (offences_after part_rule j.heard (at + i)) (drop_of_length-le ns h))

@@ -1,4 +1,4 @@
--- The letters of a permutation, judged one after another.
+-- The test of the letters of a permutation, one after another.
 use Rattle.std.proofs.Common.{◌≡◌, ℕ, suc, ◌+◌, ◌<◌, ◌≤◌, ◌==◌, nat_lt, Bool, true, false, ◌||◌, List, [], ◌∷◌, ◌++◌, map, length, length-append, take, drop, get_or, drop-cons, refl, sym, ap, ◌∙◌, subst, arith, Some, None}
 use Rattle.std.proofs.lemmas.Bool.{eqb-false}
 use Rattle.std.proofs.Math.ListN.{drop_of_length-le, set, length-set}
@@ -6,8 +6,8 @@ use Rattle.std.proofs.lemmas.List.{take_all, take_more, take_more_set}
 use Rattle.sym_model.specs.ExpressionOffence.{is_wide}
 use Rattle.sym_model.specs.CommandOffence.{first_offence, permutation_offences_within, permutation_rule_within, offences_after, is_outside, stands_in}
 use Rattle.calc_base.specs.declared.words.WordsFault.{WordsFault}
-use Rattle.calc_words.specs.declared.offence.Kind.{Kind}
-use Rattle.calc_words.specs.declared.offence.Kind.TheVariants.{Literal}
+use Rattle.expression_reading.specs.declared.offence.Kind.{Kind}
+use Rattle.expression_reading.specs.declared.offence.Kind.TheVariants.{Literal}
 use Rattle.calc_words.specs.Faults.{fault_of}
 use Rattle.calc_words.specs.LetterRules.{letter_kind}
 use Rattle.calc_words.specs.NumberRuns.{narrow}
@@ -16,7 +16,7 @@ use Rattle.calc_words.proofs.FirstOffences.{first_of_three, three_kinds_left, wi
 use Rattle.word_laws.proofs.JudgedRows.{of_kind}
 use Rattle.calc_words.proofs.Judging.{narrow_none, narrow_some, kind_judged, no_kinds, none_kinds, or_both}
 
--- the state after the first i letters of a list that begins at the word `at`: `heard` has these letters, the last one
+-- the state after the first i letters of a list that begins at the word `at`: `heard` contains these letters, the last one
 -- first
 pub record Hearing (most at : ℕ) (ns : List ℕ) (i : ℕ) (letters : List ℕ) : Type 0 where
   pub heard : List ℕ
@@ -45,7 +45,7 @@ judged most at ns i a letters j h e =
     ∙ ap (λ b. first_of_three (at + i) (is_wide a) (nat_lt most a || (length (take i letters) == most)) (is_outside (length ns) a || b) (first_offence more))
     (j.heard_are a)
 
--- a letter over 2^127 - 1 is the first error
+-- if the letters before it have no error, a letter over 2^127 - 1 is the first error
 pub wide_letter : (most at : ℕ) (ns : List ℕ) (i a : ℕ) (letters : List ℕ) → Hearing most at ns i letters → i < length ns → get_or ns i 0 ≡ a
     → narrow a ≡ None → (fault : WordsFault) → fault ≡ fault_of (at + i) Literal
     → IsFirst (first_offence (permutation_offences_within most at ns)) fault
@@ -55,7 +55,7 @@ wide_letter most at ns i a letters j h e w fault f =
     ∙ ap (λ b. first_of_three (at + i) b (nat_lt most a || (length (take i letters) == most)) (is_outside (length ns) a || stands_in a (take i letters))
     (first_offence (offences_after (permutation_rule_within most (length ns)) (a ∷ j.heard) (at + i + 1) (drop (suc i) ns)))) (narrow_none a w))
 
--- a letter with an error of another kind is the first error
+-- if a letter of at most 2^127 - 1 has an error, and the letters before it have none, this error is the first error
 pub letter_first : (most at : ℕ) (ns : List ℕ) (i a v : ℕ) (letters : List ℕ) → Hearing most at ns i letters → i < length ns → get_or ns i 0 ≡ a
     → Some v ≡ narrow a → (kind : Kind) → Some kind ≡ letter_kind most (length ns) (take i letters) v → (fault : WordsFault) → fault ≡ fault_of (at + i) kind
     → IsFirst (first_offence (permutation_offences_within most at ns)) fault
@@ -112,7 +112,7 @@ letter_goes_on most at ns i a v letters low j h e w k =
       room = length-set letters i v ∙ j.room;
     }
 
--- when all letters have been judged, the list has no error
+-- when all letters have been tested, the list has no error
 pub letters_end : (most at : ℕ) (ns : List ℕ) (i : ℕ) (letters : List ℕ) → Hearing most at ns i letters → length ns ≤ i
     → first_offence (permutation_offences_within most at ns) ≡ None
 letters_end most at ns i letters j h =

@@ -1,4 +1,4 @@
--- The words of a line, one byte after another.
+-- The words of a line, read byte by byte.
 use Rattle.std.proofs.Common.{◌≡◌, ℕ, zero, suc, ◌+◌, ◌<◌, ◌≤◌, ◌==◌, nat_lt, Bool, true, false, ◌||◌, cond, List, [], ◌∷◌, ◌++◌, append_assoc, map, length, drop, get_or, drop-cons, refl, sym, ap, ◌∙◌, arith, filter, flat_map}
 use Rattle.std.proofs.lemmas.Bool.Decides.{nat_tests}
 use Rattle.std.proofs.lemmas.List.{append-nil, length-map, map-append}
@@ -8,7 +8,7 @@ use Rattle.sym_model.specs.NumberText.{split_at, before_first}
 use Rattle.word_laws.specs.Words.{Words}
 use Rattle.calc_words.specs.LineBytes.{seen_byte, seen, word_with_bytes, is_space}
 
--- the words of the rest of a line, given the bytes `word` read of the current word
+-- the words of the bytes `word`, read of the current word, and the rest of the line
 abbrev pub words_from : List ℕ → List ℕ → Words
 words_from word [] = word_with_bytes word
 words_from word (byte ∷ line) = cond (is_space byte) (word_with_bytes word ++ words_from [] line) (words_from (word ++ byte ∷ []) line)
@@ -118,7 +118,7 @@ words_read line =
     let s = some_pieces line in
     ap (filter is_some_text) (continued_nothing (pieces_of line) s.0 s.1 s.2) ∙ words_continued [] line
 
--- ---- the bytes that are kept of the words
+-- ---- the words of a line whose bytes outside ASCII are kept as `?`
 
 some_seen : (w : List ℕ) → is_some_text (seen w) ≡ is_some_text w
 some_seen w = ap (λ n. nat_lt 0 n) (length-map w seen_byte)
@@ -154,7 +154,8 @@ words_seen w (b ∷ line) = ap (λ t. cond t (word_with_bytes (seen w) ++ words_
         ∙ sym (map-append seen (word_with_bytes w) (words_from [] line))
     by false r q = ap (λ v. words_from v (seen line)) (sym (map-append seen_byte w (b ∷ []))) ∙ q
 
--- the words of `seen line` are the words of the line, each with its bytes as they are kept
+-- the words of `seen line`, the line with `?` for each byte outside ASCII, are the words of the line, changed in the
+-- same way
 pub kept_words : (line : List ℕ) → words_from [] (seen line) ≡ map seen (words_of_line line)
 kept_words line = words_seen [] line ∙ ap (map seen) (sym (words_read line))
 
@@ -171,7 +172,8 @@ byte_at line i h =
     ∙ ap (λ b. b ∷ drop (suc i) (seen line)) (get_seen line i h)
     ∙ ap (λ j. seen_byte (get_or line i 0) ∷ drop j (seen line)) (let e : suc i ≡ i + 1 = omega arith in e)
 
--- `words` are the words that end before place i of the line, and `word` is the part before it of the word that goes on there
+-- `words` are the words that end before place i of the line, and `word` is the part before place i of a word that continues
+-- there
 abbrev pub AreWordsSo : List ℕ → ℕ → Words → List ℕ → Type 0
 AreWordsSo line i words word = words_from [] (seen line) ≡ words ++ words_from word (drop i (seen line))
 

@@ -74,7 +74,8 @@ parts_from (p ∷ q ∷ ps) k x o m =
     by (inl a) r = part_from p k x.0 o a
     by (inr a) r = let w = r a in omega (arith, w)
 
--- if a fault is the first error of the first part that has one, it is the first error of all parts
+-- if no part but the last is a list of factors, a fault that is the first error of the first part with an error is the
+-- first error of all parts
 pub parts_faulty : (ps : List Part) (k : ℕ) (x : Written (form_of ps)) (fault : WordsFault) → are_bounded ps ≡ true → IsFirstOf ps k x fault
     → IsFirst (first_offence (parts_offend ps k x)) fault
 parts_faulty [] k x fault b h = absurd h

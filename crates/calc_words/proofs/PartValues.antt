@@ -1,4 +1,4 @@
--- The values of the pieces of a command, by the words that are written.
+-- The values of the parts of a command, from the words of these parts.
 use Rattle.std.proofs.Common.{◌≡◌, ℕ, zero, suc, ◌<◌, ◌==◌, Bool, false, not, List, [], ◌∷◌, ◌++◌, map, length, refl, sym, ap, ◌∙◌, subst, arith, Result, inl, inr, flat_map}
 use Rattle.std.specs.Prelude.{codes}
 use Rattle.std.proofs.lemmas.Bool.Decides.{nat_tests}
@@ -88,7 +88,7 @@ factors_judged at k ws first rest later (one, (second, others)) r m a e f n b l 
     (subst (λ us. IsJudged (λ (g : List (List ℕ)). g ≡ partition us ∷ partition two ∷ map partition lists)
     (first_offence (factor_offences 0 at (numbers us ∷ numbers two ∷ map numbers lists))) r) runs.0 judged)))
 
--- whether the word for the one-line form is there
+-- the word for the one-line form is there if and only if the part of the words for it is not empty
 pub form_said : {A : Type 0} (f : A → List ℕ) (ws : List A) (x : Written (optional form_words)) (b : Bool) → map f ws ≡ words_of (optional form_words) x
     → b ≡ (length ws == 0) → not b ≡ is_one_line x
 form_said f [] (inl y) b e h = ap not h

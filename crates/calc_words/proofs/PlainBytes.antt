@@ -52,7 +52,7 @@ all_front [] ys h = refl
 all_front (x ∷ xs) ys h =
     let p = parts (are_plain x) (all_plain (xs ++ ys)) h in both (are_plain x) (all_plain xs) p.0 (all_front xs ys p.1)
 
--- if a byte of a text is not plain, the text is not plain
+-- a text of plain bytes (ASCII other than `?`) has no byte that is not plain
 pub not_plain : (xs ys : List ℕ) (b : ℕ) → is_plain b ≡ false → are_plain (xs ++ b ∷ ys) ≡ true → ⊥
 not_plain [] ys b h k = let p = parts (is_plain b) (are_plain ys) k in cc
 not_plain (x ∷ xs) ys b h k = not_plain xs ys b h (parts (is_plain x) (are_plain (xs ++ b ∷ ys)) k).1
@@ -61,7 +61,7 @@ pub not_all_plain : (xs ys : Words) (w : List ℕ) → (are_plain w ≡ true →
 not_all_plain [] ys w h k = h (parts (are_plain w) (all_plain ys) k).0
 not_all_plain (x ∷ xs) ys w h k = not_all_plain xs ys w h (parts (are_plain x) (all_plain (xs ++ w ∷ ys)) k).1
 
--- ---- numbers and expressions are plain
+-- ---- numbers and expressions are written in ASCII without `?`
 
 digit_plain : (b : ℕ) → 48 ≤ b → b ≤ 57 → is_plain b ≡ true
 digit_plain b h k = grind (arith, nat_tests)
@@ -105,7 +105,7 @@ pub expression_plain : (text : List ℕ) → BeginsExpression text → are_plain
 expression_plain text h =
     plain_front text h.0 (ap are_plain h.2.spelled ∙ spelling_plain expression h.1 h.2.allowed)
 
--- ---- the words of all commands are plain
+-- ---- the words of all commands are written in ASCII without `?`
 
 abbrev class_plain : Class → Bool
 class_plain (exact text) = are_plain text

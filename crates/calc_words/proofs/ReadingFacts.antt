@@ -21,7 +21,7 @@ use Rattle.word_laws.proofs.EntryLists.{one_command, one_offence, one_place}
 abbrev pub Clear : List Entry → Type 0
 Clear entries = are_unambiguous (forms_of entries) ≡ true
 
--- words without an error spell a command, and so do words with a first error
+-- words that spell c without an error spell c
 freely_spells : (entries : List Entry) (words : Words) (c : Command) → SpellsWithoutOffence entries words c → SpellsCommand entries words c
 freely_spells [] words c h = h
 freely_spells (e ∷ entries) words c (inl x) = inl (record { has = x.has; says_it = x.says_it })
@@ -43,7 +43,8 @@ none_some entries u words o h k = let e = one_offence one_phrase entries u words
 same_first : (entries : List Entry) → Clear entries → (words : Words) (o p : Offence) → HasFirstOffence entries words (Some o) → HasFirstOffence entries words (Some p) → o ≡ p
 same_first entries u words o p h k = let e = one_offence one_phrase entries u words (Some o) (Some p) h k in cc
 
--- words without an error are accepted
+-- for unambiguous commands (`Clear`): if words spell c without an error, each correct result of reading them is c,
+-- unless memory runs out
 pub accepts : (entries : List Entry) → Clear entries → (words : Words) (r : Result Read WordsFault)
     → IsRead entries words r → (c : Command) → SpellsWithoutOffence entries words c → Accepts c r
 accepts entries u words (Ok k) h c s =
@@ -54,7 +55,8 @@ accepts entries u words (Err (Range at)) h c s = none_some entries u words _ (fr
 accepts entries u words (Err (Shape at)) h c s = none_some entries u words _ (freely_none entries words c s) h
 accepts entries u words (Err NoMemory) h c s = refl
 
--- words with a first error are refused with it
+-- for unambiguous commands (`Clear`): if words have the first error o, each correct result of reading them is the
+-- refusal with o, unless memory runs out
 pub refuses : (entries : List Entry) → Clear entries → (words : Words) (r : Result Read WordsFault)
     → IsRead entries words r → (o : Offence) → HasFirstOffence entries words (Some o) → Refuses o r
 refuses entries u words (Ok k) h o s = none_some entries u words o (freely_none entries words (command_of k) h.0) s
@@ -68,7 +70,8 @@ same_syntax : (at : Place) (w b : ℕ) → at.word ≡ w → at.byte ≡ b → S
 same_syntax at w b h k =
     ap (λ n. Syntax (record { word = n; byte = at.byte })) h ∙ ap (λ n. Syntax (record { word = w; byte = n })) k
 
--- words that are no command are refused at the place of their first failure
+-- for unambiguous commands (`Clear`): if words are no command, each correct result of reading them is the refusal at
+-- the place where they first fail, unless memory runs out
 pub goes_wrong : (entries : List Entry) → Clear entries → (words : Words) (r : Result Read WordsFault)
     → IsRead entries words r → (w b : ℕ) → IsSyntaxPlace entries words w b → GoesWrong w b r
 goes_wrong entries u words (Ok k) h w b s = s.no_command (command_of k) (freely_spells entries words (command_of k) h.0)

@@ -1,4 +1,4 @@
--- The letters of a word, judged one after another.
+-- The test of the letters of a word, one after another.
 use Rattle.std.proofs.Common.{◌≡◌, ℕ, suc, ◌+◌, ◌<◌, ◌≤◌, ◌==◌, Bool, true, false, ◌||◌, List, [], ◌∷◌, ◌++◌, map, length, take, drop, get_or, drop-cons, refl, sym, ap, ◌∙◌, subst, arith, Some, None, inl, inr}
 use Rattle.std.proofs.lemmas.Bool.{eqb-false}
 use Rattle.std.proofs.Math.ListN.{set, length-set}
@@ -8,7 +8,7 @@ use Rattle.sym_model.specs.ExpressionOffence.{is_wide, literal, range}
 use Rattle.sym_model.specs.CommandOffence.{Offence, first_offence, offences_by, offences_after, letter_rule, when, is_outside, greatest_letter, most_letters}
 use Rattle.calc_base.specs.declared.words.WordsFault.{WordsFault}
 use Rattle.word_laws.proofs.FirstOffences.{first_none}
-use Rattle.calc_words.specs.declared.offence.Kind.TheVariants.{Literal, Range}
+use Rattle.expression_reading.specs.declared.offence.Kind.TheVariants.{Literal, Range}
 use Rattle.calc_words.specs.Faults.{fault_of}
 use Rattle.calc_words.specs.NumberRuns.{narrow}
 use Rattle.calc_words.specs.Reading.{IsFirst}
@@ -25,7 +25,7 @@ two_kinds k true y rest l = first-kind k literal (when y range) rest (λ q m. lo
 two_kinds k false true rest l = first-kind k range [] rest (λ q m. absurd m) l
 two_kinds k false false rest l = refl
 
--- the state after the first i letters of a list that begins at the word `at`: `heard` has these letters, the last one
+-- the state after the first i letters of a list that begins at the word `at`: `heard` contains these letters, the last one
 -- first
 pub record Spelling (at : ℕ) (ns : List ℕ) (i : ℕ) (letters : List ℕ) : Type 0 where
   pub heard : List ℕ

@@ -27,7 +27,7 @@ use Rattle.calc_words.proofs.WrittenExpressions.{no_signs}
 use Rattle.calc_words.proofs.WrittenLists.{written, two_written, row_number, lines_number, seed_number}
 use Rattle.word_laws.proofs.NoOffences.{none_append, none_first, none_judged, not_past, none_in_word, within_limit, within_degree}
 
--- if the words of the entry have no error, their command is within the limits
+-- each command that words of the form of the entry spell without an error is within the limits
 abbrev pub Keeps : Entry → Type 0
 Keeps e = (x : Written e.form) → first_offence (e.offends x) ≡ None → KeepsLimits (e.says x)
 
@@ -99,7 +99,7 @@ quantum_keeps (name, (rows, (columns, x))) h = reduction_keeps rows columns x h
 fusion_keeps : Keeps fusion_entry
 fusion_keeps (name, (rows, (level, x))) h = reduction_keeps rows level x h
 
--- the tableau after which a list continues is in the list
+-- if the words have no error, the tableau after which a list continues is a lattice tableau of outer/inner
 last_kept : (k : ℕ) (outer inner : List ℕ) (after : Written (optional from_words)) → first_offence (not_listed k outer inner after) ≡ None
     → IsInList outer inner (last_reading outer inner after)
 last_kept k outer inner (inl x) h = tt
@@ -127,7 +127,8 @@ expand_keeps bases (name, (form, (basis, phrase))) h =
     let k = 2 + length (words_of (optional form_words) form) in
     within_degree k (degree_limit basis) phrase h
 
--- the expressions of a plethysm without an error are within the limits of degree, and so is their product
+-- in a plethysm without an error, the degrees of the expressions and their product are within their limits, and the
+-- inner expression has no minus and no fraction
 plethysm_keeps : (bases : List Basis) → Keeps (plethysm_entry bases)
 plethysm_keeps bases (name, (basis, (outer, inner))) h =
     let first = offences_in_word 2 (offences_within plethysm_degree_limit outer) in

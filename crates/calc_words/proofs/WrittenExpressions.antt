@@ -1,4 +1,4 @@
--- Inner expressions of a plethysm without an error have no signs.
+-- If the inner expression of a plethysm has no error, it has no minus and no fraction.
 use Rattle.std.proofs.Common.{◌≡◌, ℕ, ◌+◌, [], ◌∷◌, ◌++◌, length}
 use Rattle.sym_model.specs.Phrase.{plus, minus, times, Phrase, numeral, ratio, label, brackets, minus_first, operation, tree, spelling}
 use Rattle.sym_model.specs.ExpressionOffence.{WordOffence, shape, sign_offences}

@@ -53,7 +53,7 @@ letters_fine most count before k (a ∷ ns) f h =
     itself : stands_in a (a ∷ before) ≡ false → ⊥
     itself e = let x = (or_both (a == a) (stands_in a before) e).0 in let y = eq-eqb a a refl in cc
 
--- written letters without an error are those of a permutation of at most `most` letters
+-- if most ≤ 16, one letter or more without an error are those of a permutation of at most `most` letters
 pub short_within : (most k : ℕ) (ns : List ℕ) → most ≤ 16 → 0 < length ns → first_offence (permutation_offences_within most k ns) ≡ None
     → IsShortPermutation ns × (length ns ≤ most)
 short_within most k ns m s h =
@@ -61,7 +61,8 @@ short_within most k ns m s h =
     let few = f.few in
     (record { one_line = record { letters = f.letters; once = f.once }; some = s; few = omega (arith, m, few) }, omega (arith, few))
 
--- the permutation that is kept of letters without an error is within the limits
+-- if most ≤ 16, one letter or more without an error, with the fixed ones at the end removed, are a permutation of at
+-- most `most` letters
 pub letters_within : (most k : ℕ) (ns : List ℕ) → most ≤ 16 → 0 < length ns → first_offence (permutation_offences_within most k ns) ≡ None
     → IsPermutationWithin most (kept ns)
 letters_within most k ns m s h = let l = short_within most k ns m s h in

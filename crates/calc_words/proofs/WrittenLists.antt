@@ -1,4 +1,4 @@
--- Lists of numbers without an error are partitions, and numbers, within their limits.
+-- Numbers without an error are within their limits: those of partitions, numbers of rows, numbers of lines, and seeds.
 use Rattle.std.proofs.Common.{◌≡◌, ℕ, ◌+◌, ◌≤◌, ◌==◌, nat_le, nat_lt, false, ◌&&◌, ◌||◌, List, [], ◌∷◌, ◌++◌, length, sym, ap, ◌∙◌, arith, None}
 use Rattle.std.proofs.lemmas.Bool.{le-leb, ltb-false, eqb-false}
 use Rattle.sym_model.specs.Partition.{size, without_last_zeros, FallsFrom}

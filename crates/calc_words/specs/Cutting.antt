@@ -5,13 +5,13 @@ use Rattle.sym_model.specs.Grammar.{all_bases}
 use Rattle.word_laws.proofs.Cuts.{IsTaken}
 pub use Rattle.word_laws.proofs.Cuts.{StopsIn, IsByte, IsWrongAt}
 
--- the first `count` words are of the form, and words of the form end there
+-- the first `count` words have the form, and the words after them do not continue it
 abbrev pub Takes : Form → List (List ℕ) → ℕ → Type 0
 Takes f words count =
     (piece : List (List ℕ)) × (rest : List (List ℕ)) × IsTaken f piece rest words
     × (count ≡ length piece)
 
--- the words are words of the form, which end there, and then the rest
+-- the words are words of the form, which the words after them do not continue, followed by the words `rest`
 abbrev pub StandsBehind : Form → List (List ℕ) → List (List ℕ) → Type 0
 StandsBehind f rest words = (piece : List (List ℕ)) × IsTaken f piece rest words
 

@@ -2,11 +2,11 @@
 use Rattle.std.specs.Prelude.{ℕ}
 use Rattle.calc_base.specs.declared.words.WordsFault.{WordsFault}
 use Rattle.calc_base.specs.declared.words.WordsFault.TheVariants.{Literal, Range, Shape}
-use Rattle.calc_words.specs.declared.offence.Kind.{Kind}
-use Rattle.calc_words.specs.declared.offence.Kind.TheVariants.{Literal as Wide, Range as Past}
-use Rattle.calc_words.specs.declared.offence.Kind.TheVariants.{Shape as Misshapen}
+use Rattle.expression_reading.specs.declared.offence.Kind.{Kind}
+use Rattle.expression_reading.specs.declared.offence.Kind.TheVariants.{Literal as Wide, Range as Past}
+use Rattle.expression_reading.specs.declared.offence.Kind.TheVariants.{Shape as Misshapen}
 
--- the refusal of the number that is this word
+-- the refusal of the number at this word, by the kind of its error
 abbrev pub fault_of : ℕ → Kind → WordsFault
 fault_of word Wide = Literal (record { word = word; byte = 0 })
 fault_of word Past = Range (record { word = word; byte = 0 })

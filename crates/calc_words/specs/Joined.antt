@@ -4,7 +4,7 @@ use Rattle.sym_model.specs.Sum.{Among}
 use Rattle.sym_model.specs.Form.{Has, Awaits}
 use Rattle.sym_model.specs.Entry.{Entry}
 
--- words of the command begin with its name
+-- words that have the form of the command, or that an expression can continue to such words, begin with its name
 pub record Named (e : Entry) : Type 0 where
   pub spells : (words : List (List ℕ)) → Has e.form words
       → (rest : List (List ℕ)) × (words ≡ e.name ∷ rest)

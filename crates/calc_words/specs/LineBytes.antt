@@ -19,7 +19,7 @@ word_with_bytes word = cond (is_some_text word) (word ∷ []) []
 abbrev pub is_space : ℕ → Bool
 is_space byte = (byte == 32) || (byte == 9)
 
--- whether words are skipped: there is none, or the first begins with `#`
+-- whether a line of these words is skipped: it has no word, or the first word begins with `#`
 abbrev pub is_passed_over : List (List ℕ) → Bool
 is_passed_over [] = true
 is_passed_over ([] ∷ words) = false

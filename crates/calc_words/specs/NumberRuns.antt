@@ -1,4 +1,4 @@
--- Number words among the words of a command.
+-- Values of number words that are at most 2^127 - 1.
 use Rattle.std.specs.Prelude.{ℕ, cond, Option, Some, None}
 use Rattle.sym_model.specs.ExpressionOffence.{is_wide}
 pub use Rattle.word_laws.specs.FirstWords.{IsNumber, BeginsOtherwise}

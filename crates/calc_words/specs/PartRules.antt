@@ -2,10 +2,10 @@
 use Rattle.std.specs.Prelude.{ℕ, ◌+◌, ◌==◌, nat_lt, Bool, ◌||◌, cond, Option, Some, None}
 use Rattle.sym_model.specs.ExpressionOffence.{rises}
 use Rattle.sym_model.specs.CommandOffence.{most_parts, most_cells}
-use Rattle.calc_words.specs.declared.offence.Kind.{Kind}
-use Rattle.calc_words.specs.declared.offence.Kind.TheVariants.{Range, Shape}
+use Rattle.expression_reading.specs.declared.offence.Kind.{Kind}
+use Rattle.expression_reading.specs.declared.offence.Kind.TheVariants.{Range, Shape}
 
--- the error of a number that exceeds a limit (`y`), or otherwise has a wrong place (`z`)
+-- the kind of the error of a number: `Range` if it exceeds a limit (y), otherwise `Shape` if it is not allowed in the list (z)
 abbrev pub range_or_shape : Bool → Bool → Option Kind
 range_or_shape y z = cond y (Some Range) (cond z (Some Shape) None)
 

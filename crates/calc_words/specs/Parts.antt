@@ -63,7 +63,7 @@ abbrev pub is_clear : List Part → Bool
 is_clear [] = true
 is_clear (p ∷ ps) = are_apart (continuing (form_of_part p)) (firsts (form_of ps)) && is_clear ps
 
--- the errors of a part that begins at word k; tableaux and expressions are judged together with other parts, and have
+-- the errors of a part that begins at word k; tableaux and expressions are tested together with other parts, and have
 -- no error here
 abbrev pub part_offends : (p : Part) → ℕ → Written (form_of_part p) → List Offence
 part_offends Rows k x = offences_by rows_rule (k + 1) (decimal_value x.1 ∷ [])
@@ -115,7 +115,7 @@ pub record AreCut (name : List ℕ) (ps : List Part) (places : List ℕ)
   pub named : words ≡ name ∷ drop 1 words
   pub parts : IsCut ps 0 1 places words
 
--- whether a part has no errors outside its own words; `are_bounded` asks this for all parts but the last
+-- whether the errors of a part are all at its own words; `are_bounded` asks this for all parts but the last
 abbrev pub is_bounded : Part → Bool
 is_bounded Factors = false
 is_bounded p = true
@@ -142,9 +142,9 @@ AreFine (p ∷ q ∷ ps) k x =
     (first_offence (part_offends p k x.0) ≡ None)
     × AreFine (q ∷ ps) (k + length (words_of (form_of_part p) x.0)) x.1
 
--- The parts before the i-th have been read, and their places are stored; the i-th begins at word `at`. A first failure
--- of the words from there on is the first failure of all words, and a cut of these words into the other parts gives a
--- cut of all words.
+-- The parts before the i-th have been read, and their places are stored; the i-th begins at word `at`. A first
+-- failure of the words from there on is the first failure of all words, and a cut of these words into the parts from
+-- the i-th on gives a cut of all words.
 pub record IsCutTo (parts : List Part) (i at : ℕ) (places : List ℕ)
     (words : List (List ℕ)) : Type 0 where
   pub within : at ≤ length words

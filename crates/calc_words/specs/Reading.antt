@@ -11,7 +11,7 @@ use Rattle.calc_base.specs.declared.words.WordsFault.TheVariants.{NoMemory}
 use Rattle.calc_words.specs.Commands.{command_of, IsSound}
 use Rattle.calc_words.specs.declared.command.Command.{Command}
 
--- the words first fail at this place, or have their first error there; out of memory says nothing about them
+-- the words first fail at this place, or have their first error there; nothing is required if memory runs out
 abbrev pub IsRefusal : List Entry → List (List ℕ) → WordsFault → Type 0
 IsRefusal entries words (Syntax at) = IsSyntaxPlace entries words at.word at.byte
 IsRefusal entries words (Literal at) =
@@ -27,7 +27,7 @@ IsRead entries words (Ok command) =
     SpellsWithoutOffence entries words (command_of command) × IsSound command
 IsRead entries words (Err fault) = IsRefusal entries words fault
 
--- the refusal is that of the first error; out of memory says nothing about it
+-- the refusal is that of the first error; nothing is required if memory runs out
 abbrev pub IsFirst : Option Offence → WordsFault → Type 0
 IsFirst first (Syntax at) = ⊥
 IsFirst first (Literal at) = first ≡ Some (at.word, at.byte, literal)

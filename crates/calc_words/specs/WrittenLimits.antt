@@ -35,7 +35,7 @@ pub record IsWrittenWord (word : List ℕ) : Type 0 where
   pub letters : (a : ℕ) → Among a word → (1 ≤ a) × (a ≤ greatest_letter)
   pub few : length word ≤ most_letters
 
--- a number of rows or columns, or a level
+-- a number of rows or columns, or a level, from 1 to 64
 pub record IsRowNumber (n : ℕ) : Type 0 where
   pub positive : 1 ≤ n
   pub small : n ≤ most_rows
@@ -45,7 +45,7 @@ abbrev pub IsRowLimit : Option ℕ → Type 0
 IsRowLimit None = Unit {0}
 IsRowLimit (Some n) = IsRowNumber n
 
--- the tableau after which a list continues, if there is one, is in the list
+-- the tableau after which a list continues, if there is one, is a lattice tableau of outer/inner
 abbrev pub IsInList : List ℕ → List ℕ → Option (List ℕ) → Type 0
 IsInList outer inner None = Unit {0}
 IsInList outer inner (Some w) = is_among w (lattice_readings outer inner) ≡ true

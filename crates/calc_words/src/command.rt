@@ -1,4 +1,4 @@
-//! A command.
+//! The commands of the calculator.
 
 use calc_base::Word;
 use expression_reading::{Basis, Formula};
@@ -6,7 +6,7 @@ use partitions::{Factors, Partition};
 use perm_codes::Perm;
 use skew_shapes::{Standard, Tableau};
 
-/// A command.
+/// A command of the calculator, with the values that its words write.
 #[derive(Drop)]
 pub enum Command {
     /// The product of the Schur functions of two to eight shapes, in `rows` variables if that is
@@ -103,7 +103,7 @@ pub enum Command {
         rows: u16,
         perm: Perm,
     },
-    /// Each line of the input.
+    /// Each line of the input, run as a command.
     Batch,
     /// The lines that the generator makes from a seed: `lines` of them.
     Work {

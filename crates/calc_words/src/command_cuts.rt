@@ -22,7 +22,7 @@ pub type Places = [usize; 6];
 struct Wrong {
     /// The number of words from the wrong one on.
     left: usize,
-    /// The byte of that word.
+    /// The byte at which the wrong word fails.
     byte: u64,
 }
 
@@ -80,8 +80,9 @@ pub fn cut(words: &[String], name: &str, parts: &[Part]) -> Result<Places, Words
     }
 }
 
-/// `cut` for parts of which the last is an expression. If one word is left for the expression, it
-/// is not read here, but by the reader of expressions.
+/// The places of the parts after the name of a command, of which the last is an expression;
+/// otherwise the refusal of the words, at the word where they first fail. If one word is left for
+/// the expression, it is not read here, but by the reader of expressions.
 pub fn cut_unread(words: &[String], name: &str, parts: &[Part]) -> Result<Places, WordsFault>
     requires few { length parts.now ≤ 5 }
     requires clear { is_clear parts.now ≡ true }
@@ -126,13 +127,8 @@ pub fn piece_at<'a>(words: &'a [String], places: &Places, i: usize) -> Piece<'a>
         → (result.at ≡ k) × (map string_bytes result.words.now ≡ us) }
     ensures room { result.at + length result.words.now + 1 < 2 ^ 64 }
 {
-    let (at, end) = (places[i], places[i + 1]);
-    if at > end || end > words.len() {
-        return Piece {
-            at: 0,
-            words: &words[..0],
-        };
-    }
+    let end = places[i + 1].min(words.len());
+    let at = places[i].min(end);
     Piece {
         at: at as u64,
         words: &words[at..end],

@@ -16,14 +16,14 @@ const MOST_LETTERS: usize = 256;
 
 const GREATEST_LETTER: u128 = 65_535;
 
-/// Whether a letter after `count` others exceeds a limit.
+/// Whether a letter after `count` other letters exceeds a limit.
 fn is_past(count: usize, value: u128) -> bool
     ensures { result ≡ (is_outside greatest_letter value || (count == most_letters)) }
 {
     value == 0 || value > GREATEST_LETTER || count == MOST_LETTERS
 }
 
-/// The word of letters that have been judged.
+/// The word of letters that have been tested.
 fn word_of(alloc: Global, letters: &[u16]) -> Result<Word, WordsFault>
     ensures ok { IfOk result (λ w. w ≡ letters.now) }
     ensures err { IfErr result (λ fault. fault ≡ WordsFault.NoMemory) }

@@ -1,11 +1,11 @@
-//! The commands, and the words of those on partitions, permutations and words of letters, of batches
-//! and workloads: how they are read.
+//! Reads the words of the commands on partitions, permutations and words of letters, and the words
+//! of `batch` and `work`, as a `Command`.
 //!
 //! What is proved:
 //!
-//! The words of each command that names partitions, factors, permutations, letters or lines: each
-//! reader returns a `Command` if and only if the entry of the grammar takes the words to it without
-//! an error, and otherwise the place where they first fail or the first error.
+//! The words of each command that names partitions, factors, permutations, letters or lines: its
+//! reader returns a `Command` if and only if the grammar takes the words to this command without an
+//! error, and otherwise the place where they first fail or the first error.
 //! `joined_commands_law`: the same holds in a list of commands with different names.
 //! `written_limits_law`: a command whose words have no error is within the limits.
 //!
@@ -22,7 +22,6 @@ mod joined;
 mod letters;
 mod limits;
 mod line;
-mod number_values;
 mod numbers;
 mod offence;
 mod part_values;

@@ -14,8 +14,7 @@ fn is_space(byte: u8) -> bool
     byte == b' ' || byte == b'\t'
 }
 
-/// The byte that is kept for a byte: `?` for one outside ASCII, since no word of a command has
-/// either.
+/// The byte that is kept for a byte: `?` for one outside ASCII. No word of a command has either.
 fn kept_byte(byte: u8) -> u8
     ensures { result ≡ seen_byte byte }
 {
@@ -30,7 +29,7 @@ fn add_byte(word: &mut String, byte: u8) -> Result<(), NoMemory>
     Ok(())
 }
 
-/// Appends the word to the others unless it is empty.
+/// Appends the word to the list of words unless it is empty.
 fn end_word(words: &mut Vec<String>, word: String) -> Result<(), NoMemory>
     ensures { OnOk result (map string_bytes words.new.items
         ≡ map string_bytes words.old.items ++ word_with_bytes (string_bytes word)) }
@@ -71,7 +70,7 @@ pub fn without_return(line: &[u8]) -> &[u8]
     if *last == b'\r' { front } else { line }
 }
 
-/// Whether words are skipped: there is none, or the first begins with `#`.
+/// Whether a line of these words is skipped: it has no word, or the first word begins with `#`.
 pub fn are_passed_over(words: &[String]) -> bool
     ensures { result ≡ is_passed_over (map string_bytes words.now) }
 {

@@ -3,17 +3,7 @@ ghost use Rattle.std.specs.Prelude.{◌≡◌};
 ghost use Rattle.calc_words.specs.Faults.{fault_of};
 
 use calc_base::{Place, WordsFault};
-
-/// The kind of the error of a number.
-#[derive(Clone, Copy, Debug)]
-pub enum Kind {
-    /// The number exceeds 2^127 - 1.
-    Literal,
-    /// The number exceeds a limit.
-    Range,
-    /// The number is not allowed in the list: it is out of order, for example.
-    Shape,
-}
+pub use expression_reading::Kind;
 
 /// The error of words that are no command, at this byte of this word.
 pub fn syntax(word: u64, byte: u64) -> WordsFault

@@ -1,7 +1,8 @@
 //! The values of the parts of a command, or their first error.
 ghost use Rattle.std.specs.Prelude.{◌≡◌, ◌≤◌, ◌<◌, ◌+◌, ◌^◌, [], ◌∷◌, ℕ, List, map, length};
-ghost use Rattle.std.specs.Prelude.{string_bytes, codes};
-ghost use Rattle.sym_model.specs.CommandOffence.{first_offence, most_permuted};
+ghost use Rattle.std.specs.Prelude.{string_bytes, codes, slice_get, Some};
+ghost use Rattle.sym_model.specs.CommandOffence.{first_offence, offences_by, rows_rule};
+ghost use Rattle.sym_model.specs.CommandOffence.{is_outside as is_outside_of, most_rows};
 ghost use Rattle.sym_model.specs.Form.{Written, May, word, number, target, words_of};
 ghost use Rattle.sym_model.specs.Grammar.{all_bases};
 ghost use Rattle.expression_reading.specs.Trees.{basis_of};
@@ -11,6 +12,7 @@ ghost use Rattle.sym_model.specs.WordForms.{optional, rows_words, form_words, pa
 ghost use Rattle.sym_model.specs.WordForms.{permutation_words, factors_words, partition};
 ghost use Rattle.sym_model.specs.WordForms.{letters as letters_said, numbers as numbers_said};
 ghost use Rattle.sym_model.specs.WordForms.{factors as factors_said, row_limit, is_one_line};
+ghost use Rattle.calc_words.specs.NumberRuns.{narrow};
 ghost use Rattle.calc_words.specs.Parts.{part_offends};
 ghost use Rattle.calc_words.specs.Reading.{IsJudged};
 ghost use Rattle.calc_words.specs.declared.word_parts.Part.TheVariants.{Rows, MaybeRows, Bound};
@@ -21,9 +23,8 @@ ghost use Rattle.calc_words.specs.declared.word_parts.Part.TheVariants.{Factors 
 
 use crate::factors::read_factors;
 use crate::letters::read_letters;
-use crate::number_values::{lines_number, rows_number, seed_number};
 use crate::numbers::value_of;
-use crate::offence::syntax;
+use crate::offence::{Kind, offence, syntax};
 use crate::partition_list::read_partition;
 use crate::permutation_list::{MOST_DOUBLED, MOST_PERMUTED, read_permutation};
 use crate::splitting::{first_target, list_first};
@@ -31,6 +32,15 @@ use calc_base::{Basis, Word, WordsFault};
 use partitions::{Factors, Partition};
 use perm_codes::Perm;
 use std::alloc::Global;
+
+/// The greatest number of rows or columns, and the greatest level.
+const MOST_ROWS: u128 = 64;
+
+/// The greatest number of lines.
+const MOST_LINES: u128 = 10_000;
+
+/// The greatest seed.
+const GREATEST_SEED: u128 = 65_536;
 
 /// Whether the word for the one-line form, `-m`, is present.
 pub fn maybe_form_of(words: &[String]) -> bool
@@ -40,7 +50,7 @@ pub fn maybe_form_of(words: &[String]) -> bool
     !words.is_empty()
 }
 
-/// The target of this letter.
+/// The target whose letter is the word.
 pub fn target_of(words: &[String]) -> Basis
     ensures { (x : Written (word (target all_bases)))
         → map string_bytes words.now ≡ words_of (word (target all_bases)) x
@@ -62,6 +72,37 @@ pub fn text_of(words: &[String]) -> &[u8]
     }
 }
 
+/// The number that is the word at this place, as `value_of` reads it; `None` also if there is no
+/// such word.
+fn number_at(words: &[String], place: usize) -> Option<u128>
+    ensures { (w : List ℕ) → slice_get (map string_bytes words.now) place ≡ Some w
+        → result ≡ narrow (decimal_value w) }
+{
+    value_of(words.get(place)?.as_bytes())
+}
+
+/// Whether a number of rows or columns, or a level, is not from 1 to 64.
+fn is_outside(value: u128) -> bool
+    ensures { result ≡ is_outside_of most_rows value }
+{
+    value == 0 || value > MOST_ROWS
+}
+
+/// Checks the value of a word as a number of rows or columns, or a level, and returns it or its
+/// error.
+fn rows_number(word: u64, number: Option<u128>) -> Result<u16, WordsFault>
+    ensures { (a : ℕ) → number ≡ narrow a
+        → IsJudged (λ n. n ≡ a) (first_offence (offences_by rows_rule word (a ∷ []))) result }
+{
+    let Some(value) = number else {
+        return Err(offence(word, Kind::Literal));
+    };
+    if is_outside(value) {
+        return Err(offence(word, Kind::Range));
+    }
+    Ok(value as u16)
+}
+
 /// Reads `-r` and a number of rows, of which `-r` is word `at` of the command.
 pub(crate) fn rows_of(at: u64, words: &[String]) -> Result<u16, WordsFault>
     requires { at + length words.now + 1 < 2 ^ 64 }
@@ -69,13 +110,10 @@ pub(crate) fn rows_of(at: u64, words: &[String]) -> Result<u16, WordsFault>
         → (at ≡ k) × (map string_bytes words.now ≡ words_of rows_words x)
         → IsJudged (λ n. n ≡ decimal_value x.1) (first_offence (part_offends Rows k x)) result }
 {
-    let Some(digits) = words.get(1) else {
-        return Err(syntax(at, 0));
-    };
-    rows_number(at + 1, value_of(digits.as_bytes()))
+    rows_number(at + 1, number_at(words, 1))
 }
 
-/// The number of rows, if it is present.
+/// Reads `-r` and a number of rows, of which `-r` is word `at` of the command, or no word.
 pub(crate) fn maybe_rows_of(at: u64, words: &[String]) -> Result<Option<u16>, WordsFault>
     requires { at + length words.now + 1 < 2 ^ 64 }
     ensures { (k : ℕ) (x : Written (optional rows_words))
@@ -95,10 +133,7 @@ pub(crate) fn bound_of(at: u64, words: &[String]) -> Result<u16, WordsFault>
         → (at ≡ k) × (map string_bytes words.now ≡ words_of (word number) x)
         → IsJudged (λ n. n ≡ decimal_value x) (first_offence (part_offends Bound k x)) result }
 {
-    let Some(digits) = words.first() else {
-        return Err(syntax(at, 0));
-    };
-    rows_number(at, value_of(digits.as_bytes()))
+    rows_number(at, number_at(words, 0))
 }
 
 /// Reads word `at` of the command as a number of lines.
@@ -107,10 +142,13 @@ pub(crate) fn lines_of(at: u64, words: &[String]) -> Result<u16, WordsFault>
         → (at ≡ k) × (map string_bytes words.now ≡ words_of (word number) x)
         → IsJudged (λ n. n ≡ decimal_value x) (first_offence (part_offends Lines k x)) result }
 {
-    let Some(digits) = words.first() else {
-        return Err(syntax(at, 0));
+    let Some(value) = number_at(words, 0) else {
+        return Err(offence(at, Kind::Literal));
     };
-    lines_number(at, value_of(digits.as_bytes()))
+    if value == 0 || value > MOST_LINES {
+        return Err(offence(at, Kind::Range));
+    }
+    Ok(value as u16)
 }
 
 /// Reads word `at` of the command as a seed.
@@ -119,10 +157,13 @@ pub(crate) fn seed_of(at: u64, words: &[String]) -> Result<u32, WordsFault>
         → (at ≡ k) × (map string_bytes words.now ≡ words_of (word number) x)
         → IsJudged (λ n. n ≡ decimal_value x) (first_offence (part_offends Seed k x)) result }
 {
-    let Some(digits) = words.first() else {
-        return Err(syntax(at, 0));
+    let Some(value) = number_at(words, 0) else {
+        return Err(offence(at, Kind::Literal));
     };
-    seed_number(at, value_of(digits.as_bytes()))
+    if value > GREATEST_SEED {
+        return Err(offence(at, Kind::Range));
+    }
+    Ok(value as u32)
 }
 
 /// Reads words as a partition; the first of them is word `at` of the command.
@@ -145,7 +186,8 @@ pub(crate) fn word_of(alloc: Global, at: u64, words: &[String]) -> Result<Word, 
     read_letters(alloc, at, words)
 }
 
-/// Reads words as a permutation; the first of them is word `at` of the command.
+/// Reads words as a permutation of at most 16 letters; the first of them is word `at` of the
+/// command.
 pub(crate) fn letters_of(alloc: Global, at: u64, words: &[String]) -> Result<Perm, WordsFault>
     requires { at + length words.now + 1 < 2 ^ 64 }
     ensures { (k : ℕ) (x : Written permutation_words)

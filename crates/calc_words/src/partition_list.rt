@@ -34,7 +34,7 @@ fn part_offence(count: usize, cells: u16, last: Option<u16>, value: u128) -> Opt
     }
 }
 
-/// The partition of numbers that have been judged.
+/// The partition of numbers that have been tested.
 fn partition_of(alloc: Global, numbers: &[u16]) -> Result<Partition, WordsFault>
     requires { IsWithinLimits (without_last_zeros numbers.now) }
     ensures ok { IfOk result (λ p. p ≡ without_last_zeros numbers.now) }

@@ -18,7 +18,8 @@ use std::alloc::Global;
 /// The most letters of a permutation that is written, and the greatest of them.
 pub(crate) const MOST_PERMUTED: usize = 16;
 
-/// The most letters, and the greatest letter, if the double Schubert polynomial is a factor.
+/// The most letters of a permutation whose double Schubert polynomial is a factor, and the greatest
+/// of them.
 pub(crate) const MOST_DOUBLED: usize = 8;
 
 /// Whether the letter is among these letters.
@@ -43,7 +44,7 @@ fn letter_offence(most: usize, count: usize, before: &[u16], value: u128) -> Opt
     None
 }
 
-/// The permutation of letters that have been judged.
+/// The permutation of letters that have been tested.
 fn permutation_of(alloc: Global, letters: &[u16]) -> Result<Perm, WordsFault>
     requires { IsShortPermutation letters.now }
     ensures ok { IfOk result (λ w. w ≡ kept letters.now) }

@@ -27,8 +27,12 @@ pub fn read_schubert(alloc: Global, words: &[String]) -> Result<Command, WordsFa
     Ok(Command::Schubert { perm })
 }
 
-/// Reads the words of `growth`: that word and the letters of a permutation. Words are refused as
-/// `read_schubert` says.
+/// Reads the words of `growth`: that word and the letters of a permutation.
+///
+/// Words that are no such command are refused as `Syntax`, at the word where they first fail.
+/// Otherwise the first error is refused: a letter over 2^127 - 1 as `Literal`; one over 16, or the
+/// 17th of a permutation, as `Range`; one that is 0, greater than the number of letters of its
+/// permutation, or equal to an earlier one of it, as `Shape`.
 pub fn read_growth(alloc: Global, words: &[String]) -> Result<Command, WordsFault>
     ensures { IsRead (growth_entry ∷ []) (map string_bytes words.now) result }
 {
@@ -38,8 +42,12 @@ pub fn read_growth(alloc: Global, words: &[String]) -> Result<Command, WordsFaul
     Ok(Command::Growth { perm })
 }
 
-/// Reads the words of `schubmult`: that word and two permutations with `-` between them. Words are
-/// refused as `read_schubert` says.
+/// Reads the words of `schubmult`: that word and two permutations with `-` between them.
+///
+/// Words that are no such command are refused as `Syntax`, at the word where they first fail.
+/// Otherwise the first error is refused: a letter over 2^127 - 1 as `Literal`; one over 16, or the
+/// 17th of a permutation, as `Range`; one that is 0, greater than the number of letters of its
+/// permutation, or equal to an earlier one of it, as `Shape`.
 pub fn read_schubmult(alloc: Global, words: &[String]) -> Result<Command, WordsFault>
     ensures { IsRead (schubmult_entry ∷ []) (map string_bytes words.now) result }
 {
@@ -52,8 +60,12 @@ pub fn read_schubmult(alloc: Global, words: &[String]) -> Result<Command, WordsF
     Ok(Command::Schubmult { left, right })
 }
 
-/// Reads the words of `dschubmult`: that word and two permutations with `-` between them. Words are
-/// refused as `read_schubert` says, with 8 in the place of 16.
+/// Reads the words of `dschubmult`: that word and two permutations with `-` between them.
+///
+/// Words that are no such command are refused as `Syntax`, at the word where they first fail.
+/// Otherwise the first error is refused: a letter over 2^127 - 1 as `Literal`; one over 8, or the
+/// ninth of a permutation, as `Range`; one that is 0, greater than the number of letters of its
+/// permutation, or equal to an earlier one of it, as `Shape`.
 pub fn read_dschubmult(alloc: Global, words: &[String]) -> Result<Command, WordsFault>
     ensures { IsRead (dschubmult_entry ∷ []) (map string_bytes words.now) result }
 {
@@ -67,8 +79,12 @@ pub fn read_dschubmult(alloc: Global, words: &[String]) -> Result<Command, Words
 }
 
 /// Reads the words of `stanley`: that word, `-r` and a number of variables, and the letters of a
-/// permutation. Words are refused as `read_schubert` says, and a number of variables that is not
-/// from 1 to 64 as `Range`.
+/// permutation.
+///
+/// Words that are no such command are refused as `Syntax`, at the word where they first fail.
+/// Otherwise the first error is refused: a number over 2^127 - 1 as `Literal`; a number of
+/// variables that is not from 1 to 64, a letter over 16, and the 17th letter, as `Range`; a letter
+/// that is 0, greater than the number of letters, or equal to an earlier one, as `Shape`.
 pub fn read_stanley(alloc: Global, words: &[String]) -> Result<Command, WordsFault>
     ensures { IsRead (stanley_entry ∷ []) (map string_bytes words.now) result }
 {

@@ -70,8 +70,12 @@ pub fn read_skew(alloc: Global, words: &[String]) -> Result<Command, WordsFault>
     })
 }
 
-/// Reads the words of `coef`: that word and three partitions with `-` between them. Words are
-/// refused as `read_skew` says.
+/// Reads the words of `coef`: that word and three partitions with `-` between them.
+///
+/// Words that are no such command are refused as `Syntax`, at the word where they first fail.
+/// Otherwise the first error is refused: a number over 2^127 - 1 as `Literal`; the 65th number of a
+/// partition, and the one at which its sum exceeds 512, as `Range`; a number of a partition greater
+/// than the one before it as `Shape`.
 pub fn read_coef(alloc: Global, words: &[String]) -> Result<Command, WordsFault>
     ensures { IsRead (coef_entry ∷ []) (map string_bytes words.now) result }
 {
@@ -92,8 +96,12 @@ pub fn read_coef(alloc: Global, words: &[String]) -> Result<Command, WordsFault>
     Ok(Command::Coef { outer, left, right })
 }
 
-/// Reads the words of `coprod`: that word and the numbers of a partition. Words are refused as
-/// `read_skew` says.
+/// Reads the words of `coprod`: that word and the numbers of a partition.
+///
+/// Words that are no such command are refused as `Syntax`, at the word where they first fail.
+/// Otherwise the first error is refused: a number over 2^127 - 1 as `Literal`; the 65th number of a
+/// partition, and the one at which its sum exceeds 512, as `Range`; a number of a partition greater
+/// than the one before it as `Shape`.
 pub fn read_coprod(alloc: Global, words: &[String]) -> Result<Command, WordsFault>
     ensures { IsRead (coprod_entry ∷ []) (map string_bytes words.now) result }
 {

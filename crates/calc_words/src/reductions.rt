@@ -11,8 +11,13 @@ use calc_base::WordsFault;
 use std::alloc::Global;
 
 /// Reads the words of `quantum`: that word, a number of rows, a number of columns, and two to eight
-/// partitions with `-` between them. Words are refused as `read_mult` says,
-/// and a number of columns as one of rows.
+/// partitions with `-` between them.
+///
+/// Words that are no such command are refused as `Syntax`, at the word where they first fail.
+/// Otherwise the first error is refused: a number over 2^127 - 1 as `Literal`; a number of rows or
+/// columns that is not from 1 to 64, the 65th number of a partition, the one at which its sum
+/// exceeds 512, and the `-` before a ninth partition, as `Range`; a number of a partition greater
+/// than the one before it as `Shape`.
 pub fn read_quantum(alloc: Global, words: &[String]) -> Result<Command, WordsFault>
     ensures { IsRead (quantum_entry ∷ []) (map string_bytes words.now) result }
 {
@@ -32,7 +37,13 @@ pub fn read_quantum(alloc: Global, words: &[String]) -> Result<Command, WordsFau
 }
 
 /// Reads the words of `fusion`: that word, a number of rows, a level, and two to eight partitions
-/// with `-` between them. Words are refused as `read_mult` says, and a level as a number of rows.
+/// with `-` between them.
+///
+/// Words that are no such command are refused as `Syntax`, at the word where they first fail.
+/// Otherwise the first error is refused: a number over 2^127 - 1 as `Literal`; a number of rows or
+/// a level that is not from 1 to 64, the 65th number of a partition, the one at which its sum
+/// exceeds 512, and the `-` before a ninth partition, as `Range`; a number of a partition greater
+/// than the one before it as `Shape`.
 pub fn read_fusion(alloc: Global, words: &[String]) -> Result<Command, WordsFault>
     ensures { IsRead (fusion_entry ∷ []) (map string_bytes words.now) result }
 {

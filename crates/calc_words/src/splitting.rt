@@ -1,4 +1,4 @@
-//! Words at the front of others: a given word, a number, a list of numbers.
+//! Words at the front of other words: a given word, a number, a list of numbers.
 ghost use Rattle.std.specs.Prelude.{◌≡◌, false, ◌++◌, ◌∷◌, map, string_bytes, MatchOption};
 ghost use Rattle.sym_model.specs.Form.{EachOf, is_letter_of};
 ghost use Rattle.sym_model.specs.Grammar.{all_bases};
@@ -45,7 +45,7 @@ pub(crate) fn first_number(words: &[String]) -> Option<(&String, &[String])>
     Some((first, rest))
 }
 
-/// The target of this letter, if it is one.
+/// The target that has this word as its letter, if there is one.
 fn target_named(word: &str) -> Option<Basis>
     ensures { MatchOption result (is_letter_of all_bases word.now ≡ false)
         (λ target. word.now ≡ letter (basis_of target)) }
@@ -60,7 +60,8 @@ fn target_named(word: &str) -> Option<Basis>
     }
 }
 
-/// The target of the first word and the words after it, if it is the letter of a target.
+/// The target that has the first word as its letter, if there is one, and the words after that
+/// word.
 pub(crate) fn first_target(words: &[String]) -> Option<(Basis, &[String])>
     ensures { MatchOption result (BeginsOtherwise IsLetter (map string_bytes words.now))
         (λ p. map string_bytes words.now ≡ letter (basis_of p.0) ∷ map string_bytes p.1.now) }

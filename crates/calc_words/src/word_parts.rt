@@ -1,5 +1,5 @@
-//! The parts of the words of a command, and the number of words at the front of others that each
-//! takes.
+//! The parts of the words of a command, and the number of words at the front of a list that each
+//! part takes.
 ghost use Rattle.std.specs.Prelude.{ℕ, ◌≡◌, ◌++◌, ◌<◌, map, length, string_bytes, IfOk, IfErr};
 ghost use Rattle.std.specs.Prelude.{IsTrue, ◌↔◌};
 ghost use Rattle.sym_model.specs.Form.{EachOf, word, number, target, formula};
@@ -43,9 +43,9 @@ pub enum Part {
     Letters,
     /// The letters of a permutation whose double Schubert polynomial is a factor.
     Doubled,
-    /// Two partitions or more, with `-` between each two.
+    /// Two or more partitions, separated by `-`.
     Factors,
-    /// The rows of a tableau, with `/` between each two; `.` is a row without numbers.
+    /// The rows of a tableau, separated by `/`; `.` is a row without numbers.
     Tableau,
     /// `-from` and the rows of a tableau, or no word.
     MaybeFrom,
@@ -55,7 +55,7 @@ pub enum Part {
     Expression,
 }
 
-/// One, if the first word is `text`. The error is the number of words from the wrong one on.
+/// Returns 1 if the first word is `text`. The error is the number of words from the wrong one on.
 fn the_word(words: &[String], text: &str) -> Result<usize, usize>
     ensures ok { IfOk result (λ n. Takes (the text.now) (map string_bytes words.now) n) }
     ensures wrong { IfErr result (λ left.
@@ -77,8 +77,8 @@ fn maybe_form(words: &[String]) -> usize
     }
 }
 
-/// Two, if the words begin with `-r` and a number. The error is the number of words from the wrong
-/// one on.
+/// Returns 2 if the words begin with `-r` and a number. The error is the number of words from the
+/// wrong one on.
 fn rows(words: &[String]) -> Result<usize, usize>
     ensures ok { IfOk result (λ n. Takes rows_words (map string_bytes words.now) n) }
     ensures wrong { IfErr result (λ left. StopsIn rows_words (map string_bytes words.now) left) }
@@ -108,7 +108,7 @@ fn maybe_rows(words: &[String]) -> Result<usize, usize>
     }
 }
 
-/// One, if the first word is a number. The error is the number of words from the wrong one on.
+/// Returns 1 if the first word is a number. The error is the number of words from the wrong one on.
 fn one_number(words: &[String]) -> Result<usize, usize>
     ensures ok { IfOk result (λ n. Takes (word number) (map string_bytes words.now) n) }
     ensures wrong { IfErr result (λ left. StopsIn (word number) (map string_bytes words.now) left) }
@@ -163,8 +163,8 @@ fn pieces(words: &[String]) -> (&[String], &[String])
     words.split_at(words.len())
 }
 
-/// The number of words at the front that are two or more lists of numbers, with `-` between each
-/// two. The error is the number of words from the wrong one on.
+/// The number of words at the front that are two or more lists of numbers, separated by `-`. The
+/// error is the number of words from the wrong one on.
 fn factors(words: &[String]) -> Result<usize, usize>
     ensures ok { IfOk result (λ n. Takes factors_words (map string_bytes words.now) n) }
     ensures wrong { IfErr result (λ left. StopsIn factors_words (map string_bytes words.now) left) }
@@ -222,7 +222,7 @@ fn maybe_from(words: &[String]) -> Result<usize, usize>
     Ok(1 + rows)
 }
 
-/// One, if the first word is the letter of a target. The error is the number of words from the
+/// Returns 1 if the first word is the letter of a target. The error is the number of words from the
 /// wrong one on.
 fn letter(words: &[String]) -> Result<usize, usize>
     ensures ok { IfOk result (λ n. Takes (word (target all_bases)) (map string_bytes words.now) n) }
@@ -235,7 +235,8 @@ fn letter(words: &[String]) -> Result<usize, usize>
     }
 }
 
-/// Takes an expression.
+/// Returns 1 if the first word is an expression. The error is the number of words from the wrong
+/// one on.
 #[inline(never)]
 fn expression(words: &[String]) -> Result<usize, usize>
     ensures ok { IfOk result (λ n. Takes (word formula) (map string_bytes words.now) n) }

@@ -13,7 +13,7 @@ checked-tells z = by (fits_128_bits z) refl
     by true e = refl
     by false e = refused_size z (ap (λ b. where_fits b z) e)
 
--- if a result is the checked z or else an error, an `Ok` is z, and an error means that z does not fit
+-- if r is the checked z as an `Ok`, or else the error e, then an `Ok` holds z, and an error means that |z| ≥ 2^127
 pub checked-answers : {E : Type 0} (z : ℤ) (o : Option ℤ) (e : E) (r : Result ℤ E) → o ≡ checked_i128 z → r ≡ ok_or o e
     → MatchResult r (λ w. w ≡ z) (λ _. 2 ^ 127 ≤ nat_abs z)
 checked-answers {E} z o e r is answer =

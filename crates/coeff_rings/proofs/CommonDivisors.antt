@@ -13,7 +13,7 @@ use Rattle.coeff_rings.specs.Proved.Divisors.{divides_other_factor, coprime_from
 use Rattle.coeff_rings.specs.Proved.Fractions.{unsigned_abs-negation}
 use Rattle.coeff_rings.specs.Proved.FractionAnswers.{greatest_common_divisor_comm}
 
--- ---- three numbers, one the sum or the difference of the others, and their common divisors
+-- ---- three numbers, one the sum or the difference of the other two, and their common divisors
 
 -- z is a multiple of d
 record Multiple (z : ℤ) (d : ℕ) : Type 0 where
@@ -62,7 +62,8 @@ Balances-difference left right total e = record {
 
 -- ---- common divisors of the sum and the least common denominator
 
--- a divisor d of u that divides left if it divides right is 1
+-- let left = n·v and right = m·u, with u a divisor of den, n coprime to den, and u coprime to v: a divisor d of u that
+-- divides left if it divides right is 1
 half : (n m den u v left right : ℕ) → IsGcd n den 1 → u ∣ den → IsGcd u v 1 → left ≡ n * v → right ≡ m * u
     → (d : ℕ) → d ∣ u → (d ∣ right → d ∣ left) → d ∣ 1
 half n m den u v left right lowest whole apart l r d p balances =

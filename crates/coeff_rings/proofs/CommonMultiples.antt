@@ -1,4 +1,4 @@
--- Least common multiples, and the least common denominator as it is computed.
+-- Least common multiples, and the computation of the least common denominator.
 use Rattle.std.proofs.Common.{◌≡◌, ℕ, ◌*◌, ◌/◌, ◌^◌, ◌<◌, ◌≤◌, sym, ◌∙◌, ap, subst, arith, pos, to_z, of_z, to_z-of_z, ℤ, FitsSigned}
 use Rattle.std.specs.Int.{w128}
 use Rattle.std.proofs.lemmas.Int.{to_z_pos, ints}
@@ -40,7 +40,7 @@ over_first a b g d k e f h =
     let turn : a * k ≡ b * d = rw (← e, ← f) (omega arith) in
     ap (λ n. n / d) turn ∙ mul-div_cancel b h
 
--- the least common multiple of d and k, divided by d, is k divided by their greatest common divisor
+-- for positive d and k, lcm(d, k)/d = k/gcd(d, k)
 pub lcm-over_first : (d k : ℕ) → 0 < d → 0 < k → lcm d k / d ≡ k / gcd d k
 lcm-over_first d k hd hk =
     let p = parts_of d k hd hk in over_first _ _ (gcd d k) d k p.first p.second hd

@@ -70,7 +70,7 @@ checked_fraction-num r e = ap (λ (t : Bool). where_fits t r) (sym (and_left (fi
 pub checked_fraction-den : (r : Fraction) → 2 ^ 127 ≤ r.1 → None ≡ checked_fraction r
 checked_fraction-den r h = ap (λ (t : Bool). where_fits t r) (sym (and_right (fits_128_bits r.0) (nat_lt r.1 (2 ^ 127)) (le-ltb r.1 (2 ^ 127) h)))
 
--- an absolute value over 2^127 does not fit, with either sign
+-- a number with an absolute value over 2^127 does not fit 128 bits, whatever its sign
 pub signed-large : (s : Bool) (n : ℕ) → 2 ^ 127 < n → fits_128_bits (signed s n) ≡ false
 signed-large s n h = false_from_ne_true (fits_128_bits (signed s n)) (λ t. too_large s n (fits_from_test (signed s n) t) h)
   where
@@ -110,8 +110,8 @@ part_divides n g p = subst (λ (v : ℕ). n / g ∣ v) (div-mul_cancel g p) (dvd
 coprime-parts : (a b x y : ℕ) → IsGcd a b 1 → x ∣ a → y ∣ b → IsGcd x y 1
 coprime-parts a b x y c p q = coprime_from x y (λ k u v. c.2 k (dvd_trans k u p) (dvd_trans k v q))
 
--- two fractions in lowest terms, after each numerator is cancelled with the other denominator, have a product in
--- lowest terms
+-- if n/d and m/e are in lowest terms, g = gcd(n, e) and h = gcd(m, d), then (n/g)·(m/h) and (d/h)·(e/g) are coprime,
+-- and the latter is positive
 cancelled_parts : (n d m e g h : ℕ) → 0 < d → 0 < e → IsGcd n d 1 → IsGcd m e 1 → IsGcd n e g → IsGcd m d h
     → (0 < (d / h) * (e / g)) × IsGcd ((n / g) * (m / h)) ((d / h) * (e / g)) 1
 cancelled_parts n d m e g h sd se nd me ne md = (
@@ -159,7 +159,7 @@ product_den-large s n d m e g h sd se nd me ne md large =
     checked_fraction-den (of_sizes s ((n / g) * (m / h)) ((d / h) * (e / g))) large
     ∙ ap checked_fraction (lowest_terms-product s n d m e g h sd se nd me ne md)
 
--- a fraction is determined by the signs and the absolute values of its two numbers
+-- for den ≠ 0, the fraction ±|num|/|den|, with - if the signs differ, is num/den
 pub checked_fraction_of-sizes : (num den : ℤ) → den ≢ pos 0
     → checked_fraction (lowest_terms (signed (signs_differ num den) (unsigned_abs num)) (unsigned_abs den)) ≡ checked_fraction_of num den
 checked_fraction_of-sizes num den other =
@@ -188,7 +188,8 @@ size_positive b l other = from b.0 (λ e. other (num-zero b l e))
     from (pos (suc n)) h = omega arith
     from (negsuc n) h = omega arith
 
--- num = (n/g)·(m/h) and den = (d/h)·(e/g) are coprime, and den is positive
+-- if n/d and m/e are in lowest terms, g = gcd(n, e) and h = gcd(m, d), then num = (n/g)·(m/h) and den = (d/h)·(e/g) are
+-- coprime, and den is positive
 pub product-parts : (n d m e g h num den : ℕ) → 0 < d → 0 < e → IsGcd n d 1 → IsGcd m e 1 → IsGcd n e g → IsGcd m d h
     → num ≡ (n / g) * (m / h) → den ≡ (d / h) * (e / g) → (0 < den) × IsGcd num den 1
 product-parts n d m e g h num den sd se nd me ne md en ed =
@@ -203,7 +204,8 @@ product-answer s n d m e g h num den sd se nd me ne md en ed =
     ap (λ (k : ℕ). checked_fraction (of_sizes s k den)) en ∙ ap (λ (k : ℕ). checked_fraction (of_sizes s ((n / g) * (m / h)) k)) ed
     ∙ ap checked_fraction (lowest_terms-product s n d m e g h sd se nd me ne md)
 
--- if the steps of a product or a quotient compute these numbers, its result is the checked product or quotient
+-- if |a| = n/d and |b| = m/e, and s says whether the signs differ, then the checked fraction ±(n·m)/(d·e) is the checked
+-- product of a and b
 pub product-steps : (a b : Fraction) (s : Bool) (n d m e : ℕ) (answer : Option Fraction) → s ≡ signs_differ a.0 b.0
     → n ≡ unsigned_abs a.0 → d ≡ a.1 → m ≡ unsigned_abs b.0 → e ≡ b.1
     → answer ≡ checked_fraction (lowest_terms (signed s (n * m)) (d * e)) → answer ≡ checked_fraction_product a b
@@ -238,7 +240,7 @@ zero-tells n d r h e = (
   λ z. eq-eqb (cast_unsigned w128 n) 0 (ap (λ (q : Fraction). cast_unsigned w128 q.0) (e ∙ z)),
 )
 
--- if the steps of `Frac::new` compute these numbers, its result is the checked fraction num/den
+-- if n = |num| and d = |den| ≠ 0, and s says whether the signs differ, then the checked fraction ±n/d is num/den checked
 pub new-steps : (num den : ℤ) (s : Bool) (n d : ℕ) (answer : Option Fraction) → (cast_unsigned w128 den ≡ 0 → ⊥) → s ≡ signs_differ num den
     → n ≡ unsigned_abs num → d ≡ unsigned_abs den → answer ≡ checked_fraction (lowest_terms (signed s n) d) → answer ≡ checked_fraction_of num den
 new-steps num den s n d answer other ps pn pd is =

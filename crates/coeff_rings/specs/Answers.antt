@@ -6,7 +6,8 @@ use Rattle.coeff_rings.specs.Fractions.{fraction_negation, fraction_quotient}
 use Rattle.coeff_rings.specs.Room.{HasRoomForSum, HasRoomForProduct, HasRoomForQuotient}
 use Rattle.coeff_rings.specs.Room.{HasRoomForNegation}
 
--- a result is the sum of the values; there is a result if one of the values is 0, or if the sum has room
+-- a result is the sum of the values; it is b if a is 0 and a if b is 0, and there is one if d and |a|·d + |b|·d are
+-- below 2^127 for some common denominator d
 pub record AnswersSum {A : Type 0} (value_of : A → Fraction) (a b : A)
     (answer : Option A) : Type 0 where
   pub value : IfSome answer (λ s. value_of s ≡ fraction_sum (value_of a) (value_of b))
@@ -14,25 +15,28 @@ pub record AnswersSum {A : Type 0} (value_of : A → Fraction) (a b : A)
   pub zero_right : value_of b ≡ whole (pos 0) → answer ≡ Some a
   pub room : (d : ℕ) → HasRoomForSum d (value_of a) (value_of b) → IsSome answer
 
--- a result is the difference of the values; there is a result if the difference has room
+-- a result is the difference of the values; there is one if d and |a|·d + |b|·d are below 2^127 for some common
+-- denominator d
 pub record AnswersDifference {A : Type 0} (value_of : A → Fraction) (a b : A)
     (answer : Option A) : Type 0 where
   pub value : IfSome answer (λ s. value_of s ≡ fraction_difference (value_of a) (value_of b))
   pub room : (d : ℕ) → HasRoomForSum d (value_of a) (value_of b) → IsSome answer
 
--- a result is the product of the values; there is a result if the product has room
+-- a result is the product of the values; there is one if d·e and |a|·d·|b|·e are below 2^127 for some multiples d
+-- and e of the denominators of a and b
 pub record AnswersProduct {A : Type 0} (value_of : A → Fraction) (a b : A)
     (answer : Option A) : Type 0 where
   pub value : IfSome answer (λ s. value_of s ≡ fraction_product (value_of a) (value_of b))
   pub room : (d e : ℕ) → HasRoomForProduct d e (value_of a) (value_of b) → IsSome answer
 
--- a result is the negation of the value; there is a result if the negation has room
+-- a result is the negation of the value; there is one if the absolute value of the numerator is below 2^127
 pub record AnswersNegation {A : Type 0} (value_of : A → Fraction) (a : A)
     (answer : Option A) : Type 0 where
   pub value : IfSome answer (λ s. value_of s ≡ fraction_negation (value_of a))
   pub room : HasRoomForNegation (value_of a) → IsSome answer
 
--- a result is the quotient of the values; there is a result if the quotient has room
+-- a result is the quotient of the values; there is one if d·e and |a|·d·|1/b|·e are below 2^127 for some multiples d
+-- and e of the denominators of a and 1/b
 pub record AnswersQuotient {A : Type 0} (value_of : A → Fraction) (a b : A)
     (answer : Option A) : Type 0 where
   pub value : IfSome answer (λ s. value_of s ≡ fraction_quotient (value_of a) (value_of b))

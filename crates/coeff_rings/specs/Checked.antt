@@ -9,7 +9,7 @@ use Rattle.coeff_rings.specs.Fractions.{whole, InLowestTerms, greatest_common_di
 use Rattle.coeff_rings.specs.Fractions.{fraction_difference, fraction_product, fraction_negation}
 use Rattle.coeff_rings.specs.Fractions.{fraction_quotient}
 
--- a value if a test of it holds, None otherwise
+-- the value x if the test `fits` is true, None otherwise
 abbrev pub where_fits : {A : Type 0} → Bool → A → Option A
 where_fits fits x = if fits then Some x else None
 
@@ -58,13 +58,13 @@ four_numbers_fit a b total =
     fits_128_bits (numerator_over_common a b) && fits_128_bits (numerator_over_common b a)
     && fits_128_bits total && fits_128_bits (pos (common_denominator a b))
 
--- the sum; None if one of its four numbers does not fit i128
+-- the sum; None if one of the numbers of `four_numbers_fit` does not fit i128
 abbrev pub checked_fraction_sum : Fraction → Fraction → Option Fraction
 checked_fraction_sum a b =
     where_fits (four_numbers_fit a b (numerator_over_common a b +ℤ numerator_over_common b a))
     (fraction_sum a b)
 
--- the difference; None if one of its four numbers does not fit i128
+-- the difference; None if one of the numbers of `four_numbers_fit` does not fit i128
 abbrev pub checked_fraction_difference : Fraction → Fraction → Option Fraction
 checked_fraction_difference a b =
     where_fits (four_numbers_fit a b (numerator_over_common a b -ℤ numerator_over_common b a))

@@ -32,19 +32,19 @@ lowest_terms n d =
     let g = greatest_common_divisor (unsigned_abs n) d in
     (int_div n (pos g), d / g)
 
--- a/b + c/d = (ad + cb)/bd, in lowest terms
+-- p/q + r/s = (p·s + r·q)/(q·s), in lowest terms
 abbrev pub fraction_sum : Fraction → Fraction → Fraction
 fraction_sum a b = lowest_terms (a.0 *ℤ pos b.1 +ℤ b.0 *ℤ pos a.1) (a.1 * b.1)
 
--- a/b - c/d = (ad - cb)/bd, in lowest terms
+-- p/q - r/s = (p·s - r·q)/(q·s), in lowest terms
 abbrev pub fraction_difference : Fraction → Fraction → Fraction
 fraction_difference a b = lowest_terms (a.0 *ℤ pos b.1 -ℤ b.0 *ℤ pos a.1) (a.1 * b.1)
 
--- a/b times c/d = ac/bd, in lowest terms
+-- p/q times r/s = p·r/(q·s), in lowest terms
 abbrev pub fraction_product : Fraction → Fraction → Fraction
 fraction_product a b = lowest_terms (a.0 *ℤ b.0) (a.1 * b.1)
 
--- -(a/b) = (-a)/b
+-- -(p/q) = (-p)/q
 abbrev pub fraction_negation : Fraction → Fraction
 fraction_negation a = (neg_ℤ a.0, a.1)
 
@@ -57,6 +57,6 @@ turned_over (negsuc n) d = (neg_ℤ (pos d), suc n)
 abbrev pub reciprocal : Fraction → Fraction
 reciprocal a = turned_over a.0 a.1
 
--- a quotient by a fraction that is not 0: the product with one over it
+-- a quotient by a fraction that is not 0: the product with its reciprocal
 abbrev pub fraction_quotient : Fraction → Fraction → Fraction
 fraction_quotient a b = fraction_product a (reciprocal b)

@@ -5,8 +5,8 @@ use Rattle.sym_model.specs.Expansion.{Fraction}
 use Rattle.coeff_rings.specs.Fractions.{whole, scaled, fraction_sum, fraction_difference}
 use Rattle.coeff_rings.specs.Fractions.{fraction_product, fraction_negation, fraction_quotient}
 
--- sums commute and associate, 0 is neutral, and a sum times a common denominator is the sum of both
--- times it
+-- sums commute and associate, 0 is neutral, and a sum times a common denominator is the sum of the two summands times
+-- that denominator
 pub record SumLaws {A : Type 0} (held : A → Type 0) (value : A → Fraction) : Type 0 where
   pub commutes : (a b : A) → fraction_sum (value a) (value b) ≡ fraction_sum (value b) (value a)
   pub associates : (a b c : A) → held a → held b → held c
@@ -17,9 +17,8 @@ pub record SumLaws {A : Type 0} (held : A → Type 0) (value : A → Fraction) :
       → ((fraction_sum (value a) (value b)).1 ∣ d)
       × (scaled d (fraction_sum (value a) (value b)) ≡ scaled d (value a) +ℤ scaled d (value b))
 
--- products commute, associate and distribute over sums, 1 is neutral, a negation cancels, a
--- difference adds a negation, and a product times denominators of both is the product of both times
--- theirs
+-- products commute, associate and distribute over sums, 1 is neutral, a negation cancels, a difference adds a negation,
+-- and a·b times d·e is (a·d)·(b·e), for a multiple d of the denominator of a and a multiple e of that of b
 pub record RingLaws {A : Type 0} (held : A → Type 0) (value : A → Fraction) : Type 0 where
   pub commutes : (a b : A) → fraction_product (value a) (value b)
       ≡ fraction_product (value b) (value a)

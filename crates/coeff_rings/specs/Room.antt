@@ -9,8 +9,7 @@ use Rattle.coeff_rings.specs.Fractions.{reciprocal}
 abbrev pub magnitude : ℕ → Fraction → ℕ
 magnitude d r = unsigned_abs r.0 * (d / r.1)
 
--- d is a common denominator below 2^127, and the two absolute values times d add up to less than
--- 2^127
+-- d is a common denominator of a and b below 2^127, and |a|·d + |b|·d is below 2^127
 pub record HasRoomForSum (d : ℕ) (a b : Fraction) : Type 0 where
   pub positive : 0 < d
   pub small : d < 2 ^ 127
@@ -18,8 +17,8 @@ pub record HasRoomForSum (d : ℕ) (a b : Fraction) : Type 0 where
   pub right : b.1 ∣ d
   pub room : magnitude d a + magnitude d b < 2 ^ 127
 
--- d and e are denominators of the two with a product below 2^127, and the two absolute values,
--- one times d and the other times e, have a product below 2^127
+-- d is a multiple of the denominator of a and e of that of b, d·e is below 2^127, and so is the product of |a|·d and
+-- |b|·e
 pub record HasRoomForProduct (d e : ℕ) (a b : Fraction) : Type 0 where
   pub left_positive : 0 < d
   pub right_positive : 0 < e
@@ -28,10 +27,10 @@ pub record HasRoomForProduct (d e : ℕ) (a b : Fraction) : Type 0 where
   pub right : b.1 ∣ e
   pub room : magnitude d a * magnitude e b < 2 ^ 127
 
--- a and 1/b have room for a product
+-- d·e and |a|·d·|1/b|·e are below 2^127, with d and e positive multiples of the denominators of a and 1/b
 abbrev pub HasRoomForQuotient : ℕ → ℕ → Fraction → Fraction → Type 0
 HasRoomForQuotient d e a b = HasRoomForProduct d e a (reciprocal b)
 
--- the absolute value times its own denominator is below 2^127
+-- the absolute value of the fraction times its denominator is below 2^127
 abbrev pub HasRoomForNegation : Fraction → Type 0
 HasRoomForNegation a = magnitude a.1 a < 2 ^ 127

@@ -6,7 +6,7 @@ abbrev pub signed : Bool → ℕ → ℤ
 signed true n = neg_ℤ (pos n)
 signed false n = pos n
 
--- one of the two numbers is negative and the other is not
+-- whether one of the two numbers is negative and the other is not
 abbrev pub signs_differ : ℤ → ℤ → Bool
 signs_differ (pos a) (pos b) = false
 signs_differ (pos a) (negsuc b) = true

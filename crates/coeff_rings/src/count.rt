@@ -13,7 +13,7 @@ use crate::scalar::Scalar;
 use num_traits::{CheckedAdd, CheckedMul};
 use std::marker::Model;
 
-/// A natural number below 2^128. A contract sees the number.
+/// A natural number below 2^128. In contracts, a value of this type is the number.
 #[derive(Clone, Copy, PartialEq, Eq, Debug)]
 pub struct Count {
     number: u128,

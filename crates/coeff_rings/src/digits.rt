@@ -8,7 +8,7 @@ use std::marker::Model;
 /// The greatest length of the text of a scalar: a sign, two numbers of 39 digits and a slash.
 const CAPACITY: usize = 80;
 
-/// A buffer of 80 bytes with a length. A contract sees the bytes that it holds.
+/// A buffer of 80 bytes with a length. In contracts, it is the list of the bytes that it holds.
 #[derive(Drop)]
 pub struct Digits {
     bytes: [u8; CAPACITY],
@@ -47,7 +47,8 @@ impl Digits {
         self.len = 0;
     }
 
-    /// Appends the number's decimal text; there is room for every number.
+    /// Appends the number's decimal text. At most 40 bytes may be in the buffer, so that there is
+    /// room for every number.
     pub(crate) fn put_signed(&mut self, number: i128)
         requires { length self.old ≤ 40 }
         ensures text { self.new ≡ self.old ++ signed_decimal number }
@@ -57,7 +58,8 @@ impl Digits {
         self.put(buffer.format(number).as_bytes());
     }
 
-    /// Appends the number's decimal text; there is room for every number.
+    /// Appends the number's decimal text. At most 41 bytes may be in the buffer, so that there is
+    /// room for every number.
     pub(crate) fn put_unsigned(&mut self, number: u128)
         requires { length self.old ≤ 41 }
         ensures text { self.new ≡ self.old ++ decimal number }

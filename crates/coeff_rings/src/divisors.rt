@@ -1,4 +1,4 @@
-//! Divisors.
+//! The greatest common divisor.
 ghost use Rattle.std.specs.Prelude.{◌≡◌};
 ghost use Rattle.sym_model.specs.Canonical.{gcd};
 

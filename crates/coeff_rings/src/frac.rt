@@ -32,7 +32,7 @@ use num_traits::{CheckedAdd, CheckedMul, CheckedNeg, CheckedSub};
 use std::marker::Model;
 
 /// A fraction in lowest terms, with a numerator from -2^127 to 2^127 - 1 and a denominator from 1
-/// to 2^127 - 1. A contract sees the two numbers.
+/// to 2^127 - 1. In contracts, it is the pair of these two numbers.
 #[derive(Clone, Copy, PartialEq, Eq, Debug)]
 pub struct Frac {
     num: i128,
@@ -352,8 +352,8 @@ fn reduced(negative: bool, num: u128, den: u128) -> Option<Frac>
 }
 
 /// The fraction `num/den` in lowest terms; `None` if it does not fit. Each common divisor of the
-/// two numbers divides `divisor`, so nothing can be cancelled if that is 1, and there is little to
-/// search if it is small.
+/// two numbers divides `divisor`: if that is 1, nothing cancels, and if it is small, the search for
+/// the greatest common divisor is short.
 #[inline(always)]
 fn quotient(num: i128, den: u128, divisor: u128) -> Option<Frac>
     requires positive { 0 < den }

@@ -17,7 +17,7 @@ use crate::scalar::{Ring, Scalar};
 use num_traits::{CheckedAdd, CheckedMul, CheckedNeg, CheckedSub};
 use std::marker::Model;
 
-/// An integer from -2^127 to 2^127 - 1. A contract sees the number.
+/// An integer from -2^127 to 2^127 - 1. In contracts, a value of this type is the integer.
 #[derive(Clone, Copy, PartialEq, Eq, Debug)]
 pub struct Int {
     number: i128,

@@ -1,16 +1,16 @@
 //! Exact coefficients: integers, counts and fractions of 128 bits. Each operation gives the exact
 //! value or `None`. The crate also has greatest common divisors, factorials, products, common
-//! denominators and quotients of integers. Nothing here takes memory.
+//! denominators and quotients of integers. Nothing here allocates memory.
 //!
 //! What is proved:
 //!
 //! `Int`, `Count` and `Frac`: each operation gives the sum, difference, product or quotient of the
-//! values, and `None` if and only if its documentation says so; the laws of room state when there
-//! is a result.
+//! values, and `None` if and only if its documentation says so; further laws state bounds on the
+//! numbers under which an operation has a result.
 //!
-//! `gcd`, `factorial`, `common_denominator` and `denominator_product` are those of the definitions;
-//! the last two, and `product_of`, return an error if and only if the absolute value is 2^127 or
-//! more; `quotient_of` is the fraction in lowest terms.
+//! `gcd`, `factorial`, `common_denominator` and `denominator_product` agree with their definitions;
+//! the last two return an error if and only if the value is 2^127 or more, and `product_of` only if
+//! the absolute value is; `quotient_of` is the fraction in lowest terms.
 #![tactic(auto)]
 
 mod count;

@@ -18,7 +18,7 @@ pub fn factorial(d: u16) -> u128
     product
 }
 
-/// The product. Returns an error if and only if its absolute value is 2^127 or more.
+/// The product. Returns an error only if its absolute value is 2^127 or more.
 pub fn product_of(x: Int, y: Int) -> Result<Int, Large>
     ensures { MatchResult result (λ z. z ≡ x *ℤ y) (λ _. 2 ^ 127 ≤ nat_abs (x *ℤ y)) }
 {

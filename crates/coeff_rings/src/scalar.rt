@@ -52,9 +52,9 @@ pub trait Scalar: Copy {
         ensures zero { IsTrue result ↔ (value self.now ≡ whole (pos 0)) }
         ensures held { is_held self.now };
 
-    /// The sum, or `None` if the type cannot hold it. A sum with 0 always has a result, and so has
-    /// a sum with room: over some common denominator below 2^127 the absolute values of the
-    /// numerators add up to less than 2^127.
+    /// The sum, or `None` if the type cannot hold it. It has a result if one of the scalars is 0,
+    /// or if over some common denominator below 2^127 the absolute values of the numerators add up
+    /// to less than 2^127.
     fn add(self, other: Self) -> Option<Self>
         ensures sum { result ≡ checked_sum self other }
         ensures answer { AnswersSum value self other result }
@@ -112,17 +112,17 @@ pub trait Ring: Scalar {
         ensures held { Self.is_held self }
         ensures held_negation { IfSome result Self.is_held };
 
-    /// The difference, or `None` if the type cannot hold it. It has a result if a sum would have
-    /// room.
+    /// The difference, or `None` if the type cannot hold it. It has a result if over some common
+    /// denominator below 2^127 the absolute values of the numerators add up to less than 2^127.
     fn sub(self, other: Self) -> Option<Self>
         ensures difference { result ≡ checked_difference self other }
         ensures answer { AnswersDifference Self.value self other result }
         ensures held { Self.is_held self × Self.is_held other }
         ensures held_difference { IfSome result Self.is_held };
 
-    /// The product, or `None` if the type cannot hold it. It has a result if it has room: over some
-    /// multiples of the two denominators whose product is below 2^127, the product of the absolute
-    /// values of the numerators is below 2^127.
+    /// The product, or `None` if the type cannot hold it. It has a result if, over some multiples
+    /// of the two denominators whose product is below 2^127, the product of the absolute values of
+    /// the numerators is below 2^127.
     fn mul(self, other: Self) -> Option<Self>
         ensures product { result ≡ checked_product self other }
         ensures answer { AnswersProduct Self.value self other result }
@@ -159,8 +159,9 @@ pub trait Field: Ring {
     // The result of `div`: `None` if the type cannot hold it.
     ghost checked_quotient: { Self → Self → Option Self };
 
-    /// The quotient, or `None` if the type cannot hold it. There is a result if the product of
-    /// `self` and 1/`other` has room.
+    /// The quotient, or `None` if the type cannot hold it. It has a result if, for some positive
+    /// multiples d of the denominator of `self` and e of the numerator of `other`, both d·e and d·e
+    /// times the absolute value of the quotient are below 2^127.
     fn div(self, other: Self) -> Option<Self>
         requires { Self.value other ≢ whole (pos 0) }
         ensures quotient { result ≡ checked_quotient self other }

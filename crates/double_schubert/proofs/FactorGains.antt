@@ -43,7 +43,8 @@ scaled_beside : (k a : ℤ) (e : List ℕ) (vs : List (List ℕ)) → scaled k (
 scaled_beside k a e [] = refl
 scaled_beside k a e (v ∷ vs) = ap (λ (l : ShiftedSum). ((v, e), k *ℤ a) ∷ l) (scaled_beside k a e vs)
 
--- the terms with the coefficients k and -k
+-- the terms that one product adds for a label (w, e): k at (v, e) for v in `up`, `minus` at (v, e) for v in `down`, k
+-- at (w, more), and `minus` at (w, less)
 abbrev pub added : ℤ → ℤ → List ℕ × List ℕ → List (List ℕ) → List (List ℕ) → List ℕ → List ℕ → ShiftedSum
 added k minus label up down more less =
     each_beside k label.1 up ++ (each_beside minus label.1 down ++ (((label.0, more), k) ∷ ((label.0, less), minus) ∷ []))
@@ -96,7 +97,8 @@ module _ (k minus : ℤ) (label : List ℕ × List ℕ) (up down : List (List �
       (overflows_both equal s1 (each_beside minus label.1 down) s2 (((label.0, more), k) ∷ ((label.0, less), minus) ∷ []) b
       (overflows_both equal s2 (((label.0, more), k) ∷ []) s3 (((label.0, less), minus) ∷ []) c o))
 
--- if the absolute value of k is 2^127 or more, adding k times the terms overflows
+-- if the absolute value of k is 2^127 or more, adding k times the terms of the product of a label with x_r - y_c
+-- overflows
 pub overflow_negative : (old : ShiftedSum) (k : ℤ) (r c : ℕ) (label : List ℕ × List ℕ) → 2 ^ 127 ≤ nat_abs (neg_ℤ k) → Overflows equal old (scaled k (factor_terms r c label))
 overflow_negative old k r c label large =
     let a = overflows_alone label_laws same_pair old (label.0, raised c label.1) (neg_ℤ k) large in
@@ -109,7 +111,7 @@ overflow_negative old k r c label large =
     let q = mass_at_append equal x (each_beside (neg_ℤ k) label.1 (covers_down r label.0)) (((label.0, raised (letter label.0 r) label.1), k) ∷ ((label.0, raised c label.1), neg_ℤ k) ∷ []) in
     omega arith) a)
 
--- ---- the terms of a list of permutations beside one monomial, appended
+-- ---- the terms of lists of permutations, each with one monomial y^e, appended
 
 pub beside_append : (k : ℤ) (e : List ℕ) (vs ws : List (List ℕ)) → each_beside k e (vs ++ ws) ≡ each_beside k e vs ++ each_beside k e ws
 beside_append k e [] ws = refl

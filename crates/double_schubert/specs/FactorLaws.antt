@@ -88,7 +88,8 @@ mass_terms r c label h =
     let n = count_covers r label.0 h in
     omega arith
 
--- a term of the factor has at most one letter and one degree more than the label w, e
+-- for a label (w, e) of at most `letters` letters and of at most the degree `degree`, and r from 1 to `letters`, the
+-- terms of its product with x_r - y_c have at most one letter and one degree more
 pub labels_terms : (r c letters degree : ℕ) (label : List ℕ × List ℕ) → 1 ≤ r → r ≤ letters
     → IsWithin letters degree label
     → HaveLabels (IsWithin (letters + 1) (degree + 1)) (factor_terms r c label)

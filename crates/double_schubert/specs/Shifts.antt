@@ -35,7 +35,7 @@ greatest_length (t ∷ terms) = max (length t.0.0) (greatest_length terms)
 abbrev pub equal : List ℕ × List ℕ → List ℕ × List ℕ → Bool
 equal a b = pointwise nat_eq a.0 b.0 && pointwise nat_eq a.1 b.1
 
--- the list is a table: no label occurs twice, and no coefficient is 0
+-- the list is a table: no label occurs twice, each is within the limits, and no coefficient is 0
 abbrev pub IsShiftedTable : ShiftedSum → Type 0
 IsShiftedTable terms = IsCombination equal is_shifted_label whole terms
 

@@ -21,8 +21,8 @@ use transition_walk::Factor;
 pub(crate) type Shifts = Lin<Shifted, Int>;
 
 /// The rule that multiplies by x_r - y_c: by Monk's rule, (x_r - y_c)·y^e·S_w is the sum of the
-/// y^e·S_v over the covers v = w·t_rj with j > r, and of y_w(r)·y^e·S_w, less that of the y^e·S_v
-/// over the covers v = w·t_ir with i < r, and less y_c·y^e·S_w.
+/// y^e·S_v over the covers v = w·t_rj with j > r, minus the sum of the y^e·S_v over the covers v =
+/// w·t_ir with i < r, plus (y_w(r) - y_c)·y^e·S_w.
 #[derive(Drop)]
 pub(crate) struct TimesFactor {
     pub(crate) r: u16,
@@ -49,7 +49,7 @@ impl Rule<Shifted, Shifted> for TimesFactor {
     }
 }
 
-/// Adds the coefficient `k` at the label of a permutation and the monomial `y`.
+/// Adds `k` to the coefficient at the label of the permutation `perm` and the monomial `y`.
 fn add_one(sum: &mut Shifts, perm: &Perm, y: Monomial, k: Int) -> Result<(), SumFault>
     ensures gains { OnOk result (Gains sum.old (((perm.now, y), k) ∷ []) sum.new) }
     ensures large { IsErrOf result SumFault.Large
@@ -59,7 +59,7 @@ fn add_one(sum: &mut Shifts, perm: &Perm, y: Monomial, k: Int) -> Result<(), Sum
     sum.add_owned(Shifted { perm, y }, k)
 }
 
-/// Adds the coefficient `k` at the label of each permutation and the monomial `y`.
+/// Adds `k` to the coefficient at the label of each permutation and the monomial `y`.
 fn add_beside(sum: &mut Shifts, perms: &[Perm], y: &Monomial, k: Int) -> Result<(), SumFault>
     ensures gains { OnOk result (Gains sum.old (each_beside k y.now perms.now) sum.new) }
     ensures large { IsErrOf result SumFault.Large
@@ -110,8 +110,9 @@ impl Factor<Shifted> for TimesFactor {
 /// each permutation has at most 254 letters, and each monomial in y a degree below 32,385.
 ///
 /// With m the greater of r and the greatest number of letters of a permutation, the weight of the
-/// product is at most that of the list times m + 2. Returns `Large` only if that bound is 2^127 or
-/// more.
+/// product is at most that of the list times m + 2. The weight of a list is the sum of the absolute
+/// values of its coefficients, or 1 for the empty list. Returns `Large` only if that bound is 2^127
+/// or more.
 pub fn times_factor(
     alloc: Global,
     list: Lin<Shifted, Int>,

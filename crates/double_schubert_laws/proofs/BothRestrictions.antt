@@ -1,14 +1,14 @@
--- Double Schubert polynomials in n variables of each kind: they do not depend on the number of places that they are
--- made with, and restriction to fewer variables is compatible with products and sums.
+-- Double Schubert polynomials in n variables of each kind: they do not depend on the number m of variables from which they
+-- are restricted, and restriction to fewer variables is compatible with products and sums.
 use Rattle.std.proofs.Common.{◌≡◌, ℕ, zero, suc, ◌+◌, ◌<◌, ◌≤◌, List, [], ◌∷◌, ◌++◌, ◌==◌, ◌&&◌, take, drop, length, replicate, refl, sym, ◌∙◌, ap, ap₂, subst, arith, inl, inr, ◌⊎◌, cond, Bool, true, false, None, ℤ, pos, ◌-ℤ◌, ◌*ℤ◌, filter}
-use Rattle.std.proofs.lemmas.List.{replicate-append-replicate}
+use Rattle.std.proofs.lemmas.List.{replicate-append-replicate, length-replicate}
 use lib.IntN.{*ℤ-zero}
 use Rattle.sym_model.specs.Polynomial.{Term, Poly, Same, In, times, pair, join, resize, all_zero, fits_in}
 use Rattle.sym_model.specs.Alternant.{staircase}
 use Rattle.sym_model.specs.BetaList.{rising_pairs}
 use Rattle.sym_model.specs.Permutation.{first_ascent}
 use Rattle.sym_model.proofs.Sums.{total_ext, total_map, total_select}
-use Rattle.sym_model.proofs.Exponents.{fits_in_zeros, fits_in-join, resize-join, length-resize}
+use Rattle.sym_model.proofs.Exponents.{fits_in_zeros, fits_in-join, resize-join, length-resize, and_exchange}
 use Rattle.sym_model.proofs.Polynomials.{pair_ext, pair_in, pair_zero, pair_times, same_from_pair, Same_trans}
 use Rattle.schubert_laws.proofs.Differences.{along}
 use Rattle.schubert_laws.proofs.Exchanges.{exchange_at, raise, length-raise, Rises, IsFirstAscent, first_ascent_cases, rises_within, rising_pairs_exchange, length-exchange_at}
@@ -33,7 +33,7 @@ pair_restrict_both m n f φ =
     inside true c x = refl
     inside false c x = sym (*ℤ-zero c)
 
--- ---- one more place for x and one more for y
+-- ---- one more variable x and one more variable y
 
 abbrev wide : ℕ → List ℕ → List ℕ
 wide zero α = 0 ∷ (α ++ (0 ∷ []))
@@ -86,7 +86,7 @@ along_wide zero (suc (suc m)) φ (a ∷ []) h l = absurd (omega arith)
 along_wide zero (suc (suc m)) φ (a ∷ b ∷ α) h l = refl
 along_wide (suc k) (suc m) φ (a ∷ α) h l = along_wide k m (λ β. φ (a ∷ β)) α (omega arith) (omega arith)
 
--- ---- diagrams on lists of n places
+-- operators of rows and diagrams, on test functions that agree at lists of n places
 
 abbrev AgreeIn : ℕ → (List ℕ → ℤ) → (List ℕ → ℤ) → Type 0
 AgreeIn n φ ψ = (α : List ℕ) → length α ≡ n → φ α ≡ ψ α
@@ -112,7 +112,7 @@ diagram_wide m r (suc k) φ h α e =
     diagram_wide m (suc r) k (row r (suc m) k φ) (omega arith) α e
     ∙ diagram_in (m + m) m (suc r) (staircase k) (λ β. row r (suc m) k φ (wide m β)) (row r m k (λ β. φ (wide m β))) (row_wide m r m k φ (omega arith) (omega arith) (omega arith)) α e
 
--- ---- the double Schubert polynomial does not depend on the number of places
+-- ---- the double Schubert polynomial does not depend on the number m of variables
 
 wider_within : (n m : ℕ) (w : List ℕ) (φ : List ℕ → ℤ) → rising_pairs w < n → length w ≤ m → pair (double_schubert w (suc m)) φ ≡ pair (double_schubert w m) (λ α. φ (wide m α))
 wider_within zero m w φ b h = absurd (omega arith)
@@ -133,16 +133,12 @@ wider_within (suc n) m w φ b h = by (first_ascent_cases w) (λ v ψ c l. wider_
         (λ α d. along_wide k m φ α (omega arith) (omega arith))
         ∙ sym (pair_double_ascent m w k (λ α. φ (wide m α)) r)
     by (inr none) rec =
-        let z = length-zeros (m + m) in
+        let z = length-replicate (m + m) 0 in
         ap (λ u. pair u φ) (over_top (difference_product (length w) (suc m)) (rising_pairs w) w none.0)
         ∙ pair_difference_product (suc m) (length w) φ (omega arith)
         ∙ ap (diagram (suc m) 0 (staircase (length w)) φ) (sym (wide_zeros m m))
         ∙ diagram_wide m 0 (length w) φ (omega arith) (replicate (m + m) 0) z
         ∙ sym (ap (λ u. pair u (λ α. φ (wide m α))) (over_top (difference_product (length w) m) (rising_pairs w) w none.0) ∙ pair_difference_product m (length w) (λ α. φ (wide m α)) h)
-      where
-        length-zeros : (k : ℕ) → length {A = ℕ} (replicate k 0) ≡ k
-        length-zeros zero = refl
-        length-zeros (suc k) = ap suc (length-zeros k)
 
 all_zero_added : (α : List ℕ) → all_zero (α ++ (0 ∷ [])) ≡ all_zero α
 all_zero_added [] = refl
@@ -172,7 +168,7 @@ wider m n w h =
     ∙ pair_in (m + m) (double_schubert w m) (λ α. both (suc m) n φ (wide m α)) (both m n φ) (In_double m w) (λ α l. both_wide m n φ α (omega arith))
     ∙ sym (pair_restrict_both m n (double_schubert w m) φ))
 
--- the polynomial does not depend on the number of places, if that is at least the length
+-- the double Schubert polynomial of w in m variables of each kind, restricted to n of each, does not depend on m, if m is at least the length of w
 pub in_any : (d m n : ℕ) (w : List ℕ) → m ≡ d + length w → Same (restrict_both m n (double_schubert w m)) (double_schubert_in w n)
 in_any zero m n w e = let f : m ≡ length w = omega arith in subst (λ i. Same (restrict_both i n (double_schubert w i)) (double_schubert_in w n)) (sym f) (λ α. refl)
 in_any (suc d) zero n w e = absurd (omega arith)
@@ -213,13 +209,7 @@ fits-join : (m n : ℕ) (α β : List ℕ) → length α ≡ length β → fits 
 fits-join m n α β e =
     ap₂ (λ x y. fits_in n x && fits_in n y) (take-join m α β e) (drop-join m α β e)
     ∙ ap₂ (λ s t. s && t) (fits_in-join n (take m α) (take m β)) (fits_in-join n (drop m α) (drop m β))
-    ∙ middle (fits_in n (take m α)) (fits_in n (take m β)) (fits_in n (drop m α)) (fits_in n (drop m β))
-  where
-    middle : (p q r s : Bool) → ((p && q) && (r && s)) ≡ ((p && r) && (q && s))
-    middle true true r s = refl
-    middle true false true s = refl
-    middle true false false s = refl
-    middle false q r s = refl
+    ∙ and_exchange (fits_in n (take m α)) (fits_in n (take m β)) (fits_in n (drop m α)) (fits_in n (drop m β))
 
 cut-join : (m n : ℕ) (α β : List ℕ) → length α ≡ length β → cut m n (join α β) ≡ join (cut m n α) (cut m n β)
 cut-join m n α β e =

@@ -1,7 +1,7 @@
 -- Products with differences of two variables, as operators on test functions.
 --     less r s φ            the pairing of φ with (x - y)·x^α, for the variables x at place r and y at place s
---     row r s c φ           the same for the product of x - y over c variables y from place s on
---     diagram s r cs φ      the same for a product of rows, one for each variable from place r on
+--     row r s c φ           the pairing of φ with x^α times the x - y, for the variable x at place r and c variables y from place s on
+--     diagram s r cs φ      the pairing of φ with x^α times a product of rows, one for each variable from place r on
 use Rattle.std.proofs.Common.{◌≡◌, ℕ, zero, suc, ◌+◌, ◌<◌, List, [], ◌∷◌, ◌++◌, length, get_or, replicate, refl, sym, ◌∙◌, ap, ap₂, arith, ℤ, pos, ◌+ℤ◌, ◌-ℤ◌, neg_ℤ}
 use Rattle.std.proofs.lemmas.Int.{ints}
 use Rattle.schubert_laws.proofs.Differences.{along, along_ext, along_add, along_neg}
@@ -20,7 +20,7 @@ abbrev pub diagram : ℕ → ℕ → List ℕ → (List ℕ → ℤ) → List �
 diagram s r [] φ = φ
 diagram s r (c ∷ cs) φ = diagram s (suc r) cs (row r s c φ)
 
--- ---- raising exponents in two orders gives the same
+-- ---- raising exponents in two orders gives the same exponents
 
 raise_raise : (r s : ℕ) (α : List ℕ) → raise r (raise s α) ≡ raise s (raise r α)
 raise_raise r s [] = refl
@@ -78,7 +78,7 @@ diagram_raise s r zero i (c ∷ cs) φ α h e =
     ∙ ap (λ p. less p (s + c) (diagram s (suc r) cs (row r s c φ)) α) d
 diagram_raise s r (suc k) i (c ∷ cs) φ α h e = diagram_raise s (suc r) k i cs (row r s c φ) α (omega arith) (omega arith)
 
--- an empty row added at the end changes nothing
+-- an empty row added at the end of a diagram does not change the pairing
 pub diagram_added : (s r : ℕ) (cs : List ℕ) (φ : List ℕ → ℤ) (α : List ℕ) → diagram s r (cs ++ (0 ∷ [])) φ α ≡ diagram s r cs φ α
 diagram_added s r [] φ α = refl
 diagram_added s r (c ∷ cs) φ α = diagram_added s (suc r) cs (row r s c φ) α
@@ -191,7 +191,7 @@ diagram_along k s r (c ∷ cs) φ α h l =
 
 -- ---- ∂ takes one factor out of a diagram
 
--- two equal rows can be taken out of ∂, so that one more factor in the first of them is left in it
+-- ∂ of a diagram whose first row has one factor more than its second is the diagram with both rows equal times ∂ of that factor
 along_rows : (s r c : ℕ) (cs : List ℕ) (φ : List ℕ → ℤ) (α : List ℕ) → suc r < s
     → diagram s r (suc c ∷ c ∷ cs) (along r φ) α ≡ less r (s + c) (along r (diagram s r (c ∷ c ∷ cs) φ)) α
 along_rows s r c cs φ α h =
@@ -242,7 +242,7 @@ less_along k s n φ h l =
     let c = along_none k n (λ γ. φ (raise s γ)) in
     omega (arith, ints)
 
--- if d is the code of a list with an ascent exchanged and c that of the list, ∂ takes the diagram of d to that of c
+-- if d is c with the first of two equal entries at places k and k + 1, counted from 0, increased by 1, ∂ takes the diagram of d to that of c
 pub diagram_one_up : (s k n : ℕ) (c d : List ℕ) (φ : List ℕ → ℤ) → IsOneUp k c d → suc k < s → suc k < n → diagram s 0 d (along k φ) (replicate n 0) ≡ diagram s 0 c φ (replicate n 0)
 diagram_one_up s k n c d φ u h l =
     along_diagram s 0 k k c d φ (replicate n 0) u (omega arith) h

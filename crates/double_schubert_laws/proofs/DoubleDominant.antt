@@ -63,7 +63,7 @@ pair_variable_in r m φ h =
     ∙ ap (λ i. cond (fits_in m (replicate i 0 ++ (1 ∷ []))) (φ (resize m (replicate i 0 ++ (1 ∷ [])))) (pos 0)) e
     ∙ ap (λ b. cond b (φ (unit r m)) (pos 0)) (fits_in_length m (replicate r 0 ++ (1 ∷ [])) (omega arith))
 
--- the pairing of φ with x_(r+1) - y_(s+1) is the difference of its values at the two variables
+-- the pairing of φ with x_(r+1) - y_(s+1) is φ at the exponents of x_(r+1) less φ at those of y_(s+1)
 pub pair_difference_in : (r s m : ℕ) (φ : List ℕ → ℤ) → r < m → s < m
     → pair (difference_in (suc r) (suc s) m) φ ≡ φ (unit r m ++ replicate m 0) -ℤ φ (replicate m 0 ++ unit s m)
 pair_difference_in r s m φ h l =
@@ -110,7 +110,7 @@ In_difference_in i j m =
     (In_beside m m (variable_in i m) (one m) (In_restrict m (variable i)) (In_one m))
     (In_negate (m + m) (beside (one m) (variable_in j m)) (In_beside m m (one m) (variable_in j m) (In_one m) (In_restrict m (variable j))))
 
--- ---- the product of all differences
+-- ---- the product of all x_i - y_j
 
 abbrev factors : ℕ → ℕ → ℕ → ℕ → List Poly
 factors m i j c = map (λ b. difference_in i b m) (after j c)
@@ -132,7 +132,7 @@ pair_factors m r i j (suc c) fs φ d h l n =
     ∙ pair_factors m r i (j + 1) c fs (less r (m + j) φ) d h (omega arith) n
     ∙ ap (λ x. pair (product_of (m + m) fs) (row r x c (less r (m + j) φ))) s
 
--- the factors of the k rows after row r; row i has c i factors
+-- the factors of the k rows after row r, row i having c(i) factors
 abbrev rows_from : ℕ → (ℕ → ℕ) → ℕ → ℕ → List Poly
 rows_from m c r k = flat_map (λ i. map (λ j. difference_in i j m) (after 0 (c i))) (after r k)
 
@@ -166,7 +166,7 @@ In_difference_product m n = In_rows m (λ i. n - i) 0 n
 pub In_double : (m : ℕ) (w : List ℕ) → In (m + m) (double_schubert w m)
 In_double m w = In_descended (difference_product (length w) m) (m + m) (rising_pairs w) w (In_difference_product m (length w))
 
--- ---- the polynomial of a dominant list is the product of its diagram
+-- ---- the polynomial of a dominant list is the product of the x_i - y_j over the diagram of its code
 
 pub pair_double_ascent : (m : ℕ) (w : List ℕ) (k : ℕ) (φ : List ℕ → ℤ) → Rises k w → pair (double_schubert w m) φ ≡ pair (double_schubert (exchange_at k w) m) (along k φ)
 pair_double_ascent m w k φ r =
@@ -233,7 +233,7 @@ pub last_letter_double : (m p : ℕ) (w : List ℕ) → length w < m → Once w 
 last_letter_double m p w h o l =
     same_from_pair (double_schubert (w ++ (p ∷ [])) m) (double_schubert w m) (λ φ. last_within (suc (rising_pairs w)) m p w φ (omega arith) h o l)
 
--- ---- the product over the cells
+-- ---- the product of the x_i - y_j over the cells of a diagram
 
 pub pair_cells : (m : ℕ) (cs : List ℕ) (φ : List ℕ → ℤ) → length cs ≤ m → ((i : ℕ) → get_or cs i 0 ≤ m)
     → pair (product_of (m + m) (map (λ cell. difference_in cell.0 cell.1 m) (cells cs []))) φ ≡ diagram m 0 cs φ (replicate (m + m) 0)

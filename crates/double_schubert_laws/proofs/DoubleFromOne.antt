@@ -47,7 +47,7 @@ stable m φ = record { added = λ w k o h. double_added m k w φ o h }
 pub double_kept : (m : ℕ) (w : List ℕ) → IsOneLine w → length w ≤ m → Same (double_schubert (kept w) m) (double_schubert w m)
 double_kept m w o h = same_from_pair (double_schubert (kept w) m) (double_schubert w m) (λ φ. kept_value m (paired m φ) w (stable m φ) o h)
 
--- ---- the letters of the longer list
+-- ---- the letters of a list with fixed letters added
 
 letter_longer : (w : List ℕ) (k q : ℕ) → q < length w + (k + 1) → get_or (longer w k) q 0 ≡ letter w (suc q)
 letter_longer w k q h =
@@ -85,7 +85,7 @@ letter_small w i o h = elim (cases_lt (i - 1) (length w)) [
   | inr l ↦ let p = get_past w (i - 1) i l in omega arith
 ]
 
--- the factor of Monk's rule is x_(q+1) - y_b
+-- a product with x_(q+1) - y_b is the product with the sum of x_(q+1) and -y_a, if a is b
 factor_pairs : (m q a b : ℕ) (f : Poly) (φ : List ℕ → ℤ) → In (m + m) f → q < m → a ≡ b → 1 ≤ b → b ≤ m
     → pair (times (difference_in (suc q) b m) f) φ ≡ pair (times (plus (variable_after q) (minus_y m a)) f) φ
 factor_pairs m q a b f φ i h e c l =

@@ -42,7 +42,7 @@ along_joined zero (suc (suc s)) φ (a ∷ b ∷ α) h l =
 along_joined (suc k) zero φ (a ∷ α) h l = absurd (omega arith)
 along_joined (suc k) (suc s) φ (a ∷ α) h l = along_joined k s (λ β. φ ((0 + a) ∷ β)) α (omega arith) (omega arith)
 
--- minus y_a
+-- -y_a, in m variables of each kind
 abbrev pub minus_y : ℕ → ℕ → Poly
 minus_y m a = negate (variable_after (m + (a - 1)))
 
@@ -126,7 +126,7 @@ monk_falling m n r v s h l k φ =
     ∙ sym (sum_below_only (length (v ++ (suc n ∷ []))) (length v) (value (difference_product (length (v ++ (suc n ∷ []))) m) φ (v ++ (suc n ∷ [])) r) (omega arith)
     (λ j q d. falling_elsewhere (difference_product (length (v ++ (suc n ∷ []))) m) φ (suc n) r j v s.once h (omega arith) (omega arith)))
   where
-    -- the letter is at most n, so its y has a place
+    -- the letter at place r is at most n, so there is a variable y with this index
     get_small : r < length v → get_or (v ++ (suc n ∷ [])) r 0 - 1 ≡ get_or (code (v ++ (suc n ∷ []))) r 0 → code (v ++ (suc n ∷ [])) ≡ staircase n ++ (0 ∷ []) → get_or (v ++ (suc n ∷ [])) r 0 ≤ n
     get_small q e f =
         let a = get_or-append v (suc n ∷ []) 0 r q in

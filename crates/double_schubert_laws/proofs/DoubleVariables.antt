@@ -1,5 +1,5 @@
 -- Monk's rule and the transition rule for double Schubert polynomials in every number of variables.
-use Rattle.std.proofs.Common.{◌≡◌, ℕ, zero, suc, ◌+◌, ◌-◌, ◌<◌, ◌≤◌, max, List, [], ◌∷◌, ◌++◌, ◌==◌, ◌&&◌, map, length, replicate, refl, sym, ◌∙◌, ap, ap₂, subst, arith, cond, Bool, true, false, None, ℤ, pos, ◌-ℤ◌, length-append}
+use Rattle.std.proofs.Common.{◌≡◌, ℕ, zero, suc, ◌+◌, ◌-◌, ◌<◌, ◌≤◌, max, List, [], ◌∷◌, ◌++◌, ◌==◌, ◌&&◌, map, length, replicate, refl, sym, ◌∙◌, ap, ap₂, subst, arith, cond, true, None, ℤ, pos, ◌-ℤ◌, length-append}
 use Rattle.std.proofs.lemmas.Int.{ints}
 use Rattle.std.specs.List.{swap}
 use Rattle.std.proofs.lemmas.List.Edits.{length-swap}
@@ -31,6 +31,7 @@ use Rattle.double_schubert_laws.proofs.DiagramProducts.{diagram}
 use Rattle.double_schubert_laws.proofs.BothRestrictions.{both, pair_restrict_both, in_any, restrict_both-times}
 use Rattle.schubert_laws.proofs.Ranks.{letter_counts}
 use Rattle.double_schubert_laws.proofs.DoubleFromOne.{paired, pair_double_monk, letter_small, double_kept, double_transition, doubles, pair_doubles}
+use Rattle.std.proofs.Math.Bool.{and-true}
 
 -- ---- x_i - y_j in fewer or more variables
 
@@ -74,16 +75,12 @@ pair_difference_any r s n φ =
 both_parts : (m n : ℕ) (φ : List ℕ → ℤ) (α β : List ℕ) → length α ≡ m → both m n φ (α ++ β) ≡ cond (fits_in n α && fits_in n β) (φ (resize n α ++ resize n β)) (pos 0)
 both_parts m n φ α β e = ap₂ (λ x y. cond (fits_in n x && fits_in n y) (φ (resize n x ++ resize n y)) (pos 0)) (take_at α β m e) (drop_at α β m e)
 
-and_true : (b : Bool) → (b && true) ≡ b
-and_true true = refl
-and_true false = refl
-
 both_x : (r m n : ℕ) (φ : List ℕ → ℤ) → r < m → both m n φ (unit r m ++ replicate m 0) ≡ cond (fits_in n (power_at r)) (φ (unit r n ++ replicate n 0)) (pos 0)
 both_x r m n φ h =
     let l = length-unit r in
     both_parts m n φ (unit r m) (replicate m 0) (length-resize m (power_at r))
     ∙ ap₂ (λ b c. cond (b && c) (φ (resize n (unit r m) ++ resize n (replicate m 0))) (pos 0)) (fits_again n m (power_at r) (omega arith)) (fits_in_zeros n m)
-    ∙ ap₂ (λ b l. cond b (φ l) (pos 0)) (and_true (fits_in n (power_at r))) (ap₂ (λ x y. x ++ y) (resize_again n m (power_at r) (omega arith)) (resize_zeros n m))
+    ∙ ap₂ (λ b l. cond b (φ l) (pos 0)) (and-true (fits_in n (power_at r))) (ap₂ (λ x y. x ++ y) (resize_again n m (power_at r) (omega arith)) (resize_zeros n m))
 
 both_y : (s m n : ℕ) (φ : List ℕ → ℤ) → s < m → both m n φ (replicate m 0 ++ unit s m) ≡ cond (fits_in n (power_at s)) (φ (replicate n 0 ++ unit s n)) (pos 0)
 both_y s m n φ h =
@@ -132,7 +129,7 @@ down_length r w v m =
     let e = ap length c.2 in
     omega arith
 
--- ---- double Schubert polynomials and their products in n variables, made with m places
+-- ---- double Schubert polynomials and their products in n variables, restricted from m variables
 
 in_variables : (m n : ℕ) (w : List ℕ) (φ : List ℕ → ℤ) → length w ≤ m → pair (double_schubert w m) (both m n φ) ≡ pair (double_schubert_in w n) φ
 in_variables m n w φ h =
@@ -144,7 +141,7 @@ in_sum m n ws φ h =
     total_among (paired m (both m n φ)) (λ w. pair (double_schubert_in w n) φ) ws (λ w i. in_variables m n w φ (h w i))
     ∙ sym (pair_each (λ (w : List ℕ). double_schubert_in w n) ws φ)
 
--- the product with x_i - y_j in n variables can be made with m places
+-- the product with x_i - y_j in n variables is the restriction of the product in m variables
 in_product : (r s m n : ℕ) (w : List ℕ) (φ : List ℕ → ℤ) → r < m → s < m → length w ≤ m
     → pair (times (difference_in (suc r) (suc s) n) (double_schubert_in w n)) φ ≡ pair (times (difference_in (suc r) (suc s) m) (double_schubert w m)) (both m n φ)
 in_product r s m n w φ h l k =
@@ -171,7 +168,7 @@ monk_in_letter q s n w o e =
     let g = pair_negate (double_schuberts_in (covers_down (suc q) w) n) φ in
     omega (arith, ints))
 
--- Monk's rule: (x_r - y_w(r))·S_w is the sum over the covers above minus that over the covers below
+-- Monk's rule: (x_r - y_w(r))·S_w is the sum of S_v over the covers v = w·t_rj with j > r minus that over the covers v = w·t_ir with i < r
 pub double_monk_in : (r n : ℕ) (w : List ℕ) → IsOneLine w → 1 ≤ r
     → Same (times (difference_in r (letter w r) n) (double_schubert_in w n)) (plus (double_schuberts_in (covers_up r w) n) (negate (double_schuberts_in (covers_down r w) n)))
 double_monk_in zero n w o h = λ α. absurd (omega arith)
@@ -198,7 +195,7 @@ transition_in_letter q l n r s w v o t e f g h k i =
     let z = pair_plus (times (difference_in (suc q) (suc l) n) (double_schubert_in v n)) (double_schuberts_in (covers_down r v) n) φ in
     omega (arith, ints))
 
--- S_w is (x_r - y_v(r))·S_v plus the sum over the covers v·t_ir with i < r
+-- for v = w·t_rs, S_w is (x_r - y_v(r))·S_v plus the sum of S_u over the covers u = v·t_ir with i < r
 pub double_transition_in : (r s n : ℕ) (w : List ℕ) → IsOneLine w → IsTransition w r s
     → Same (double_schubert_in w n) (plus (times (difference_in r (letter (times_swap r s w) r) n) (double_schubert_in (times_swap r s w) n)) (double_schuberts_in (covers_down r (times_swap r s w)) n))
 double_transition_in r s n w o t =
@@ -220,7 +217,7 @@ double_transition_in r s n w o t =
     transition_in_letter p.0 (letter (times_swap r s w) r - 1) n r s w (times_swap r s w) o t p.2 refl l (omega arith) (omega arith) (omega arith) α
     ∙ ap₂ (λ x y. coefficient (plus (times (difference_in x y n) (double_schubert_in (times_swap r s w) n)) (double_schuberts_in (covers_down r (times_swap r s w)) n)) α) (sym p.2) (sym l)
 
--- ---- the laws of one polynomial
+-- ---- laws of one double Schubert polynomial: descents, the number of variables, fixed letters
 
 pub any_descent_double : (w : List ℕ) (m i : ℕ) → IsDescent w i → Same (divided_difference i (double_schubert w m)) (double_schubert (exchanged i w) m)
 any_descent_double w m i d =

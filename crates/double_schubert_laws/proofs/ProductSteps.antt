@@ -58,7 +58,7 @@ product_step n r s φ p w e o t q h =
     let l = total_ext (λ (x : List ℕ). pair (times (shifted_in (w, e) n) (double_schubert_in x n)) φ) (λ (x : List ℕ). acted n φ x (w, e)) (λ x. pair_times_comm (shifted_in (w, e) n) (double_schubert_in x n) φ) (covers_down r (times_swap r s p)) in
     omega (arith, ints)
 
--- ---- the end and the start
+-- ---- the product if p is the identity, and the product if e is empty
 
 In_double_in : (n : ℕ) (w : List ℕ) → In (n + n) (double_schubert_in w n)
 In_double_in n w =

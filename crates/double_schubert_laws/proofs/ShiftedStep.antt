@@ -1,4 +1,4 @@
--- The product of y^e·S_w with x_r - y_c as a sum of such terms.
+-- The product of y^e·S_w with x_r - y_c as a sum of products y^d·S_v.
 use Rattle.std.proofs.Common.{◌≡◌, ℕ, ◌≤◌, List, ◌++◌, replicate, refl, sym, ◌∙◌, ap, ℤ, ◌+ℤ◌, ◌-ℤ◌, flat_map}
 use Rattle.std.proofs.lemmas.Int.{ints}
 use Rattle.std.proofs.lemmas.List.{length-replicate}
@@ -63,7 +63,7 @@ pair_swapped d p s φ =
     ∙ pair_determined (times (times d p) s) (times (times p d) s) φ (times_respects (times d p) (times p d) s s (times_comm d p) (Same_refl s))
     ∙ pair_determined (times (times p d) s) (times p (times d s)) φ (times_assoc p d s)
 
--- the product with x_r - y_c is that with x_r - y_l, plus that with y_l - y_c
+-- f times x_r - y_c is f times x_r - y_l, plus f times y_l, minus f times y_c, by pairings with φ
 pair_other_y : (n r c l : ℕ) (f : Poly) (φ : List ℕ → ℤ) → pair (times (difference_in r c n) f) φ
     ≡ (pair (times (difference_in r l n) f) φ +ℤ pair (times (in_y n (variable_in l n)) f) φ) -ℤ pair (times (in_y n (variable_in c n)) f) φ
 pair_other_y n r c l f φ =

@@ -15,9 +15,10 @@ ghost use Rattle.sym_model.specs.DoubleSchubert.{double_schubert_in, restrict_bo
 /// for each descent i of a list w. S(w; x, y) in m variables of each kind is a polynomial in 2m
 /// variables.
 ///
-/// If the code of w is decreasing, S(w; x, y) is the product of the x_i - y_j over the cells (i, j)
-/// of the diagram of the code. In n variables of each kind it does not depend on the number of
-/// variables that it is made with, nor on fixed letters at the end of w; for the identity it is 1.
+/// If the letters of w are different and its code is decreasing, S(w; x, y) is the product of the
+/// x_i - y_j over the cells (i, j) of the diagram of the code. In n variables of each kind it does
+/// not depend on the number of variables that it is made with, nor on fixed letters at the end of
+/// w; for the identity it is 1.
 ///
 /// Example: ∂_2 takes (x_1 - y_1)(x_1 - y_2)(x_2 - y_1) = S(3,2,1; x, y) to (x_1 - y_1)(x_1 - y_2)
 /// = S(3,1,2; x, y).

@@ -1,4 +1,4 @@
--- An atom of a family as a node.
+-- The node of an atom: a list in the target, the denominator 1 and the degree of the atom.
 use Rattle.std.proofs.Common.{◌≡◌, ℕ, ◌*◌, ◌^◌, ◌≤◌, List, subst, arith}
 use Rattle.sym_model.specs.Polynomial.{Poly}
 use Rattle.sym_model.specs.Partition.{size}
@@ -14,8 +14,8 @@ use Rattle.basis_change_laws.specs.JoinedLists.{Stands}
 use Rattle.expand_in_families.specs.Nodes.{ClearsTo}
 use Rattle.basis_change_laws.proofs.GrowthBounds.{grown}
 
--- in any basis, also m and s, a node with the terms of an atom's polynomial, the denominator 1 and the label's
--- degree clears the atom
+-- in any basis, also m and s, a node whose terms are k! times the polynomial of an atom with k cells, within the growth at k, with
+-- the denominator 1 and the degree k, represents the atom
 pub clears-atom : (P : ℕ → ℕ → Poly) (basis : Basis) (parts : List ℕ) (c : Node) → c.den ≡ 1 → c.degree ≡ size parts
     → Stands P (factorial (size parts)) (grown (size parts)) (size parts) (λ n. basis_polynomial basis parts n) c.terms → ClearsTo P (atom basis parts) c
 clears-atom P basis parts c d g s =

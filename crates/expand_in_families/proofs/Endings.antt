@@ -1,4 +1,4 @@
--- The list, divided at the end, expands the expression.
+-- The list of an expression in the target, divided at the end, expands the expression.
 use Rattle.std.proofs.Common.{◌≡◌, ℕ, ◌*◌, ◌<◌, List, sym, ap, ◌∙◌, ℤ, pos, ◌*ℤ◌}
 use Rattle.sym_model.specs.Polynomial.{Poly, coefficient}
 use Rattle.sym_model.specs.Bases.{product_over}

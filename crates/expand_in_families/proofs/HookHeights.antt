@@ -90,7 +90,7 @@ lower_hook_rows a outer inner first last h = record {
         let d : suc k + 1 ≡ suc (k + 1) = omega arith in
         ap (part (a ∷ outer)) d ∙ row_below a outer (k + 1) (omega arith) ∙ h.chained k (omega arith) (omega arith) ∙ ap (λ n. n + 1) (sym (row_below a inner k (omega arith)))
 
--- the hook ends in a row of the shape: the row, the remaining rows and the sign
+-- the hook h occupies the rows from `first` to the last row of the shape, and its sign is (-1)^(rows - first)
 record EndsIn (parts : List ℕ) (h : SpecialHook) : Type 0 where
   first : ℕ
   hook : IsHookRows parts h.rest first (rows parts)

@@ -1,8 +1,8 @@
 -- A Schur polynomial added up over the special rim hooks of its shape.
 --     hook-law         the polynomial is the sum over the hooks
 --     hook-product     the summand of one hook, as a list
---     hooks-next       one more hook
---     hooks-done       all hooks
+--     hooks-next       the sum with the summand of one more hook
+--     hooks-done       the sum over all hooks
 use Rattle.std.proofs.Common.{◌≡◌, ℕ, zero, suc, ◌+◌, ◌-◌, ◌*◌, ◌^◌, ◌<◌, ◌≤◌, List, [], ◌∷◌, ◌++◌, map, length, get_or, take, drop, take_all, Some, slice_get, refl, sym, ap, ap₂, ◌∙◌, subst, inl, inr, arith, ℤ, pos, ◌*ℤ◌, append-nil, append_assoc, pow-suc, flat_map}
 use Rattle.std.specs.Prelude.{nat_abs, ◌≢◌}
 use Rattle.std.proofs.lemmas.Nat.{mul-le, pow-add}
@@ -145,7 +145,8 @@ hooks-next P q B d f hs i h S T e s t =
     one_more : (i x : ℕ) → i * x + x ≤ (i + 1) * x
     one_more i x = omega arith
 
--- there are at most as many hooks as cells
+-- the sum over all hooks is k! times the polynomial of the shape, k its size; it is within the growth, since there are at most as
+-- many hooks as cells
 pub hooks-done : (P : ℕ → ℕ → Poly) (family : Family) → family ≢ PowerSum → (parts : List ℕ) (i : ℕ) (S : WholeTerms) → IsPartition parts → 1 ≤ length parts → length parts ≡ i
     → Stands P (factorial (size parts)) (i * peeled (size parts)) (size parts) (λ n. flat_map (hook_term family n) (take i (special_hooks parts))) S
     → Stands P (factorial (size parts)) (grown (size parts)) (size parts) (schur_in family parts) S

@@ -38,7 +38,7 @@ hook_first (a ∷ parts) h f (inr m) =
     let found = Among_from_map (below_row a) h (special_hooks parts) m in
     subst (λ (g : SpecialHook). get_or g.rest 0 0 ≤ a) (sym found.2) (omega arith)
 
--- the remaining shape is a partition of the cells that are not in the hook
+-- the remaining shape is a partition of the number of cells that are not in the hook, and has fewer rows
 pub record IsRest (parts : List ℕ) (h : SpecialHook) : Type 0 where
   pub partition : IsPartition h.rest
   pub some : 1 ≤ h.cells

@@ -22,14 +22,14 @@ use lib.IntN.{+ℤ_idl, +ℤ_idr, *ℤ-zero}
 
 -- ---- two lists of rows that interlace
 
--- whether x and the numbers of the two lists in turn are decreasing: those of the second list lie between x and those
+-- whether x and the numbers of the two lists in turn are weakly decreasing: those of the second list lie between x and those
 -- of the first
 abbrev pub between : ℕ → List ℕ → List ℕ → Bool
 between x [] κ = true
 between x (y ∷ ys) [] = true
 between x (y ∷ ys) (c ∷ κ) = nat_le c x && (nat_le y c && between y ys κ)
 
--- whether the numbers of the two lists in turn, the first list first, are decreasing
+-- whether the numbers of the two lists in turn, the first list first, are weakly decreasing
 abbrev pub interlaces : List ℕ → List ℕ → Bool
 interlaces [] κ = true
 interlaces (x ∷ xs) κ = between x xs κ
@@ -42,7 +42,7 @@ indicator b = cond b (pos 1) (pos 0)
 abbrev pub signs_over : ℕ → List ℕ → ℕ → List ℕ → ℤ
 signs_over x xs a bs = total (λ (h : SpecialHook). h.sign *ℤ indicator (between x xs (resize (length bs) h.rest))) (special_hooks (a ∷ bs))
 
--- ---- the sum of the signs
+-- ---- the sum of the signs of the special rim hooks
 
 combined_signs : (s z v : ℤ) → neg_ℤ s *ℤ v +ℤ (z +ℤ s *ℤ v) ≡ z +ℤ neg_ℤ s *ℤ pos 0
 combined_signs s z v = simp ring (omega (arith, ints))
@@ -77,8 +77,8 @@ turned_test y b h = elim (cases_lt y b) [
   | inr l ↦ rw (lt-leb y (b - 1) (omega arith), le-leb b y l) refl
 ]
 
--- the rows below the first may interlace the remaining shape of its hook, or those of the other hooks; if both, the
--- signs cancel
+-- the sum of the signs is 1 if a ≤ x and a, bs and ys interlace; it is (-1)^(length bs) if x < a and x, ys and the numbers
+-- of bs less 1 interlace; otherwise it is 0
 pub sum_of_signs : (a x : ℕ) (bs ys : List ℕ) → Falls (a ∷ bs) → ArePositive bs → length ys ≡ length bs
     → signs_over x ys a bs
     ≡ indicator (nat_le a x && between a bs ys) +ℤ minus_one_to (length bs) *ℤ indicator (not (nat_le a x) && between x ys (map (λ b. b - 1) bs))
@@ -171,7 +171,7 @@ signs_elsewhere a x bs ys f p e s other =
 abbrev pub covers : ℕ → List ℕ → List ℕ → Bool
 covers m outer inner = nat_le (rows outer) (suc m) && interlaces (resize (suc m) outer) (resize m inner)
 
--- the sum of the signs of the hooks of a ∷ bs whose remaining shapes the shape covers
+-- the sum of the signs of the hooks of a ∷ bs whose remaining shapes `outer` covers (`covers`: by a horizontal strip)
 abbrev pub signs_covered : List ℕ → ℕ → List ℕ → ℤ
 signs_covered outer a bs = total (λ (h : SpecialHook). h.sign *ℤ indicator (covers (length bs) outer h.rest)) (special_hooks (a ∷ bs))
 
@@ -203,7 +203,7 @@ covered_elsewhere outer a bs o p s other = elim (cases_lt (suc (length bs)) (row
         ∙ signs_elsewhere a x bs ys p.falls p.positive.1 (omega arith) (omega arith)
         (λ g. other (sym (without_last_zeros-resize (suc (length bs)) outer o.positive l) ∙ ap without_last_zeros (e ∙ g) ∙ without_last_zeros-positive (a ∷ bs) p.positive))
 
--- ---- the signed sum over all shapes of the size
+-- ---- the signed sum over all shapes of the size of the given shape
 
 factor_out : (s : ℤ) (b : Bool) (z : ℤ) → s *ℤ cond b z (pos 0) ≡ z *ℤ (s *ℤ indicator b)
 factor_out s true z = simp ring (omega (arith, ints))

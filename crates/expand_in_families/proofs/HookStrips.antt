@@ -115,7 +115,7 @@ covers_from m outer inner p q few s =
 
 -- ---- the list of the shapes that cover a remaining shape
 
--- the shapes that cover the remaining shape of a hook of a ∷ bs, among all shapes of the size
+-- the shapes that cover the remaining shape of a hook of a ∷ bs, among all shapes of the size of a ∷ bs
 abbrev pub covering : ℕ → List ℕ → SpecialHook → List (List ℕ)
 covering a bs h = filter (λ ν. covers (length bs) ν h.rest) (partitions_of (size (a ∷ bs)))
 

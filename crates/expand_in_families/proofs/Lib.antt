@@ -5,7 +5,6 @@ pub mod HookStrips
 pub mod ConjugateStrips
 pub mod HookSums
 pub mod AtomNodes
-pub mod ClearedLists
 pub mod Nodes
 pub mod NodeSums
 pub mod Endings

@@ -1,4 +1,4 @@
--- Sums of nodes.
+-- The node (a list, a denominator and a degree) of a sum of two expressions.
 use Rattle.std.proofs.Common.{◌≡◌, ◌⊎◌, ℕ, ◌+◌, ◌*◌, ◌/◌, ◌^◌, ◌<◌, ◌≤◌, max, sym, ◌∙◌, ap, ap₂, subst, inl, inr, arith, ℤ, pos, ◌*ℤ◌}
 use Rattle.std.specs.Prelude.{nat_abs}
 use Rattle.std.proofs.lemmas.Nat.{mul-le}
@@ -23,7 +23,7 @@ use Rattle.expand_in_families.proofs.Nodes.{growth-within_weight, denominator-wi
 use Rattle.sym_model.proofs.WholeTerms.{absolute-append}
 use native.Mathlib.Nat.{mul-le-mul_left, mul-pos}
 
--- if the sum is refused, |p|·A + |q|·B is at least 2^127, for the sums A and B of the absolute values of both lists
+-- if p·A + q·B is refused as too large, |p| times the sum of the absolute values of A plus |q| times that of B is at least 2^127
 sum-large : (A B : WholeTerms) (p q : ℤ) → SumIsLarge A B p q → 2 ^ 127 ≤ nat_abs p * absolute_total A + nat_abs q * absolute_total B
 sum-large A B p q (inl l) =
     let a = coefficient-few (scale p A) l.label in let b = absolute-scale p A in let g = l.large in omega arith
@@ -37,7 +37,8 @@ sum-large A B p q (inr (inr l)) =
     let g = l.large in
     omega arith
 
--- if k·(degree e)! = d!, then l·k times the bound of e is at most l·N times the growth at d, N the numerator of e
+-- if degree e ≤ d and k·(degree e)! = d!, then l·k·N times the growth at degree e is at most N·l times the growth at d, N the
+-- numerator of e
 part-bound : (e : Tree) (l k d : ℕ) → degree e ≤ d → k * factorial (degree e) ≡ factorial d → (l * k) * (numerator e * grown (degree e)) ≤ (numerator e * l) * grown d
 part-bound e l k d h w =
     let g = grown-raised (degree e) d k h w in
@@ -100,7 +101,7 @@ module _ (P : ℕ → ℕ → Poly) (e f : Tree) (c d : Node) (k j : ℕ) (he : 
       spread : (a b g : ℕ) → a * g + b * g ≤ (a + b) * g
       spread a b g = omega arith
 
-  -- l·k times the left list and r·j times the right one are at most the weight
+  -- the bounds of l·k times the left list and of r·j times the right list add up to at most the weight
   met : (l r : ℕ) → l ≡ lcm (denominator e) (denominator f) / denominator e → r ≡ lcm (denominator e) (denominator f) / denominator f
       → (l * k) * (numerator e * grown (degree e)) + (r * j) * (numerator f * grown (degree f)) ≤ weight Basis.completes (sum e f)
   met l r li ri =

@@ -1,4 +1,4 @@
--- Nodes and the expressions for which they are made.
+-- The nodes (a list, a denominator and a degree) of numbers, negations and products, and the expressions that they represent.
 use Rattle.std.proofs.Common.{◌≡◌, ℕ, ◌+◌, ◌*◌, ◌^◌, ◌≤◌, max, [], ◌∷◌, sym, ◌∙◌, ap, ap₂, refl, arith, ℤ, pos, negsuc, neg_ℤ, ◌*ℤ◌, ◌+ℤ◌}
 use Rattle.std.specs.Prelude.{nat_abs}
 use Rattle.std.proofs.lemmas.Int.{ints}
@@ -34,7 +34,8 @@ use native.Mathlib.Nat.{mul-le-mul_left, mul-le-mul_right}
 pub growth-within_weight : (e : Tree) → HasDenominators e → numerator e * grown (degree e) ≤ weight Basis.completes e
 growth-within_weight e h = mul-le (numerator e) (grown (degree e)) (numerator e * denominator e) (grown (degree e)) (times-more (numerator e) (denominator e) (denominator-positive e h)) (omega arith)
 
--- the denominator times the factorial of the degree, by which the list is divided at the end, is at most the weight
+-- if the denominators of e are positive, its denominator times the factorial of its degree, by which the list is divided at the
+-- end, is at most the weight
 pub denominator-within_weight : (e : Tree) → HasDenominators e → denominator e * factorial (degree e) ≤ weight Basis.completes e
 denominator-within_weight e h =
     let p : 1 * denominator e ≤ numerator e * denominator e = mul-le-mul_right (denominator e) (numerator-positive e h) in
@@ -95,7 +96,7 @@ large-negation P e c d h l =
 pub node-greatest : (P : ℕ → ℕ → Poly) (e : Tree) (c : Node) → ClearsTo P e c → greatest_size c.terms ≤ degree e
 node-greatest P e c h = stands-greatest P (factorial (degree e)) (numerator e * grown (degree e)) (degree e) (cleared_value e) c.terms h.stands
 
--- the product of the bounds of both factors, brought over the factorial of the sum of the degrees, is within the bound of the product
+-- k times the product of the bounds of both factors is within the bound of the product, if k is (d + d')!/(d!·d'!) for the degrees d and d'
 joined-bound : (e f : Tree) (k : ℕ) → k * (factorial (degree e) * factorial (degree f)) ≡ factorial (degree e + degree f)
     → k * ((numerator e * grown (degree e)) * (numerator f * grown (degree f))) ≤ (numerator e * numerator f) * grown (degree e + degree f)
 joined-bound e f k h =

@@ -1,6 +1,6 @@
 -- The steps that compute the list of a shape: the shape that remains after a hook, and the hook's summand.
 --     left-numbers, left-limits      the numbers of the remaining shape
---     left-rest                      they are a partition of the other cells
+--     left-rest                      the remaining shape is a partition of the cells outside the hook
 --     peeled-term, peeled-next, peeled-large      the summand of the hook
 use Rattle.std.proofs.Common.{◌≡◌, ℕ, zero, suc, ◌+◌, ◌-◌, ◌*◌, ◌^◌, ◌<◌, ◌≤◌, List, [], ◌∷◌, ◌++◌, map, length, get_or, take, drop, refl, sym, ap, ◌∙◌, subst, arith, ℤ, pos, ◌*ℤ◌, Ok, Err, flat_map}
 use Rattle.std.specs.Prelude.{nat_abs, ◌≢◌, Result, IfOk}
@@ -82,7 +82,7 @@ below-first (a ∷ parts) zero f = omega arith
 below-first (a ∷ []) (suc i) f = omega arith
 below-first (a ∷ b ∷ parts) (suc i) f = let h = below-first (b ∷ parts) i f.1 in let g = f.0 in omega arith
 
--- no hook has more cells than that of the first cell
+-- if the columns and rows of the shape are together at most m, each hook has fewer than m cells
 pub cells-within : (parts : List ℕ) (i m : ℕ) → IsPartition parts → i < length parts → columns parts + length parts ≤ m
     → get_or parts i 0 + (length parts - 1 - i) < m
 cells-within parts i m p h e = let b = below-first parts i p.falls in omega arith

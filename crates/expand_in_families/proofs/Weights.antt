@@ -1,4 +1,4 @@
--- The weight for the target.
+-- If the weight for the target h is 2^127 or more, so is the weight for each of the targets e, h and p.
 use Rattle.std.proofs.Common.{◌*◌, ◌^◌, ◌≤◌, sym, subst}
 use Rattle.sym_model.specs.Expansion.{completes}
 use Rattle.sym_model.specs.Expression.{Tree, degree, denominator}

@@ -14,7 +14,7 @@ pub record SpecialHook : Type 0 where
 abbrev pub shortened : List ℕ → List ℕ
 shortened parts = without_last_zeros (map (λ a. a - 1) parts)
 
--- the same hook of the shape with one more row, of a cells, above all others
+-- the hook h as a hook of the shape with one more row, of a cells, above all others
 abbrev pub below_row : ℕ → SpecialHook → SpecialHook
 below_row a h = record { sign = h.sign; cells = h.cells; rest = a ∷ h.rest }
 

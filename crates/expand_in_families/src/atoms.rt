@@ -1,7 +1,7 @@
-//! Partitions in the five bases, as lists of terms in the target.
+//! The basis polynomials of a partition in the five bases, as lists of terms in the target.
 ghost use Rattle.std.specs.Prelude.{◌≡◌, ◌+◌, ◌*◌, ◌<◌, ◌≤◌, ◌^◌, IfOk, IsErrOf};
 ghost use Rattle.sym_model.specs.Bases.{product_over};
-ghost use Rattle.sym_model.specs.Expansion.{completes, schurs};
+ghost use Rattle.sym_model.specs.Expansion.{completes, monomials, schurs};
 ghost use Rattle.sym_model.specs.Expression.{atom};
 ghost use Rattle.sym_model.specs.Partition.{IsPartition, size};
 ghost use Rattle.sym_model.specs.Schur.{schur};
@@ -16,9 +16,8 @@ ghost use Rattle.expand_in_families.specs.Nodes.{IsConverted};
 use crate::factorials::{binomial, rise};
 use crate::node::Node;
 use crate::schur_lists::schur_list;
-use basis_change::{to_basis, whole_of, whole_terms};
-use basis_expand::atom_to_monomial;
-use calc_base::{Basis, SumFault, Weight};
+use basis_change::{in_family, whole_of};
+use calc_base::{Basis, SumFault};
 use coeff_rings::factorial;
 use family_lists::{add_products, factor_list};
 use linear_combinations::Lin;
@@ -26,8 +25,8 @@ use partitions::Partition;
 use sparse_polys::{Family, Whole, single};
 use std::alloc::Global;
 
-/// The factor by which the list of k times a list over size! is multiplied to become a list over (k
-/// + size)!.
+/// (k + size)!/(q·size!), with q the factor of the list of `factor_list` for k: k! for e_k and h_k,
+/// and 1 for p_k.
 fn ways(family: Family, k: u16, size: u16) -> u128
     requires { k + size ≤ 20 }
     ensures value { result * (over_number family k * factorial size) ≡ factorial (k + size) }
@@ -40,7 +39,8 @@ fn ways(family: Family, k: u16, size: u16) -> u128
     }
 }
 
-/// The product over the parts times the factorial of their sum, and their sum.
+/// The product of e_k, h_k or p_k, by `family`, over the parts k, times the factorial of the sum of
+/// the parts, as a list in the target; and that sum.
 fn over_parts(
     alloc: Global,
     target: Family,
@@ -69,7 +69,8 @@ fn over_parts(
     Ok((product, *k + size))
 }
 
-/// A partition in another family than the target, by the lists of its parts.
+/// The product of e_k, h_k or p_k, by `family`, over the parts k of a partition, as a list in
+/// another family, from the lists of the factors.
 fn by_parts(
     alloc: Global,
     target: Family,
@@ -118,19 +119,9 @@ fn from_family(
     by_parts(alloc, target, family, label)
 }
 
-/// The basis of the family.
-fn letter_of(family: Family) -> Basis
-    ensures { basis_of result ≡ basis_in family }
-{
-    match family {
-        Family::Elementary => Basis::E,
-        Family::Complete => Basis::H,
-        Family::PowerSum => Basis::P,
-    }
-}
-
-/// Whether the special rim hooks are read as e_k, with those of the conjugate shape: for the target
-/// e, and for the target p if the shape has fewer columns than rows.
+/// Whether a Schur polynomial is computed from e_k and the special rim hooks of the conjugate
+/// shape, instead of h_k and those of its own shape: for the target e, and for the target p if the
+/// shape has fewer columns than rows.
 fn is_by_columns(target: Family, label: &Partition) -> bool {
     match target {
         Family::Elementary => true,
@@ -139,8 +130,8 @@ fn is_by_columns(target: Family, label: &Partition) -> bool {
     }
 }
 
-/// A partition in s, by special rim hooks: read as h_k, with those of its shape, or as e_k, with
-/// those of the conjugate shape.
+/// A partition in s, by the special rim hooks of its shape, with the factors h_k, or by those
+/// of the conjugate shape, with the factors e_k.
 fn by_hooks(alloc: Global, target: Family, label: &Partition) -> Result<Node, SumFault>
     requires { size label.now ≤ 15 }
     ensures { IsConverted (polynomial_of target) (atom schurs label.now) result }
@@ -154,7 +145,7 @@ fn by_hooks(alloc: Global, target: Family, label: &Partition) -> Result<Node, Su
     })
 }
 
-/// The list of a Schur polynomial in the target.
+/// The list in the target of a Schur polynomial times the factorial of its degree.
 fn schur_terms(alloc: Global, target: Family, label: &Partition) -> Result<Whole, SumFault>
     requires partition { IsPartition label.now }
     requires low { size label.now ≤ 15 }
@@ -172,20 +163,14 @@ fn schur_terms(alloc: Global, target: Family, label: &Partition) -> Result<Whole
     schur_list(alloc, target, Family::Complete, label)
 }
 
-/// A partition in any basis as a list in the target, by way of m.
-fn by_monomials(
-    alloc: Global,
-    target: Family,
-    basis: Basis,
-    label: &Partition,
-) -> Result<Node, SumFault>
+/// A partition in m, as a list in the target.
+fn from_monomial(alloc: Global, target: Family, label: &Partition) -> Result<Node, SumFault>
     requires { size label.now ≤ 15 }
-    ensures { IsConverted (polynomial_of target) (atom (basis_of basis) label.now) result }
+    ensures { IsConverted (polynomial_of target) (atom monomials label.now) result }
 {
-    let list = atom_to_monomial(alloc, basis, label)?;
-    let answer = to_basis(alloc, &list, Weight { num: 1, den: 1 }, letter_of(target))?;
     let degree = label.size();
-    let terms = whole_terms(alloc, &answer, factorial(degree))?;
+    let list = single(alloc, label.parts(), 1)?;
+    let terms = in_family(alloc, &list, degree, target)?;
     Ok(Node {
         terms,
         den: 1,
@@ -204,7 +189,7 @@ pub(crate) fn atom(
     ensures { IsConverted (polynomial_of target) (atom (basis_of basis) label.now) result }
 {
     match basis {
-        Basis::M => by_monomials(alloc, target, Basis::M, label),
+        Basis::M => from_monomial(alloc, target, label),
         Basis::E => from_family(alloc, target, Family::Elementary, label),
         Basis::H => from_family(alloc, target, Family::Complete, label),
         Basis::P => from_family(alloc, target, Family::PowerSum, label),

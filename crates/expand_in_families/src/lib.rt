@@ -7,7 +7,7 @@
 //! variables, computed node by node in the target: products join the parts of labels, atoms in
 //! another of these bases are products of the lists of their parts, those in s are expanded by
 //! special rim hooks, and those in m are changed by `to_basis`; `Large` is returned only if the
-//! weight for the target is 2^127 or more.
+//! weight for the target (`Formula::weight_below`) is 2^127 or more.
 //!
 //! `special_hooks_law`: a Schur polynomial as the sum of ±h_k times the Schur polynomial of the
 //! remaining shape, over the special rim hooks of its shape, in every number of variables, and with

@@ -23,7 +23,7 @@ pub(crate) struct InFamily {
     pub(crate) family: Family,
 }
 
-/// The product of two numbers. Returns an error if and only if its absolute value is 2^127 or more.
+/// The product of two numbers. Returns an error only if its absolute value is 2^127 or more.
 fn times(from: i128, by: u128) -> Result<Int, Large>
     requires { by < 2 ^ 127 }
     ensures { MatchResult result (λ p. p ≡ from *ℤ pos by)

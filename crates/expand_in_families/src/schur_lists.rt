@@ -40,9 +40,10 @@ fn left_by_hook(alloc: Global, shape: &[u16], row: usize) -> Result<Partition, N
     Partition::from_valid_numbers(alloc, &parts)
 }
 
-/// The list of a shape: the sum over its special rim hooks of the list of the hook's number of
-/// cells times the list of the remaining shape, with the hook's sign. Each summand is brought over
-/// the factorial of the size. The list of the empty shape is 1.
+/// The list of a shape, which has the factor size!: the sum over its special rim hooks of the list
+/// of the hook's number of cells times the list of the remaining shape, with the hook's sign and
+/// the binomial coefficient that makes the factor of the product size!. The list of the empty shape
+/// is 1.
 #[cycle(peeling)]
 fn list_of(
     alloc: Global,
@@ -106,9 +107,10 @@ fn index_of(
     Ok(keep(store, shape, list)?)
 }
 
-/// The list in the target of the Schur polynomial of a shape, if a special rim hook of k cells is
-/// read as h_k; if it is read as e_k, that of the conjugate shape. Returns `Large` only if the
-/// growth is 2^127 or more.
+/// The list in the target of the Schur polynomial of a shape, times the factorial of its size, if a
+/// special rim hook of k cells gives the factor h_k; if it gives the factor e_k, that of the
+/// conjugate shape. Returns `Large` only if `growth`, the factor by which a conversion into the
+/// target can raise the coefficients at this size, is 2^127 or more.
 pub(crate) fn schur_list(
     alloc: Global,
     target: Family,

@@ -1,5 +1,6 @@
--- Laws of collected texts: `Gathers-then` for two, `Gathers-as` for an equal text, `Gathers-nothing` for no text, and
--- `Gathers-prints` for the end of a printer.
+-- Laws of `Gathers`, which says that a text was collected, that is, appended to the bytes in a buffer and in the sink:
+-- `Gathers-then` for two texts, `Gathers-as` for an equal text, `Gathers-nothing` for no text, and `Gathers-prints` for the end of
+-- a printer.
 use Rattle.std.proofs.Common.{◌≡◌, ℕ, List, [], ◌++◌, Bool, true, false, refl, sym, ◌∙◌, ap, subst, append_assoc, append-nil}
 use Rattle.std.specs.Prelude.{Result, is_ok}
 use Rattle.calc_base.specs.Puts.{Puts, Prints}
@@ -7,7 +8,8 @@ use Rattle.calc_base.specs.Sink.{SinkSeen}
 use Rattle.calc_base.proofs.PutsLaws.{Puts-then, Puts-as, Puts-nothing, Puts-prints}
 use Rattle.expansion_printer.specs.Gathering.{Waiting, HasPut, Gathers}
 
--- if a write failed before, the text can be replaced by any other
+-- `Puts` for the text a implies `Puts` for b if a and b are equal, or if a write failed before, since nothing is written
+-- after that
 Puts-else : {before now : Bool} {old new : SinkSeen} {a b : List ℕ} → (before ≡ true → a ≡ b)
     → Puts before old now new a → Puts before old now new b
 Puts-else {before = before} {now = now} {old = old} {new = new} {b = b} same goes =
@@ -38,7 +40,7 @@ HasPut-nothing start = record {
   goes = Puts-nothing true start;
 }
 
--- after the bytes in the buffer are written, the text so far was written whole
+-- if the bytes in the buffer are now written, the text so far has been written whole
 HasPut-ends : {start sink new : SinkSeen} {text : List ℕ} {old : Waiting} {now : Bool}
     → HasPut start text old sink → Puts old.well sink now new old.bytes
     → Puts true start now new text
@@ -122,7 +124,7 @@ Gathers-nothing now sink = record {
       let P : List ℕ → Type 0 = λ t. HasPut start t now sink in subst P (sym (append-nil before)) h;
 }
 
--- a printer that begins with an empty buffer and writes the bytes in it at its end prints the text
+-- if a text was collected from an empty buffer on, and the bytes in the buffer are written at the end, the text was printed
 pub Gathers-prints : {E : Type 0} {old now : Waiting}
     {start sink new : SinkSeen} {text : List ℕ} (result : Result (Unit {0}) E) → old ≡ record { bytes = []; well = true }
     → Gathers old start now sink text → Puts now.well sink (is_ok result) new now.bytes

@@ -1,4 +1,4 @@
--- Lemmas of the crate.
+-- Lemmas about printed texts: how they are collected in a buffer, and the texts of terms, rows and tableaux.
 pub mod Texts
 pub mod PrintableTerms
 pub mod RowTexts

@@ -1,4 +1,4 @@
--- Coefficients as they are printed, and terms one after another.
+-- The printed texts of coefficients, and of the terms of a one-line form.
 use Rattle.std.proofs.Common.{◌≡◌, ℕ, ◌<◌, length, arith, Bool, true, false, List, [], ◌∷◌, ◌++◌, cond, eqb, ℤ, pos, negsuc, suc, nat_abs, refl, sym, ◌∙◌, ap, append_assoc, append-nil, decimal}
 use Rattle.std.specs.Prelude.{codes}
 use Rattle.std.specs.Fmt.{signed_decimal}
@@ -17,7 +17,7 @@ not_unit num den size e other = by (is_unit (num, den)) refl
         absurd (other (e ∙ eqb-true (nat_abs num) 1 p.0) (eqb-true den 1 p.1))
     by false h = refl
 
--- the text written for a coefficient whose absolute value is not 1 is its text in a line
+-- if a coefficient is neither 1 nor -1, its absolute value followed by `*` is its text in a line
 pub coefficient-printed : (num : ℤ) (den size : ℕ) → size ≡ nat_abs num → (size ≡ 1 → den ≡ 1 → ⊥)
     → decimal size ++ (cond (eqb den 1) [] (47 ∷ decimal den) ++ codes "*") ≡ coefficient_text (num, den)
 coefficient-printed num den size e other =

@@ -42,7 +42,7 @@ module _ {L : Type 0} where
       (test_from_fits t.1 (All-head (λ (u : L × ℤ). FitsSigned w128 u.1) t terms all)) refl)
       (printable-whole terms (All-tail (λ (u : L × ℤ). FitsSigned w128 u.1) t terms all))
 
-  -- a canonical list with integers of 128 bits can be printed
+  -- a canonical list with integers of 128 bits is in order, has proper terms, and can be printed
   pub whole-printable : (order : L → L → Ordering) (is_label : L → Bool) (terms : List (L × ℤ))
       → All (λ (t : L × ℤ). FitsSigned w128 t.1) terms
       → is_canonical_list order is_label whole terms ≡ true
@@ -65,7 +65,7 @@ module _ {L : Type 0} where
       (held-fits_fraction t.1 (All-head (λ (u : L × Fraction). IsFraction u.1) t terms all))
       (printable-fractions terms (All-tail (λ (u : L × Fraction). IsFraction u.1) t terms all))
 
-  -- a canonical list with fractions of 128 bits can be printed
+  -- a canonical list with fractions of 128 bits is in order, has proper terms, and can be printed
   pub fractions-printable : (order : L → L → Ordering) (is_label : L → Bool) (terms : Terms L)
       → All (λ (t : L × Fraction). IsFraction t.1) terms
       → is_canonical_list order is_label (λ (r : Fraction). r) terms ≡ true

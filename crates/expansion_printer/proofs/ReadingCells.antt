@@ -1,4 +1,4 @@
--- The letter that a column reading has for a cell.
+-- The letter of a cell in a column reading.
 use Rattle.std.proofs.Common.{zero-add, ◌≡◌, ◌≢◌, ℕ, zero, suc, ◌+◌, ◌-◌, ◌≤◌, ◌<◌, inl, inr, ◌⊎◌, max, length, arith, Bool, true, false, ◌&&◌, List, [], ◌∷◌, ◌++◌, refl, sym, ◌∙◌, ap, ap₂, map, drop, cond, ◌==◌, nat_lt, nat_le, reverse, filter, flat_map}
 use Rattle.std.specs.Prelude.{slice_index}
 use Rattle.std.proofs.lemmas.Bool.{eq-eqb, ne_eqb, cases_eq, cond-true, cond-false, lt-ltb, le-leb, and_from, and_right}
@@ -17,12 +17,12 @@ use Rattle.expansion_printer.specs.ReadingPlaces.{HasReadingPlaces, before_in_ro
 use Rattle.expansion_printer.proofs.RowTexts.{after-push}
 use Rattle.expansion_printer.proofs.TableauRows.{parts-told}
 
--- the number of cells in these rows of outer/inner that are read before a cell
+-- the number of cells of outer/inner in the rows `numbers` that are read before the cell in this row and column
 abbrev pub cells_in_rows : List ℕ → List ℕ → ℕ → ℕ → List ℕ → ℕ
 cells_in_rows outer inner row column numbers =
     sum_by (λ i. before_in_row (part inner i) (part outer i) column (nat_lt i row)) numbers
 
--- the number of cells of outer/inner that are read before a cell
+-- the number of cells of outer/inner that are read before the cell in this row and column
 abbrev pub cells_before : List ℕ → List ℕ → ℕ → ℕ → ℕ
 cells_before outer inner row column = cells_in_rows outer inner row column (after 0 (rows outer))
 
@@ -94,11 +94,12 @@ rows_above-past row test a (suc m) far =
     ∙ ap (λ b. cond (b && test (a + 1)) 1 0 + rows_above row test (after (a + 1) m)) (nat_lt-false (a + 1) row far)
     ∙ zero-add (rows_above row test (after (a + 1) m)) ∙ rows_above-past row test (a + 1) m (omega arith)
 
--- the cells of a column in the rows that pass a test, and then the others
+-- the cells of the column in the rows `is`, followed by the cells `others`
 abbrev cells_then : ℕ → List ℕ → List (ℕ × ℕ) → List (ℕ × ℕ)
 cells_then column is others = map (λ (i : ℕ). (i, column)) is ++ others
 
--- the letter of a cell of a column has as its place the number of rows above it that pass the test
+-- if w begins with the letters of a column in those of the rows a + 1 to a + m that pass the test, the letter of its cell in `row` is
+-- at the index given by the number of these rows above it
 in-column : (row column : ℕ) (test : ℕ → Bool) (others : List (ℕ × ℕ)) (a m : ℕ) → a < row → row ≤ a + m → test row ≡ true → (w : List ℕ)
     → letter_of_cell row column (cells_then column (filter test (after a m)) others) w ≡ slice_index w (rows_above row test (after a m))
 in-column row column test others a zero high low h w = absurd (omega arith)
@@ -230,7 +231,7 @@ first_greatest (a ∷ []) falls (suc k) = omega arith
 first_greatest (a ∷ b ∷ parts) falls zero = omega arith
 first_greatest (a ∷ b ∷ parts) falls (suc k) = let h = first_greatest (b ∷ parts) falls.1 k in omega (arith, falls.0)
 
--- the letter of a cell is in the reading after the letters of the cells before it
+-- the letter of a cell in a column reading w is at the index given by the number of cells read before it
 pub letter-is : (outer inner : List ℕ) (row column : ℕ) → Falls outer → IsCell outer inner row column → (w : List ℕ)
     → slice_index w (cells_before outer inner row column) ≡ letter_of_cell row column (reading_cells outer inner) w
 letter-is outer inner row column falls cell w =
@@ -240,7 +241,7 @@ letter-is outer inner row column falls cell w =
     ∙ ap (slice_index w) (ap (λ n. n + above outer inner row column cell) (columns_long outer inner (columns outer - column) column every)
     ∙ sym (sum_by-add (λ i. part outer i - max (part inner i) column) (λ i. cond (nat_lt i row && reaches outer inner column i) 1 0) (after 0 (rows outer)))))
 
--- ---- the place of a cell in the reading is its number
+-- ---- a filling whose column reading is 0, 1, 2, ..: the number in each cell is its place in the reading
 
 before-few : (left right column : ℕ) (is_above : Bool) → before_in_row left right column is_above ≤ right
 before-few left right column false = grind (arith, nat_tests)

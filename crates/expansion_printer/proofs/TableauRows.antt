@@ -9,7 +9,7 @@ use Rattle.sym_model.proofs.Tableaux.{length-row_lengths}
 use Rattle.skew_shapes.specs.CellFillings.{row_of, place_in_row}
 use Rattle.skew_shapes.specs.Rows.{row_by, rows_by}
 
--- a list is the list of the values of g at the places of its items
+-- if g(s + i + 1) is the item at place i of the list, the values of g list its items from place j on
 tabulated : {A : Type 0} (default : A) (g : ℕ → A) (xs : List A) (s j m : ℕ) → j + m ≡ length xs
     → ((i : ℕ) → i < length xs → g (s + i + 1) ≡ get_or xs i default) → map g (after (s + j) m) ≡ drop j xs
 tabulated default g xs s j zero long is =
@@ -32,7 +32,7 @@ index-lengths [] i = refl
 index-lengths (row ∷ filling) zero = refl
 index-lengths (row ∷ filling) (suc i) = index-lengths filling i
 
--- a filling with the row lengths of its shape is the list of its rows by entries
+-- if the rows of a filling have the lengths of the shape, the filling is the list of its rows by entries
 pub rows-told : (outer inner : List ℕ) (filling : List (List ℕ)) → map length filling ≡ row_lengths outer inner
     → rows_by (λ row column. slice_index (row_of filling row) (place_in_row inner row column)) outer inner ≡ filling
 rows-told outer inner filling cells =

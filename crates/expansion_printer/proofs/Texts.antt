@@ -29,7 +29,7 @@ separated-behind separator piece first (next ∷ pieces) =
     ∙ ap (λ t. first ++ t) (append_assoc separator (separated separator (next ∷ pieces)) (separator ++ piece)
     ∙ ap (λ t. separator ++ t) (separated-behind separator piece next pieces))
 
--- one piece appended to others; the separator is in front of it unless it is the first
+-- a piece appended to a list of pieces: the separator is in front of it unless the list is empty
 pub separated-push : (separator : List ℕ) (pieces : List (List ℕ)) (piece : List ℕ) (at : ℕ) → length pieces ≡ at
     → separated separator pieces ++ cond (at == 0) piece (separator ++ piece) ≡ separated separator (pieces ++ piece ∷ [])
 separated-push separator [] piece at first =
@@ -71,7 +71,7 @@ pub map_same : (numbers : List ℕ) → map (λ (n : ℕ). n) numbers ≡ number
 map_same [] = refl
 map_same (n ∷ numbers) = ap (λ ns. n ∷ ns) (map_same numbers)
 
--- appending the line of a term to the lines of others gives the lines of the longer list
+-- appending the line of a term to the lines of a list gives the lines of the list with the term appended
 pub lines_by-push : {Label : Type 0} (rules : LabelRules Label) (terms : Terms Label) (t : Label × Fraction)
     → lines_by rules terms ++ line_by rules t ≡ lines_by rules (terms ++ t ∷ [])
 lines_by-push rules [] t = sym (append-nil (line_by rules t))
@@ -79,7 +79,7 @@ lines_by-push rules (u ∷ terms) t =
     append_assoc (line_by rules u) (lines_by rules terms) (line_by rules t)
     ∙ ap (λ text. line_by rules u ++ text) (lines_by-push rules terms t)
 
--- the block of a list with a term is the lines of its terms
+-- the block of a list that is not empty is the lines of its terms
 pub block_by-some : {Label : Type 0} (rules : LabelRules Label) (terms : Terms Label) → 0 < length terms
     → lines_by rules terms ≡ block_by rules terms
 block_by-some rules [] some = absurd (omega arith)

@@ -8,8 +8,8 @@ pub record Waiting : Type 0 where
   pub bytes : List ℕ
   pub well : Bool
 
--- Since the sink was `start`, the text was written to it except for its last part, and unless a write failed that part
--- is in the buffer.
+-- From the state `start` of the sink on, the text was written to the sink except for its last part; unless a write failed,
+-- that part is in the buffer.
 pub record HasPut (start : SinkSeen) (text : List ℕ) (now : Waiting)
     (sink : SinkSeen) : Type 0 where
   pub front : List ℕ
@@ -18,7 +18,8 @@ pub record HasPut (start : SinkSeen) (text : List ℕ) (now : Waiting)
   pub waits : now.well ≡ true → now.bytes ≡ last
   pub goes : Puts true start now.well sink front
 
--- the text was collected: if some text before it had been collected, now that text followed by this one has been
+-- the text was collected: if the text `before` had been collected earlier, `before` followed by this text has been
+-- collected now
 pub record Gathers (old : Waiting) (old_sink : SinkSeen) (new : Waiting) (new_sink : SinkSeen)
     (text : List ℕ) : Type 0 where
   pub behind : (start : SinkSeen) (before : List ℕ) → HasPut start before old old_sink

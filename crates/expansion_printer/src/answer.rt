@@ -15,7 +15,7 @@ pub enum Kind {
     Number,
     /// Partitions with fractions.
     Expansion,
-    /// Partitions with whole coefficients.
+    /// Partitions with integer coefficients.
     Product,
     /// Pairs of partitions.
     Pairs,
@@ -25,7 +25,7 @@ pub enum Kind {
     Permutations,
     /// Monomials.
     Polynomial,
-    /// Permutations with a monomial beside them.
+    /// Permutations, each with a monomial in the variables y.
     Shifts,
 }
 
@@ -36,13 +36,13 @@ pub enum Answer {
     Number { value: Int },
     /// The expansion of a symmetric function in a basis.
     Expansion { terms: Terms<Partition, Frac> },
-    /// A product, or another whole combination of Schur functions.
+    /// A product, or another combination of Schur functions with integer coefficients.
     Product { terms: Terms<Partition, Int> },
     /// A coproduct.
     Pairs { terms: Terms<Pair, Int> },
     /// A quantum product.
     Powers { terms: Terms<Power, Int> },
-    /// A whole combination of Schubert polynomials.
+    /// A combination of Schubert polynomials with integer coefficients.
     Permutations { terms: Terms<Perm, Int> },
     /// A polynomial.
     Polynomial { terms: Terms<Monomial, Int> },

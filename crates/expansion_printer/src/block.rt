@@ -42,7 +42,7 @@ pub fn print_after<K: Sink>(front: &[u8], answer: &Answer, sink: &mut K) -> Resu
     ensures prints { Prints (K.seen sink.old) (K.seen sink.new)
         (front.now ++ answer_text (plain_answer answer.now)) result }
 
-    // The answer is printable, as `print` states.
+    // Every answer is canonical, with numbers of 128 bits, so that its block can be read back.
     ensures printable { IsPrintable (plain_answer answer.now) }
 {
     let mut text = TextBuffer::new();

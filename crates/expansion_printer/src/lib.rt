@@ -1,6 +1,6 @@
-//! Answers of commands, and the one place where they are printed: the block of an answer or its
-//! one-line form, the line of a refusal, and the line of an answer that is too large; the lines of
-//! words, tableaux and shapes, and single labels.
+//! Answers of commands, and all functions that print them: the block of an answer or its one-line
+//! form, the line of a refusal, and the line of an answer that is too large; the lines of words,
+//! tableaux and shapes, and single labels.
 //!
 //! A printer collects its text in a buffer of fixed size, which is written to the sink when it is
 //! full and at the end. After a write that fails there is no other, and what was written is a

@@ -38,8 +38,8 @@ pub fn print_one_line<K: Sink>(answer: &Answer, basis: Basis, sink: &mut K) -> R
     print_one_line_after(b"", answer, basis, sink)
 }
 
-/// Prints the text `front` and then what `print_one_line` prints. If `front` is empty, the sink is
-/// not called for it.
+/// Prints the text `front` and then the answer on one line with the atoms of the basis, or its
+/// block if its labels are not partitions. If `front` is empty, the sink is not called for it.
 ///
 /// Returns `SinkFault` if and only if a write failed. There is no write after that, and what was
 /// written is a prefix of the two texts.
@@ -52,7 +52,7 @@ pub fn print_one_line_after<K: Sink>(
     ensures prints { Prints (K.seen sink.old) (K.seen sink.new)
         (front.now ++ answer_text_in (as_line (basis_of basis)) (plain_answer answer.now)) result }
 
-    // The answer is printable, as `print_one_line` states.
+    // Every answer is canonical, with numbers of 128 bits, so that its line can be read back.
     ensures printable { IsPrintable (plain_answer answer.now) }
 {
     match answer {

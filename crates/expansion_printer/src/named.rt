@@ -14,7 +14,7 @@ use sparse_polys::{Monomial, Pair, Power, Shifted};
 
 /// Labels that follow a coefficient on a line.
 pub(crate) trait Named: Label {
-    // The rules of a block for these labels.
+    // The rules by which these labels are printed in a block and read back.
     ghost line_rules: { LabelRules Self };
 
     /// Writes the text of the label, with the spaces in front of it.

@@ -8,7 +8,7 @@ use crate::text_buffer::TextBuffer;
 use calc_base::Sink;
 use itoa::{Buffer, Integer};
 
-/// A number of at most 64 bits, as the list of a label has it.
+/// Numbers of at most 64 bits, of which the list of a label consists.
 pub(crate) trait Numeral {
     ghost number: { Self → ℕ };
 
@@ -92,7 +92,7 @@ pub(crate) fn put_number<K: Sink>(number: u64, text: &mut TextBuffer, sink: &mut
     put_long(number, text, sink);
 }
 
-/// Writes a number of any length in decimal.
+/// Writes a number of any integer type in decimal.
 #[inline(never)]
 pub(crate) fn put_long<I: Integer, K: Sink>(number: I, text: &mut TextBuffer, sink: &mut K)
     ensures { Gathers text.old (K.seen sink.old) text.new (K.seen sink.new) (I.text number) }

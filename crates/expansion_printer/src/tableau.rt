@@ -61,8 +61,8 @@ pub fn print_reading<K: Sink>(shape: &Skew, reading: &[u16], sink: &mut K) -> Re
     print_filling(&filling, sink)
 }
 
-/// Prints what `print_reading` prints for the shape of the order, without computing the places of
-/// its cells again.
+/// Prints the line of the filling with this column reading, of the shape of `order`. Cells after
+/// the last letter have the number 0. The places of the cells are not computed for each reading.
 ///
 /// Returns `SinkFault` if and only if a write failed. There is no write after that, and what was
 /// written is a prefix of the line.

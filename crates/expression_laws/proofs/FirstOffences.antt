@@ -9,7 +9,7 @@ never_itself : (o : WordOffence) → ComesBefore o o → ⊥
 never_itself o (inl h) = omega arith
 never_itself o (inr h) = omega arith
 
--- the order of errors, by numbers for their places and kinds
+-- the pair (a, b) comes before the pair (c, d): the order of errors, with a and c their bytes, b and d the ranks of their kinds
 abbrev pub Before : ℕ → ℕ → ℕ → ℕ → Type 0
 Before a b c d = (a < c) ⊎ ((a ≡ c) × (b < d))
 
@@ -24,7 +24,7 @@ pub first_before : (a b c d : ℕ) → Before a b c d → goes_first a b c d ≡
 first_before a b c d (inl h) = grind (arith, nat_tests)
 first_before a b c d (inr h) = grind (arith, nat_tests)
 
--- an error before x is before y too, if x is not after y
+-- if p is before x, and x is not after y, p is before y
 before-first : (p x y : WordOffence) → ComesBefore p x → comes_first x y ≡ true → ComesBefore p y
 before-first p x y h k = before_first p.0 (rank p.1) x.0 (rank x.1) y.0 (rank y.1) h k
 
@@ -43,8 +43,8 @@ first_none (x ∷ os) h = absurd (by (first_of os) h)
 pub none-empty : (os : List WordOffence) → os ≡ [] → first_of os ≡ None
 none-empty os h = ap first_of h
 
--- the first of two errors is one of them
-one_of : (x y o : WordOffence) (c : Bool) → cond c (Some x) (Some y) ≡ Some o → ((c ≡ true) × (o ≡ x)) ⊎ ((c ≡ false) × (o ≡ y))
+-- if the test c chooses the error o from x and y, then c is true and o is x, or c is false and o is y
+pub one_of : {A : Type 0} (x y o : A) (c : Bool) → cond c (Some x) (Some y) ≡ Some o → ((c ≡ true) × (o ≡ x)) ⊎ ((c ≡ false) × (o ≡ y))
 one_of x y o true h = inl (refl, cc)
 one_of x y o false h = inr (refl, cc)
 

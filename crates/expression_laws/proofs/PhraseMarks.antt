@@ -1,4 +1,5 @@
--- The marks of a phrase, found as the phrase is read from the left.
+-- The marks of a phrase (specs/ExpressionOffence), which are its numbers and opening parentheses with their bytes, found as
+-- the phrase is read from the left.
 use Rattle.std.proofs.Common.{◌≡◌, ℕ, ◌+◌, List, [], ◌∷◌, ◌++◌, length, length-append, refl, sym, ap, ◌∙◌, subst, append_assoc, arith, Option, Some, None}
 use Rattle.std.proofs.lemmas.List.{append-nil}
 use Rattle.std.specs.Prelude.{codes, option_to_list}
@@ -18,7 +19,7 @@ abbrev pub depth_of : Opened Phrase → ℕ
 depth_of outermost = 0
 depth_of (inside o t f) = depth_of o + 1
 
--- the bytes at which the term, the factor and the part of a factor begin
+-- the byte at which the current term begins
 abbrev pub term_begin : Opened Phrase → ℕ
 term_begin o = length (written_opened o)
 
@@ -70,7 +71,7 @@ piece_mark b (in_denominator n ds) = Some (b + length n + 1, denominator (decima
 piece_mark b (in_entry basis ws ds) = Some (b + 2 + length (commas ws), entry (length ws) (last_value None ws) (decimal_value ds))
 piece_mark b _ = None
 
--- the mark that a symbol completes
+-- the mark that is complete once a symbol is read, if there is one
 abbrev pub new_mark : Reading → Symbol → Option (ℕ × Mark)
 new_mark dead s = None
 new_mark (at p t f o) (digit b) = None
@@ -127,7 +128,7 @@ begin-inside o t f = simp length-append (omega arith)
 regroup : (a t f r : Marks) (m : ℕ × Mark) → a ++ (t ++ (f ++ m ∷ r)) ≡ (a ++ (t ++ (f ++ m ∷ []))) ++ r
 regroup a t f r m = simp append_assoc
 
--- after a symbol that follows a factor the marks are the same
+-- if a symbol is read after the whole factor x, the reading is dead or its marks are those of before
 after-factor : (s : Symbol) (x : Phrase) (t : BeforeTerm Phrase) (f : BeforeFactor Phrase) (o : Opened Phrase)
     → MarksAre (state_marks (at (closed x) t f o)) (after_factor phrases x t f o s)
 after-factor star x t f o =
@@ -169,9 +170,6 @@ entry-next ws ds t f o basis =
 abbrev Adds : Reading → Symbol → Type 0
 Adds x s = MarksAre (state_marks x ++ option_to_list (new_mark x s)) (step phrases x s)
 
-same : (ms : Marks) → ms ≡ ms ++ []
-same ms = sym (append-nil ms)
-
 after-numeral : (s : Symbol) (ds : List ℕ) (t : BeforeTerm Phrase) (f : BeforeFactor Phrase) (o : Opened Phrase)
     → MarksAre (state_marks (at (in_number ds) t f o) ++ (piece_begin t f o, value (decimal_value ds)) ∷ []) (after_factor phrases (numeral ds) t f o s)
 after-numeral s ds t f o =
@@ -188,23 +186,23 @@ after-ratio s n ds t f o =
 
 after-closed : (s : Symbol) (x : Phrase) (t : BeforeTerm Phrase) (f : BeforeFactor Phrase) (o : Opened Phrase)
     → MarksAre (state_marks (at (closed x) t f o) ++ []) (after_factor phrases x t f o s)
-after-closed s x t f o = cast _ _ (after_factor phrases x t f o s) (same _) (after-factor s x t f o)
+after-closed s x t f o = cast _ _ (after_factor phrases x t f o s) (sym (append-nil _)) (after-factor s x t f o)
 
 before-factor : (s : Symbol) (t : BeforeTerm Phrase) (f : BeforeFactor Phrase) (o : Opened Phrase) → Adds (at awaited t f o) s
-before-factor (digit b) t f o = same _
-before-factor (letter_of basis) t f o = same _
+before-factor (digit b) t f o = sym (append-nil _)
+before-factor (letter_of basis) t f o = sym (append-nil _)
 before-factor opens t f o =
     opened-next (opened_marks o) (term_marks (depth_of o) (term_begin o) t) (factor_marks (depth_of o) (factor_begin t o) f) _
-before-factor minus_sign no_term no_factor o = same _
+before-factor minus_sign no_term no_factor o = sym (append-nil _)
 before-factor _ t f o = tt
 
 in-list : (s : Symbol) (basis : Basis) (ws : List (List ℕ)) (t : BeforeTerm Phrase) (f : BeforeFactor Phrase) (o : Opened Phrase) → Adds (at (in_list basis ws) t f o) s
-in-list (digit b) basis ws t f o = same _
-in-list closes_list basis [] t f o = same _
+in-list (digit b) basis ws t f o = sym (append-nil _)
+in-list closes_list basis [] t f o = sym (append-nil _)
 in-list _ basis ws t f o = tt
 
 in-number : (s : Symbol) (ds : List ℕ) (t : BeforeTerm Phrase) (f : BeforeFactor Phrase) (o : Opened Phrase) → Adds (at (in_number ds) t f o) s
-in-number (digit b) ds t f o = same _
+in-number (digit b) ds t f o = sym (append-nil _)
 in-number slash ds t f o =
     last (opened_marks o) (term_marks (depth_of o) (term_begin o) t) (factor_marks (depth_of o) (factor_begin t o) f) _
 in-number star ds t f o = after-numeral star ds t f o
@@ -214,7 +212,7 @@ in-number closes ds t f o = after-numeral closes ds t f o
 in-number _ ds t f o = tt
 
 in-denominator : (s : Symbol) (n ds : List ℕ) (t : BeforeTerm Phrase) (f : BeforeFactor Phrase) (o : Opened Phrase) → Adds (at (in_denominator n ds) t f o) s
-in-denominator (digit b) n ds t f o = same _
+in-denominator (digit b) n ds t f o = sym (append-nil _)
 in-denominator star n ds t f o = after-ratio star n ds t f o
 in-denominator plus_sign n ds t f o = after-ratio plus_sign n ds t f o
 in-denominator minus_sign n ds t f o = after-ratio minus_sign n ds t f o
@@ -228,18 +226,18 @@ in-closed minus_sign x t f o = after-closed minus_sign x t f o
 in-closed closes x t f o = after-closed closes x t f o
 in-closed _ x t f o = tt
 
--- a symbol adds the mark that it completes
+-- reading a symbol adds the mark that is then complete to the marks of the state, or makes the state dead
 pub marks-step : (s : Symbol) (x : Reading) → Adds x s
 marks-step s dead = tt
 marks-step s (at awaited t f o) = before-factor s t f o
 marks-step s (at (in_number ds) t f o) = in-number s ds t f o
-marks-step (digit b) (at (after_slash n) t f o) = same _
+marks-step (digit b) (at (after_slash n) t f o) = sym (append-nil _)
 marks-step _ (at (after_slash n) t f o) = tt
 marks-step s (at (in_denominator n ds) t f o) = in-denominator s n ds t f o
-marks-step opens_list (at (after_letter basis) t f o) = same _
+marks-step opens_list (at (after_letter basis) t f o) = sym (append-nil _)
 marks-step _ (at (after_letter basis) t f o) = tt
 marks-step s (at (in_list basis ws) t f o) = in-list s basis ws t f o
-marks-step (digit b) (at (in_entry basis ws ds) t f o) = same _
+marks-step (digit b) (at (in_entry basis ws ds) t f o) = sym (append-nil _)
 marks-step comma (at (in_entry basis ws ds) t f o) = entry-next ws ds t f o basis
 marks-step closes_list (at (in_entry basis ws ds) t f o) = entry-next ws ds t f o basis
 marks-step _ (at (in_entry basis ws ds) t f o) = tt
@@ -259,7 +257,7 @@ marks-found (at (in_denominator n ds) t f outermost) e h =
     ∙ last_two [] (term_marks 0 0 t) (factor_marks 0 (0 + length (written_term t)) f) _ _
 marks-found (at (closed x) t f outermost) e h =
     let is : join phrases t f x ≡ e = cc h in
-    ap (marks 0 0) (sym is) ∙ marks-join 0 0 t f x ∙ same _
+    ap (marks 0 0) (sym is) ∙ marks-join 0 0 t f x ∙ sym (append-nil _)
 marks-found (at awaited t f outermost) e h = cc
 marks-found (at (after_slash ds) t f outermost) e h = cc
 marks-found (at (after_letter basis) t f outermost) e h = cc

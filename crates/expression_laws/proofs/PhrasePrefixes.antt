@@ -1,4 +1,4 @@
--- A text that is read without a fault begins an expression, and is one if the expression ends at its end.
+-- A text after which the reading is not dead begins an expression, and spells one if an expression ends with its last byte.
 use Rattle.std.proofs.Common.{◌≡◌, ℕ, ◌==◌, nat_le, Bool, true, false, cond, ◌&&◌, List, [], ◌∷◌, ◌++◌, length-append, refl, sym, ap, ◌∙◌, subst, append_assoc, arith, Some}
 use Rattle.std.proofs.lemmas.Bool.{leb-true, eqb-true, and_parts}
 use Rattle.std.proofs.lemmas.List.{append-nil}
@@ -9,7 +9,7 @@ use Rattle.sym_model.specs.Phrase.{plus, minus, times, Phrase, numeral, ratio, l
 use Rattle.expression_laws.specs.LeftToRight.{Symbol, digit, plus_sign, minus_sign, star, slash, opens, closes, opens_list, closes_list, comma, letter_of, other, symbol, BeforeTerm, no_term, negating, adding, subtracting, BeforeFactor, no_factor, multiplying, Opened, outermost, inside, Piece, awaited, in_number, after_slash, in_denominator, after_letter, in_list, in_entry, closed, at, dead, step, start, phrases, join, join_factor, join_term, after_factor, before_factor, in_list_step, is_live, found}
 use Rattle.expression_laws.proofs.PhraseRuns.{Reading, read_on, read-append, factor_covers, found-spelled}
 
--- the byte has the symbol
+-- the byte b is read as the symbol
 abbrev pub Codes : ℕ → Symbol → Type 0
 Codes b (digit c) = (c ≡ b) × IsDigit b
 Codes b plus_sign = b ≡ 43
@@ -89,7 +89,7 @@ abbrev pub written : Reading → List ℕ
 written (at p t f o) = written_opened o ++ (written_term t ++ (written_factor f ++ written_piece p))
 written dead = []
 
--- the parts are phrases of the required levels
+-- the phrase in the part before a term, if there is one, is of the level that the grammar requires
 abbrev pub SoundTerm : BeforeTerm Phrase → Type 0
 SoundTerm (adding e) = Is expression e
 SoundTerm (subtracting e) = Is expression e
@@ -117,12 +117,12 @@ abbrev pub Sound : Reading → Type 0
 Sound (at p t f o) = SoundPiece p × SoundTerm t × SoundFactor f × SoundOpened o
 Sound dead = Unit {0}
 
--- the state is dead, or these are the bytes that have been read
+-- the reading is dead, or it is sound and the bytes read so far are w
 abbrev pub Continues : List ℕ → Reading → Type 0
 Continues w dead = Unit {0}
 Continues w (at p t f o) = (written (at p t f o) ≡ w) × Sound (at p t f o)
 
--- the spelling of joined parts is the text before the factor and the spelling of the factor
+-- the spelling of x joined to the part f before it is the text of f followed by the spelling of x
 pub spelling-join_factor : (f : BeforeFactor Phrase) (x : Phrase) → spelling (join_factor phrases f x) ≡ written_factor f ++ spelling x
 spelling-join_factor no_factor x = refl
 spelling-join_factor (multiplying e) x = sym (append_assoc (spelling e) (codes "*") (spelling x))
@@ -167,7 +167,7 @@ Is-join_term (subtracting e) x h a = (tt, h, a)
 pub Is-join : (t : BeforeTerm Phrase) (f : BeforeFactor Phrase) (x : Phrase) → SoundTerm t → SoundFactor f → Is factor x → Is expression (join phrases t f x)
 Is-join t f x h k a = Is-join_term t (join_factor phrases f x) h (Is-join_factor f x k a)
 
--- the joined parts are the phrase that is found
+-- if t and f are sound and x is a factor, the text w of t, f and x spells the phrase e that t, f and x make
 joined : (w : List ℕ) (t : BeforeTerm Phrase) (f : BeforeFactor Phrase) (x e : Phrase) → Is factor x → SoundTerm t → SoundFactor f
     → w ≡ written_term t ++ (written_factor f ++ spelling x) → Some (join phrases t f x) ≡ Some e → SpellsPhrase w e
 joined w t f x e a ht hf h k =
@@ -177,7 +177,7 @@ joined w t f x e a ht hf h k =
       spelled = h ∙ sym (spelling-join t f x) ∙ ap spelling same;
     }
 
--- a digit is a number word, and so is a number word with one more digit
+-- a digit is a number word of one digit
 one_digit : (c b : ℕ) → c ≡ b → IsDigit b → IsNumberWord (c ∷ [])
 one_digit c b e h = record { nonempty = omega arith; digits = (subst IsDigit (sym e) h, tt) }
 
@@ -191,7 +191,7 @@ IsNumberWord-snoc ds c b e h k = record {
   digits = AreDigits-snoc ds c k.digits (subst IsDigit (sym e) h);
 }
 
--- a symbol after a factor continues the text that was read
+-- if t, f and o are sound and the factor x has been read, the reading after one more symbol is dead, or it is sound and its text has one more byte
 after-factor : (b : ℕ) (s : Symbol) (x : Phrase) (t : BeforeTerm Phrase) (f : BeforeFactor Phrase) (o : Opened Phrase) → Codes b s → Is factor x → SoundTerm t → SoundFactor f → SoundOpened o
     → Continues ((written_opened o ++ (written_term t ++ (written_factor f ++ spelling x))) ++ b ∷ []) (after_factor phrases x t f o s)
 after-factor b star x t f o e a ht hf ho =
@@ -204,7 +204,7 @@ after-factor b closes x t f (inside o t' f') e a ht hf ho =
     (simp (e, spelling-join, append_assoc), (Is-join t f x ht hf a, ho.1, ho.2, ho.0))
 after-factor b _ x t f o e a ht hf ho = tt
 
--- a symbol that begins a factor, or a minus or a parenthesis before one, continues the text that was read
+-- if t, f and o are sound and a factor may begin, the reading after one more symbol is dead, or it is sound and its text has one more byte
 before-factor : (b : ℕ) (s : Symbol) (t : BeforeTerm Phrase) (f : BeforeFactor Phrase) (o : Opened Phrase) → Codes b s → SoundTerm t → SoundFactor f → SoundOpened o
     → Continues ((written_opened o ++ (written_term t ++ (written_factor f ++ []))) ++ b ∷ []) (before_factor phrases t f o s)
 before-factor b (digit c) t f o e ht hf ho =
@@ -233,7 +233,7 @@ AreNumberWords-snoc : (ws : List (List ℕ)) (w : List ℕ) → AreNumberWords w
 AreNumberWords-snoc [] w h k = (k, tt)
 AreNumberWords-snoc (v ∷ ws) w h k = (h.0, AreNumberWords-snoc ws w h.1 k)
 
--- in an atom's list, the reading after a symbol has the text so far and its byte
+-- in an atom's list, the reading after a symbol is dead, or it is sound and its text has one more byte
 in-list : (b : ℕ) (s : Symbol) (basis : Basis) (ws : List (List ℕ)) (t : BeforeTerm Phrase) (f : BeforeFactor Phrase) (o : Opened Phrase) → Codes b s → AreNumberWords ws → SoundTerm t → SoundFactor f → SoundOpened o
     → Continues ((written_opened o ++ (written_term t ++ (written_factor f ++ (letter basis ++ (codes "[" ++ commas ws))))) ++ b ∷ []) (in_list_step phrases basis ws t f o s)
 in-list b (digit c) basis ws t f o e hw ht hf ho =
@@ -242,7 +242,7 @@ in-list b closes_list basis [] t f o e hw ht hf ho =
     (simp (e, append_assoc, append-nil), (tt, ht, hf, ho))
 in-list b _ basis ws t f o e hw ht hf ho = tt
 
--- if x is sound, reading one more byte b gives a reading whose text is that of x followed by b
+-- if x is sound, the reading after one more byte b is dead, or it is sound and its text is that of x followed by b
 pub continues : (b : ℕ) (s : Symbol) (x : Reading) → Codes b s → Sound x → Continues (written x ++ b ∷ []) (step phrases x s)
 continues b s dead e h = tt
 continues b s (at awaited t f o) e h = before-factor b s t f o e h.1 h.2 h.3
@@ -273,7 +273,7 @@ pub read-dead : (w : List ℕ) → read_on w dead ≡ dead
 read-dead [] = refl
 read-dead (b ∷ w) = read-dead w
 
--- if x is sound, reading a text w gives a reading whose text is that of x followed by w
+-- if x is sound, the reading after a text w is dead, or it is sound and its text is that of x followed by w
 pub read-written : (w : List ℕ) (x : Reading) → Sound x → Continues (written x ++ w) (read_on w x)
 read-written [] dead h = tt
 read-written [] (at p t f o) h = (sym (append-nil (written (at p t f o))), h)
@@ -287,7 +287,7 @@ read-written (b ∷ w) x h =
         (ap (λ v. v ++ w) k.0 ∙ append_assoc (written x) (b ∷ []) w)
         (ih (at p t f o) k.1)
 
--- a text that ends the expression: the rest of the factor, and a parenthesis for each that is open
+-- a text that completes the factor whose part has been read
 abbrev rest_of : Piece Phrase (List ℕ) → List ℕ
 rest_of awaited = codes "1"
 rest_of (in_number ds) = []
@@ -302,7 +302,7 @@ abbrev closers : Opened Phrase → List ℕ
 closers outermost = []
 closers (inside o t f) = codes ")" ++ closers o
 
--- the factor and the expression that this text completes
+-- the factor that the text of `rest_of` completes
 abbrev factor_from : Piece Phrase (List ℕ) → Phrase
 factor_from awaited = numeral (codes "1")
 factor_from (in_number ds) = numeral ds
@@ -357,7 +357,7 @@ Is-close : (e : Phrase) (o : Opened Phrase) → Is expression e → SoundOpened 
 Is-close e outermost h k = h
 Is-close e (inside o t f) h k = Is-close (join phrases t f (brackets e)) o (Is-join t f (brackets e) k.1 k.2 h) k.0
 
--- a state that is not dead can be completed
+-- the text of a state that is not dead begins an expression
 complete : (w : List ℕ) (x : Reading) → Continues w x → is_live x ≡ true → BeginsExpression w
 complete w dead h live = cc
 complete w (at p t f o) h live = (
@@ -374,7 +374,7 @@ complete w (at p t f o) h live = (
   },
 )
 
--- a text that is read without a fault begins an expression
+-- if the reading of a text from the start is not dead, the text begins an expression
 pub begins-from_live : (w : List ℕ) → is_live (read_on w start) ≡ true → BeginsExpression w
 begins-from_live w h = complete w (read_on w start) (read-written w start (tt, tt, tt, tt)) h
 
@@ -385,14 +385,14 @@ live-or_dead (at p t f o) h = refl
 found-dead : (w : List ℕ) (x : Reading) (e : Phrase) → x ≡ dead → found phrases (read_on w x) ≡ Some e → ⊥
 found-dead w x e h k = let d = ap (λ y. found phrases (read_on w y)) h ∙ ap (found phrases) (read-dead w) in cc
 
--- a text that begins an expression is read without a fault
+-- if a text begins an expression, the reading of the text from the start is not dead
 pub live-from_begins : (w : List ℕ) → BeginsExpression w → is_live (read_on w start) ≡ true
 live-from_begins w h =
     live-or_dead (read_on w start) (λ e.
     found-dead h.0 (read_on w start) h.1 e
     (ap (found phrases) (sym (read-append w h.0 start)) ∙ found-spelled (w ++ h.0) h.1 h.2))
 
--- the text spells the expression that ends at its end
+-- if e is the expression found in the state after the text w, the text w spells e
 whole : (w : List ℕ) (x : Reading) (e : Phrase) → Continues w x → found phrases x ≡ Some e → SpellsPhrase w e
 whole w dead e h k = cc
 whole w (at p t f (inside o t' f')) e h k = cc

@@ -30,31 +30,28 @@ read-append (b ∷ u) v s = read-append u v (step phrases s (symbol b))
 read-digit : (b : ℕ) (w : List ℕ) (s : Reading) → IsDigit b → read_on (b ∷ w) s ≡ read_on w (step phrases s (digit b))
 read-digit b w s h = ap (λ x. read_on w (step phrases s x)) (symbol-digit b h)
 
-snoc-cons : (ds : List ℕ) (b : ℕ) (es : List ℕ) → (ds ++ b ∷ []) ++ es ≡ ds ++ b ∷ es
-snoc-cons ds b es = append_assoc ds (b ∷ []) es
-
 read-number : (ds es : List ℕ) (t : BeforeTerm Phrase) (f : BeforeFactor Phrase) (o : Opened Phrase) → AreDigits es
     → read_on es (at (in_number ds) t f o) ≡ at (in_number (ds ++ es)) t f o
 read-number ds [] t f o h = ap (λ x. at (in_number x) t f o) (sym (append-nil ds))
 read-number ds (b ∷ es) t f o h =
     read-digit b es (at (in_number ds) t f o) h.0 ∙ read-number (ds ++ b ∷ []) es t f o h.1
-    ∙ ap (λ x. at (in_number x) t f o) (snoc-cons ds b es)
+    ∙ ap (λ x. at (in_number x) t f o) (append_assoc ds (b ∷ []) es)
 
 read-denominator : (n ds es : List ℕ) (t : BeforeTerm Phrase) (f : BeforeFactor Phrase) (o : Opened Phrase) → AreDigits es
     → read_on es (at (in_denominator n ds) t f o) ≡ at (in_denominator n (ds ++ es)) t f o
 read-denominator n ds [] t f o h = ap (λ x. at (in_denominator n x) t f o) (sym (append-nil ds))
 read-denominator n ds (b ∷ es) t f o h =
     read-digit b es (at (in_denominator n ds) t f o) h.0 ∙ read-denominator n (ds ++ b ∷ []) es t f o h.1
-    ∙ ap (λ x. at (in_denominator n x) t f o) (snoc-cons ds b es)
+    ∙ ap (λ x. at (in_denominator n x) t f o) (append_assoc ds (b ∷ []) es)
 
 read-entry : (basis : Basis) (ws : List (List ℕ)) (ds es : List ℕ) (t : BeforeTerm Phrase) (f : BeforeFactor Phrase) (o : Opened Phrase) → AreDigits es
     → read_on es (at (in_entry basis ws ds) t f o) ≡ at (in_entry basis ws (ds ++ es)) t f o
 read-entry basis ws ds [] t f o h = ap (λ x. at (in_entry basis ws x) t f o) (sym (append-nil ds))
 read-entry basis ws ds (b ∷ es) t f o h =
     read-digit b es (at (in_entry basis ws ds) t f o) h.0 ∙ read-entry basis ws (ds ++ b ∷ []) es t f o h.1
-    ∙ ap (λ x. at (in_entry basis ws x) t f o) (snoc-cons ds b es)
+    ∙ ap (λ x. at (in_entry basis ws x) t f o) (append_assoc ds (b ∷ []) es)
 
--- reading a number word gives the state in that number
+-- after the whole number word w has been read, the state is inside this number
 whole-number : (w : List ℕ) (t : BeforeTerm Phrase) (f : BeforeFactor Phrase) (o : Opened Phrase) → IsNumberWord w
     → read_on w (at awaited t f o) ≡ at (in_number w) t f o
 whole-number [] t f o h = absurd (omega (arith, h.nonempty))
@@ -100,7 +97,7 @@ read-label basis (w ∷ ws) t f o h =
     symbol-letter basis (codes "[" ++ (comma_separated (w ∷ ws) ++ codes "]")) (at awaited t f o)
     ∙ read-entries basis [] w ws t f o h
 
--- the part of a factor that is left when the phrase, a factor, has been read: a number may go on, any other factor is complete
+-- the current factor in the state after all of the factor e: a number can still get digits, any other factor is complete
 abbrev pub piece_of : Phrase → Piece Phrase (List ℕ)
 piece_of (numeral ds) = in_number ds
 piece_of (ratio ds es) = in_denominator ds es
@@ -118,7 +115,7 @@ ended o (operation plus l r) = ended_term (adding l) o r
 ended o (operation minus l r) = ended_term (subtracting l) o r
 ended o e = ended_term no_term o e
 
--- the symbols that may follow a factor (star, plus, minus, closing parenthesis), and those of them that end a term
+-- the symbol may follow a factor: it is a star, a plus, a minus or a closing parenthesis
 abbrev pub Follows : Symbol → Type 0
 Follows star = Unit {0}
 Follows plus_sign = Unit {0}
@@ -163,7 +160,7 @@ factor_covers plus h = h
 factor_covers minus h = h
 factor_covers times h = h
 
--- the step for a symbol after a factor is `after_factor`
+-- if the factor e has been read, the step for a symbol s that may follow a factor is `after_factor` of e
 after-piece : (e : Phrase) (t : BeforeTerm Phrase) (f : BeforeFactor Phrase) (o : Opened Phrase) (s : Symbol) → Follows s → Is factor e
     → step phrases (at (piece_of e) t f o) s ≡ after_factor phrases e t f o s
 after-piece (numeral ds) t f o s h a = after-number ds t f o s h
@@ -189,7 +186,7 @@ as_term l r t o comma h = absurd h
 as_term l r t o (letter_of b) h = absurd h
 as_term l r t o other h = absurd h
 
--- the step for a symbol after a term is `after_factor` of the term
+-- if the term e has been read, the step for a symbol s that may follow a factor is `after_factor` of e
 after-term : (e : Phrase) (t : BeforeTerm Phrase) (o : Opened Phrase) (s : Symbol) → Follows s → Is term e
     → step phrases (ended_term t o e) s ≡ after_factor phrases e t no_factor o s
 after-term (numeral ds) t o s h a = after-number ds t no_factor o s h
@@ -217,7 +214,7 @@ as_expression t e o comma h = absurd h
 as_expression t e o (letter_of b) h = absurd h
 as_expression t e o other h = absurd h
 
--- the step for a symbol after an expression is `after_factor` of the expression
+-- if the expression e has been read, the step for a symbol s that ends a term is `after_factor` of e
 after-expression : (e : Phrase) (o : Opened Phrase) (s : Symbol) → EndsTerm s → Is expression e
     → step phrases (ended o e) s ≡ after_factor phrases e no_term no_factor o s
 after-expression (numeral ds) o s h a = after-term (numeral ds) no_term o s (follows s h) a
@@ -282,7 +279,7 @@ read-minus l r a hl hr = λ o.
     ∙ ap (read_on (spelling r)) (after-expression l o minus_sign tt a)
     ∙ hr (subtracting l) o
 
--- reading the spelling of a phrase finds the phrase
+-- if a phrase has a level, reading its spelling gives the state after a phrase of this level
 pub reads : (level : Level) (e : Phrase) → Is level e → Reads level e
 reads level (numeral ds) a = reads-numeral level ds (λ t f o. whole-number ds t f o a)
 reads level (ratio ds es) a = reads-ratio level ds es (λ t f o.
@@ -337,6 +334,6 @@ found-spelled word e h =
     ∙ ap (found phrases) (reads expression e h.allowed outermost)
     ∙ found-expression e h.allowed
 
--- a word spells one phrase
+-- a word spells at most one phrase
 pub one_phrase : (word : List ℕ) (p q : Phrase) → SpellsPhrase word p → SpellsPhrase word q → p ≡ q
 one_phrase word p q h k = let e = sym (found-spelled word p h) ∙ found-spelled word q k in cc

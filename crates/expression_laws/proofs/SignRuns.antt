@@ -1,7 +1,7 @@
--- The minus signs and fractions of an expression, read from the left: the first one found is its first error by a sign.
+-- The minus signs and fractions of an expression, read from the left: the first one found is the first error in `sign_offences`.
 use Rattle.std.proofs.Common.{◌≡◌, ℕ, suc, ◌+◌, ◌<◌, ◌≤◌, ◌==◌, nat_le, Bool, true, false, ◌&&◌, ◌||◌, cond, List, [], ◌∷◌, ◌++◌, length, length-append, append_assoc, append-nil, refl, sym, ap, ◌∙◌, arith, Option, Some, None}
 use Rattle.std.specs.Prelude.{codes}
-use Rattle.std.proofs.lemmas.Bool.{le-leb, lt-ltb}
+use Rattle.std.proofs.lemmas.Bool.{le-leb, lt-ltb, and_from}
 use Rattle.std.proofs.lemmas.Bool.Decides.{nat_tests}
 use Rattle.sym_model.specs.Expansion.{Basis, monomials, elementaries, completes, power_sums, schurs}
 use Rattle.sym_model.specs.NumberWord.{IsDigit, AreDigits, AreNumberWords, comma_separated}
@@ -10,7 +10,7 @@ use Rattle.sym_model.specs.Phrase.{Operator, plus, minus, times, Phrase, numeral
 use Rattle.sym_model.specs.ExpressionOffence.{WordOffence, shape, rank, comes_first, earlier, first_of, minus_offences, sign_offences}
 use Rattle.expression_laws.specs.Signs.{first_sign}
 
--- the first error of two, if there is one, otherwise the second
+-- the first of two optional errors if there is one, and otherwise the second
 abbrev or_else : Option WordOffence → Option WordOffence → Option WordOffence
 or_else None found = found
 or_else (Some o) found = Some o
@@ -71,13 +71,13 @@ first-apart low m high (o ∷ os) ps a b =
     ap (earlier (Some o)) (first-apart low m high os ps a.1 b)
     ∙ one_more m high o (first_of os) (first_of ps) a.0.1 (first-between m high ps b)
 
--- the length of an operation is that of its operands plus 1
+-- the length of the spelling of an operation is the sum of those of its operands, plus 1
 pub joined-length : (operator : Operator) (l r : Phrase) → length (spelling (operation operator l r)) ≡ length (spelling l) + 1 + length (spelling r)
 joined-length plus l r = simp length-append (omega arith)
 joined-length minus l r = simp length-append (omega arith)
 joined-length times l r = simp length-append (omega arith)
 
--- the errors by a sign of a phrase that begins at byte b are at bytes of the phrase
+-- an error of the operator at byte m is at byte m
 minus-between : (m : ℕ) (operator : Operator) → AreBetween m (m + 1) (minus_offences m operator)
 minus-between m plus = tt
 minus-between m minus = ((omega arith, omega arith), tt)
@@ -105,7 +105,7 @@ signs-between b (operation operator l r) =
     (wider m (m + 1) b high (minus_offences m operator) (omega arith) (omega (arith, whole)) (minus-between m operator)))
     (wider (m + 1) (m + 1 + length (spelling r)) b high (sign_offences (m + 1) r) (omega arith) (omega (arith, whole)) (signs-between (m + 1) r))
 
--- the first sign of an operation is that of its left operand, its operator or its right operand
+-- the first error by a sign in an operation is that of its left operand, its operator or its right operand
 first-joined : (b : ℕ) (operator : Operator) (l r : Phrase)
     → first_of (sign_offences b (operation operator l r))
     ≡ or_else (first_of (sign_offences b l))
@@ -130,10 +130,7 @@ first-minus b e =
 
 -- a digit passes the test of digits
 digit-test : (d : ℕ) → IsDigit d → is_digit d ≡ true
-digit-test d h = by (nat_le 48 d) (nat_le d 57) (le-leb 48 d h.0) (le-leb d 57 h.1)
-  where
-    by : (x y : Bool) → x ≡ true → y ≡ true → (x && y) ≡ true
-    by x y h k = cc
+digit-test d h = and_from (nat_le 48 d) (nat_le d 57) (le-leb 48 d h.0) (le-leb d 57 h.1)
 
 digit-step : (at s d : ℕ) (rest : List ℕ) → IsDigit d → first_sign at s (d ∷ rest) ≡ first_sign (at + 1) s rest
 digit-step at s d rest h =
@@ -149,7 +146,7 @@ digits at s (d ∷ ds) rest h =
     digit-step at s d (ds ++ rest) h.0 ∙ digits (at + 1) s ds rest h.1
     ∙ ap (λ n. first_sign n s rest) (let e : at + 1 + length ds ≡ at + length (d ∷ ds) = omega arith in e)
 
--- the text after a phrase begins with no digit and no slash
+-- the text begins with no digit and no slash, as any text after a phrase does
 abbrev Ends : List ℕ → Type 0
 Ends [] = Unit {0}
 Ends (byte ∷ bytes) = (is_digit byte ≡ false) × ((byte == 47) ≡ false)
@@ -165,7 +162,7 @@ any_start at s t (byte ∷ bytes) h = same (is_digit byte) (byte == 47) h.0 h.1
     same false true h e = cc
     same false false h e = refl
 
--- the bytes have no sign, and end an atom's list
+-- no byte of the text is `-` (the byte 45) or `/` (the byte 47)
 abbrev AreQuiet : List ℕ → Type 0
 AreQuiet [] = Unit {0}
 AreQuiet (byte ∷ bytes) = (((byte == 45) ≡ false) × ((byte == 47) ≡ false)) × AreQuiet bytes
@@ -210,7 +207,7 @@ quiet-run (x ∷ xs) at s rest h =
     by false false true h e r = cc
     by false false false h e r = r (at + 1)
 
--- the first sign of a phrase, or otherwise the first one after it
+-- the first error by a sign in the phrase e at byte b, or otherwise in the text `rest` after it
 abbrev signed : ℕ → Phrase → List ℕ → Option WordOffence
 signed b e rest = or_else (first_of (sign_offences b e)) (first_sign (b + length (spelling e)) (b + length (spelling e)) rest)
 
@@ -278,13 +275,13 @@ phrase-run level b (operation operator l r) rest h k =
     regrouped : (x y z w : Option WordOffence) → or_else x (or_else y (or_else z w)) ≡ or_else (or_else x (or_else y z)) w
     regrouped x y z w = sym (or_else-assoc x (or_else y z) w ∙ ap (or_else x) (or_else-assoc y z w))
 
--- the first sign that the search finds in a word is the first error of its phrase by a sign
+-- `first_sign` finds in a word the first of the `sign_offences` of the phrase that the word spells
 pub word-signs : (word : List ℕ) (phrase : Phrase) → SpellsPhrase word phrase → first_sign 0 0 word ≡ first_of (sign_offences 0 phrase)
 word-signs word phrase h =
     ap (first_sign 0 0) (h.spelled ∙ sym (append-nil (spelling phrase))) ∙ phrase-run expression 0 phrase [] h.allowed tt
     ∙ or_else-none (first_of (sign_offences 0 phrase))
 
--- the first sign is at a byte of the phrase
+-- the first error by a sign in a phrase is at a byte of the phrase
 pub signs-below : (e : Phrase) (o : WordOffence) → first_of (sign_offences 0 e) ≡ Some o → o.0 < length (spelling e)
 signs-below e o h = by (first_of (sign_offences 0 e)) h (first-between 0 (0 + length (spelling e)) (sign_offences 0 e) (signs-between 0 e))
   where

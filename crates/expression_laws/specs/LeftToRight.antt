@@ -87,23 +87,23 @@ pub record Makes (A N : Type 0) : Type 0 where
   pub minus_first_of : A → A
   pub operation_of : Operator → A → A → A
 
--- the term that ends with a factor
+-- the term that the factor x ends: x itself, or the product of the term before it and x
 abbrev pub join_factor : {A N : Type 0} → Makes A N → BeforeFactor A → A → A
 join_factor m no_factor x = x
 join_factor m (multiplying t) x = m.operation_of times t x
 
--- the expression that ends with a term
+-- the expression that the term x ends: x itself, -x, or the sum or difference of the expression before it and x
 abbrev pub join_term : {A N : Type 0} → Makes A N → BeforeTerm A → A → A
 join_term m no_term x = x
 join_term m negating x = m.minus_first_of x
 join_term m (adding e) x = m.operation_of plus e x
 join_term m (subtracting e) x = m.operation_of minus e x
 
--- the expression that ends with a factor
+-- the expression that the factor x ends, with the parts before its term and before x
 abbrev pub join : {A N : Type 0} → Makes A N → BeforeTerm A → BeforeFactor A → A → A
 join m t f x = join_term m t (join_factor m f x)
 
--- the step for a symbol after a whole factor
+-- the state after a symbol that follows the whole factor x
 abbrev pub after_factor : {A N : Type 0} → Makes A N → A → BeforeTerm A → BeforeFactor A → Opened A
     → Symbol → State A N
 after_factor m x t f o star = at awaited t (multiplying (join_factor m f x)) o
@@ -112,7 +112,7 @@ after_factor m x t f o minus_sign = at awaited (subtracting (join m t f x)) no_f
 after_factor m x t f (inside o t' f') closes = at (closed (m.brackets_of (join m t f x))) t' f' o
 after_factor m x t f o _ = dead
 
--- the step for a symbol at which a factor may begin
+-- the state after a symbol at which a factor may begin
 abbrev pub before_factor : {A N : Type 0} → Makes A N → BeforeTerm A → BeforeFactor A → Opened A
     → Symbol → State A N
 before_factor m t f o (digit byte) = at (in_number (m.begin byte)) t f o
@@ -121,14 +121,14 @@ before_factor m t f o opens = at awaited no_term no_factor (inside o t f)
 before_factor m no_term no_factor o minus_sign = at awaited negating no_factor o
 before_factor m t f o _ = dead
 
--- the step for a symbol in an atom's list at which a number may begin
+-- the state after a symbol in an atom's list at which a number may begin
 abbrev pub in_list_step : {A N : Type 0} → Makes A N → Basis → List N → BeforeTerm A
     → BeforeFactor A → Opened A → Symbol → State A N
 in_list_step m basis words t f o (digit byte) = at (in_entry basis words (m.begin byte)) t f o
 in_list_step m basis [] t f o closes_list = at (closed (m.label_of basis [])) t f o
 in_list_step m basis words t f o _ = dead
 
--- the step for the next symbol
+-- the state after one more symbol
 abbrev pub step : {A N : Type 0} → Makes A N → State A N → Symbol → State A N
 step m dead s = dead
 step m (at awaited t f o) s = before_factor m t f o s
@@ -177,14 +177,14 @@ abbrev pub is_live : {A N : Type 0} → State A N → Bool
 is_live dead = false
 is_live (at p t f o) = true
 
--- the factor that ends here, if one does
+-- the factor that ends at a state, if one does
 abbrev pub factor_found : {A N : Type 0} → Makes A N → Piece A N → Option A
 factor_found m (in_number n) = Some (m.numeral_of n)
 factor_found m (in_denominator n k) = Some (m.ratio_of n k)
 factor_found m (closed x) = Some x
 factor_found m _ = None
 
--- the expression that ends here, if one does
+-- the expression that ends at a state, if one does
 abbrev pub found : {A N : Type 0} → Makes A N → State A N → Option A
 found m dead = None
 found m (at p t f (inside o t' f')) = None

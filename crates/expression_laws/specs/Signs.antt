@@ -3,8 +3,8 @@ use Rattle.std.specs.Prelude.{ℕ, ◌+◌, ◌==◌, cond, List, [], ◌∷◌,
 use Rattle.sym_model.specs.ExpressionOffence.{WordOffence, shape}
 use Rattle.sym_model.specs.Form.{is_digit}
 
--- the first minus (the byte 45) or the first byte of the first fraction (with the byte 47) in the bytes; the first of
--- them is the byte `at`, and the digits that end before it begin at the byte `start`
+-- the first minus (the byte 45), or the first byte of the first fraction (with the byte 47), among these bytes of a
+-- word, which begin at its byte `at`; the digits that end before `at` begin at the byte `start`
 abbrev pub first_sign : ℕ → ℕ → List ℕ → Option WordOffence
 first_sign at start [] = None
 first_sign at start (byte ∷ bytes) =

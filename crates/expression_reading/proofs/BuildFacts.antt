@@ -7,7 +7,7 @@ use Rattle.expression_reading.specs.declared.builder.Frame.{Frame}
 use Rattle.expression_reading.specs.Building.{Built, builds, terms_in, factors_in, opened_from, opened_in, AreEntries}
 use Rattle.sym_model.specs.Bounded.{AreAtMost}
 
--- a frame appended to the frames is one more open parenthesis, inside the others
+-- a frame appended to the frames is one more open parenthesis, inside those open before it
 pub opened-snoc : (o : Opened Built) (fs : List Frame) (f : Frame) → opened_from o (fs ++ f ∷ []) ≡ inside (opened_from o fs) (terms_in f.terms) (factors_in f.factors)
 opened-snoc o [] f = refl
 opened-snoc o (g ∷ fs) f = opened-snoc (inside o (terms_in g.terms) (factors_in g.factors)) fs f

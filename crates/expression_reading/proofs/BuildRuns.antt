@@ -21,7 +21,7 @@ use Rattle.expression_reading.proofs.ScanRuns.{read-more, sound-digit, byte-symb
 use Rattle.expression_reading.proofs.FirstOffences.{small as not_wide}
 use Rattle.sym_model.specs.Bounded.{AreAtMost}
 
--- the tree of a phrase that has been read, without a sign
+-- a phrase that has been read, as its tree and `true`: the numbers of the tree have no sign
 abbrev pub tree_in : Phrase → Built
 tree_in e = (tree e, true)
 
@@ -109,7 +109,7 @@ entry-is k before n h =
       falls = first_false (rises before n) _ _ (rest_none (k == 64) _ _ rest);
     }
 
--- ---- lists of marks that are no errors (mild marks)
+-- ---- mild marks: what begins at a byte (a number, a denominator or a parenthesis) is no error, and no number of an atom over 20
 
 mild-left : (ms ns : List (ℕ × Mark)) → AreMild (ms ++ ns) → AreMild ms
 mild-left [] ns h = tt
@@ -159,7 +159,8 @@ entries-mild b k before (w ∷ ws) h =
       low = (not_high (decimal_value w) h.0.1, rest.low);
     }
 
--- the marks of the reading x are mild, and so is the mark that the symbol s completes, if any
+-- the marks of the reading x are mild (no error, and no number of an atom over 20), and so is the mark that the symbol s
+-- completes, if any
 abbrev Mild : Reading → Symbol → Type 0
 Mild x s = AreMild (state_marks x ++ option_to_list (new_mark x s))
 
@@ -245,7 +246,7 @@ list-state closes_list basis [] t f o b = refl
 list-state closes_list basis (w ∷ ws) t f o b = refl
 list-state _ basis ws t f o b = refl
 
--- each step of the builder agrees with a step of the reading
+-- if the marks are mild, each step of the builder agrees with a step of the reading
 build-step : (s : Symbol) (p : Piece Phrase (List ℕ)) (t : BeforeTerm Phrase) (f : BeforeFactor Phrase) (o : Opened Phrase) → IsByte s → Mild (at p t f o) s
     → step builds (tree_state (at p t f o)) s ≡ tree_state (step phrases (at p t f o) s)
 build-step s awaited t f o b h = before_factor-state s t f o b
@@ -268,7 +269,8 @@ build-step closes_list (in_entry basis ws ds) t f o b h =
 build-step _ (in_entry basis ws ds) t f o b h = refl
 build-step s (closed x) t f o b h = after_factor-state s x t f o
 
--- a number that ends has no error, if its mark is mild
+-- let the numbers of an atom be those of the words ws and then that of the digits ds: if their marks are mild (no error, and no
+-- number over 20), there are at most 64 numbers, weakly decreasing and at most 20 each
 entries-fine : (basis : Basis) (ws : List (List ℕ)) (ds : List ℕ) (t : BeforeTerm Phrase) (f : BeforeFactor Phrase) (o : Opened Phrase)
     → AreMild (state_marks (at (in_entry basis ws ds) t f o))
     → AreMild ((piece_begin t f o + 2 + length (commas ws), entry (length ws) (last_value None ws) (decimal_value ds)) ∷ [])
@@ -307,7 +309,7 @@ grows-step : (ms new : List (ℕ × Mark)) (y : Reading) (v : List ℕ) (e : Phr
 grows-step ms new dead v e k h g = dead-finds v e h
 grows-step ms new (at p t f o) v e k h g = (new ++ g.0, g.1 ∙ ap (λ l. l ++ g.0) k ∙ append_assoc ms new g.0)
 
--- the marks of a phrase begin with those of what has been read
+-- if reading v from the state x ends with the phrase e, the marks of e begin with those of x
 grows : (v : List ℕ) (x : Reading) (e : Phrase) → found phrases (read_on v x) ≡ Some e → Grows x e
 grows [] x e h = (option_to_list (new_mark x other), marks-found x e h)
 grows (b ∷ v) x e h =
@@ -329,7 +331,8 @@ rest-found w i e h k =
     ∙ ap (found phrases) (sym (read-append (take (i + 1) w) (drop (i + 1) w) start))
     ∙ ap (λ v. found phrases (read_on v start)) (take-append-drop (i + 1) w) ∙ k
 
--- at the byte i of a word that can be built, the next step of the reading is not dead and its marks are mild
+-- at the byte i of the word w, the next step of the reading is not dead and its marks are mild (no error, and no number of an atom
+-- over 20)
 pub record StepIs (w : List ℕ) (i : ℕ) : Type 0 where
   pub live : is_live (step phrases (read_on (take i w) start) (symbol (get_or w i 0))) ≡ true
   pub mild : AreMild (state_marks (read_on (take i w) start) ++ option_to_list (new_mark (read_on (take i w) start) (symbol (get_or w i 0))))
@@ -383,7 +386,8 @@ no-fault w i h b e =
     dead-live (step phrases (read_on (take i w) start) (symbol (get_or w i 0)))
     (ap tree_state (sym (read-more w i (get_or w i 0) h refl)) ∙ e) (step-is w i h b).live
 
--- all marks of a word that can be built are mild
+-- if w is an expression whose marks are mild (no error, and no number of an atom over 20), all marks of its reading to the end are
+-- mild
 whole-mild : (w : List ℕ) (b : IsBuildable w) → AreMild (state_marks (read_on w start) ++ option_to_list (new_mark (read_on w start) other))
 whole-mild w b = subst AreMild (marks-found (read_on w start) b.0 (found-spelled w b.0 b.1)) b.2
 

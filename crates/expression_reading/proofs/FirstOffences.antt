@@ -1,4 +1,5 @@
--- The first of the errors at marks in a row, and numbers that are kept only up to 2^127.
+-- The first error at a list of marks (what begins at a byte: a number, a denominator or a parenthesis), and numbers that are kept
+-- only up to 2^127.
 use Rattle.std.proofs.Common.{◌≡◌, ℕ, ◌+◌, ◌*◌, ◌^◌, ◌<◌, ◌≤◌, ◌==◌, nat_le, nat_lt, Bool, true, false, ◌&&◌, ◌||◌, cond, List, [], ◌∷◌, ◌++◌, refl, sym, ap, ◌∙◌, append_assoc, arith, Option, Some, None, option_map, flat_map}
 use Rattle.std.proofs.Math.Bool.{or_assoc}
 use Rattle.std.proofs.lemmas.Bool.Decides.{nat_tests}
@@ -7,7 +8,7 @@ use Rattle.sym_model.proofs.Numbers.{nat_le-trans, not_le-trans}
 use Rattle.expression_reading.specs.Offences.{first_kind}
 use Rattle.expression_reading.specs.ScanSteps.{capped, is_high, any_high, first_at}
 
--- a number for each error: an error is before another if its number is smaller
+-- 3 times the byte of an error plus the rank of its kind: the first of two errors has the smaller number
 abbrev key : WordOffence → ℕ
 key o = 3 * o.0 + rank o.1
 
@@ -30,7 +31,7 @@ not_first-all : (o p q : WordOffence) → comes_first o p ≡ false → comes_fi
 not_first-all o p q h k =
     comes_first-key o q ∙ not_le-trans (key o) (key p) (key q) (sym (comes_first-key o p) ∙ h) (sym (comes_first-key p q) ∙ k)
 
--- the first of three errors does not depend on the order in which they are compared
+-- the first of three errors is the same however they are grouped
 first_of_three : (o p q : WordOffence) (a b : Bool) → comes_first o p ≡ a → comes_first p q ≡ b
     → earlier (earlier (Some o) (Some p)) (Some q) ≡ earlier (Some o) (earlier (Some p) (Some q))
 first_of_three o p q true true h k =
@@ -91,7 +92,7 @@ first_at_mark b true true true =
 pub first-one : (m : ℕ × Mark) → first_of (flat_map offences_at (m ∷ [])) ≡ first_at m
 first-one m = first_at_mark m.0 (is_offence m.1 literal) (is_offence m.1 range) (is_offence m.1 shape)
 
--- a mark whose numbers are kept up to 2^127
+-- the mark with its values, but not the depth of an open parenthesis, capped at 2^127
 abbrev pub capped_mark : Mark → Mark
 capped_mark (value n) = value (capped n)
 capped_mark (denominator n) = denominator (capped n)

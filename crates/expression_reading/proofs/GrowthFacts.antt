@@ -1,5 +1,5 @@
--- The growth of factorials and of the factor of a conversion; when a product of three exceeds 128
--- bits.
+-- Weights of 2^127 or more. A weight is a product of three numbers; one of them is the growth, the factor by which a
+-- conversion can raise coefficients.
 use Rattle.std.proofs.Common.{◌≡◌, ℕ, zero, suc, ◌*◌, ◌^◌, ◌<◌, ◌≤◌, refl, ap, arith, inl, inr, ⊎_elim, ◌⊎◌}
 use Rattle.sym_model.specs.Expansion.{Basis, monomials, elementaries, completes, power_sums, schurs}
 use Rattle.sym_model.specs.Expression.{Tree, denominator, degree}
@@ -27,7 +27,7 @@ growth-with_factorial b (inl e) (suc d) = ap (λ x. growth x (suc d)) e
 growth-with_factorial b (inr (inl e)) (suc d) = ap (λ x. growth x (suc d)) e
 growth-with_factorial b (inr (inr e)) (suc d) = ap (λ x. growth x (suc d)) e
 
--- if one of three numbers is too great, so is their product
+-- if the numerator and the denominator of e are positive, and one of them is 2^127 or more, the weight of e is 2^127 or more
 pub wide-weight : (b : Basis) (e : Tree) → Positive e → Wide e → 2 ^ 127 ≤ weight b e
 wide-weight b e h (inl w) =
     omega (
@@ -52,7 +52,7 @@ pub wide-product : (b : Basis) (e : Tree) → 2 ^ 127 ≤ numerator e * denomina
 wide-product b e w =
     omega (arith, w, times-more (numerator e * denominator e) (growth b (degree e)) (growth-positive b (degree e)))
 
--- if the power by itself exceeds 128 bits, so does the growth
+-- for the targets p, h and e: if (2d)^d is 2^128 or more, so is the growth at degree d
 pub growth-past : (target : Letter) → (target ≡ P) ⊎ ((target ≡ H) ⊎ (target ≡ E)) → (d b k : ℕ) → b ≡ d → k ≡ d
     → ((2 * b) ^ k < 2 ^ 128 → ⊥) → growth (basis_of target) d < 2 ^ 128 → ⊥
 growth-past target h d b k e f past small =

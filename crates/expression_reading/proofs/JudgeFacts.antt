@@ -1,4 +1,4 @@
--- The errors of the word of an expression.
+-- The errors of a word that is an expression.
 use Rattle.std.proofs.Common.{◌≡◌, ℕ, ◌+◌, ◌<◌, ◌≤◌, nat_lt, max, Bool, true, false, ◌||◌, cond, List, [], ◌∷◌, ◌++◌, length, length-append, map, refl, sym, ap, ◌∙◌, subst, arith, Option, Some, None, option_map, ◌⊎◌, inl, inr, ⊎_elim, flat_map}
 use Rattle.std.proofs.lemmas.Bool.Decides.{nat_tests}
 use Rattle.std.proofs.lemmas.Bool.{cases_lt, or_cases, lt-ltb}
@@ -29,7 +29,7 @@ use Rattle.expression_reading.specs.Building.{Built, built_of, AreMild}
 use Rattle.expression_reading.proofs.ScanFacts.{letter-length}
 use Rattle.expression_reading.proofs.FirstOffences.{earlier-assoc, first_of-append, first-append, first-one, any_high-append}
 
--- ---- if there is no error and no high number, all marks are mild
+-- ---- if there is no error, and no number of an atom is over 20, the greatest degree, all marks are mild (`IsMild`)
 none_left : (a b : Option WordOffence) → earlier a b ≡ None → a ≡ None
 none_left None b h = refl
 none_left (Some o) None h = cc
@@ -120,7 +120,7 @@ nesting-within level (operation operator l r) h =
       nesting-within (level_after operator) r h.2,
     )
 
--- each mark is at a byte below n
+-- each mark (what begins at a byte: a number, a denominator or a parenthesis) is at a byte below n
 abbrev AreBelow : ℕ → List (ℕ × Mark) → Type 0
 AreBelow n [] = Unit {0}
 AreBelow n (m ∷ ms) = (m.0 < n) × AreBelow n ms
@@ -239,7 +239,7 @@ first_stays : (o : WordOffence) (n : ℕ) (h : Bool) → o.0 < n → earlier (So
 first_stays o n true l = ap (λ c. cond c (Some o) (Some (n, range))) (before-end n o.0 o.1 l)
 first_stays o n false l = refl
 
--- an error other than a degree over the limit is at a byte of the word
+-- if the first error of an expression is not its degree over the limit, it is at a byte of the word
 below-end : (e : Phrase) (o : WordOffence) → Is expression e → first_before_degree e ≡ Some o → o.0 < length (spelling e)
 below-end e o a h =
     let n = length (spelling e) in
@@ -282,7 +282,7 @@ long_none n false h k = grind (arith, nat_tests)
 pub short : (e : Phrase) → first_before_degree e ≡ None → length (spelling e) ≤ 4096
 short e h = long_none (length (spelling e)) (nat_lt 4096 (length (spelling e))) refl (none_right (first_of (flat_map offences_at (marks 0 0 e))) _ h)
 
--- the error of too many bytes that the reader keeps is that of the model
+-- the reader's error for a word that is too long is that of the definitions
 long_kept : (b : Bool) → option_map offence_in (then_some b (record { byte = 4096; kind = Range })) ≡ cond b (Some (4096, range)) None
 long_kept true = refl
 long_kept false = refl
@@ -351,7 +351,7 @@ pub result-low : (limit : ℕ) (w : List ℕ) (r : Result Formula ExpressionFaul
 result-low limit w (Ok f) h = read-low limit w f h
 result-low limit w (Err e) h = tt
 
--- an error at the end of a word is no later than itself, and every other error is no later than it
+-- an error does not come after itself
 end-itself : (n : ℕ) → comes_first (n, range) (n, range) ≡ true
 end-itself n = grind (arith, nat_tests)
 

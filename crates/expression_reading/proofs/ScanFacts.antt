@@ -37,7 +37,8 @@ mode_of (in_list basis ws) t f o = Listing (before_of ws)
 mode_of (in_entry basis ws ds) t f o = Entry (before_of ws) (piece_begin t f o + 2 + length (commas ws)) (capped (decimal_value ds))
 mode_of (closed e) t f o = Whole
 
--- the next mode and depth are those of what is read next
+-- the mode and the depth are those of the reading y; if y is dead, that is, the bytes begin no expression, one of them is
+-- None
 abbrev pub Agrees : Option Mode → Option ℕ → Reading → Type 0
 Agrees None d y = y ≡ dead
 Agrees (Some m) None y = y ≡ dead
@@ -51,7 +52,7 @@ value_from-snoc n (d ∷ ds) c = value_from-snoc (10 * n + (d - 48)) ds c
 pub value-next : (ds : List ℕ) (c : ℕ) → capped (10 * capped (decimal_value ds) + (c - 48)) ≡ capped (decimal_value (ds ++ c ∷ []))
 value-next ds c = capped-next (decimal_value ds) (c - 48) ∙ ap capped (sym (value_from-snoc 0 ds c))
 
--- the symbol of a digit has a byte below 256
+-- if the symbol is a digit, its byte is below 256
 abbrev pub IsByte : Symbol → Type 0
 IsByte (digit c) = c < 256
 IsByte _ = Unit {0}
@@ -189,7 +190,7 @@ agrees closes_list (in_entry basis ws ds) t f o h = (refl, refl)
 agrees _ (in_entry basis ws ds) t f o h = refl
 agrees s (closed x) t f o h = agrees-after_factor s x t f o
 
--- a mark of the scan, as the grammar has it
+-- the mark of a scan (what begins at a byte: a number, a denominator or a parenthesis) as a mark of the grammar
 abbrev pub plain : ℕ × Mark → ℕ × PlainMark
 plain m = (m.0, mark_in m.1)
 
@@ -232,7 +233,7 @@ same-mark (digit c) p t f o h = refl
 same-mark opens p t f o h = ap (λ n. Some (n, opening (depth_of o + 1))) (opening-mark p t f o h)
 same-mark _ p t f o h = piece-mark p t f o
 
--- the state of a scan agrees with the marks of what was read
+-- the scan has the first error at the marks, and records whether one of them is a number of an atom over 20
 abbrev pub Finds : Scan → List (ℕ × PlainMark) → Type 0
 Finds s ms = (option_map offence_in s.first ≡ first_of (flat_map offences_at ms)) × (s.is_high ≡ any_high ms)
 

@@ -1,4 +1,4 @@
--- A word read to its end or to its first byte at fault.
+-- A word read to its end or to its first byte that is not allowed.
 use Rattle.std.proofs.Common.{◌≡◌, ℕ, ◌+◌, ◌^◌, ◌<◌, ◌≤◌, ◌==◌, Bool, true, false, ◌&&◌, List, [], ◌∷◌, ◌++◌, length, length-append, take, drop, get_or, refl, sym, ap, ◌∙◌, subst, add-one, arith, Option, Some, None, option_map, Ok, Err, ◌⊎◌, inl, inr, ⊎_elim}
 use Rattle.std.specs.Prelude.{option_to_list, is_some}
 use Rattle.std.proofs.Math.Dec.{eqb-suc-zero}
@@ -20,7 +20,7 @@ use Rattle.expression_reading.proofs.ScanFacts.{mode_of, Agrees, agrees, IsByte,
 none-spelled : (w : List ℕ) (phrase : Phrase) → read_on w start ≡ dead → SpellsPhrase w phrase → ⊥
 none-spelled w phrase d h = let e = ap (found phrases) (sym d) ∙ found-spelled w phrase h in cc
 
--- the state of a scan agrees with what has been read
+-- the reading is not dead, and the mode, the depth and the errors of the scan are those of the reading
 abbrev pub Keeps : Scan → Reading → Type 0
 Keeps s dead = ⊥
 Keeps s (at p t f o) = (s.mode ≡ mode_of p t f o) × (s.depth ≡ depth_of o) × Finds s (state_marks (at p t f o))
@@ -35,7 +35,7 @@ read-more w i b h e =
 written-so_far : (w : List ℕ) → Continues w (read_on w start)
 written-so_far w = read-written w start (tt, tt, tt, tt)
 
--- the symbol of a byte is one that a byte can have
+-- the symbol of a byte below 256 satisfies `IsByte`
 pub byte-symbol : (b : ℕ) (s : Symbol) → b < 256 → Codes b s → IsByte s
 byte-symbol b (digit c) h k = omega (arith, k.0)
 byte-symbol b _ h k = tt
@@ -67,7 +67,7 @@ same-kept s k y p t f o h keep live =
     ∙ ap (λ n. mark_before (mode_of p t f o) (depth_of o) n y) (sym h) in
     ap (option_map plain) m ∙ same-mark y p t f o live
 
--- if the state s agrees with the reading after k bytes, they agree after one more symbol
+-- if the scan s agrees with the reading after k bytes, the scan u after one more symbol agrees with the reading z after it
 stepped : (s u : Scan) (k : ℕ) (y : Symbol) (p : Piece Phrase (List ℕ)) (t : BeforeTerm Phrase) (f : BeforeFactor Phrase) (o : Opened Phrase) (z : Reading)
     → step phrases (at p t f o) y ≡ z → length (written (at p t f o)) ≡ k → IsByte y
     → Keeps s (at p t f o) → StepsTo s k y (Some u) → Keeps u z
@@ -102,7 +102,7 @@ keeps-step w i b s u h e small keep steps =
     subst (Keeps u) (sym (read-more w i b h e))
     (kept-step w i b s u (read_on (take i w) start) h small (written-so_far (take i w)) keep steps)
 
--- if the mode or the depth is None, the reading is dead
+-- if a mode and a depth agree with the reading z, and one of them is None, z is dead: the bytes begin no expression
 agrees-fault : (m : Option Mode) (d : Option ℕ) (z : Reading) → (m ≡ None) ⊎ (d ≡ None) → Agrees m d z → z ≡ dead
 agrees-fault None d z h a = a
 agrees-fault (Some m) None z h a = a
@@ -122,7 +122,7 @@ fault w i b s (at p t f o) h small c keep steps =
     steps)
     (agrees y p t f o (byte-symbol b y small (symbol-codes b)))
 
--- the state has at most as many parentheses and numbers as bytes were read
+-- the number of open parentheses is at most the number of bytes of the text that opens them
 depth-within : (o : Opened Phrase) → depth_of o ≤ length (written_opened o)
 depth-within outermost = omega arith
 depth-within (inside o t f) = simp length-append (omega (arith, depth-within o))
@@ -197,7 +197,7 @@ fault-scanned w i b s h e small keep steps =
       },
     )
 
--- ---- an expression is complete if and only if the state says so
+-- ---- the bytes read are an expression if and only if `is_whole` says so
 
 no_depth : (n : ℕ) → (n + 1 == 0) ≡ false
 no_depth n = ap (λ k. k == 0) (add-one n) ∙ eqb-suc-zero n

@@ -14,7 +14,7 @@ use Rattle.expression_reading.specs.Reading.{IsReadBy}
 use Rattle.expression_reading.specs.Signs.{refused_by_sign}
 use Rattle.expression_reading.proofs.FirstOffences.{first_of-append}
 
--- the errors of an outer expression
+-- the errors of the outer expression of a plethysm
 abbrev outer_offences : Phrase → List WordOffence
 outer_offences phrase = offences_within plethysm_degree_limit phrase
 
@@ -22,7 +22,7 @@ outer_offences phrase = offences_within plethysm_degree_limit phrase
 abbrev pub HasSign : List ℕ → Option ℕ → Type 0
 HasSign word sign = (phrase : Phrase) → SpellsPhrase word phrase → option_map (λ byte. (byte, shape)) sign ≡ first_of (sign_offences 0 phrase)
 
--- the search for the first sign from place i on goes on with the byte at place i and the bytes after it
+-- a search for the first sign that has come to place i looks at the byte there and then at the bytes after it
 found_at : (word : List ℕ) (i from byte : ℕ) → first_sign 0 0 word ≡ first_sign i from (drop i word) → i < length word → get_or word i 0 ≡ byte
     → first_sign 0 0 word ≡ first_sign i from (byte ∷ drop (suc i) word)
 found_at word i from byte inv h e = inv ∙ ap (first_sign i from) (drop-cons word i 0 h ∙ ap (λ x. x ∷ drop (suc i) word) e)
@@ -47,7 +47,7 @@ earlier-none : (a : Option WordOffence) → earlier a None ≡ a
 earlier-none None = refl
 earlier-none (Some o) = refl
 
--- the first error of a word without a sign is that of an outer expression
+-- a word without a minus or a fraction has the same first error as an inner and as an outer expression
 without : (word : List ℕ) (phrase : Phrase) → HasSign word None → SpellsPhrase word phrase → first_of (inner_offences phrase) ≡ first_of (outer_offences phrase)
 without word phrase s h = with_signs word None phrase s h ∙ earlier-none (first_of (outer_offences phrase))
 
@@ -59,7 +59,7 @@ no_sign-read word (Err (Range byte)) s h = (h.0, h.1, without word h.0 s h.1 ∙
 no_sign-read word (Err (Shape byte)) s h = (h.0, h.1, without word h.0 s h.1 ∙ h.2)
 no_sign-read word (Err NoMemory) s h = tt
 
--- a word with a sign and no other error is refused at the sign
+-- a word with a sign, but without an error as an outer expression, is refused at the sign as an inner expression
 pub sign-alone : (word : List ℕ) (f : Formula) (sign : ℕ) → HasSign word (Some sign) → IsReadBy outer_offences word (Ok f) → IsReadBy inner_offences word (Err (Shape sign))
 sign-alone word f sign s h =
     (h.0, h.1, with_signs word (Some sign) h.0 s h.1 ∙ ap (λ o. earlier o (Some (sign, shape))) h.2)

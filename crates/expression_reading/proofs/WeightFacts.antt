@@ -1,4 +1,5 @@
--- The numbers of a weight are positive, and no part of an expression has a greater one than the whole.
+-- If an expression has no signs, its numerator and denominator are positive, and if one of those of a part is 2^127 or more, so is
+-- one of those of the whole.
 use Rattle.std.proofs.Common.{◌≡◌, ℕ, ◌+◌, ◌*◌, ◌/◌, ◌^◌, ◌<◌, ◌≤◌, ◌⊎◌, inl, inr, max, Bool, ◌&&◌, IsTrue, Option, None, refl, sym, subst, arith, pos, ℤ, negsuc}
 use Rattle.std.specs.Prelude.{nat_abs}
 use lib.Signed.{le_z, lt_z}
@@ -33,7 +34,7 @@ product-positive : (e f : Tree) → Positive e → Positive f → Positive (prod
 product-positive e f h k =
     (times-positive (numerator e) (numerator f) h.0 k.0, times-positive (denominator e) (denominator f) h.1 k.1)
 
--- n/d + m/k over the least common denominator of d and k: the numerator
+-- the numerator of n/d + m/k over the least common denominator of d and k
 abbrev joined : ℕ → ℕ → ℕ → ℕ → ℕ
 joined n m d k = n * (lcm d k / d) + m * (lcm d k / k)
 
@@ -60,7 +61,7 @@ joined-positive e f h k = (
   omega (arith, h.1, lcm-at_least_first (denominator e) (denominator f) h.1 k.1),
 )
 
--- an expression without signs has positive numbers
+-- if no number in an expression has a sign, its numerator and denominator are positive
 pub positive : (e : Expr) → IsTrue (has_no_signs e) → Positive (tree_of e)
 positive (Number num) h = (pos_at_least (nat_abs num), omega arith)
 positive (Fraction num den) h =
@@ -77,7 +78,7 @@ positive (Product' p left q right) h =
     let s = one_of (has_no_signs left) (has_no_signs right) h in
     product-positive (tree_of left) (tree_of right) (positive left s.0) (positive right s.1)
 
--- if a part is too wide, so is the whole
+-- if f has a positive numerator and denominator, and one of those of e is 2^127 or more, so is one of those of e·f
 pub wide-product_left : (e f : Tree) → Positive f → Wide e → Wide (product e f)
 wide-product_left e f h (inl w) = inl (omega (arith, w, times-more (numerator e) (numerator f) h.0))
 wide-product_left e f h (inr w) = inr (omega (arith, w, times-more (denominator e) (denominator f) h.1))

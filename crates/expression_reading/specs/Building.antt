@@ -29,7 +29,7 @@ use Rattle.sym_model.specs.Phrase.{Phrase, SpellsPhrase, join_trees}
 use Rattle.sym_model.specs.ExpressionOffence.{Mark, marks}
 use Rattle.sym_model.specs.Bounded.{AreAtMost}
 
--- a tree, and whether it has no sign
+-- a tree, and whether no number in it has a sign
 abbrev pub Built : Type 0
 Built = Tree × Bool
 
@@ -50,19 +50,21 @@ builds = record {
   operation_of = λ operator x y. (join_trees operator x.0 y.0, x.1 && y.1);
 }
 
--- the text before a term, with the trees that were built
+-- the part before a term that the builder keeps: nothing, a minus, or the result of an expression with `+` or `-`
+-- after it
 abbrev pub terms_in : LeadingTerms → BeforeTerm Built
 terms_in NoTerm = no_term
 terms_in Negating = negating
 terms_in (Adding e) = adding (built_of e.value)
 terms_in (Subtracting e) = subtracting (built_of e.value)
 
--- the text before a factor, with the tree that was built
+-- the part before a factor that the builder keeps: nothing, or the result of a term with `*` after it
 abbrev pub factors_in : LeadingFactors → BeforeFactor Built
 factors_in NoFactor = no_factor
 factors_in (Multiplying e) = multiplying (built_of e.value)
 
--- the numbers of an atom's list that has no error, within the greatest degree
+-- at most 64 numbers, weakly decreasing and each at most 20, as in an atom without an error within the greatest
+-- degree
 pub record AreEntries (numbers : List ℕ) : Type 0 where
   pub falls : Falls numbers
   pub few : length numbers ≤ 64
@@ -106,7 +108,7 @@ IsFine (in_denominator n k) s = (n < 2 ^ 127) × (k < 2 ^ 127)
 IsFine (in_entry basis numbers n) s = AreEntries (numbers ++ n ∷ [])
 IsFine p s = Unit {0}
 
--- a mark that is no error, and, if it is a number of an atom, is within the greatest degree
+-- the mark is no error, and if it is a number of an atom, it is at most 20, the greatest degree
 abbrev pub IsMild : ℕ × Mark → Type 0
 IsMild m = (first_kind m.1 ≡ None) × (is_high m.1 ≡ false)
 
@@ -114,7 +116,6 @@ abbrev pub AreMild : List (ℕ × Mark) → Type 0
 AreMild [] = Unit {0}
 AreMild (m ∷ ms) = IsMild m × AreMild ms
 
--- the word is an expression whose marks are no errors, and whose atoms have no number over the
--- greatest degree
+-- the word is an expression whose marks are no errors, and whose atoms have no number over 20, the greatest degree
 abbrev pub IsBuildable : List ℕ → Type 0
 IsBuildable word = (phrase : Phrase) × SpellsPhrase word phrase × AreMild (marks 0 0 phrase)

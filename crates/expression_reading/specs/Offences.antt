@@ -1,4 +1,4 @@
--- The plain errors and marks of those of the reader.
+-- The errors and marks of the reader, as those of the definitions, whose names have `Plain` in them here.
 use Rattle.std.specs.Prelude.{cond, Option, Some, None}
 use Rattle.sym_model.specs.ExpressionOffence.{OffenceKind as PlainKind, literal, range, shape}
 use Rattle.sym_model.specs.ExpressionOffence.{Mark as PlainMark, value, denominator, entry, opening}
@@ -10,17 +10,17 @@ use Rattle.expression_reading.specs.declared.offence.Mark.TheVariants.{Value, De
 use Rattle.expression_reading.specs.declared.offence.Mark.TheVariants.{Opening}
 use Rattle.expression_reading.specs.declared.offence.Offence.{Offence}
 
--- the kind of error of the model
+-- the kind of error in the definitions for a kind of the reader
 abbrev pub kind_in : Kind → PlainKind
 kind_in Literal = literal
 kind_in Range = range
 kind_in Shape = shape
 
--- the error as an error of the model
+-- the error in the definitions for an error of the reader
 abbrev pub offence_in : Offence → PlainOffence
 offence_in o = (o.byte, kind_in o.kind)
 
--- the mark as a mark of the model
+-- the mark in the definitions for a mark of the reader
 abbrev pub mark_in : Mark → PlainMark
 mark_in (Value n) = value n
 mark_in (Denominator n) = denominator n

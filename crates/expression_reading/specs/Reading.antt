@@ -12,13 +12,13 @@ use Rattle.expression_reading.specs.declared.reading.ExpressionFault.TheVariants
 use Rattle.expression_reading.specs.declared.reading.ExpressionFault.TheVariants.{NoMemory}
 use Rattle.expression_reading.specs.Trees.{tree_of}
 
--- the word spells the expression of the formula, which has none of these errors
+-- the word spells the expression of the formula, and `offends` finds no error in it
 abbrev pub IsExpressionWithout : (Phrase → List WordOffence) → List ℕ → Formula → Type 0
 IsExpressionWithout offends word formula =
     (phrase : Phrase) × SpellsPhrase word phrase × (first_of (offends phrase) ≡ None)
     × (tree_of formula.tree ≡ tree phrase)
 
--- the word spells an expression, and this is the first of these errors
+-- the word spells an expression, and `first` is the first of its errors
 abbrev pub OffendsFirst : (Phrase → List WordOffence) → List ℕ → WordOffence → Type 0
 OffendsFirst offends word first =
     (phrase : Phrase) × SpellsPhrase word phrase × (first_of (offends phrase) ≡ Some first)
@@ -28,8 +28,8 @@ abbrev pub IsWrongByte : List ℕ → ℕ → Type 0
 IsWrongByte word byte =
     ((phrase : Phrase) → SpellsPhrase word phrase → ⊥) × IsLongestPrefix BeginsExpression word byte
 
--- the word is this expression and has none of these errors; or it is refused at the byte of its
--- first error; out of memory says nothing about the word
+-- the word spells the expression of the formula, in which `offends` finds no error; or it is refused at the byte of
+-- its first error; nothing is required if memory runs out
 abbrev pub IsReadBy : (Phrase → List WordOffence) → List ℕ → Result Formula ExpressionFault → Type 0
 IsReadBy offends word (Ok formula) = IsExpressionWithout offends word formula
 IsReadBy offends word (Err (Syntax byte)) = IsWrongByte word byte
@@ -41,7 +41,7 @@ IsReadBy offends word (Err NoMemory) = Unit {0}
 abbrev pub IsRead : Basis → List ℕ → Result Formula ExpressionFault → Type 0
 IsRead target word result = IsReadBy (offences target) word result
 
--- the refusal of an error
+-- the fault has the byte and the kind of the error o
 abbrev pub IsFaultOf : WordOffence → ExpressionFault → Type 0
 IsFaultOf o (Literal byte) = o ≡ (byte, literal)
 IsFaultOf o (Range byte) = o ≡ (byte, range)

@@ -34,7 +34,7 @@ abbrev pub CanCount : Mode → Type 0
 CanCount (Entry before start value) = before.count + 1 < 2 ^ 64
 CanCount _ = Unit {0}
 
--- the mode after a whole factor
+-- the mode after a symbol that follows a whole factor; None if the symbol is invalid there
 abbrev pub mode_after_factor : Symbol → Option Mode
 mode_after_factor plus_sign = Some Operand
 mode_after_factor minus_sign = Some Operand
@@ -42,7 +42,7 @@ mode_after_factor star = Some Operand
 mode_after_factor closes = Some Whole
 mode_after_factor _ = None
 
--- the mode after a symbol, if a factor is expected
+-- the mode after a symbol at the byte `at`, if a factor is expected there; None if the symbol begins no factor
 abbrev pub mode_before_factor : ℕ → Symbol → Option Mode
 mode_before_factor at (digit byte) = Some (Number at (byte - 48))
 mode_before_factor at (letter_of basis) = Some Letter
@@ -90,13 +90,14 @@ number_mark (Denominator start n) = Some (start, Zeroable n)
 number_mark (Entry before start n) = Some (start, Listed before n)
 number_mark _ = None
 
--- the mark that a symbol completes: a number that ends before it, or a parenthesis
+-- the mark that is complete when a symbol is read: a number that ends before it, or the symbol itself if it opens a
+-- parenthesis
 abbrev pub mark_before : Mode → ℕ → ℕ → Symbol → Option (ℕ × Mark)
 mark_before mode depth at (digit byte) = None
 mark_before mode depth at opens = Some (at, Opening (depth + 1))
 mark_before mode depth at _ = number_mark mode
 
--- whether a mark is a number of an atom that exceeds every degree
+-- whether a mark is a number over 20, the greatest degree, in the list of an atom
 abbrev pub is_high : PlainMark → Bool
 is_high (entry count before n) = nat_lt 20 n
 is_high _ = false
@@ -109,7 +110,7 @@ scan_start = record { mode = Start; depth = 0; first = None; is_high = false }
 abbrev pub first_at : ℕ × PlainMark → Option PlainOffence
 first_at m = option_map (λ kind. (m.0, kind)) (first_kind m.1)
 
--- the first error and the high numbers after a mark, if there is one
+-- `after` has the errors of `before` and, if there is a mark, those of the mark
 abbrev pub Sees : Scan → Option (ℕ × Mark) → Scan → Type 0
 Sees before None after = (after.first ≡ before.first) × (after.is_high ≡ before.is_high)
 Sees before (Some m) after =
@@ -126,24 +127,24 @@ StepsTo before at s (Some after) =
     × (depth_after before.depth s ≡ Some after.depth)
     × Sees before (mark_before before.mode before.depth at s) after
 
--- whether a mode has a whole factor
+-- whether the mode is that of a whole factor
 abbrev pub has_factor : Mode → Bool
 has_factor (Number start n) = true
 has_factor (Denominator start n) = true
 has_factor Whole = true
 has_factor _ = false
 
--- whether the bytes so far are an expression
+-- whether the bytes read so far are an expression
 abbrev pub is_whole : Scan → Bool
 is_whole s = has_factor s.mode && (s.depth == 0)
 
--- whether some mark is a number of an atom that exceeds every degree
+-- whether some mark is a number over 20, the greatest degree, in the list of an atom
 abbrev pub any_high : List (ℕ × PlainMark) → Bool
 any_high [] = false
 any_high (m ∷ ms) = is_high m.1 || any_high ms
 
--- the errors of an expression and whether an atom has a number that exceeds every degree; or the
--- byte of the first error of syntax
+-- the scan has the first error of an expression and knows whether the list of an atom has a number over 20; or it
+-- returns the byte of the first error of syntax
 abbrev pub IsScanned : List ℕ → Result Scan ℕ → Type 0
 IsScanned word (Ok scan) =
     (phrase : Phrase) × SpellsPhrase word phrase

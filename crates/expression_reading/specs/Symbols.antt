@@ -1,4 +1,4 @@
--- The plain symbol of a symbol of the reader.
+-- The symbol of the grammar that a symbol of the reader stands for.
 use Rattle.expression_laws.specs.LeftToRight.{Symbol as Plain, digit, plus_sign, minus_sign, star}
 use Rattle.expression_laws.specs.LeftToRight.{slash, opens, closes, opens_list, closes_list, comma}
 use Rattle.expression_laws.specs.LeftToRight.{letter_of, other}

@@ -9,7 +9,7 @@ use Rattle.sym_model.specs.Expression.{product, degree, nesting}
 use Rattle.expression_reading.specs.declared.expr.Expr.{Expr, Number, Fraction, Atom, Negation'}
 use Rattle.expression_reading.specs.declared.expr.Expr.{Sum', Difference', Product'}
 
--- the plain basis of a basis of the calculator's words
+-- the basis of the definitions that a basis of the reader stands for
 abbrev pub basis_of : Letter → Basis
 basis_of M = monomials
 basis_of E = elementaries

@@ -1,4 +1,4 @@
--- The condition for a weight to fit.
+-- The condition for the two numbers of a weight to fit 128 bits with a sign.
 use Rattle.std.specs.Prelude.{◌≡◌, ℕ, ◌^◌, ◌<◌, ◌≤◌, ◌⊎◌, Option, MatchOption}
 use Rattle.calc_base.specs.declared.words.Weight.{Weight}
 

@@ -38,7 +38,7 @@ pub(crate) enum LeadingFactors {
     Multiplying(Box<Expr>),
 }
 
-/// The term that a factor ends.
+/// The term made of the text before a factor and the factor.
 fn term_of(alloc: Global, before: LeadingFactors, factor: Expr) -> Result<Expr, NoMemory>
     ensures { IfOk result (λ e. built_of e
         ≡ join_factor builds (factors_in before) (built_of factor)) }
@@ -52,7 +52,7 @@ fn term_of(alloc: Global, before: LeadingFactors, factor: Expr) -> Result<Expr, 
     }
 }
 
-/// The expression that a term ends.
+/// The expression made of the text before a term and the term.
 fn expression_of(alloc: Global, before: LeadingTerms, term: Expr) -> Result<Expr, NoMemory>
     ensures { IfOk result (λ e. built_of e ≡ join_term builds (terms_in before) (built_of term)) }
 {
@@ -72,7 +72,7 @@ fn expression_of(alloc: Global, before: LeadingTerms, term: Expr) -> Result<Expr
     }
 }
 
-/// The expression that a factor ends.
+/// The expression made of the text before a factor and the factor.
 fn joined(
     alloc: Global,
     terms: LeadingTerms,
@@ -175,7 +175,7 @@ impl Builder {
     }
 }
 
-/// The term that a factor ends, in a box.
+/// The term made of the text before a factor and the factor, in a box.
 fn boxed_term(alloc: Global, before: LeadingFactors, factor: Expr) -> Result<Box<Expr>, NoMemory>
     ensures { IfOk result (λ e. built_of e.value
         ≡ join_factor builds (factors_in before) (built_of factor)) }
@@ -184,7 +184,7 @@ fn boxed_term(alloc: Global, before: LeadingFactors, factor: Expr) -> Result<Box
     Ok(Box::new(alloc, term)?)
 }
 
-/// The expression that a factor ends, in a box.
+/// The expression made of the text before a factor and the factor, in a box.
 fn boxed(alloc: Global, frame: Frame, factor: Expr) -> Result<Box<Expr>, NoMemory>
     ensures { IfOk result (λ e. built_of e.value
         ≡ join builds (terms_in frame.terms) (factors_in frame.factors) (built_of factor)) }
@@ -402,7 +402,7 @@ fn in_list(
     }
 }
 
-/// The numbers with one more at their end.
+/// `numbers` with `value` appended.
 fn with_number(mut numbers: Vec<u16>, value: u16) -> Result<Vec<u16>, NoMemory>
     ensures { IfOk result (λ all. all.items ≡ numbers.items ++ value ∷ []) }
 {
@@ -410,7 +410,7 @@ fn with_number(mut numbers: Vec<u16>, value: u16) -> Result<Vec<u16>, NoMemory>
     Ok(numbers)
 }
 
-/// The atom whose list ends with a number.
+/// The atom whose list is `numbers` with `value` appended.
 fn ended_atom(alloc: Global, basis: Basis, numbers: Vec<u16>, value: u16) -> Result<Expr, NoMemory>
     requires { AreEntries (numbers.items ++ value ∷ []) }
     ensures { IfOk result (λ e. built_of e
@@ -587,8 +587,8 @@ fn after_number(
     }
 }
 
-/// The tree of a word that is an expression whose numbers are no error and within the greatest
-/// degree.
+/// The tree of a word that is an expression, if its numbers, the lists of its atoms and its
+/// parentheses have no error, and its atoms have no number over the greatest degree.
 pub(crate) fn build(alloc: Global, word: &[u8]) -> Result<Expr, NoMemory>
     requires { IsBuildable word.now }
     ensures { IfOk result (λ e. (phrase : Phrase) → SpellsPhrase word.now phrase

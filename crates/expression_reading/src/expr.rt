@@ -11,17 +11,17 @@ use partitions::Partition;
 /// sum, difference or product of expressions.
 #[derive(Debug)]
 pub enum Expr {
-    /// A whole number.
+    /// An integer.
     Number { num: i128 },
     /// A numerator over a denominator.
     Fraction { num: i128, den: i128 },
     /// The symmetric function of a partition in a basis.
     Atom { basis: Basis, label: Partition },
-    /// An expression with the other sign.
+    /// The negative of an expression.
     Negation { inner: Box<Expr> },
     /// The sum of two expressions.
     Sum { left: Box<Expr>, right: Box<Expr> },
-    /// The left expression less the right one.
+    /// The left expression minus the right one.
     Difference { left: Box<Expr>, right: Box<Expr> },
     /// The product of two expressions.
     Product { left: Box<Expr>, right: Box<Expr> },
@@ -39,7 +39,7 @@ impl Drop for Expr {
     }
 }
 
-/// A degree above all that a formula may have: only degrees below it are distinguished.
+/// A degree above that of every formula: greater degrees are not distinguished from it.
 const HIGH: u16 = 21;
 
 impl Expr {
@@ -65,7 +65,8 @@ impl Expr {
         }
     }
 
-    /// Whether the nesting is at most `limit` and no number has a sign.
+    /// Whether the nesting is at most `limit`, each number and numerator is at least 0, and each
+    /// denominator is positive.
     pub(crate) fn is_plain_within(&self, limit: u16) -> bool
         ensures { IsTrue result ↔ ((nesting (tree_of self.now) ≤ limit)
             × IsTrue (has_no_signs self.now)) }

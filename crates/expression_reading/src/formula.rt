@@ -1,4 +1,4 @@
-//! Expressions within the bounds that every conversion of them keeps.
+//! Expressions whose nesting, degree and numbers are within bounds.
 ghost use Rattle.std.specs.Prelude.{◌≡◌, ◌^◌, ◌<◌, ◌≤◌, ◌↔◌, IsTrue, MatchResult};
 ghost use Rattle.sym_model.specs.Expression.{degree, denominator};
 ghost use Rattle.sym_model.specs.ExpressionOffence.{degree_limit};
@@ -64,8 +64,9 @@ impl Formula {
         self.tree.capped_degree()
     }
 
-    /// The two numbers of the weight; None if and only if one of them is 2^127 or more. No memory
-    /// is allocated.
+    /// The two numbers N and D of the weight: D is a common denominator of the coefficients, and N
+    /// bounds D times the sum of their absolute values, each atom counted as 1. None if and only if
+    /// one of them is 2^127 or more. No memory is allocated.
     pub fn weight(&self) -> Option<Weight>
         ensures { IsWeighed result (numerator (tree_of self.now.tree))
             (denominator (tree_of self.now.tree)) }
@@ -73,8 +74,9 @@ impl Formula {
         self.tree.weigh()
     }
 
-    /// Whether the weight for the target is below the limit, which must be at most 2^127. No memory
-    /// is allocated.
+    /// Whether the weight for the target is below the limit, which must be at most 2^127. The
+    /// weight is N·D·B, with N and D the numbers of `weight`; for the degree d, B is d^d for m and
+    /// s, and d!·(2d)^d for p, h and e (1 if d = 0). No memory is allocated.
     pub fn weight_below(&self, target: Basis, limit: u128) -> bool
         requires { limit ≤ 2 ^ 127 }
         ensures { IsTrue result ↔ (weight (basis_of target) (tree_of self.now.tree) < limit) }

@@ -22,5 +22,6 @@ mod weigh;
 pub use calc_base::{Basis, Weight};
 pub use expr::Expr;
 pub use formula::{Formula, degree_limit};
+pub use offence::Kind;
 pub use plethysm_words::{PLETHYSM_DEGREE, read_inner, read_outer};
 pub use reading::{ExpressionFault, read_expression, wrong_byte};

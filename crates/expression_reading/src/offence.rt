@@ -4,10 +4,13 @@ ghost use Rattle.expression_reading.specs.Offences.{kind_in, offence_in, mark_in
 ghost use Rattle.sym_model.specs.ExpressionOffence.{earlier, comes_first};
 
 /// The kinds of error, in their order at one place.
-#[derive(Clone, Copy)]
-pub(crate) enum Kind {
+#[derive(Clone, Copy, Debug)]
+pub enum Kind {
+    /// A number exceeds 2^127 - 1.
     Literal,
+    /// A limit is exceeded.
     Range,
+    /// A number is not allowed in its list: it is out of order, for example.
     Shape,
 }
 
@@ -24,7 +27,8 @@ pub(crate) struct Before {
     pub(crate) last: Option<u128>,
 }
 
-/// The part of an expression that begins at a byte, if it can be an error.
+/// A part of an expression that can be an error: a number, a denominator, a number in the list of
+/// an atom, with those before it, or an opening parenthesis, with its depth.
 #[derive(Clone, Copy)]
 pub(crate) enum Mark {
     Value { value: u128 },

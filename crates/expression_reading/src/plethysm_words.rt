@@ -12,7 +12,8 @@ use crate::Formula;
 use crate::reading::{ExpressionFault, read_within};
 use std::alloc::Global;
 
-/// The greatest degree of each expression of a plethysm, and of the two together.
+/// The greatest degree of each expression of a plethysm, and the greatest product of the two
+/// degrees.
 pub const PLETHYSM_DEGREE: u16 = 10;
 
 /// The byte of the first minus, or the first byte of the first fraction if that comes earlier, in a
@@ -48,9 +49,10 @@ fn first_refusal(fault: ExpressionFault, sign: u64) -> ExpressionFault
     }
 }
 
-/// Reads a word as the outer expression of a plethysm.
+/// Reads a word as the outer expression of a plethysm, whose degree must be at most 10.
 ///
-/// It is refused as `read_expression` says, with 10 as the limit of the degree.
+/// If the word is not such an expression, it is refused at its first error, of the kinds of
+/// `ExpressionFault`.
 pub fn read_outer(alloc: Global, word: &[u8]) -> Result<Formula, ExpressionFault>
     ensures read { IsReadBy (offences_within plethysm_degree_limit) word.now result }
     ensures low { IfOk result (λ f. degree (tree_of f.tree) ≤ plethysm_degree_limit) }
@@ -58,11 +60,12 @@ pub fn read_outer(alloc: Global, word: &[u8]) -> Result<Formula, ExpressionFault
     read_within(alloc, PLETHYSM_DEGREE, word)
 }
 
-/// Reads a word as the inner expression of a plethysm,
-/// all of whose coefficients are whole and at least 0.
+/// Reads a word as the inner expression of a plethysm, whose degree must be at most 10, and all of
+/// whose coefficients are integers and at least 0.
 ///
-/// It is refused as `read_outer` says, and also as `Shape` at a minus and at the first byte of a
-/// fraction.
+/// If the word is not such an expression, it is refused at its first error, of the kinds of
+/// `ExpressionFault`; a minus and the first byte of a fraction are errors, too, of the kind
+/// `Shape`.
 pub fn read_inner(alloc: Global, word: &[u8]) -> Result<Formula, ExpressionFault>
     ensures read { IsReadBy inner_offences word.now result }
     ensures low { IfOk result (λ f. degree (tree_of f.tree) ≤ plethysm_degree_limit) }

@@ -22,7 +22,7 @@ use thiserror::Error;
 /// its first error; or out of memory.
 #[derive(Clone, Copy, Debug, PartialEq, Eq, Hash, Error)]
 pub enum ExpressionFault {
-    /// The word is no expression from this byte on.
+    /// The word is not an expression: its longest prefix that begins one ends before this byte.
     #[error("no expression, at byte {byte}")]
     Syntax { byte: u64 },
     /// A number over 2^127 - 1 begins at this byte.
@@ -50,7 +50,7 @@ impl From<NoMemory> for ExpressionFault {
 /// The most bytes of an expression.
 const MAX_BYTES: u64 = 4096;
 
-/// The refusal of an error.
+/// The fault that reports an error.
 fn fault_of(offence: Offence) -> ExpressionFault
     ensures { IsFaultOf (offence_in offence) result }
 {

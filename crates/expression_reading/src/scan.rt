@@ -13,8 +13,8 @@ use crate::formula::MAX_DEGREE;
 use crate::offence::{Before, Mark, Offence, WIDE, earlier, kind_at};
 use crate::symbol::{Symbol, symbol_of};
 
-/// The state after the last byte. A number is kept with the byte at which it begins, and is
-/// replaced by `WIDE` if it is wide.
+/// The kind of text at the end of the bytes read. A number is kept with the byte at which it
+/// begins, and is replaced by `WIDE` if it is greater.
 #[derive(Clone, Copy)]
 pub(crate) enum Mode {
     Start,
@@ -50,7 +50,7 @@ pub(crate) struct Scan {
     pub(crate) is_high: bool,
 }
 
-/// A number with a digit more, or `WIDE`.
+/// The number with one more digit, or `WIDE` if that is smaller.
 pub(crate) fn extended(value: u128, digit: u8) -> u128
     requires { 48 ≤ digit }
     ensures { result ≡ capped (10 * value + (digit - 48)) }
@@ -72,7 +72,7 @@ fn after_factor(symbol: Symbol) -> Option<Mode>
     }
 }
 
-/// The mode after a byte, if a factor is expected.
+/// The mode after a symbol, if a factor is expected; None if the symbol is invalid.
 fn before_factor(at: u64, symbol: Symbol) -> Option<Mode>
     requires { IsSoundDigit (symbol_in symbol) }
     ensures { result ≡ mode_before_factor at (symbol_in symbol) }
@@ -88,7 +88,8 @@ fn before_factor(at: u64, symbol: Symbol) -> Option<Mode>
     }
 }
 
-/// The mode after a byte in the list of an atom, if a number may begin there.
+/// The mode after a symbol in the list of an atom, if a number may begin there; None if the symbol
+/// is invalid.
 fn in_list(before: Before, at: u64, symbol: Symbol) -> Option<Mode>
     requires { IsSoundDigit (symbol_in symbol) }
     ensures { result ≡ mode_after (Mode.List before) at (symbol_in symbol) }
@@ -104,7 +105,7 @@ fn in_list(before: Before, at: u64, symbol: Symbol) -> Option<Mode>
     }
 }
 
-/// The mode after a byte that follows a number of an atom's list.
+/// The mode after a symbol that follows a number of an atom's list; None if the symbol is invalid.
 fn in_entry(before: Before, start: u64, value: u128, symbol: Symbol) -> Option<Mode>
     requires digit { IsSoundDigit (symbol_in symbol) }
     requires room { before.count + 1 < 2 ^ 64 }
@@ -194,7 +195,7 @@ fn depth_after(depth: u64, symbol: Symbol) -> Option<u64>
     }
 }
 
-/// The number that the mode holds, with the byte at which it begins.
+/// The number that the mode holds, with the byte at which it begins; None if it holds none.
 fn number_mark(mode: Mode) -> Option<(u64, Mark)>
     ensures { result ≡ number_mark mode }
 {
@@ -210,8 +211,8 @@ fn number_mark(mode: Mode) -> Option<(u64, Mark)>
     }
 }
 
-/// The mark that a symbol at the byte `at` completes: a number that ends before it,
-/// or a parenthesis.
+/// The mark that is complete when a symbol is read at the byte `at`: a number that ends before the
+/// symbol, or the symbol itself if it opens a parenthesis.
 fn mark_before(mode: Mode, depth: u64, at: u64, symbol: Symbol) -> Option<(u64, Mark)>
     requires { depth + 1 < 2 ^ 64 }
     ensures { result ≡ mark_before mode depth at (symbol_in symbol) }
@@ -254,7 +255,7 @@ impl Scan {
         }
     }
 
-    /// The state in which the errors of the mark are recorded, too.
+    /// The state in which the errors of the mark have been recorded, too.
     fn with_mark(self, mark: Option<(u64, Mark)>) -> Scan
         ensures sees { Sees self mark result }
         ensures mode { result.mode ≡ self.mode }
@@ -291,7 +292,7 @@ impl Scan {
 }
 
 impl Scan {
-    /// Whether the bytes so far are an expression.
+    /// Whether the bytes read so far are an expression.
     fn is_whole(self) -> bool
         ensures { result ≡ is_whole self }
     {

@@ -14,7 +14,7 @@ use coeff_rings::{factorial, gcd};
 /// The numbers of a weight are below this.
 const LIMIT: u128 = 1 << 127;
 
-/// The weight with these numbers, if they are below the limit.
+/// The weight with this numerator and denominator, if both are below 2^127.
 fn weight_of(num: u128, den: u128) -> Option<Weight>
     ensures { IsWeighed result num den }
 {
@@ -25,8 +25,8 @@ fn weight_of(num: u128, den: u128) -> Option<Weight>
     }
 }
 
-/// The weight of a sum or a difference, over the least common denominator. A denominator over the
-/// greatest common divisor of both is the least common multiple over the other one.
+/// The weight of a sum or a difference, over the least common denominator, which is `a.den /
+/// common` times `b.den`.
 fn sum_weight(a: Weight, b: Weight) -> Option<Weight>
     requires { 0 < a.den }
     ensures { let g = gcd a.den b.den in
@@ -134,7 +134,8 @@ fn growth(target: Basis, d: u16) -> Option<u128>
     }
 }
 
-/// The weight for the target; None only if it is 2^127 or more.
+/// The weight of an expression for the target: its two numbers multiplied, times `growth` at its
+/// degree; None only if that is 2^127 or more.
 pub(crate) fn checked_weight(tree: &Expr, degree: u16, target: Basis) -> Option<u128>
     requires plain { IsTrue (has_no_signs tree.now) }
     requires low { degree ≤ 20 }

@@ -1,5 +1,5 @@
--- Sums over the ways to split a list in which no number of the first part is above 1, with the sign
--- of its size.
+-- Sums over the splits of a list α, the pairs of lists that add up to α place by place, whose first part has no number
+-- above 1. The terms depend on the sizes a and b of the two parts.
 use Rattle.std.proofs.Common.{◌≡◌, ◌⊎◌, ℕ, zero, suc, ◌+◌, ◌-◌, ◌<◌, Bool, true, false, ◌&&◌, cond, ◌==◌, leb, List, [], ◌∷◌, refl, sym, ap, ap₂, ◌∙◌, inl, inr, arith, ℤ, pos, negsuc, neg_ℤ, ◌+ℤ◌, ◌*ℤ◌}
 use Rattle.std.proofs.lemmas.Bool.{cases_eq, eq-eqb, ne_eqb, le-leb, lt-leb}
 use Rattle.std.proofs.lemmas.Int.{ints}
@@ -14,9 +14,17 @@ use Rattle.sym_model.proofs.Monomials.{has_above_size}
 use Rattle.sym_model.proofs.Signs.{minus_one_to_add}
 use Rattle.monomial_laws.specs.MonomialProduct.{splits}
 use Rattle.monomial_laws.proofs.Splits.{total_splits}
-use lib.IntN.{+ℤ_idr, +ℤ_idl, *ℤ-zero}
+use lib.IntN.{+ℤ_idr, +ℤ_idl}
+use Rattle.basis_change_laws.proofs.NewtonIdentities.{turn_inside}
 
--- the sum of W(size of the first part, size of the second part) over these splits
+minus : (z : ℤ) → neg_ℤ z ≡ negsuc 0 *ℤ z
+minus z = omega (arith, ints)
+
+pub nothing_either : (t : Bool) → cond t (pos 0) (pos 0) ≡ pos 0
+nothing_either true = refl
+nothing_either false = refl
+
+-- the sum of W(a, b) over the splits of α whose first part has no number above 1, with a and b the sizes of the two parts
 abbrev pub low_total : (ℕ → ℕ → ℤ) → List ℕ → ℤ
 low_total W α = total
     (λ (s : List ℕ × List ℕ). cond (at_most_one s.0) (W (size s.0) (size s.1)) (pos 0)) (splits α)
@@ -60,23 +68,15 @@ low_total-scale c W α =
     total_ext (λ (s : List ℕ × List ℕ). cond (at_most_one s.0) (c *ℤ W (size s.0) (size s.1))
     (pos 0)) (λ (s : List ℕ × List ℕ). c *ℤ cond (at_most_one s.0) (W (size s.0) (size s.1))
     (pos 0))
-    (λ s. by (at_most_one s.0) (W (size s.0) (size s.1))) (splits α)
+    (λ s. sym (turn_inside (at_most_one s.0) c (W (size s.0) (size s.1)))) (splits α)
     ∙ total_scale c
     (λ (s : List ℕ × List ℕ). cond (at_most_one s.0) (W (size s.0) (size s.1)) (pos 0)) (splits α)
-  where
-    by : (t : Bool) (x : ℤ) → cond t (c *ℤ x) (pos 0) ≡ c *ℤ cond t x (pos 0)
-    by true x = refl
-    by false x = sym (*ℤ-zero c)
 
 pub low_total-none : (α : List ℕ) → low_total (λ a b. pos 0) α ≡ pos 0
 low_total-none α = total_none (λ (s : List ℕ × List ℕ). cond (at_most_one s.0) (pos 0) (pos 0))
-    (splits α) (λ s m. by (at_most_one s.0))
-  where
-    by : (t : Bool) → cond t (pos 0) (pos 0) ≡ pos 0
-    by true = refl
-    by false = refl
+    (splits α) (λ s m. nothing_either (at_most_one s.0))
 
--- the sum over the splits of c ∷ α is the sum over the splits of α with 0, or if c ≥ 1 also with 1, in the first part in place of c
+-- a split of c ∷ α splits c into 0 + c or, if c ≥ 1, into 1 + (c - 1): the sum over the splits is the sum over both cases
 pub low_total-cons : (W : ℕ → ℕ → ℤ) (c : ℕ) (α : List ℕ)
     → low_total W (c ∷ α)
     ≡ low_total (λ a b. W (0 + a) (c - 0 + b)) α +ℤ cond (leb 1 c)
@@ -109,13 +109,13 @@ low_total-cons W c α =
     by true q z = refl
     by false q z = refl
 
--- ---- the sums for the values W that are needed
+-- ---- the sums over the splits for particular functions W of the two sizes
 
 -- 1 if the size is 0, else 0
 abbrev pub at_zero : ℕ → ℤ
 at_zero k = cond (k == 0) (pos 1) (pos 0)
 
--- the sum of the signs over the splits of α is 1 if α has size 0, else 0
+-- over the splits of α with no number above 1 in the first part, of size a, the sum of (-1)^a is 1 if α has size 0, else 0
 pub signs : (α : List ℕ) → low_total (λ a b. minus_one_to a) α ≡ at_zero (size α)
 signs [] = refl
 signs (c ∷ α) =
@@ -129,10 +129,7 @@ signs (c ∷ α) =
     ∙ by c (size α)
   where
     one_more : (a : ℕ) → minus_one_to (1 + a) ≡ negsuc 0 *ℤ minus_one_to a
-    one_more a = let e : 1 + a ≡ suc a = omega arith in ap minus_one_to e ∙ turned (minus_one_to a)
-      where
-        turned : (z : ℤ) → neg_ℤ z ≡ negsuc 0 *ℤ z
-        turned z = omega (arith, ints)
+    one_more a = let e : 1 + a ≡ suc a = omega arith in ap minus_one_to e ∙ minus (minus_one_to a)
 
     by : (c k : ℕ) → at_zero k +ℤ cond (leb 1 c) (negsuc 0 *ℤ at_zero k) (pos 0) ≡ at_zero (c + k)
     by zero k = +ℤ_idr (at_zero k) ∙ ap at_zero (let e : k ≡ 0 + k = omega arith in e)
@@ -155,7 +152,8 @@ only_number c α = by (cases_eq (size α) 0)
         ∙ sym (has_past (suc c + size α) (suc c) α (λ d. absurd (n (omega arith)))
         ∙ has_above_size (suc c + size α) α (omega arith))
 
--- the sum over the splits of the sign times the size of the second part is 1 if exactly one number of α is not 0, else 0
+-- over the splits of α with no number above 1 in the first part, the sum of (-1)^a·b, a and b being the sizes of the parts, is 1 if exactly one number
+-- of α is not 0, else 0
 pub signed_rests : (α : List ℕ) → 0 < size α → low_total (λ a b. minus_one_to a *ℤ pos b) α
     ≡ cond (has (size α) α) (pos 1) (pos 0)
 signed_rests [] h = absurd (omega arith)
@@ -195,13 +193,10 @@ signed_rests (c ∷ α) h =
         ∙ spread (minus_one_to a) (pos (c - 1)) (pos b)
       where
         spread : (x y z : ℤ) → neg_ℤ x *ℤ (y +ℤ z) ≡ neg_ℤ y *ℤ x +ℤ negsuc 0 *ℤ (x *ℤ z)
-        spread x y z = apart x y z ∙ ap (λ w. neg_ℤ y *ℤ x +ℤ w) (turned (x *ℤ z))
+        spread x y z = apart x y z ∙ ap (λ w. neg_ℤ y *ℤ x +ℤ w) (minus (x *ℤ z))
           where
             apart : (x y z : ℤ) → neg_ℤ x *ℤ (y +ℤ z) ≡ neg_ℤ y *ℤ x +ℤ neg_ℤ (x *ℤ z)
             apart x y z = simp ring (omega (arith, ints))
-
-            turned : (w : ℤ) → neg_ℤ w ≡ negsuc 0 *ℤ w
-            turned w = omega (arith, ints)
 
     by : (c : ℕ) → 0 < c + size α
         → (0 < size α → low_total (λ a b. minus_one_to a *ℤ pos b) α
@@ -235,16 +230,13 @@ signed_rests (c ∷ α) h =
         ∙ ap (λ (t : Bool). cond t (pos 1) (pos 0)) (only_number c α)
       where
         left : (x y z : ℤ) → ((x +ℤ pos 1) *ℤ y +ℤ z) +ℤ (neg_ℤ x *ℤ y +ℤ negsuc 0 *ℤ z) ≡ y
-        left x y z = ap (λ w. ((x +ℤ pos 1) *ℤ y +ℤ z) +ℤ (neg_ℤ x *ℤ y +ℤ w)) (turned z)
+        left x y z = ap (λ w. ((x +ℤ pos 1) *ℤ y +ℤ z) +ℤ (neg_ℤ x *ℤ y +ℤ w)) (sym (minus z))
             ∙ apart x y z
           where
             apart : (x y z : ℤ) → ((x +ℤ pos 1) *ℤ y +ℤ z) +ℤ (neg_ℤ x *ℤ y +ℤ neg_ℤ z) ≡ y
             apart x y z = simp ring (omega (arith, ints))
 
-            turned : (w : ℤ) → negsuc 0 *ℤ w ≡ neg_ℤ w
-            turned w = omega (arith, ints)
-
--- the number of these splits of α with an empty second part is 1 if no number of α is above 1, else 0
+-- the number of splits of α, with no number above 1 in the first part, whose second part is all zeros is 1 if no number of α is above 1, else 0
 pub rests_none : (α : List ℕ) → low_total (λ a b. at_zero b) α
     ≡ cond (at_most_one α) (pos 1) (pos 0)
 rests_none [] = refl
@@ -274,7 +266,7 @@ rests_none (c ∷ α) = low_total-cons (λ a b. at_zero b) c α ∙ by c (rests_
         ∙ ap (λ (t : Bool). cond (t && at_most_one α) (pos 1) (pos 0))
         (sym (lt-leb (suc (suc c)) 1 (omega arith)))
 
--- the number of these splits of α with an empty first part is 1
+-- the number of splits of α whose first part is all zeros is 1
 pub firsts_none : (α : List ℕ) → low_total (λ a b. at_zero a) α ≡ pos 1
 firsts_none [] = refl
 firsts_none (c ∷ α) =
@@ -285,13 +277,9 @@ firsts_none (c ∷ α) =
     (low_total-ext (λ a b. at_zero (1 + a)) (λ a b. pos 0) α
     (λ a b. ap (λ (t : Bool). cond t (pos 1) (pos 0))
     (ne_eqb (1 + a) 0 (λ e. absurd (omega arith)))) ∙ low_total-none α)
-    ∙ by (leb 1 c)
-  where
-    by : (t : Bool) → pos 1 +ℤ cond t (pos 0) (pos 0) ≡ pos 1
-    by true = refl
-    by false = refl
+    ∙ ap (λ z. pos 1 +ℤ z) (nothing_either (leb 1 c))
 
--- the sum of the sign of the size of the second part is 1 if α has size 0, else 0
+-- over the splits of α with no number above 1 in the first part, the sum of (-1)^b, b being the size of the second part, is 1 if α has size 0, else 0
 pub rest_signs : (α : List ℕ) → low_total (λ a b. minus_one_to b) α ≡ at_zero (size α)
 rest_signs [] = refl
 rest_signs (c ∷ α) =
@@ -326,7 +314,7 @@ rest_signs (c ∷ α) =
         cancels : (x z : ℤ) → neg_ℤ x *ℤ z +ℤ x *ℤ z ≡ pos 0
         cancels x z = simp ring (omega (arith, ints))
 
--- the sum over the splits of the sign times the size of the first part is -1 if exactly one number of α is not 0, else 0
+-- over the splits of α with no number above 1 in the first part, of size a, the sum of (-1)^a·a is -1 if exactly one number of α is not 0, else 0
 pub signed_firsts : (α : List ℕ) → 0 < size α → low_total (λ a b. minus_one_to a *ℤ pos a) α
     ≡ neg_ℤ (cond (has (size α) α) (pos 1) (pos 0))
 signed_firsts [] h = absurd (omega arith)
@@ -348,13 +336,10 @@ signed_firsts (c ∷ α) h =
     there a =
         let d : 1 + a ≡ suc a = omega arith in
         ap (λ n. minus_one_to n *ℤ (pos 1 +ℤ pos a)) d ∙ spread (minus_one_to a) (pos a)
-        ∙ turned (minus_one_to a +ℤ minus_one_to a *ℤ pos a)
+        ∙ minus (minus_one_to a +ℤ minus_one_to a *ℤ pos a)
       where
         spread : (x y : ℤ) → neg_ℤ x *ℤ (pos 1 +ℤ y) ≡ neg_ℤ (x +ℤ x *ℤ y)
         spread x y = simp ring (omega (arith, ints))
-
-        turned : (w : ℤ) → neg_ℤ w ≡ negsuc 0 *ℤ w
-        turned w = omega (arith, ints)
 
     by : (c : ℕ) → 0 < c + size α
         → (0 < size α → low_total (λ a b. minus_one_to a *ℤ pos a) α

@@ -1,7 +1,7 @@
--- The sums of the absolute values of the coefficients of the closed lists.
---     total-orders      l!/Π m_i! over the partitions of k + 1 adds up to 2^k
---     total-sized       k·(l - 1)!/Π m_i! over those of k adds up to 2^k - 1
---     total-cycles      k!/z_μ over those of k adds up to k!
+-- The sums of the absolute values of the coefficients of the lists of specs/OnePartLists.
+--     total-orders      the sum of l!/Π m_i! over the partitions of k + 1, with l parts of the multiplicities m_i, is 2^k
+--     total-sized       the sum of k·(l - 1)!/Π m_i! over the partitions of k is 2^k - 1
+--     total-cycles      the sum of k!/z_μ over the partitions μ of k is k!
 use Rattle.std.proofs.Common.{◌≡◌, ℕ, zero, suc, ◌+◌, ◌-◌, ◌*◌, ◌^◌, ◌<◌, ◌≤◌, cond, List, [], length, refl, sym, ap, ap₂, ◌∙◌, arith, ℤ, pos, ◌+ℤ◌, ◌*ℤ◌, pow-suc}
 use Rattle.std.proofs.lemmas.Int.{ints}
 use Rattle.sym_model.specs.Sum.{total}
@@ -19,8 +19,9 @@ use Rattle.family_list_laws.specs.OnePartLists.{orders_of_parts, sized_orders, c
 use Rattle.family_list_laws.proofs.ListSteps.{total-taken}
 use Rattle.family_list_laws.proofs.PartQuotients.{orders-sum, sized-orders, cycles-sum, rise}
 use Rattle.family_list_laws.proofs.OnePartValues.{some_part}
+use Rattle.std.proofs.Math.Nat.{mul_comm}
 
--- the sum of a number for each partition of k
+-- the sum of x(μ) over the partitions μ of k
 abbrev pub sum_over : (List ℕ → ℕ) → ℕ → ℤ
 sum_over x k = total (λ (μ : List ℕ). pos (x μ)) (partitions_of k)
 
@@ -64,7 +65,7 @@ back_sum z f m =
     (λ i. ap (λ n. z (i + 1) *ℤ f n) (let e : suc m - (i + 1) ≡ m - i = omega arith in e))
     (after 0 m))
 
--- ---- the three sums of absolute values
+-- the sums of the absolute values of the coefficients of the three lists of specs/OnePartLists
 
 -- the number of lists of positive numbers with the sum k
 abbrev pub compositions : ℕ → ℕ
@@ -170,7 +171,4 @@ total-cycles (suc d) (suc k) h =
     ∙ ap pos (rise-is (suc k - i) (suc k - 1) (omega arith) ∙ ap factorial e))
     ∙ total_constant (pos (factorial k)) (after 0 (suc k))
     ∙ ap (λ n. pos (factorial k * n)) (length_after 0 (suc k))
-    ∙ ap pos (turned (factorial k) (suc k))
-  where
-    turned : (a b : ℕ) → a * b ≡ b * a
-    turned a b = omega arith
+    ∙ ap pos (mul_comm (factorial k) (suc k))

@@ -16,12 +16,12 @@ use Rattle.sym_model.proofs.Monomials.{coefficient-monomials, In-monomials}
 use Rattle.monomial_laws.specs.MonomialProduct.{splits}
 use Rattle.monomial_laws.proofs.Splits.{coefficient_times, length-splits}
 use Rattle.monomial_laws.proofs.Arrangements.{sizes-splits}
-use Rattle.family_list_laws.proofs.AlternatingSums.{low_total, low_total-ext, low_total-add, low_total-scale, at_zero, signs, rest_signs, rests_none, firsts_none, signed_rests, signed_firsts}
+use Rattle.family_list_laws.proofs.AlternatingSums.{low_total, low_total-ext, low_total-add, low_total-scale, at_zero, signs, rest_signs, rests_none, firsts_none, signed_rests, signed_firsts, nothing_either}
 use lib.IntN.{*ℤ-zero, +ℤ_idr}
 
 -- ---- the product of one e_a and one h_b
 
--- 1 if the sizes are a and b, else 0
+-- 1 if p = a and q = b, else 0
 abbrev at_sizes : ℕ → ℕ → ℕ → ℕ → ℤ
 at_sizes a b p q = cond (p == a) (cond (q == b) (pos 1) (pos 0)) (pos 0)
 
@@ -55,10 +55,10 @@ product-sizes n a b α long =
     by false false true = refl
     by false false false = refl
 
--- ---- the sum of all products, with weights
+-- ---- the sum of all products e_i·h_(k-i), with weights
 
--- the weighted sum over i of the coefficients of the products of e and h at x^α is the sum of W over the splits of α,
--- if α has the size k
+-- if, for the splits of α into sizes p and q, the sum of the v(i) with x(i) = p and y(i) = q is W(p, q) if |α| = k and 0 if
+-- not, then Σ v(i)·e_(x(i))·h_(y(i)) has at x^α the sum of W over the splits of α if |α| = k, and otherwise 0
 weighted : (n k : ℕ) (x y : ℕ → ℕ) (v : ℕ → ℤ) (W : ℕ → ℕ → ℤ) (α : List ℕ) → length α ≡ n
     → ((p q : ℕ) → p + q ≡ size α → total (λ (i : ℕ). v i *ℤ at_sizes (x i) (y i) p q) (after 0 k)
     ≡ cond (size α == k) (W p q) (pos 0))
@@ -96,13 +96,9 @@ weighted n k x y v W α long pick =
         (after 0 k) ≡ cond (size α == k) (cond t (W (size s.0) (size s.1)) (pos 0)) (pos 0)
     by s true e = e
     by s false e = total_none (λ (i : ℕ). v i *ℤ pos 0) (after 0 k) (λ i m. *ℤ-zero (v i))
-        ∙ sym (none (size α == k))
-      where
-        none : (t : Bool) → cond t (pos 0) (pos 0) ≡ pos 0
-        none true = refl
-        none false = refl
+        ∙ sym (nothing_either (size α == k))
 
--- the index i is one of the two sizes, and the other size is k - i: only one i has a summand that is not 0
+-- sums over i from 1 to k in which only one summand is not 0, that for which the two sizes are i and k - i
 module _ (k : ℕ) (v : ℕ → ℤ) where
   picked : (m i₀ : ℕ) (f : ℕ → ℤ) → m ≡ k
       → ((i : ℕ) → Among i (after 0 k) → (i ≡ i₀ → ⊥) → f i ≡ pos 0)
@@ -170,7 +166,7 @@ module _ (k : ℕ) (v : ℕ → ℤ) where
 
 -- ---- e_k, h_k and p_k as four weighted sums of products
 
--- a sum of products, each times a number
+-- the sum of v(i)·G_(k-i)·P_i over i = 1, .., k
 abbrev pub scaled_products : (ℕ → ℤ) → (ℕ → ℕ → Poly) → (ℕ → ℕ → Poly) → ℕ → ℕ → Poly
 scaled_products v G P k n = flat_map (λ i. scale (v i) (times (G (k - i) n) (P i n))) (after 0 k)
 
@@ -198,8 +194,9 @@ all : (n i : ℕ) → In n (complete_of i n)
 all n i = In-monomials (λ β. true) n i
 
 module _ (k n : ℕ) (some : 0 < k) where
-  -- the coefficient at x^α of the monomials that pass a test is a weighted sum of those of products of e and h, if
-  -- the sum of W over the splits of α is 1 for α that pass the test, else 0
+  -- if the sum of the v(i) with x(i) = p and y(i) = q is W(p, q) for p + q = k and 0 for other p + q, and W adds up over the
+  -- splits of α, for |α| = k, to 1 if α passes the test, else to 0, then the sum of the monomials of degree k that pass the
+  -- test has at x^α the coefficient of Σ v(i)·e_(x(i))·h_(y(i))
   summed : (test : List ℕ → Bool) (x y : ℕ → ℕ) (v : ℕ → ℤ) (W : ℕ → ℕ → ℤ) (α : List ℕ) → length α
       ≡ n
       → ((m p q : ℕ) → p + q ≡ m → total (λ (i : ℕ). v i *ℤ at_sizes (x i) (y i) p q) (after 0 k)
@@ -262,7 +259,7 @@ module _ (k n : ℕ) (some : 0 < k) where
       ∙ without_last (cond (at_most_one α) (pos 1) (pos 0)))
       ∙ sym (coefficient-products (λ i. minus_one_to (i - 1)) elementary_of complete_of k n α))
 
-  -- the two factors of each product may be exchanged
+  -- Σ v(i)·e_i·h_(k-i) and Σ v(i)·h_(k-i)·e_i, over i = 1, .., k, have the same coefficient at x^α
   exchanged : (v : ℕ → ℤ) (α : List ℕ)
       → total (λ (i : ℕ). v i *ℤ coefficient (times (elementary_of i n) (complete_of (k - i) n)) α)
       (after 0 k) ≡ coefficient (scaled_products v complete_of elementary_of k n) α

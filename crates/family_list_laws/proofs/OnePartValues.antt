@@ -1,4 +1,4 @@
--- The closed lists of one part (specs/OnePartLists).
+-- The lists of e_k, h_k and p_k with closed coefficients (specs/OnePartLists).
 use Rattle.std.proofs.Common.{◌≡◌, ℕ, zero, suc, ◌+◌, ◌-◌, ◌*◌, ◌<◌, ◌≤◌, true, cond, List, [], ◌∷◌, length, refl, sym, ap, ap₂, ◌∙◌, arith, ℤ, pos, neg_ℤ, ◌*ℤ◌, flat_map}
 use Rattle.std.proofs.lemmas.Int.{ints}
 use Rattle.sym_model.specs.Sum.{total}
@@ -9,20 +9,21 @@ use Rattle.sym_model.specs.PlaceOrders.{minus_one_to}
 use Rattle.sym_model.specs.RaisedPart.{without_one}
 use Rattle.sym_model.specs.Bases.{has, elementary_of, complete_of, power_sum_of}
 use Rattle.sym_model.specs.Weight.{factorial}
-use Rattle.sym_model.proofs.Ring.{ring, one-product}
+use Rattle.sym_model.proofs.Ring.{ring, one-product, product_assoc, product-one}
 use Rattle.sym_model.proofs.Signs.{minus_one_to_add}
 use Rattle.sym_model.proofs.Sums.{total_ext, total_among, total_scale}
 use Rattle.sym_model.proofs.AfterLists.{after_among}
 use Rattle.sym_model.proofs.Polynomials.{pair_each, pair_scale, pair_determined}
 use Rattle.sym_model.proofs.PolynomialLaws.{times_comm}
-use Rattle.sym_model.proofs.SortedParts.{rows_within_size}
+use Rattle.sym_model.proofs.SortedParts.{rows_within_size, size-without_one, IsPartition-without_one}
 use Rattle.basis_change_laws.proofs.NewtonLists.{IsNewton, newton-elementary, newton-complete}
 use Rattle.basis_change_laws.proofs.FactorialQuotients.{rise-is}
 use Rattle.family_list_laws.specs.OnePartLists.{orders_of_parts, sized_orders, cycle_type_count, parity_sign, signed_orders}
 use Rattle.family_list_laws.proofs.ListSteps.{IsSumOver, sum-step}
-use Rattle.family_list_laws.proofs.PartQuotients.{part-positive, taken-partition, taken-size, taken-length, orders-sum, sized-orders, cycles-sum, rise, signed-sum}
+use Rattle.family_list_laws.proofs.PartQuotients.{part-positive, taken-length, orders-sum, sized-orders, cycles-sum, rise, signed-sum}
 use Rattle.family_list_laws.proofs.OnePartSums.{scaled_products, pair-products, elementary-sum, complete-sum, power-complete-sum, power-elementary-sum}
 use lib.IntN.{+ℤ_idr}
+use Rattle.std.proofs.Math.Nat.{mul_comm}
 
 -- ---- the sign of a partition with a part removed
 
@@ -31,9 +32,9 @@ sign-taken : (i : ℕ) (μ : List ℕ) → IsPartition μ → has i μ ≡ true
     → minus_one_to (i - 1) *ℤ parity_sign (without_one i μ) ≡ parity_sign μ
 sign-taken i μ p e =
     let l = taken-length i μ e in
-    let s = taken-size i μ p e in
+    let s = size-without_one i μ e in
     let h = part-positive i μ p e in
-    let r = rows_within_size (without_one i μ) (taken-partition i μ p e).positive in
+    let r = rows_within_size (without_one i μ) (IsPartition-without_one i μ p).positive in
     sym (minus_one_to_add (i - 1) (size (without_one i μ) - length (without_one i μ)))
     ∙ ap minus_one_to
     (let d : i - 1 + (size (without_one i μ) - length (without_one i μ))
@@ -50,24 +51,18 @@ sign-left : (i : ℕ) (μ : List ℕ) → IsPartition μ → has i μ ≡ true
     → minus_one_to (size μ - i) *ℤ parity_sign (without_one i μ) ≡ minus_one_to (length μ - 1)
 sign-left i μ p e =
     let l = taken-length i μ e in
-    let s = taken-size i μ p e in
-    let r = rows_within_size (without_one i μ) (taken-partition i μ p e).positive in
+    let s = size-without_one i μ e in
+    let r = rows_within_size (without_one i μ) (IsPartition-without_one i μ p).positive in
     let a = size (without_one i μ) - length (without_one i μ) in
     ap (λ n. minus_one_to n *ℤ parity_sign (without_one i μ))
     (let d : size μ - i
     ≡ length μ - 1 + (size (without_one i μ) - length (without_one i μ)) = omega arith in d)
     ∙ ap (λ z. z *ℤ parity_sign (without_one i μ))
     (minus_one_to_add (length μ - 1) (size (without_one i μ) - length (without_one i μ)))
-    ∙ grouped (minus_one_to (length μ - 1)) (parity_sign (without_one i μ))
+    ∙ product_assoc (minus_one_to (length μ - 1)) (parity_sign (without_one i μ)) (parity_sign (without_one i μ))
     ∙ ap (λ z. minus_one_to (length μ - 1) *ℤ z)
     (sign-square (size (without_one i μ) - length (without_one i μ)))
-    ∙ last (minus_one_to (length μ - 1))
-  where
-    grouped : (x y : ℤ) → (x *ℤ y) *ℤ y ≡ x *ℤ (y *ℤ y)
-    grouped x y = simp ring (omega (arith, ints))
-
-    last : (z : ℤ) → z *ℤ pos 1 ≡ z
-    last z = omega (arith, ints)
+    ∙ product-one (minus_one_to (length μ - 1))
 
 -- ---- a partition of a positive number has a part
 
@@ -79,9 +74,6 @@ some_part k (a ∷ μ) h e = omega arith
 up_to : (k : ℕ) (μ : List ℕ) (f : ℕ → ℤ) → size μ ≡ k → total f (after 0 (size μ))
     ≡ total f (after 0 k)
 up_to k μ f e = ap (λ n. total f (after 0 n)) e
-
-three : (x y z : ℤ) → x *ℤ (y *ℤ z) ≡ (x *ℤ y) *ℤ z
-three x y z = simp ring (omega (arith, ints))
 
 four : (a b c d : ℤ) → (a *ℤ b) *ℤ (c *ℤ d) ≡ (a *ℤ c) *ℤ (b *ℤ d)
 four a b c d = simp ring (omega (arith, ints))
@@ -95,8 +87,8 @@ orders-closed : (k : ℕ) (μ : List ℕ) → 0 < k → IsPartition μ → size 
 orders-closed k μ h p e =
     signed-sum μ (parity_sign μ) (λ i. minus_one_to (i - 1)) signed_orders
     (λ i. orders_of_parts (without_one i μ)) (orders_of_parts μ)
-    (λ i f. three (minus_one_to (i - 1)) (parity_sign (without_one i μ))
-    (pos (orders_of_parts (without_one i μ)))
+    (λ i f. sym (product_assoc (minus_one_to (i - 1)) (parity_sign (without_one i μ))
+    (pos (orders_of_parts (without_one i μ))))
     ∙ ap (λ z. z *ℤ pos (orders_of_parts (without_one i μ))) (sign-taken i μ p f))
     (orders-sum (length μ - 1) μ p (sym (some_part k μ h e)))
     ∙ up_to k μ (λ (i : ℕ). cond (has i μ) (minus_one_to (i - 1) *ℤ signed_orders (without_one i μ))
@@ -133,7 +125,8 @@ power-elementary-closed k μ h p e =
     ∙ up_to k μ (λ (i : ℕ). cond (has i μ)
     ((minus_one_to (i - 1) *ℤ pos i) *ℤ signed_orders (without_one i μ)) (pos 0)) e
 
--- if σ(i)·τ(μ without i) is τ(μ) for each part i of μ, then τ(μ)·k!/z_μ is a sum over the parts of μ
+-- if σ(i)·τ(μ without i) = τ(μ) for each part i of a partition μ, then for partitions μ of k > 0, τ(μ)·k!/z_μ is the sum
+-- over the different parts i of μ of σ(i)·(k - 1)!/(k - i)! times τ(ρ)·(k - i)!/z_ρ, with ρ being μ without one part i
 cycles-closed : (σ : ℕ → ℤ) (τ : List ℕ → ℤ)
     → ((i : ℕ) (μ : List ℕ) → IsPartition μ → has i μ ≡ true → σ i *ℤ τ (without_one i μ) ≡ τ μ)
     → (k : ℕ) (μ : List ℕ) → 0 < k → IsPartition μ → size μ ≡ k
@@ -152,7 +145,7 @@ cycles-closed σ τ turn k μ h p e =
     ((σ i *ℤ pos (rise k i)) *ℤ (τ (without_one i μ) *ℤ pos (cycle_type_count (without_one i μ))))
     (pos 0)) e
 
--- ---- the closed lists of a family in another one
+-- ---- the lists of a family in another one, with closed coefficients
 
 nothing-left : (P : ℕ → ℕ → Poly) (n : ℕ) (c : List ℕ → ℤ) (f : Poly) → c [] ≡ pos 1
     → Same f (one n) → IsSumOver P n 0 c 1 f
@@ -160,7 +153,7 @@ unfolding partitions_within
 nothing-left P n c f e h φ = +ℤ_idr (c [] *ℤ pair (one n) φ)
     ∙ ap₂ ◌*ℤ◌ e (sym (pair_determined f (one n) φ h))
 
--- if f is the sum of v(i) times a product of G and P, the pairing of f is the sum of v(i) times the pairings of the products
+-- if f is Σ v(i)·G_(k-i)·P_i over i = 1, .., k, the pairing of f with φ is Σ v(i) times the pairing of G_(k-i)·P_i with φ
 whole-sum : (v : ℕ → ℤ) (G P : ℕ → ℕ → Poly) (k n : ℕ) (f : Poly)
     → Same f (scaled_products v G P k n) → (φ : List ℕ → ℤ)
     → pos 1 *ℤ pair f φ
@@ -172,7 +165,8 @@ whole-sum v G P k n f e φ =
     (λ (i : ℕ). v i *ℤ (pos 1 *ℤ pair (times (G (k - i) n) (P i n)) φ))
     (λ i. ap (λ z. v i *ℤ z) (sym (one-product (pair (times (G (k - i) n) (P i n)) φ)))) (after 0 k)
 
--- if G_0 is 1 and each G_k is the signed sum of the products of a G and a P, G_k has the coefficients `signed_orders` in the family P
+-- if G_0 = 1 and G_k = Σ (-1)^(i-1)·G_(k-i)·P_i over i = 1, .., k for each k > 0, then G_k is the sum over the partitions μ
+-- of k of `signed_orders` μ times the product of the P_a over the parts a of μ
 family-list : (G P : ℕ → ℕ → Poly) (n : ℕ) → Same (G 0 n) (one n)
     → ((k : ℕ) → 0 < k → Same (G k n) (scaled_products (λ i. minus_one_to (i - 1)) G P k n))
     → (d k : ℕ) → k ≤ d → IsSumOver P n k signed_orders 1 (G k n)
@@ -220,17 +214,18 @@ power-in-elementary k n h =
     (power-elementary-sum k n h))
     (λ μ p e. power-elementary-closed k μ h p e)
 
--- ---- the closed lists of e_k and h_k in power sums
+-- ---- the lists of e_k and h_k in power sums, with closed coefficients
 
--- k!·G_k, paired with a test function, is the sum of Newton's identity for k, times (k - 1)!
+-- if G satisfies Newton's identities with the signs σ and k > 0, then k!·G_k = Σ σ(i)·(k - 1)!/(k - i)!·(k - i)!·G_(k-i)·p_i
+-- over i = 1, .., k, paired with any test function φ
 newton-sum : (G : ℕ → ℕ → Poly) (σ : ℕ → ℤ) → IsNewton G σ → (k n : ℕ) → 0 < k → (φ : List ℕ → ℤ)
     → pos (factorial k) *ℤ pair (G k n) φ
     ≡ total (λ (i : ℕ). (σ i *ℤ pos (rise k i)) *ℤ
     (pos (factorial (k - i)) *ℤ pair (times (G (k - i) n) (power_sum_of i n)) φ)) (after 0 k)
 newton-sum G σ is zero n h φ = absurd (omega arith)
 newton-sum G σ is (suc k) n h φ =
-    ap (λ m. pos m *ℤ pair (G (suc k) n) φ) (turned (suc k) (factorial k))
-    ∙ sym (three (pos (factorial k)) (pos (suc k)) (pair (G (suc k) n) φ))
+    ap (λ m. pos m *ℤ pair (G (suc k) n) φ) (mul_comm (suc k) (factorial k))
+    ∙ product_assoc (pos (factorial k)) (pos (suc k)) (pair (G (suc k) n) φ)
     ∙ ap (λ z. pos (factorial k) *ℤ z)
     (sym (pair_scale (pos (suc k)) (G (suc k) n) φ)
     ∙ pair_determined (scale (pos (suc k)) (G (suc k) n))
@@ -264,9 +259,6 @@ newton-sum G σ is (suc k) n h φ =
     ∙ regroup (pos (rise (suc k) i)) (pos (factorial (suc k - i))) (σ i)
     (pair (times (G (suc k - i) n) (power_sum_of i n)) φ))
   where
-    turned : (a b : ℕ) → a * b ≡ b * a
-    turned a b = omega arith
-
     regroup : (r f s x : ℤ) → (r *ℤ f) *ℤ (s *ℤ x) ≡ (s *ℤ r) *ℤ (f *ℤ x)
     regroup r f s x = simp ring (omega (arith, ints))
 

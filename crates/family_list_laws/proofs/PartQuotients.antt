@@ -1,4 +1,4 @@
--- The closed coefficients, from those of the partitions with one part less.
+-- The closed coefficients of specs/OnePartLists at a partition, from those at the partitions with one part less.
 use Rattle.std.proofs.Common.{◌≡◌, ◌⊎◌, ℕ, zero, suc, ◌+◌, ◌-◌, ◌*◌, ◌/◌, ◌<◌, ◌≤◌, Bool, true, false, cond, eqb, List, [], ◌∷◌, map, length, refl, sym, ap, ap₂, ◌∙◌, inl, inr, arith, ℤ, pos, ◌+ℤ◌, ◌*ℤ◌}
 use Rattle.std.proofs.lemmas.Bool.{cases_eq, cases_lt, eq-eqb, ne_eqb, both_ways, true≢false}
 use Rattle.std.proofs.lemmas.Int.{ints}
@@ -19,6 +19,7 @@ use Rattle.basis_change_laws.proofs.FactorialQuotients.{quotient-is, rise-is}
 use Rattle.family_list_laws.specs.OnePartLists.{orders_of_parts, sized_orders, product_of_parts, centralizer, cycle_type_count}
 use lib.IntN.{zero-*ℤ, *ℤ-zero}
 use native.Mathlib.Nat.{eq_of_mul-eq-mul_right, mul-pos}
+use Rattle.std.proofs.Math.Nat.{mul_assoc, mul_comm, mul_left_comm}
 
 -- ---- sums over the numbers up to k, each counted with its multiplicity
 
@@ -39,7 +40,7 @@ total-parts y k (j ∷ μ) h =
     ∙ ap (λ (t : Bool). cond t (y j) (pos 0)) (eq-eqb j j refl))
     (total-parts y k μ (λ i m. h i (inr m)))
 
--- every number of a list that sums to at most k is at most k
+-- every number of a list μ of positive numbers is positive, and at most the sum of μ
 pub parts-within : (μ : List ℕ) → ArePositive μ → (j : ℕ) → Among j μ → (0 < j) × (j ≤ size μ)
 parts-within [] p j m = absurd m
 parts-within (a ∷ μ) p j (inl e) = let q = p.0 in (omega arith, omega arith)
@@ -56,7 +57,8 @@ unfolding add_up
 total-add_up f [] = refl
 total-add_up f (i ∷ numbers) = let e = total-add_up f numbers in omega (arith, ints)
 
--- if x(i)·M is m_i·y(i) for each different part i, and these add up to N, then N/M is the sum of the x(i)
+-- for a partition μ whose part i has the multiplicity m_i: if x(i)·M = m_i·y(i) for each part i, and N is the sum of y over all parts, each as often as
+-- it occurs, then M divides N, and N/M is the sum of the x(i) over the different parts
 pub quotient-parts : (M N : ℕ) (x y : ℕ → ℕ) (μ : List ℕ) → 0 < M → IsPartition μ
     → ((i : ℕ) → has i μ ≡ true → x i * M ≡ times_in i μ * y i) → pos N
     ≡ total (λ (j : ℕ). pos (y j)) μ
@@ -77,11 +79,8 @@ quotient-parts M N x y μ some p each sum = (
     inside true a = refl
     inside false a = refl
 
-    turned : (a b : ℕ) → a * b ≡ b * a
-    turned a b = omega arith
-
     one : (i : ℕ) (b : Bool) → has i μ ≡ b → M * cond b (x i) 0 ≡ times_in i μ * y i
-    one i true e = turned M (x i) ∙ each i e
+    one i true e = mul_comm M (x i) ∙ each i e
     one i false e = by (cases_lt 0 (times_in i μ))
       where
         by : (0 < times_in i μ) ⊎ (times_in i μ ≤ 0) → M * 0 ≡ times_in i μ * y i
@@ -89,21 +88,18 @@ quotient-parts M N x y μ some p each sum = (
         by (inr l) = let z : times_in i μ ≡ 0 = omega arith in let r : M * 0
             ≡ 0 * y i = omega arith in r ∙ ap (λ n. n * y i) (sym z)
 
-    same_number : (a b : ℕ) → pos a ≡ pos b → a ≡ b
-    same_number a b e = omega (arith, ints)
-
     whole : all * M ≡ N
     whole =
-        turned all M
-        ∙ same_number (M * all) N
-        (ap (λ z. pos M *ℤ z)
+        let e : pos (M * all) ≡ pos N =
+        ap (λ z. pos M *ℤ z)
         (sym (total-add_up (λ (i : ℕ). cond (has i μ) (x i) 0) (after 0 (size μ))))
         ∙ sym (total_scale (pos M) (λ (i : ℕ). pos (cond (has i μ) (x i) 0)) (after 0 (size μ)))
         ∙ total_ext (λ (i : ℕ). pos M *ℤ pos (cond (has i μ) (x i) 0))
         (λ (i : ℕ). pos (times_in i μ) *ℤ pos (y i)) (λ i. ap pos (one i (has i μ) refl))
         (after 0 (size μ))
         ∙ total-parts (λ i. pos (y i)) (size μ) μ (parts-within μ p.positive)
-        ∙ sym sum)
+        ∙ sym sum in
+        mul_comm all M ∙ omega (arith, ints)
 
     exact : N / M * M ≡ N
     exact = quotient-is all M N whole
@@ -128,12 +124,6 @@ module _ (i : ℕ) (μ : List ℕ) (p : IsPartition μ) (e : has i μ ≡ true) 
       ∙ multiplicity_factorials-insert i (without_one i μ) part-positive
       ∙ ap (λ ν. times_in i ν * multiplicity_factorials (without_one i μ)) back
 
-  pub taken-partition : IsPartition (without_one i μ)
-  taken-partition = IsPartition-without_one i μ p
-
-  pub taken-size : i + size (without_one i μ) ≡ size μ
-  taken-size = size-without_one i μ e
-
 pub taken-length : (i : ℕ) (μ : List ℕ) → has i μ ≡ true → suc (length (without_one i μ)) ≡ length μ
 taken-length i [] e = absurd (true≢false (sym e))
 taken-length i (a ∷ μ) e = by (cases_eq a i) (taken-length i μ)
@@ -155,11 +145,8 @@ taken-product i (a ∷ μ) e = by (cases_eq a i) (taken-product i μ)
     by (inl d) r = ap₂ (λ n ν. n * product_of_parts ν) d (sym (without_one_here i a μ d))
     by (inr n) r =
         ap (λ m. a * m) (r (sym (has_past i a μ n) ∙ e))
-        ∙ turned a i (product_of_parts (without_one i μ))
+        ∙ mul_left_comm a i (product_of_parts (without_one i μ))
         ∙ ap (λ ν. i * product_of_parts ν) (sym (without_one_past i a μ n))
-      where
-        turned : (a i m : ℕ) → a * (i * m) ≡ i * (a * m)
-        turned a i m = omega arith
 
 pub multiplicities-positive : (μ : List ℕ) → 0 < multiplicity_factorials μ
 multiplicities-positive μ = factorials-positive (map (λ b. times_in b μ) (distinct μ))
@@ -171,14 +158,15 @@ product-positive (a ∷ μ) p = mul-pos p.0 (product-positive μ p.1)
 pub centralizer-positive : (μ : List ℕ) → IsPartition μ → 0 < centralizer μ
 centralizer-positive μ p = mul-pos (product-positive μ p.positive) (multiplicities-positive μ)
 
--- ---- the three closed coefficients without signs, as sums over the parts
+-- `orders_of_parts`, `sized_orders` and `cycle_type_count` as sums over the parts
 
 scaled-sizes : (c : ℕ) (μ : List ℕ) → total (λ (j : ℕ). pos (j * c)) μ ≡ pos (size μ * c)
 scaled-sizes c [] = ap pos (let e : 0 ≡ 0 * c = omega arith in e)
 scaled-sizes c (j ∷ μ) = ap (λ z. pos (j * c) +ℤ z) (scaled-sizes c μ)
     ∙ ap pos (let e : j * c + size μ * c ≡ (j + size μ) * c = omega arith in e)
 
--- l!/Π m_i! is the sum, over the different parts, of the numbers for μ without that part
+-- for a partition μ of l + 1 parts, `orders_of_parts` μ, which is (l + 1)!/Π m_i!, is the sum, over the different parts i of μ, of `orders_of_parts`
+-- of μ without one part i
 module _ (l : ℕ) (μ : List ℕ) (p : IsPartition μ) (long : length μ ≡ suc l)
     (before : (ρ : List ℕ) → IsPartition ρ → length ρ ≡ l
     → orders_of_parts ρ * multiplicity_factorials ρ ≡ factorial l) where
@@ -187,13 +175,10 @@ module _ (l : ℕ) (μ : List ℕ) (p : IsPartition μ) (long : length μ ≡ su
   orders-taken i e =
       let t = taken-length i μ e in
       ap (λ n. orders_of_parts (without_one i μ) * n) (multiplicities-taken i μ p e)
-      ∙ turned (orders_of_parts (without_one i μ)) (times_in i μ)
+      ∙ mul_left_comm (orders_of_parts (without_one i μ)) (times_in i μ)
       (multiplicity_factorials (without_one i μ))
       ∙ ap (λ n. times_in i μ * n)
       (before (without_one i μ) (IsPartition-without_one i μ p) (omega arith))
-    where
-      turned : (a b c : ℕ) → a * (b * c) ≡ b * (a * c)
-      turned a b c = omega arith
 
   orders-both : (total (λ (i : ℕ). cond (has i μ) (pos (orders_of_parts (without_one i μ))) (pos 0))
       (after 0 (size μ)) ≡ pos (orders_of_parts μ))
@@ -202,11 +187,8 @@ module _ (l : ℕ) (μ : List ℕ) (p : IsPartition μ) (long : length μ ≡ su
       quotient-parts (multiplicity_factorials μ) (factorial (length μ))
       (λ i. orders_of_parts (without_one i μ)) (λ j. factorial l) μ
       (multiplicities-positive μ) p orders-taken
-      (ap (λ n. pos (factorial n)) long ∙ ap pos (turned (suc l) (factorial l))
+      (ap (λ n. pos (factorial n)) long ∙ ap pos (mul_comm (suc l) (factorial l))
       ∙ ap (λ n. pos (factorial l * n)) (sym long) ∙ sym (total_constant (pos (factorial l)) μ))
-    where
-      turned : (a b : ℕ) → a * b ≡ b * a
-      turned a b = omega arith
 
 pub orders-exact : (l : ℕ) (μ : List ℕ) → IsPartition μ → length μ ≡ l
     → orders_of_parts μ * multiplicity_factorials μ ≡ factorial l
@@ -219,8 +201,8 @@ pub orders-sum : (l : ℕ) (μ : List ℕ) → IsPartition μ → length μ ≡ 
     (after 0 (size μ)) ≡ pos (orders_of_parts μ)
 orders-sum l μ p e = (orders-both l μ p e (orders-exact l)).0
 
--- `sized_orders` μ is the sum, over the parts i of μ, of i times the number of orders without i; times Π m_i! it is
--- k·(l - 1)!, k the size, l the length
+-- for a partition μ with a part, `sized_orders` μ is the sum, over the different parts i of μ, of i times `orders_of_parts`
+-- of μ without one part i; times the product of the factorials of the multiplicities it is |μ|·(length μ - 1)!
 pub sized-orders : (l : ℕ) (μ : List ℕ) → IsPartition μ → length μ ≡ suc l
     → (total (λ (i : ℕ). cond (has i μ) (pos (i * orders_of_parts (without_one i μ))) (pos 0))
     (after 0 (size μ)) ≡ pos (sized_orders μ))
@@ -230,23 +212,18 @@ sized-orders l μ p e =
     (λ i. i * orders_of_parts (without_one i μ)) (λ j. j * factorial l) μ
     (multiplicities-positive μ) p
     (λ i h.
-    grouped i (orders_of_parts (without_one i μ)) (multiplicity_factorials μ)
+    mul_assoc i (orders_of_parts (without_one i μ)) (multiplicity_factorials μ)
     ∙ ap (λ n. i * n) (orders-taken l μ p e (orders-exact l) i h)
-    ∙ turned i (times_in i μ) (factorial l))
+    ∙ mul_left_comm i (times_in i μ) (factorial l))
     ((let d : length μ - 1 ≡ l = omega arith in ap (λ n. pos (size μ * factorial n)) d)
     ∙ sym (scaled-sizes (factorial l) μ))
-  where
-    grouped : (a b c : ℕ) → a * b * c ≡ a * (b * c)
-    grouped a b c = omega arith
-
-    turned : (a b c : ℕ) → a * (b * c) ≡ b * (a * c)
-    turned a b c = omega arith
 
 -- (k - 1)!/(k - i)!
 abbrev pub rise : ℕ → ℕ → ℕ
 rise k i = factorial (k - 1) / factorial (k - i)
 
--- k!/z_μ is the sum, over the different parts of μ, of numbers from the partitions without that part
+-- `cycle_type_count` μ, which is k!/z_μ, is the sum, over the different parts i of μ, of (k - 1)!/(k - i)! times `cycle_type_count` of μ without one
+-- part i
 module _ (l : ℕ) (μ : List ℕ) (p : IsPartition μ) (long : length μ ≡ suc l)
     (before : (ρ : List ℕ) → IsPartition ρ → length ρ ≡ l → cycle_type_count ρ * centralizer ρ
     ≡ factorial (size ρ)) where
@@ -255,7 +232,7 @@ module _ (l : ℕ) (μ : List ℕ) (p : IsPartition μ) (long : length μ ≡ su
       ≡ times_in i μ * (i * factorial (size μ - 1))
   cycles-taken i e =
       let t = taken-length i μ e in
-      let u = taken-size i μ p e in
+      let u = size-without_one i μ e in
       let v = part-positive i μ p e in
       let w : size (without_one i μ) ≡ size μ - i = omega arith in
       let r = rise-is (size μ - i) (size μ - 1) (omega arith) in

@@ -1,4 +1,4 @@
--- e_k, h_k and p_k as lists in e, h and p, by closed coefficients (Macdonald, I.2 and the examples
+-- e_k, h_k and p_k as lists in e, h and p, with coefficients in closed form (Macdonald, I.2 and the examples
 -- there).
 use Rattle.std.specs.Prelude.{ℕ, ◌-◌, ◌*◌, ◌/◌, ℤ, pos, ◌*ℤ◌, List, [], ◌∷◌, map, length}
 use Rattle.sym_model.specs.Partition.{size}
@@ -12,7 +12,7 @@ use Rattle.basis_change_laws.specs.AugmentedMonomial.{multiplicity_factorials}
 abbrev pub orders_of_parts : List ℕ → ℕ
 orders_of_parts μ = factorial (length μ) / multiplicity_factorials μ
 
--- k·(l - 1)!/Π m_i!, for a partition of k with l parts
+-- k·(l - 1)!/Π m_i!, for a partition of k with l parts of the multiplicities m_i
 abbrev pub sized_orders : List ℕ → ℕ
 sized_orders μ = size μ * factorial (length μ - 1) / multiplicity_factorials μ
 
@@ -37,6 +37,6 @@ parity_sign μ = minus_one_to (size μ - length μ)
 abbrev pub signed_orders : List ℕ → ℤ
 signed_orders μ = parity_sign μ *ℤ pos (orders_of_parts μ)
 
--- the partitions of k, each with its coefficient
+-- the partitions μ of k, each with the coefficient c(μ)
 abbrev pub list_over : (List ℕ → ℤ) → ℕ → WholeTerms
 list_over c k = map (λ μ. (μ, c μ)) (partitions_of k)

@@ -1,4 +1,5 @@
-//! Closed lists of polynomials of one part in another family.
+//! The polynomials e_k, h_k and p_k as lists in another of the families e, h and p, with
+//! coefficients in closed form.
 //!
 //! A law function takes no argument, returns nothing and does nothing at run time: its contract is
 //! the law.

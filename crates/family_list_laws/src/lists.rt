@@ -1,4 +1,4 @@
-//! The polynomials of one part of a family as lists in another one.
+//! The polynomials e_k, h_k and p_k as lists in another of these families.
 
 ghost use Rattle.std.specs.Prelude.{ℕ, ◌-◌, ◌^◌, ◌<◌, ◌*ℤ◌, pos, length};
 ghost use Rattle.sym_model.specs.Bases.{elementary_of, complete_of, power_sum_of};
@@ -9,9 +9,9 @@ ghost use Rattle.family_list_laws.specs.OnePartLists.{sized_orders, cycle_type_c
 ghost use Rattle.family_list_laws.specs.OnePartLists.{signed_orders, list_over};
 
 /// e_k in h, and h_k in e, have for each partition μ of k, with l parts of the multiplicities m_i,
-/// the coefficient (-1)^(k - l)·l!/Π m_i!; p_k has (-1)^(l - 1)·k·(l - 1)!/Π m_i! in h, and in e
-/// the same with the sign (-1)^(k - l); k!·h_k in p has k!/z_μ, and k!·e_k the same with the sign
-/// (-1)^(k - l) (Macdonald, I.2).
+/// the coefficient (-1)^(k - l)·l!/Π m_i!. For k ≥ 1, p_k has (-1)^(l - 1)·k·(l - 1)!/Π m_i! in h,
+/// and in e the same with the sign (-1)^(k - l); k!·h_k in p has k!/z_μ, and k!·e_k the same with
+/// the sign (-1)^(k - l) (Macdonald, I.2).
 ///
 /// Example: e_3 = h_1^3 - 2·h_2·h_1 + h_3.
 pub fn one_part_list_law()

@@ -1,5 +1,5 @@
--- The lists of polynomials of one part in another family, by closed coefficients.
---     each_by-push, listed-fits     partition by partition
+-- The lists of e_k, h_k and p_k in another family, by closed formulas for the coefficients.
+--     listed-fits                  adding the coefficient of the next label never overflows
 --     closed-stands                the polynomial of the whole list
 --     scaled-low, sized-low, cycles-low, ..     bounds for the numbers
 use Rattle.std.proofs.Common.{◌≡◌, ℕ, ◌-◌, ◌*◌, ◌<◌, ◌≤◌, ◌^◌, List, [], ◌∷◌, ◌++◌, length, refl, sym, ap, ap₂, ◌∙◌, subst, inl, inr, arith, ℤ, pos, cond, ◌+ℤ◌, ◌*ℤ◌, lit<}
@@ -39,7 +39,7 @@ use Rattle.family_lists.specs.FactorLists.{IsFactor}
 use Rattle.linear_combinations.specs.Gains.{each_by}
 use Rattle.family_lists.proofs.TableLists.{table-stands}
 
--- ---- the closed list, built partition by partition
+-- ---- the list, built partition by partition
 
 coefficient-absent : (c : List ℕ → ℤ) (labels : List (List ℕ)) (label : List ℕ)
     → (Among label labels → ⊥) → coefficient (each_by c labels) label ≡ pos 0
@@ -51,7 +51,7 @@ coefficient-absent c labels label n =
     ap (λ b. cond b (c μ) (pos 0))
     (same_apart μ label (λ e. n (subst (λ x. Among x labels) e m))))
 
--- adding the coefficient of the next label to the table of the labels before it never overflows
+-- the table of the labels before has no term at the next label, so adding a coefficient there never overflows
 pub listed-fits : (c : List ℕ → ℤ) (k : ℕ) (before new : List (List ℕ)) (label key : List ℕ)
     (terms : WholeTerms) (z : ℤ)
     → Finds terms (each_by c before) → before ++ (label ∷ new) ≡ partitions_of k → key ≡ label
@@ -68,7 +68,7 @@ listed-fits c k before new label key terms z h e same r =
     (FallsLexicographically-partitions_within k k k)))))
     r
 
--- ---- the closed list stands for its polynomial
+-- ---- the polynomial of the whole list
 
 listed-same : (c d : List ℕ → ℤ) (labels : List (List ℕ))
     → ((μ : List ℕ) → Among μ labels → c μ ≡ d μ) → each_by c labels ≡ each_by d labels
@@ -77,8 +77,7 @@ listed-same c d (μ ∷ labels) h =
     ap₂ (λ (z : ℤ) (l : WholeTerms). (μ, z) ∷ l) (h μ (inl refl))
     (listed-same c d labels (λ ν m. h ν (inr m)))
 
--- k! times the signed number of orders of μ, a partition of k, is its parity sign times k! times the number of
--- orders
+-- for a partition μ of k with l parts, and N distinct orders of its parts, k! times (-1)^(k - l)·N is (-1)^(k - l) times k!·N
 times-orders : (k : ℕ) (μ : List ℕ) → size μ ≡ k
     → pos (factorial k) *ℤ signed_orders μ
     ≡ parity_sign μ *ℤ pos (factorial (size μ) * orders_of_parts μ)
@@ -142,7 +141,7 @@ closed-stands target family k terms n h is e =
     table-stands terms (each_by (closed_coefficient target family) (partitions_of k)) is e
     (polynomial_of target) _ _ k (λ n. polynomial_of family k n) (closed-list target family k n h)
 
--- ---- bounds for the closed coefficients
+-- ---- bounds for the coefficients
 
 pub some_row : (label : List ℕ) → 0 < size label → 0 < length label
 some_row [] h = absurd (omega arith)

@@ -20,7 +20,7 @@ use Rattle.family_lists.proofs.MergedLists.{positive-drop, falls-drop}
 
 -- ---- bounds for the products of factorials and of parts
 
--- a factor of a positive product is at most the product
+-- a factor m of a positive number is at most each upper bound of that number
 factor-low : (n m whole most : ℕ) → n * m ≡ whole → 0 < whole → whole ≤ most → m ≤ most
 factor-low zero m whole most e h l = absurd (let z : 0 * m ≡ 0 = omega arith in omega arith)
 factor-low (suc n) m whole most e h l =
@@ -67,7 +67,7 @@ rest-low i parts p low =
 
 -- ---- the invariant, from the last place to the first
 
--- a number greater than all of some decreasing parts is not one of them
+-- if a is greater than all of the weakly decreasing parts, it is not one of them
 none_above : (a : ℕ) (parts : List ℕ) → Falls parts → get_or parts 0 0 < a → times_in a parts ≡ 0
 none_above a [] f h = refl
 none_above a (b ∷ []) f h = times_in-other a b [] (λ e. omega arith)
@@ -75,7 +75,7 @@ none_above a (b ∷ c ∷ parts) f h =
     times_in-other a b (c ∷ parts) (λ e. omega arith)
     ∙ none_above a (c ∷ parts) f.1 (let g = f.0 in omega arith)
 
--- the invariant at a place: the product of the factorials so far, the part there and its multiplicity
+-- of the parts from index `at` on: `product` is the product of the factorials of their multiplicities, `next` the first of them, `times` its multiplicity
 pub record Counted (parts : List ℕ) (product next times at : ℕ) : Type 0 where
   pub product_is : product ≡ multiplicity_factorials (drop at parts)
   pub next_is : next ≡ get_or parts at 0
@@ -139,7 +139,7 @@ module _ (parts : List ℕ) (product next times i at now : ℕ) (p : IsPartition
   pub counted-next : Counted parts (product * now) (get_or parts i 0) now i
   counted-next = record { product_is = counted-product; next_is = refl; times_is = now-is }
 
-  -- the product of the factorials so far is below 2^128
+  -- for a partition of at most 20 cells, the product of the factorials so far times the multiplicity `now` is below 2^128
   pub counted-fits : size parts ≤ 20 → product * now < 2 ^ 128
   counted-fits low =
       let r = rest-low i parts p low in
@@ -179,7 +179,7 @@ product-next product whole parts at h e =
     grouped : (x y z : ℕ) → (x * y) * z ≡ x * (y * z)
     grouped x y z = omega arith
 
--- the product of the parts up to a place is below 2^128
+-- the product of the parts of a partition of at most 20 cells, up to the part at index `at`, is below 2^128
 pub product-fits : (product : ℕ) (parts : List ℕ) (at : ℕ) → IsPartition parts → size parts ≤ 20
     → at < length parts → product * product_of_parts (drop at parts) ≡ product_of_parts parts
     → product * get_or parts at 0 < 2 ^ 128

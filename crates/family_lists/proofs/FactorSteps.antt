@@ -1,7 +1,7 @@
--- The polynomials of one part as lists in the target (specs/FactorLists).
---     factor-loose                    with a bound that is the same for each family
---     own-stands                      the list in the family itself
---     factorial-below                 a bound for the factorials
+-- The lists of p_k, e_k and h_k in the target basis e, h or p (specs/FactorLists).
+--     factor-loose                    the list of one factor, with a bound that does not depend on its family
+--     own-stands                      the list of a factor of the target family: one term
+--     factorial-below                 d! is below 2^127 if d is at most 20
 use Rattle.std.proofs.Common.{◌≡◌, ℕ, ◌-◌, ◌*◌, ◌<◌, ◌≤◌, ◌^◌, [], ◌∷◌, arith, pos, pow-suc, zero, suc, lit<}
 use Rattle.sym_model.specs.Polynomial.{Poly, Same}
 use Rattle.sym_model.specs.Weight.{factorial}

@@ -71,7 +71,8 @@ pub place-missed : {X : Type 0} (lists : List (List ℕ × X)) (label : List ℕ
 place-missed {X} lists label None e = λ at s. missed lists label 0 at (sym (position_from-zero (pointwise nat_eq label) (keys_of lists)) ∙ sym e) s
 place-missed {X} lists label (Some i) e = tt
 
--- if a list is one of its partition, it may be appended: each list is still one of its partition
+-- if each list of `old` satisfies `IsListOf` with its partition, and `list` with `label`, so does each list of `new`, which is `old`
+-- with or without `list` appended
 pub lists-kept : {X : Type 0} (IsListOf : List ℕ → X → Type 0) (old new : List (List ℕ × X)) (label : List ℕ) (list : X)
     → AreListsOf IsListOf old → IsListOf label list → HasKept label list old new → AreListsOf IsListOf new
 lists-kept {X} IsListOf old new label list are is (inl e) l m = are l (subst (Among l) e m)
@@ -82,7 +83,7 @@ lists-kept {X} IsListOf old new label list are is (inr e) l m = by (Among_from_a
     by (inr (inl s)) = subst (λ (x : List ℕ × X). IsListOf x.0 x.1) (sym s) is
     by (inr (inr n)) = absurd n
 
--- the list that is read at the index of a partition is its list
+-- if each list satisfies `IsListOf` with its partition, so does the list at the index of `parts` with `parts`
 pub list-found : {X : Type 0} (IsListOf : List ℕ → X → Type 0) (lists : List (List ℕ × X)) (key parts label : List ℕ) (list : X) (at : ℕ) → key ≡ parts
     → AreListsOf IsListOf lists → StandsAt lists key at → slice_get lists at ≡ Some (label, list) → IsListOf parts list
 list-found {X} IsListOf lists key parts label list at same are stands e =

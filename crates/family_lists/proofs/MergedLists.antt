@@ -1,7 +1,7 @@
 -- Two partitions merged from their first parts on.
---     merged-right, merged-left      the greatest part of both is next
---     merged-end                     one of them has ended
---     written                        the rest of both is appended
+--     merged-right, merged-left      the greatest part of both partitions is the next part of the merged list
+--     merged-end                     one of the two partitions has no part left
+--     written                        the parts that are left of both are appended
 use Rattle.std.proofs.Common.{◌≡◌, ◌⊎◌, ℕ, zero, suc, ◌+◌, ◌<◌, ◌≤◌, List, [], ◌∷◌, ◌++◌, length, get_or, take, drop, refl, sym, ap, ◌∙◌, subst, inl, inr, arith, ◌-◌, ap₂, append-nil, append_assoc}
 use Rattle.std.proofs.Math.ListN.{drop_of_length-le}
 use Rattle.std.proofs.lemmas.List.{take_all, length-drop}
@@ -11,7 +11,7 @@ use Rattle.sym_model.proofs.SortedParts.{insert_part_above, insert_part_below, F
 use Rattle.basis_change_laws.specs.JoinedLists.{merged}
 use Rattle.family_lists.proofs.PartLists.{columns-tail}
 
--- a part may be inserted after one that is at least as great
+-- if c ≤ b and b is at least each of `parts`, inserting c into b ∷ parts inserts it after b
 insert-behind : (c b : ℕ) (parts : List ℕ) → 0 < c → c ≤ b → get_or parts 0 0 ≤ b → insert_part c (b ∷ parts) ≡ b ∷ insert_part c parts
 insert-behind zero b parts p h f = absurd (omega arith)
 insert-behind (suc a) b parts p h f = by (cases_lt (suc a) b)
@@ -39,7 +39,7 @@ falls-past : (b c : ℕ) (more : List ℕ) → c ≤ b → Falls (c ∷ more) �
 falls-past b c [] h f = tt
 falls-past b c (d ∷ more) h f = (let g = f.0 in omega arith, f.1)
 
--- a part that is at least as great as the others stays in front
+-- a part b that is at least as great as all others is the first part of the merged list
 merged-front : (more : List ℕ) (b : ℕ) (parts : List ℕ) → ArePositive more → Falls (b ∷ more) → get_or parts 0 0 ≤ b → merged more (b ∷ parts) ≡ b ∷ merged more parts
 merged-front [] b parts p f g = refl
 merged-front (c ∷ more) b parts p f g =
@@ -91,7 +91,7 @@ module _ (all more parts : List ℕ) (i j : ℕ) (p : IsPartition more) (q : IsP
       (subst (λ (ps : List ℕ). Falls (get_or parts j 0 ∷ ps)) (sym x) (omega arith, f)) (columns-tail (get_or parts j 0) (drop (j + 1) parts) (record { falls = g; positive = t }))))
       ∙ so_far
 
-  -- if the next part of `parts` is not greater than that of `more`, the latter is the next part of the merged list
+  -- if the next part of `parts` is not greater than that of `more`, the next part of the merged list is that of `more`
   pub merged-left : i < length more → j < length parts → get_or parts j 0 ≤ get_or more i 0 → (done ++ get_or more i 0 ∷ []) ++ merged (drop (i + 1) more) (drop j parts) ≡ all
   merged-left h k l =
       let x = drop-first i (i + 1) more refl h in
@@ -110,7 +110,7 @@ module _ (all more parts : List ℕ) (i j : ℕ) (p : IsPartition more) (q : IsP
       in_front_of (suc k) [] o g = refl
       in_front_of (suc k) (d ∷ ps) o g = insert_part_above k d ps g
 
-  -- if no part of `more`, or none of `parts`, is left, the rest of both is the rest of the merged list
+  -- if no part of `more`, or none of `parts`, is left, the parts left of the other partition are the rest of the merged list
   pub merged-end : (length more ≤ i) ⊎ (length parts ≤ j) → (done ++ drop i more) ++ drop j parts ≡ all
   merged-end (inl h) =
       let x = drop_of_length-le more h in

@@ -1,4 +1,4 @@
--- Partitions in a family, factor by factor.
+-- Lists with one label: their polynomial is q times the product over the parts of the label.
 use Rattle.std.proofs.Common.{◌≡◌, ℕ, ◌+◌, ◌*◌, ◌^◌, ◌<◌, ◌≤◌, List, [], ◌∷◌, sym, ap, subst, inl, inr, arith, ℤ, pos, ◌*ℤ◌}
 use Rattle.std.specs.Prelude.{nat_abs}
 use Rattle.sym_model.specs.Polynomial.{Poly, Same, In, one, pair, scale, times}

@@ -1,5 +1,5 @@
 -- Lists of lists, each at its index.
---     placed-push      one more list keeps the properties of each
+--     placed-push      if a list is appended, each list keeps the property for its index
 use Rattle.std.proofs.Common.{◌≡◌, ◌⊎◌, ℕ, zero, suc, ◌+◌, ◌<◌, ◌≤◌, List, [], ◌∷◌, ◌++◌, length, get_or, refl, sym, ap, ◌∙◌, subst, inl, inr, arith}
 use Rattle.std.proofs.lemmas.Bool.{cases_lt}
 use Rattle.sym_model.specs.WholeTerms.{WholeTerms}

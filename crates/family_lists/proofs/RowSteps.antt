@@ -1,4 +1,4 @@
--- Products of lists label by label, and their refusals.
+-- Products of lists, label by label, and the conditions under which adding them overflows.
 use Rattle.std.proofs.Common.{◌≡◌, ℕ, zero, suc, ◌+◌, ◌*◌, ◌^◌, ◌≤◌, cond, List, [], ◌∷◌, ◌++◌, length, sym, ◌∙◌, ap, ap₂, refl, inl, arith, ℤ, pos, negsuc, ◌*ℤ◌}
 use Rattle.std.specs.Prelude.{nat_abs}
 use Rattle.std.proofs.lemmas.Int.{unsigned_abs-mul}
@@ -35,14 +35,14 @@ scaled-row k x c (t ∷ V) =
 pub row-gained : (k : List ℕ) (x c : ℤ) (V : WholeTerms) → row k (x *ℤ c) V ≡ scaled x (row k c V)
 row-gained k x c V = ap (λ z. row k z V) (*ℤ_comm x c) ∙ sym (scaled-row k x c V)
 
--- the product is the sum of its rows
+-- c times the product of W and V is the sum, over the terms of W, of their products with c·V
 pub products-gained : (c : ℤ) (W V : WholeTerms) → replaced (λ k. row k c V) W ≡ joined (scale c W) V
 products-gained c [] V = refl
 products-gained c (t ∷ W) V = ap₂ (λ (a b : WholeTerms). a ++ b) (scaled-row t.0 t.1 c V) (products-gained c W V)
 
 -- ---- a product is refused only if it overflows
 
--- adding a row whose factor x·c is at least 2^127 in absolute value overflows
+-- if V is not empty and |x·c| is at least 2^127, adding x·c times the products of k and the terms of V overflows
 pub large-row : (old : WholeTerms) (k : List ℕ) (x c : ℤ) (V : WholeTerms) → IsWholeTable V → (length V ≡ 0 → ⊥) → 2 ^ 127 ≤ nat_abs (x *ℤ c) → Overflows equal old (scaled x (row k c V))
 large-row old k x c [] is some h = absurd (some refl)
 large-row old k x c (t ∷ V) is some h =

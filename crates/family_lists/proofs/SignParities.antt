@@ -1,4 +1,4 @@
--- Powers of -1 by their remainders.
+-- Powers of -1 by the remainders of their exponents modulo 2.
 use Rattle.std.proofs.Common.{◌≡◌, ℕ, zero, suc, ◌%◌, refl, sym, ◌∙◌, ap, arith, pos, negsuc}
 use Rattle.std.proofs.lemmas.Int.{ints}
 use Rattle.std.proofs.lemmas.Bool.{cases_eq, eq-eqb, ne_eqb}

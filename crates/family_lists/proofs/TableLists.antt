@@ -1,7 +1,7 @@
 -- Properties of a list that hold for a table with the same coefficients.
---     table-few        its absolute values add up to at most the same
---     table-stands     it has the same polynomial
---     stands-greatest  the sizes of its labels
+--     table-few        the absolute values of the table add up to at most those of the list
+--     table-stands     the table has the polynomial of the list
+--     stands-greatest  the labels have at most d cells
 use Rattle.std.proofs.Common.{ℕ, ◌≤◌, [], sym, ◌∙◌, arith}
 use Rattle.std.specs.Cmp.Lexicographic.{nat_list_eq_equiv}
 use Rattle.sym_model.specs.Polynomial.{Poly, Same, pair}

@@ -1,17 +1,14 @@
 -- Sums of the absolute values of the coefficients of a list.
---     labels_few           those at different labels add up to at most that of all terms
---     coefficient-few      a single coefficient is at most that
-use Rattle.std.proofs.Common.{◌≡◌, ◌⊎◌, ℕ, ◌+◌, ◌/◌, ◌≤◌, Bool, true, false, cond, List, [], ◌∷◌, map, ap, ap₂, subst, refl, inl, inr, arith, ℤ, pos, ◌+ℤ◌}
+--     labels_few           the absolute values at different labels add up to at most the sum over all terms
+--     coefficient-few      one absolute value is at most the sum over all terms
+use Rattle.std.proofs.Common.{◌≡◌, ◌⊎◌, ℕ, ◌+◌, ◌≤◌, Bool, true, false, cond, List, [], ◌∷◌, map, ap, subst, refl, inl, inr, arith, ℤ, pos, ◌+ℤ◌}
 use Rattle.std.specs.Prelude.{nat_abs}
-use Rattle.std.proofs.lemmas.Int.{ints, unsigned_abs-mul}
+use Rattle.std.proofs.lemmas.Int.{ints}
 use Rattle.sym_model.specs.Sum.{Among, Once}
 use Rattle.sym_model.specs.Partition.{size}
 use Rattle.sym_model.specs.Polynomial.{same, coefficient}
-use Rattle.sym_model.specs.Expansion.{Terms}
-use Rattle.sym_model.specs.ListWeight.{absolute_sum}
 use Rattle.sym_model.specs.WholeTerms.{WholeTerms, absolute_total}
 use Rattle.sym_model.proofs.Exponents.{same_from, same_apart, same_or_not}
-use Rattle.monomial_laws.specs.ExpressionTerms.{over}
 
 labels_none : (label : List ℕ) (k : ℕ) (ls : List (List ℕ)) → (Among label ls → ⊥) → size (map (λ (l : List ℕ). cond (same label l) k 0) ls) ≡ 0
 labels_none label k [] h = refl
@@ -55,11 +52,6 @@ labels_few (t ∷ W) ls o =
     let s = labels_one t.0 (nat_abs t.1) ls o in
     let m = labels_more t.0 t.1 W ls in
     omega arith
-
--- the absolute values of `over m terms` add up to the absolute sum of the terms over m
-pub absolute-over : (m : ℕ) (terms : Terms (List ℕ)) → absolute_total (over m terms) ≡ absolute_sum m terms
-absolute-over m [] = refl
-absolute-over m (t ∷ terms) = ap₂ ◌+◌ (unsigned_abs-mul t.1.0 (pos (m / t.1.1))) (absolute-over m terms)
 
 -- the absolute value of a coefficient is at most the sum of the absolute values of all terms
 pub coefficient-few : (W : WholeTerms) (ν : List ℕ) → nat_abs (coefficient W ν) ≤ absolute_total W

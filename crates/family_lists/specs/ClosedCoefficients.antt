@@ -1,5 +1,5 @@
--- The closed coefficients of a polynomial of one part in another family (Macdonald, I.2): those of p_k in e and in h,
--- and of e_k and h_k, times k!, in p and in one another.
+-- Closed formulas for the coefficients of e_k, h_k and p_k in another of these families (Macdonald, I.2): those of p_k in
+-- e and in h, and those of e_k and h_k, times k!, in p and in one another.
 use Rattle.std.specs.Prelude.{ℕ, ◌-◌, ◌*◌, ℤ, pos, ◌*ℤ◌, List, length}
 use Rattle.sym_model.specs.Partition.{size}
 use Rattle.sym_model.specs.PlaceOrders.{minus_one_to}
@@ -9,13 +9,13 @@ use Rattle.sparse_polys.specs.declared.family.Family.{Family}
 use Rattle.sparse_polys.specs.declared.family.Family.TheVariants.{Complete, PowerSum}
 
 -- the power of -1 in the coefficient of a partition of k with l parts, by the target and the
--- family: l - 1 of p_k in h, none of h_k in p, and k - l of the others
+-- family: l - 1 for p_k in h, 0 for h_k in p, and k - l for each other pair of target and family
 abbrev pub sign_exponent : Family → Family → List ℕ → ℕ
 sign_exponent Complete PowerSum μ = length μ - 1
 sign_exponent PowerSum Complete μ = 0
 sign_exponent target family μ = size μ - length μ
 
--- the absolute value of the coefficient of the target's label μ in the polynomial of one part of the family
+-- the absolute value of the coefficient of the target's label μ of size k in p_k, or in k!·e_k or k!·h_k, by the family
 abbrev pub absolute : Family → Family → List ℕ → ℕ
 absolute PowerSum family μ = cycle_type_count μ
 absolute target PowerSum μ = sized_orders μ

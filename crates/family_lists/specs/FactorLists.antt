@@ -1,4 +1,4 @@
--- Lists in the target of the polynomials of one part, each at its index.
+-- The lists of e_k, h_k or p_k in the target basis, each at the index k.
 use Rattle.std.specs.Prelude.{ℕ, zero, suc, ◌-◌, ◌*◌, ◌^◌, ◌<◌, List, [], ◌∷◌}
 use Rattle.sym_model.specs.Polynomial.{Poly}
 use Rattle.sym_model.specs.Weight.{factorial}
@@ -26,16 +26,18 @@ most_in Elementary k = factorial k * 2 ^ k
 most_in Complete k = factorial k * 2 ^ k
 most_in PowerSum k = 2 ^ k - 1
 
--- the list is the polynomial of k times `over_number`
+-- the list is k!·e_k, k!·h_k or p_k, by the family, with each label read as the product of the polynomials P over
+-- its parts, and its absolute values add up to at most `most_in`
 abbrev pub IsFactor : (ℕ → ℕ → Poly) → Family → ℕ → WholeTerms → Type 0
 IsFactor P family k list =
     Stands P (over_number family k) (most_in family k) k (λ n. polynomial_of family k n) list
 
--- the list at each index k from 1 to d - 1 is that of k
+-- for k from 1 to d - 1, the list at index k is k!·e_k, k!·h_k or p_k, by the family, and its absolute values add up
+-- to at most k!·2^k, or 2^k - 1 for p_k
 abbrev pub AreFactors : (ℕ → ℕ → Poly) → Family → ℕ → List WholeTerms → Type 0
 AreFactors P family d lists =
     (k : ℕ) → 0 < k → k < d → IsFactor P family k (list_at lists k)
 
--- the list at each index k is p_k, and its absolute values add up to at most 2^k - 1
+-- for k from 1 to d - 1, the list at index k is p_k, and its absolute values add up to at most 2^k - 1
 abbrev pub ArePowers : (ℕ → ℕ → Poly) → ℕ → List WholeTerms → Type 0
 ArePowers P d lists = AreFactors P PowerSum d lists

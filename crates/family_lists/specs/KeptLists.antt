@@ -1,4 +1,4 @@
--- Values that are kept under partitions, for example lists of terms.
+-- Values that are kept with partitions as keys, for example lists of terms.
 use Rattle.std.specs.Prelude.{◌≡◌, ◌⊎◌, ℕ, List, [], ◌∷◌, ◌++◌, slice_get, Some}
 use Rattle.sym_model.specs.Sum.{Among}
 

@@ -1,4 +1,4 @@
-//! The polynomials of one part of e, h and p as lists in e, h and p: p_k, and e_k and h_k times k!.
+//! The polynomials e_k, h_k and p_k as lists in e, h and p: p_k, and e_k and h_k times k!.
 ghost use Rattle.std.specs.Prelude.{◌≡◌, ◌≢◌, ◌+◌, ◌<◌, ◌≤◌, pos, [], vec_len, IfOk, IsErrOf};
 ghost use Rattle.sparse_polys.specs.Families.{polynomial_of};
 ghost use Rattle.family_lists.specs.FactorLists.{AreFactors, ArePowers, IsFactor};
@@ -12,8 +12,8 @@ use partitions::{Partition, PartitionsOf};
 use sparse_polys::{Family, Whole, single};
 use std::alloc::Global;
 
-/// The factor by which the list of the polynomial of k is multiplied: k! for e_k and h_k, 1 for
-/// p_k.
+/// The factor that clears the fractions of the list of e_k, h_k or p_k: k! for e_k and h_k, 1
+/// for p_k.
 fn over(family: Family, k: u16) -> Int
     requires { k ≤ 20 }
     ensures { result ≡ pos (over_number family k) }
@@ -25,7 +25,7 @@ fn over(family: Family, k: u16) -> Int
     }
 }
 
-/// The polynomial of k of a family as a list in the family itself.
+/// p_k, or k!·e_k or k!·h_k, by the family, as a list in the family itself.
 fn own_list(alloc: Global, family: Family, k: u16) -> Result<Whole, SumFault>
     requires { (0 < k) × (k ≤ 20) }
     ensures value { IfOk result (IsFactor (polynomial_of family) family k) }
@@ -34,8 +34,8 @@ fn own_list(alloc: Global, family: Family, k: u16) -> Result<Whole, SumFault>
     single(alloc, &[k], over(family, k).get())
 }
 
-/// The polynomial of k of a family as a list in another one, by closed coefficients of the
-/// partitions of k.
+/// p_k, or k!·e_k or k!·h_k, by the family, as a list in another family, the target, by closed
+/// formulas for the coefficients at the partitions of k.
 fn closed_list(alloc: Global, target: Family, family: Family, k: u16) -> Result<Whole, SumFault>
     requires other { target ≢ family }
     requires low { (0 < k) × (k ≤ 20) }
@@ -52,8 +52,8 @@ fn closed_list(alloc: Global, target: Family, family: Family, k: u16) -> Result<
     Ok(list)
 }
 
-/// The polynomial of k of a family as a list in the target: p_k, or e_k or h_k times k!; the empty
-/// list for k = 0. It never returns `Large`.
+/// The list in the target of p_k, or of k!·e_k or k!·h_k, by the family, for k of at most 20; the
+/// empty list for k = 0. It never returns `Large`.
 ///
 /// Example: 2!·h_2 in p is p_1^2 + p_2.
 pub fn factor_list(alloc: Global, target: Family, family: Family, k: u16) -> Result<Whole, SumFault>
@@ -71,7 +71,7 @@ pub fn factor_list(alloc: Global, target: Family, family: Family, k: u16) -> Res
     closed_list(alloc, target, family, k)
 }
 
-/// The lists of 1, .., d, each at its index; the list at index 0 is empty.
+/// The lists of `factor_list` for k = 1, .., d, each at its index; the list at index 0 is empty.
 fn lists_up_to(
     alloc: Global,
     target: Family,
@@ -102,8 +102,7 @@ pub fn power_sums(alloc: Global, target: Family, d: u16) -> Result<Vec<Whole>, S
     lists_up_to(alloc, target, Family::PowerSum, d)
 }
 
-/// The polynomials of one part of a family up to d, each at its index as a list in the target: p_k,
-/// or e_k or h_k times k!, for d of at most 20.
+/// The lists of `factor_list` for k = 1, .., d, each at its index, for d of at most 20.
 pub fn factor_lists(
     alloc: Global,
     target: Family,

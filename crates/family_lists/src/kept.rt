@@ -28,7 +28,7 @@ pub fn list_at<V>(lists: &Lists<V>, at: usize) -> (&Partition, &V)
     lists.get_index(at).unwrap()
 }
 
-/// Appends a list.
+/// Appends a partition, which must not be there yet, and its list.
 fn put<V: Drop>(lists: &mut Lists<V>, label: Partition, list: V) -> Result<(), AllocError>
     requires { get (pointwise nat_eq) lists.old label ≡ None }
     ensures ok { OnOk result (lists.new.entries ≡ lists.old.entries ++ (label, list) ∷ []) }

@@ -2,11 +2,11 @@
 //!
 //! What is proved:
 //!
-//! `factor_list`: p_k, or e_k or h_k times k!, in e, h or p, by closed coefficients; `power_sums`
-//! and `factor_lists`: all of these up to a number. `add_products` adds c times the product of two
-//! lists, and `add_row` that of a label and a list; `Large` is returned only if the absolute values
-//! at one label add up to 2^127 or more. `keep`, `place_of` and `list_at`: lists that are computed
-//! once, each kept under a partition.
+//! `factor_list`: p_k, or k!·e_k or k!·h_k, as a list in e, h or p, by closed formulas for the
+//! coefficients; `power_sums` and `factor_lists`: these lists for k = 1, .., d. `add_products` adds
+//! c times the product of two lists, and `add_row` that of a label and a list; `Large` is returned
+//! only if the absolute values at one label add up to 2^127 or more. `keep`, `place_of` and
+//! `list_at`: lists that are computed once, each kept under a partition.
 #![tactic(auto)]
 
 mod coefficients;

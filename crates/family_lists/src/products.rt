@@ -13,7 +13,7 @@ use partitions::Partition;
 use sparse_polys::Whole;
 use std::alloc::Global;
 
-/// Appends the numbers to the buffer; without a call if there are none.
+/// Appends the numbers `rest` to the buffer; if there are none, no other function is called.
 #[inline(always)]
 fn put_rest(buffer: &mut Vec<u16>, rest: &[u16]) -> Result<(), NoMemory>
     ensures { OnOk result (buffer.new.items ≡ buffer.old.items ++ rest.now) }
@@ -50,9 +50,10 @@ pub fn put_merged(buffer: &mut Vec<u16>, more: &[u16], parts: &[u16]) -> Result<
     Ok(())
 }
 
-/// Adds z times the product of a label and a list. The parts of both labels are joined in one
-/// vector, which is used again for each term and has room for a short label from the start. Returns
-/// `Large` only if this overflows. On an error the table has gained some of this.
+/// Adds z times the product of a label and a list; the sizes of two joined labels add up to at most
+/// 512. The parts of both labels are joined in one vector, which is used again for each term and
+/// has room for a short label from the start. Returns `Large` only if adding these terms overflows.
+/// On an error the table has gained some of them.
 pub fn add_row(
     alloc: Global,
     sum: &mut Whole,
@@ -123,8 +124,9 @@ impl Rule<Partition, Partition> for TimesList<'_> {
     }
 }
 
-/// Adds c times the product of two lists. Returns `Large` only if this overflows. On an error the
-/// table has gained some of this.
+/// Adds c times the product of two lists; the greatest sizes of their labels add up to at most 512.
+/// Returns `Large` only if adding these terms overflows. On an error the table has gained some of
+/// them.
 pub fn add_products(
     alloc: Global,
     sum: &mut Whole,

@@ -1,4 +1,4 @@
--- Both tableaux of a permutation read from its growth shapes, and those of its inverse.
+-- The two tableaux of a permutation, read from its growth shapes, and the two tableaux of its inverse.
 use Rattle.std.proofs.Common.{◌≡◌, ℕ, zero, suc, ◌+◌, ◌-◌, ◌<◌, ◌≤◌, ◌==◌, Bool, cond, List, [], ◌∷◌, ◌++◌, length, take, get_or, Some, ◌∙◌, ap, ap₂, sym, refl, subst, inl, inr, arith, nat_le}
 use Rattle.std.proofs.lemmas.Bool.{cases_lt, cases_eq, le-leb, lt-leb, eq-eqb, ne_eqb}
 use Rattle.std.proofs.lemmas.List.{length-take-le, take_all}
@@ -251,7 +251,7 @@ shape-column w p i l = ap shape_of (sym (column_tableau w p i l)) ∙ sym (one_s
 pub second_of_grid : (w : List ℕ) → IsPerm w → (insertion_pair w).1 ≡ tableau_of_chain (λ i. growth_shape w i (length w)) (length w)
 second_of_grid w p = ap (λ v. (insertion_pair v).1) (sym (all_taken w)) ∙ column_tableau w p (length w) (omega arith)
 
--- the growth shapes of the inverse are the mirrored ones, so the two tableaux are exchanged
+-- if v is the inverse of w, the growth shape of v at (i, j) is that of w at (j, i)
 pub mirror-shape : (v w : List ℕ) → AreInverse v w → (i j : ℕ) → i ≤ length w → j ≤ length w → growth_shape v i j ≡ growth_shape w j i
 mirror-shape v w h i j l m =
     let n = h.as_long in sym (grown-shape v (λ i j. growth_shape w j i) (mirrored v w h) i j (omega arith) (omega arith))

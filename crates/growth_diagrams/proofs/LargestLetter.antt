@@ -40,7 +40,7 @@ none_bumped : (m : ℕ) (row : List ℕ) → AreBelow m row → bumped m row ≡
 none_bumped m [] h = refl
 none_bumped m (x ∷ row) h = bumped-more m x row (omega (arith, h.0)) ∙ none_bumped m row h.1
 
--- if a would go to the end of the row, it takes the place of an m after the row
+-- if inserting a appends it to the row, then in the row followed by m it replaces m
 end_taken : (m a : ℕ) (row : List ℕ) → a < m → bumped a row ≡ None
     → (bumped a (row ++ m ∷ []) ≡ Some m) × (row_with a (row ++ m ∷ []) ≡ row_with a row)
 end_taken m a [] l e = (bumped-less a m [] l, with-less a m [] l)
@@ -53,7 +53,7 @@ end_taken m a (x ∷ row) l e = elim (cases_lt a x) [
       )
 ]
 
--- if a takes a place in the row, a longer row does not change that
+-- if inserting a replaces b in the row, it also replaces b in the row followed by more letters
 end_kept : (a b : ℕ) (row more : List ℕ) → bumped a row ≡ Some b
     → (bumped a (row ++ more) ≡ Some b) × (row_with a (row ++ more) ≡ row_with a row ++ more)
 end_kept a b [] more e = cc

@@ -1,4 +1,5 @@
--- The shapes of the insertion tableaux of the letters of w(1), .., w(i) that are at most j grow by the rules at corners.
+-- The shapes of the insertion tableaux of those of the letters w(1), .., w(i) that are at most j follow the local
+-- rules.
 use Rattle.std.proofs.Common.{◌≡◌, ℕ, zero, suc, ◌-◌, ◌<◌, ◌≤◌, ◌==◌, Bool, true, false, cond, List, [], ◌∷◌, ◌++◌, length, take, drop, get_or, Some, ◌∙◌, ap, ap₂, sym, refl, subst, inl, inr, arith, append_assoc, append-nil, nat_le}
 use Rattle.std.proofs.lemmas.Bool.{cases_lt, cases_eq, le-leb, lt-leb, eq-eqb, ne_eqb}
 use Rattle.std.proofs.lemmas.List.{length-map, take-append-drop}
@@ -62,7 +63,7 @@ from_parts j a u small large more last e f n r =
       rule = ap shape_of f ∙ r ∙ ap (λ (x : List (List ℕ)). at_corner (a == suc j) (shape_of small) (shape_of large) (shape_of x)) (sym e);
     }
 
--- if a is less than m = j + 1, the local rule holds for the square
+-- let all letters of `small` be less than m = j + 1, and `large` be `small` or `small` with m at the end of a row: the local rule holds for a < m
 square_less :
     (j a : ℕ) (u : List ℕ) (small large : List (List ℕ)) → RowsBelow (suc j) small → a < suc j → Extends (suc j) u small large
     → IsSquare j a u small large
@@ -98,7 +99,8 @@ square_less j a u small large b l (ended t k n e) =
           ∙ ap₂ (λ (x y : List ℕ). at_corner (a == suc j) s x y) (sym μ) (sym c.is))
     ]
 
--- if a is m = j + 1, the local rule holds for the square
+-- let all letters of `small` be less than m = j + 1, and `large` be `small` or `small` with m at the end of a row: if m occurs once in u and a together,
+-- the local rule holds for a = m
 square_same :
     (j a : ℕ) (u : List ℕ) (small large : List (List ℕ)) → RowsBelow (suc j) small → a ≡ suc j → times_in (suc j) (u ++ a ∷ []) ≤ 1
     → Extends (suc j) u small large → IsSquare j a u small large
@@ -111,7 +113,7 @@ square_same j a u small large b l o (alone t e) =
     (shape-last 0 (suc j) small ∙ ap (λ t. cond t (with_cell 0 s) s) (sym (eq-eqb a (suc j) l)) ∙ sym (corner-equal (a == suc j) s)
     ∙ ap (λ (x : List ℕ). at_corner (a == suc j) s x s) (ap shape_of (sym e)))
 
--- if a is greater than m = j + 1, the local rule holds for the square
+-- let `large` be `small` or `small` with m = j + 1 at the end of a row: the local rule holds for a > m
 square_more :
     (j a : ℕ) (u : List ℕ) (small large : List (List ℕ)) → suc j < a → Extends (suc j) u small large → IsSquare j a u small large
 square_more j a u small large l (alone t e) =

@@ -1,10 +1,10 @@
--- Growth grids as they are kept: a permutation with the lines of its growth shapes.
+-- Growth grids in memory: a permutation with the lines of its growth shapes.
 use Rattle.std.specs.Prelude.{◌≡◌, ℕ, List, map, Vec}
 use Rattle.std.specs.declared.alloc.Global.{Global}
 use Rattle.sym_model.specs.Growth.{grid_lines}
 use Rattle.perm_codes.specs.Limits.{IsWithinLimits}
 
--- the lists that a list of vectors stands for
+-- the lists of shapes that a list of vectors holds
 abbrev pub lines_in : List (Vec (List ℕ) Global) → List (List (List ℕ))
 lines_in lines = map (λ line. line.items) lines
 

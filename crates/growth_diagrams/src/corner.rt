@@ -1,4 +1,4 @@
-//! The shape at a corner of a square.
+//! The shape at a corner of a square of a growth diagram.
 ghost use Rattle.std.specs.Prelude.{◌≡◌, ◌≤◌, IfOk};
 ghost use Rattle.sym_model.specs.Growth.{at_corner, grown, union, with_cell};
 ghost use Rattle.sym_model.specs.Polynomial.{same};
@@ -8,8 +8,9 @@ use calc_base::NoMemory;
 use partitions::Partition;
 use std::alloc::Global;
 
-/// The shape at a corner, from those at the other three corners of its square. Fails only if memory
-/// runs out.
+/// The growth shape at the last corner of a square, from `lower` at the opposite corner and `left`
+/// and `right` at the other two; `marked` says whether the square is marked by a letter of the
+/// permutation. Fails only if memory runs out.
 pub(crate) fn shape_at_corner(
     alloc: Global,
     marked: bool,
@@ -39,8 +40,8 @@ fn are_same(left: &Partition, right: &Partition) -> bool
     left.parts() == right.parts()
 }
 
-/// The first row, counted from 0, in which the first shape is longer; if there is none, the number
-/// of its rows.
+/// The first row, counted from 0, in which `left` is longer than `lower`; if there is none, the
+/// number of rows of `left`.
 pub(crate) fn first_longer(left: &Partition, lower: &Partition) -> u16
     ensures row { result ≡ grown left.now lower.now }
     ensures few { result ≤ 512 }
@@ -68,7 +69,7 @@ fn add_cell(alloc: Global, shape: &Partition, row: u16) -> Result<Partition, NoM
     Partition::from_valid_parts(alloc, &parts)
 }
 
-/// The shape whose rows are the longer ones of two shapes.
+/// The union of two shapes: row i is the longer one of their rows i.
 fn union_of(alloc: Global, left: &Partition, right: &Partition) -> Result<Partition, NoMemory>
     requires { IsWithinLimits (union left.now right.now) }
     ensures { IfOk result (λ shape. shape ≡ union left.now right.now) }

@@ -10,7 +10,7 @@ use row_insertion::{push_at, standard_of};
 use skew_shapes::Standard;
 use std::alloc::Global;
 
-/// The tableau of the shapes in the last line.
+/// The insertion tableau, which is that of the chain of shapes in the last line.
 pub(crate) fn line_tableau(alloc: Global, grid: &Grid) -> Result<Standard, NoMemory>
     ensures { IfOk result (λ p. p ≡ straight (insertion_pair grid.now).0) }
 {
@@ -23,7 +23,7 @@ pub(crate) fn line_tableau(alloc: Global, grid: &Grid) -> Result<Standard, NoMem
     standard_of(alloc, &rows)
 }
 
-/// The tableau of the shapes in the last column.
+/// The recording tableau, which is that of the chain of shapes in the last column.
 pub(crate) fn column_tableau(alloc: Global, grid: &Grid) -> Result<Standard, NoMemory>
     ensures { IfOk result (λ q. q ≡ straight (insertion_pair grid.now).1) }
 {

@@ -43,7 +43,7 @@ impl Grid {
         self.permutation.len()
     }
 
-    /// The growth shapes at (i, 0), .., (i, n).
+    /// The growth shapes at (i, 0), .., (i, n), with n the number of letters and i at most n.
     pub fn line(&self, i: u16) -> &[Partition]
         requires { i ≤ length self.now }
         ensures shapes { result.now ≡ grid_line self.now i }
@@ -52,8 +52,9 @@ impl Grid {
         self.lines[usize::from(i)].as_slice()
     }
 
-    /// The growth shape at (i, j), which is the shape of the insertion tableau of those of the
-    /// first i letters that are at most j (Fomin; Stanley, Enumerative Combinatorics 2, 7.13).
+    /// The growth shape at (i, j), with i and j at most the number of letters: the shape of the
+    /// insertion tableau of those of the first i letters that are at most j (Fomin; Stanley,
+    /// Enumerative Combinatorics 2, 7.13).
     pub fn shape_at(&self, i: u16, j: u16) -> &Partition
         requires i { i ≤ length self.now }
         requires j { j ≤ length self.now }

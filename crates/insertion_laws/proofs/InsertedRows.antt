@@ -1,4 +1,4 @@
--- Row insertion keeps the rows of a tableau, and adds one cell.
+-- Row insertion into a tableau gives the rows of a tableau with one cell more.
 use Rattle.std.proofs.Common.{◌≡◌, ℕ, suc, ◌<◌, ◌≤◌, cond, List, [], ◌∷◌, ◌++◌, length, Option, Some, None, ◌∙◌, ap, sym, refl, subst, inl, inr, arith}
 use Rattle.std.proofs.lemmas.Bool.{cases_lt, lt-ltb, le-ltb}
 use Rattle.std.proofs.lemmas.List.{length-append}
@@ -67,7 +67,7 @@ rises_with c a (x ∷ row) l h = elim (cases_lt a x) [
   | inr m ↦ subst (RisesFrom c) (sym (with-more a x row m)) (h.0, rises_with x a row m h.1)
 ]
 
--- ---- inserting a letter keeps one row on another
+-- ---- a row that fits below another, after a letter is inserted into one of them
 
 -- inserting a into the upper row makes one of its letters smaller or the row longer, so the lower row still fits below it
 pub stands_with : (a : ℕ) (lower upper : List ℕ) → StandsOn lower upper → StandsOn lower (row_with a upper)

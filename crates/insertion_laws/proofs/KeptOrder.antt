@@ -1,4 +1,4 @@
--- The rows after a slide are semistandard: with the rows above that of the empty cell.
+-- After a slide all rows are semistandard: also those above the row of the empty cell.
 use Rattle.std.proofs.Common.{◌≡◌, ℕ, zero, suc, ◌+◌, ◌-◌, ◌<◌, ◌≤◌, true, nat_le, List, [], ◌∷◌, ◌++◌, map, length, take, drop, get_or, ◌∙◌, ap, ap₂, sym, refl, subst, inl, inr, arith, append-nil, cond, Bool, false}
 use Rattle.std.proofs.lemmas.Bool.{cases_eq, and_parts, leb-true}
 use Rattle.std.proofs.lemmas.List.{drop-drop, length-append, length-drop, length-take-le}
@@ -6,17 +6,13 @@ use Rattle.strip_laws.proofs.Containment.{contains-tells}
 use Rattle.sym_model.specs.Partition.{Falls, part}
 use Rattle.sym_model.specs.Schur.{row_lengths, semistandard, contains, letters_of}
 use Rattle.sym_model.specs.Slide.{outer_parts, slid_rows}
-use Rattle.sym_model.proofs.SortedParts.{Falls_tail}
+use Rattle.sym_model.proofs.SortedParts.{Falls_tail, Falls_first}
 use Rattle.sym_model.proofs.Parts.{Falls-front}
 use Rattle.insertion_laws.proofs.RisingRows.{StandsUnder, first_row, order-tells, order-from, HasShape, part_next, ends-first}
 use Rattle.insertion_laws.proofs.SlideSteps.{place_below, moved}
 use Rattle.insertion_laws.proofs.SlidOrder.{HasHole, slides}
 
 -- ---- the shape of a tableau
-
-Falls-first : (a : ℕ) (parts : List ℕ) → Falls (a ∷ parts) → get_or parts 0 0 ≤ a
-Falls-first a [] h = omega arith
-Falls-first a (b ∷ parts) h = h.0
 
 first_end :
     (outer inner : List ℕ) (rows : List (List ℕ)) → map length rows ≡ row_lengths outer inner → contains outer inner ≡ true
@@ -36,17 +32,17 @@ shape-from (row ∷ rows) [] inner e h f g = absurd (cc e)
 shape-from (row ∷ rows) (a ∷ outer) [] e h f g =
     let same : length row ≡ a = cc e in
     let rest : map length rows ≡ row_lengths outer [] = cc e in
-    (omega arith, omega (arith, first_end outer [] rows rest refl, Falls-first a outer f), shape-from rows outer [] rest refl (Falls_tail a outer f) tt)
+    (omega arith, omega (arith, first_end outer [] rows rest refl, Falls_first a outer f), shape-from rows outer [] rest refl (Falls_tail a outer f) tt)
 shape-from (row ∷ rows) (a ∷ outer) (b ∷ inner) e h f g =
     let same : length row ≡ a - b = cc e in
     let rest : map length rows ≡ row_lengths outer inner = cc e in
     let p = and_parts (nat_le b a) (contains outer inner) h in (
-      Falls-first b inner g,
-      omega (arith, first_end outer inner rows rest p.1, Falls-first a outer f, leb-true b a p.0),
+      Falls_first b inner g,
+      omega (arith, first_end outer inner rows rest p.1, Falls_first a outer f, leb-true b a p.0),
       shape-from rows outer inner rest p.1 (Falls_tail a outer f) (Falls_tail b inner g),
     )
 
--- ---- only the parts of the inner partition count
+-- ---- the conditions on a filling depend only on the parts of the inner partition
 
 next_parts : (a b : List ℕ) → ((k : ℕ) → get_or a k 0 ≡ get_or b k 0) → (k : ℕ) → get_or (drop 1 a) k 0 ≡ get_or (drop 1 b) k 0
 next_parts a b e k = part_next a k ∙ e (k + 1) ∙ sym (part_next b k)

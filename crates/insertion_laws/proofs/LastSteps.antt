@@ -1,4 +1,4 @@
--- The greatest number of a recording tableau: it ends a row at a corner, and the tableau without it.
+-- The greatest number of a recording tableau is at the end of a row, in a corner; without it, the rows are still a tableau.
 use Rattle.std.proofs.Common.{◌≡◌, ◌≢◌, ℕ, zero, suc, ◌+◌, ◌-◌, ◌<◌, ◌==◌, cond, List, [], ◌∷◌, ◌++◌, length, ◌∙◌, ap, ap₂, sym, refl, subst, inl, inr, arith, nat_lt}
 use Rattle.std.proofs.lemmas.Bool.{cases_lt, cases_eq, lt-ltb, le-ltb, eq-eqb, ne_eqb}
 use Rattle.std.proofs.lemmas.List.{length-append}
@@ -74,7 +74,7 @@ without_below m k l (row ∷ q) r h = elim (cases_eq (last_of row) k) [
 
 -- ---- only the row that ends with the greatest number has it
 
--- the greatest number is in no row that does not end with it
+-- if a weakly increasing row with letters up to k does not end with k, and k occurs in it or in the rows q after it, then k occurs in q
 later_rows :
     (m k : ℕ) (row : List ℕ) (q : List (List ℕ)) → IsRowOver m row q → AreBelow (k + 1) row → last_of row ≢ k
     → 0 < times_in k (row ++ letters_of q) → 0 < times_in k (letters_of q)

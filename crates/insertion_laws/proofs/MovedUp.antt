@@ -15,7 +15,7 @@ IsOver [] (b ∷ lower) = ⊥
 IsOver (a ∷ upper) [] = ⊥
 IsOver (a ∷ upper) (b ∷ lower) = (a < b) × IsOver upper lower
 
--- b moves to the end of the word `lower`, if `lower` fits as a row below `right`, whose letters are at least b
+-- by Knuth steps b moves over the word `lower`, if `lower` fits as a row below `right`, whose letters are at least b
 goes_behind : (b c : ℕ) (lower right : List ℕ) → RisesFrom b right → RisesFrom c lower → StandsOn lower right
     → AreKnuthEquivalent (b ∷ (lower ++ right)) (lower ++ b ∷ right)
 goes_behind b c [] right h k s = one_word (b ∷ right)

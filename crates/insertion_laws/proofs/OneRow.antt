@@ -1,5 +1,5 @@
--- Three letters that one Knuth relation changes, inserted into one row: the row afterwards is the same, and the letters
--- that leave it are the same word or related too.
+-- Three letters that one Knuth relation changes, inserted into one row: the row afterwards is the same, and the words of the letters that leave it
+-- are equal or related by a Knuth relation.
 use Rattle.std.proofs.Common.{◌≡◌, ◌⊎◌, ℕ, ◌<◌, ◌≤◌, List, [], ◌∷◌, ◌++◌, Option, Some, None, ◌∙◌, ap, ap₂, sym, refl, subst, inl, inr, arith}
 use Rattle.std.proofs.lemmas.Bool.{cases_lt}
 use Rattle.sym_model.specs.Insertion.{row_with, bumped}
@@ -18,7 +18,7 @@ bumped_from c a b (x ∷ row) r e = elim (cases_lt a x) [
   | inr l ↦ let s = bumped_from x a b row r.1 (sym (bumped-more a x row l) ∙ e) in omega (arith, r.0)
 ]
 
--- y, inserted before a letter z ≥ y that replaces d, replaces a letter that is at most d
+-- inserting y into the row replaces a letter that is at most d; this holds if z ≥ y, inserted after y, replaces d
 pub record TakesLater (y z d : ℕ) (row : List ℕ) : Type 0 where
   pub earlier : ℕ
   pub is : bumped y row ≡ Some earlier
@@ -36,7 +36,7 @@ takes_later c y z d (x ∷ row) l r e = elim (cases_lt y x) [
       record { earlier = t.earlier; is = bumped-more y x row m ∙ t.is; order = t.order }
 ]
 
--- a letter y smaller than z, inserted after it, replaces z or a letter before it
+-- y, inserted after z, replaces a letter that is at most z; this holds for each y < z
 pub record TakesEarlier (y z : ℕ) (row : List ℕ) : Type 0 where
   pub earlier : ℕ
   pub is : bumped y (row_with z row) ≡ Some earlier
@@ -54,7 +54,7 @@ takes_earlier y z (x ∷ row) l = elim (cases_lt z x) [
   ]
 ]
 
--- ---- two words have the same effect on a row
+-- two words whose insertion into a row gives the same row, and of which the words of the letters that leave the row are equal or Knuth-related
 
 pub record AreAlike (row v w : List ℕ) : Type 0 where
   pub rows_same : row_after row v ≡ row_after row w

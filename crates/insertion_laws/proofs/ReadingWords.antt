@@ -1,5 +1,5 @@
--- Insertion stays in the Knuth class of its word, and takes the reading word of a tableau to that tableau. So each
--- class contains the reading word of one straight tableau.
+-- The reading word of the insertion tableau of a word is in the Knuth class of the word, and inserting the reading word of a tableau gives the
+-- tableau. So each class contains the reading word of exactly one straight tableau.
 use Rattle.std.proofs.Common.{◌≡◌, true, ℕ, ◌<◌, ◌≤◌, List, [], ◌∷◌, ◌++◌, Option, Some, None, ◌∙◌, ap, ap₂, sym, refl, subst, inl, inr, arith, append_assoc, append-nil, reverse}
 use Rattle.std.proofs.lemmas.Bool.{cases_lt}
 use Rattle.std.proofs.lemmas.List.{reverse-append}
@@ -20,12 +20,12 @@ use Rattle.tableau_laws.specs.Rows.{RisesFrom}
 
 -- ---- inserting a letter into one row stays in the Knuth class
 
--- a letter smaller than the first one of a row moves to the left until it is second in the row
+-- a letter x after a row that begins with y > x moves to the left by Knuth steps until it is second in the row
 pub through : (y x : ℕ) (row back : List ℕ) → x < y → RisesFrom y row → AreKnuthEquivalent (y ∷ (row ++ x ∷ back)) (y ∷ x ∷ (row ++ back))
 through y x [] back l h = one_word (y ∷ x ∷ back)
 through y x (z ∷ row) back l h = behind (y ∷ []) (through z x row back (omega (arith, h.0)) h.1) ⨾ first x y z (row ++ back) l h.0
 
--- inserting a into a row stays in the class, with the letter that a replaces in front of the row
+-- inserting a into a row stays in the Knuth class, with the letter that a replaces in front of the row
 row_class : (c a b : ℕ) (row : List ℕ) → RisesFrom c row → bumped a row ≡ Some b → AreKnuthEquivalent (row ++ a ∷ []) (b ∷ row_with a row)
 row_class c a b [] h e = cc
 row_class c a b (x ∷ row) h e = elim (cases_lt a x) [
@@ -120,12 +120,12 @@ reading_again m (row ∷ rows) h =
     ap (inserted_word []) (reading-more row rows) ∙ word-append (reading_word rows) row []
     ∙ ap (λ (r : List (List ℕ)). inserted_word r row) (reading_again m rows h.1) ∙ put_over m row rows h
 
--- a straight tableau whose reading word is in the class is the insertion tableau
+-- a straight tableau whose reading word is in the Knuth class of w has the rows of the insertion tableau of w
 pub only_tableau :
     (m : ℕ) (w : List ℕ) (rows : List (List ℕ)) → AreRows m rows → AreKnuthEquivalent (reading_word rows) w → rows ≡ inserted_word [] w
 only_tableau m w rows h k = sym (reading_again m rows h) ∙ class_same (reading_word rows) w k
 
--- ---- the insertion tableau is the only one of the class
+-- ---- the insertion tableau of a word is the only straight tableau of its Knuth class
 
 pub tableau_class : (w : List ℕ) → AreKnuthEquivalent w (reading_word (insertion_pair w).0)
 tableau_class w = word_class w [] tt ⨾ same_word (ap reading_word (sym (first-tableau w 1 [] [])))

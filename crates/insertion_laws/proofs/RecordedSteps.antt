@@ -112,7 +112,7 @@ stands_end k [] (x ∷ upper) l b h = (b.0, tt)
 stands_end k (y ∷ lower) [] l b h = absurd h
 stands_end k (y ∷ lower) (x ∷ upper) l b h = (h.0, stands_end k lower upper (omega arith) b.1 h.1)
 
--- a row of p is not longer than the row above it
+-- a row row' of a tableau is not longer than the row above it
 pub next_shorter : (m : ℕ) (row row' : List ℕ) (p : List (List ℕ)) → AreRows m (row ∷ row' ∷ p) → length row' ≤ length row
 next_shorter m row row' p h = stands-length row' row h.0.stands
 

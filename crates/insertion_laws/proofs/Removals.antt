@@ -1,4 +1,4 @@
--- A cell removed from a tableau: the rest is a tableau, insertion adds the cell again, and removal undoes insertion.
+-- A cell removed from a tableau: what remains is a tableau, insertion adds the cell again, and removal undoes insertion.
 use Rattle.std.proofs.Common.{◌≡◌, ◌≢◌, ◌⊎◌, ℕ, zero, suc, ◌+◌, ◌<◌, ◌≤◌, cond, List, [], ◌∷◌, ◌++◌, length, Option, Some, None, ◌∙◌, ap, ap₂, sym, refl, subst, inl, inr, arith}
 use Rattle.std.proofs.lemmas.Bool.{cases_lt, lt-ltb, le-ltb, eq-eqb, ne_eqb}
 use Rattle.std.proofs.lemmas.List.{length-append}
@@ -115,7 +115,7 @@ grown-within (a ∷ large) (b ∷ small) = elim (cases_lt b a) [
   | inr h ↦ omega (arith, grown-below a b large small h, grown-within large small)
 ]
 
--- the step is recorded at the end of the row that is longer in p
+-- if p has one cell more than q, in some row, then `with_step` records k at the end of that row of q
 pub end-step :
     (k : ℕ) (p q : List (List ℕ)) → HasOneMore (shape_of p) (shape_of q) → with_end (grown (shape_of p) (shape_of q)) k q ≡ with_step k p q
 end-step k [] q h = absurd h
@@ -132,7 +132,7 @@ end-step k (row ∷ p) (steps ∷ q) h = by h (λ m. end-step k p q m)
         ap (λ i. with_end i k (steps ∷ q)) (grown-below (length row) (length steps) (shape_of p) (shape_of q) (omega (arith, m.0)))
         ∙ ap (λ (l : List (List ℕ)). steps ∷ l) (rec m.1) ∙ sym (step-below k row steps p q (omega (arith, m.0)))
 
--- a letter that was inserted is removed again
+-- removing the cell that an insertion of a adds gives the former rows, and a
 pub off_again :
     (m a : ℕ) (rows : List (List ℕ)) → AreRows m rows
     → removed (grown (shape_of (inserted rows (Some a))) (shape_of rows)) (inserted rows (Some a)) ≡ (rows, a)

@@ -64,7 +64,7 @@ rises_back b c x (y ∷ row) l h = elim (cases_lt y b) [
   | inr m ↦ subst (RisesFrom c) (sym (back-here b x y row m)) (omega (arith, h.0), (m, h.1.1))
 ]
 
--- insertion undoes the reverse step
+-- if a weakly increasing row begins with a letter x < b, inserting the letter that the reverse step of b takes out gives the row again
 pub put_again : (b c x : ℕ) (row : List ℕ) → x < b → RisesFrom c (x ∷ row) → row_with (letter_back b (x ∷ row)) (row_back b (x ∷ row)) ≡ x ∷ row
 put_again b c x [] l h = with-less x b [] l
 put_again b c x (y ∷ row) l h = elim (cases_lt y b) [
@@ -85,7 +85,7 @@ bumped_again b c x (y ∷ row) l h = elim (cases_lt y b) [
   | inr m ↦ ap₂ bumped (letter-here b x y row m) (back-here b x y row m) ∙ bumped-less x b (y ∷ row) l
 ]
 
--- the reverse step undoes insertion
+-- if inserting a into a weakly increasing row replaces b, the reverse step of b gives the row again
 pub row_again : (a b c : ℕ) (row : List ℕ) → RisesFrom c row → bumped a row ≡ Some b → row_back b (row_with a row) ≡ row
 row_again a b c [] h e = cc
 row_again a b c (x ∷ []) h e = elim (cases_lt a x) [
@@ -124,7 +124,7 @@ letter_again a b c (x ∷ y ∷ row) h e = elim (cases_lt a x) [
       ∙ letter_again a b x (y ∷ row) h.1 f
 ]
 
--- ---- a row on another, if the upper one loses a letter to the lower one
+-- if `upper` fits above `lower` with b inserted, `upper` after the reverse step of b fits above `lower`
 
 pub begins-above : (b : ℕ) (lower upper : List ℕ) → StandsOn (row_with b lower) upper → BeginsBelow b upper
 begins-above b [] [] h = h

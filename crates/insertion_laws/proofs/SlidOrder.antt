@@ -1,4 +1,4 @@
--- The rows after a slide are semistandard: from the row of the empty cell on.
+-- After a slide the rows from that of the empty cell on are semistandard.
 use Rattle.std.proofs.Common.{◌≡◌, ℕ, zero, suc, ◌+◌, ◌-◌, ◌<◌, ◌≤◌, true, false, List, [], ◌∷◌, ◌++◌, length, take, drop, get_or, ◌∙◌, ap, sym, refl, subst, inl, inr, arith, append_assoc, length-append}
 use Rattle.std.proofs.lemmas.Bool.{cases_Bool, leb-true, leb-false}
 use Rattle.std.proofs.lemmas.List.{get_or_append_left, get_or-append-add, get_or-drop, get_or-take, length-drop, length-take-le, length_push, get_or_push, drop_all}
@@ -20,7 +20,7 @@ pub record HasHole (inner left right : List ℕ) (below : List (List ℕ)) : Typ
   pub shape : HasShape (drop 1 inner) below
   pub order : semistandard (drop 1 inner) below ≡ true
 
--- no letter of the word is smaller than x
+-- the first letter of the word w, if it has one, is at least x
 abbrev pub IsAtMost : ℕ → List ℕ → Type 0
 IsAtMost x w = 0 < length w → x ≤ get_or w 0 0
 

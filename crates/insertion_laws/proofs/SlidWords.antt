@@ -1,7 +1,7 @@
 -- A slide keeps the Knuth class of the reading word.
 use Rattle.std.proofs.Common.{◌≡◌, ℕ, zero, suc, ◌+◌, ◌-◌, ◌<◌, ◌≤◌, true, List, [], ◌∷◌, ◌++◌, length, take, drop, get_or, ◌∙◌, ap, ap₂, sym, refl, subst, inl, inr, arith, append_assoc, append-nil}
 use Rattle.std.proofs.lemmas.Bool.{cases_Bool}
-use Rattle.std.proofs.lemmas.List.{take-append-drop, drop-drop, get_or-take, get_or-drop, length-take-le, length-drop}
+use Rattle.std.proofs.lemmas.List.{take-append-drop, drop-drop, get_or-take, get_or-drop, length-take-le, length-drop, nil_from_length}
 use Rattle.sym_model.specs.Insertion.{reading_word}
 use Rattle.sym_model.specs.Knuth.{AreKnuthEquivalent, IsOnlyTableauOf}
 use Rattle.sym_model.specs.Partition.{part, in_front, without_last_zeros}
@@ -20,7 +20,7 @@ use Rattle.insertion_laws.proofs.ReadingWords.{reading-more, only_tableau_from}
 use Rattle.insertion_laws.proofs.MovedUp.{IsOver, moves_between}
 use Rattle.tableau_laws.specs.Rows.{RisesFrom}
 
--- ---- conditions at places, as conditions on lists
+-- ---- weakly increasing rows, and letters smaller than those below: from conditions at each place to conditions on lists
 
 rises_to_from : (c : ℕ) (w : List ℕ) → IsAtMost c w → Rises w → RisesFrom c w
 rises_to_from c [] h r = tt
@@ -162,13 +162,9 @@ reading-taken (row ∷ rows) inner =
     longer : (n : ℕ) → reading_word (take n rows) ≡ reading_word rows → reading_word (row ∷ take n rows) ≡ reading_word (row ∷ rows)
     longer n e = reading-more row (take n rows) ∙ ap (λ (w : List ℕ). w ++ row) e ∙ sym (reading-more row rows)
 
-    no_row : (w : List ℕ) → length w ≡ 0 → [] ≡ w
-    no_row [] e = refl
-    no_row (a ∷ w) e = absurd (omega arith)
-
     by : (n : ℕ) (ends : List ℕ) → part inner 1 + length row ≡ n → reading_word (take (length ends) rows) ≡ reading_word rows
         → reading_word (take (length (in_front n ends)) (row ∷ rows)) ≡ reading_word (row ∷ rows)
-    by zero [] e h = ap₂ (λ (v w : List ℕ). v ++ w) h (no_row row (omega arith)) ∙ sym (reading-more row rows)
+    by zero [] e h = ap₂ (λ (v w : List ℕ). v ++ w) h (sym (nil_from_length row (omega arith))) ∙ sym (reading-more row rows)
     by zero (b ∷ ends) e h = longer (suc (length ends)) h
     by (suc a) ends e h = longer (length ends) h
 
@@ -197,7 +193,7 @@ straight_from s h e =
     let k : IsTableau s.outer [] s.rows = subst (λ i. IsTableau s.outer i s.rows) e h in
     subst (λ o. IsTableau o [] s.rows) (sym (k.cells ∙ row_lengths-none s.outer)) k
 
--- a straight tableau that slides reach is the only one whose reading word is in the class
+-- a straight tableau s that slides of t reach is the only one whose reading word is in the Knuth class of the reading word of t
 pub reached_only : (t s : SkewFilling) → IsTableau t.outer t.inner t.rows → IsReached t s → IsOnlyTableauOf (reading_word t.rows) s.rows
 reached_only t s h r =
     let c = slides_class r.chosen t s h r.slides in
@@ -207,7 +203,7 @@ no_parts : (parts : List ℕ) → length parts ≤ 0 → parts ≡ []
 no_parts [] h = refl
 no_parts (a ∷ parts) h = absurd (omega arith)
 
--- if a straight tableau has its reading word in the class of w, it is the only one
+-- if the reading word of a straight tableau is in the Knuth class of w, no other straight tableau has its reading word there
 pub straight_only :
     (w : List ℕ) (s : SkewFilling) → IsTableau s.outer s.inner s.rows → length s.inner ≤ 0 → AreKnuthEquivalent w (reading_word s.rows)
     → IsOnlyTableauOf w s.rows

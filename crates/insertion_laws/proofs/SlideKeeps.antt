@@ -1,5 +1,5 @@
 -- A slide of a semistandard tableau gives a semistandard tableau.
-use Rattle.std.proofs.Common.{◌≡◌, ℕ, zero, suc, ◌+◌, ◌-◌, ◌<◌, ◌≤◌, true, List, [], ◌∷◌, map, length, take, drop, get_or, ◌∙◌, ap, sym, refl, subst, inl, inr, arith}
+use Rattle.std.proofs.Common.{◌≡◌, ℕ, zero, suc, ◌+◌, ◌-◌, ◌<◌, ◌≤◌, true, List, [], map, length, take, drop, get_or, ◌∙◌, ap, sym, refl, subst, inl, inr, arith}
 use Rattle.std.proofs.lemmas.Bool.{cases_eq, cases_lt}
 use Rattle.std.proofs.lemmas.List.{ext_get_or, get_or-map, get_or-take, get_or_past, length-map, length-take-le}
 use Rattle.strip_laws.proofs.Containment.{contains-from, contains-tells}
@@ -13,6 +13,7 @@ use Rattle.sym_model.proofs.Tableaux.{length-row_lengths, get_or-row_lengths}
 use Rattle.insertion_laws.proofs.RisingRows.{ends-at, length-ends}
 use Rattle.insertion_laws.proofs.SlidLetters.{AreLetters-append, AreLetters-taken, AreLetters-dropped, slid-letters}
 use Rattle.insertion_laws.proofs.KeptOrder.{IsLowered, ends-kept, length-rows_from, lowered_less, rows_from, order-kept, semistandard-taken, shape-from}
+use Rattle.strip_laws.proofs.Strips.{falls_get}
 
 -- ---- the inner partition after a slide
 
@@ -61,15 +62,7 @@ corner_row row t h c =
 -- ---- the shape after the slide
 
 pub falls-at : (parts : List ℕ) (k : ℕ) → Falls parts → get_or parts (k + 1) 0 ≤ get_or parts k 0
-falls-at [] k h = omega arith
-falls-at (a ∷ []) zero h = omega arith
-falls-at (a ∷ []) (suc k) h =
-    let e : suc k + 1 ≡ suc (k + 1) = omega arith in
-    omega (arith, ap (λ n. get_or (a ∷ []) n 0) e)
-falls-at (a ∷ b ∷ parts) zero h = h.0
-falls-at (a ∷ b ∷ parts) (suc k) h =
-    let e : suc k + 1 ≡ suc (k + 1) = omega arith in
-    omega (arith, falls-at (b ∷ parts) k h.1, ap (λ n. get_or (a ∷ b ∷ parts) n 0) e)
+falls-at parts k h = let e : suc k ≡ k + 1 = omega arith in subst (λ n. get_or parts n 0 ≤ get_or parts k 0) e (falls_get parts h k)
 
 falls-lowered : (i : ℕ) (inner new : List ℕ) → Falls inner → IsLowered i inner new → Falls new
 falls-lowered i inner new f l =
@@ -87,7 +80,8 @@ falls-lowered i inner new f l =
       | inr d ↦ omega (arith, l.others k d, falls-at inner k f, lowered_less i (k + 1) inner new l)
     ])
 
--- the tableau whose outer shape has the ends of the rows, without zeros at the end, and its rows
+-- semistandard rows of positive letters whose ends are weakly decreasing are a tableau; its outer shape is the list of these ends, without zeros at
+-- the end
 built : (new : List ℕ) (rows : List (List ℕ)) → IsPartition new → Falls (outer_parts new rows)
     → ((k : ℕ) → length rows ≤ k → get_or new k 0 ≡ 0)
     → are_letters (letters_of rows) ≡ true → semistandard new rows ≡ true

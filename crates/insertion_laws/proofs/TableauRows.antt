@@ -14,7 +14,7 @@ use Rattle.sym_model.specs.Bounded.{AreBelow}
 use Rattle.tableau_laws.specs.Rows.{RisesFrom}
 use Rattle.sym_model.proofs.Lists.{smaller-within}
 
--- ---- from rows to a tableau
+-- ---- rows that satisfy `AreRows` are a straight tableau
 
 falls_from : (m : ℕ) (rows : List (List ℕ)) → AreRows m rows → Falls (shape_of rows)
 falls_from m [] h = tt
@@ -64,7 +64,7 @@ tableau_from rows h =
       order = order_from 1 rows h;
     }
 
--- ---- from a tableau to rows
+-- ---- the rows of a straight tableau satisfy `AreRows`
 
 rises_after : (a : ℕ) (row : List ℕ) → row_rises (a ∷ row) ≡ true → RisesFrom a row
 rises_after a [] h = tt
@@ -175,7 +175,7 @@ below_rows : (k : ℕ) (q : List (List ℕ)) → AreBelow k (letters_of q) → R
 below_rows k [] h = tt
 below_rows k (row ∷ q) h = let r = below_split k row (letters_of q) h in (r.0, below_rows k q r.1)
 
--- ---- a straight tableau and a standard one of its shape are a pair
+-- a straight tableau and a standard one of its shape are a pair as in `IsPairAt`
 
 pub pair_from :
     (p q : List (List ℕ)) → IsStraightTableau p → IsStandard q → shape_of p ≡ shape_of q → IsPairAt 1 (length (letters_of q)) p q

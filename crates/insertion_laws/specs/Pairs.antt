@@ -5,7 +5,8 @@ use Rattle.sym_model.specs.Schur.{letters_of, times_in}
 use Rattle.sym_model.specs.Tableau.{shape_of}
 use Rattle.insertion_laws.specs.Rows.{AreRows, RowsBelow}
 
--- p has letters from m on, q has each number from 1 to n once, and both have one straight shape with n cells
+-- p and q are tableaux of one straight shape with n cells; p has letters from m on, and q has each number from 1 to
+-- n once
 pub record IsPairAt (m n : ℕ) (p q : List (List ℕ)) : Type 0 where
   pub p_rows : AreRows m p
   pub q_rows : AreRows 1 q

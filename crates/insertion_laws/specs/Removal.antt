@@ -46,7 +46,8 @@ without_step k [] = []
 without_step k (row ∷ rows) =
     cond (last_of row == k) (row_over (without_last row) rows) (row ∷ without_step k rows)
 
--- the last k letters of the word of p and q, found by undoing steps
+-- the k letters that leave p while the cells with the numbers k, k - 1, .., 1 in q are removed, the letter that
+-- leaves first being the last
 abbrev pub steps_back : ℕ → List (List ℕ) → List (List ℕ) → List ℕ
 steps_back zero p q = []
 steps_back (suc k) p q =

@@ -10,13 +10,14 @@ StandsOn [] upper = Unit {0}
 StandsOn (b ∷ lower) [] = ⊥
 StandsOn (b ∷ lower) (a ∷ upper) = (a < b) × StandsOn lower upper
 
--- a row of a tableau with letters from m on, and the rows below it
+-- the row is not empty and weakly increasing, its letters are at least m, and each letter of the first row below has
+-- a smaller letter above it
 pub record IsRowOver (m : ℕ) (row : List ℕ) (below : List (List ℕ)) : Type 0 where
   pub filled : 0 < length row
   pub rises : RisesFrom m row
   pub stands : StandsOn (first_line below) row
 
--- the rows are those of a straight tableau with letters from m on
+-- the rows are those of a semistandard tableau of straight shape with letters from m on
 abbrev pub AreRows : ℕ → List (List ℕ) → Type 0
 AreRows m [] = Unit {0}
 AreRows m (row ∷ rows) = IsRowOver m row rows × AreRows m rows

@@ -7,8 +7,8 @@ ghost use Rattle.sym_model.specs.Tableau.{IsTableau, SkewFilling};
 
 /// The slide of a tableau from an inner corner has its reading word in the same Knuth class. So the
 /// straight tableau that slides reach is the only one in the class of the reading word, whichever
-/// corners are chosen: from the rows 2, 1 and 1 of (3,2,1)/(2,1), with the reading word 1 1 2,
-/// the one row 1 1 2.
+/// corners are chosen. Example: slides take the tableau of the shape (3,2,1)/(2,1) with the rows 2,
+/// 1 and 1, whose reading word is 1 1 2, to the single row 1 1 2.
 pub fn slide_class_law()
     ensures class { (row : ℕ) (t : SkewFilling)
         → IsTableau t.outer t.inner t.rows → HasInnerCorner row t.inner

@@ -1,5 +1,5 @@
-//! Words with positive letters and pairs of tableaux of one straight shape, the second of them
-//! standard, belong to each other (Robinson, Schensted and Knuth; Fulton, 4.1).
+//! The correspondence of Robinson, Schensted and Knuth between words with positive letters and
+//! pairs of tableaux of one straight shape, of which the second is standard (Fulton, 4.1).
 ghost use Rattle.std.specs.Prelude.{◌≡◌, ℕ, List, length, true};
 ghost use Rattle.sym_model.specs.Insertion.{insertion_pair};
 ghost use Rattle.sym_model.specs.Partition.{size};

@@ -25,7 +25,7 @@ told : (t : SkewFilling) (row column : ℕ) → IsFilling t → IsAt t row colum
     (head_of (lower_at (row - 1) (place_in_row t.inner row column) t.inner t.rows))
 told t row column f a = ap₂ next_of (right-is t row column a) (below-is t row column f a)
 
--- a letter has moved: (row', column') is the next empty cell, and the rows after the slide are those of the slide before
+-- a letter has moved: (row', column') is the next empty cell, and a slide that continues from there ends with the same rows
 pub record Goes (t s : SkewFilling) (row column row' column' : ℕ) : Type 0 where
   pub cell : IsCell s.outer s.inner row' column'
   pub rows : slid_from t row column ≡ slid_from s row' column'
@@ -93,7 +93,7 @@ goes_down t row column b f c h =
           ∙ moved_up n p q b t.inner m.rest t.rows within at.place_is place m.is m.least);
     }
 
--- no letter has moved: the empty cell is a corner of the outer partition
+-- no letter has moved: the empty cell is a corner of the outer partition, and the slide removes it
 pub record Stops (t : SkewFilling) (row column : ℕ) : Type 0 where
   pub corner : HasInnerCorner row t.outer
   pub cell : part t.inner row < part t.outer row

@@ -100,7 +100,7 @@ ends-lowered (suc n) (row ∷ rows) (a ∷ outer) (b ∷ inner) e h l =
 
 -- ---- the moves from start to end are the slide of the definition
 
--- the filling with these outer parts, without zeros at their end
+-- the filling of outer/inner with the given rows; zeros at the end of outer, and the rows there, are dropped
 abbrev built : List ℕ → List ℕ → List (List ℕ) → SkewFilling
 built outer inner rows =
     record {

@@ -39,8 +39,8 @@ fn next_letter(filled: &Filled, row: u16, column: u16) -> Neighbour
 }
 
 /// Moves letters into the empty cell in this row and this column, and into those that they leave,
-/// until the empty cell has no neighbour. Returns the row of the empty cell, which is then its last
-/// cell.
+/// until the empty cell has no neighbour on the right or below. Returns the row of the empty cell,
+/// in which it is then the last cell.
 pub(crate) fn move_letters(filled: &mut Filled, row: u16, column: u16) -> u16
     requires filling { IsFilling filled.old }
     requires cell { IsCell filled.old.outer filled.old.inner row column }

@@ -2,9 +2,9 @@
 //!
 //! What is proved:
 //!
-//! `slide`: one slide from an inner corner, which keeps the Knuth class of the reading word.
-//! `rectify`: a straight tableau that slides reach, the only one of the class. Neither allocates
-//! memory, and neither can fail.
+//! `slide` makes one slide from an inner corner, which keeps the Knuth class of the reading word.
+//! `rectify` returns a straight tableau that slides reach, the only straight one whose reading word
+//! is in that class. Neither allocates memory, and neither can fail.
 #![tactic(auto)]
 
 mod empty_cell;

@@ -1,31 +1,41 @@
-//! Rows of growth grids, and of the tableaux that their edges give.
-use crate::made::rows;
+//! Calls that make a growth grid, the tableaux of its edges and a reading word, with their
+//! results.
 use anyhow::Result;
 use growth_diagrams::{Grid, grow};
 use perm_codes::Perm;
-use row_texts::{end, label, start};
+use row_insertion::reading_word;
+use row_texts::{end, label, line, start};
+use skew_shapes::Tableau;
 use std::alloc::Global;
 
-/// Prints the rows of the crate `growth_diagrams`.
+/// Prints a permutation made from its code, its growth grid, both tableaux and a reading word.
 pub fn print(rt: &(impl Print + Alloc<A = Global>)) -> Result<()> {
-    grown(rt, &[2, 1])?;
-    grown(rt, &[3, 1, 2])?;
-    grown(rt, &[2, 3, 1])
-}
-
-/// Prints the grid of a permutation, and both tableaux.
-fn grown(rt: &(impl Print + Alloc<A = Global>), letters: &[u16]) -> Result<()> {
-    let w = Perm::from_letters(rt.alloc(), letters)?;
+    let w = Perm::from_code(rt.alloc(), &[1, 1, 0])?;
+    line(rt, "code 1 1 0", w.letters())?;
     let grid = grow(rt.alloc(), &w)?;
     lines(rt, &grid)?;
     pair(rt, &grid)
 }
 
-/// Prints the rows of both tableaux of a grid.
-fn pair(rt: &impl Print, grid: &Grid) -> Result<()> {
+/// Prints both tableaux of a grid.
+fn pair(rt: &(impl Print + Alloc<A = Global>), grid: &Grid) -> Result<()> {
     let (p, q) = grid.pair_of()?;
     rows(rt, "growth P", p.tableau())?;
-    rows(rt, "growth Q", q.tableau())
+    rows(rt, "growth Q", q.tableau())?;
+    by_rows(rt, p.tableau())
+}
+
+/// Prints the rows of a tableau, a line each.
+fn rows(rt: &impl Print, what: &str, tableau: &Tableau) -> Result<()> {
+    for row in 1..tableau.shape().outer().rows() + 1 {
+        line(rt, what, tableau.row(row))?;
+    }
+    Ok(())
+}
+
+fn by_rows(rt: &(impl Print + Alloc<A = Global>), tableau: &Tableau) -> Result<()> {
+    let word = reading_word(rt.alloc(), tableau)?;
+    line(rt, "the reading word of P", word.as_slice())
 }
 
 fn lines(rt: &impl Print, grid: &Grid) -> Result<()> {

@@ -1,4 +1,4 @@
-//! Rows of a store that keeps one Schubert polynomial.
+//! Calls of a store that keeps one Schubert polynomial, with their results.
 use crate::printing::polynomial;
 use anyhow::Result;
 use coeff_rings::Int;
@@ -9,7 +9,7 @@ use schubert_transition::Memo;
 use sparse_polys::Monomial;
 use std::alloc::Global;
 
-/// Prints the rows of `Memo`.
+/// Prints the results of calls of `Memo`, one line each.
 pub fn print(rt: &(impl Print + Alloc<A = Global>)) -> Result<()> {
     let w = Perm::from_letters(rt.alloc(), &[1, 3, 2])?;
     let v = Perm::from_letters(rt.alloc(), &[2, 1])?;

@@ -1,4 +1,4 @@
-//! Rows of lists of strips and of tableaux by their column readings.
+//! Calls that list strips, and tableaux by their column readings, with their results.
 use crate::shapes::skew;
 use anyhow::Result;
 use calc_base::Lister;
@@ -8,7 +8,7 @@ use skew_shapes::{HorizontalStrips, Skew, VerticalStrips};
 use std::alloc::Global;
 use tableau_iter::Fillings;
 
-/// Prints the rows of the listers of strips and of tableaux.
+/// Prints the results of the listers of strips and of tableaux, one line each.
 pub fn print(rt: &(impl Print + Alloc<A = Global>)) -> Result<()> {
     horizontal(rt)?;
     vertical(rt)?;
@@ -56,7 +56,8 @@ pub(crate) fn listed<L: Lister>(rt: &impl Print, what: &str, list: &mut L) -> Re
     Ok(())
 }
 
-/// Numbers of tableaux that `tests/outside/skew_kostka.py` prints from another program.
+/// Prints numbers of tableaux, which are compared with those that `tests/outside/skew_kostka.py`
+/// prints from another program.
 fn counted(rt: &(impl Print + Alloc<A = Global>)) -> Result<()> {
     count(
         rt,
@@ -102,8 +103,8 @@ fn count(
     said(rt, what, &number_of(rt.alloc(), &shape, case.2)?)
 }
 
-/// The number of tableaux of a shape with a content of at most 512 numbers, if it is at most
-/// 10,000.
+/// The number of tableaux of a shape with a content; 10,000 if there are more, and 0 if the content
+/// has more than 512 numbers.
 fn number_of(alloc: Global, shape: &Skew, content: &[u16]) -> Result<u16> {
     if content.len() > 512 {
         return Ok(0);
@@ -112,7 +113,7 @@ fn number_of(alloc: Global, shape: &Skew, content: &[u16]) -> Result<u16> {
     Ok(length(&mut list))
 }
 
-/// The number of items of a list, if it is at most 10,000.
+/// The number of items of a list; 10,000 if it has more.
 fn length<L: Lister>(list: &mut L) -> u16 {
     for count in 0..10000 {
         if !list.advance() {

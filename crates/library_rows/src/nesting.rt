@@ -1,4 +1,4 @@
-//! Rows of expansions in the monomial basis at the greatest nesting of an expression.
+//! Expansions in the monomial basis of expressions at the greatest nesting, and just over it.
 
 use anyhow::Result;
 use basis_expand::to_monomial;
@@ -6,8 +6,8 @@ use expression_reading::{Expr, Formula};
 use row_texts::said;
 use std::alloc::{AllocError, Global};
 
-/// Prints the rows of the crate `basis_expand`: whether the number 1, negated as often as
-/// the nesting allows and once more, is an expression that is expanded.
+/// Prints the results of calls of the crate `basis_expand`: whether the number 1, negated as often
+/// as the nesting allows and once more, is an expression that is expanded.
 pub fn print(rt: &(impl Print + Alloc<A = Global>)) -> Result<()> {
     let alloc = rt.alloc();
     let answer = expanded(alloc, negated_one(alloc, 4096)?);

@@ -1,4 +1,4 @@
-//! Rows of the plain programs, which follow their definitions.
+//! Calls of the plain programs, which follow their definitions, with their results.
 use anyhow::Result;
 use plain_programs::{
     Core, Signed, plain_alcove, plain_arrangements, plain_beta, plain_column_reading,
@@ -10,7 +10,7 @@ use plain_programs::{
 use row_texts::truth;
 use std::alloc::Global;
 
-/// Prints the rows of the crate `plain_programs`.
+/// Prints the results of calls of the crate `plain_programs`, one line each.
 pub fn print(rt: &(impl Print + Alloc<A = Global>)) -> Result<()> {
     counted(rt)?;
     listed(rt)?;

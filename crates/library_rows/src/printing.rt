@@ -31,12 +31,6 @@ fn answered(rt: &impl Print, what: &str, answer: &Answer) -> Result<()> {
     }
 }
 
-/// Prints an expansion whose coefficients are fractions.
-pub fn expansion(rt: &impl Print, what: &str, list: Lin<Partition, Frac>) -> Result<()> {
-    let sorted = list.sorted_terms()?;
-    fractions(rt, what, &sorted)
-}
-
 fn fractions(rt: &impl Print, what: &str, list: &Terms<Partition, Frac>) -> Result<()> {
     start(rt, what)?;
     for (shape, c) in list.iter() {
@@ -71,7 +65,7 @@ fn powers(rt: &impl Print, what: &str, list: &Terms<Power, Int>) -> Result<()> {
 
 /// Prints a sum of terms y^e·S_w, each by the letters of its permutation and the exponents of its
 /// y.
-pub fn shifts(rt: &impl Print, what: &str, list: &Terms<Shifted, Int>) -> Result<()> {
+fn shifts(rt: &impl Print, what: &str, list: &Terms<Shifted, Int>) -> Result<()> {
     start(rt, what)?;
     for (shifted, c) in list.iter() {
         term(rt, &c.get(), shifted.perm.letters())?;
@@ -87,7 +81,7 @@ pub fn sum(rt: &impl Print, what: &str, list: Lin<Partition, Int>) -> Result<()>
 }
 
 /// Prints terms whose coefficients are integers.
-pub fn shapes(rt: &impl Print, what: &str, list: &Terms<Partition, Int>) -> Result<()> {
+fn shapes(rt: &impl Print, what: &str, list: &Terms<Partition, Int>) -> Result<()> {
     start(rt, what)?;
     for (shape, c) in list.iter() {
         term(rt, &c.get(), shape.parts())?;
@@ -107,12 +101,6 @@ fn monomials(rt: &impl Print, what: &str, list: &Terms<Monomial, Int>) -> Result
         term(rt, &c.get(), monomial.exponents())?;
     }
     end(rt)
-}
-
-/// Prints a sum of Schubert polynomials, each permutation by its letters.
-pub fn schubert_sum(rt: &impl Print, what: &str, list: Lin<Perm, Int>) -> Result<()> {
-    let sorted = list.sorted_terms()?;
-    permutations(rt, what, &sorted)
 }
 
 fn permutations(rt: &impl Print, what: &str, list: &Terms<Perm, Int>) -> Result<()> {

@@ -1,10 +1,10 @@
-//! The skew shapes of the rows.
+//! The skew shapes that the calls take.
 use anyhow::Result;
 use partitions::Partition;
 use skew_shapes::Skew;
 use std::alloc::Global;
 
-/// A skew shape, if these are the partitions of one.
+/// The skew shape outer/inner, if inner is contained in outer.
 pub fn skew(alloc: Global, outer: &[u16], inner: &[u16]) -> Result<Option<Skew>> {
     let outer = Partition::from_parts(alloc, outer)?;
     let inner = Partition::from_parts(alloc, inner)?;

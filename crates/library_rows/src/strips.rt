@@ -1,4 +1,4 @@
-//! Rows of expansions in s times h_k, e_k and p_k.
+//! Expansions in s times h_k, e_k and p_k, with the results.
 ghost use Rattle.std.specs.Prelude.{IfOk};
 ghost use Rattle.strip_rules.specs.Room.{HaveRoomForStrips};
 
@@ -13,7 +13,7 @@ use strip_rules::{add_column, add_hook, add_row};
 /// An expansion in s.
 type Expansion = Lin<Partition, Int>;
 
-/// Prints the rows of the crate `strip_rules`.
+/// Prints the results of calls of the crate `strip_rules`, one line each.
 pub fn print(rt: &(impl Print + Alloc<A = Global>)) -> Result<()> {
     sum(rt, "h_2 s_(1)", with_row(rt.alloc())?)?;
     sum(rt, "e_2 s_(1)", with_column(rt.alloc())?)?;

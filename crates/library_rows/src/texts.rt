@@ -1,46 +1,16 @@
-//! Rows of changes of basis and of texts that are read back.
-use crate::printing::{expansion, read_as};
+//! Calls that read printed texts back, with their results.
+use crate::printing::read_as;
 use anyhow::Result;
-use basis_change::to_basis;
-use basis_expand::to_monomial;
 use block_reader::{read_back, read_one_line};
-use calc_base::SumFault;
-use coeff_rings::Frac;
 use expansion_printer::Kind;
-use expression_reading::{Basis, Expr, Formula};
-use linear_combinations::Lin;
-use partitions::Partition;
-use row_texts::said;
+use expression_reading::Basis;
 use std::alloc::Global;
 
-/// Prints the rows of a change of basis, of blocks and of one-line forms.
+/// Prints the results of reading blocks and one-line forms.
 pub fn print(rt: &(impl Print + Alloc<A = Global>)) -> Result<()> {
-    in_power_sums(rt)?;
     blocks(rt)?;
     line(rt, "the line of s_(2,1) in p", "-1/3*p[3]+1/3*p[1,1,1]\n")?;
     line(rt, "1*s[1] as a line in p", "1*s[1]\n")
-}
-
-/// Prints the Schur polynomial of (2,1) in power sums.
-fn in_power_sums(rt: &(impl Print + Alloc<A = Global>)) -> Result<()> {
-    let label = Partition::from_parts(rt.alloc(), &[2, 1])?;
-    let basis = Basis::S;
-    match Formula::from_tree(Expr::Atom { basis, label }) {
-        Ok(formula) => expansion(rt, "s_(2,1) in p", expanded(rt.alloc(), &formula)?),
-        Err(_) => said(rt, "s_(2,1) in p", &"no formula"),
-    }
-}
-
-/// A formula of at most 15 cells in power sums.
-fn expanded(alloc: Global, formula: &Formula) -> Result<Lin<Partition, Frac>, SumFault> {
-    let list = to_monomial(alloc, formula)?;
-    let Some(bound) = formula.weight() else {
-        return Err(SumFault::Large);
-    };
-    if bound.num == 0 || bound.den == 0 || formula.degree() > 15 {
-        return Err(SumFault::Large);
-    }
-    to_basis(alloc, &list, bound, Basis::P)
 }
 
 fn blocks(rt: &(impl Print + Alloc<A = Global>)) -> Result<()> {

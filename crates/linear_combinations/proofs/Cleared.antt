@@ -49,7 +49,8 @@ module _ {L : Type 0} {eq : L → L → Bool} {is_label : L → Bool} (q : ℕ) 
         a.gains b.gains;
   }
 
--- a list is added by adding its pieces one after another
+-- if gained(xs ++ ys) = gained(xs) ++ gained(ys), adding gained(p) for one element p of a list after another adds
+-- `gained` of the whole list
 module _ {A L : Type 0} (gained : List A → WholeTermsOf L)
     (pieces : (xs ys : List A) → gained (xs ++ ys) ≡ gained xs ++ gained ys)
     {eq : L → L → Bool} {is_label : L → Bool} (q : ℕ) (done : List A) (p : A) (old cur : Terms L)

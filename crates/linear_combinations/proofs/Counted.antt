@@ -1,7 +1,7 @@
 -- Labels with coefficients that a function gives them, and lists in which no coefficient is negative.
 --     each_by-over, -labels, -append    the sums of such a list, its labels and its pieces
 --     counted_counts                    counts are not negative
---     counts_gain, counts_overflow      of two lists with the same sums, a table gains the one if it gains the other
+--     counts_gain, counts_overflow      gains and overflows of a table by two lists with the same sums
 --     replaced_at, replaced_mass        the image of a list under a rule, if its value at each label is known
 use Rattle.std.proofs.Common.{◌≡◌, ℕ, ◌+◌, ◌*◌, Bool, List, [], ◌∷◌, ◌++◌, refl, sym, ap, ap₂, ◌∙◌, subst, inl, inr, arith, ℤ, pos, ◌+ℤ◌, ◌*ℤ◌}
 use Rattle.std.specs.Prelude.{nat_abs, ◌≤ℤ◌}
@@ -35,7 +35,7 @@ counted_counts {L} count labels t m =
     let r = Among_from_map (λ (x : L). (x, pos (count x))) t labels m in
     subst (λ (u : L × ℤ). pos 0 ≤ℤ u.1) (sym r.2) (omega (arith, ints))
 
--- ---- a table gains, or overflows by, one of two lists with the same sums if and only if it does by the other
+-- ---- gains and overflows of a table by c·g and by c·h, for lists g and h with the same sums
 
 module _ {L : Type 0} (g h : WholeTermsOf L) (same : (φ : L → ℤ) → over φ g ≡ over φ h) where
   pub counts_gain : (c : ℤ) (old new : WholeTermsOf L) → Gains old (scaled c g) new → Gains old (scaled c h) new
@@ -63,7 +63,8 @@ module _ {K L : Type 0} (image : K → WholeTermsOf L) (value : K → ℤ) where
       replaced_over image φ terms
       ∙ total_among (λ (t : K × ℤ). t.1 *ℤ over φ (image t.0)) (λ (t : K × ℤ). t.1 *ℤ value t.0) terms (λ t m. ap (λ z. t.1 *ℤ z) (h t m))
 
-  -- the sum of the absolute values that an image has at a label, if no image has a negative coefficient
+  -- if no image has a negative coefficient and value k is the coefficient of x in the image of k, the absolute values
+  -- of the coefficients of x in the image of the list sum up to the sum of |c|·value k over the terms (k, c)
   pub replaced_mass : (eq : L → L → Bool) (x : L) (terms : WholeTermsOf K) → ((k : K) → AreCounts (image k))
       → ((t : K × ℤ) → Among t terms → over (only eq x) (image t.0) ≡ value t.0)
       → pos (mass_at eq x (replaced image terms)) ≡ total (λ (t : K × ℤ). pos (nat_abs t.1) *ℤ value t.0) terms

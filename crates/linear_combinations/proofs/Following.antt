@@ -16,7 +16,7 @@ pub reduced-unless_zero : (c : Fraction) (is_zero : Bool) → InLowestTerms c �
 reduced-unless_zero c true lowest tells = subst (λ (d : Fraction). false ≡ is_reduced d) (sym (tells.0 refl)) refl
 reduced-unless_zero c false lowest tells = sym (is_reduced-lowest c lowest (λ e. let clash : false ≡ true = tells.1 e in cc))
 
--- if the first and the third of three truth values are true, all three together are the second
+-- if `later` and `within` are true, the conjunction of `later`, `reduced` and `within` is `reduced`
 pub all_three : (later reduced within : Bool) → later ≡ true → within ≡ true → reduced ≡ (later && (reduced && within))
 all_three later true within h k = sym (ap (λ b. b && within) h ∙ k)
 all_three later false within h k = sym (ap (λ b. b && false) h)
@@ -53,12 +53,12 @@ pairs-from pairs at p below is =
     let next : suc at ≡ at + 1 = omega arith in
     drop-cons pairs at p below ∙ ap (λ q. q ∷ drop (suc at) pairs) (sym is) ∙ ap (λ k. p ∷ drop k pairs) next
 
--- ---- the steps of a loop over pairs of labels and scalars, of which those so far follow
+-- ---- the steps of a loop over pairs of labels and scalars, in which each pair so far may follow the one before it
 
 module _ {L R : Type 0} (order : L → L → Ordering) (is_label : L → Bool) (value : R → Fraction) (pairs : List (L × R)) (at : ℕ)
     (previous : Option L)
     (so_far : each_follows order is_label value None pairs ≡ each_follows order is_label value previous (drop at pairs)) where
-  -- if the pair at the index does not follow the previous one, the list is not canonical
+  -- if the pair at the index may not follow the previous one, the list is not canonical
   pub follows-not : (p : L × R) → at < length pairs → p ≡ get_or pairs at p → is_next order is_label value previous p ≡ false
       → false ≡ is_canonical_list order is_label value pairs
   follows-not p below is other =

@@ -21,7 +21,7 @@ use Rattle.linear_combinations.proofs.Gains.{over_at, over_append}
 use Rattle.linear_combinations.proofs.Totals.{found-among}
 use lib.IntN.{*ℤ-zero, +ℤ_idl}
 
--- if no number is negative, the sum of those at a label is the sum of their absolute values
+-- if no coefficient of a list is negative, the sum of those at a label is the sum of their absolute values
 pub counts_at : {L : Type 0} (eq : L → L → Bool) (x : L) (g : WholeTermsOf L) → AreCounts g → over (only eq x) g ≡ pos (mass_at eq x g)
 counts_at eq x [] h = refl
 counts_at {L} eq x (t ∷ g) h = by (eq x t.0) t.1 (h t (inl refl)) (counts_at eq x g (λ u m. h u (inr m)))
@@ -42,7 +42,7 @@ only_same x y = by (pointwise nat_eq x y) refl (same_or_not y x)
     by false p (inl e) = absurd (both_ways (pointwise nat_eq x y) p (ap (pointwise nat_eq x) e ∙ nat_list_eq_equiv.refl x))
     by false p (inr n) = sym (ap (λ b. cond b (pos 1) (pos 0)) (same_apart y x n))
 
--- the coefficient of a list at a label is its sum against the test function of the label
+-- the coefficient of a list at x is its pairing with `only` of x, the test function that is 1 at x and 0 elsewhere
 pub coefficient_over : (g : WholeTermsOf (List ℕ)) (x : List ℕ) → coefficient_of g x ≡ over (only (pointwise nat_eq) x) g
 coefficient_over g x =
     coefficient_pair g x ∙ total_ext (λ (t : List ℕ × ℤ). t.1 *ℤ at_only x t.0) (λ (t : List ℕ × ℤ). t.1 *ℤ only (pointwise nat_eq) x t.0) (λ t. ap (λ z. t.1 *ℤ z) (sym (only_same x t.0))) g
@@ -51,13 +51,13 @@ coefficient_over g x =
 pub coefficient_found : (terms : WholeTermsOf (List ℕ)) → IsDistinct (pointwise nat_eq) (keys_of terms) → (x : List ℕ) → coefficient_of terms x ≡ coefficient (pointwise nat_eq) (pos 0) terms x
 coefficient_found terms distinct x = coefficient_over terms x ∙ over_at nat_list_eq_equiv same_partition terms distinct x
 
--- in a table, the coefficient at the label of a term is the number of the term
+-- in a table, the coefficient of the label of a term t is the coefficient of t
 pub coefficient_of_term : (terms : WholeTermsOf (List ℕ)) → IsDistinct (pointwise nat_eq) (keys_of terms) → (t : List ℕ × ℤ) → Among t terms → coefficient_of terms t.0 ≡ t.1
 coefficient_of_term terms distinct t m =
     coefficient_found terms distinct t.0
     ∙ ap (λ (o : Option ℤ). unwrap_or o (pos 0)) (found-among nat_list_eq_equiv same_partition terms distinct t m)
 
--- lists with the same sums are the same, and conversely
+-- if two lists have the same sum against every test function, they have the same coefficients
 pub same_sums : (f g : WholeTermsOf (List ℕ)) → ((φ : List ℕ → ℤ) → over φ f ≡ over φ g) → Same f g
 same_sums f g e = same_from_pair f g e
 

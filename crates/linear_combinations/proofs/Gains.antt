@@ -27,7 +27,7 @@ module _ {L : Type 0} where
   pub over_append : (φ : L → ℤ) (xs ys : WholeTermsOf L) → over φ (xs ++ ys) ≡ over φ xs +ℤ over φ ys
   over_append φ xs ys = total_append (λ (t : L × ℤ). t.1 *ℤ φ t.0) xs ys
 
-  -- ---- what a table gains in several steps, one after another
+  -- ---- gains of a table in several steps, one after another
 
   pub gains_none : (old : WholeTermsOf L) → Gains old [] old
   gains_none old = record { sums = λ φ. sym (+ℤ_idr (over φ old)) }
@@ -124,7 +124,8 @@ module _ {L : Type 0} where
     -- ---- the labels of the table after a gain
 
     module _ {is_label : L → Bool} (old g new : WholeTermsOf L) (is : IsCombination eq is_label whole new) (a : Gains old g new) where
-      -- if P holds for the old labels and for those that are added, it holds for the labels of the new table
+      -- if P holds for the old labels and for those that are added, and no coefficient of the new table is 0, P holds
+      -- for its labels
       pub gains_labels : (P : L → Type 0) → ((t : L × ℤ) → Among t new → (t.1 ≡ pos 0) → ⊥) → HaveLabels P old → HaveLabels P g → HaveLabels P new
       gains_labels P proper hold gained t m =
           let here = over_at new is.distinct t.0 ∙ ap (λ (o : Option ℤ). unwrap_or o (pos 0)) (found-among laws same new is.distinct t m) in
@@ -167,7 +168,7 @@ replaced_append image (t ∷ xs) ys =
 
 -- ---- loops over the pairs of a table
 
--- the pairs so far, the next one, and those still to come
+-- the pairs so far, the next pair and the pairs still to come are together the pairs of the whole list
 pub all_pairs : {A : Type 0} (done rest left begun items all : List A) (p : A) → left ≡ p ∷ rest → done ++ left ≡ begun → begun ≡ items → items ≡ all → done ++ p ∷ rest ≡ all
 all_pairs done rest left begun items all p steps so_far given is = ap (λ es. done ++ es) (sym steps) ∙ so_far ∙ given ∙ is
 
@@ -199,7 +200,8 @@ replaced_over image φ (t ∷ terms) = over_append φ (scaled t.1 (image t.0)) (
 
 -- ---- loops in which gains are added up: over the pairs of a table, and over a list by place
 
--- a list is added by adding its pieces one after another
+-- if gained(xs ++ ys) = gained(xs) ++ gained(ys), adding gained(p) for one element p of a list after another adds
+-- `gained` of the whole list
 module _ {A L : Type 0} (gained : List A → WholeTermsOf L) (pieces : (xs ys : List A) → gained (xs ++ ys) ≡ gained xs ++ gained ys)
     (done : List A) (p : A) (old cur : WholeTermsOf L) (so_far : Gains old (gained done) cur) where
   pub pairs_gain : (next : List A) (new : WholeTermsOf L) → done ++ p ∷ [] ≡ next → Gains cur (gained (p ∷ [])) new → Gains old (gained next) new

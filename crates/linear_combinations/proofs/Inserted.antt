@@ -1,13 +1,16 @@
 -- A label inserted into a table with a scalar.
 --     inserted_at    the index of the label
 --     restored       the table after the old scalar of the label is written back
---     settled        the table after another scalar replaces it, or the label is removed
-use Rattle.std.proofs.Common.{◌≡◌, ◌≢◌, ◌⊎◌, inl, inr, ℕ, suc, ◌+◌, Bool, true, false, cond, not, ◌&&◌, List, [], ◌∷◌, refl, sym, ap, ◌∙◌, arith, pos}
+--     settled        the table after another scalar is written at the label, or the label is removed
+--     some_of        the two cases, each with a weaker condition
+--     in_place       the table after a scalar that is there is replaced, or its label is removed
+use Rattle.std.proofs.Common.{◌≡◌, ◌≢◌, ◌⊎◌, inl, inr, ℕ, suc, ◌+◌, Bool, true, false, cond, not, ◌&&◌, List, [], ◌∷◌, refl, sym, ap, subst, ◌∙◌, arith, pos}
 use Rattle.std.specs.Prelude.{Option, Some, None, slice_get}
 use Rattle.std.specs.Cmp.{IsEquivalence}
 use Rattle.std.specs.List.{position_or_len, IsDistinct}
-use Rattle.std.specs.Map.{keys_of, lookup}
-use Rattle.std.proofs.lemmas.Bool.{and_from}
+use Rattle.std.specs.Map.{keys_of, lookup, lookup_key}
+use Rattle.std.proofs.lemmas.Bool.{and_from, and_parts}
+use Rattle.std.proofs.lemmas.Map.Made.{lookup_key_passes}
 use Rattle.indexmap.specs.IndexMap.{insert_entry}
 use Rattle.indexmap.specs.Layout.{set_value_at}
 use Rattle.coeff_rings.specs.Fractions.{whole, InLowestTerms}
@@ -15,7 +18,7 @@ use Rattle.sym_model.specs.Expansion.{Fraction}
 use Rattle.sym_model.specs.Canonical.{is_reduced}
 use Rattle.linear_combinations.specs.Entries.{coefficient, HasMoreAt, IsTable}
 use Rattle.linear_combinations.proofs.LowestTerms.{is_reduced-lowest}
-use Rattle.linear_combinations.proofs.Tables.{IsCombination-put, IsCombination-taken, HasMoreAt-found, held_found}
+use Rattle.linear_combinations.proofs.Tables.{is_term-found, IsCombination-put, IsCombination-taken, HasMoreAt-found, held_found}
 
 module _ {L R : Type 0} (eq : L → L → Bool) (same : (x y : L) → eq x y ≡ true → x ≡ y) where
   pub inserted_at : (es : List (L × R)) (k : L) (c : R) → slice_get (insert_entry eq es k c) (position_or_len (eq k) (keys_of es)) ≡ Some (k, c)
@@ -85,3 +88,36 @@ module _ {L R : Type 0} {eq : L → L → Bool} (laws : IsEquivalence eq) (same 
         },
         λ x total. HasMoreAt-found eq zero sum old new k (Some s) x total finds,
       )
+
+-- if P and U hold or Q and V hold, U implies F, and V implies G, then P and F hold or Q and G hold
+pub some_of : {P Q U V F G : Type 0} → (U → F) → (V → G) → (P × U) ⊎ (Q × V) → (P × F) ⊎ (Q × G)
+some_of f g (inl (p, u)) = inl (p, f u)
+some_of f g (inr (q, v)) = inr (q, g v)
+
+-- the table after the scalar `had` of a label k that is in the table, which keeps it as `key`, is replaced by a new
+-- one, or the label is removed if the new one is 0
+module _ {L R : Type 0} {eq : L → L → Bool} (laws : IsEquivalence eq) (same : (x y : L) → eq x y ≡ true → x ≡ y) (is_label : L → Bool)
+    (zero : R) (value : R → Fraction) (is_held : R → Type 0) (sum : R → R → R) (zero_is : value zero ≡ whole (pos 0)) (zero_held : is_held zero)
+    (same_value : (a b : R) → value a ≡ value b → a ≡ b) (lowest : (a : R) → is_held a → InLowestTerms (value a))
+    (old new : List (L × R)) (k key : L) (had s : R) where
+  pub in_place : IsTable eq is_label zero value is_held old → lookup (eq k) old ≡ Some had → lookup_key (eq k) old ≡ Some key → is_held s → IsDistinct eq (keys_of new)
+      → ((value s ≡ whole (pos 0)) × ((q : L) → lookup (eq q) new ≡ cond (eq key q) None (lookup (eq q) old)))
+      ⊎ ((value s ≢ whole (pos 0)) × ((q : L) → lookup (eq q) new ≡ cond (eq key q) (Some s) (lookup (eq q) old)))
+      → Settled laws same is_label zero value is_held sum zero_is zero_held same_value lowest old old new k had s
+  in_place was found stored held distinct then =
+      settled laws same is_label zero value is_held sum zero_is zero_held same_value lowest old old new k had s was
+      (and_parts _ _ (is_term-found laws same is_label value old was.combination.proper k had found)).1 held again distinct
+      (some_of (at None) (at (Some s)) then)
+    where
+      is : k ≡ key
+      is = same k key (lookup_key_passes (eq k) old key stored)
+
+      at : (o : Option R) → ((q : L) → lookup (eq q) new ≡ cond (eq key q) o (lookup (eq q) old)) → (q : L) → lookup (eq q) new ≡ cond (eq k q) o (lookup (eq q) old)
+      at o h = subst (λ l. (q : L) → lookup (eq q) new ≡ cond (eq l q) o (lookup (eq q) old)) (sym is) h
+
+      again : (q : L) → lookup (eq q) old ≡ cond (eq k q) (Some had) (lookup (eq q) old)
+      again q = by (eq k q) refl
+        where
+          by : (b : Bool) → eq k q ≡ b → lookup (eq q) old ≡ cond b (Some had) (lookup (eq q) old)
+          by true p = ap (λ x. lookup (eq x) old) (sym (same k q p)) ∙ found
+          by false p = refl

@@ -1,4 +1,4 @@
--- Masses, labels and values of lists that are added, for any labels.
+-- Masses (sums of absolute values), labels and values of lists that are added, for any type of labels.
 use Rattle.std.proofs.Common.{◌≡◌, ℕ, ◌+◌, ◌*◌, ◌^◌, ◌<◌, ◌≤◌, max, Bool, true, false, cond, List, [], ◌∷◌, ◌++◌, length, refl, sym, ap, ◌∙◌, subst, inl, inr, arith, ℤ, pos, ◌*ℤ◌}
 use Rattle.std.specs.Prelude.{nat_abs, Result, Ok, Err, OnOk}
 use Rattle.std.proofs.lemmas.Bool.{and_parts}
@@ -20,7 +20,7 @@ use Rattle.linear_combinations.proofs.Totals.{term-among, total_same}
 use Rattle.linear_combinations.proofs.Gains.{mass_at_append, over_only_within, mass_at_within, gains_labels}
 use native.Mathlib.Nat.{mul-le-mul_left}
 
--- if P and Q hold of a result `Ok` and imply R, then R holds of it
+-- if P and Q hold whenever the result r is `Ok`, and together imply R, then R holds whenever r is `Ok`
 pub on_both : {A E P Q R : Type 0} (r : Result A E) → OnOk r P → OnOk r Q → (P → Q → R) → OnOk r R
 on_both (Ok x) h k f = f h k
 on_both (Err e) h k f = tt
@@ -60,7 +60,8 @@ module _ {L : Type 0} where
   labels_each P a (x ∷ xs) h t (inl e) = subst P (sym (ap (λ (u : L × ℤ). u.0) e)) (h x (inl refl))
   labels_each P a (x ∷ xs) h t (inr m) = labels_each P a xs (λ y n. h y (inr n)) t m
 
-  -- if a label has a coefficient in a list, and P holds for the labels of the list, then P holds for this label
+  -- if a term with the label x has a coefficient other than 0, and P holds for the labels of the list, then P holds for
+  -- x
   pub label_held : (eq : L → L → Bool) → ((x y : L) → eq x y ≡ true → x ≡ y) → (P : L → Type 0) (terms : WholeTermsOf L) (x : L)
       → HaveLabels P terms → 0 < mass_at eq x terms → P x
   label_held eq same P [] x h l = absurd (omega arith)
@@ -91,7 +92,8 @@ module _ {L : Type 0} where
         → (φ : L → ℤ) → over φ first ≡ over φ second
     over_same first second is also equal φ = total_same laws same (pos 0) whole refl first second is also (λ (t : L × ℤ). t.1 *ℤ φ t.0) equal
 
-  -- a list has the value f if its sums are those of f
+  -- a list of terms (x, c) has the value f if, for every function φ of exponents, the sum of c times the pairing of
+  -- polynomial x with φ is the pairing of f with φ
   pub represents_sums : (polynomial : L → Poly) (terms : WholeTermsOf L) (f : Poly) → ((φ : List ℕ → ℤ) → over (λ x. pair (polynomial x) φ) terms ≡ pair f φ)
       → Represents polynomial (as_fractions terms) f 1
   represents_sums polynomial terms f h =

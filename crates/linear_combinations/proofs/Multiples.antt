@@ -64,7 +64,7 @@ module _ {L R : Type 0} where
   nothing_left (x ∷ rest) h = absurd (omega arith)
 
 module _ {L R : Type 0} (P : R → R → Type 0) (before done rest was now : List (L × R)) (at end : ℕ) (all : before ++ rest ≡ was) (is : now ≡ done ++ rest) (related : Relates P before done) (place : length done ≡ at) (ends : end ≡ length was) where
-  -- if the index `at` is below `end`, it is an index of the list
+  -- if the index `at` is below `end`, it is an index of the list `now`
   pub place_within : at < end → at < length now
   place_within h =
       let a = length-both before rest in
@@ -96,7 +96,8 @@ product-nonzero r s l k other also e =
     let size : unsigned_abs (r.0 *ℤ s.0) ≡ unsigned_abs r.0 * unsigned_abs s.0 = unsigned_abs-mul r.0 s.0 in
     omega arith
 
--- the second scalar is the product of the first and c, which the operation returns
+-- `checked a c` returns b, the product of a and c; its value is the product of their values in lowest terms, and the
+-- ring can hold b
 abbrev pub IsProduct : {R : Type 0} → (R → Type 0) → (R → Fraction) → (R → R → Option R) → (R → R → R) → R → R → R → Type 0
 IsProduct is_held value checked product c a b =
     (checked a c ≡ Some b) × (b ≡ product a c) × (value b ≡ fraction_product (value a) (value c)) × InLowestTerms (value b) × is_held b
@@ -110,7 +111,7 @@ zero_product value zero product same values none c low =
 
 module _ {L R : Type 0} (eq : L → L → Bool) (is_label : L → Bool) (is_held : R → Type 0) (value : R → Fraction) (checked : R → R → Option R)
     (product : R → R → R) (c : R) where
-  -- if the scalars of a list are products by c place by place, the list is the other one times c, label by label
+  -- if xs and ys have the same labels, and the scalars of ys are those of xs times c, place by place, then ys is xs times c, label by label
   pub IsMultipleOf-Relates : (zero : R) → product zero c ≡ zero → (xs ys : List (L × R)) → Relates (IsProduct is_held value checked product c) xs ys → IsMultipleOf eq zero product xs c ys
   IsMultipleOf-Relates zero none xs ys h label = found xs ys h
     where
@@ -125,7 +126,7 @@ module _ {L R : Type 0} (eq : L → L → Bool) (is_label : L → Bool) (is_held
           by true rest = h.1.1
           by false rest = rest
 
-  -- if the scalars of a list are such products, its coefficients are ones that the ring can hold
+  -- if xs and ys have the same labels, and the scalars of ys are those of xs times c, the ring can hold the coefficients of ys
   pub held-Relates : (zero : R) → is_held zero → (xs ys : List (L × R)) → Relates (IsProduct is_held value checked product c) xs ys → AreHeld eq zero is_held ys
   held-Relates zero none xs ys h = record { at_label = λ label. found label xs ys h }
     where

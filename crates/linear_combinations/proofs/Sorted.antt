@@ -44,13 +44,13 @@ module _ {L R : Type 0} {eq : L → L → Bool} {order : L → L → Ordering} {
 -- ---- a list with its pairs in another order
 
 module _ {L X : Type 0} {eq : L → L → Bool} (laws : IsEquivalence eq) (same : (x y : L) → eq x y ≡ true → x ≡ y) (old new : List (L × X)) (moved : IsPermutation old new) where
-  -- if the keys of a list differ, so do those of the list in another order
+  -- if the keys of a list are distinct, so are those of the list in another order
   pub distinct-moved : IsDistinct eq (keys_of old) → IsDistinct eq (keys_of new)
   distinct-moved distinct =
       let key : L × X → L = λ e. e.0 in
       IsDistinct-IsPermutation eq laws.symm (map key old) (map key new) (IsPermutation-map key old new moved) distinct
 
-  -- if the keys of a list differ, a look-up finds the same in the list in another order
+  -- if the keys of a list are distinct, a look-up has the same result in the list in another order
   pub lookup-moved : IsDistinct eq (keys_of old) → (k : L) → lookup (eq k) new ≡ lookup (eq k) old
   lookup-moved distinct k = by (lookup (eq k) new) (lookup (eq k) old) refl refl
     where

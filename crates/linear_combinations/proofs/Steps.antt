@@ -1,4 +1,4 @@
--- Loops over the pairs of a table: one more pair.
+-- Statements about the pairs of a table that a loop has reached, and their change when the loop takes one more pair.
 use Rattle.std.proofs.Common.{◌≡◌, Bool, true, false, cond, List, [], ◌∷◌, ◌++◌, append-nil, pos, refl, sym, ap, ◌∙◌, subst, if◌then◌else◌}
 use Rattle.std.specs.Prelude.{Option, Some, None, Result, Ok, Err, OnOk, IfOk, IsErrAnd, IsErrOf}
 use Rattle.std.specs.Cmp.{IsEquivalence}
@@ -36,7 +36,7 @@ module _ {L X : Type 0} where
       by false h rest = rest h
 
 module _ {L X : Type 0} {eq : L → L → Bool} (laws : IsEquivalence eq) where
-  -- if the keys of a list differ, the key of the next pair is not among those of the pairs before
+  -- if the keys of a list are distinct, the key of the next pair is not among those of the pairs before
   pub absent_before : (done : List (L × X)) (e : L × X) (ys : List (L × X)) → IsDistinct eq (keys_of (done ++ e ∷ ys)) → lookup (eq e.0) done ≡ None
   absent_before [] e ys h = refl
   absent_before (x ∷ done) e ys h = by (eq e.0 x.0) refl (absent_before done e ys (IsDistinct-tail eq x.0 (keys_of (done ++ e ∷ ys)) h))
@@ -47,14 +47,14 @@ module _ {L X : Type 0} {eq : L → L → Bool} (laws : IsEquivalence eq) where
           (lookup-none (eq e.0) (done ++ e ∷ ys) (none_past_head laws e.0 x (done ++ e ∷ ys) h p)))
       by false p rest = rest
 
-  -- if the keys of a list differ, looking up the key of the next pair finds its scalar
+  -- if the keys of a list are distinct, looking up the key of the next pair finds its scalar
   pub found_next : (done : List (L × X)) (e : L × X) (ys : List (L × X)) → IsDistinct eq (keys_of (done ++ e ∷ ys)) → lookup (eq e.0) (done ++ e ∷ ys) ≡ Some e.1
   found_next done e ys h =
       found_past (eq e.0) done (e ∷ ys) (absent_before done e ys h) ∙ ap (λ b. cond b (Some e.1) (lookup (eq e.0) ys)) (laws.refl e.0)
 
 module _ {L R : Type 0} {eq : L → L → Bool} (laws : IsEquivalence eq) (same : (x y : L) → eq x y ≡ true → x ≡ y) (zero : R) (sum : R → R → R)
     (done : List (L × R)) (k : L) (v : R) (none : lookup (eq k) done ≡ None) where
-  -- with one more pair (k, v), the coefficient at k is v, and the others are unchanged
+  -- with one more pair (k, v), the coefficient at k is v, and the other coefficients are unchanged
   pub coefficient-push : (q : L) → coefficient eq zero (done ++ (k, v) ∷ []) q ≡ (if eq k q then v else coefficient eq zero done q)
   coefficient-push q = by (eq k q) refl
     where
@@ -67,7 +67,7 @@ module _ {L R : Type 0} {eq : L → L → Bool} (laws : IsEquivalence eq) (same 
   absent-coefficient : coefficient eq zero done k ≡ zero
   absent-coefficient = ap (λ o. unwrap_or o zero) none
 
-  -- the sum of the pairs so far and another list has at the next label the coefficient of the other list
+  -- if `cur` is the sum of `first` and the pairs so far, the coefficient of `cur` at the next label is that of `first`
   pub sum-before : (first cur : List (L × R)) → sum (coefficient eq zero first k) zero ≡ coefficient eq zero first k → IsSumOf eq zero sum first done cur → coefficient eq zero cur k ≡ coefficient eq zero first k
   sum-before first cur neutral sums = sums k ∙ ap (λ r. sum (coefficient eq zero first k) r) absent-coefficient ∙ neutral
 
@@ -79,7 +79,8 @@ module _ {L R : Type 0} {eq : L → L → Bool} (laws : IsEquivalence eq) (same 
       by true p = ap (λ r. sum r v) (sum-before first cur neutral sums ∙ ap (coefficient eq zero first) (same k q p))
       by false p = sums q
 
-  -- if the sums so far and the next one are not refused, no sum is
+  -- if the ring refuses neither the sums with the pairs so far nor the one with the next pair, it refuses no sum with
+  -- these pairs
   pub fits-next : (P : R → R → Type 0) (first : List (L × R)) → ((q : L) → P (coefficient eq zero first q) (coefficient eq zero done q) → ⊥) → (P (coefficient eq zero first k) v → ⊥) → (q : L) → P (coefficient eq zero first q) (coefficient eq zero (done ++ (k, v) ∷ []) q) → ⊥
   fits-next P first before here q h = by (eq k q) refl (subst (P (coefficient eq zero first q)) (coefficient-push q) h)
     where
@@ -102,7 +103,7 @@ module _ {R : Type 0} {is_held : R → Type 0} {value : R → Fraction} {checked
   pub fits-zero_left : (a b : R) → value a ≡ whole (pos 0) → IsRefused is_held checked a b → ⊥
   fits-zero_left a b e r = let h : checked a b ≡ Some b = (answers a b r.left_held r.right_held).zero_left e in let f = r.refused in cc
 
--- if the checked operation has a result for a and b, it is not refused there
+-- if the checked operation has a result for a and b, the operation is not refused for a and b
 pub answered : {R : Type 0} {is_held : R → Type 0} {checked : R → R → Option R} (a b s : R) → checked a b ≡ Some s → IsRefused is_held checked a b → ⊥
 answered a b s e r = let none = r.refused in cc
 
@@ -111,11 +112,11 @@ pub error_is : {T E : Type 0} (r : Result T E) (e l : E) → IsErrAnd r (λ y. y
 error_is (Ok x) e l h k = cc
 error_is (Err y) e l h k = cc
 
--- if nothing is left, the pairs so far are all
+-- if no pair is left, the pairs so far are all pairs
 pub all_done : {A : Type 0} (done rest all entries : List A) → rest ≡ [] → done ++ rest ≡ all → all ≡ entries → done ≡ entries
 all_done done rest all entries none so_far is = sym (append-nil done) ∙ ap (λ es. done ++ es) (sym none) ∙ so_far ∙ is
 
--- if P holds for a result `Ok` and implies Q, then Q holds for it
+-- if P holds whenever the result r is `Ok`, and P implies Q, then Q holds whenever r is `Ok`
 pub on_ok : {A E P Q : Type 0} (r : Result A E) → OnOk r P → (P → Q) → OnOk r Q
 on_ok (Ok x) h f = f h
 on_ok (Err e) h f = tt
@@ -124,7 +125,7 @@ pub IsCombination-empty : {L R : Type 0} (eq : L → L → Bool) (is_label : L �
 unfolding IsDistinct
 IsCombination-empty eq is_label value = record { distinct = tt; proper = refl }
 
--- if P holds for the value of a result `Ok` and implies Q for each value, then Q holds for it
+-- if P x holds whenever the result is `Ok x`, and P implies Q for each value, then Q x holds whenever it is `Ok x`
 pub if_answered : {T E : Type 0} {P Q : T → Type 0} (r : Result T E) → IfOk r P → ((x : T) → P x → Q x) → IfOk r Q
 if_answered (Ok x) h f = f x h
 if_answered (Err e) h f = tt

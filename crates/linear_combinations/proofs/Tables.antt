@@ -31,7 +31,8 @@ module _ {L R : Type 0} {eq : L → L → Bool} (laws : IsEquivalence eq) (same 
       by true p found rest = here (same k e.0 p) cc
       by false p found rest = rest found
 
-  -- if each look-up finds a coefficient that passes, the list is one of terms
+  -- if the keys of a list are distinct and each look-up finds a coefficient that passes the test of a term, or none,
+  -- the list is one of terms
   pub are_terms-found : (es : List (L × R)) → IsDistinct eq (keys_of es) → ((k : L) (c : R) → lookup (eq k) es ≡ Some c → (is_reduced (value c) && is_label k) ≡ true) → are_terms value is_label es ≡ true
   are_terms-found [] distinct h = refl
   are_terms-found (e ∷ es) distinct h =
@@ -45,11 +46,12 @@ module _ {L R : Type 0} {eq : L → L → Bool} (laws : IsEquivalence eq) (same 
           by true p = let none = lookup-none (eq k) es (none_past_head laws k e es distinct p) in cc
           by false p = h k c (ap (λ b. cond b (Some e.1) (lookup (eq k) es)) p ∙ found)
 
-  -- a list is a combination if its keys differ and each of its pairs is a term
+  -- a list is a combination if its keys are distinct and each coefficient that a look-up finds passes the test of a
+  -- term
   pub IsCombination-found : (es : List (L × R)) → IsDistinct eq (keys_of es) → ((k : L) (c : R) → lookup (eq k) es ≡ Some c → (is_reduced (value c) && is_label k) ≡ true) → IsCombination eq is_label value es
   IsCombination-found es distinct h = record { distinct = distinct; proper = are_terms-found es distinct h }
 
-  -- each coefficient that a look-up finds, or 0, is in lowest terms
+  -- in a list of terms, the coefficient of each label, which is 0 if the label does not occur, is in lowest terms
   pub lowest-coefficient : (zero : R) → InLowestTerms (value zero) → (es : List (L × R)) → are_terms value is_label es ≡ true → (k : L) → InLowestTerms (value (coefficient eq zero es k))
   lowest-coefficient zero low [] h k = low
   lowest-coefficient zero low (t ∷ es) h k = by (eq k t.0) (lowest-coefficient zero low es (and_parts _ _ h).1 k)
@@ -64,7 +66,7 @@ module _ {L R : Type 0} {eq : L → L → Bool} (laws : IsEquivalence eq) (same 
   -- ---- a table with a pair inserted, or with a label removed
 
   module _ (old new : List (L × R)) (k : L) where
-    -- if a pair with a term is inserted into a combination, the result is a combination
+    -- if a pair that passes the test of a term is inserted into a combination, the result is a combination
     pub IsCombination-put : (v : R) → IsCombination eq is_label value old → (is_reduced (value v) && is_label k) ≡ true → IsDistinct eq (keys_of new) → ((q : L) → lookup (eq q) new ≡ cond (eq k q) (Some v) (lookup (eq q) old)) → IsCombination eq is_label value new
     IsCombination-put v was passes distinct finds = IsCombination-found new distinct (λ q w found. by q w (eq k q) refl (sym (finds q) ∙ found))
       where
@@ -83,8 +85,8 @@ module _ {L R : Type 0} {eq : L → L → Bool} (laws : IsEquivalence eq) (same 
         by q w false e = is_term-found old was.proper q w e
 
 module _ {L R : Type 0} (eq : L → L → Bool) (zero : R) (sum : R → R → R) where
-  -- if a look-up at k finds the old coefficient plus c, and every other look-up the same as before, new is old with c
-  -- more at k
+  -- if the coefficient of new at k is that of old plus c, and every other look-up finds the same as before, new is old
+  -- with c more at k
   pub HasMoreAt-found : (old new : List (L × R)) (k : L) (o : Option R) (c : R) → unwrap_or o zero ≡ sum (coefficient eq zero old k) c → ((q : L) → lookup (eq q) new ≡ cond (eq k q) o (lookup (eq q) old)) → HasMoreAt eq zero sum old k c new
   HasMoreAt-found old new k o c total finds q = ap (λ x. unwrap_or x zero) (finds q) ∙ by (eq k q)
     where
@@ -98,7 +100,8 @@ module _ {L R : Type 0} (eq : L → L → Bool) (zero : R) (is_held : R → Type
   pub held_nothing : is_held zero → AreHeld eq zero is_held []
   held_nothing h = record { at_label = λ k. h }
 
-  -- if a look-up at k finds a coefficient that the ring can hold, and every other look-up the same as before, the ring can hold all coefficients
+  -- if the ring can hold the old coefficients and the one that a look-up at k now finds, and all other look-ups are
+  -- unchanged, it can hold all coefficients of the new list
   pub held_found : (old new : List (L × R)) (k : L) (o : Option R) → AreHeld eq zero is_held old → is_held (unwrap_or o zero)
       → ((q : L) → lookup (eq q) new ≡ cond (eq k q) o (lookup (eq q) old)) → AreHeld eq zero is_held new
   held_found old new k o was here finds = record { at_label = λ q. subst is_held (sym (ap (λ x. unwrap_or x zero) (finds q))) (by q (eq k q)) }

@@ -53,7 +53,7 @@ module _ {L R : Type 0} {eq : L → L → Bool} (laws : IsEquivalence eq) (same 
       (λ m. let found = found-among terms tail t m in let none = lookup-none (eq t.0) terms (none_past_head laws t.0 t terms distinct (laws.refl t.0)) in cc, once terms tail)
 
   module _ (zero : R) (value : R → Fraction) (zero_value : value zero ≡ whole (pos 0)) {is_label : L → Bool} where
-    -- if a second list has the coefficient of a term t at its label, t occurs in the second list
+    -- if a second list has, at the label of a term t, the coefficient of t, then t occurs in it
     pub carried : (first second : List (L × R)) → IsCombination eq is_label value first → (t : L × R) → Among t first → coefficient eq zero second t.0 ≡ coefficient eq zero first t.0 → Among t second
     carried first second is t m e = by (lookup (eq t.0) second) refl
       where
@@ -76,7 +76,7 @@ module _ {L R : Type 0} {eq : L → L → Bool} (laws : IsEquivalence eq) (same 
           total_same_members f first second (once first is.distinct) (once second also.distinct)
           (λ t m. carried first second is t m (equal t.0)) (λ t m. carried second first also t m (sym (equal t.0)))
 
-      -- a combination with the same coefficients has at least as many terms
+      -- if two combinations have the same coefficients, the second has at least as many terms as the first
       pub length_same : HasSameCoefficients eq zero first second → length first ≤ length second
       length_same equal = length_within second first (once first is.distinct) (λ t m. carried first second is t m (equal t.0))
 
@@ -89,7 +89,7 @@ module _ {L R : Type 0} {eq : L → L → Bool} (laws : IsEquivalence eq) (same 
       by false none rest = rest none
 
   module _ (zero : R) (f : L → R → ℤ) (empty : (l : L) → f l zero ≡ pos 0) (k : L) where
-    -- the sum of f over the terms at the label k is the value of f at k and its coefficient
+    -- if f l 0 = 0 for all labels l, the sum of f over the terms with the label k is f k c, for c the coefficient of k
     total-at : (terms : List (L × R)) → IsDistinct eq (keys_of terms) → total (λ (t : L × R). f t.0 t.1) (filter (λ (t : L × R). eq k t.0) terms) ≡ f k (coefficient eq zero terms k)
     total-at [] distinct = sym (empty k)
     total-at (t ∷ terms) distinct = by (eq k t.0) refl (total-at terms (IsDistinct-tail eq t.0 (keys_of terms) distinct))
@@ -102,7 +102,8 @@ module _ {L R : Type 0} {eq : L → L → Bool} (laws : IsEquivalence eq) (same 
             ∙ ap (λ x. f x t.1) (sym (same k t.0 p))
         by false p h = h
 
-    -- if new is old with c more at the label k, the two sums differ as their values at k do
+    -- if f l 0 = 0 for all labels l, and new is old with more at the label k, then (sum of f over new) + f k (old
+    -- coefficient of k) = (sum of f over old) + f k (new coefficient of k)
     pub total-more : (value : R → Fraction) (sum : R → R → R) → value zero ≡ whole (pos 0) → {is_label : L → Bool} (old new : List (L × R)) → IsCombination eq is_label value old → IsCombination eq is_label value new → (c : R) → HasMoreAt eq zero sum old k c new
         → total (λ (t : L × R). f t.0 t.1) new +ℤ f k (coefficient eq zero old k) ≡ total (λ (t : L × R). f t.0 t.1) old +ℤ f k (coefficient eq zero new k)
     total-more value sum zero_value old new is also c more =

@@ -1,4 +1,5 @@
--- The weight of a list, if each label has a weight (`weighed` of specs/Gains).
+-- The weight of a list, which is the sum of |c|·f(label) over its terms, for a weight f of labels (`weighed` of
+-- specs/Gains).
 --     gains_weighed, gains_mass, overflow_weighed    the weight of a table after a gain, and at an overflow
 --     weighed_replaced, weighed_images               each label replaced by a list
 use Rattle.std.proofs.Common.{◌≡◌, ℕ, zero, suc, ◌+◌, ◌*◌, ◌^◌, ◌≤◌, Bool, true, false, cond, [], ◌∷◌, ◌++◌, refl, ap, ap₂, ◌∙◌, inl, inr, arith, ℤ, pos, negsuc, ◌*ℤ◌}

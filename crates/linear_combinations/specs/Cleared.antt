@@ -1,5 +1,5 @@
--- Terms added to a table of fractions, over a common denominator: there it is a table of integers, which gains a list
--- of terms or overflows.
+-- Terms added to a table of fractions: times a common denominator it is a table of integers, which gains a list of
+-- terms or overflows.
 use Rattle.std.specs.Prelude.{ℕ, ◌^◌, ◌<◌, pos, Bool, map}
 use Rattle.std.specs.Int.{◌∣◌}
 use Rattle.sym_model.specs.Expansion.{Fraction, Terms}
@@ -26,8 +26,8 @@ numerators_over {L} q terms = map (λ (t : L × Fraction). (t.0, numerator_over 
 abbrev pub AreCleared : {L : Type 0} → (L → L → Bool) → ℕ → Terms L → Type 0
 AreCleared {L} eq q terms = (label : L) → (coefficient eq (pos 0, 1) terms label).1 ∣ q
 
--- VALUE: of tables, with q > 0 a common denominator: q·new = q·old + gained as formal sums; new is a table if old is
--- one, and q is a common denominator of new too
+-- VALUE, for tables of fractions with a common denominator q > 0: q·new = q·old + gained as formal sums; new is a table
+-- if old is one, and q is a common denominator of new too
 pub record GainsCleared {L : Type 0} (eq : L → L → Bool) (is_label : L → Bool) (q : ℕ)
     (old : Terms L) (gained : WholeTermsOf L) (new : Terms L) : Type 0 where
   pub table : IsCombination eq is_label (λ (c : Fraction). c) old
@@ -39,14 +39,14 @@ pub record GainsCleared {L : Type 0} (eq : L → L → Bool) (is_label : L → B
 abbrev pub OverflowsCleared : {L : Type 0} → (L → L → Bool) → ℕ → Terms L → WholeTermsOf L → Type 0
 OverflowsCleared eq q old gained = Overflows eq (numerators_over q old) gained
 
--- the list gains c times the terms, over each common denominator
+-- new = old + c·terms, stated over each common denominator q of c and of the coefficients of old
 abbrev pub GainsMultiple : {L : Type 0} → (L → L → Bool) → (L → Bool) → Fraction → WholeTermsOf L
     → Terms L → Terms L → Type 0
 GainsMultiple eq is_label c terms old new =
     (q : ℕ) → IsDenominator q c → AreCleared eq q old
     → GainsCleared eq is_label q old (scaled (numerator_over q c) terms) new
 
--- c times the terms overflows the list, over each common denominator below 2^127
+-- OVERFLOW: adding c·terms to old overflows over each common denominator q < 2^127 of c and of the coefficients of old
 abbrev pub OverflowsMultiple : {L : Type 0} → (L → L → Bool) → Fraction → WholeTermsOf L → Terms L
     → Type 0
 OverflowsMultiple eq c terms old =

@@ -77,14 +77,14 @@ HasMoreAt {L} eq zero sum old label c new = (other : L) → coefficient eq zero 
     ≡ (if eq label other then sum
     (coefficient eq zero old label) c else coefficient eq zero old other)
 
--- the coefficient of each label is the sum of those in the two other lists
+-- the coefficient of each label in `both` is the sum of those in the lists `first` and `second`
 abbrev pub IsSumOf : {L R : Type 0} → (L → L → Bool) → R → (R → R → R) → List (L × R) → List (L × R)
     → List (L × R) → Type 0
 IsSumOf {L} eq zero sum first second both =
     (label : L) → coefficient eq zero both label
     ≡ sum (coefficient eq zero first label) (coefficient eq zero second label)
 
--- the coefficient of each label is that of the other list times c
+-- the coefficient of each label in `multiple` is that in the list `entries` times c
 abbrev pub IsMultipleOf : {L R : Type 0} → (L → L → Bool) → R → (R → R → R) → List (L × R) → R
     → List (L × R) → Type 0
 IsMultipleOf {L} eq zero product entries c multiple =
@@ -103,7 +103,7 @@ pub record IsRefused {R : Type 0} (is_held : R → Type 0) (checked : R → R �
   pub right_held : is_held b
   pub refused : checked a b ≡ None
 
--- at some label the ring refuses the sum of the two coefficients
+-- at some label the ring refuses the sum of the coefficients in the two lists
 abbrev pub RefusesSomeSum : {L R : Type 0} → (L → L → Bool) → R → (R → Type 0) → (R → R → Option R)
     → List (L × R) → List (L × R) → Type 0
 RefusesSomeSum {L} eq zero is_held checked first second =

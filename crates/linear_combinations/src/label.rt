@@ -12,8 +12,8 @@ use partitions::Partition;
 use std::cmp::Ordering;
 use std::hash::Hash;
 
-/// Labels of terms. Equal labels are the same label, and labels have one order, in which they are
-/// printed.
+/// Labels of terms. Labels that compare as equal are the same value. Labels have one order, in
+/// which they are printed.
 pub trait Label: Eq + Hash + Drop {
     // Whether a label lies in the limits of its type, as every value of the type does.
     ghost is_label: { Self → Bool };
@@ -24,7 +24,8 @@ pub trait Label: Eq + Hash + Drop {
     // The order in which labels are printed.
     ghost order: { Self → Self → Ordering };
 
-    /// Compares this label with `other` in the printed order. `Equal` only for equal labels.
+    /// Compares this label with `other` in the printed order. The result is `Equal` only if they
+    /// are equal.
     fn cmp_printed(&self, other: &Self) -> Ordering
         ensures value { result ≡ order self.now other.now }
         ensures equal { result ≡ Ordering.Equal → self.now ≡ other.now }

@@ -21,8 +21,8 @@ use indexmap::map::Iter;
 use std::alloc::{AllocError, Global};
 use std::marker::Model;
 
-/// A finite map from labels to coefficients that are not 0. A contract sees it as a list of terms
-/// in no particular order: each label once, with its coefficient.
+/// A finite map from labels to coefficients that are not 0. In contracts, it is a list of terms in
+/// no particular order: each label once, with its coefficient.
 #[derive(Drop)]
 pub struct Lin<L: Label, R: Scalar> {
     table: IndexMap<L, R>,
@@ -90,7 +90,26 @@ impl<L: Label, R: Scalar> Lin<L, R> {
         add_to(&mut self.table, label, c)
     }
 
-    /// An equal map.
+    /// Adds `c` to the label's coefficient, and removes the label if the sum is 0. Returns `Large`
+    /// if and only if the ring refuses that sum; on every error the map is unchanged. The label is
+    /// copied only if it is new in the map, so `Large` comes before any allocation.
+    pub(crate) fn add_copied(&mut self, label: &L, c: R) -> Result<(), SumFault>
+        ensures ok { OnOk result (HasMoreAt L.eq R.zero R.sum self.old label.now c self.new) }
+        ensures large { IsErrOf result SumFault.Large
+            ↔ IsRefused R.is_held R.checked_sum (coefficient L.eq R.zero self.old label.now) c }
+        ensures err { OnErr result (self.new ≡ self.old) }
+        ensures tables { AreTables L.eq L.is_label R.zero R.value R.is_held self.old self.new }
+    {
+        let Some((at, _, had)) = self.table.get_full(label) else {
+            insert_new(&mut self.table, label.copy()?, c)?;
+            return Ok(());
+        };
+        let sum = had.add(c).ok_or(SumFault::Large)?;
+        set_at(&mut self.table, at, sum);
+        Ok(())
+    }
+
+    /// A map with the same coefficients.
     pub fn copy(&self) -> Result<Lin<L, R>, NoMemory>
         ensures same { IfOk result (HasSameCoefficients L.eq R.zero self.now) }
         ensures combination { IfOk result (IsCombination L.eq L.is_label R.value) }
@@ -160,7 +179,8 @@ impl<L: Label, R: Scalar> Lin<L, R> {
         Ok(Terms::from_sorted(pairs))
     }
 
-    /// The labels with their coefficients, in the order of the list that a contract sees.
+    /// An iterator over the labels with their coefficients, in the order of the list that
+    /// represents the map in contracts.
     pub fn iter(&self) -> Iter<'_, L, R>
         ensures rest { result ≡ self.now }
         ensures runs { ShowsInOrder (deref_pair {K = L} {X = R}) }
@@ -202,6 +222,28 @@ fn add_to<L: Label, R: Scalar>(table: &mut IndexMap<L, R>, label: L, c: R) -> Re
         return Err(SumFault::Large);
     };
     set_at(table, at, sum);
+    Ok(())
+}
+
+/// Inserts a label that is not in the table with the scalar `c`, unless `c` is 0.
+fn insert_new<L: Label, R: Scalar>(
+    table: &mut IndexMap<L, R>,
+    label: L,
+    c: R,
+) -> Result<(), NoMemory>
+    requires table { IsTable L.eq L.is_label R.zero R.value R.is_held table.old.entries }
+    requires new { get L.eq table.old label ≡ None }
+    ensures ok { OnOk result (HasMoreAt L.eq R.zero R.sum table.old.entries label c
+        table.new.entries) }
+    ensures err { OnErr result (table.new.entries ≡ table.old.entries) }
+    ensures table { IsTable L.eq L.is_label R.zero R.value R.is_held table.new.entries }
+    ensures held { R.is_held c }
+{
+    if c.is_zero() {
+        return Ok(());
+    }
+    lies_in_limits(&label);
+    table.insert(label, c)?;
     Ok(())
 }
 

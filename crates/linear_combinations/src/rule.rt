@@ -15,8 +15,8 @@ pub trait Rule<K: Label, L: Label> {
     // The image of a label.
     ghost image: { Self → K → List (L × ℤ) };
 
-    /// Adds `c` times the image of a label. Returns `Large` only if this overflows. After an error
-    /// the table may have gained a part of it.
+    /// Adds `c` times the image of a label. Returns `Large` only if adding these terms overflows.
+    /// After an error the table may have gained some of them.
     fn add_image(&self, label: &K, c: Int, sum: &mut Lin<L, Int>) -> Result<(), SumFault>
         requires { takes self.now label.now }
         ensures gains { OnOk result (Gains sum.old (scaled c (image self.now label.now)) sum.new) }

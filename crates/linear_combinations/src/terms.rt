@@ -12,8 +12,8 @@ use std::cmp::Ordering;
 use std::marker::Model;
 use std::{slice, vec};
 
-/// The terms of a finite map, strictly in the order in which labels are printed. A contract sees
-/// the list of labels with their coefficients.
+/// The terms of a finite map, strictly in the order in which labels are printed. In contracts, it
+/// is the list of the labels with their coefficients.
 #[derive(Drop)]
 pub struct Terms<L: Label, R: Scalar> {
     pairs: Vec<(L, R)>,
@@ -44,7 +44,8 @@ impl<L: Label, R: Scalar> Terms<L, R> {
         }
     }
 
-    /// The list of pairs that are in order.
+    /// The list of these pairs, which the caller guarantees to be canonical: strictly in the
+    /// printed order, with no coefficient 0.
     pub(crate) fn from_sorted(pairs: Vec<(L, R)>) -> Terms<L, R>
         requires { IsCanonicalList L.order L.is_label R.value pairs.items }
         ensures { result ≡ pairs.items }
@@ -77,7 +78,7 @@ impl<L: Label, R: Scalar> Terms<L, R> {
         Some((label, *c))
     }
 
-    /// The labels with their coefficients, in the printed order.
+    /// An iterator over the labels with their coefficients, in the printed order.
     pub fn iter(&self) -> slice::Iter<'_, (L, R)>
         ensures rest { iter_rest result ≡ self.now }
         ensures canonical { IsCanonicalList L.order L.is_label R.value self.now }

@@ -1,6 +1,6 @@
 //! Functions that add to tables of integers: one clause states what the table gains, and one when
 //! that overflows. After an error a function that adds one term leaves the table unchanged; one
-//! that adds many terms leaves it with some of them added, and the table is of no further use.
+//! that adds many terms may leave it with some of them added, and the table is of no further use.
 ghost use Rattle.std.specs.Prelude.{◌≡◌, ◌↔◌, ℤ, pos, neg_ℤ, [], ◌∷◌, FitsSigned};
 ghost use Rattle.std.specs.Prelude.{OnOk, OnErr, IsErrOf};
 ghost use Rattle.std.specs.Int.{w128};
@@ -18,7 +18,7 @@ use calc_base::SumFault;
 use coeff_rings::{Int, Ring, Scalar};
 
 impl<L: Label> Lin<L, Int> {
-    /// Adds a number at a label, which it takes over.
+    /// Adds the number `c` at a label, of which it takes ownership.
     ///
     /// Returns `Large` if and only if the sum at the label is refused. On an error the table is
     /// unchanged.
@@ -35,15 +35,16 @@ impl<L: Label> Lin<L, Int> {
         self.add_term(label, c)
     }
 
-    /// Adds a number at a copy of a label.
+    /// Adds the number `c` at a copy of a label.
     ///
-    /// Returns `Large` only if the sum at the label is refused. On an error the table is unchanged.
+    /// Returns `Large` if and only if the sum at the label is refused. On an error the table is
+    /// unchanged.
     pub fn add_at_label(&mut self, label: &L, c: Int) -> Result<(), SumFault>
         ensures gains { OnOk result (Gains self.old ((label.now, c) ∷ []) self.new) }
         ensures large { IsErrOf result SumFault.Large
             → Overflows L.eq self.old ((label.now, c) ∷ []) }
         ensures refused { IsErrOf result SumFault.Large
-            → IsRefused (FitsSigned w128) ⟦<Int as Scalar>⟧.checked_sum
+            ↔ IsRefused (FitsSigned w128) ⟦<Int as Scalar>⟧.checked_sum
             (coefficient L.eq (pos 0) self.old label.now) c }
         ensures fits { OnOk result (¬ IsRefused (FitsSigned w128) ⟦<Int as Scalar>⟧.checked_sum
             (coefficient L.eq (pos 0) self.old label.now) c) }
@@ -51,12 +52,12 @@ impl<L: Label> Lin<L, Int> {
         ensures table { OnOk result (IsCombination L.eq L.is_label whole self.new) }
         ensures held { OnOk result (AreHeld L.eq (pos 0) (FitsSigned w128) self.new) }
     {
-        self.add_owned(label.copy()?, c)
+        self.add_copied(label, c)
     }
 
     /// Adds the number `c` at each of some labels.
     ///
-    /// On an error some of these terms have been added to the table.
+    /// On an error some of these terms may have been added to the table.
     pub fn add_each(&mut self, labels: &[L], c: Int) -> Result<(), SumFault>
         ensures gains { OnOk result (Gains self.old (each_with c labels.now) self.new) }
         ensures large { IsErrOf result SumFault.Large
@@ -73,7 +74,7 @@ impl<L: Label> Lin<L, Int> {
 
     /// Subtracts the number `c` at each of some labels.
     ///
-    /// On an error some of these terms have been added to the table.
+    /// On an error some of these terms may have been added to the table.
     pub fn subtract_each(&mut self, labels: &[L], c: Int) -> Result<(), SumFault>
         ensures gains { OnOk result (Gains self.old (each_with (neg_ℤ c) labels.now) self.new) }
         ensures large { IsErrOf result SumFault.Large
@@ -91,7 +92,7 @@ impl<L: Label> Lin<L, Int> {
 
     /// Adds `c` times another table.
     ///
-    /// On an error some of these terms have been added to the table.
+    /// On an error some of these terms may have been added to the table.
     pub fn add_multiple(&mut self, other: &Lin<L, Int>, c: Int) -> Result<(), SumFault>
         ensures gains { OnOk result (Gains self.old (scaled c other.now) self.new) }
         ensures large { IsErrOf result SumFault.Large
@@ -110,7 +111,7 @@ impl<L: Label> Lin<L, Int> {
 
     /// Adds another table.
     ///
-    /// On an error some of these terms have been added to the table.
+    /// On an error some of these terms may have been added to the table.
     pub fn add_terms(&mut self, other: &Lin<L, Int>) -> Result<(), SumFault>
         ensures gains { OnOk result (Gains self.old other.now self.new) }
         ensures large { IsErrOf result SumFault.Large → Overflows L.eq self.old other.now }
@@ -127,7 +128,7 @@ impl<L: Label> Lin<L, Int> {
 
     /// Adds `c` times the terms of a list.
     ///
-    /// On an error some of these terms have been added to the table.
+    /// On an error some of these terms may have been added to the table.
     pub fn add_list(&mut self, list: &Terms<L, Int>, c: Int) -> Result<(), SumFault>
         ensures gains { OnOk result (Gains self.old (scaled c list.now) self.new) }
         ensures large { IsErrOf result SumFault.Large
@@ -146,7 +147,7 @@ impl<L: Label> Lin<L, Int> {
 
     /// Adds the image of a table under a rule.
     ///
-    /// On an error some of these terms have been added to the table.
+    /// On an error some of these terms may have been added to the table.
     pub fn add_by<K: Label, T: Rule<K, L>>(
         &mut self,
         rule: &T,

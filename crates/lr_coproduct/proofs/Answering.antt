@@ -107,7 +107,7 @@ coproduct_meets shape inners terms p l sums n k =
     ∙ ap (λ (f : Poly). coefficient_of f α) (each-map (λ inner. beside (schur inner n) (skew_schur shape inner k)) without_last_zeros (shapes_inside shape (columns shape)))
     ∙ sym (coproduct n k shape p α)))
 
--- ---- coefficients that exceed the limit
+-- ---- coefficients that exceed 2^127 - 1
 
 pub past_of_inner : (shape inner : List ℕ) (inners : List (List ℕ)) → ListsShapesInside shape inners → Among inner inners → HasPast (IsCoefficientOfSkew None shape inner) → HasPast (IsCoproductCoefficient shape)
 past_of_inner shape inner inners l m (c, s, past) =

@@ -22,9 +22,10 @@ use Rattle.schur_laws.proofs.Duality.{rows_inside}
 use Rattle.schur_laws.proofs.ProductCounts.{product_by_shape, product_outside, product_exchanged}
 use Rattle.lr_product.proofs.GoodCounts.{product_count-other_size}
 
--- ---- the inner partition and the label exchanged
+-- ---- the inner partition and the content exchanged
 
--- the number of good tableaux with the label κ, counted column by column
+-- the number of tableaux of outer/inner in n letters with the content κ, in which the content of the columns right of each column is a
+-- partition, counted column by column
 terms_by_columns : (n : ℕ) (outer inner κ : List ℕ) → IsPartition outer → IsPartition inner → contains outer inner ≡ true
     → coefficient (good_terms n [] outer inner) κ ≡ over_columns n (column_lines outer inner) (is_sum κ) (resize n []) []
 terms_by_columns n outer inner κ o i holds =
@@ -33,8 +34,8 @@ terms_by_columns n outer inner κ o i holds =
     ∙ sym (total_good_contents n [] outer inner (λ ν. f (join [] ν)) o.falls holds)
     ∙ total_readings_by_columns n [] outer inner f IsPartition-none o i holds (omega arith)
 
--- the number of lattice tableaux of outer/inner with the content κ is the number of good tableaux of the shape κ for
--- the start inner that reach outer
+-- if κ has at most as many rows as outer, the number of lattice tableaux of outer/inner with the content κ is the number of tableaux T of the shape κ
+-- such that inner plus the content of T is outer, and inner plus the content of the columns right of each column is a partition
 skew_is_product : (outer inner κ : List ℕ) → IsPartition outer → IsPartition inner → IsPartition κ → contains outer inner ≡ true → rows κ ≤ rows outer
     → skew_count outer inner κ ≡ product_count (rows outer) inner κ outer
 skew_is_product outer inner κ o i p holds h =
@@ -56,13 +57,13 @@ skew_exchanged outer inner κ o i p h k =
     ∙ product_exchanged inner κ outer i p o
     ∙ sym (skew_is_product outer κ inner o p i k (rows_inside outer inner i h))
 
--- if κ does not lie inside outer, no lattice tableau of outer/inner has the content κ
+-- if κ has at most as many rows as outer but does not lie inside it, no lattice tableau of outer/inner has the content κ
 pub skew_outside : (outer inner κ : List ℕ) → IsPartition outer → IsPartition inner → IsPartition κ → contains outer inner ≡ true → rows κ ≤ rows outer → contains outer κ ≡ false
     → skew_count outer inner κ ≡ 0
 skew_outside outer inner κ o i p holds h k =
     skew_is_product outer inner κ o i p holds h ∙ product_exchanged inner κ outer i p o ∙ product_outside κ inner outer p i o k
 
--- if the sizes of inner and κ do not add up to that of outer, no lattice tableau of outer/inner has the content κ
+-- if κ has at most as many rows as outer, and |inner| + |κ| is not |outer|, no lattice tableau of outer/inner has the content κ
 pub skew_other_size : (outer inner κ : List ℕ) → IsPartition outer → IsPartition inner → IsPartition κ → contains outer inner ≡ true → rows κ ≤ rows outer → (size inner + size κ ≡ size outer → ⊥)
     → skew_count outer inner κ ≡ 0
 skew_other_size outer inner κ o i p holds h other = skew_is_product outer inner κ o i p holds h ∙ product_count-other_size outer inner κ o i p other
@@ -83,7 +84,7 @@ scaled_schur n ν t p q l =
     chosen true = simp ring (omega (arith, ints))
     chosen false = simp ring (omega (arith, ints))
 
--- the coefficients of a list in Schur polynomials are the Schur coefficients of its polynomial
+-- the coefficient of ν, of at most n rows, in a list of Schur polynomials in n variables is the Schur coefficient of their sum at ν
 pub listed_coefficient : (n : ℕ) (ws : WholeTerms) (f : Poly) (ν : List ℕ) → ((t : Term) → Among t ws → IsPartition t.0) → Same (combined (λ (label : List ℕ). schur label n) ws) f
     → IsPartition ν → rows ν ≤ n → coefficient ws ν ≡ schur_coefficient n ν f
 listed_coefficient n ws f ν labels e q l =

@@ -1,4 +1,4 @@
--- The terms of a skew shape by a small inner partition, read from those by greater ones.
+-- The terms of shape/inner for a small partition `inner`, read from those of shape/ν for greater partitions ν.
 use Rattle.std.proofs.Common.{◌≡◌, ℕ, ◌+◌, ◌*◌, ◌<◌, ◌≤◌, ◌⊎◌, Bool, true, false, cond, ◌&&◌, List, [], ◌∷◌, ◌++◌, length, take, get_or, refl, sym, ap, ◌∙◌, subst, inl, inr, arith, ℤ, pos, ◌+ℤ◌, ◌^◌}
 use Rattle.std.specs.Prelude.{None}
 use Rattle.std.specs.declared.cmp.Ordering.TheVariants.{Less}
@@ -42,7 +42,7 @@ use Rattle.lr_coproduct.proofs.ExchangedCounts.{skew_exchanged, skew_outside, sk
 
 -- ---- the terms after one more partition
 
--- the labels of the list are the first partitions whose count is not 0, with these counts
+-- the canonical list of the terms c·ν for ν in `firsts`, where c ≠ 0 is the number of lattice tableaux of shape/inner with the content ν
 pub record ListsExchanged (shape inner : List ℕ) (firsts : List (List ℕ)) (terms : WholeTerms) : Type 0 where
   pub canonical : IsCanonicalList printed_order is_label whole terms
   pub labels : (t : List ℕ × ℤ) → Among t terms → Among t.0 firsts
@@ -58,7 +58,7 @@ coefficient_next (t ∷ terms) label c ν =
 apart_from : (inners : List (List ℕ)) (at : ℕ) (second earlier : List ℕ) → IsInPrintedOrder inners → IsAt inners at second → Among earlier (take at inners) → earlier ≡ second → ⊥
 apart_from inners at second earlier ordered here m e = not_before earlier second (earlier_before inners at second earlier ordered here m) e
 
--- if the next partition has the count 0, the terms so far are those of one more partition
+-- if no lattice tableau of shape/inner has the partition at the index `at` as its content, the terms for the first `at` partitions are those for at + 1
 pub next_skipped : (shape inner : List ℕ) (inners : List (List ℕ)) (at : ℕ) (second : List ℕ) (terms : WholeTerms) → IsInPrintedOrder inners → IsAt inners at second
     → skew_count shape inner second ≡ 0 → ListsExchanged shape inner (take at inners) terms → ListsExchanged shape inner (take (at + 1) inners) terms
 next_skipped shape inner inners at second terms ordered here none l = record {
@@ -68,7 +68,7 @@ next_skipped shape inner inners at second terms ordered here none l = record {
       (no_label terms second (λ t k. apart_from inners at second t.0 ordered here (l.labels t k)) ∙ sym (ap pos none)) (l.counts parts);
 }
 
--- if the next partition has a count that is not 0, its term may follow the terms so far in a canonical list
+-- a term with a coefficient other than 0 at the partition at the index `at` may follow the terms for the first `at` partitions in a canonical list
 next_canonical : (shape inner : List ℕ) (inners : List (List ℕ)) (at : ℕ) (second : List ℕ) (c : ℤ) (terms : WholeTerms) → IsInPrintedOrder inners → IsAt inners at second
     → is_label second ≡ true → (c ≡ pos 0 → ⊥) → ListsExchanged shape inner (take at inners) terms → IsCanonicalList printed_order is_label whole (terms ++ (second, c) ∷ [])
 next_canonical shape inner inners at second c terms ordered here label other l =
@@ -111,7 +111,7 @@ next_exchanged shape inner inners at second c terms new ordered here label is ot
           (λ k. count_earlier terms second c parts (λ q. apart_from inners at second parts ordered here k (sym q)) ∙ l.counts parts k);
     })
 
--- if the term of the next partition is appended, unless its count is 0, the terms are those of one more partition
+-- if the partition at the index `at` is appended with its number of lattice tableaux, unless that is 0, the terms are those for the first at + 1 partitions
 pub next_either : (shape inner : List ℕ) (inners : List (List ℕ)) (at : ℕ) (second : List ℕ) (c : ℤ) (terms new : WholeTerms) → IsInPrintedOrder inners → IsAt inners at second
     → is_label second ≡ true → c ≡ pos (skew_count shape inner second) → (c ≡ pos 0 → new ≡ terms) → ((c ≡ pos 0 → ⊥) → new ≡ terms ++ (second, c) ∷ [])
     → ListsExchanged shape inner (take at inners) terms → ListsExchanged shape inner (take (at + 1) inners) new
@@ -123,9 +123,10 @@ next_either shape inner inners at second c terms new ordered here label is none 
         (next_skipped shape inner inners at second terms ordered here (let z : pos (skew_count shape inner second) ≡ pos 0 = sym is ∙ e in omega (arith, ints)) l)
     by (inr d) = next_exchanged shape inner inners at second c terms new ordered here label is d (one d) l
 
--- ---- the terms after all partitions of the right size
+-- ---- the terms after all partitions x with |inner| + |x| = |shape|
 
--- a partition ν not among the first ones has count 0, if no later one has the right size
+-- if no partition x from the index `at` on has |inner| + |x| = |shape|, a partition ν that is not one of the first `at`, and has no more rows than
+-- shape, is the content of no lattice tableau of shape/inner
 zero_unless_taken : (shape inner : List ℕ) (inners : List (List ℕ)) (at : ℕ) (ν : List ℕ) → IsPartition shape → ListsShapesInside shape inners → Among inner inners
     → ((i : ℕ) (x : List ℕ) → IsAt inners i x → at ≤ i → size inner + size x ≡ size shape → ⊥)
     → IsPartition ν → rows ν ≤ rows shape → (Among ν (take at inners) → ⊥) → skew_count shape inner ν ≡ 0
@@ -166,7 +167,7 @@ exchanged_meets shape inner inners at terms o listed there later l =
         no_label terms parts (λ t k e. n (subst (λ (ν : List ℕ). Among ν (take at inners)) e (l.labels t k)))
         ∙ sym (ap pos (zero_unless_taken shape inner inners at parts o listed there later p few n))
 
--- the coefficient of `inner` in the list of `second` is the number of lattice tableaux of shape/second with the content `inner`
+-- the coefficient of `inner` in the list of the skew Schur polynomial of shape/second is the number of lattice tableaux of shape/second with content `inner`
 pub listed_count : (shape second inner : List ℕ) (list : WholeTerms) → IsPartition shape → IsPartition inner → IsPartition second → Holds shape second
     → IsCanonicalList printed_order is_label whole list → ExpandsInSchurs None (skew_schur shape second) (as_fractions list)
     → coefficient list inner ≡ pos (skew_count shape second inner)
@@ -175,7 +176,7 @@ listed_count shape second inner list o i s k canonical meets =
     listed_coefficient n list (skew_schur shape second n) inner (label_in list canonical) (sum_of_terms (λ (label : List ℕ). schur label n) list (skew_schur shape second n) (meets n)) i (omega arith)
     ∙ skew_coefficients n shape second inner o s (contains-from shape second k) i (omega arith)
 
--- the coefficient of `inner` in the list of `second` is also the number of lattice tableaux of shape/inner with the content `second`
+-- the coefficient of `inner` in the list of the skew Schur polynomial of shape/second is the number of lattice tableaux of shape/inner with content `second`
 pub exchanged_term : (shape inner second : List ℕ) (list : WholeTerms) (c : ℤ) → IsPartition shape → IsPartition inner → IsPartition second → Holds shape inner → Holds shape second
     → IsCanonicalList printed_order is_label whole list → ExpandsInSchurs None (skew_schur shape second) (as_fractions list) → c ≡ coefficient list inner
     → c ≡ pos (skew_count shape inner second)
@@ -184,9 +185,10 @@ exchanged_term shape inner second list c o i s h k canonical meets e =
     ∙ listed_count shape second inner list o i s k canonical meets
     ∙ ap pos (skew_exchanged shape second inner o s i (contains-from shape second k) (contains-from shape inner h))
 
--- ---- coefficients that exceed the limit
+-- ---- coefficients that exceed 2^127 - 1
 
--- if no list of a partition before has a coefficient over the limit, the list of `inner` has none
+-- if 2·|inner| < |shape|, and no skew Schur polynomial of shape/second for a partition `second` listed before `inner` has a coefficient of 2^127 or more,
+-- neither has that of shape/inner
 pub exchanged_fits : (shape inner : List ℕ) (inners : List (List ℕ)) (m : ℕ) → IsPartition shape → ListsShapesInside shape inners → IsAt inners m inner → 2 * size inner < size shape
     → ((second : List ℕ) → Among second (take m inners) → HasPast (IsCoefficientOfSkew None shape second) → ⊥) → HasPast (IsCoefficientOfSkew None shape inner) → ⊥
 exchanged_fits shape inner inners m o listed at small fit (c, d, past) = by (among_or_not d.parts (take m inners))
@@ -221,7 +223,7 @@ exchanged_fits shape inner inners m o listed at small fit (c, d, past) = by (amo
           past,
         )
 
--- ---- the lists so far, with one more
+-- ---- the lists for the first partitions, with one more list appended
 
 pub lists_next : (shape : List ℕ) (inners : List (List ℕ)) (lists new : List WholeTerms) (inner : List ℕ) (list : WholeTerms) → IsAt inners (length lists) inner
     → IsSkewList shape inner list → new ≡ lists ++ list ∷ [] → HaveSkewLists shape inners lists → HaveSkewLists shape inners new
@@ -243,7 +245,7 @@ listed_fits shape inners lists have second m =
 
 -- ---- one step: the terms of a partition from the lists before
 
--- the first partitions, those with more than `cells` cells, have the count 0, as they are too large
+-- the first `count` partitions, those with more than `cells` cells, where |shape| ≤ |inner| + cells, are not the content of a lattice tableau of shape/inner
 pub front_exchanged : (shape inner : List ℕ) (inners : List (List ℕ)) (m cells count : ℕ) → IsPartition shape → ListsShapesInside shape inners → IsAt inners m inner → IsCountAbove inners cells count
     → size shape ≤ size inner + cells → ListsExchanged shape inner (take count inners) []
 front_exchanged shape inner inners m cells count o listed here above l = record {

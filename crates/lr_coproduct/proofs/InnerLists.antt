@@ -1,4 +1,4 @@
--- The partitions inside a partition: which they are, and that each occurs once.
+-- The list of the partitions inside a partition has exactly these partitions, each once.
 use Rattle.std.proofs.Common.{◌≡◌, ℕ, zero, suc, ◌+◌, ◌-◌, ◌≤◌, List, [], ◌∷◌, ◌++◌, append_assoc, append-nil, map, length, get_or, min, refl, sym, ap, ◌∙◌, subst, inl, inr, arith, true, flat_map}
 use Rattle.std.proofs.lemmas.List.{map-append}
 use Rattle.sym_model.specs.Sum.{Among, Once}
@@ -21,7 +21,7 @@ use Rattle.schur_laws.proofs.InnerShapeLists.{inside-tells, same-without_last_ze
 abbrev pub partitions_inside : List ℕ → List (List ℕ)
 partitions_inside shape = map without_last_zeros (shapes_inside shape (columns shape))
 
--- ---- each listed partition is inside
+-- ---- each partition of the list is inside the shape
 
 pub record IsPart (shape inner : List ℕ) : Type 0 where
   pub partition : IsPartition inner
@@ -36,7 +36,7 @@ part_among shape inner m =
       inside = λ i. let e = same-without_last_zeros l.0 (i - 1) in let h = contains-tells shape l.0 r.inside i in omega arith;
     })
 
--- ---- each partition inside is listed
+-- ---- each partition inside a shape is listed
 
 among_up_to : (j b : ℕ) → b ≤ j → Among b (up_to j)
 among_up_to j zero h = inl refl
@@ -89,7 +89,7 @@ among_part shape parts p h =
     subst (λ l. Among l (partitions_inside shape)) (without_last_zeros-resize (length shape) parts p.positive few)
     (Among-map without_last_zeros (resize (length shape) parts) (shapes_inside shape (columns shape)) (padded_among shape (columns shape) parts p.falls (at 0) few at))
 
--- ---- each partition inside is listed once
+-- ---- each partition inside a shape is listed once
 
 once_up_to : (j : ℕ) → Once (up_to j)
 once_up_to j = (λ m. let r = after_among 0 j 0 m in let l = r.0 in absurd (omega arith), once_after 0 j)
@@ -133,7 +133,8 @@ limits_front front most f h k = record {
   small = let l = size-without_last_zeros front in omega arith;
 }
 
--- the lists that begin with front, continue with one of these numbers, and are inside the rows below
+-- the lists that begin with `front`, continue with one of `numbers`, and then have parts inside the rows `below`; the
+-- zeros at their end are removed
 abbrev pub listed_from : List ℕ → List ℕ → List ℕ → List (List ℕ)
 listed_from front below numbers = map (λ i. without_last_zeros (front ++ i)) (flat_map (λ b. map (λ i. b ∷ i) (shapes_inside below b)) numbers)
 

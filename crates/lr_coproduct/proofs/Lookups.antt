@@ -80,7 +80,7 @@ rising x y label h = by (printed_order y label) refl
         before (cc) 1
     by Greater e = most (printed_order x label)
 
--- along a canonical list the order of the terms and a label does not decrease
+-- the result of comparing a term with `label` does not decrease along a canonical list
 pub terms_rise : (xs : List (List ℕ × ℤ)) (label : List ℕ) → IsOrdered printed_order xs → IsNonDecreasingBy (λ (y : List ℕ × ℤ). ordering_index (to_label label y)) xs
 terms_rise [] label h i j d l k = absurd (omega arith)
 terms_rise (x ∷ xs) label h zero zero d l k = omega arith

@@ -1,4 +1,4 @@
--- Terms labelled by pairs, listed in the printed order: the terms with one more first partition.
+-- Terms labelled by pairs, in the printed order, to which the terms with one more first partition are added.
 use Rattle.std.proofs.Common.{◌≡◌, ℕ, true, ◌&&◌, List, [], ◌∷◌, ◌++◌, append_assoc, refl, sym, ap, ◌∙◌, ◌⊎◌, inl, inr, subst, arith, ℤ, ◌+ℤ◌, ◌*ℤ◌}
 use Rattle.std.specs.Prelude.{Option, Some, None}
 use Rattle.std.specs.Option.{SomeIff}
@@ -42,7 +42,7 @@ sum_added n k first list old new e α =
 
 -- ---- the order of the pairs
 
--- pairs with one first partition are in the order of their second ones
+-- if `label` is before the labels of a list, the pair of `first` and `label` is before the pairs of `first` and those labels
 with_first_before : (first label : List ℕ) (list : WholeTerms) → StandsBefore printed_order label list → StandsBefore pair_order (first, label) (with_first first list)
 with_first_before first label [] h = tt
 with_first_before first label (t ∷ list) h =
@@ -88,7 +88,7 @@ pub unwrapped : {A : Type 0} (P : Type 0) (o : Option A) (x v : A) → o ≡ Som
 unwrapped P None x v e h = cc
 unwrapped P (Some y) x v e h = let same : y ≡ x = cc in sym same ∙ h.1
 
--- after the pair of `first` and the next term is appended, the pairs are those of one more term of the list
+-- if the pair of `first` and the next term is appended to the pairs of `first` and the terms `done`, the pairs are those for one term more
 pub next_added : (first : List ℕ) (done next : WholeTerms) (second : List ℕ) (c : ℤ) (start old new : WholeTermsOf (List ℕ × List ℕ)) → done ++ (second, c) ∷ [] ≡ next
     → old ≡ start ++ with_first first done → new ≡ old ++ ((first, second), c) ∷ [] → new ≡ start ++ with_first first next
 next_added first done next second c start old new pushed e f =

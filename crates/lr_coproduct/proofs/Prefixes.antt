@@ -9,7 +9,7 @@ at_among [] i x r = let l = r.within in absurd (omega arith)
 at_among (y ∷ xs) zero x r = inl r.is
 at_among (y ∷ xs) (suc i) x r = inr (at_among xs i x (let l = r.within in record { within = omega arith; is = r.is }))
 
--- the first i + 1 elements are the first i and x
+-- if x is at the index i, the first i + 1 elements are the first i and x
 pub take_next : {A : Type 0} (xs : List A) (i : ℕ) (x : A) → IsAt xs i x → take (i + 1) xs ≡ take i xs ++ (x ∷ [])
 take_next [] i x r = let l = r.within in absurd (omega arith)
 take_next (y ∷ xs) zero x r = ap (λ z. z ∷ take 0 xs) (sym r.is) ∙ ap (λ l. x ∷ l) (nothing xs)

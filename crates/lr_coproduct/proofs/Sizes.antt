@@ -30,7 +30,7 @@ sizes_fall (x ∷ xs) h zero (suc j) d l k = printed_size x (get_or xs j d) (h.0
 sizes_fall (x ∷ xs) h (suc i) zero d l k = absurd (omega arith)
 sizes_fall (x ∷ xs) h (suc i) (suc j) d l k = sizes_fall xs h.1 i j d (omega arith) (omega arith)
 
--- of two indexes the later one has a partition of at most the size
+-- the partition at the later of two indexes has at most the size of that at the earlier one
 later_size : (xs : List (List ℕ)) (i j : ℕ) (x y : List ℕ) → IsInPrintedOrder xs → IsAt xs i x → IsAt xs j y → i ≤ j → size y ≤ size x
 later_size xs i j x y h at_x at_y l =
     let s = sizes_fall xs h i j y l at_y.within in
@@ -56,12 +56,13 @@ counted_above xs cells count bound p = record {
 
 -- ---- sizes that do not add up to that of the shape
 
--- if `inner` has less than half the cells of the shape, no partition from it on has the other cells as its size
+-- if 2·|inner| < cells, no x from `inner` on in a list in the printed order has |inner| + |x| = cells
 pub behind_small : (cells : ℕ) (xs : List (List ℕ)) (m : ℕ) (inner : List ℕ) → IsInPrintedOrder xs → IsAt xs m inner → 2 * size inner < cells
     → (i : ℕ) (x : List ℕ) → IsAt xs i x → m ≤ i → size inner + size x ≡ cells → ⊥
 behind_small cells xs m inner h at small i x here l e = let s = later_size xs m i inner x h at here l in omega arith
 
--- from the index on after which the partitions are too small, the sizes of inner and of a partition do not add up to that of the shape
+-- if 2·|inner| < cells, inner is at the index m, and the first `count` partitions are those of more than `less` cells, with |inner| + less < cells, then
+-- no partition x from the index min(count, m) on has |inner| + |x| = cells
 pub behind_range : (cells : ℕ) (xs : List (List ℕ)) (m : ℕ) (inner : List ℕ) (less count at : ℕ) → IsInPrintedOrder xs → IsAt xs m inner → 2 * size inner < cells
     → IsCountAbove xs less count → size inner + less < cells → min count m ≤ at
     → (i : ℕ) (x : List ℕ) → IsAt xs i x → at ≤ i → size inner + size x ≡ cells → ⊥

@@ -14,7 +14,7 @@ use Rattle.sym_model.specs.WholeTerms.{same_pair}
 abbrev pub pair_sum : ℕ → ℕ → WholeTermsOf (List ℕ × List ℕ) → Poly
 pair_sum n k terms = combined (pair_polynomial n k) terms
 
--- the polynomial of terms labelled by second partitions, with a given first one
+-- the polynomial of terms whose labels are second partitions, each paired with the partition `first`
 abbrev pub second_sum : ℕ → ℕ → List ℕ → WholeTerms → Poly
 second_sum n k first terms =
     combined (λ (second : List ℕ). pair_polynomial n k (first, second)) terms
@@ -23,18 +23,18 @@ second_sum n k first terms =
 abbrev pub pair_coefficient : WholeTermsOf (List ℕ × List ℕ) → List ℕ → List ℕ → ℤ
 pair_coefficient terms first second = coefficient_by same_pair terms (first, second)
 
--- the coefficient of each pair of partitions, the first inside the shape, is the number of the
--- lattice tableaux of the shape by the first partition that have the second one as content
+-- the coefficient of each pair (first, second) of partitions, first inside the shape, is the number of lattice tableaux
+-- of shape/first with the content second
 abbrev pub HavePairCounts : List ℕ → WholeTermsOf (List ℕ × List ℕ) → Type 0
 HavePairCounts shape terms =
     (first second : List ℕ) → IsPartition first → Holds shape first → IsPartition second
     → pair_coefficient terms first second ≡ pos (skew_count shape first second)
 
--- the terms of a list of second partitions, with the first before each label
+-- the terms of a list, with the pair (first, ν) in place of each label ν
 abbrev pub with_first : List ℕ → WholeTerms → WholeTermsOf (List ℕ × List ℕ)
 with_first first terms = map (λ (t : List ℕ × ℤ). ((first, t.0), t.1)) terms
 
--- the first partition of each label is printed strictly before a partition
+-- the first partition of each label is strictly before `first` in the printed order
 abbrev pub AreBefore : WholeTermsOf (List ℕ × List ℕ) → List ℕ → Type 0
 AreBefore terms first =
     (t : (List ℕ × List ℕ) × ℤ) → Among t terms → printed_order t.0.0 first ≡ Less

@@ -31,8 +31,8 @@ use sparse_polys::Pair;
 use std::alloc::Global;
 
 /// The Schur polynomial of `shape` in two sets of variables, as pairs of Schur polynomials of the
-/// first and of the second. The coefficient of a pair is the number of lattice tableaux of the
-/// shape by the first partition with the second as content.
+/// first and of the second. The coefficient of a pair (μ, ν) is the number of lattice tableaux of
+/// the skew shape `shape`/μ with the content ν.
 ///
 /// Returns `Large` if and only if a coefficient exceeds 2^127 - 1.
 pub fn coprod(alloc: Global, shape: &Partition) -> Result<Terms<Pair, Int>, SumFault>
@@ -94,9 +94,9 @@ fn add_inner(
     Ok(())
 }
 
-/// The skew Schur polynomial of the shape by a partition in Schur polynomials: counted if the
-/// partition has at least half of the cells, since the skew shape is then small, and otherwise read
-/// from the lists of the partitions before it.
+/// The skew Schur polynomial of `shape`/`inner` in Schur polynomials. It is counted if `inner` has
+/// at least half of the cells, since the skew shape is then small; otherwise it is read from the
+/// lists of the partitions before `inner`.
 fn list_of(
     alloc: Global,
     shape: &Partition,

@@ -1,5 +1,5 @@
-//! The terms of a skew shape from those of others: the inner partition and a label may be
-//! exchanged.
+//! The terms of a skew shape from those of other skew shapes: the inner partition and a label may
+//! be exchanged.
 ghost use Rattle.std.specs.Prelude.{◌≡◌, ℕ, ◌*◌, ◌<◌, ℤ, pos, List, ◌∷◌, [], ◌++◌, false, None};
 ghost use Rattle.std.specs.Prelude.{length, IfOk, OnOk};
 ghost use Rattle.coeff_rings.specs.Fractions.{whole};
@@ -22,9 +22,9 @@ use linear_combinations::Terms;
 use partitions::Partition;
 use std::alloc::Global;
 
-/// The skew Schur polynomial of a shape by a partition of less than half its size, from those by
-/// the partitions that come before it: if the list of a partition ν has the label `inner` with some
-/// coefficient, the result has the label ν with the same one.
+/// The skew Schur polynomial of `shape`/`inner`, for `inner` of less than half the size of `shape`,
+/// from those of `shape`/ν for the partitions ν that come before `inner`: if the list of ν has the
+/// label `inner` with some coefficient, the result has the label ν with the same coefficient.
 pub(crate) fn exchanged(
     alloc: Global,
     shape: &Partition,
@@ -40,7 +40,7 @@ pub(crate) fn exchanged(
     ensures fits { OnOk result (HasPast (IsCoefficientOfSkew None shape.now inner.now)
         → ⊥) }
 {
-    // The sizes of the two partitions add up to that of the shape.
+    // The sizes of `inner` and of the label ν add up to that of the shape.
     let rest = shape.size() - inner.size();
     let first = count_above(inners, rest);
     let end = count_above(inners, rest - 1).min(lists.len());

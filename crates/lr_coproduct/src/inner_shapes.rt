@@ -39,8 +39,8 @@ pub(crate) fn count_above(inners: &[Partition], cells: u16) -> usize
     inners.partition_point(|inner| cells < inner.size())
 }
 
-/// Adds the partitions that begin with `front`, continue with a number of at most `most`, and are
-/// contained in these rows.
+/// Adds the partitions that begin with `front` and continue with parts that are contained in
+/// `rows`, the first of these parts at most `most`.
 fn add_shapes(
     alloc: Global,
     shapes: &mut Vec<Partition>,

@@ -3,9 +3,9 @@
 //!
 //! What is proved:
 //!
-//! `coprod`: a Schur polynomial in two sets of variables; the coefficient of a pair is the number
-//! of lattice tableaux of the shape by the first partition with the second as content; `Large` is
-//! returned if and only if a coefficient is 2^127 or more.
+//! `coprod` gives a Schur polynomial in two sets of variables; the coefficient of a pair (μ, ν) is
+//! the number of lattice tableaux of the skew shape of the partition by μ with the content ν;
+//! `Large` is returned if and only if a coefficient is 2^127 or more.
 #![tactic(auto)]
 
 mod coproduct;

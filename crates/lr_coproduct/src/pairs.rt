@@ -12,8 +12,8 @@ use linear_combinations::Terms;
 use partitions::Partition;
 use sparse_polys::Pair;
 
-/// Appends the terms of a list to the pairs, each with the label that has `first` before its own,
-/// and the list to the lists.
+/// Appends the terms of `list` to `pairs`, with the pair (`first`, ν) in place of each label ν, and
+/// `list` to `lists`.
 pub(crate) fn add_list(
     pairs: &mut Vec<(Pair, Int)>,
     lists: &mut Vec<Terms<Partition, Int>>,
@@ -29,7 +29,7 @@ pub(crate) fn add_list(
     Ok(())
 }
 
-/// Appends the terms of a list, each with the label that has `first` before its own.
+/// Appends the terms of `list`, with the pair (`first`, ν) in place of each label ν.
 fn add_pairs(
     pairs: &mut Vec<(Pair, Int)>,
     first: &Partition,
@@ -45,7 +45,7 @@ fn add_pairs(
     Ok(())
 }
 
-/// Appends a term.
+/// Appends the term with the label (`first`, `second`) and the coefficient `c`.
 fn add_pair(
     pairs: &mut Vec<(Pair, Int)>,
     first: &Partition,

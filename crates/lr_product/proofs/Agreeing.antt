@@ -1,4 +1,4 @@
--- Numbers that agree up to the cap: sums and multiples of them agree.
+-- Pairs of numbers that are equal or both at least 2^127: their sums and multiples are so too.
 use Rattle.std.proofs.Common.{◌≡◌, ℕ, zero, suc, ◌+◌, ◌*◌, ◌^◌, ◌<◌, ◌≤◌, ◌⊎◌, inl, inr, ap, arith}
 use Rattle.std.proofs.lemmas.Bool.{cases_lt}
 use Rattle.std.proofs.Math.Nat.{mul-le-mul_left}

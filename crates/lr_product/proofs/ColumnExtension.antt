@@ -1,4 +1,4 @@
--- Columns that are added letter by letter are the columns that may be next.
+-- Columns that are built letter by letter are the columns that may be added next.
 use Rattle.std.proofs.Common.{◌≡◌, ℕ, zero, suc, ◌+◌, ◌-◌, ◌<◌, ◌≤◌, ◌==◌, ◌⊎◌, inl, inr, nat_le, Bool, true, false, cond, ◌&&◌, List, [], ◌∷◌, ◌++◌, append_assoc, append-nil, map, length, take, drop, refl, sym, ap, ap₂, ◌∙◌, arith}
 use Rattle.std.proofs.lemmas.Bool.{cases_lt, cases_eq, lt-ltb, le-ltb, le-leb, lt-leb, ne_eqb, eq-eqb}
 use Rattle.sym_model.specs.Partition.{after}
@@ -93,7 +93,7 @@ cond_and : (p q : Bool) (x : ℕ) → cond (p && q) x 0 ≡ cond p (cond q x 0) 
 cond_and true q x = refl
 cond_and false q x = refl
 
--- the letters for a place, below a and left of right, are those of a range
+-- the letters for a place, below the letter a and left of the column `right`, are those of a range
 letters-range : (n : ℕ) (p : Bool) (a : ℕ) (right : List ℕ) (S : ℕ → ℕ) → a ≤ n
     → sum_by (λ b. cond (may_stand_above a b && fits b right) (S b) 0) (letters_at n p)
     ≡ sum_by S (numbers_from (least_letter p a) (letters_end n p right a - least_letter p a))
@@ -136,7 +136,7 @@ end-within n false right a = by (a == 0)
 
 -- ---- a whole column, letter by letter
 
--- the ways to complete a column below a letter, from a state
+-- f after the letters c are added below the letter a, to the sum ν and the letters w so far; 0 if they are not allowed there
 abbrev goes_on : ℕ → List ℕ → ℕ → (List ℕ → List ℕ → ℕ) → List ℕ → List ℕ → List ℕ → ℕ
 goes_on n right a f ν w c =
     cond (is_chain may_stand_above (a ∷ c) && (pass_by_place nat_le c right && is_falling (join ν (content n c)))) (f (join ν (content n c)) (w ++ c)) 0

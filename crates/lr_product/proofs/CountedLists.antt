@@ -67,7 +67,7 @@ has_counts n count terms is finds short = record {
 pub finds_same : (count : List ℕ → ℕ) (first second : WholeTerms) → HasSameCoefficients eq_states (pos 0) first second → Finds count first → Finds count second
 finds_same count first second e h parts = e parts ∙ h parts
 
--- counts that a table holds are below the limit
+-- if a table of 128-bit integers has the counts as its coefficients, each count is below 2^127
 pub held_small : (terms : WholeTerms) (count : List ℕ → ℕ) → AreHeld eq_states (pos 0) (FitsSigned w128) terms → Finds count terms → (parts : List ℕ) → count parts < 2 ^ 127
 held_small terms count h finds parts = let f = (subst (FitsSigned w128) (finds parts) (h.at_label parts)).sfits in omega arith
 
@@ -141,7 +141,8 @@ finds_next n es i key sum w old new h is finds more parts =
     by true e = ap (λ z. z +ℤ pos w) (ap (coefficient eq_states (pos 0) old) (same_partition (without_last_zeros (take n key)) parts e) ∙ finds parts)
     by false e = finds parts
 
--- if one label reaches the limit after an entry, the count there of the whole table exceeds it
+-- if the count of the sum of entry i over the entries before it, plus the count of this entry, is 2^127 or more, so is
+-- some count of the whole table
 pub past_next : (n m : ℕ) (es : List (List ℕ × ℕ)) (i : ℕ) (key sum : List ℕ) (w : ℕ) (old : WholeTerms) → slice_get es i ≡ Some (key, w) → sum ≡ take n key → IsReached n m (take n key)
     → Finds (counted n es i) old → ((k : ℕ) → coefficient eq_states (pos 0) old (without_last_zeros sum) ≡ pos k → 2 ^ 127 ≤ k + w)
     → IsPastSomewhere n (λ parts. weighed n (comes_to parts) es)

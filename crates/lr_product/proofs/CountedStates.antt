@@ -19,7 +19,7 @@ states_length w ns (c ∷ cs) = ap suc (states_length w (drop w ns) cs)
 pub entries_length : (w : ℕ) (ns cs : List ℕ) (s : StateCounts) → record { width = w; entries = counted_states w ns cs } ≡ s → length cs ≡ length s.entries
 entries_length w ns cs s e = sym (states_length w ns cs) ∙ ap (λ (t : StateCounts). length t.entries) e
 
--- the numbers of state i are among all numbers, and the state and its count are read from them
+-- for i < k, the numbers of state i are among the k·w numbers of k states; the state and its count are read from them
 pub within_numbers : (w i k len : ℕ) → len ≡ k * w → i < k → i * w + w ≤ len
 within_numbers w i k len e h =
     let m = mul-le-mul_right w (let l : i + 1 ≤ k = omega arith in l) in
@@ -43,7 +43,7 @@ state_pushed w ns (d ∷ cs) s c h l =
     ap₂ (λ t (m : List ℕ). (t, d) ∷ counted_states w m (cs ++ c ∷ [])) (take-append-le w ns s first) (drop-append-le w ns s first)
     ∙ ap (λ (es : List (List ℕ × ℕ)). (take w ns, d) ∷ es) (state_pushed w (drop w ns) cs s c rest l)
 
--- the weighed sum is that of the entry i and the rest, also after its count is replaced
+-- the weighed sum is the count of the entry i times f of its state, plus the sum over the other entries, also after the count is replaced
 abbrev SplitsAt : ℕ → (List ℕ → List ℕ → ℕ) → ℕ → List ℕ → List ℕ → ℕ → ℕ → List ℕ → Type 0
 SplitsAt n f w ns cs i had state = (rest : ℕ) × (weighed n f (counted_states w ns cs) ≡ had * at_state n f state + rest)
     × ((v : ℕ) → weighed n f (counted_states w ns (set cs i v)) ≡ v * at_state n f state + rest)

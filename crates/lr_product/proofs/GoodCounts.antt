@@ -41,7 +41,7 @@ use Rattle.lr_product.specs.Counts.{good_count, HasCounts, IsPastSomewhere}
 use Rattle.lr_product.proofs.Sums.{pos_comes}
 use Rattle.lr_product.proofs.ColumnsOfCounts.{over-states, over-ext}
 
--- ---- counts that agree up to the limit
+-- ---- counts that agree below 2^127
 
 -- every f vanishes outside the empty bound, since no sum exceeds that bound
 pub no_bound : (f : List ℕ → List ℕ → ℕ) → VanishesOutside [] f
@@ -149,7 +149,7 @@ past_in n m good count same_ones p = record {
 pub none_counted : (m : ℕ) (count : List ℕ → ℕ) → ((ν : List ℕ) → count ν ≡ 0) → HasCounts m count []
 none_counted m count e = record { table = IsCombination-empty (pointwise nat_eq) is_label whole; labels = λ t k. absurd k; counts = λ ν q l. sym (ap pos (e ν)) }
 
--- ---- coefficients that exceed the limit
+-- ---- coefficients that exceed 2^127 - 1
 
 pub has_past : (m : ℕ) (f : Poly) (count : List ℕ → ℕ) → Counts m f count → IsPastSomewhere m count → HasPast (IsSchurCoefficientOf f m)
 has_past m f count e p = (

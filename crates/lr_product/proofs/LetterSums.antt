@@ -1,5 +1,6 @@
 -- Sums over the letters for a place.
-use Rattle.std.proofs.Common.{◌≡◌, ℕ, suc, ◌+◌, ◌-◌, ◌*◌, ◌<◌, ◌≤◌, sym, ap, ◌∙◌, arith}
+use Rattle.std.proofs.Common.{◌≡◌, ℕ, zero, suc, ◌+◌, ◌-◌, ◌*◌, ◌<◌, ◌≤◌, ◌⊎◌, inl, inr, sym, ap, ◌∙◌, arith}
+use Rattle.std.proofs.lemmas.Bool.{cases_lt}
 use Rattle.lr_product.specs.Capped.{Agree}
 use Rattle.lr_product.specs.Extension.{numbers_from}
 use Rattle.sym_model.specs.Sum.{sum_by}
@@ -11,6 +12,39 @@ sum-step X low end h = let e : end - low ≡ suc (end - (low + 1)) = omega arith
 
 pub sum-end : (X : ℕ → ℕ) (low end : ℕ) → end ≤ low → sum_by X (numbers_from low (end - low)) ≡ 0
 sum-end X low end h = let e : end - low ≡ 0 = omega arith in ap (λ k. sum_by X (numbers_from low k)) e
+
+-- a sum of X over the numbers from low on may begin at low + d if the first d terms are 0
+pub numbers-skipped : (X : ℕ → ℕ) (low end d : ℕ) → ((x : ℕ) → low ≤ x → x < low + d → X x ≡ 0) → sum_by X (numbers_from low (end - low)) ≡ sum_by X (numbers_from (low + d) (end - (low + d)))
+numbers-skipped X low end zero none = let e : low + 0 ≡ low = omega arith in ap (λ x. sum_by X (numbers_from x (end - x))) (sym e)
+numbers-skipped X low end (suc d) none = by (cases_lt low end) (numbers-skipped X (low + 1) end d (λ x g h. none x (omega arith) (omega arith)))
+  where
+    same : low + 1 + d ≡ low + suc d
+    same = omega arith
+
+    by : (low < end) ⊎ (end ≤ low) → sum_by X (numbers_from (low + 1) (end - (low + 1))) ≡ sum_by X (numbers_from (low + 1 + d) (end - (low + 1 + d)))
+        → sum_by X (numbers_from low (end - low)) ≡ sum_by X (numbers_from (low + suc d) (end - (low + suc d)))
+    by (inl l) rest =
+        let z = none low (omega arith) (omega arith) in
+        let s = sum-step X low end l in
+        let m = ap (λ x. sum_by X (numbers_from x (end - x))) same in
+        omega arith
+    by (inr l) rest =
+        let s = sum-end X low end l in
+        let t = sum-end X (low + suc d) end (omega arith) in
+        omega arith
+
+-- a sum of X over the numbers from low to end - 1 may begin at `first`, if X is 0 at the numbers before it; `first` may
+-- be less than low only if it is end
+pub sum-from : (X : ℕ → ℕ) (low end first : ℕ) → first ≤ end → (first < end → low ≤ first) → ((x : ℕ) → low ≤ x → x < first → X x ≡ 0)
+    → sum_by X (numbers_from low (end - low)) ≡ sum_by X (numbers_from first (end - first))
+sum-from X low end first within least none = by (cases_lt first low) (cases_lt first end)
+  where
+    by : (first < low) ⊎ (low ≤ first) → (first < end) ⊎ (end ≤ first) → sum_by X (numbers_from low (end - low)) ≡ sum_by X (numbers_from first (end - first))
+    by (inr l) h =
+        let e : low + (first - low) ≡ first = omega arith in
+        numbers-skipped X low end (first - low) (λ x g q. none x g (omega arith)) ∙ ap (λ x. sum_by X (numbers_from x (end - x))) e
+    by (inl l) (inl h) = let g = least h in absurd (omega arith)
+    by (inl l) (inr h) = sum-end X low end (omega arith) ∙ sym (sum-end X first end h)
 
 -- one step of a loop that adds X(letter)·ways to a number for each letter
 pub agree_step : (now next all ways : ℕ) (X : ℕ → ℕ) (letter end : ℕ) → letter < end
@@ -29,7 +63,3 @@ pub agree_end : (now all ways : ℕ) (X : ℕ → ℕ) (letter end : ℕ) → en
 agree_end now all ways X letter end h p =
     let s : sum_by X (numbers_from letter (end - letter)) ≡ 0 = sum-end X letter end h in
     agree_then _ _ _ (agree_same _ _ ((let e : now ≡ now + ways * 0 = omega arith in e) ∙ ap (λ x. now + ways * x) (sym s))) p
-
--- if x is 0, adding ways·x does not change a number up to the cap
-pub agree_without : (now ways x : ℕ) → x ≡ 0 → Agree now (now + ways * x)
-agree_without now ways x e = agree_same now (now + ways * x) (sym (ap (λ y. now + ways * y) e ∙ (let z : now + ways * 0 ≡ now = omega arith in z)))

@@ -4,6 +4,7 @@ mod RowTableaux
 mod RowFold
 mod RowFilling
 mod RowRounds
+mod RowPruning
 mod Tables
 mod CountedStates
 mod Raising
@@ -18,6 +19,7 @@ mod Heights
 mod Rounds
 mod Sums
 mod Pruned
+mod FreeLetters
 mod CountedLists
 pub mod GoodCounts
 mod NoRoom

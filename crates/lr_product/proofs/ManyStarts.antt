@@ -37,7 +37,8 @@ started-push n f done t =
 
 module _ (n k : ℕ) (next : List ℕ) (product : WholeTerms) (q : IsPartition next) (may : AllMayMeet k next product) (most : n ≤ k)
     (enough : (t : Term) → Among t product → (rows t.0 ≤ n) × (min k (rows t.0 + rows next) ≤ n)) where
-  -- no label of the product is unreached: it has room for the cells of the factor
+  -- each label of the list is weakly decreasing in n places and has at most m cells, which leaves room for those of the
+  -- factor `next`
   pub starts_within : (m : ℕ) → m + size next ≤ 4096 → 4096 ≤ m + size next → started n (unreached n m) product ≡ 0
   starts_within m l g =
       sum_by-none (λ (t : List ℕ × ℤ). nat_abs t.1 * unreached n m (resize n t.0) []) product
@@ -99,7 +100,7 @@ module _ (k : ℕ) (next : List ℕ) (product : WholeTerms) (q : IsPartition nex
   counts : List ℕ → ℕ
   counts ν = sum_by (λ (t : List ℕ × ℤ). nat_abs t.1 * product_count k t.0 next ν) product
 
-  -- a statement holds for each label if it holds for partitions with at most k rows and for all others
+  -- a statement holds for each label if it holds for partitions with at most k rows and for all other lists
   by_label : (P : List ℕ → Type 0) → ((ν : List ℕ) → IsPartition ν → rows ν ≤ k → P ν) → ((ν : List ℕ) → (IsPartition ν → rows ν ≤ k → ⊥) → P ν) → (ν : List ℕ) → P ν
   by_label P inside outside ν = by (cases_Bool (is_partition ν)) (cases_lt k (rows ν))
     where

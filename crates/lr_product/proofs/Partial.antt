@@ -43,15 +43,15 @@ Reaches-same k c xs ys e r = record { parts = r.parts; partition = r.partition; 
 
 -- ---- the product of the first factors
 
--- the list is the classical product of these factors in k variables, with small counts, and expands their product for
--- each given number of variables that k variables decide
+-- the list is the classical product of these factors in k variables, with coefficients from 0 to 2^127 - 1, and expands
+-- their product for each given number of variables for which k variables suffice (`IsShownIn`)
 pub record IsPartial (k : ℕ) (front : List (List ℕ)) (product : WholeTerms) : Type 0 where
   pub table : IsCombination (pointwise nat_eq) is_label whole product
   pub classical : Same product (classical_product k front)
   pub small : AreSmallCounts (classical_product k front)
   pub expands : (given : Option ℕ) → IsShownIn given (size (map rows front)) k → ExpandsInSchurs given (schur_product front) (as_fractions product)
 
--- the properties of a term of the classical product of these factors
+-- the properties of a term of the classical product of the factors `front`
 pub record IsTermOf (k : ℕ) (front : List (List ℕ)) (t : Term) : Type 0 where
   pub partition : IsPartition t.0
   pub few : rows t.0 ≤ k
@@ -130,7 +130,7 @@ are_more [] next p q parts (inr m) = absurd m
 are_more (x ∷ front) next p q parts (inl e) = p parts (inl e)
 are_more (x ∷ front) next p q parts (inr m) = are_more front next (λ y n. p y (inr n)) q parts m
 
--- if the variables decide a product with row bound b ≥ a, they decide one with row bound a
+-- if k variables suffice for a product with row bound b ≥ a (`IsShownIn`), they suffice for one with row bound a
 shown_before : (given : Option ℕ) (a b k : ℕ) → a ≤ b → IsShownIn given b k → IsShownIn given a k
 shown_before None a b k h s = omega arith
 shown_before (Some n) a b k h s = s
@@ -234,7 +234,7 @@ cells_within : (xs ys : List (List ℕ)) → size (map size xs) ≤ size (map si
 cells_within [] ys = omega arith
 cells_within (x ∷ xs) ys = let h = cells_within xs ys in omega arith
 
--- the product of the factors before `next` may be multiplied by it
+-- each term of the product of the factors before `next` satisfies `MayMeet` for this factor
 pub may_meet_at : (k i : ℕ) (factors : List (List ℕ)) (next : List ℕ) (product : WholeTerms) → AreFactors factors → 1 ≤ i → slice_get factors i ≡ Some next
     → IsPartial k (take i factors) product → AllMayMeet k next product
 may_meet_at k i factors next product f one at h = by (take i factors) refl h
@@ -276,7 +276,7 @@ partial_at k i factors next product after f one at h is e small = by (take i fac
         (partial_next k first rest next product after (λ x m. f.small.partitions x (among_taken i factors x (subst (λ l. Among x l) (sym d) m)))
         (f.small.partitions next (among_at factors i next at)) g is e small)
 
--- if a coefficient of the product with the next factor exceeds the limit, so does one of the whole product
+-- if a coefficient of the product with the next factor is 2^127 or more, so is one of the product of all factors
 pub large_at : (k i : ℕ) (factors : List (List ℕ)) (next : List ℕ) (product : WholeTerms) → AreFactors factors → 1 ≤ i → slice_get factors i ≡ Some next
     → ((parts : List ℕ) → Among parts factors → rows parts ≤ k) → IsPartial k (take i factors) product
     → Reaches k (2 ^ 127) (multiplied k next product) → Reaches k (2 ^ 127) (classical_product k factors)
@@ -323,7 +323,7 @@ begin_with (x ∷ y ∷ factors) left right f a b =
       right_among = inr (inl (sym e));
     }
 
--- if a coefficient of the product of the first two factors exceeds the limit, so does one of the whole product
+-- if a coefficient of the product of the first two factors is 2^127 or more, so is one of the product of all factors
 pub large_first : (k : ℕ) (factors : List (List ℕ)) (left right : List ℕ) → AreFactors factors → BeginWith factors left right → ((parts : List ℕ) → Among parts factors → rows parts ≤ k)
     → Reaches k (2 ^ 127) (classical_product k (left ∷ right ∷ [])) → Reaches k (2 ^ 127) (classical_product k factors)
 large_first k factors left right f b few r =
@@ -332,7 +332,7 @@ large_first k factors left right f b few r =
     (reaches_more k (2 ^ 127) left (right ∷ []) (drop 2 factors) (are_two left right (f.small.partitions left b.left_among) (f.small.partitions right b.right_among))
     (λ x m. f.small.partitions x (among_dropped 2 factors x m)) (λ x m. few x (among_dropped 2 factors x m)) (omega arith) r)
 
--- the product of the first two factors begins the list
+-- a table that is the classical product of the first two factors satisfies `IsPartial` for them
 pub partial_first : (k : ℕ) (factors : List (List ℕ)) (left right : List ℕ) (product : WholeTerms) → AreFactors factors → BeginWith factors left right
     → ((parts : List ℕ) → Among parts factors → rows parts ≤ k) → IsCombination (pointwise nat_eq) is_label whole product
     → Same product (classical_product k (left ∷ right ∷ [])) → AreSmallCounts (classical_product k (left ∷ right ∷ [])) → IsPartial k (take 2 factors) product

@@ -128,7 +128,7 @@ none_reached first rest p e r =
     ∙ ap (λ f. schur_coefficient 1 [] f) (one_in_one (first ∷ rest) e) in
     omega (arith, ints)
 
--- ---- a coefficient of the classical product over the limit is one of the product that the command asks for
+-- ---- a coefficient over 2^127 - 1 of the product in k variables is one of the product that the command asks for
 
 pub past_answer : (given : Option ℕ) (k : ℕ) (first : List ℕ) (rest : List (List ℕ)) → ArePartitions (first ∷ rest)
     → k ≡ unwrap_or given (max (size (map rows (first ∷ rest))) 1) → Reaches k (2 ^ 127) (classical_product k (first ∷ rest)) → HasPast (IsCoefficientOfProduct given (first ∷ rest))

@@ -100,7 +100,7 @@ pushed_small old new label z w e c l small t m = by (among_pushed old (label, z)
     by (inl k) = small t k
     by (inr d) = let q : t.1 ≡ z = ap (λ (x : List ℕ × ℤ). x.1) d in omega (arith, ints)
 
--- ---- the table has a count over the limit
+-- ---- the table has a count over 2^127 - 1
 
 pub reached_at : (n : ℕ) (es : List (List ℕ × ℕ)) (i : ℕ) (key : List ℕ) (w : ℕ) → weighed n (unreached n 4096) es ≡ 0 → slice_get es i ≡ Some (key, w) → 0 < w → IsReached n 4096 (take n key)
 reached_at n es i key w z h some = reached-tells n 4096 (take n key) (drop n key) (weighed-none n (unreached n 4096) es i key w z h some)

@@ -33,17 +33,17 @@ get-raised_at (suc i) (a ∷ s) h = get-raised_at i s (omega arith)
 length-marked : (kept : Bool) (b : ℕ) (s : List ℕ) → length s ≤ length (raised b s ++ mark kept b)
 length-marked kept b s = let l = length-append (raised b s) (mark kept b) in let r = length-raised b s in omega arith
 
-numbers-zero : (X : ℕ → ℕ) (low k : ℕ) → ((b : ℕ) → low ≤ b → b < low + k → X b ≡ 0) → sum_by X (numbers_from low k) ≡ 0
+pub numbers-zero : (X : ℕ → ℕ) (low k : ℕ) → ((b : ℕ) → low ≤ b → b < low + k → X b ≡ 0) → sum_by X (numbers_from low k) ≡ 0
 numbers-zero X low k e = numbers-ext X (λ b. 0) low k e ∙ sum_by-zero (numbers_from low k)
 
--- a place outside the shape cannot follow a letter, so no column is complete
+-- a place outside the shape cannot be below a letter, so no column is complete
 none_outside : (kept : Bool) (n : ℕ) (line : List Bool) (right : List ℕ) (above : ℕ) (f : List ℕ → List ℕ → ℕ) (s : List ℕ) → 0 < above → extended kept n (false ∷ line) right above f s ≡ 0
 none_outside kept n line right above f s h =
     ap (λ t. sum_by (λ b. extended kept n line (drop 1 right) b f (raised b s ++ mark kept b)) (numbers_from 0 (cond t 1 0 - 0))) (ne_eqb above 0 (λ e. absurd (omega arith)))
 
 -- ---- states that no column completes
 
--- f is 0 at every state with a decreasing sum that agrees with s at the places before above
+-- f is 0 at every state with a decreasing sum that agrees with s at the places before `above`
 abbrev pub Hopeless : ℕ → (List ℕ → List ℕ → ℕ) → ℕ → List ℕ → Type 0
 Hopeless n f above s = (t : List ℕ) → n ≤ length t → ((j : ℕ) → j < above → get_or t j 0 ≡ get_or s j 0) → cond (is_falling (take n t)) (at_state n f t) 0 ≡ 0
 
@@ -91,7 +91,7 @@ not_within (suc i) (a ∷ ν) (b ∷ bound) h g = by (nat_le a b) (not_within i 
     by true e = e
     by false e = refl
 
--- a letter leads to no complete column if its number cannot be raised
+-- a letter leads to no complete column if its number in the sum cannot be raised
 pub stuck : (kept : Bool) (n : ℕ) (bound : List ℕ) (f : List ℕ → List ℕ → ℕ) (i : ℕ) (s : List ℕ) → VanishesOutside bound f → i < n → n ≤ length s → length bound ≤ n
     → can_rise bound i s ≡ false → Hopeless n f (suc i) (raised (suc i) s ++ mark kept (suc i))
 stuck kept n bound f i s vanishes h l m e t long same =

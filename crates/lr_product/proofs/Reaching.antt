@@ -11,7 +11,7 @@ pub reached : (n m : ℕ) (ν right : List ℕ) → IsReached n m ν → unreach
 reached n m ν right r =
     ap₂ (λ (p q : Bool). cond (p && (q && is_falling ν)) 0 1) (eq-eqb (length ν) n r.long) (le-leb (size ν) m r.small) ∙ ap (λ (t : Bool). cond t 0 1) r.falls
 
--- a table of states that are reached within m has them reached within every greater number
+-- if the states of a table are reached within m, they are reached within every number from m on
 pub weighed-weaker : (n m m' : ℕ) (es : List (List ℕ × ℕ)) → m ≤ m' → weighed n (unreached n m) es ≡ 0 → weighed n (unreached n m') es ≡ 0
 weighed-weaker n m m' es h z =
     sum_by-zeros (λ (e : List ℕ × ℕ). e.1 * at_state n (unreached n m') e.0) (λ (e : List ℕ × ℕ). e.1 * at_state n (unreached n m) e.0) es

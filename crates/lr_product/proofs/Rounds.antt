@@ -1,4 +1,4 @@
--- One round of adding columns.
+-- One round of the loop that adds the columns of a shape.
 use Rattle.std.proofs.Common.{◌≡◌, ℕ, zero, suc, ◌+◌, ◌-◌, ◌^◌, ◌<◌, ◌≤◌, ◌⊎◌, inl, inr, nat_le, nat_lt, Bool, true, false, ◌&&◌, cond, List, [], ◌∷◌, ◌++◌, length, take, drop, refl, sym, subst, ap, ap₂, ◌∙◌, arith}
 use Rattle.std.proofs.lemmas.Bool.{cases_lt, lt-ltb, le-ltb, lt-leb, le-leb}
 use Rattle.std.proofs.Math.Seq.{take-length}
@@ -107,7 +107,7 @@ pub start_reached : (n m : ℕ) (outer inner : List ℕ) (starts : List (List �
 start_reached n m outer inner starts at z =
     weighed-weaker n m (m + places (drop at (column_lines outer inner))) starts (omega arith) z
 
--- the table with only the start has all its states reached
+-- the states of a table that counts only the start are weakly decreasing, with a sum of at most m
 pub first_reached : (n m : ℕ) (start : List ℕ) (es : List (List ℕ × ℕ)) → IsPartition start → size start ≤ m
     → ((f : List ℕ → List ℕ → ℕ) → Agree (weighed n f es) (f (resize n start) []))
     → weighed n (unreached n m) es ≡ 0

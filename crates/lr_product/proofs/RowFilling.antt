@@ -1,19 +1,18 @@
 -- Letters of a row added to a number of the sum and taken back, and sums over rows outside a bound.
-use Rattle.std.proofs.Common.{◌≡◌, ◌==◌, ℕ, zero, suc, ◌+◌, ◌-◌, ◌<◌, ◌≤◌, ◌⊎◌, inl, inr, nat_le, nat_lt, Bool, true, false, ◌&&◌, cond, List, [], ◌∷◌, ◌++◌, length, take, drop, get_or, set, max, length-append, refl, sym, ap, ap₂, subst, ◌∙◌, arith}
-use Rattle.std.proofs.lemmas.Bool.{ne_eqb, cases_lt, lt-leb, le-leb, and_parts, and_from, leb-true, lt-ltb, le-ltb, ltb-true}
+use Rattle.std.proofs.Common.{◌≡◌, ◌==◌, ℕ, zero, suc, ◌+◌, ◌-◌, ◌<◌, ◌≤◌, ◌⊎◌, inl, inr, nat_le, nat_lt, Bool, true, false, ◌&&◌, cond, List, [], ◌∷◌, ◌++◌, length, take, drop, get_or, set, max, length-append, refl, sym, ap, ap₂, ◌∙◌, arith}
+use Rattle.std.proofs.lemmas.Bool.{ne_eqb, cases_lt, lt-leb, le-leb, and_parts, and_from, leb-true, lt-ltb, le-ltb}
 use Rattle.sym_model.specs.Sum.{sum_by}
 use Rattle.sym_model.specs.Partition.{size}
 use Rattle.sym_model.specs.GoodTableau.{is_falling}
 use Rattle.sym_model.proofs.NumberSums.{sum_by-zero, sum_by-ext}
 use Rattle.tableau_laws.specs.Grid.{pass_by_place, may_precede}
 use Rattle.alternant_laws.proofs.StraightShapes.{falls_places}
-use Rattle.lr_product.specs.WeighedSum.{at_state, VanishesOutside}
+use Rattle.lr_product.specs.WeighedSum.{VanishesOutside}
 use Rattle.lr_product.specs.Extension.{numbers_from, mark}
 use Rattle.lr_product.specs.RowExtension.{added, filled, next_row, least_left, most_left}
 use Rattle.lr_product.proofs.Raising.{take_all}
-use Rattle.lr_product.proofs.Ranges.{numbers-ext}
 use Rattle.lr_product.proofs.Pruned.{not_within, get-take}
-use Rattle.lr_product.proofs.LetterSums.{sum-step, sum-end}
+use Rattle.lr_product.proofs.LetterSums.{numbers-skipped}
 
 pub added-set : (t i : ℕ) (s : List ℕ) → set s t (get_or s t 0 + i) ≡ added t i s
 added-set zero i [] = refl
@@ -81,7 +80,7 @@ falls_next (suc t) i (a ∷ b ∷ s) h l g =
     let p = and_parts (nat_le b a) (is_falling (b ∷ s)) h in
     and_from (nat_le b a) (is_falling (b ∷ added t i s)) p.0 (falls_next t i (b ∷ s) p.1 (omega arith) g)
 
-length_took : (n : ℕ) (s : List ℕ) → n ≤ length s → length (take n s) ≡ n
+pub length_took : (n : ℕ) (s : List ℕ) → n ≤ length s → length (take n s) ≡ n
 length_took zero s h = ap (λ (l : List ℕ). length l) (take_none s)
 length_took (suc n) [] h = absurd (omega arith)
 length_took (suc n) (a ∷ s) h = ap suc (length_took n s (omega arith))
@@ -106,7 +105,7 @@ width_put false t i left s up_to width e h = let l = length-append (added t i s)
 pub length_put : (kept : Bool) (t i left : ℕ) (s : List ℕ) → length s ≤ length (added t i s ++ mark kept left)
 length_put kept t i left s = let l = length-append (added t i s) (mark kept left) in let k = length-added t i s in omega arith
 
--- ---- sums outside a bound
+-- ---- states whose sum is not within the bound
 
 nothing-within : (bound : List ℕ) → pass_by_place nat_le [] bound ≡ true
 nothing-within [] = refl
@@ -120,7 +119,7 @@ not_both : {X : Type 0} (u : Bool) → u ≡ true → u ≡ false → X
 not_both true e g = absurd (cc)
 not_both false e g = absurd (cc)
 
--- if u && p is false, u' is false whenever u is, and p' is false whenever p is, then u' && p' is false
+-- let u' be false if u is, and p' if p is: then u' && p' is false if u && p is
 still_false : (u u' : Bool) {p p' : Bool} → u && p ≡ false → (u ≡ false → u' ≡ false) → (p ≡ false → p' ≡ false) → u' && p' ≡ false
 still_false true true e f g = g e
 still_false true false e f g = refl
@@ -178,26 +177,6 @@ over_bound kept n out t k left above bound f s v l h b g =
     here zero (a ∷ v') q = refl
     here (suc j) (a ∷ v') q = here j v' (omega arith)
 
--- a sum of X over the numbers from low on may begin at low + d if the first d terms are 0
-numbers-skipped : (X : ℕ → ℕ) (low end d : ℕ) → ((x : ℕ) → low ≤ x → x < low + d → X x ≡ 0) → sum_by X (numbers_from low (end - low)) ≡ sum_by X (numbers_from (low + d) (end - (low + d)))
-numbers-skipped X low end zero none = let e : low + 0 ≡ low = omega arith in ap (λ x. sum_by X (numbers_from x (end - x))) (sym e)
-numbers-skipped X low end (suc d) none = by (cases_lt low end) (numbers-skipped X (low + 1) end d (λ x g h. none x (omega arith) (omega arith)))
-  where
-    same : low + 1 + d ≡ low + suc d
-    same = omega arith
-
-    by : (low < end) ⊎ (end ≤ low) → sum_by X (numbers_from (low + 1) (end - (low + 1))) ≡ sum_by X (numbers_from (low + 1 + d) (end - (low + 1 + d)))
-        → sum_by X (numbers_from low (end - low)) ≡ sum_by X (numbers_from (low + suc d) (end - (low + suc d)))
-    by (inl l) rest =
-        let z = none low (omega arith) (omega arith) in
-        let s = sum-step X low end l in
-        let m = ap (λ x. sum_by X (numbers_from x (end - x))) same in
-        omega arith
-    by (inr l) rest =
-        let s = sum-end X low end l in
-        let t = sum-end X (low + suc d) end (omega arith) in
-        omega arith
-
 -- if f is 0 outside the bound, the sum of `filled` may begin at `low`, the least number allowed by the sum and by the bound
 pub bounded_low : (kept : Bool) (n out t k : ℕ) (above bound : List ℕ) (f : List ℕ → List ℕ → ℕ) (s : List ℕ) (low : ℕ) → VanishesOutside bound f → t < n → n ≤ length s
     → low ≡ max (max out (cond (t == 0) 0 (k - (get_or s (t - 1) 0 - get_or s t 0)))) (cond (nat_lt t (length bound)) (k - (get_or bound t 0 - get_or s t 0)) 0)
@@ -252,7 +231,7 @@ may_add out t k x low s rest is g falls j e = by (falls j)
     by (inl l) = let d = two t e in let m = ap (λ y. get_or s y 0) e in omega arith
     by (inr n) = absurd (n e)
 
--- ---- rows outside a bound
+-- ---- sums over rows that lead to states not within the bound
 
 pub vanishes-row : (n : ℕ) (kept : Bool) (out k : ℕ) (bound : List ℕ) (f : List ℕ → List ℕ → ℕ) → length bound ≤ n → VanishesOutside bound f → VanishesOutside bound (next_row n kept out k f)
 vanishes-row n kept out k bound f l v ν above h = by (may_precede nat_le k above) (filled-outside kept n out n k (drop 1 above) bound f ν v (within-take n ν bound l ∙ h))

@@ -1,5 +1,5 @@
 -- The sum of f over the good tableaux of a shape is the same by rows as by columns.
-use Rattle.std.proofs.Common.{◌≡◌, ℕ, zero, suc, ◌+◌, ◌-◌, ◌<◌, ◌≤◌, nat_le, nat_lt, Bool, true, false, cond, ◌&&◌, List, [], ◌∷◌, ◌++◌, length, drop, get_or, refl, sym, ap, ap₂, subst, ◌∙◌, arith, ℤ, pos}
+use Rattle.std.proofs.Common.{◌≡◌, ℕ, suc, ◌+◌, ◌-◌, ◌<◌, ◌≤◌, nat_le, nat_lt, Bool, true, false, cond, ◌&&◌, List, [], ◌∷◌, length, drop, get_or, refl, sym, ap, ap₂, ◌∙◌, arith, ℤ, pos}
 use Rattle.std.proofs.lemmas.Bool.{lt-ltb}
 use Rattle.std.proofs.lemmas.Int.{ints}
 use Rattle.sym_model.specs.Sum.{total}
@@ -11,8 +11,8 @@ use Rattle.sym_model.proofs.Sums.{total_ext, total_among}
 use Rattle.sym_model.proofs.Exponents.{join_assoc, length-join}
 use Rattle.sym_model.proofs.Contents.{content-none}
 use Rattle.tableau_laws.specs.PaddedRows.{transposed, line_of, pattern_of, words_over, fillings_over}
-use Rattle.tableau_laws.specs.Grid.{is_chain, first_line, are_tableau_columns}
-use Rattle.tableau_laws.specs.ColumnFold.{sum_reached, is_good_by_columns, column_lines, over_columns}
+use Rattle.tableau_laws.specs.Grid.{is_chain}
+use Rattle.tableau_laws.specs.ColumnFold.{column_lines, over_columns}
 use Rattle.tableau_laws.proofs.PatternFillings.{filling_tells}
 use Rattle.tableau_laws.proofs.Transposing.{fillings_sum, transposed-sum}
 use Rattle.tableau_laws.proofs.RowSums.{contains_rest}
@@ -20,14 +20,14 @@ use Rattle.tableau_laws.proofs.ColumnSums.{of_good_columns, total_good_columns, 
 use Rattle.tableau_laws.proofs.Contents.{content-transposed, content-append}
 use Rattle.alternant_laws.proofs.Exchanges.{length_content}
 use Rattle.alternant_laws.proofs.StraightShapes.{falls_places}
-use Rattle.schur_laws.proofs.TableauPlaces.{places_fall}
 use Rattle.lr_product.specs.WeighedSum.{over_states}
 use Rattle.lr_product.specs.RowExtension.{next_row, over_rows}
 use Rattle.lr_product.proofs.ColumnsOfCounts.{over-states}
 use Rattle.lr_product.proofs.RowWords.{kept_row, row_test, places_down, over_row_words, join-none}
 use Rattle.lr_product.proofs.RowTableaux.{rows_test, row_descends, test_same}
 
--- the term of the rows w ∷ P: the row w passes its test, and P passes the tests with the sum and the row above that w leaves
+-- the summand of the rows w ∷ P: w must pass its test, and the rows P must pass theirs with the sum reached and the
+-- numbers of places of w
 below_row : (n : ℕ) (f : List ℕ → ℕ) (ν above w : List ℕ) (P : List (List ℕ))
     → cond (rows_test n ν above (w ∷ P)) (pos (f (join ν (content n (letters_of (w ∷ P)))))) (pos 0)
     ≡ cond ((is_chain nat_le w && row_test n ν above w) && rows_test n (join ν (content n w)) (places_down n 0 w) P) (pos (f (join (join ν (content n w)) (content n (letters_of P))))) (pos 0)

@@ -1,33 +1,26 @@
 -- One round of the loop over the rows of a shape, and its start.
-use Rattle.std.proofs.Common.{◌≡◌, ℕ, zero, suc, ◌+◌, ◌-◌, ◌*◌, ◌<◌, ◌≤◌, ◌⊎◌, inl, inr, nat_le, nat_lt, Bool, true, false, cond, List, [], ◌∷◌, length, take, drop, get_or, nat_abs, refl, sym, ap, ap₂, subst, ◌∙◌, arith, ℤ}
+use Rattle.std.proofs.Common.{◌≡◌, ℕ, zero, suc, ◌+◌, ◌-◌, ◌*◌, ◌<◌, ◌≤◌, ◌⊎◌, inl, inr, nat_lt, Bool, true, List, [], ◌∷◌, length, take, drop, get_or, nat_abs, refl, sym, ap, ap₂, subst, ◌∙◌, arith}
 use Rattle.std.proofs.lemmas.Bool.{cases_lt, lt-ltb, le-ltb}
-use Rattle.sym_model.specs.Sum.{sum_by}
 use Rattle.sym_model.specs.Partition.{Falls, size, part}
-use Rattle.sym_model.specs.Polynomial.{resize}
 use Rattle.sym_model.specs.Schur.{contains}
 use Rattle.sym_model.specs.WholeTerms.{WholeTerms}
 use Rattle.tableau_laws.specs.ColumnFold.{column_lines}
 use Rattle.schur_laws.proofs.Duality.{contains_places}
 use Rattle.lr_product.specs.WeighedSum.{at_state, weighed, started, over_states, unreached, VanishesOutside}
-use Rattle.lr_product.specs.RowExtension.{next_row, over_rows, begun}
+use Rattle.lr_product.specs.RowExtension.{next_row, over_rows, begun, cell_count, VanishesBelow}
 use Rattle.lr_product.specs.Capped.{Agree}
 use Rattle.lr_product.proofs.Agreeing.{agree_same, agree_then}
 use Rattle.lr_product.proofs.Reaching.{weighed-weaker}
-use Rattle.lr_product.proofs.Steps.{positive_factor, reached-tells, length_taken}
+use Rattle.lr_product.proofs.Steps.{positive_factor, reached-tells}
 use Rattle.lr_product.proofs.RowFilling.{vanishes-row}
 use Rattle.lr_product.proofs.RowFold.{rows_columns}
+use Rattle.lr_product.proofs.RowPruning.{below_rows}
 
--- ---- the sums by rows and by columns over starts that keep no row or column
+-- ---- the sums by rows and by columns over starts, states that are only a sum, without the numbers of a row or column
 
 fresh_tells : (ν right : List ℕ) → begun ν right ≡ 0 → right ≡ []
 fresh_tells ν [] e = refl
 fresh_tells ν (x ∷ right) e = absurd (omega arith)
-
-fresh_whole : (n : ℕ) (s : List ℕ) → drop n s ≡ [] → take n s ≡ s
-fresh_whole zero [] e = refl
-fresh_whole zero (a ∷ s) e = absurd (cc)
-fresh_whole (suc n) [] e = refl
-fresh_whole (suc n) (a ∷ s) e = ap (λ l. a ∷ l) (fresh_whole n s e)
 
 pub weighed_rows : (n m : ℕ) (outer inner : List ℕ) (f : List ℕ → ℕ) (starts : List (List ℕ × ℕ)) → 0 < n → Falls outer → contains outer inner ≡ true
     → weighed n begun starts ≡ 0 → weighed n (unreached n m) starts ≡ 0
@@ -145,20 +138,22 @@ row_reached n row outer inner new l room z =
     let d = size_drop row outer in
     weighed-weaker n (4096 - size (drop row outer) + (get_or outer row 0 - get_or inner row 0)) (4096 - size (drop (row + 1) outer)) new (omega arith) z
 
-pub row_counts : (n row : ℕ) (outer inner bound : List ℕ) (starts es new : List (List ℕ × ℕ)) (a b : ℕ) (kept : Bool) → row < length outer → length bound ≤ n
+pub row_counts : (n row : ℕ) (outer inner bound : List ℕ) (starts es new : List (List ℕ × ℕ)) (a b later : ℕ) (kept : Bool) → row < length outer → length bound ≤ n
     → a ≡ get_or outer row 0 → b ≡ get_or inner row 0 → kept ≡ nat_lt (row + 1) (length outer)
-    → ((f : List ℕ → ℕ) → VanishesOutside bound (λ ν r. f ν) → Agree (weighed n (over_rows n (drop row outer) (drop row inner) (λ ν r. f ν)) es) (weighed n (over_rows n outer inner (λ ν r. f ν)) starts))
-    → ((f : List ℕ → List ℕ → ℕ) → VanishesOutside bound f → Agree (weighed n f new) (weighed n (next_row n kept b a f) es))
-    → (f : List ℕ → ℕ) → VanishesOutside bound (λ ν r. f ν)
+    → later ≡ cell_count (drop (row + 1) outer) (drop (row + 1) inner)
+    → ((f : List ℕ → ℕ) → VanishesOutside bound (λ ν r. f ν) → VanishesBelow n 0 bound (λ ν r. f ν) → Agree (weighed n (over_rows n (drop row outer) (drop row inner) (λ ν r. f ν)) es) (weighed n (over_rows n outer inner (λ ν r. f ν)) starts))
+    → ((f : List ℕ → List ℕ → ℕ) → VanishesOutside bound f → VanishesBelow n later bound f → Agree (weighed n f new) (weighed n (next_row n kept b a f) es))
+    → (f : List ℕ → ℕ) → VanishesOutside bound (λ ν r. f ν) → VanishesBelow n 0 bound (λ ν r. f ν)
     → Agree (weighed n (over_rows n (drop (row + 1) outer) (drop (row + 1) inner) (λ ν r. f ν)) new) (weighed n (over_rows n outer inner (λ ν r. f ν)) starts)
-row_counts n row outer inner bound starts es new a b kept l s ea eb ek agree more f v =
+row_counts n row outer inner bound starts es new a b later kept l s ea eb ek el agree more f v w =
     let g = over_rows n (drop (row + 1) outer) (drop (row + 1) inner) (λ ν r. f ν) in
-    agree_then _ _ _ (more g (vanishes-rows n (drop (row + 1) outer) (drop (row + 1) inner) bound (λ ν r. f ν) s v))
+    agree_then _ _ _ (more g (vanishes-rows n (drop (row + 1) outer) (drop (row + 1) inner) bound (λ ν r. f ν) s v)
+    (subst (λ m. VanishesBelow n m bound g) (sym el) (below_rows n (drop (row + 1) outer) (drop (row + 1) inner) bound (λ ν r. f ν) s w)))
     (agree_then _ _ _ (agree_same _ _
     (ap₂ (λ (x y : ℕ). weighed n (next_row n kept y x g) es) ea eb
     ∙ ap (λ (t : Bool). weighed n (next_row n t (get_or inner row 0) (get_or outer row 0) g) es) ek
     ∙ sym (ap (λ (h : List ℕ → List ℕ → ℕ). weighed n h es) (rows_front n row outer inner (λ ν r. f ν) l))))
-    (agree f v))
+    (agree f v w))
 
 pub last_row : (n row : ℕ) (outer inner : List ℕ) (starts es : List (List ℕ × ℕ)) (f : List ℕ → ℕ) → length outer ≤ row
     → Agree (weighed n (over_rows n (drop row outer) (drop row inner) (λ ν r. f ν)) es) (weighed n (over_rows n outer inner (λ ν r. f ν)) starts)

@@ -1,8 +1,8 @@
 -- The tests for good tableaux by columns and by rows agree.
-use Rattle.std.proofs.Common.{◌≡◌, ℕ, zero, suc, ◌+◌, ◌-◌, ◌<◌, ◌≤◌, ◌⊎◌, inl, inr, nat_le, Bool, true, false, cond, ◌&&◌, List, [], ◌∷◌, ◌++◌, map, length, drop, get_or, refl, sym, ap, ap₂, subst, ◌∙◌, arith}
+use Rattle.std.proofs.Common.{◌≡◌, ℕ, zero, suc, ◌+◌, ◌-◌, ◌<◌, ◌≤◌, ◌⊎◌, inl, inr, nat_le, Bool, true, ◌&&◌, List, [], ◌∷◌, map, length, drop, get_or, refl, sym, ap, ap₂, subst, ◌∙◌, arith}
 use Rattle.std.proofs.lemmas.Bool.{cases_lt, le-leb, leb-true, and_parts, and_from}
 use Rattle.std.proofs.lemmas.List.{get_or_past, length-map}
-use Rattle.sym_model.specs.Partition.{Falls, ArePositive, part, without_last_zeros}
+use Rattle.sym_model.specs.Partition.{Falls, without_last_zeros}
 use Rattle.sym_model.specs.Polynomial.{join, same}
 use Rattle.sym_model.specs.Schur.{times_in, content, contains, letters_of}
 use Rattle.sym_model.specs.GoodTableau.{is_falling}
@@ -21,7 +21,7 @@ use Rattle.alternant_laws.proofs.StraightShapes.{at_content, falls_places}
 use Rattle.schur_laws.proofs.RisingRows.{up_to_letter, Rises, counts_below}
 use Rattle.schur_laws.proofs.Interlacing.{add_up, add_up-same, add_up-none}
 use Rattle.schur_laws.proofs.TableauPlaces.{row, RowCounts, line_tells, fit_at, grid_back, letters_right, letters_in_all, good_back, sum_at, places_fall}
-use Rattle.schur_laws.proofs.GoodTableaux.{IsTableau, sum_of, all_up_to, tableau_tells, drop_none}
+use Rattle.schur_laws.proofs.GoodTableaux.{sum_of, all_up_to, tableau_tells, drop_none}
 use Rattle.schur_laws.proofs.Companions.{rows_compare, columns_compare}
 use Rattle.schur_laws.proofs.Duality.{contains_places}
 use Rattle.lr_product.proofs.RowWords.{places_down, strip_at, row_test}
@@ -31,13 +31,14 @@ abbrev pub rows_test : ℕ → List ℕ → List ℕ → List (List ℕ) → Boo
 rows_test n ν above [] = true
 rows_test n ν above (w ∷ P) = (is_chain nat_le w && row_test n ν above w) && rows_test n (join ν (content n w)) (places_down n 0 w) P
 
--- ---- numbers
+-- ---- the numbers of ν plus the content of a row
 
 -- no number of ν is greater than the one before it
 abbrev Descends : List ℕ → Type 0
 Descends ν = (k : ℕ) → get_or ν (suc k) 0 ≤ get_or ν k 0
 
--- for every row r, ν_(k+1) and the letters k + 2 in the rows up to r are at most ν_k and the letters k + 1 in the rows before r
+-- for all k and r, ν_(k+1) plus the number of letters k + 2 in the rows up to r is at most ν_k plus the number of
+-- letters k + 1 in the rows before r
 abbrev Compares : List ℕ → List (List ℕ) → Type 0
 Compares ν P =
     (k r : ℕ) → get_or ν (suc k) 0 + add_up (λ i. times_in (suc (suc k)) (row P i)) 0 (suc r) ≤ get_or ν k 0 + add_up (λ i. times_in (suc k) (row P i)) 0 r
@@ -50,7 +51,7 @@ later_sum : (f : ℕ → ℕ) (a k : ℕ) → add_up f (suc a) k ≡ add_up (λ 
 later_sum f a zero = refl
 later_sum f a (suc k) = ap (λ n. f (suc a) + n) (later_sum f (suc a) k)
 
--- ν joined with the content of w has at index k the number ν_k and the number of letters k + 1 in w
+-- ν plus the content of w has at index k the number ν_k plus the number of letters k + 1 in w
 sum_with : (n : ℕ) (ν w : List ℕ) → ((k : ℕ) → n < k → times_in k w ≡ 0) → (k : ℕ) → get_or (join ν (content n w)) k 0 ≡ get_or ν k 0 + times_in (suc k) w
 sum_with n ν w h k = get_or-join ν (content n w) k ∙ ap (λ x. get_or ν k 0 + x) (by (cases_lt k n))
   where
@@ -90,7 +91,7 @@ row_back (suc t) ν above w h s =
     drop_more k [] = nothing k
     drop_more k (a ∷ v) = ap (drop k) (whole_list v)
 
--- the consequences of the test of a row w: it fits below the row above, and the sum with it is decreasing
+-- the consequences of the test of a row w: it fits below the row above, and ν plus its content is weakly decreasing
 pub record RowTold (t : ℕ) (ν above w : List ℕ) : Type 0 where
   pub below : (j : ℕ) → j < t → may_precede nat_le (up_to_letter (suc j) w) (drop (t - suc j) above) ≡ true
   pub strip : (k : ℕ) → suc k < t → get_or ν (suc k) 0 + times_in (suc (suc k)) w ≤ get_or ν k 0
@@ -180,7 +181,8 @@ rows_back n ν above (w ∷ P) rises letters columns first compares =
     (λ j l. drop_places n j (up_to_letter (suc j) (row P 0)) w l ∙ le-leb (up_to_letter (suc j) (row P 0)) (up_to_letter j w) (columns 0 j))
     (next_compares n ν w P (letters 0) compares))
 
--- the consequences of the test of all rows of P
+-- the consequences of the tests of the rows of P: each row is weakly increasing and fits below the one above, and the
+-- sums remain weakly decreasing
 pub record RowsTold (n : ℕ) (ν above : List ℕ) (P : List (List ℕ)) : Type 0 where
   pub rises : (r : ℕ) → Rises (row P r)
   pub first : FirstBelow n above P
@@ -271,7 +273,8 @@ outer_falls (a ∷ []) f (suc r) = let e = get_or_past {X = ℕ} [] (suc r) 0 (o
 outer_falls (a ∷ b ∷ parts) f zero = f.0
 outer_falls (a ∷ b ∷ parts) f (suc r) = outer_falls (b ∷ parts) f.1 r
 
--- the number at index i of the sum reached from ν by the columns from index j + 1 on
+-- if no letter of P is greater than n, the sum reached from ν by the columns of P from index j + 1 on has at index i the
+-- number ν_i plus the number of letters i + 1 in these columns
 sum_right : (n : ℕ) (ν : List ℕ) (P : List (List ℕ)) → HasLetters n P → (j i : ℕ) → get_or (sum_reached n ν (drop (suc j) (transposed P))) i 0 ≡ sum_of (drop (suc j)) ν P i
 sum_right n ν P h j i =
     sum_at n ν (drop (suc j) (transposed P)) (λ k l. letters_right k j P ∙ add_up-none (λ r. times_in k (drop (suc j) (row P r))) 0 (length P) (λ r m. none k (suc j) (row P r) (h r k l))) i
@@ -347,7 +350,7 @@ test_same n ν outer inner P falls holds long descends fit =
             let e = columns_compare ν P told.rises columns told.compares (suc j) i in
             let l = sum_right n ν P letters j (suc i) in let r = sum_right n ν P letters j i in omega arith)
 
--- if ν is weakly decreasing and the row w passes its test, ν joined with the content of w is weakly decreasing
+-- if ν is weakly decreasing and the row w passes its test, ν plus the content of w is weakly decreasing
 pub row_descends : (n : ℕ) (ν above w : List ℕ) → length ν ≡ n → Descends ν → (is_chain nat_le w && row_test n ν above w) ≡ true → Descends (join ν (content n w))
 row_descends n ν above w long falls e k =
     let told = row_tells n ν above w (and_parts (is_chain nat_le w) (row_test n ν above w) e).1 in

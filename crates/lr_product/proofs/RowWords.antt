@@ -1,7 +1,7 @@
 -- Rows as weakly increasing words, and the sum over them taken letter by letter from the greatest down.
-use Rattle.std.proofs.Common.{◌≡◌, ℕ, zero, suc, ◌+◌, ◌-◌, ◌<◌, ◌≤◌, ◌⊎◌, inl, inr, nat_le, Bool, true, false, cond, ◌&&◌, ◌==◌, List, [], ◌∷◌, ◌++◌, map, length, replicate, take, drop, get_or, min, max, refl, sym, ap, ap₂, subst, ◌∙◌, arith, ℤ, pos, ◌+ℤ◌, append_assoc, append-nil}
+use Rattle.std.proofs.Common.{◌≡◌, ℕ, zero, suc, ◌+◌, ◌-◌, ◌<◌, ◌≤◌, nat_le, Bool, true, false, cond, ◌&&◌, ◌==◌, List, [], ◌∷◌, ◌++◌, map, length, replicate, take, drop, get_or, refl, sym, ap, ap₂, subst, ◌∙◌, arith, ℤ, pos, ◌+ℤ◌, append_assoc, append-nil}
 use Rattle.std.proofs.lemmas.Bool.Decides.{nat_tests}
-use Rattle.std.proofs.lemmas.Bool.{cases_lt, le-leb, lt-leb}
+use Rattle.std.proofs.lemmas.Bool.{le-leb, lt-leb}
 use Rattle.sym_model.specs.Sum.{total, sum_by}
 use Rattle.sym_model.specs.Partition.{after}
 use Rattle.sym_model.specs.Polynomial.{join}
@@ -23,7 +23,7 @@ use Rattle.lr_product.specs.RowExtension.{added, most_left, least_left, filled, 
 use Rattle.lr_product.proofs.Ranges.{range-passing, numbers-ext}
 use Rattle.lr_product.proofs.Raising.{take_all}
 
--- ---- letters of words
+-- ---- the numbers of letters up to a given letter in a word
 
 up_to-append : (k : ℕ) (v w : List ℕ) → up_to_letter k (v ++ w) ≡ up_to_letter k v + up_to_letter k w
 up_to-append k [] w = omega arith
@@ -98,7 +98,7 @@ counts-content (suc d) t w = let e : t + 1 ≡ suc t = omega arith in ap₂ ◌�
 
 -- ---- the state while a row is filled
 
--- ν with the numbers κ added from index t on
+-- ν with the numbers κ added to its own from index t on
 abbrev joined : ℕ → List ℕ → List ℕ → List ℕ
 joined zero ν κ = join ν κ
 joined (suc t) [] κ = []
@@ -130,9 +130,10 @@ at-parts n f s w e = ap₂ f (ap (λ k. take k (s ++ w)) (sym e) ∙ take_all s 
     drop_all [] = drop_none w
     drop_all (a ∷ v) = drop_all v
 
--- ---- tests of a row
+-- ---- the tests that a row must pass
 
--- whether i letters t + 1 may be added: the number at index t of the sum stays at most the one before it
+-- whether i letters t + 1 may be added to ν as a horizontal strip: ν at index t, plus i, is at most ν at index t - 1
+-- (always true for t = 0)
 abbrev pub strip_at : ℕ → List ℕ → ℕ → Bool
 strip_at zero ν i = true
 strip_at (suc t) ν i = nat_le (get_or ν (suc t) 0 + i) (get_or ν t 0)
@@ -185,7 +186,7 @@ sum-tested false x low (suc k) = let e = sum-tested false x (low + 1) k in let z
 -- ---- the sum over the rows, from the greatest letter down
 
 module _ (n b : ℕ) (kept : Bool) (f : List ℕ → List ℕ → ℕ) (ν : List ℕ) (long : length ν ≡ n) (falls : (i : ℕ) → get_or ν (suc i) 0 ≤ get_or ν i 0) where
-  -- f of ν joined with the content of w, and of the numbers of w if the row is kept
+  -- f of ν plus the content of w, and of the numbers of places of w if the row is kept
   value : List ℕ → ℕ
   value w = f (join ν (content n w)) (kept_row kept n 0 w)
 

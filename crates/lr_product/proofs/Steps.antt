@@ -1,4 +1,4 @@
--- A table with one column more: its entries one by one.
+-- The table after one more column is added, one entry after another.
 use Rattle.std.proofs.Common.{◌≡◌, ℕ, zero, suc, ◌+◌, ◌*◌, ◌^◌, ◌<◌, ◌≤◌, ◌⊎◌, inl, inr, ◌==◌, nat_le, Bool, true, false, ◌&&◌, cond, List, [], ◌∷◌, length, take, drop, refl, sym, ap, ap₂, ◌∙◌, arith}
 use Rattle.std.specs.Prelude.{Some, slice_get}
 use Rattle.std.proofs.lemmas.Bool.{leb-true, eqb-true, cases_lt}
@@ -38,7 +38,7 @@ weighed-none n g (e ∷ es) (suc i) key w z h l = weighed-none n g es i key w (o
 abbrev no_of : Bool → Bool → Bool → ℕ
 no_of p q r = cond (p && (q && r)) 0 1
 
--- a reached sum: n numbers, decreasing, with a sum of at most m
+-- ν is a weakly decreasing list of n numbers with a sum of at most m
 pub record IsReached (n m : ℕ) (ν : List ℕ) : Type 0 where
   pub long : length ν ≡ n
   pub small : size ν ≤ m

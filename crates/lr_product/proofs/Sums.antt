@@ -1,5 +1,5 @@
 -- The count of a sum in a table, and the counts of products.
-use Rattle.std.proofs.Common.{◌≡◌, ℕ, zero, suc, ◌+◌, ◌*◌, ◌^◌, ◌<◌, ◌≤◌, ◌==◌, ◌⊎◌, inl, inr, nat_le, Bool, true, false, cond, ◌&&◌, List, [], ◌∷◌, min, length, take, refl, sym, ap, ap₂, ◌∙◌, arith, pos}
+use Rattle.std.proofs.Common.{◌≡◌, ℕ, zero, suc, ◌+◌, ◌*◌, ◌^◌, ◌<◌, ◌≤◌, ◌==◌, ◌⊎◌, inl, inr, nat_le, Bool, true, false, cond, ◌&&◌, List, [], ◌∷◌, min, length, take, get_or, refl, sym, ap, ap₂, ◌∙◌, arith, pos}
 use Rattle.std.specs.Prelude.{nat_eq}
 use Rattle.std.specs.Cmp.Lexicographic.{pointwise}
 use Rattle.std.proofs.lemmas.Bool.{ne_eqb, le-leb, cases_lt}
@@ -12,6 +12,7 @@ use Rattle.tableau_laws.specs.Grid.{pass_by_place}
 use Rattle.tableau_laws.specs.ColumnFold.{column_lines, is_sum}
 use Rattle.schur_laws.proofs.ProductCounts.{product_by_shape}
 use Rattle.lr_product.specs.WeighedSum.{at_state, weighed, over_states, comes_to, VanishesOutside}
+use Rattle.lr_product.specs.RowExtension.{VanishesBelow}
 use Rattle.lr_product.specs.Capped.{Agree}
 use Rattle.lr_product.proofs.Agreeing.{agree_same, agree_then}
 use Rattle.lr_product.proofs.Steps.{agree_entry}
@@ -58,6 +59,19 @@ agree_counted now rest all rest' ways x saturated next p e o s a =
     agree_entry now next rest all rest' ways ways x p e (agree_same ways ways refl)
     (agree_then _ _ _ a (record { below = λ h. let q = ap (λ y. ways * y) o in omega arith; past = λ h. let q = ap (λ y. ways * y) o in omega arith }))
 
+in_front-rest : (a : ℕ) (l : List ℕ) (b : ℕ) (outer : List ℕ) → same l outer ≡ false → same (in_front a l) (b ∷ outer) ≡ false
+in_front-rest zero [] b outer e = refl
+in_front-rest zero (x ∷ l) b outer e = and_false (0 == b) e
+  where
+    and_false : (t : Bool) {u : Bool} → u ≡ false → t && u ≡ false
+    and_false true e' = e'
+    and_false false e' = refl
+in_front-rest (suc a) l b outer e = and_false (suc a == b) e
+  where
+    and_false : (t : Bool) {u : Bool} → u ≡ false → t && u ≡ false
+    and_false true e' = e'
+    and_false false e' = refl
+
 -- if a sum exceeds `outer` at some place, it is not `outer` without its last zeros
 pub comes-inside : (outer ν right : List ℕ) → pass_by_place nat_le ν outer ≡ false → comes_to outer ν right ≡ 0
 comes-inside outer ν right h = ap (λ t. cond t 1 0) (by_places ν outer h)
@@ -65,19 +79,6 @@ comes-inside outer ν right h = ap (λ t. cond t 1 0) (by_places ν outer h)
     front : (a : ℕ) (l : List ℕ) (b : ℕ) (outer' : List ℕ) → b < a → same (in_front a l) (b ∷ outer') ≡ false
     front zero l b outer' g = absurd (omega arith)
     front (suc a) l b outer' g = ap (λ t. t && same l outer') (ne_eqb (suc a) b (λ e. absurd (omega arith)))
-
-    rest : (a : ℕ) (l : List ℕ) (b : ℕ) (outer' : List ℕ) → same l outer' ≡ false → same (in_front a l) (b ∷ outer') ≡ false
-    rest zero [] b outer' e = refl
-    rest zero (x ∷ l) b outer' e = and_false (0 == b) e
-      where
-        and_false : (t : Bool) {u : Bool} → u ≡ false → t && u ≡ false
-        and_false true e' = e'
-        and_false false e' = refl
-    rest (suc a) l b outer' e = and_false (suc a == b) e
-      where
-        and_false : (t : Bool) {u : Bool} → u ≡ false → t && u ≡ false
-        and_false true e' = e'
-        and_false false e' = refl
 
     by_places : (ν' outer' : List ℕ) → pass_by_place nat_le ν' outer' ≡ false → same (without_last_zeros ν') outer' ≡ false
     by_places [] [] g = absurd (cc)
@@ -91,9 +92,24 @@ comes-inside outer ν right h = ap (λ t. cond t 1 0) (by_places ν outer h)
 
         split : (b < a) ⊎ (a ≤ b) → (pass_by_place nat_le ν' outer' ≡ false → same (without_last_zeros ν') outer' ≡ false) → same (in_front a (without_last_zeros ν')) (b ∷ outer') ≡ false
         split (inl l) rec = front a (without_last_zeros ν') b outer' l
-        split (inr l) rec = rest a (without_last_zeros ν') b outer' (rec (tail (nat_le a b) (le-leb a b l) g))
+        split (inr l) rec = in_front-rest a (without_last_zeros ν') b outer' (rec (tail (nat_le a b) (le-leb a b l) g))
 
--- the count of a table at a partition is that of the product
+-- if a sum is less than `outer` at some place, it is not `outer` without its last zeros
+comes-below : (n : ℕ) (outer : List ℕ) → VanishesBelow n 0 outer (comes_to outer)
+comes-below n outer ν right j e h g = ap (λ t. cond t 1 0) (short ν outer j h (omega arith))
+  where
+    first : (a : ℕ) (l : List ℕ) (b : ℕ) (outer' : List ℕ) → a < b → same (in_front a l) (b ∷ outer') ≡ false
+    first zero [] b outer' q = refl
+    first zero (x ∷ l) b outer' q = ap (λ t. t && same (x ∷ l) outer') (ne_eqb 0 b (λ d. absurd (omega arith)))
+    first (suc a) l b outer' q = ap (λ t. t && same l outer') (ne_eqb (suc a) b (λ d. absurd (omega arith)))
+
+    short : (ν' outer' : List ℕ) (i : ℕ) → i < length outer' → get_or ν' i 0 < get_or outer' i 0 → same (without_last_zeros ν') outer' ≡ false
+    short ν' [] i l q = absurd (omega arith)
+    short [] (b ∷ outer') i l q = refl
+    short (a ∷ ν') (b ∷ outer') zero l q = first a (without_last_zeros ν') b outer' q
+    short (a ∷ ν') (b ∷ outer') (suc i) l q = in_front-rest a (without_last_zeros ν') b outer' (short ν' outer' i (omega arith) q)
+
+-- the number of ways to reach `content` by the columns of outer/inner is the count of the product
 pub states-shape : (inner content outer : List ℕ) → IsPartition inner → IsPartition content → IsPartition outer → contains outer inner ≡ true
     → over_states (rows content) (column_lines outer inner) (comes_to content) (resize (rows content) []) [] ≡ product_count (rows outer) inner content outer
 states-shape inner content outer p q r h =
@@ -106,13 +122,13 @@ states-shape inner content outer p q r h =
 
 pub counted_shape : (count letters : ℕ) (es : List (List ℕ × ℕ)) (outer parts inside inner content : List ℕ) → letters ≡ rows content → parts ≡ content → inside ≡ inner
     → IsPartition inner → IsPartition content → IsPartition outer → contains outer inner ≡ true → Agree count (weighed (length parts) (comes_to parts) es)
-    → ((f : List ℕ → ℕ) → VanishesOutside parts (λ ν r. f ν) → Agree (weighed letters (λ ν r. f ν) es) (over_states letters (column_lines outer inside) (λ ν r. f ν) (resize letters []) []))
+    → ((f : List ℕ → ℕ) → VanishesOutside parts (λ ν r. f ν) → VanishesBelow letters 0 parts (λ ν r. f ν) → Agree (weighed letters (λ ν r. f ν) es) (over_states letters (column_lines outer inside) (λ ν r. f ν) (resize letters []) []))
     → Agree count (product_count (rows outer) inner content outer)
 counted_shape count letters es outer parts inside inner content l p is i j o h a ways =
     let n : length parts ≡ letters = ap length p ∙ sym l in
     agree_then _ _ _ a
     (agree_then _ _ _ (agree_same _ (weighed letters (comes_to parts) es) (ap (λ (k : ℕ). weighed k (comes_to parts) es) n))
-    (agree_then _ _ _ (ways (λ ν. comes_to parts ν []) (comes-inside parts))
+    (agree_then _ _ _ (ways (λ ν. comes_to parts ν []) (comes-inside parts) (comes-below letters parts))
     (agree_same _ _ (ap₂ (λ (q t : List ℕ). over_states letters (column_lines outer t) (comes_to q) (resize letters []) []) p is
     ∙ ap (λ (k : ℕ). over_states k (column_lines outer inner) (comes_to content) (resize k []) []) l ∙ states-shape inner content outer i j o h))))
 

@@ -1,4 +1,4 @@
--- The lines of the columns of a skew shape.
+-- The line of a column of a skew shape: which of the places of the column are cells.
 use Rattle.std.specs.Prelude.{ℕ, nat_le, nat_lt, Bool, cond, List, [], ◌∷◌, ◌++◌, drop}
 use Rattle.sym_model.specs.Partition.{part}
 

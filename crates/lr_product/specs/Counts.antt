@@ -1,4 +1,5 @@
--- Counts of good tableaux T by the partition start + content(T).
+-- Counts of good tableaux T by the partition start + content(T). A tableau is good for start if start plus the content
+-- of its last columns is a partition for each number of last columns.
 use Rattle.std.specs.Prelude.{◌≡◌, ℕ, ◌^◌, ◌≤◌, nat_eq, ℤ, pos, List, []}
 use Rattle.std.specs.Cmp.Lexicographic.{pointwise}
 use Rattle.sym_model.specs.Sum.{Among}
@@ -24,8 +25,8 @@ pub record IsPastSomewhere (n : ℕ) (count : List ℕ → ℕ) : Type 0 where
   pub within : rows parts ≤ n
   pub past : 2 ^ 127 ≤ count parts
 
--- the counts are the coefficients of the terms: each label occurs once and is a partition with at most k rows, and
--- the coefficient of each such partition is its count
+-- the counts are the coefficients of the terms: each label occurs once, is a partition with at most k rows and has a
+-- nonzero coefficient, and for each partition with at most k rows the coefficient, 0 if it is no label, is its count
 pub record HasCounts (k : ℕ) (count : List ℕ → ℕ) (terms : WholeTerms) : Type 0 where
   pub table : IsCombination (pointwise nat_eq) is_label whole terms
   pub labels : (t : List ℕ × ℤ) → Among t terms → IsPartition t.0 × (rows t.0 ≤ k)

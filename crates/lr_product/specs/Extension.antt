@@ -17,17 +17,19 @@ abbrev pub greatest_letter : ℕ → List ℕ → ℕ
 greatest_letter n [] = n
 greatest_letter n (r ∷ right) = min n r
 
--- the least letter allowed below another at a place that is a cell or not
+-- the least letter allowed below the letter `above`: at a cell (true), or at a place outside the shape (false)
 abbrev pub least_letter : Bool → ℕ → ℕ
 least_letter true above = above + 1
 least_letter false above = 0
 
--- one more than the greatest letter allowed below another, left of the column right
+-- the letters allowed below the letter `above`, left of the column `right`, are less than this number: at a cell
+-- (true), where they are at most n and the letter to the right; at a place outside the shape (false), where only 0 is
+-- allowed, and only below 0
 abbrev pub letters_end : ℕ → Bool → List ℕ → ℕ → ℕ
 letters_end n true right above = greatest_letter n right + 1
 letters_end n false right above = cond (above == 0) 1 0
 
--- the list with 1 added at place b, counted from 1; unchanged if b = 0
+-- the list with 1 added at place b, counted from 1; unchanged if it has no such place
 abbrev pub raised : ℕ → List ℕ → List ℕ
 raised zero numbers = numbers
 raised (suc b) [] = []
@@ -39,15 +41,16 @@ abbrev pub mark : Bool → ℕ → List ℕ
 mark true b = b ∷ []
 mark false b = []
 
--- whether 1 may be added at an index: the number stays at most the one before it, and at most that of the bound at
--- its index
+-- whether 1 may be added at index i: the number stays at most the one before it, if there is one, and at most that of
+-- the bound at i, if the bound has one
 abbrev pub can_rise : List ℕ → ℕ → List ℕ → Bool
 can_rise bound i numbers =
     ((i == 0) || nat_lt (slice_index numbers i) (slice_index numbers (i - 1)))
     && (nat_le (length bound) i || nat_lt (slice_index numbers i) (slice_index bound i))
 
--- the sum of f over the states at the end of all ways to complete a column from a state, below a letter and left of
--- the column right, whose sums are decreasing; the letters of the column are kept or not
+-- the sum of f over the states at the end of all ways to complete a column from a state, below the letter `above` and
+-- left of the column `right`, whose sums are weakly decreasing; if `kept` is true, the letters of the column are
+-- appended to the state
 abbrev pub extended : Bool → ℕ → List Bool → List ℕ → ℕ → (List ℕ → List ℕ → ℕ) → List ℕ → ℕ
 extended kept n [] right above f state = cond (is_falling (take n state)) (at_state n f state) 0
 extended kept n (cell ∷ line) right above f state =

@@ -22,13 +22,14 @@ letter_room k outer inner m = add_up (room_in_row k outer inner) 0 m
 abbrev pub letters_within : List ℕ → ℕ → ℕ
 letters_within content k = add_up (λ i. get_or content i 0) 0 k
 
--- for some k the content has more letters from 1 to k than the columns can hold
+-- for some k the content has more letters from 1 to k than the columns of outer/inner can hold
 abbrev pub IsOverfull : List ℕ → List ℕ → List ℕ → Type 0
 IsOverfull outer inner content =
     (k : ℕ) × (k ≤ length content)
     × (letter_room k outer inner (length outer) < letters_within content k)
 
--- the conditions on the content of a lattice tableau of outer/inner, and on inner if the two are exchanged
+-- conditions that are necessary for a lattice tableau of outer/inner with this content: inner and the content may be
+-- exchanged in each of them, since this does not change the number of these tableaux
 pub record MayHaveContent (outer inner content : List ℕ) : Type 0 where
   pub sizes : size inner + size content ≡ size outer
   pub inner_inside : contains outer inner ≡ true

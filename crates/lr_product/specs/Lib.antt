@@ -2,6 +2,7 @@ pub mod WeighedSum
 pub mod StateCounts
 pub mod Capped
 pub mod Extension
+pub mod MarksFree
 pub mod ColumnLine
 pub mod Counts
 pub mod ProductOfFactors

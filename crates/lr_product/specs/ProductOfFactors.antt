@@ -19,6 +19,6 @@ pub record MayMeet (k : ℕ) (next : List ℕ) (t : List ℕ × ℤ) : Type 0 wh
   pub cells : size t.0 + size next ≤ 4096
   pub positive : pos 1 ≤ℤ t.1
 
--- each term of the list may meet the factor next
+-- each term of the list satisfies `MayMeet` for the factor next
 abbrev pub AllMayMeet : ℕ → List ℕ → WholeTerms → Type 0
 AllMayMeet k next terms = (t : List ℕ × ℤ) → Among t terms → MayMeet k next t

@@ -1,8 +1,8 @@
 -- Good tableaux built row by row from the first row on (Gelfand and Tsetlin). Places outside the
 -- shape have the letter 0. A state holds the sum reached, in n places, and after it, of the row added
 -- last, the numbers of places with a letter at most n - 1, n - 2, .., 0.
-use Rattle.std.specs.Prelude.{ℕ, zero, suc, ◌+◌, ◌-◌, nat_le, nat_lt, max, Bool, cond, List, [], ◌∷◌}
-use Rattle.std.specs.Prelude.{◌++◌, length, drop, slice_index}
+use Rattle.std.specs.Prelude.{◌≡◌, ℕ, zero, suc, ◌+◌, ◌-◌, ◌<◌, nat_le, nat_lt, max, Bool, cond, List, []}
+use Rattle.std.specs.Prelude.{◌∷◌, ◌++◌, length, drop, get_or, slice_index}
 use Rattle.sym_model.specs.Sum.{sum_by}
 use Rattle.sym_model.specs.Partition.{part}
 use Rattle.tableau_laws.specs.Grid.{may_precede}
@@ -55,3 +55,15 @@ over_rows n (a ∷ outer) inner f ν above =
 abbrev pub begun : List ℕ → List ℕ → ℕ
 begun ν [] = 0
 begun ν (x ∷ right) = 1
+
+-- the number of cells of outer/inner
+abbrev pub cell_count : List ℕ → List ℕ → ℕ
+cell_count [] inner = 0
+cell_count (a ∷ outer) inner = cell_count outer (drop 1 inner) + (a - part inner 1)
+
+-- f is 0 at each sum of n numbers in which some number is less than that of the bound at its place
+-- even after m is added to it
+abbrev pub VanishesBelow : ℕ → ℕ → List ℕ → (List ℕ → List ℕ → ℕ) → Type 0
+VanishesBelow n m bound f =
+    (ν right : List ℕ) (j : ℕ) → length ν ≡ n → j < length bound
+    → get_or ν j 0 + m < get_or bound j 0 → f ν right ≡ 0

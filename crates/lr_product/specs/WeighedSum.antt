@@ -12,7 +12,7 @@ use Rattle.tableau_laws.specs.PaddedRows.{words_over}
 use Rattle.sym_model.specs.Sum.{sum_by}
 use Rattle.tableau_laws.specs.ColumnFold.{may_be_next}
 
--- f of the sum and the column of a state
+-- f(sum reached, column added last) of a state, whose first n numbers are the sum
 abbrev pub at_state : ℕ → (List ℕ → List ℕ → ℕ) → List ℕ → ℕ
 at_state n f state = f (take n state) (drop n state)
 
@@ -20,12 +20,11 @@ at_state n f state = f (take n state) (drop n state)
 abbrev pub weighed : ℕ → (List ℕ → List ℕ → ℕ) → List (List ℕ × ℕ) → ℕ
 weighed n f entries = sum_by (λ (e : List ℕ × ℕ). e.1 * at_state n f e.0) entries
 
--- the sum over the terms of a list of the count times f of the label in n places,
--- with no column added
+-- the sum of |c|·f(λ, []) over the terms c·λ of a list, with λ resized to n places; [] means that no column is added yet
 abbrev pub started : ℕ → (List ℕ → List ℕ → ℕ) → WholeTerms → ℕ
 started n f terms = sum_by (λ (t : List ℕ × ℤ). nat_abs t.1 * f (resize n t.0) []) terms
 
--- the sum of f(sum reached, column) over the columns c of a line that may be next after ν and right
+-- the sum of f(sum reached, column) over the columns c of a line that may be next after the sum ν and the column `right`
 abbrev pub next_states : ℕ → List Bool → (List ℕ → List ℕ → ℕ) → List ℕ → List ℕ → ℕ
 next_states n line f ν right =
     sum_by (λ c. cond (may_be_next n ν right c) (f (join ν (content n c)) c) 0)
@@ -37,7 +36,7 @@ abbrev pub over_states : ℕ → List (List Bool) → (List ℕ → List ℕ →
 over_states n [] f ν right = f ν right
 over_states n (line ∷ lines) f ν right = over_states n lines (next_states n line f) ν right
 
--- 0 if ν is a decreasing list of n numbers whose sum is at most m, otherwise 1
+-- 0 if ν is a weakly decreasing list of n numbers whose sum is at most m, otherwise 1
 abbrev pub unreached : ℕ → ℕ → List ℕ → List ℕ → ℕ
 unreached n m ν right = cond ((length ν == n) && (nat_le (size ν) m && is_falling ν)) 0 1
 

@@ -41,8 +41,9 @@ pub fn coef(
     count_in(alloc, outer, left, right)
 }
 
-/// The coefficient, as the number of lattice tableaux of the shape `outer` by the greater factor
-/// whose content is the other one: that shape has the fewest cells.
+/// The coefficient of `outer` in the product of `left` and `right`, as the number of lattice
+/// tableaux of the skew shape of `outer` by the factor with more cells, whose content is the other
+/// factor. With the factors exchanged, the skew shape would have at least as many cells.
 fn count_in(
     alloc: Global,
     outer: &Partition,
@@ -63,8 +64,8 @@ fn count_in(
     count_inside(alloc, outer, left, right)
 }
 
-/// The number of lattice tableaux of the shape `outer` by `inner` with the content `content`. Only
-/// letters up to the number of its parts occur, so no others are tried.
+/// The number of lattice tableaux of the skew shape `outer`/`inner` with the content `content`.
+/// Only letters up to the number of its parts occur, so no others are tried.
 fn count_inside(
     alloc: Global,
     outer: &Partition,
@@ -92,7 +93,8 @@ fn count_inside(
     Ok(Int::new(count as i128))
 }
 
-/// The count of the states whose sum begins with `parts`, or the cap if it is greater.
+/// The sum of the counts of the states that begin with `parts`, or the cap, 2^127, if it is
+/// greater.
 fn count_of(table: &States, parts: &[u16]) -> u128
     requires { ArePositive parts.now }
     ensures agrees { Agree result

@@ -7,6 +7,7 @@ ghost use Rattle.sym_model.specs.Schur.{contains};
 ghost use Rattle.tableau_laws.specs.ColumnFold.{column_lines};
 ghost use Rattle.lr_product.specs.WeighedSum.{weighed, over_states, unreached, VanishesOutside};
 ghost use Rattle.lr_product.specs.Capped.{Agree};
+ghost use Rattle.lr_product.specs.RowExtension.{VanishesBelow};
 ghost use Rattle.lr_product.specs.ColumnLine.{column_line};
 
 use crate::rows::with_shape;
@@ -17,8 +18,9 @@ use calc_base::NoMemory;
 use partitions::Partition;
 use std::alloc::Global;
 
-/// For each partition ν, the number of good tableaux T of a skew shape with entries up to `letters`
-/// such that `start` + content(T) = ν. Those ν that exceed the bound at some place may be missing.
+/// For each partition ν, the number, or 2^127 if it is greater, of the tableaux T of a skew shape
+/// with entries up to `letters` that are good for `start` and for which `start` + content(T) = ν. A
+/// ν may be missing if it differs from the bound at one of the places that the bound has.
 pub(crate) fn ways_by_columns(
     alloc: Global,
     start: &[u16],
@@ -35,6 +37,7 @@ pub(crate) fn ways_by_columns(
     requires bound { length bound.now ≤ letters }
     ensures ways { IfOk result (λ table. (f : List ℕ → ℕ)
         → VanishesOutside bound.now (λ ν right. f ν)
+        → VanishesBelow letters 0 bound.now (λ ν right. f ν)
         → Agree (weighed letters (λ ν right. f ν) table.entries)
         (over_states letters (column_lines outer.now inner.now) (λ ν right. f ν)
         (resize letters start.now) [])) }
@@ -46,7 +49,8 @@ pub(crate) fn ways_by_columns(
     with_shape(alloc, starts, outer, inner, letters, bound)
 }
 
-/// The table after all columns of a skew shape in `letters` letters, with sums within a bound.
+/// The table of the states after all columns of outer/inner are added to those of `starts`, with
+/// letters from 1 to `letters`. Its counts, capped at 2^127, are correct for sums within `bound`.
 pub(crate) fn with_columns(
     alloc: Global,
     starts: States,
@@ -100,12 +104,13 @@ fn first_table(alloc: Global, start: &[u16], letters: u16) -> Result<States, NoM
     ensures { IfOk result (λ table. (f : List ℕ → List ℕ → ℕ)
         → Agree (weighed letters f table.entries) (f (resize letters start.now) [])) }
 {
-    let mut table = Table::with_room(alloc, usize::from(letters), 1)?;
-    add_start(alloc, &mut table, start, letters, 1)?;
-    Ok(table.into_states())
+    let state = padded(alloc, start, letters)?;
+    let mut states = States::with_room(alloc, usize::from(letters), 1)?;
+    states.push(&state, 1)?;
+    Ok(states)
 }
 
-/// Adds a count to that of the state that is a start, padded with zeros, before any column.
+/// Adds a count to the state of a start, padded with zeros, before any column.
 pub(crate) fn add_start(
     alloc: Global,
     table: &mut Table,

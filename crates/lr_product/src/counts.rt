@@ -18,8 +18,8 @@ use linear_combinations::{Lin, Terms};
 use partitions::Partition;
 use std::alloc::Global;
 
-/// For each partition ν, the number of good tableaux T of a skew shape with entries up to `letters`
-/// such that `start` + content(T) = ν.
+/// For each partition ν, the number of the tableaux T of a skew shape with entries up to `letters`
+/// that are good for `start` and for which `start` + content(T) = ν.
 ///
 /// Returns `Large` if and only if such a number exceeds 2^127 - 1.
 pub(crate) fn good_counts(
@@ -106,7 +106,8 @@ fn collected_terms(
     Ok(terms.sorted_terms()?)
 }
 
-/// Adds a count to the coefficient of a sum without its last zeros.
+/// Adds a count to the coefficient of a sum without its last zeros. If the count is 2^127 or more,
+/// this returns `Large` before any memory is allocated.
 fn add_sum(
     alloc: Global,
     terms: &mut Lin<Partition, Int>,
@@ -119,6 +120,7 @@ fn add_sum(
     ensures large { IsErrOf result SumFault.Large
         → (n : ℕ) → coefficient (pointwise nat_eq) (pos 0) terms.old (without_last_zeros sum.now)
         ≡ pos n → 2 ^ 127 ≤ n + ways }
+    ensures past { 2 ^ 127 ≤ ways → IsErrOf result SumFault.Large }
 {
     if ways >= CAP {
         return Err(SumFault::Large);

@@ -1,13 +1,18 @@
 //! Columns added letter by letter.
-ghost use Rattle.std.specs.Prelude.{◌≡◌, ℕ, ◌+◌, ◌*◌, ◌^◌, ◌≤◌, List, length, take, cond, true};
+ghost use Rattle.std.specs.Prelude.{◌≡◌, ℕ, ◌+◌, ◌*◌, ◌^◌, ◌≤◌, List, ◌∷◌, length, take};
+ghost use Rattle.std.specs.Prelude.{cond, true};
 ghost use Rattle.std.specs.Prelude.{OnOk};
 ghost use Rattle.sym_model.specs.GoodTableau.{is_falling};
 ghost use Rattle.sym_model.specs.Partition.{size};
 ghost use Rattle.lr_product.specs.WeighedSum.{weighed, unreached, VanishesOutside};
 ghost use Rattle.lr_product.specs.Capped.{Agree};
 ghost use Rattle.lr_product.specs.Extension.{extended};
+ghost use Rattle.lr_product.specs.MarksFree.{MarksFree};
 
-use crate::letters::{end_of_letters, has_room, least_letter, place, rest_of, take_back};
+use crate::letters::{
+    end_of_letters, free_after, free_letters, has_room, least_letter, left_of_letter, next_letter,
+    place, rest_of, take_back,
+};
 use crate::table::Table;
 use calc_base::NoMemory;
 
@@ -24,54 +29,150 @@ pub(crate) struct Column {
 }
 
 /// Adds the ways to complete a column from a state: `line` has the remaining places, which lie
-/// below the letter `above` and left of the column `right`. The state is the sum so far and the
-/// letters of the column so far.
-///
-/// `bound` has the greatest value of each number of the sum; it may be shorter than the sum. A
-/// letter is skipped if the sum would not be decreasing with it or would exceed the bound, since no
-/// later letter repairs either.
-pub(crate) fn extend(
+/// below the letter `above` and left of the column `right`. The state is not restored. A letter is
+/// placed at once if it is the least one allowed and its right neighbour allows no greater one.
+pub(crate) fn extend_first(
     table: &mut Table,
     state: &mut Vec<u16>,
     line: &[bool],
     right: &[u16],
     above: u16,
     bound: &[u16],
-    column: Column,
+    column: &Column,
 ) -> Result<(), NoMemory>
-    requires ways { column.ways ≤ 2 ^ 127 }
-    requires letters { column.letters ≤ 512 }
-    requires bound { length bound.now ≤ column.letters }
-    requires above { above ≤ column.letters }
-    requires long { column.letters ≤ length state.old.items }
-    requires width { length state.old.items + cond column.is_kept (length line.now) 0
+    requires ways { column.now.ways ≤ 2 ^ 127 }
+    requires letters { column.now.letters ≤ 512 }
+    requires bound { length bound.now ≤ column.now.letters }
+    requires above { above ≤ column.now.letters }
+    requires long { column.now.letters ≤ length state.old.items }
+    requires width { length state.old.items + cond column.now.is_kept (length line.now) 0
         ≡ table.old.width }
-    requires falls { is_falling (take column.letters state.old.items) ≡ true }
-    requires size { size (take column.letters state.old.items) + length line.now ≤ 4096 }
+    requires falls { is_falling (take column.now.letters state.old.items) ≡ true }
+    requires size { size (take column.now.letters state.old.items) + length line.now ≤ 4096 }
+    ensures width { OnOk result (table.new.width ≡ table.old.width) }
+    ensures adds { OnOk result ((f : List ℕ → List ℕ → ℕ) → VanishesOutside bound.now f
+        → Agree (weighed column.now.letters f table.new.entries)
+        (weighed column.now.letters f table.old.entries
+        + column.now.ways * extended column.now.is_kept column.now.letters line.now right.now above f
+        state.old.items)) }
+    ensures reached { OnOk result
+        ((m : ℕ) → size (take column.now.letters state.old.items) + length line.now ≤ m
+        → weighed column.now.letters (unreached column.now.letters m) table.old.entries ≡ 0
+        → weighed column.now.letters (unreached column.now.letters m) table.new.entries ≡ 0) }
+{
+    if above < column.letters && has_room(state, above + 1, bound) {
+        if let Some((rest, others)) = left_of_letter(line, right, above + 1) {
+            place(state, above + 1, column.is_kept)?;
+            return extend_first(table, state, rest, others, above + 1, bound, column);
+        }
+    }
+    let free = free_letters(state, above, column.letters, bound);
+    extend(table, state, free, line, right, above, bound, column)
+}
+
+/// Adds the ways to complete a column from a state: `line` has the remaining places, which lie
+/// below the letter `above` and left of the column `right`. The state is the sum so far and the
+/// letters of the column so far, and `free` is the set of the letters greater than `above` and at
+/// most 64 that may be placed.
+///
+/// `bound` has the greatest value of each number of the sum; it may be shorter than the sum. A
+/// letter is skipped if the sum would not be weakly decreasing with it or would exceed the bound,
+/// since no later letter repairs either.
+#[cycle(columns)]
+fn extend(
+    table: &mut Table,
+    state: &mut Vec<u16>,
+    free: u64,
+    line: &[bool],
+    right: &[u16],
+    above: u16,
+    bound: &[u16],
+    column: &Column,
+) -> Result<(), NoMemory>
+    requires ways { column.now.ways ≤ 2 ^ 127 }
+    requires letters { column.now.letters ≤ 512 }
+    requires bound { length bound.now ≤ column.now.letters }
+    requires above { above ≤ column.now.letters }
+    requires long { column.now.letters ≤ length state.old.items }
+    requires width { length state.old.items + cond column.now.is_kept (length line.now) 0
+        ≡ table.old.width }
+    requires falls { is_falling (take column.now.letters state.old.items) ≡ true }
+    requires free { MarksFree column.now.letters above bound.now state.old.items free }
+    requires size { size (take column.now.letters state.old.items) + length line.now ≤ 4096 }
     ensures same { OnOk result (state.new.items ≡ state.old.items) }
     ensures width { OnOk result (table.new.width ≡ table.old.width) }
     ensures adds { OnOk result ((f : List ℕ → List ℕ → ℕ) → VanishesOutside bound.now f
-        → Agree (weighed column.letters f table.new.entries)
-        (weighed column.letters f table.old.entries
-        + column.ways * extended column.is_kept column.letters line.now right.now above f
+        → Agree (weighed column.now.letters f table.new.entries)
+        (weighed column.now.letters f table.old.entries
+        + column.now.ways * extended column.now.is_kept column.now.letters line.now right.now above f
         state.old.items)) }
     ensures reached { OnOk result
-        ((m : ℕ) → size (take column.letters state.old.items) + length line.now ≤ m
-        → weighed column.letters (unreached column.letters m) table.old.entries ≡ 0
-        → weighed column.letters (unreached column.letters m) table.new.entries ≡ 0) }
+        ((m : ℕ) → size (take column.now.letters state.old.items) + length line.now ≤ m
+        → weighed column.now.letters (unreached column.now.letters m) table.old.entries ≡ 0
+        → weighed column.now.letters (unreached column.now.letters m) table.new.entries ≡ 0) }
 {
     let Some((cell, rest)) = line.split_first() else {
         return table.add(state, column.ways);
     };
-    let low = least_letter(*cell, above);
-    let end = end_of_letters(column.letters, *cell, rest.len(), right, above);
-    for letter in low..end {
-        if !has_room(state, letter, bound) {
-            continue;
-        }
+    place_letters(table, state, free, *cell, rest, right, above, bound, column)
+}
+
+/// Adds the ways to complete a column from a state: `cell` says whether the first remaining place
+/// is a cell, and `rest` has the places below it. These places lie below the letter `above` and
+/// left of the column `right`; `free` is the set of the letters greater than `above` and at most 64
+/// that may be placed.
+#[cycle(columns)]
+#[inline(never)]
+fn place_letters(
+    table: &mut Table,
+    state: &mut Vec<u16>,
+    free: u64,
+    cell: bool,
+    rest: &[bool],
+    right: &[u16],
+    above: u16,
+    bound: &[u16],
+    column: &Column,
+) -> Result<(), NoMemory>
+    requires ways { column.now.ways ≤ 2 ^ 127 }
+    requires letters { column.now.letters ≤ 512 }
+    requires bound { length bound.now ≤ column.now.letters }
+    requires above { above ≤ column.now.letters }
+    requires long { column.now.letters ≤ length state.old.items }
+    requires width { length state.old.items + cond column.now.is_kept (length rest.now + 1) 0
+        ≡ table.old.width }
+    requires falls { is_falling (take column.now.letters state.old.items) ≡ true }
+    requires free { MarksFree column.now.letters above bound.now state.old.items free }
+    requires size { size (take column.now.letters state.old.items) + (length rest.now + 1) ≤ 4096 }
+    ensures same { OnOk result (state.new.items ≡ state.old.items) }
+    ensures width { OnOk result (table.new.width ≡ table.old.width) }
+    ensures adds { OnOk result ((f : List ℕ → List ℕ → ℕ) → VanishesOutside bound.now f
+        → Agree (weighed column.now.letters f table.new.entries)
+        (weighed column.now.letters f table.old.entries
+        + column.now.ways * extended column.now.is_kept column.now.letters (cell ∷ rest.now) right.now above f
+        state.old.items)) }
+    ensures reached { OnOk result
+        ((m : ℕ) → size (take column.now.letters state.old.items) + (length rest.now + 1) ≤ m
+        → weighed column.now.letters (unreached column.now.letters m) table.old.entries ≡ 0
+        → weighed column.now.letters (unreached column.now.letters m) table.new.entries ≡ 0) }
+{
+    let end = end_of_letters(column.letters, cell, rest.len(), right, above);
+    let mut letter = next_letter(state, free, least_letter(cell, above), end, bound);
+    while letter < end {
         let len = place(state, letter, column.is_kept)?;
-        extend(table, state, rest, rest_of(right), letter, bound, column)?;
+        let later = free_after(free, state, letter, bound);
+        extend(
+            table,
+            state,
+            later,
+            rest,
+            rest_of(right),
+            letter,
+            bound,
+            column,
+        )?;
         take_back(state, len, letter);
+        letter = next_letter(state, free, letter + 1, end, bound);
     }
     Ok(())
 }

@@ -36,7 +36,7 @@ pub fn mult_all(
         → HasPast (IsCoefficientOfProduct rows factors.now) }
     ensures fits { OnOk result (HasPast (IsCoefficientOfProduct rows factors.now) → ⊥) }
 
-    // In a number of variables it is the classical product.
+    // In K variables the list is the product by its Schur coefficients (`classical_product`).
     ensures classical { IfOk result (λ terms. IfSome rows (λ k.
         Same terms (classical_product k factors.now))) }
 {
@@ -68,7 +68,7 @@ fn has_longer(factors: &Factors, k: u16) -> bool
     false
 }
 
-/// The product in K variables of factors with at most K rows.
+/// The product of the factors, each with at most `variables` rows, in that number of variables.
 fn product_in(
     alloc: Global,
     factors: &Factors,

@@ -8,9 +8,9 @@ ghost use Rattle.lr_product.specs.LetterRoom.{IsOverfull, MayHaveContent};
 
 use partitions::Partition;
 
-/// Whether sizes, containment or the room for small letters show that the shape `outer` by `inner`
-/// has no lattice tableau with this content. The test treats `inner` and the content alike, as they
-/// may be exchanged.
+/// Whether sizes, containment or the room for small letters show that the skew shape
+/// `outer`/`inner` has no lattice tableau with this content. The test treats `inner` and the
+/// content alike, as exchanging them does not change the number of these tableaux.
 pub(crate) fn has_no_room(outer: &Partition, inner: &Partition, content: &Partition) -> bool
     ensures none { IsTrue result
         → product_count (rows outer.now) inner.now content.now outer.now ≡ 0 }
@@ -62,7 +62,8 @@ fn room_up_to(outer: &[u16], inner: &[u16], k: usize) -> u32
     room
 }
 
-/// The number of cells of a row, counted from 0, that have fewer than `k` cells above them.
+/// The number of cells of a row, counted from 0, that have fewer than `k` cells above them in their
+/// columns.
 fn room_in_row(outer: &[u16], inner: &[u16], k: usize, row: usize) -> u16
     ensures { result ≡ room_in_row_of k outer.now inner.now row }
 {

@@ -1,12 +1,99 @@
 //! The letters of a column, and their effect on a state.
-ghost use Rattle.std.specs.Prelude.{◌≡◌, ◌+◌, ◌-◌, ◌^◌, ◌<◌, ◌≤◌, ◌==◌, ◌||◌, List, ℕ, ◌++◌};
-ghost use Rattle.std.specs.Prelude.{length, drop, slice_index, OnOk, IfOk};
+ghost use Rattle.std.specs.Prelude.{◌≡◌, ◌+◌, ◌-◌, ◌^◌, ◌<◌, ◌≤◌, ◌==◌, ◌||◌, List, ℕ, true};
+ghost use Rattle.std.specs.Prelude.{◌++◌, ◌∷◌, false, nat_le, nat_lt};
+ghost use Rattle.std.specs.Prelude.{length, take, drop, slice_index, OnOk, IfOk, IfSome};
+ghost use Rattle.sym_model.specs.GoodTableau.{is_falling};
 ghost use Rattle.lr_product.specs.Extension.{raised, mark, can_rise as can_rise_at};
+ghost use Rattle.lr_product.specs.MarksFree.{MarksFree};
 ghost use Rattle.lr_product.specs.Extension.{least_letter as least_letter_of, letters_end};
 
 use calc_base::NoMemory;
 
-/// Whether a letter may be placed: the sum stays decreasing, and within the bound.
+/// The greatest letter that can be in a set of letters, which is a number of 64 bits.
+const MARKED: u16 = 64;
+
+/// The set of the letters that may be placed, with which the sum stays weakly decreasing and within
+/// the bound, among those greater than `above` and at most `letters` and 64. The letter b has the
+/// binary digit b - 1.
+pub(crate) fn free_letters(numbers: &[u16], above: u16, letters: u16, bound: &[u16]) -> u64
+    requires { letters ≤ length numbers.now }
+    ensures { MarksFree letters above bound.now numbers.now result }
+{
+    let mut free: u64 = 0;
+    for at in usize::from(above)..usize::from(letters.min(MARKED)) {
+        free |= u64::from(can_rise(numbers, at, bound)) << at;
+    }
+    free
+}
+
+/// The set of the letters greater than `letter`, which has just been placed, that may be placed
+/// now, from the set `free` of those that could be placed before. The next letter is added to it
+/// unless the bound forbids it, since the sum was weakly decreasing.
+pub(crate) fn free_after(free: u64, numbers: &[u16], letter: u16, bound: &[u16]) -> u64
+    requires { length bound.now ≤ length numbers.now }
+    ensures { (n above : ℕ) (before after : List ℕ) → numbers.now ≡ raised letter before ++ after
+        → n ≤ length before → length bound.now ≤ n → is_falling (take n before) ≡ true
+        → above ≤ letter → MarksFree n above bound.now before free
+        → MarksFree n letter bound.now numbers.now result }
+{
+    let at = usize::from(letter);
+    if letter == 0 {
+        return free;
+    }
+    if letter >= MARKED {
+        return free;
+    }
+    if is_allowed(numbers, at, bound) {
+        return free | 1 << letter;
+    }
+    free
+}
+
+/// The least letter from `from` to `end - 1` that may be placed; `end` if there is none. Letters up
+/// to 64 are looked up in `free`.
+pub(crate) fn next_letter(numbers: &[u16], free: u64, from: u16, end: u16, bound: &[u16]) -> u16
+    requires length { end ≤ length numbers.now + 1 }
+    requires free { MarksFree (end - 1) (from - 1) bound.now numbers.now free }
+    ensures within { result ≤ end }
+    ensures least { result < end → from ≤ result }
+    ensures skipped { (b : ℕ) → from ≤ b → b < result
+        → ((b == 0) || can_rise_at bound.now (b - 1) numbers.now) ≡ false }
+    ensures room { result < end
+        → ((result == 0) || can_rise_at bound.now (result - 1) numbers.now) ≡ true }
+{
+    if from == 0 {
+        return 0;
+    }
+    if from > MARKED {
+        return first_with_room(numbers, from, end, bound);
+    }
+    let letter = from + (free >> (from - 1)).trailing_zeros() as u16;
+    if letter > MARKED {
+        return first_with_room(numbers, MARKED + 1, end, bound);
+    }
+    letter.min(end)
+}
+
+/// The least letter from `from` to `end - 1` that may be placed, with a test of each; `end` if there
+/// is none.
+fn first_with_room(numbers: &[u16], from: u16, end: u16, bound: &[u16]) -> u16
+    requires { end ≤ length numbers.now + 1 }
+    ensures within { result ≤ end }
+    ensures least { result < end → from ≤ result }
+    ensures skipped { (b : ℕ) → from ≤ b → b < result
+        → ((b == 0) || can_rise_at bound.now (b - 1) numbers.now) ≡ false }
+    ensures room { result < end
+        → ((result == 0) || can_rise_at bound.now (result - 1) numbers.now) ≡ true }
+{
+    for letter in from..end {
+        if has_room(numbers, letter, bound) {
+            return letter;
+        }
+    }
+    end
+}
+
+/// Whether a letter may be placed: the sum stays weakly decreasing, and within the bound.
 pub(crate) fn has_room(numbers: &[u16], letter: u16, bound: &[u16]) -> bool
     requires { letter ≤ length numbers.now }
     ensures { result ≡ ((letter == 0) || can_rise_at bound.now (letter - 1) numbers.now) }
@@ -19,10 +106,20 @@ fn can_rise(numbers: &[u16], at: usize, bound: &[u16]) -> bool
     requires { at < length numbers.now }
     ensures { result ≡ can_rise_at bound.now at numbers.now }
 {
-    (at == 0 || numbers[at] < numbers[at - 1]) && (bound.len() <= at || numbers[at] < bound[at])
+    (at == 0 || numbers[at] < numbers[at - 1]) && is_allowed(numbers, at, bound)
 }
 
-/// The least letter for a place below the letter `above`.
+/// Whether the bound allows the number at an index to be raised by one.
+fn is_allowed(numbers: &[u16], at: usize, bound: &[u16]) -> bool
+    requires { at < length bound.now → at < length numbers.now }
+    ensures { result ≡ (nat_le (length bound.now) at
+        || nat_lt (slice_index numbers.now at) (slice_index bound.now at)) }
+{
+    bound.len() <= at || numbers[at] < bound[at]
+}
+
+/// The least letter allowed below the letter `above`: `above` + 1 at a cell, 0 at a place outside
+/// the shape.
 pub(crate) fn least_letter(cell: bool, above: u16) -> u16
     requires { above ≤ 512 }
     ensures { result ≡ least_letter_of cell above }
@@ -30,8 +127,8 @@ pub(crate) fn least_letter(cell: bool, above: u16) -> u16
     if cell { above + 1 } else { 0 }
 }
 
-/// One more than the greatest letter for a place, so that enough letters are left for the `below`
-/// places under it.
+/// One more than the greatest letter for a place that leaves enough greater letters for the `below`
+/// places under it; 0 outside the shape if `above` is not 0, where no letter is allowed.
 pub(crate) fn end_of_letters(
     letters: u16,
     cell: bool,
@@ -55,6 +152,27 @@ pub(crate) fn end_of_letters(
     } else {
         0
     }
+}
+
+/// The rest of a column, and that of the column to its right, below their first places; `None` unless
+/// the first place is a cell and its right neighbour is `letter`.
+pub(crate) fn left_of_letter<'a>(
+    line: &'a [bool],
+    right: &'a [u16],
+    letter: u16,
+) -> Option<(&'a [bool], &'a [u16])>
+    ensures { IfSome result (λ r. (line.now ≡ true ∷ r.0.now) × (right.now ≡ letter ∷ r.1.now)) }
+{
+    let Some((cell, rest)) = line.split_first() else {
+        return None;
+    };
+    let Some((neighbour, others)) = right.split_first() else {
+        return None;
+    };
+    if *cell && *neighbour == letter {
+        return Some((rest, others));
+    }
+    None
 }
 
 /// The column below its first place.
@@ -81,7 +199,7 @@ pub(crate) fn place(state: &mut Vec<u16>, letter: u16, is_kept: bool) -> Result<
     Ok(len)
 }
 
-/// Adds 1 to the number of `letter` in the sum.
+/// Adds 1 to the number of `letter` in the sum; the letter 0 has none.
 fn raise(state: &mut Vec<u16>, letter: u16)
     requires within { letter ≤ length state.old.items }
     requires room { 0 < letter → slice_index state.old.items (letter - 1) < 2 ^ 16 - 1 }

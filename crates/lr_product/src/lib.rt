@@ -1,17 +1,21 @@
 //! Products of two to eight Schur polynomials, skew Schur polynomials and their coefficients, as
-//! counts of good tableaux.
+//! counts of good tableaux: those for which a start, a partition, plus the content of the last
+//! columns is a partition for each number of last columns.
 //!
-//! The tableaux are counted column by column from the rightmost to the leftmost, in a table from
-//! the sum reached and the column added last to the number of ways; or row by row from the first
-//! on, if the shape has at most four rows, all of one length, and many columns.
+//! A sum is the start plus the content of a part of a tableau. The tableaux are counted column by
+//! column, from the rightmost to the leftmost: a table maps each pair of the sum reached and the
+//! column added last to the number of ways to reach it. If the shape has at most five rows, and
+//! this is expected to need fewer states, they are counted row by row instead, from the first row
+//! on.
 //!
 //! What is proved:
 //!
-//! `mult`, `skew`, `coef`: the coefficients are counts of good tableaux (lattice tableaux for
-//! `skew`), and these counts are the Schur coefficients, in every number of variables or in a given
-//! number. `coef` counts in the skew shape of `outer` by the greater factor. `mult_all` is the
-//! product of 2 to 8 Schur polynomials in Schur polynomials, in every number of variables or in a
-//! given number. Each call returns `Large` if and only if a coefficient exceeds 2^127 - 1.
+//! The coefficients of `mult`, `skew` and `coef` are counts of good tableaux (for `skew`, of
+//! lattice tableaux, which are good for the empty start), and these counts are the Schur
+//! coefficients, in every number of variables or in a given number. `coef` counts in the skew shape
+//! of `outer` by the factor with more cells. `mult_all` returns the product of 2 to 8 Schur
+//! polynomials in Schur polynomials, in every number of variables or in a given number. Each call
+//! returns `Large` if and only if a coefficient exceeds 2^127 - 1.
 #![tactic(auto)]
 
 mod coefficient;

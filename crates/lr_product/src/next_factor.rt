@@ -1,4 +1,5 @@
-//! A list of terms times one more factor: all labels go through the columns of the factor together.
+//! A list of terms times one more factor: one table starts with all labels, and the shape of the
+//! factor is filled from each of them.
 ghost use Rattle.std.specs.Prelude.{◌≡◌, ℕ, ◌^◌, ◌≤◌, ℤ, pos, ◌≤ℤ◌, nat_eq, List, IfOk, OnOk};
 ghost use Rattle.std.specs.Prelude.{IsErrOf};
 ghost use Rattle.std.specs.Cmp.Lexicographic.{pointwise};
@@ -62,8 +63,9 @@ fn starts_of(
     Ok(table.into_states())
 }
 
-/// The product of a list of Schur polynomials and the Schur polynomial of `next`, in `variables`
-/// variables. Letters beyond the rows of a label and the factor together add no tableaux.
+/// The product of a linear combination of Schur polynomials and the Schur polynomial of `next`, in
+/// `variables` variables. A label of the product has at most as many rows as `next` and the label
+/// with the most rows in the list together, so no greater letters are used.
 ///
 /// Returns `Large` if and only if a coefficient exceeds 2^127 - 1.
 pub(crate) fn times_factor(

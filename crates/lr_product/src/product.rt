@@ -23,8 +23,8 @@ use std::alloc::Global;
 
 /// The product of the Schur polynomials of `left` and `right` in Schur polynomials: in every number
 /// of variables, or in K variables, with only the labels of at most K rows, if `rows` is K. The
-/// coefficient of a label is the number of good tableaux of the shape `right` for the start `left`
-/// that reach it (Littlewood and Richardson).
+/// coefficient of a label ν is the number of good tableaux T of the shape `right` for the start
+/// `left` such that `left` + content(T) = ν (Littlewood and Richardson).
 ///
 /// Returns `Large` if and only if a coefficient exceeds 2^127 - 1.
 pub fn mult(
@@ -49,8 +49,9 @@ pub fn mult(
         → HasPast (IsCoefficientOfProduct rows (left.now ∷ right.now ∷ [])) }
     ensures fits { OnOk result (HasPast (IsCoefficientOfProduct rows (left.now ∷ right.now ∷ [])) → ⊥) }
 
-    // In K variables the list is the classical product, and if the result is `Large`, the sum of
-    // the absolute values of all coefficients is at least 2^127.
+    // In K variables the list is the product by its Schur coefficients (`classical_product`), and
+    // if the result is `Large`, the sum of the absolute values of all coefficients is at least
+    // 2^127.
     ensures classical { IfOk result (λ terms. IfSome rows (λ k.
         Same terms (classical_product k (left.now ∷ right.now ∷ [])))) }
     ensures heavy { IsErrOf result SumFault.Large → IfSome rows (λ k.
@@ -86,8 +87,9 @@ pub(crate) fn counts_in(
     counts_from(alloc, left, right, variables)
 }
 
-/// The counts of good tableaux of the shape `right` for the start `left`, without exchanging the
-/// two. Letters beyond the rows of both factors together add no tableaux.
+/// The counts of good tableaux of the shape `right` for the start `left`, for the partitions with
+/// no more rows than there are variables, without exchanging the two. Letters greater than the
+/// number of rows of both factors together are in no good tableau.
 fn counts_from(
     alloc: Global,
     left: &Partition,

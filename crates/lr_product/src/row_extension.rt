@@ -5,10 +5,10 @@ ghost use Rattle.sym_model.specs.GoodTableau.{is_falling};
 ghost use Rattle.sym_model.specs.Partition.{size};
 ghost use Rattle.lr_product.specs.WeighedSum.{weighed, unreached, VanishesOutside};
 ghost use Rattle.lr_product.specs.Capped.{Agree};
-ghost use Rattle.lr_product.specs.RowExtension.{filled};
+ghost use Rattle.lr_product.specs.RowExtension.{filled, VanishesBelow};
 
 use crate::letters::rest_of;
-use crate::row_letters::{least_left, most_left, put_letters, take_letters};
+use crate::row_letters::{end_by_bound, least_left, most_left, put_letters, take_letters};
 use crate::table::Table;
 use calc_base::NoMemory;
 
@@ -19,6 +19,8 @@ pub(crate) struct Row {
     pub(crate) letters: u16,
     /// The number of places outside the shape. They are the first of the row, with the letter 0.
     pub(crate) outside: u16,
+    /// The number of cells of the rows below: they add at most this to a number of the sum.
+    pub(crate) later: u16,
     /// Whether the new states keep the row after the sum, for the row below: the numbers of places
     /// with a letter at most n - 1, n - 2, .., 0.
     pub(crate) is_kept: bool,
@@ -27,13 +29,14 @@ pub(crate) struct Row {
 }
 
 /// Fills the first `placed` places of a row with letters up to `up_to` in all ways, and adds each
-/// state reached to the table, with the number `row.ways`. At the start `state` is the sum with the
+/// state reached to the table, with the count `row.ways`. At the start `state` is the sum with the
 /// greater letters of the row, and the numbers kept for these; at the end it is the same again.
 /// Fails only if memory runs out.
 ///
 /// A letter is allowed below a smaller one only: `above` has the numbers of places of the row above
 /// with a letter less than `up_to - 1`, `up_to - 2`, and so on, and is empty for the first row. No
-/// number of the sum may exceed the one before it, or that of the bound.
+/// number of the sum may exceed the one before it, or that of the bound, and each must be able to
+/// reach that of the bound by the rows below.
 pub(crate) fn fill(
     table: &mut Table,
     state: &mut Vec<u16>,
@@ -41,35 +44,37 @@ pub(crate) fn fill(
     placed: u16,
     above: &[u16],
     bound: &[u16],
-    row: Row,
+    row: &Row,
 ) -> Result<(), NoMemory>
-    requires ways { row.ways ≤ 2 ^ 127 }
-    requires letters { up_to ≤ row.letters }
-    requires bound { length bound.now ≤ row.letters }
-    requires long { row.letters ≤ length state.old.items }
-    requires placed { row.outside ≤ placed }
-    requires width { length state.old.items + cond row.is_kept up_to 0 ≡ table.old.width }
-    requires falls { is_falling (take row.letters state.old.items) ≡ true }
-    requires size { size (take row.letters state.old.items) + (placed - row.outside) ≤ 4096 }
+    requires ways { row.now.ways ≤ 2 ^ 127 }
+    requires letters { up_to ≤ row.now.letters }
+    requires bound { length bound.now ≤ row.now.letters }
+    requires long { row.now.letters ≤ length state.old.items }
+    requires placed { row.now.outside ≤ placed }
+    requires width { length state.old.items + cond row.now.is_kept up_to 0 ≡ table.old.width }
+    requires falls { is_falling (take row.now.letters state.old.items) ≡ true }
+    requires size { size (take row.now.letters state.old.items) + (placed - row.now.outside) ≤ 4096 }
     requires cells { placed ≤ 4096 }
     ensures same { OnOk result (state.new.items ≡ state.old.items) }
     ensures width { OnOk result (table.new.width ≡ table.old.width) }
     ensures adds { OnOk result ((f : List ℕ → List ℕ → ℕ) → VanishesOutside bound.now f
-        → Agree (weighed row.letters f table.new.entries)
-        (weighed row.letters f table.old.entries
-        + row.ways * filled row.is_kept row.letters row.outside up_to placed above.now f
+        → VanishesBelow row.now.letters row.now.later bound.now f
+        → Agree (weighed row.now.letters f table.new.entries)
+        (weighed row.now.letters f table.old.entries
+        + row.now.ways * filled row.now.is_kept row.now.letters row.now.outside up_to placed above.now f
         state.old.items)) }
     ensures reached { OnOk result
-        ((m : ℕ) → size (take row.letters state.old.items) + (placed - row.outside) ≤ m
-        → weighed row.letters (unreached row.letters m) table.old.entries ≡ 0
-        → weighed row.letters (unreached row.letters m) table.new.entries ≡ 0) }
+        ((m : ℕ) → size (take row.now.letters state.old.items) + (placed - row.now.outside) ≤ m
+        → weighed row.now.letters (unreached row.now.letters m) table.old.entries ≡ 0
+        → weighed row.now.letters (unreached row.now.letters m) table.new.entries ≡ 0) }
 {
     if up_to == 0 {
         return table.add(state, row.ways);
     }
     let at = up_to - 1;
     let low = least_left(state, at, placed, row.outside, bound);
-    let end = most_left(at, placed, row.outside, above) + 1;
+    let most = most_left(at, placed, row.outside, above);
+    let end = end_by_bound(state, at, placed, row.later, bound).min(most + 1);
     for left in low..end {
         let count = placed - left;
         let len = put_letters(state, at, count, left, row.is_kept)?;

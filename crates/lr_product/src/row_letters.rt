@@ -7,8 +7,9 @@ ghost use Rattle.lr_product.specs.RowExtension.{added, most_left as most_left_of
 use calc_base::NoMemory;
 
 /// The least number of places that may be left for smaller letters, if `placed` places have letters
-/// up to the one at the index `at`. All `outside` places are left. The places that are not left are
-/// added to the number at `at`, which may not exceed the one before it, or that of the bound.
+/// up to a = `at` + 1. All `outside` places are left. The places that are not left get the letter a
+/// and are added to the number at the index `at`, which may not exceed the one before it, or that
+/// of the bound.
 pub(crate) fn least_left(numbers: &[u16], at: u16, placed: u16, outside: u16, bound: &[u16]) -> u16
     requires { at < length numbers.now }
     ensures { result ≡ max (max outside
@@ -46,6 +47,24 @@ fn left_by_bound(numbers: &[u16], at: u16, placed: u16, bound: &[u16]) -> u16
         return placed.saturating_sub(bound[index].saturating_sub(numbers[index]));
     }
     0
+}
+
+/// One more than the greatest number of places that may be left for smaller letters such that the
+/// number at `at` reaches that of the bound, if it is later raised by `later`; `placed + 1` if the
+/// bound has no number there.
+pub(crate) fn end_by_bound(numbers: &[u16], at: u16, placed: u16, later: u16, bound: &[u16]) -> u16
+    requires within { at < length numbers.now }
+    requires placed { placed ≤ 4096 }
+    ensures { result ≡ cond (nat_lt at (length bound.now))
+        ((placed + 1) - ((slice_index bound.now at - slice_index numbers.now at) - later))
+        (placed + 1) }
+{
+    let index = usize::from(at);
+    if index < bound.len() {
+        let missing = bound[index].saturating_sub(numbers[index]);
+        return (placed + 1).saturating_sub(missing.saturating_sub(later));
+    }
+    placed + 1
 }
 
 /// The greatest number of places that may be left for letters smaller than the one at the index

@@ -6,7 +6,7 @@ ghost use Rattle.sym_model.specs.Partition.{size};
 ghost use Rattle.tableau_laws.specs.Grid.{may_precede};
 ghost use Rattle.lr_product.specs.WeighedSum.{at_state, weighed, unreached, VanishesOutside};
 ghost use Rattle.lr_product.specs.Capped.{Agree};
-ghost use Rattle.lr_product.specs.RowExtension.{next_row};
+ghost use Rattle.lr_product.specs.RowExtension.{next_row, VanishesBelow};
 
 use crate::letters::rest_of;
 use crate::row_extension::{Row, fill};
@@ -15,16 +15,18 @@ use crate::table::{Table, capped};
 use calc_base::NoMemory;
 use std::alloc::Global;
 
-/// The table after one more row is filled with letters up to `letters`. Its numbers are right for
-/// sums within `bound`, up to 2^127. The row ends at the column `end`, and its first `outside`
-/// places are outside the shape. The new states keep the row if `is_kept`. Fails only if memory
-/// runs out.
+/// The table after one more row is filled with letters up to `letters`. Its counts, capped at
+/// 2^127, are correct for the sums within `bound` to which `later` more letters can bring each
+/// number to that of the bound. The row ends at the column `end`, and its first `outside` places
+/// are outside the shape; the rows below it have `later` cells. The new states keep the row if
+/// `is_kept`. Fails only if memory runs out.
 pub(crate) fn with_row(
     alloc: Global,
     table: &States,
     letters: u16,
     outside: u16,
     end: u16,
+    later: u16,
     bound: &[u16],
     is_kept: bool,
 ) -> Result<States, NoMemory>
@@ -35,6 +37,7 @@ pub(crate) fn with_row(
     requires reached { weighed letters (unreached letters (4096 - (end - outside))) table.now.entries
         ≡ 0 }
     ensures counts { IfOk result (λ next. (f : List ℕ → List ℕ → ℕ) → VanishesOutside bound.now f
+        → VanishesBelow letters later bound.now f
         → Agree (weighed letters f next.entries)
         (weighed letters (next_row letters is_kept outside end f) table.now.entries)) }
     ensures reached { IfOk result
@@ -44,12 +47,13 @@ pub(crate) fn with_row(
     let width = width_of(letters, is_kept);
     let room = table.len().next_power_of_two();
     let mut next = Table::with_room(alloc, width, room)?;
-    let mut reached: Vec<u16> = Vec::new(alloc);
+    let mut reached: Vec<u16> = Vec::with_capacity(alloc, width)?;
     for at in 0..table.len() {
         let (state, ways) = table.entry(at);
         let row = Row {
             letters,
             outside,
+            later,
             is_kept,
             ways: capped(ways),
         };
@@ -69,7 +73,7 @@ fn width_of(letters: u16, is_kept: bool) -> usize
     usize::from(letters)
 }
 
-/// Adds to `next` each state that a row below `state` reaches, with the number `row.ways`. It makes
+/// Adds to `next` each state that a row below `state` reaches, with the count `row.ways`. It makes
 /// these states in the buffer `reached`. Fails only if memory runs out.
 fn add_rows(
     reached: &mut Vec<u16>,
@@ -91,6 +95,7 @@ fn add_rows(
         → size (take row.letters state.now) + (end - row.outside) ≤ 4096 }
     ensures width { OnOk result (next.new.width ≡ next.old.width) }
     ensures adds { OnOk result ((f : List ℕ → List ℕ → ℕ) → VanishesOutside bound.now f
+        → VanishesBelow row.letters row.later bound.now f
         → Agree (weighed row.letters f next.new.entries)
         (weighed row.letters f next.old.entries
         + row.ways * at_state row.letters
@@ -109,7 +114,7 @@ fn add_rows(
     }
     reached.clear();
     reached.extend_from_slice(sum)?;
-    fill(next, reached, row.letters, end, rest_of(above), bound, row)
+    fill(next, reached, row.letters, end, rest_of(above), bound, &row)
 }
 
 /// Whether a row of `end` places fits below the row that `above` describes: that row has at least

@@ -6,19 +6,21 @@ ghost use Rattle.sym_model.specs.Schur.{contains};
 ghost use Rattle.tableau_laws.specs.ColumnFold.{column_lines};
 ghost use Rattle.lr_product.specs.WeighedSum.{weighed, over_states, unreached, VanishesOutside};
 ghost use Rattle.lr_product.specs.Capped.{Agree};
-ghost use Rattle.lr_product.specs.RowExtension.{over_rows, begun};
+ghost use Rattle.lr_product.specs.RowExtension.{over_rows, begun, cell_count, VanishesBelow};
 
 use crate::columns::with_columns;
 use crate::letter_room::part_at;
+use crate::letters::rest_of;
 use crate::row_step::with_row;
 use crate::states::States;
 use calc_base::NoMemory;
 use partitions::Partition;
 use std::alloc::Global;
 
-/// The table after a whole skew shape is filled with letters up to `letters`. Its numbers are right
-/// for sums within `bound`, up to 2^127. The shape is filled by rows if `letters` is positive and
-/// `has_long_rows` holds, otherwise by columns. Fails only if memory runs out.
+/// The table after a whole skew shape is filled with letters up to `letters`. Its counts, capped at
+/// 2^127, are correct for the sums that begin with `bound`. The shape is filled by rows if
+/// `letters` is positive and `is_faster_by_rows` holds, otherwise by columns. Fails only if memory
+/// runs out.
 pub(crate) fn with_shape(
     alloc: Global,
     starts: States,
@@ -36,6 +38,7 @@ pub(crate) fn with_shape(
     requires bound { length bound.now ≤ letters }
     ensures ways { IfOk result (λ table. (f : List ℕ → ℕ)
         → VanishesOutside bound.now (λ ν right. f ν)
+        → VanishesBelow letters 0 bound.now (λ ν right. f ν)
         → Agree (weighed letters (λ ν right. f ν) table.entries)
         (weighed letters (over_states letters (column_lines outer.now inner.now) (λ ν right. f ν))
         starts.entries)) }
@@ -43,27 +46,38 @@ pub(crate) fn with_shape(
         (λ table. weighed letters (unreached letters 4096) table.entries ≡ 0) }
     ensures shape { OnOk result (IsPartition outer.now) }
 {
-    if letters > 0 && has_long_rows(outer) {
+    if letters > 0 && is_faster_by_rows(outer, letters, !bound.is_empty()) {
         return with_rows(alloc, starts, outer, inner, letters, bound);
     }
     with_columns(alloc, starts, outer, inner, letters, bound)
 }
 
-/// Whether a shape is filled faster by rows than by columns: it has at most four rows, all of one
-/// length, and this length is at least three times the number of rows. With more rows, or rows of
-/// several lengths, the table by rows usually has more states.
-fn has_long_rows(outer: &Partition) -> bool
+/// Whether a shape is probably filled faster by rows than by columns. If the sums have a bound,
+/// this holds for a shape of at most five rows, since a state is left out if one of its numbers
+/// cannot reach that of the bound even with all later cells. If they have none, the number of
+/// columns must be at least three times that of rows; moreover, the rows and letters together must
+/// be at most six, or there must be at most four rows, all of one length. For other shapes the
+/// table by rows usually has more states.
+fn is_faster_by_rows(outer: &Partition, letters: u16, is_bounded: bool) -> bool
     ensures shape { IsPartition outer.now }
 {
     let rows = outer.rows();
     let columns = outer.part(1);
-    rows <= 4
-        && columns / 3 >= rows
-        && u32::from(outer.size()) == u32::from(rows) * u32::from(columns)
+    if is_bounded {
+        return rows <= 5;
+    }
+    if columns / 3 < rows {
+        return false;
+    }
+    if rows.saturating_add(letters) <= 6 {
+        return true;
+    }
+    rows <= 4 && u32::from(outer.size()) == u32::from(rows) * u32::from(columns)
 }
 
-/// The table after all rows of a skew shape are filled with letters up to `letters`. Its numbers
-/// are right for sums within `bound`, up to 2^127. Fails only if memory runs out.
+/// The table after all rows of a skew shape are filled with letters up to `letters`. Its counts,
+/// capped at 2^127, are correct for the sums that begin with `bound`. Fails only if memory runs
+/// out.
 fn with_rows(
     alloc: Global,
     starts: States,
@@ -80,6 +94,7 @@ fn with_rows(
     requires bound { length bound.now ≤ letters }
     ensures ways { IfOk result (λ table. (f : List ℕ → ℕ)
         → VanishesOutside bound.now (λ ν right. f ν)
+        → VanishesBelow letters 0 bound.now (λ ν right. f ν)
         → Agree (weighed letters (λ ν right. f ν) table.entries)
         (weighed letters (over_rows letters outer.now inner.now (λ ν right. f ν))
         starts.entries)) }
@@ -89,10 +104,25 @@ fn with_rows(
 {
     let parts = outer.parts();
     let mut table = starts;
+    let mut later = number_of_cells(parts, inner);
     for row in 0..parts.len() {
         let outside = part_at(inner, row);
+        let end = parts[row];
+        later = later.saturating_sub(end.saturating_sub(outside));
         let is_kept = row + 1 < parts.len();
-        table = with_row(alloc, &table, letters, outside, parts[row], bound, is_kept)?;
+        table = with_row(alloc, &table, letters, outside, end, later, bound, is_kept)?;
     }
     Ok(table)
+}
+
+/// The number of cells of a skew shape.
+fn number_of_cells(outer: &[u16], inner: &[u16]) -> u16
+    requires { size outer.now ≤ 4096 }
+    ensures count { result ≡ cell_count outer.now inner.now }
+    ensures small { result ≤ size outer.now }
+{
+    let Some((end, below)) = outer.split_first() else {
+        return 0;
+    };
+    number_of_cells(below, rest_of(inner)) + end.saturating_sub(part_at(inner, 0))
 }

@@ -19,10 +19,10 @@ use linear_combinations::Terms;
 use partitions::Partition;
 use std::alloc::Global;
 
-/// The skew Schur polynomial of `outer` by `inner` in Schur polynomials: in every number of
-/// variables, or in K variables, with only the labels of at most K rows, if `rows` is K. It is 0 if
-/// `inner` does not lie inside `outer`; otherwise the coefficient of a label is the number of
-/// lattice tableaux of the shape `outer` by `inner` with this content.
+/// The skew Schur polynomial of `outer`/`inner` in Schur polynomials: in every number of variables,
+/// or in K variables, with only the labels of at most K rows, if `rows` is K. It is 0 if `inner`
+/// does not lie inside `outer`; otherwise the coefficient of a label is the number of lattice
+/// tableaux of the skew shape `outer`/`inner` with this content.
 ///
 /// Returns `Large` if and only if a coefficient exceeds 2^127 - 1.
 pub fn skew(
@@ -52,8 +52,9 @@ pub fn skew(
     counts_in(alloc, outer, inner, variables)
 }
 
-/// The counts of lattice tableaux of the shape, for the partitions with no more rows than there are
-/// variables. Letters beyond the rows of `outer` add no tableaux.
+/// The counts of lattice tableaux of outer/inner by their content, for the contents with no more
+/// rows than there are variables. Letters greater than the number of rows of `outer` are in no
+/// lattice tableau.
 fn counts_in(
     alloc: Global,
     outer: &Partition,

@@ -13,9 +13,10 @@ use calc_base::{NoMemory, SumFault};
 use coeff_rings::Int;
 use partitions::Partition;
 use std::alloc::Global;
+use std::cmp::Ordering;
 
-/// The sums of the states without their last zeros, with their counts: in the printed order if all
-/// sums have one size.
+/// The sums of the states with a positive count, without their last zeros, with these counts: in
+/// the printed order if all sums have one size.
 pub(crate) fn sorted_pairs(
     alloc: Global,
     table: &States,
@@ -29,8 +30,10 @@ pub(crate) fn sorted_pairs(
     ensures large { IsErrOf result SumFault.Large
         → IsPastSomewhere letters (λ parts. weighed letters (comes_to parts) table.now.entries) }
 {
+    let keys = keys_of(alloc, table, letters)?;
     let mut places = places_of(alloc, table)?;
-    sort_places(table, letters, &mut places);
+    sort_places(table, &keys, letters, &mut places);
+    drop(keys);
     let mut pairs: Vec<(Partition, Int)> = Vec::with_capacity(alloc, places.len())?;
     for k in 0..places.len() {
         add_place(alloc, &mut pairs, table, places[k], letters)?;
@@ -50,11 +53,43 @@ fn places_of(alloc: Global, table: &States) -> Result<Vec<usize>, NoMemory>
     Ok(places)
 }
 
-/// Sorts indices by the sums of their states, in decreasing lexicographic order.
-fn sort_places(table: &States, letters: u16, places: &mut Vec<usize>)
+/// A key for each state, by which most sums can be compared.
+fn keys_of(alloc: Global, table: &States, letters: u16) -> Result<Vec<u64>, NoMemory> {
+    let mut keys: Vec<u64> = Vec::with_capacity(alloc, table.len())?;
+    for at in 0..table.len() {
+        keys.push(key_of(sum_at(table, letters, at)))?;
+    }
+    Ok(keys)
+}
+
+/// The first eight numbers as the bytes of one number. The first number that is 255 or more counts
+/// as 255, and those after it as 0, so that different keys are ordered as the sums.
+fn key_of(sum: &[u16]) -> u64 {
+    let mut key: u64 = 0;
+    let mut most = 255;
+    for number in sum.iter().take(8) {
+        key = key << 8 | u64::from((*number).min(most));
+        if *number >= 255 {
+            most = 0;
+        }
+    }
+    key
+}
+
+/// The key at an index; 0 if there is none.
+fn key_at(keys: &[u64], at: usize) -> u64 {
+    keys.get(at).copied().unwrap_or(0)
+}
+
+/// Sorts indices by the sums of their states, in decreasing lexicographic order. The sums are
+/// compared only if their keys are equal.
+fn sort_places(table: &States, keys: &[u64], letters: u16, places: &mut Vec<usize>)
     ensures { IsPermutation places.old.items places.new.items }
 {
-    places.sort_unstable_by(|a, b| sum_at(table, letters, *b).cmp(&sum_at(table, letters, *a)));
+    places.sort_unstable_by(|a, b| match key_at(keys, *b).cmp(&key_at(keys, *a)) {
+        Ordering::Equal => sum_at(table, letters, *b).cmp(&sum_at(table, letters, *a)),
+        order => order,
+    });
 }
 
 /// The sum of the state at an index; empty if there is no such state.

@@ -14,7 +14,8 @@ use std::marker::Model;
 pub(crate) const CAP: u128 = 1 << 127;
 
 /// States of one length, each with its count. A state is the sum reached, in one place for each
-/// letter, followed by the letters of the column added last if a further column needs them.
+/// letter, followed by the column added last, or by numbers for the row added last, if a further
+/// one needs them.
 #[derive(Drop)]
 pub(crate) struct States {
     /// The length of each state.
@@ -78,7 +79,7 @@ impl States {
         None
     }
 
-    /// Whether this state is the one at an index.
+    /// Whether `state` is the one at an index.
     pub(crate) fn is_at(&self, at: usize, state: &[u16]) -> bool
         ensures within { IsTrue result → at < length self.now.entries }
         ensures state { IsTrue result → slice_get (keys_of self.now.entries) at ≡ Some state.now }
@@ -99,7 +100,7 @@ impl States {
         Ok(())
     }
 
-    /// Adds a count to the one at an index.
+    /// Adds a count to the one at an index; a sum over the cap is replaced by the cap.
     pub(crate) fn add_at(&mut self, at: usize, count: u128)
         requires { at < length self.old.entries }
         ensures width { self.new.width ≡ self.old.width }

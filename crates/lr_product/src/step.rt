@@ -7,13 +7,14 @@ ghost use Rattle.lr_product.specs.WeighedSum.{at_state, weighed, next_states, se
 ghost use Rattle.lr_product.specs.WeighedSum.{VanishesOutside};
 ghost use Rattle.lr_product.specs.Capped.{Agree};
 
-use crate::extension::{Column, extend};
+use crate::extension::{Column, extend_first};
 use crate::states::States;
 use crate::table::{Table, capped};
 use calc_base::NoMemory;
 use std::alloc::Global;
 
-/// The table after one more column of this line in `letters` letters, within a bound.
+/// The table after one more column, which is given by `line`, is added, with letters from 1 to
+/// `letters`. Its counts, capped at 2^127, are correct for sums within `bound`.
 pub(crate) fn with_column(
     alloc: Global,
     table: &States,
@@ -38,7 +39,7 @@ pub(crate) fn with_column(
     // If the room is a power of two, a table can mostly reuse the memory of the last but one.
     let room = table.len().next_power_of_two();
     let mut next = Table::with_room(alloc, width, room)?;
-    let mut reached: Vec<u16> = Vec::new(alloc);
+    let mut reached: Vec<u16> = Vec::with_capacity(alloc, width)?;
     for at in 0..table.len() {
         let (state, ways) = table.entry(at);
         let column = Column {
@@ -62,8 +63,8 @@ fn width_of(letters: u16, line: &[bool], is_kept: bool) -> usize
     usize::from(letters)
 }
 
-/// Adds the ways to add a column to a state. The buffer `reached` is used for the states that
-/// arise.
+/// Adds to the counts of `next` the ways to add a column to a state. The states that arise are made
+/// in the buffer `reached`.
 fn add_columns(
     reached: &mut Vec<u16>,
     next: &mut Table,
@@ -97,5 +98,5 @@ fn add_columns(
     let (sum, right) = state.split_at(usize::from(column.letters));
     reached.clear();
     reached.extend_from_slice(sum)?;
-    extend(next, reached, line, right, 0, bound, column)
+    extend_first(next, reached, line, right, 0, bound, &column)
 }

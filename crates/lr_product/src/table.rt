@@ -13,7 +13,7 @@ use std::marker::Model;
 /// The odd number next to 2^64 divided by the golden ratio, which spreads hashes.
 const SPREAD: u64 = 0x9E37_79B9_7F4A_7C15;
 
-/// States with their counts, and slots by which a state is found.
+/// States with their counts, and the slots of a hash table by which a state is found.
 #[derive(Drop)]
 pub(crate) struct Table {
     states: States,
@@ -31,14 +31,16 @@ impl Model for Table {
 }
 
 impl Table {
-    /// An empty table for states of length `width`, with room for `room` of them.
+    /// An empty table for states of length `width`, with room for `room` of them, or for eight if
+    /// `room` is less.
     pub(crate) fn with_room(alloc: Global, width: usize, room: usize) -> Result<Table, NoMemory>
         ensures width { IfOk result (λ t. t.width ≡ width) }
         ensures none { IfOk result (λ t. t.entries ≡ []) }
     {
+        let room = room.max(8);
         Ok(Table {
             states: States::with_room(alloc, width, room)?,
-            slots: vec![in alloc; 0; room.saturating_mul(2).max(16)]?,
+            slots: vec![in alloc; 0; room.saturating_mul(2)]?,
         })
     }
 
@@ -116,17 +118,26 @@ fn find(slots: &[u32], states: &States, state: &[u16]) -> Result<usize, usize>
 /// The slot, among `len`, in which the search for a state begins. Four numbers are mixed in at a
 /// time.
 fn first_slot(state: &[u16], len: usize) -> usize {
+    let (whole, rest) = state.as_chunks::<4>();
     let mut hash: u64 = 0;
-    for numbers in state.chunks(4) {
-        hash = (hash.rotate_left(23) ^ word_of(numbers)).wrapping_mul(SPREAD);
+    for numbers in whole {
+        let [a, b, c, d] = *numbers;
+        hash = mixed(hash, joined(a, b, c, d));
+    }
+    if !rest.is_empty() {
+        hash = mixed(hash, word_of(rest));
     }
     ((hash >> 32).wrapping_mul(len as u64) >> 32) as usize
 }
 
-/// Up to four numbers in one word.
+/// A hash after one more word.
+fn mixed(hash: u64, word: u64) -> u64 {
+    (hash.rotate_left(23) ^ word).wrapping_mul(SPREAD)
+}
+
+/// Up to three numbers in one word.
 fn word_of(numbers: &[u16]) -> u64 {
     match numbers {
-        [a, b, c, d] => joined(*a, *b, *c, *d),
         [a, b, c] => joined(*a, *b, *c, 0),
         [a, b] => joined(*a, *b, 0, 0),
         [a] => u64::from(*a),
@@ -149,7 +160,7 @@ fn note(slots: &mut [u32], slot: usize, at: usize) {
     }
 }
 
-/// `len` slots, filled for these states.
+/// `len` slots, filled with the indices of these states.
 fn slots_of(alloc: Global, states: &States, len: usize) -> Result<Vec<u32>, NoMemory> {
     let mut slots: Vec<u32> = vec![in alloc; 0; len]?;
     for at in 0..states.len() {

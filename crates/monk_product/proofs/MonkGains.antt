@@ -32,7 +32,7 @@ use Rattle.monk_product.proofs.OneCover.{one_cover}
 use Rattle.linear_combinations.proofs.Weighed.{gains_mass}
 use Rattle.sym_model.proofs.Integers.{product-neg_one}
 
--- the terms of c·x_r·S_w, as c times the covers with j > r followed by -c times those with i < r
+-- the covers w·t_rj (j > r) with the coefficient c, followed by the covers w·t_ir (i < r) with -c, are the terms of c·x_r·S_w in Monk's rule
 pub monk_scaled : (c : ℤ) (r : ℕ) (w : List ℕ) → each_with c (covers_up r w) ++ each_with (neg_ℤ c) (covers_down r w) ≡ scaled c (monk_terms r w)
 monk_scaled c r w =
     sym (scaled_append c (each_with (pos 1) (covers_up r w)) (each_with (negsuc 0) (covers_down r w))
@@ -48,7 +48,7 @@ at_count x a (v ∷ vs) one = by (pointwise nat_eq x v) refl (at_count x a vs on
     by true e r = let s = ap (λ (t : Bool). cond {A = ℕ} t 1 0) (same_from v x (sym (same_partition x v e))) in omega arith
     by false e r = omega arith
 
--- each permutation occurs at most once among the terms
+-- each permutation occurs at most once among the terms of x_r·S_w by Monk's rule
 once_terms : (r : ℕ) (w x : List ℕ) → IsOneLine w → 1 ≤ r → mass_at (pointwise nat_eq) x (monk_terms r w) ≤ 1
 once_terms r w x o h =
     let a = mass_at_append (pointwise nat_eq) x (each_with (pos 1) (covers_up r w)) (each_with (negsuc 0) (covers_down r w)) in
@@ -57,7 +57,7 @@ once_terms r w x o h =
     let one = one_cover r w x o h in
     omega arith
 
--- ---- the product of a list
+-- ---- the product of a list of Schubert polynomials and x_r
 
 module _ (r : ℕ) (first : 1 ≤ r) (list : WholeTerms) where
   pub over_product : (φ : List ℕ → ℤ) → over φ (replaced (monk_terms r) list) ≡ over (over_covers r φ) list
@@ -93,7 +93,7 @@ module _ (r : ℕ) (first : 1 ≤ r) (list : WholeTerms) where
         let d = mass_at_replaced (monk_terms r) (pointwise nat_eq) o.0 list (λ t m. once_terms r t.0 o.0 (one_line is t m) first) in
         omega arith
 
-  -- with each label w replaced by its covers, as in Monk's rule for x_r, the sum of the Schubert polynomials of the list is x_r times the sum before
+  -- if each w of a table is replaced by its signed covers, as in Monk's rule for x_r, the sum of the Schubert polynomials becomes x_r times the sum before
   pub pair_product : (n : ℕ) (φ : List ℕ → ℤ) → IsPermutationTable list → over (over_covers r (λ w. pair (schubert_in w n) φ)) list ≡ pair (times (variable_in r n) (combined (λ w. schubert_in w n) list)) φ
   pair_product n φ is =
       sym (pair_times (variable_in r n) (combined (λ w. schubert_in w n) list) φ

@@ -11,7 +11,7 @@ use Rattle.linear_combinations.specs.Entries.{IsCombination}
 pub use Rattle.linear_combinations.specs.Gains.{over, mass, each_with}
 use Rattle.sym_model.specs.WholeTerms.{WholeTerms}
 
--- each permutation occurs once, with a coefficient that is not 0
+-- each permutation occurs once, within the limits of a label, with a coefficient that is not 0
 abbrev pub IsPermutationTable : WholeTerms → Type 0
 IsPermutationTable terms = IsCombination (pointwise nat_eq) is_permutation_label whole terms
 
@@ -23,7 +23,7 @@ AreShort most terms = (t : List ℕ × ℤ) → Among t terms → length t.0 ≤
 abbrev pub monk_terms : ℕ → List ℕ → WholeTerms
 monk_terms r w = each_with (pos 1) (covers_up r w) ++ each_with (negsuc 0) (covers_down r w)
 
--- the sum of φ over the covers w·t_rj with j > r less its sum over the covers w·t_ir with i < r
+-- the sum of φ over the covers w·t_rj with j > r minus its sum over the covers w·t_ir with i < r
 abbrev pub over_covers : ℕ → (List ℕ → ℤ) → List ℕ → ℤ
 over_covers r φ w = total φ (covers_up r w) -ℤ total φ (covers_down r w)
 

@@ -47,9 +47,9 @@ mass_terms r w h =
     let n = count_covers r w h in
     omega arith
 
--- ---- products under the transition rule of the covers
+-- ---- the product of two Schubert polynomials, by the transition rule for the first
 
--- the Schubert polynomial of the identity is 1
+-- S_id·S_label = S_label in n variables, paired with φ; id is the identity
 pub monk_start : (n : ℕ) (φ : List ℕ → ℤ) (label : List ℕ)
     → pair (times (schubert_in (1 ∷ []) n) (schubert_in label n)) φ ≡ pair (schubert_in label n) φ
 monk_start n φ label =
@@ -129,7 +129,7 @@ monk_step n r s φ w label o t is =
     (sym (over_terms r (λ x. pair (times (schubert_in (times_swap r s w) n) (schubert_in x n)) φ)
     label))
 
--- ---- the number of letters of the labels does not grow beyond k
+-- ---- Monk's rule adds at most one letter to a label
 
 pub monk_grows : (k r : ℕ) (v label : List ℕ) → IsShort k v → 1 ≤ r → r ≤ k → r ≤ 255 → k ≤ 254
     → length label ≤ k
@@ -146,7 +146,7 @@ monk_grows k r v label short first last place small few = record {
   few = let m = mass_terms r label first in omega arith;
 }
 
--- the same for a factor that takes at most 31 letters
+-- for labels of at most 31 letters, Monk's rule turns one of at most k letters into at most k labels of at most k + 1 letters
 pub monk_grows_short : (k r : ℕ) (v label : List ℕ) → IsShort k v → 1 ≤ r → r ≤ k → r ≤ 255
     → k ≤ 31 → length label ≤ k
     → GrowsBy length (λ w. (1 ≤ r) × (r ≤ 31) × (length w ≤ 31)) (monk_terms r) k 0 label

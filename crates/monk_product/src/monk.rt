@@ -18,8 +18,8 @@ use transition_walk::Factor;
 /// A list of Schubert polynomials with integer coefficients.
 pub(crate) type Sum = Lin<Perm, Int>;
 
-/// The rule that multiplies by x_r: by Monk's rule, x_r·S_w is the sum of the S of the covers
-/// w·t_rj with j > r, less the sum of those of the covers w·t_ir with i < r.
+/// The rule that multiplies by x_r: by Monk's rule, x_r·S_w is the sum of the S_v over the covers v
+/// = w·t_rj with j > r, minus the sum of the S_v over the covers v = w·t_ir with i < r.
 #[derive(Drop)]
 pub(crate) struct TimesVar {
     pub(crate) r: u16,
@@ -73,7 +73,9 @@ impl Factor<Perm> for TimesVar {
 /// is from 1 to 254, and each label has at most 254 letters.
 ///
 /// The weight of the product is at most that of the list times the greater of r and the greatest
-/// number of letters of a label. Returns `Large` only if the weight of the list is 2^127 or more.
+/// number of letters of a label. The weight of a list is the sum of the absolute values of its
+/// coefficients, or 1 for the empty list. Returns `Large` only if the weight of the list is 2^127
+/// or more.
 pub fn times_var(alloc: Global, list: Sum, r: u16) -> Result<Sum, SumFault>
     requires first { 1 ≤ r }
     requires last { r ≤ 254 }

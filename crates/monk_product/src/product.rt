@@ -24,9 +24,11 @@ use transition_walk::product_of;
 
 /// The product of the Schubert polynomials of two permutations, as a sum of Schubert polynomials in
 /// the printed order of their permutations. The greater number of letters and the smaller number of
-/// inversions add up to at most 255.
+/// inversions must add up to at most 255.
 ///
-/// Returns `Large` only if the weight of the pair is 2^127 or more.
+/// Returns `Large` only if S_w(1, .., 1)·(n + l)^l is 2^127 or more, with w the one of the two
+/// permutations that has fewer inversions, l the number of its inversions, and n the greater of the
+/// two numbers of letters.
 pub fn schubmult(alloc: Global, u: &Perm, v: &Perm) -> Result<Terms<Perm, Int>, SumFault>
     requires { max (length u.now) (length v.now) + inversions (shorter u.now v.now) ≤ 255 }
     ensures meets { IfOk result (λ terms.
@@ -58,8 +60,9 @@ fn act(alloc: Global, w: &Perm, other: &Perm) -> Result<Terms<Perm, Int>, SumFau
     Ok(sum.sorted_terms()?)
 }
 
-/// The same, if the greater number of letters and the inversions of the first permutation add up to
-/// at most 32: no permutation that the transition rule meets has more letters.
+/// The product of S_w and S_other, by the transition rule on `w`, if the greater number of letters
+/// and the number of inversions of `w` add up to at most 32: no permutation that the transition
+/// rule meets has more than 32 letters.
 fn act_shortly(alloc: Global, w: &Perm, other: &Perm) -> Result<Terms<Perm, Int>, SumFault>
     requires { max (length w.now) (length other.now) + inversions w.now ≤ 32 }
     ensures value { IfOk result (λ terms. (n : ℕ)

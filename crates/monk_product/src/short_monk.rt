@@ -36,7 +36,8 @@ fn add_covers_up(w: &ShortPerm, place: usize, c: Int, sum: &mut ShortSum) -> Res
 }
 
 /// Subtracts `c` from the coefficient of each cover of w that exchanges the letters at `place`,
-/// counted from 0, and at a smaller place. Returns `Large` as `add_covers_up` does.
+/// counted from 0, and at a smaller place. Returns `Large` only if, at some label, the absolute
+/// values of the old coefficient and of the gains add up to 2^127 or more.
 fn subtract_covers_down(
     w: &ShortPerm,
     place: usize,
@@ -101,7 +102,7 @@ impl Factor<ShortPerm> for TimesVar {
     ghost grows = { monk_grows_short };
 }
 
-/// The same terms, with permutations of the general type. Fails only if memory runs out.
+/// The terms, with their permutations in the general type. Fails only if memory runs out.
 pub(crate) fn written_out(
     alloc: Global,
     terms: Terms<ShortPerm, Int>,

@@ -84,9 +84,10 @@ impl ShortPerm {
         len
     }
 
-    /// The permutation after exchanging the letters at two places, counted from 0, if this makes
-    /// exactly one more inversion: the first letter is the smaller one, and no place between them
-    /// has a letter between them in value. Otherwise `None`.
+    /// The permutation after exchanging the letters at two places, counted from 0, of which the
+    /// first is the smaller and both are below 32, if this makes exactly one more inversion: the
+    /// first letter is the smaller one, and no place between them has a letter between them in
+    /// value. Otherwise `None`.
     pub fn cover(&self, first: usize, second: usize) -> Option<ShortPerm>
         requires order { first < second }
         requires inside { second < 32 }

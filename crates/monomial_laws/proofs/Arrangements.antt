@@ -1,9 +1,9 @@
--- The arrangements that make ν, counted as a program does: part by part of ν, of which b comes from one label and the
--- rest from the other (specs/MonomialProduct).
---     arrangements-cons     of a list with a first part x: over the different parts b of the left label, and b = 0
---     arrangements-lacking  none if a label has a part greater than all parts of ν
---     arrangements-sizes    none if the sizes of the labels do not add up to that of ν
---     arrangements-comm     the two labels may be exchanged
+-- The ways to write ν as an arrangement of one label plus an arrangement of the other (specs/MonomialProduct), counted part
+-- by part of ν: each part x of ν is the sum of a number b from one label and x - b from the other.
+--     arrangements-cons     the number for x ∷ ν as a sum over the different parts b of the left label, and b = 0
+--     arrangements-lacking  the number is 0 if a label has a part greater than all parts of ν
+--     arrangements-sizes    the number is 0 if the sizes of the labels do not add up to that of ν
+--     arrangements-comm     the number does not change if the two labels are exchanged
 use Rattle.std.proofs.Common.{◌≤◌, ◌+◌, ◌≡◌, ◌⊎◌, ℕ, zero, suc, ◌-◌, Bool, true, false, ◌&&◌, cond, eqb, leb, List, [], ◌∷◌, length, sym, ◌∙◌, ap, ap₂, refl, inl, inr, arith, ℤ, pos, ◌*ℤ◌, map}
 use Rattle.std.proofs.lemmas.Int.{ints}
 use Rattle.std.proofs.lemmas.Bool.{cases_eq, eq-eqb, ne_eqb, eqb-true, leb-true, and_parts, and_from, cond-true}
@@ -13,13 +13,13 @@ use Rattle.sym_model.specs.Partition.{IsPartition, size, insert_part, sorted_par
 use Rattle.sym_model.specs.Bases.{has, down_from, monomial}
 use Rattle.sym_model.specs.RaisedPart.{without_one, distinct}
 use Rattle.monomial_laws.specs.MonomialProduct.{splits, arrangements}
-use Rattle.sym_model.proofs.Sums.{Among_from_each, Among_from_map, total_ext, total_among, total_none, total_exchange, total_zero, length-select}
+use Rattle.sym_model.proofs.Sums.{Among_from_each, Among_from_map, total_ext, total_among, total_none, total_exchange, length-select, total_cond}
 use Rattle.sym_model.proofs.Exponents.{tests_agree, same_true, same_from}
 use Rattle.sym_model.proofs.SortedParts.{size-sorted_parts, IsPartition-sorted_parts, IsPartition-without_one, insert_part-without_one, without_one-insert_part, has-insert_part, has_past, has-zero_or, without_one-zero}
 use Rattle.sym_model.proofs.Monomials.{total_down_from-only, coefficient-monomial, In-monomials}
 use Rattle.sym_model.proofs.PolynomialLaws.{times_comm}
 use Rattle.monomial_laws.proofs.PowerSums.{total_distinct-only}
-use Rattle.monomial_laws.proofs.Splits.{total_splits, length-splits, coefficient_times}
+use Rattle.monomial_laws.proofs.Splits.{total_splits, length-splits, coefficient_times, tests-product}
 use Rattle.sym_model.specs.Bounded.{AreBelow}
 
 -- 1 if s.0 sorts to the partition l and s.1 to r, else 0
@@ -48,7 +48,7 @@ inserted (suc b) p l h k =
     same_from (insert_part (suc b) p) l
     (ap (insert_part (suc b)) (same_true p (without_one (suc b) l) u.1) ∙ insert_part-without_one (suc b) l (omega arith) k.falls m))
 
--- a sum over the numbers up to x that occur in a list, by the different numbers of the list
+-- a sum over the numbers up to x that occur in a list is a sum over the different numbers of the list that are at most x
 among_up_to : (f : ℕ → ℤ) (x : ℕ) (numbers : List ℕ) → total (λ (b : ℕ). cond (has b numbers) (f b) (pos 0)) (down_from x) ≡ total (λ (c : ℕ). cond (leb c x) (f c) (pos 0)) (distinct numbers)
 among_up_to f x numbers =
     total_ext (λ (b : ℕ). cond (has b numbers) (f b) (pos 0)) (λ (b : ℕ). total (λ (c : ℕ). cond (eqb c b) (f c) (pos 0)) (distinct numbers)) (λ b. sym (total_distinct-only f b numbers)) (down_from x)
@@ -63,8 +63,8 @@ among_up_to f x numbers =
     ∙ total_down_from-only (λ b. f c) c x)
     (distinct numbers)
 
--- the number of ways to make x ∷ ν is the sum, over the different b ≤ x that are 0 or a part of l and for which x - b is 0 or a part of r, of the
--- number of ways to make ν from l without b and r without x - b
+-- for partitions l and r, the number of ways to make x ∷ ν is the sum, over the different b ≤ x that are 0 or a part of l and for which x - b is 0 or
+-- a part of r, of the number of ways to make ν from l without b and r without x - b
 pub arrangements-cons : (x : ℕ) (ν l r : List ℕ) → IsPartition l → IsPartition r
     → pos (arrangements l r (x ∷ ν))
     ≡ total (λ (b : ℕ). cond (leb b x) (cond (has (x - b) (0 ∷ r)) (pos (arrangements (without_one b l) (without_one (x - b) r) ν)) (pos 0)) (pos 0)) (distinct (0 ∷ l))
@@ -88,10 +88,6 @@ arrangements-cons x ν l r p q =
     take_out true false false d = refl
     take_out false b c d = refl
 
-    outside : {A : Type 0} (b : Bool) (f : A → ℤ) (xs : List A) → total (λ (y : A). cond b (f y) (pos 0)) xs ≡ cond b (total f xs) (pos 0)
-    outside true f xs = refl
-    outside false f xs = total_zero xs
-
     row : (b : ℕ) → total (λ (s : List ℕ × List ℕ). sorts_to_both l r (b ∷ s.0, (x - b) ∷ s.1)) (splits ν) ≡ cond (has b (0 ∷ l)) (here b) (pos 0)
     row b =
         total_ext
@@ -103,12 +99,15 @@ arrangements-cons x ν l r p q =
         (inserted (x - b) (sorted_parts s.1) r (IsPartition-sorted_parts s.1) q)
         ∙ take_out (has b (0 ∷ l)) (same (sorted_parts s.0) (without_one b l)) (has (x - b) (0 ∷ r)) (same (sorted_parts s.1) (without_one (x - b) r)))
         (splits ν)
-        ∙ outside (has b (0 ∷ l)) (λ (s : List ℕ × List ℕ). cond (has (x - b) (0 ∷ r)) (sorts_to_both (without_one b l) (without_one (x - b) r) s) (pos 0)) (splits ν)
+        ∙ total_cond (has b (0 ∷ l)) (λ (s : List ℕ × List ℕ). cond (has (x - b) (0 ∷ r)) (sorts_to_both (without_one b l) (without_one (x - b) r) s) (pos 0)) (splits ν)
         ∙ ap (λ z. cond (has b (0 ∷ l)) z (pos 0))
-        (outside (has (x - b) (0 ∷ r)) (sorts_to_both (without_one b l) (without_one (x - b) r)) (splits ν)
+        (total_cond (has (x - b) (0 ∷ r)) (sorts_to_both (without_one b l) (without_one (x - b) r)) (splits ν)
         ∙ ap (λ z. cond (has (x - b) (0 ∷ r)) z (pos 0)) (sym (count (without_one b l) (without_one (x - b) r) ν)))
 
 -- ---- labels l that have a part greater than all parts of ν
+
+as_number : {a b : ℕ} → pos a ≡ pos b → a ≡ b
+as_number {a} {b} e = omega (arith, ints)
 
 has-without_one : (k b : ℕ) (numbers : List ℕ) → (b ≡ k → ⊥) → has k numbers ≡ true → has k (without_one b numbers) ≡ true
 has-without_one k b [] n h = h
@@ -131,9 +130,6 @@ arrangements-lacking k (x ∷ ν) l r p q h a =
     (distinct (0 ∷ l))
     (λ b m. by b (leb b x) refl (has (x - b) (0 ∷ r)) (λ e. arrangements-lacking k ν (without_one b l) (without_one (x - b) r) (IsPartition-without_one b l p) (IsPartition-without_one (x - b) r q) (has-without_one k b l e h) a.1)))
   where
-    as_number : {n : ℕ} → pos n ≡ pos 0 → n ≡ 0
-    as_number {n} e = omega (arith, ints)
-
     by : (b : ℕ) (y : Bool) → leb b x ≡ y → (z : Bool) → ((b ≡ k → ⊥) → arrangements (without_one b l) (without_one (x - b) r) ν ≡ 0)
         → cond y (cond z (pos (arrangements (without_one b l) (without_one (x - b) r) ν)) (pos 0)) (pos 0) ≡ pos 0
     by b true e true f = ap pos (f (λ i. let u = leb-true b x e in omega (arith, a.0)))
@@ -155,21 +151,12 @@ coefficient-product l r ν =
     ap₂ ◌*ℤ◌
     (coefficient-monomial l n s.0 ∙ cond-true (eqb (length s.0) n) (cond (same (sorted_parts s.0) l) (pos 1) (pos 0)) (pos 0) (eq-eqb (length s.0) n k.0))
     (coefficient-monomial r n s.1 ∙ cond-true (eqb (length s.1) n) (cond (same (sorted_parts s.1) r) (pos 1) (pos 0)) (pos 0) (eq-eqb (length s.1) n k.1))
-    ∙ both (same (sorted_parts s.0) l) (same (sorted_parts s.1) r))
+    ∙ sym (tests-product (same (sorted_parts s.0) l) (same (sorted_parts s.1) r)))
     ∙ sym (count l r ν)
-  where
-    both : (a b : Bool) → cond a (pos 1) (pos 0) *ℤ cond b (pos 1) (pos 0) ≡ cond (a && b) (pos 1) (pos 0)
-    both true true = refl
-    both true false = refl
-    both false true = refl
-    both false false = refl
 
 pub arrangements-comm : (l r ν : List ℕ) → arrangements l r ν ≡ arrangements r l ν
 arrangements-comm l r ν =
     as_number (sym (coefficient-product l r ν) ∙ times_comm (monomial l (length ν)) (monomial r (length ν)) ν ∙ coefficient-product r l ν)
-  where
-    as_number : {a b : ℕ} → pos a ≡ pos b → a ≡ b
-    as_number {a} {b} e = omega (arith, ints)
 
 -- ---- the sizes of l, r and ν
 
@@ -197,9 +184,6 @@ arrangements-sizes l r ν n =
     ∙ total_none (sorts_to_both l r) (splits ν)
     (λ s m. ap (λ b. cond b (pos 1) (pos 0)) (by s m (same (sorted_parts s.0) l) (same (sorted_parts s.1) r) refl refl)))
   where
-    as_number : {n : ℕ} → pos n ≡ pos 0 → n ≡ 0
-    as_number {n} e = omega (arith, ints)
-
     by : (s : List ℕ × List ℕ) → Among s (splits ν) → (a b : Bool) → same (sorted_parts s.0) l ≡ a → same (sorted_parts s.1) r ≡ b → (a && b) ≡ false
     by s m false b e f = refl
     by s m true false e f = refl

@@ -1,6 +1,6 @@
 -- e_k, h_k and p_k as lists of terms in m (specs/ExpressionTerms).
-use Rattle.std.proofs.Common.{◌≡◌, ◌⊎◌, ℕ, zero, suc, ◌+◌, ◌<◌, ◌≤◌, Bool, true, false, ◌&&◌, cond, eqb, leb, List, [], ◌∷◌, length, replicate, sym, ◌∙◌, ap, ap₂, subst, refl, inl, inr, arith, ℤ, pos}
-use Rattle.std.proofs.lemmas.Bool.{cases_eq, cases_lt, eq-eqb, ne_eqb, eqb-true, le-leb, leb-true, and_parts, and_from}
+use Rattle.std.proofs.Common.{◌≡◌, ◌⊎◌, ℕ, zero, suc, ◌+◌, ◌<◌, ◌≤◌, Bool, true, false, cond, eqb, leb, List, [], ◌∷◌, length, replicate, sym, ◌∙◌, ap, ap₂, subst, refl, inl, inr, arith, ℤ, pos}
+use Rattle.std.proofs.lemmas.Bool.{cases_eq, cases_lt, eq-eqb, ne_eqb, eqb-true, le-leb, leb-true, and_parts, and_from, and_right}
 use Rattle.std.proofs.lemmas.List.{length-replicate}
 use Rattle.sym_model.specs.Sum.{total}
 use Rattle.sym_model.specs.Polynomial.{Term, same, Same}
@@ -143,8 +143,4 @@ list-complete k n =
         total_none (counted γ) (partitions_of k)
         (λ parts m.
         ap (λ b. cond b (pos 1) (pos 0)) (same_apart parts (sorted_parts γ) (λ i. z (sym (size-sorted_parts γ) ∙ ap size (sym i) ∙ (partitions_of-tells k parts m).1))))
-        ∙ sym (ap (λ b. cond b (pos 1) (pos 0)) (none (eqb (length γ) n) (eqb (size γ) k) (ne_eqb (size γ) k z)))
-      where
-        none : (a b : Bool) → b ≡ false → (a && b) ≡ false
-        none true b e = e
-        none false b e = refl
+        ∙ sym (ap (λ b. cond b (pos 1) (pos 0)) (and_right (eqb (length γ) n) (eqb (size γ) k) (ne_eqb (size γ) k z)))

@@ -1,5 +1,5 @@
 -- A list with integer coefficients, each divided by D (specs/ExpressionTerms).
---     value-divided           its value, with any polynomials for the labels
+--     value-divided           the value of the list of fractions, with any polynomials for the labels
 --     expansion_divided       the fractions expand the list divided by D
 use Rattle.std.proofs.Common.{◌≡◌, ◌⊎◌, ℕ, ◌*◌, ◌/◌, ◌%◌, ◌<◌, cond, List, [], ◌∷◌, map, sym, ◌∙◌, ap, ap₂, subst, refl, inl, inr, arith, ℤ, pos, ◌+ℤ◌, ◌*ℤ◌}
 use Rattle.std.specs.Int.{◌∣◌}
@@ -123,7 +123,7 @@ value-divided polynomial D W terms d α =
     ∙ pair_scale (pos (denominators terms)) W ψ
     ∙ ap (λ z. pos (denominators terms) *ℤ z) (sym (coefficient-combined polynomial W α))
 
--- if each denominator of a list divides m, the list is `over m terms` divided by m
+-- if no label occurs twice, and each denominator is positive and divides m, the list is `over m terms` divided by m
 pub IsDivided-over : (m : ℕ) (terms : Terms (List ℕ)) → 0 < denominators terms → Once (labels_of terms) → ((t : List ℕ × Fraction) → Among t terms → m % t.1.1 ≡ 0) → IsDivided m (over m terms) terms
 IsDivided-over m terms positive is w = record {
   once = is;
@@ -136,7 +136,8 @@ IsDivided-over m terms positive is w = record {
   missing = λ label n. over-missing m terms label n;
 }
 
--- the fractions expand the list divided by D, in every number of variables
+-- if the fractions are the list `whole` divided by D, and `whole` is the list of f in m, the fractions expand f divided by D, in every number of
+-- variables
 pub expansion_divided : (D : ℕ) (whole : WholeTerms) (terms : Terms (List ℕ)) (f : ℕ → Poly) → IsDivided D whole terms → IsList whole f → (n : ℕ) → IsExpansionOf Basis.monomials terms n (f n) D
 expansion_divided D whole terms f d h n =
     let q = denominators terms in

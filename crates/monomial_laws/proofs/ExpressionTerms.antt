@@ -15,7 +15,7 @@ use Rattle.monomial_laws.proofs.PowerSumLists.{monomial-none}
 use Rattle.monomial_laws.proofs.Splits.{terms_product}
 use lib.IntN.{+ℤ_idr}
 
--- ---- sums of lists
+-- ---- sums of lists of terms in m
 
 list-plus : (A B : WholeTerms) (n : ℕ) → Same (in_monomials (plus A B) n) (plus (in_monomials A n) (in_monomials B n))
 list-plus A B n =
@@ -53,7 +53,7 @@ list_respects A B f e h n =
 
 -- ---- the list of each kind of expression
 
--- the list with the term 1 and the coefficient a is the number a
+-- the list of one term, with the empty label and the coefficient a, is the number a
 list-number : (a n : ℕ) → Same (in_monomials (([], pos a) ∷ []) n) (scale (pos a) (one n))
 list-number a n =
     same_from_pair (in_monomials (([], pos a) ∷ []) n) (scale (pos a) (one n))

@@ -1,4 +1,4 @@
--- Factorials are positive and increasing, and no basis has a greater growth than p.
+-- Factorials are positive and increasing, and the growth (specs/Weight) into every basis is at most that into p.
 use Rattle.std.proofs.Common.{◌≡◌, ℕ, zero, suc, ◌+◌, ◌-◌, ◌*◌, ◌^◌, ◌<◌, ◌≤◌, subst, arith}
 use Rattle.std.proofs.lemmas.Nat.{mul-le}
 use Rattle.std.proofs.Math.Nat.{one-le-pow, pow-le-pow_left}
@@ -21,7 +21,7 @@ factorial-far d (suc j) = let e : suc j + d ≡ suc (j + d) = omega arith in let
 pub factorial-mono : (d e : ℕ) → d ≤ e → factorial d ≤ factorial e
 factorial-mono d e h = let i : (e - d) + d ≡ e = omega arith in subst (λ k. factorial d ≤ factorial k) i (factorial-far d (e - d))
 
--- ---- the growth of a degree into p is the greatest, and at least 1
+-- ---- the growth into p (specs/Weight) is at least the growth into every other basis, and at least 1
 
 plain-growth : (d : ℕ) → suc d ^ suc d ≤ factorial (suc d) * (2 * suc d) ^ suc d
 plain-growth d =
@@ -29,7 +29,7 @@ plain-growth d =
     let q = mul-le 1 (suc d ^ suc d) (factorial (suc d)) ((2 * suc d) ^ suc d) (factorial-positive (suc d)) p in
     omega arith
 
--- no target has a greater growth than p
+-- the growth into a target at the degree d is at most that into p
 pub growth-most : (target : Basis) (d : ℕ) → growth target d ≤ growth power_sums d
 growth-most target zero = omega arith
 growth-most Basis.monomials (suc d) = plain-growth d

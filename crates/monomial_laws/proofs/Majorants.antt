@@ -2,7 +2,7 @@
 --     majorant-times                       majorants of products and multiples
 --     majorant-monomials, -product_over    (x_1 + .. + x_n)^d is a majorant of the atoms of degree d
 --     bounded_value                        N of an expression bounds its value
---     coefficient_bound                    so each coefficient is at most N·d!/Π α_i! in absolute value
+--     coefficient_bound                    if N bounds f, the coefficient of x^α is at most N·|α|!/Π α_i! in absolute value
 use Rattle.std.proofs.Common.{◌≡◌, ◌⊎◌, ℕ, map, zero, suc, ◌<◌, ◌+◌, ◌*◌, ◌/◌, ◌≤◌, max, Bool, true, false, cond, eqb, List, [], ◌∷◌, ◌++◌, length, sym, ◌∙◌, ap, subst, refl, inl, inr, arith, ℤ, pos, negsuc, ◌+ℤ◌, ◌*ℤ◌}
 use Rattle.std.specs.Prelude.{◌≤ℤ◌, nat_abs}
 use Rattle.std.proofs.lemmas.Int.{ints, unsigned_abs-mul}
@@ -84,7 +84,7 @@ majorant-append n ds es f g h k α =
 majorant-one : (d n : ℕ) (f : Poly) → IsMajorant (power d n) f → IsMajorant (powers (d ∷ []) n) f
 majorant-one d n f h α = subst (λ z. pos (nat_abs (coefficient f α)) ≤ℤ z) (sym (coefficient-powers (d ∷ []) n α ∙ +ℤ_idr (coefficient (power d n) α))) (h α)
 
--- ---- (x_1 + .. + x_n)^d is a majorant of the atoms of degree d
+-- (x_1 + .. + x_n)^d is a majorant of each sum of different monomials of degree d
 
 pub majorant-monomials : (test : List ℕ → Bool) (n d : ℕ) → IsMajorant (power d n) (monomials test n d)
 majorant-monomials test n d γ = subst (λ z. pos (nat_abs z) ≤ℤ coefficient (power d n) γ) (sym (coefficient-monomials test n d γ)) (by (is_exponent_list n d γ) refl (test γ))

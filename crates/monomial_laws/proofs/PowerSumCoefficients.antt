@@ -1,5 +1,4 @@
--- The coefficients of a power sum in the monomial basis, one part after another: the coefficient of a partition is
--- the sum over its rows from which the part can be subtracted.
+-- The coefficient of a monomial x^γ in the polynomial of a list of terms in the monomial basis.
 use Rattle.std.proofs.Common.{◌≡◌, ℕ, cond, eqb, List, length, sym, ◌∙◌, ap, pos}
 use Rattle.std.proofs.lemmas.Bool.{eq-eqb, cond-true}
 use Rattle.sym_model.specs.Polynomial.{same, coefficient}

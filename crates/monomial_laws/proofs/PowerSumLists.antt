@@ -1,4 +1,4 @@
--- The labels of lists of terms, and m of the empty partition.
+-- The different numbers of a list, and m of the empty partition.
 --     monomial-none              m of the empty partition is 1
 use Rattle.std.proofs.Common.{◌≡◌, ℕ, Bool, true, false, ◌||◌, cond, eqb, List, [], ◌∷◌, sym, ◌∙◌, refl, inl, inr, pos, filter}
 use Rattle.std.proofs.lemmas.Bool.{eq-eqb, or_right, cond-true}
@@ -23,7 +23,7 @@ has_from-distinct k (c ∷ numbers) m = by (has c numbers) m (has_from-distinct 
     by false (inl e) r = rw (eq-eqb c k (sym e)) refl
     by false (inr m) r = or_right (eqb c k) (has k numbers) (r m)
 
--- ---- p_λ as a list of terms in m
+-- ---- m of the empty partition
 
 -- m of the empty partition is 1
 pub monomial-none : (n : ℕ) → Same (monomial [] n) (one n)

@@ -2,8 +2,8 @@
 --     power_sum_times_monomial    p_a·m_λ is the sum of its terms `raised_terms a λ`, in every number of variables
 --
 -- The coefficient of x^α in p_a·m_λ counts the places of α from which a can be subtracted so that λ is left
--- (`coefficient-power_sum_times`). Such a place has a number a + b of α, b a part of λ or 0, and α sorts to λ with
--- b raised; each place of α with that number will do.
+-- (`coefficient-power_sum_times`). At such a place α has a number a + b with b a part of λ or 0, and α sorts to λ with b
+-- raised by a; if there is one such place, every place of α with the same number is another.
 use Rattle.std.proofs.Common.{◌≡◌, ◌⊎◌, ℕ, zero, suc, ◌+◌, ◌-◌, ◌<◌, ◌≤◌, Bool, true, false, ◌&&◌, ◌||◌, cond, eqb, leb, List, [], ◌∷◌, map, length, replicate, sym, ◌∙◌, ap, ap₂, refl, inl, inr, arith, ℤ, pos, ◌+ℤ◌, ◌*ℤ◌}
 use Rattle.std.proofs.lemmas.Int.{ints}
 use Rattle.std.proofs.lemmas.Bool.{cases_lt, cases_eq, le-leb, lt-leb, leb-true, eq-eqb, ne_eqb, eqb-true, and_parts, and_from}
@@ -24,8 +24,9 @@ use Rattle.sym_model.proofs.Monomials.{one_place, pair-power_sum_of, coefficient
 use Rattle.sym_model.proofs.WholeTerms.{coefficient-combined}
 use Rattle.sym_model.proofs.Ring.{product-one}
 use lib.IntN.{+ℤ_idl, +ℤ_idr, *ℤ-zero}
+use Rattle.monomial_laws.proofs.Splits.{nested-tests}
 
--- ---- the numbers of a list, each with the others
+-- ---- the numbers of a list, each with the list of the other numbers
 
 -- each number of α with the list of the other numbers
 abbrev pub spots : List ℕ → List (ℕ × List ℕ)
@@ -103,7 +104,7 @@ coefficient-power_sum_times a n g α h i =
     ∙ total_ext (λ (γ : List ℕ). pair g (at_only γ)) (coefficient g) (λ γ. sym (coefficient_pair g γ)) (lowered a α)
 
 -- a sum of χ(γ sorted) over the lists γ obtained from α by subtracting a at a place is the sum of χ over the numbers c ≥ a of α, with c - a inserted
--- among the others, sorted
+-- among the other numbers, sorted
 total_lowered-sorted : (a : ℕ) (χ : List ℕ → ℤ) (α : List ℕ) → total (λ (γ : List ℕ). χ (sorted_parts γ)) (lowered a α) ≡ total (λ (s : ℕ × List ℕ). cond (leb a s.0) (χ (insert_part (s.0 - a) (sorted_parts s.1))) (pos 0)) (spots α)
 total_lowered-sorted a χ [] = refl
 total_lowered-sorted a χ (c ∷ α) =
@@ -138,17 +139,13 @@ total_spots-sorted ψ (c ∷ α) =
 
 -- ---- the places of α from which a can be subtracted so that λ is left
 
--- 1 if the number k and the sorted list `whole` come from λ by replacing k - a by k, else 0
+-- 1 if a ≤ k, k - a is one of `parts` or 0, and the sorted list `whole` is `parts` with k - a raised to k; otherwise 0
 abbrev pub raised_here : ℕ → List ℕ → ℕ → List ℕ → ℤ
 raised_here a parts k whole = cond (leb a k) (cond (has (k - a) (0 ∷ parts)) (cond (same whole (raise a (k - a) parts)) (pos 1) (pos 0)) (pos 0)) (pos 0)
 
 lowered_here : (a k : ℕ) (ρ parts : List ℕ) → 0 < a → IsPartition ρ → IsPartition parts → cond (leb a k) (cond (same (insert_part (k - a) ρ) parts) (pos 1) (pos 0)) (pos 0) ≡ raised_here a parts k (insert_part k ρ)
 lowered_here a k ρ parts h q p = by (leb a k) refl
   where
-    and_cond : (x y : Bool) → cond (x && y) (pos 1) (pos 0) ≡ cond x (cond y (pos 1) (pos 0)) (pos 0)
-    and_cond true y = refl
-    and_cond false y = refl
-
     by : (b : Bool) → leb a k ≡ b → cond b (cond (same (insert_part (k - a) ρ) parts) (pos 1) (pos 0)) (pos 0) ≡ cond b (cond (has (k - a) (0 ∷ parts)) (cond (same (insert_part k ρ) (raise a (k - a) parts)) (pos 1) (pos 0)) (pos 0)) (pos 0)
     by false e = refl
     by true e =
@@ -163,7 +160,7 @@ lowered_here a k ρ parts h q p = by (leb a k) refl
         let r = and_parts (has (k - a) (0 ∷ parts)) (same (insert_part k ρ) (raise a (k - a) parts)) t in
         same_from (insert_part (k - a) ρ) parts
         (lowered_from_raised a (k - a) ρ parts h p r.0 (ap (λ n. insert_part n ρ) back ∙ same_true (insert_part k ρ) (raise a (k - a) parts) r.1))))
-        ∙ and_cond (has (k - a) (0 ∷ parts)) (same (insert_part k ρ) (raise a (k - a) parts))
+        ∙ sym (nested-tests (has (k - a) (0 ∷ parts)) (same (insert_part k ρ) (raise a (k - a) parts)))
 
 -- the number of lists obtained from α by subtracting a at a place that sort to λ is the sum of `raised_here` over the entries of α
 total_lowered-is : (a : ℕ) (parts α : List ℕ) → 0 < a → IsPartition parts → total (λ (γ : List ℕ). cond (same (sorted_parts γ) parts) (pos 1) (pos 0)) (lowered a α) ≡ total (λ (k : ℕ). raised_here a parts k (sorted_parts α)) α

@@ -25,6 +25,7 @@ use Rattle.monomial_laws.proofs.Growths.{factorial-positive}
 use Rattle.sym_model.specs.ListWeight.{factorials}
 use native.Mathlib.Nat.{mul-le-mul_left}
 use lib.IntN.{*ℤ-zero, zero-*ℤ, *ℤ_comm}
+use Rattle.std.proofs.Math.Nat.{mul_left_comm}
 
 -- ---- the exponents of a product, and powers of x_1 + .. + x_n
 
@@ -278,10 +279,7 @@ factorials-insert (suc a) (b ∷ parts) = by (leb b (suc a)) (factorials-insert 
     by : (t : Bool) → factorials (insert_part (suc a) parts) ≡ factorial (suc a) * factorials parts
         → factorials (cond t (suc a ∷ b ∷ parts) (b ∷ insert_part (suc a) parts)) ≡ factorial (suc a) * factorials (b ∷ parts)
     by true r = refl
-    by false r = ap (λ k. factorial b * k) r ∙ swapped (factorial b) (factorial (suc a)) (factorials parts)
-      where
-        swapped : (x y z : ℕ) → x * (y * z) ≡ y * (x * z)
-        swapped x y z = omega arith
+    by false r = ap (λ k. factorial b * k) r ∙ mul_left_comm (factorial b) (factorial (suc a)) (factorials parts)
 
 pub factorials-sorted : (α : List ℕ) → factorials (sorted_parts α) ≡ factorials α
 factorials-sorted [] = refl

@@ -12,12 +12,12 @@ use Rattle.sym_model.specs.Bases.{power_sum_of}
 use Rattle.sym_model.specs.Schur.{words, fillings_of, row_lengths, letters_of, times_in, content, tableaux, semistandard, schur}
 use Rattle.monomial_laws.specs.Majorant.{IsMajorant, power}
 use Rattle.sym_model.proofs.Sums.{total_ext, total_map, total_each}
-use Rattle.sym_model.proofs.Polynomials.{at_only, coefficient_pair, pair_ext, pair_times, pair_one, In_map}
+use Rattle.sym_model.proofs.Polynomials.{at_only, coefficient_pair, pair_ext, pair_times, pair_one, In_map, at_only-nonnegative}
 use Rattle.sym_model.proofs.Monomials.{one_place, pair-power_sum_of}
 use lib.IntN.{+ℤ_idr}
 use Rattle.sym_model.proofs.AfterLists.{length_after}
 use Rattle.sym_model.proofs.Tableaux.{row_lengths-none}
-use Rattle.sym_model.proofs.Lists.{map-among}
+use Rattle.sym_model.proofs.Lists.{map-among, map-map}
 use Rattle.sym_model.proofs.Contents.{map-zeros, content-none}
 
 -- ---- words and their content
@@ -48,21 +48,17 @@ one_place-letters m (suc n) =
     (λ k h. let l = past m n k h in ap (λ b. cond b 1 0 + 0) (ne_eqb (m + 1) k (λ e. omega arith)))
     ∙ map-zeros (m + 1) n)))
     (ap (λ (l : List (List ℕ)). map (λ (α : List ℕ). 0 ∷ α) l) (one_place-letters (m + 1) n)
-    ∙ map-map (λ (a : ℕ). content_after (m + 1) n (a ∷ [])) (λ (α : List ℕ). 0 ∷ α) (after (m + 1) n)
+    ∙ map-map (λ (α : List ℕ). 0 ∷ α) (λ (a : ℕ). content_after (m + 1) n (a ∷ [])) (after (m + 1) n)
     ∙ sym
     (map-among (λ (a : ℕ). content_after m (suc n) (a ∷ [])) (λ (a : ℕ). 0 ∷ content_after (m + 1) n (a ∷ [])) (after (m + 1) n)
     (λ a h. let l = past m n a h in ap (λ b. (cond b 1 0 + 0) ∷ content_after (m + 1) n (a ∷ [])) (ne_eqb a (m + 1) (λ e. omega arith)))))
-  where
-    map-map : {A B C : Type 0} (f : A → B) (g : B → C) (xs : List A) → map g (map f xs) ≡ map (λ (x : A). g (f x)) xs
-    map-map f g [] = refl
-    map-map f g (x ∷ xs) = ap (λ l. g (f x) ∷ l) (map-map f g xs)
 
 -- the content of the word a ∷ w is the content of a plus that of w, place by place
 content-cons : (m n a : ℕ) (w : List ℕ) → content_after m n (a ∷ w) ≡ join (content_after m n (a ∷ [])) (content_after m n w)
 content-cons m zero a w = refl
 content-cons m (suc n) a w = ap₂ ◌∷◌ (let e : cond (eqb a (m + 1)) 1 0 + times_in (m + 1) w ≡ cond (eqb a (m + 1)) 1 0 + 0 + times_in (m + 1) w = omega arith in e) (content-cons (m + 1) n a w)
 
--- (x_1 + .. + x_n)^d is the sum over the words of d letters
+-- (x_1 + .. + x_n)^d is the sum of x^content over the words of d letters
 pub pair-power : (d n : ℕ) (φ : List ℕ → ℤ) → pair (power d n) φ ≡ total (λ (w : List ℕ). φ (content n w)) (words n d)
 pair-power zero n φ = pair_one n φ ∙ ap φ (sym (content-none n)) ∙ sym (+ℤ_idr (φ (content n [])))
 pair-power (suc d) n φ =
@@ -132,7 +128,7 @@ total_select-within {A} f test (x ∷ xs) h = by (test x) (h x) (total_select-wi
 pub majorant-schur : (parts : List ℕ) (n : ℕ) → IsMajorant (power (size parts) n) (schur parts n)
 majorant-schur parts n α =
     let here : List (List ℕ) → ℤ = λ (filling : List (List ℕ)). at_only α (content n (letters_of filling)) in
-    let bound = total_select-within here (semistandard []) (fillings_of n (row_lengths parts [])) (λ filling. not_negative (same (content n (letters_of filling)) α)) in
+    let bound = total_select-within here (semistandard []) (fillings_of n (row_lengths parts [])) (λ filling. at_only-nonnegative α (content n (letters_of filling))) in
     let left : coefficient (schur parts n) α ≡ total here (filter (semistandard []) (fillings_of n (row_lengths parts []))) =
     total_map (λ (t : Term). cond (same t.0 α) t.1 (pos 0)) (λ (filling : List (List ℕ)). (content n (letters_of filling), pos 1)) (tableaux n parts []) in
     let right : coefficient (power (size parts) n) α ≡ total here (fillings_of n (row_lengths parts [])) =
@@ -142,9 +138,5 @@ majorant-schur parts n α =
     ∙ sym (total_fillings n (row_lengths parts []) (λ w. at_only α (content n w))) in
     rw (left, right) (within (total here (filter (semistandard []) (fillings_of n (row_lengths parts [])))) (total here (fillings_of n (row_lengths parts []))) bound.0 bound.1)
   where
-    not_negative : (b : Bool) → pos 0 ≤ℤ cond b (pos 1) (pos 0)
-    not_negative true = omega (arith, ints)
-    not_negative false = omega (arith, ints)
-
     within : (x y : ℤ) → pos 0 ≤ℤ x → x ≤ℤ y → pos (nat_abs x) ≤ℤ y
     within x y h k = omega (arith, ints)

@@ -1,6 +1,6 @@
 -- Products by their coefficients, and m_λ·m_μ (specs/MonomialProduct).
 --     coefficient_times        the coefficient of x^α in f·g: over all ways to split α
---     monomial_product         m_λ·m_μ has each list of terms with these coefficients
+--     monomial_product         m_λ·m_μ is each list of terms whose coefficient at ν is `arrangements λ μ ν`
 use Rattle.std.proofs.Common.{◌≡◌, ◌⊎◌, ℕ, zero, suc, ◌+◌, ◌-◌, ◌<◌, ◌≤◌, Bool, true, false, ◌&&◌, cond, eqb, leb, List, [], ◌∷◌, map, length, sym, ◌∙◌, ap, ap₂, refl, inl, inr, arith, ℤ, pos, ◌+ℤ◌, ◌*ℤ◌}
 use Rattle.std.proofs.lemmas.Bool.{cases_lt, le-leb, lt-leb, eq-eqb, ne_eqb, eqb-true}
 use Rattle.sym_model.specs.Sum.{total, Among}
@@ -18,6 +18,17 @@ use Rattle.sym_model.proofs.WholeTerms.{pair-combined}
 use Rattle.monomial_laws.proofs.PowerSumCoefficients.{coefficient-monomial_terms}
 use Rattle.sym_model.proofs.Monomials.{total_down_from-only, In-monomials}
 use lib.IntN.{+ℤ_idr, zero-*ℤ, *ℤ_comm}
+
+-- ---- 1 if two tests pass, otherwise 0
+
+pub nested-tests : (p q : Bool) → cond p (cond q (pos 1) (pos 0)) (pos 0) ≡ cond (p && q) (pos 1) (pos 0)
+nested-tests true q = refl
+nested-tests false q = refl
+
+pub tests-product : (p q : Bool) → cond (p && q) (pos 1) (pos 0) ≡ cond p (pos 1) (pos 0) *ℤ cond q (pos 1) (pos 0)
+tests-product true true = refl
+tests-product true false = refl
+tests-product false q = sym (zero-*ℤ (cond q (pos 1) (pos 0)))
 
 -- ---- pairs of exponent lists that add up to ν
 
@@ -94,11 +105,7 @@ total_splits-only (a ∷ α) (b ∷ β) (c ∷ γ) h k =
         tests_agree (eqb c (a - b)) (eqb (b + c) a)
         (λ t. let u = eqb-true c (a - b) t in eq-eqb (b + c) a (omega arith))
         (λ t. let u = eqb-true (b + c) a t in eq-eqb c (a - b) (omega arith)) in
-        rw (le-leb b a l, e) (inner (eqb (b + c) a) (same (join β γ) α))
-      where
-        inner : (p q : Bool) → cond p (cond q (pos 1) (pos 0)) (pos 0) ≡ cond (p && q) (pos 1) (pos 0)
-        inner true q = refl
-        inner false q = refl
+        rw (le-leb b a l, e) (nested-tests (eqb (b + c) a) (same (join β γ) α))
 
 -- the coefficient of x^α in f·g is the sum, over all ways to split α, of the products of the coefficients of f and g
 pub coefficient_times : (n : ℕ) (f g : Poly) (α : List ℕ) → In n f → In n g → length α ≡ n
@@ -111,7 +118,7 @@ coefficient_times n f g α i j long =
     pair_in n g (λ γ. at_only α (join β γ)) (λ γ. total (λ (s : List ℕ × List ℕ). at_only s.0 β *ℤ at_only s.1 γ) (splits α)) j
     (λ γ l.
     sym (total_splits-only α β γ (k ∙ sym long) (l ∙ sym long))
-    ∙ total_ext (both_only β γ) (λ (s : List ℕ × List ℕ). at_only s.0 β *ℤ at_only s.1 γ) (λ s. product (same β s.0) (same γ s.1)) (splits α))
+    ∙ total_ext (both_only β γ) (λ (s : List ℕ × List ℕ). at_only s.0 β *ℤ at_only s.1 γ) (λ s. nested-tests (same β s.0) (same γ s.1) ∙ tests-product (same β s.0) (same γ s.1)) (splits α))
     ∙ pair_total g (λ (s : List ℕ × List ℕ) (γ : List ℕ). at_only s.0 β *ℤ at_only s.1 γ) (splits α)
     ∙ total_ext
     (λ (s : List ℕ × List ℕ). pair g (λ γ. at_only s.0 β *ℤ at_only s.1 γ))
@@ -128,11 +135,6 @@ coefficient_times n f g α i j long =
     ∙ ap (λ z. coefficient g s.1 *ℤ z) (sym (coefficient_pair f s.0))
     ∙ *ℤ_comm (coefficient g s.1) (coefficient f s.0))
     (splits α)
-  where
-    product : (p q : Bool) → cond p (cond q (pos 1) (pos 0)) (pos 0) ≡ cond p (pos 1) (pos 0) *ℤ cond q (pos 1) (pos 0)
-    product true true = refl
-    product true false = refl
-    product false q = sym (zero-*ℤ (cond q (pos 1) (pos 0)))
 
 -- ---- sums over splits of functions of the two sorted lists
 
@@ -218,14 +220,9 @@ arrangements-total left right ν =
     (λ (s : List ℕ × List ℕ). cond (same (sorted_parts s.0) left && same (sorted_parts s.1) right) (pos 1) (pos 0))
     (λ (s : List ℕ × List ℕ). at_only (sorted_parts s.0) left *ℤ at_only (sorted_parts s.1) right)
     (λ s.
-    by (same (sorted_parts s.0) left) (same (sorted_parts s.1) right)
+    tests-product (same (sorted_parts s.0) left) (same (sorted_parts s.1) right)
     ∙ ap₂ (λ (p q : Bool). cond p (pos 1) (pos 0) *ℤ cond q (pos 1) (pos 0)) (same_sym (sorted_parts s.0) left) (same_sym (sorted_parts s.1) right))
     (splits ν)
-  where
-    by : (p q : Bool) → cond (p && q) (pos 1) (pos 0) ≡ cond p (pos 1) (pos 0) *ℤ cond q (pos 1) (pos 0)
-    by true true = refl
-    by true false = refl
-    by false q = sym (zero-*ℤ (cond q (pos 1) (pos 0)))
 
 -- the coefficient at ν of the product of two lists is the sum, over all pairs of labels l and r, of their coefficients times `arrangements l r ν`
 pub product_coefficient-arrangements : (left right : WholeTerms) (ν : List ℕ)
@@ -292,7 +289,8 @@ single label n =
     ∙ +ℤ_idr (pos 1 *ℤ pair (monomial label n) φ)
     ∙ one-product (pair (monomial label n) φ))
 
--- m_λ·m_μ is each list of terms that has `arrangements λ μ ν` as its coefficient at every partition ν
+-- if the coefficient of `terms` at each partition ν is `arrangements left right ν`, the product of the monomial symmetric polynomials of `left` and
+-- `right` is the polynomial of the list `terms` in m
 pub monomial_product : (left right : List ℕ) (terms : WholeTerms) → ((ν : List ℕ) → IsPartition ν → coefficient terms ν ≡ pos (arrangements left right ν))
     → (n : ℕ) → Same (times (monomial left n) (monomial right n)) (combined (λ label. monomial label n) terms)
 monomial_product left right terms h n =

@@ -1,7 +1,7 @@
 -- The weight of an expression bounds every number of its conversion into m (specs/ExpressionTerms).
 --     coefficient_within_factorial   a coefficient is at most N·d!, d being the degree
 --     coefficient_within_growth      a coefficient is at most N times the growth at d
---     product_within_growth          the product of two lists, with absolute values, has coefficients of at most the product of the bounds
+--     product_within_growth          the product of two lists, with absolute values, has coefficients of at most N·M times the growth at d + e
 use Rattle.std.proofs.Common.{◌≡◌, ◌⊎◌, ℕ, zero, suc, ◌+◌, ◌-◌, ◌*◌, ◌/◌, ◌^◌, ◌<◌, ◌≤◌, cond, List, [], ◌∷◌, length, sym, ◌∙◌, ap, ap₂, subst, refl, inl, inr, arith, ℤ, pos, ◌+ℤ◌, ◌*ℤ◌}
 use Rattle.std.specs.Prelude.{nat_abs, ◌≤ℤ◌}
 use Rattle.std.proofs.lemmas.Int.{ints}
@@ -70,7 +70,7 @@ growth-positive d = let h = growth-mono 0 d (omega arith) in omega arith
 
 -- ---- bounds for the coefficients of a bounded polynomial
 
--- if f is bounded by N at the degree d, no coefficient of f exceeds N·d!
+-- if f is bounded by N at the degree d, no coefficient of f exceeds N·d! in absolute value
 pub coefficient_within_factorial : (N d n : ℕ) (f : Poly) → IsBounded N d n f → (α : List ℕ) → length α ≡ n → nat_abs (coefficient f α) ≤ N * factorial d
 coefficient_within_factorial N d n f b α e = by (cases_lt d (size α))
   where
@@ -82,7 +82,7 @@ coefficient_within_factorial N d n f b α e = by (cases_lt d (size α))
         let u = mul-le-mul_left (nat_abs (coefficient f α)) (factorials-positive α) in
         omega arith
 
--- if f is bounded by N at the degree d, no coefficient of f exceeds N times the growth at d
+-- if f is bounded by N at the degree d, no coefficient of f exceeds N times the growth at d in absolute value
 pub coefficient_within_growth : (N d n : ℕ) (f : Poly) → IsBounded N d n f → (α : List ℕ) → length α ≡ n → nat_abs (coefficient f α) ≤ N * growth Basis.monomials d
 coefficient_within_growth N d n f b α e = by (cases_lt d (size α))
   where
@@ -153,7 +153,8 @@ coefficient-list_product A B ν =
     (splits ν)
     (λ s m. let k = length-splits ν s m in ap₂ ◌*ℤ◌ (coefficient-monomial_terms A n s.0 k.0) (coefficient-monomial_terms B n s.1 k.1))
 
--- no coefficient of the product of two lists with absolute values exceeds the product of the bounds
+-- if the lists A and B are bounded by N at the degree d and by M at e, no coefficient of their product, computed with absolute values, exceeds N·M
+-- times the growth into m at d + e
 pub product_within_growth : (N M d e : ℕ) (A B : WholeTerms) → Once (labels A) → Once (labels B)
     → ((n : ℕ) → IsBounded N d n (in_monomials A n)) → ((n : ℕ) → IsBounded M e n (in_monomials B n))
     → (ν : List ℕ) → nat_abs (product_coefficient (absolute A) (absolute B) ν) ≤ N * M * growth Basis.monomials (d + e)
@@ -222,7 +223,7 @@ numerator-positive (difference e f) h =
 numerator-positive (product e f) h =
     let r = mul-le (suc zero) (suc zero) (numerator e) (numerator f) (numerator-positive e h.0) (numerator-positive f h.1) in omega arith
 
--- the weight of e is at least N times the growth at its degree, and at least its denominator D
+-- the weight of e is at least its numerator times the growth at its degree, and at least its denominator
 pub growth-within_weight : (e : Tree) → HasDenominators e → numerator e * growth Basis.monomials (degree e) ≤ weight Basis.monomials e
 growth-within_weight e h = mul-le (numerator e) (growth Basis.monomials (degree e)) (numerator e * denominator e) (growth Basis.monomials (degree e)) (times-more (numerator e) (denominator e) (denominator-positive e h)) (omega arith)
 

@@ -32,15 +32,15 @@ IsList terms f = (n : ℕ) → Same (in_monomials terms n) (f n)
 abbrev pub IsCleared : WholeTerms → Tree → Type 0
 IsCleared terms e = IsList terms (cleared_value e)
 
--- e_k as a list: the partition of k ones
+-- e_k as a list of terms in m: the partition of k ones, with the coefficient 1
 abbrev pub elementary_terms : ℕ → WholeTerms
 elementary_terms k = (replicate k 1, pos 1) ∷ []
 
--- h_k as a list: all partitions of k
+-- h_k as a list of terms in m: all partitions of k, with the coefficient 1
 abbrev pub complete_terms : ℕ → WholeTerms
 complete_terms k = map (λ (parts : List ℕ). (parts, pos 1)) (partitions_of k)
 
--- p_k as a list, for k ≥ 1: the partition of one part
+-- p_k as a list of terms in m, for k ≥ 1: the partition (k), with the coefficient 1
 abbrev pub power_sum_terms_of : ℕ → WholeTerms
 power_sum_terms_of k = ((k ∷ []), pos 1) ∷ []
 
@@ -48,7 +48,7 @@ power_sum_terms_of k = ((k ∷ []), pos 1) ∷ []
 abbrev pub absolute : WholeTerms → WholeTerms
 absolute terms = map (λ (t : List ℕ × ℤ). (t.0, pos (nat_abs t.1))) terms
 
--- the coefficients of a list over a common denominator q: num·(q/den) for each label
+-- the list over a common denominator q: each coefficient num/den becomes the integer num·(q/den)
 abbrev pub over : ℕ → Terms (List ℕ) → WholeTerms
 over q terms = map (λ (t : List ℕ × Fraction). (t.0, t.1.0 *ℤ pos (q / t.1.1))) terms
 

@@ -1,13 +1,13 @@
 -- Bounds of all coefficients of a polynomial at once: majorants (Cauchy), here sums of powers of x_1 + .. + x_n. The
 -- coefficient of x^α in (x_1 + .. + x_n)^d is the multinomial d!/Π α_i! if α has the sum d, and 0 otherwise. Sums and
--- products of majorants are majorants of sums and products, so a bound is a list of the exponents of the powers: sums
--- append the lists, products add each exponent to each.
+-- products of majorants are majorants of sums and products, so a bound is a list of the exponents of the powers: for a
+-- sum the two lists are appended, for a product each exponent of the one is added to each of the other.
 use Rattle.std.specs.Prelude.{ℕ, ◌≤◌, pos, nat_abs, ◌≤ℤ◌, List, length, replicate, flat_map}
 use Rattle.sym_model.specs.Sum.{Among}
 use Rattle.sym_model.specs.Polynomial.{Poly, coefficient}
 use Rattle.sym_model.specs.Bases.{power_sum}
 
--- no coefficient of f is, in absolute value, greater than that of the majorant
+-- the absolute value of each coefficient of f is at most the coefficient of the majorant at the same exponents
 abbrev pub IsMajorant : Poly → Poly → Type 0
 IsMajorant majorant f = (α : List ℕ) → pos (nat_abs (coefficient f α)) ≤ℤ coefficient majorant α
 
@@ -15,7 +15,7 @@ IsMajorant majorant f = (α : List ℕ) → pos (nat_abs (coefficient f α)) ≤
 abbrev pub power : ℕ → ℕ → Poly
 power d n = power_sum (replicate d 1) n
 
--- the sum of the powers with the given exponents
+-- the sum of (x_1 + .. + x_n)^d over the given exponents d
 abbrev pub powers : List ℕ → ℕ → Poly
 powers exponents n = flat_map (λ d. power d n) exponents
 

@@ -13,8 +13,8 @@ splits (c ∷ ν) =
     flat_map (λ (b : ℕ). map (λ (s : List ℕ × List ℕ). (b ∷ s.0, (c - b) ∷ s.1)) (splits ν))
     (down_from c)
 
--- the number of ways to write ν as an arrangement of λ plus an arrangement of μ, with zeros inserted: the coefficient
--- of m_ν in m_λ·m_μ
+-- for the partitions λ = `left` and μ = `right`, the number of ways to write ν as an arrangement of λ plus an
+-- arrangement of μ, with zeros inserted: the coefficient of m_ν in m_λ·m_μ
 abbrev pub arrangements : List ℕ → List ℕ → List ℕ → ℕ
 arrangements left right ν =
     length (filter (λ (s : List ℕ × List ℕ). same (sorted_parts s.0) left

@@ -8,10 +8,10 @@ ghost use Rattle.sym_model.specs.Weight.{factorial, numerator};
 ghost use Rattle.monomial_laws.specs.Majorant.{IsBounded};
 ghost use Rattle.sym_model.specs.ListWeight.{factorials};
 
-/// The value of an expression, with its fractions cleared, has as a majorant a sum of at most N
-/// powers of x₁ + .. + xₙ with exponents up to its degree, where N is the numerator of its weight.
-/// So the coefficient of x^α, α of size d, is at most N·d!/Π αᵢ! in absolute value, and it is 0 if
-/// d exceeds the degree.
+/// The value of an expression, times its common denominator, has as a majorant a sum of at most N
+/// powers of x₁ + .. + xₙ with exponents up to its degree. N is the numerator of its weight, which
+/// counts each atom as 1. So the coefficient of x^α, α of size d, is at most N·d!/Π αᵢ! in absolute
+/// value, and it is 0 if d exceeds the degree.
 pub fn expression_bound_law()
     ensures bounded { (e : Tree) (n : ℕ)
         → IsBounded (numerator e) (degree e) n (cleared_value e n) }

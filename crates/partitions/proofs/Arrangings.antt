@@ -40,9 +40,9 @@ each-none f zero none = ap (λ xs. xs ++ []) (none 0 (omega arith))
 each-none f (suc a) none =
     ap₂ (λ xs ys. xs ++ ys) (none (suc a) (omega arith)) (each-none f a (λ c h. none c (omega arith)))
 
--- ---- lists in decreasing order
+-- ---- lists that sort to the same partition
 
--- inserting b into two sorted lists σ and τ gives equal lists if and only if σ and τ are equal
+-- inserting b into two lists σ and τ gives equal lists if and only if σ and τ are equal
 same-insert_part : (b : ℕ) (σ τ : List ℕ) → same (insert_part b σ) (insert_part b τ) ≡ same σ τ
 same-insert_part b σ τ = by (same_or_not σ τ)
   where
@@ -97,7 +97,7 @@ no_zero α n d p h =
 
 -- ---- the first arrangement of a list
 
--- the lists of n numbers with the sum d that sort to these parts
+-- the lists of n numbers with the sum d that sort to `parts`
 abbrev pub sorting_to : List ℕ → ℕ → ℕ → List (List ℕ)
 sorting_to parts n d = filter (λ α. same (sorted_parts α) parts) (exponent_lists n d)
 
@@ -186,8 +186,8 @@ arrangements_after-rising (a ∷ s) r =
         each_number (suc c) h z =
             absent (suc c) (suc b ∷ s) (length s) (suc b + size s) (omega arith) (smaller_absent (suc c) (suc b) s r (omega arith))
 
--- if the numbers after the first are weakly increasing, the next arrangement begins with the greatest number b below
--- the first one a, followed by the others in weakly decreasing order
+-- if the numbers after the first are weakly increasing, the next arrangement begins with the greatest number b below the first one a, followed by all
+-- numbers but this b in weakly decreasing order
 pub arrangements_after-step :
     (a b : ℕ) (s g : List ℕ) → Rises s → Falls g → b < a → length s ≡ length g
     → ((k : ℕ) → times_in k (a ∷ s) ≡ times_in k (b ∷ g)) → ((c : ℕ) → b < c → c < a → times_in c (a ∷ s) ≡ 0)
@@ -282,8 +282,8 @@ Falls-reverse (a ∷ s) r =
     subst Falls (sym (reverse-cons a s))
     (Falls-push (reverse s) a (Falls-reverse s (Rises_tail a s r)) (AtLeast-reverse a s (AtLeast-rising a a s (omega arith) r)))
 
--- if the end s of a list is weakly increasing and the number a before it is greater than one of s, the next arrangement reverses s and exchanges a
--- with the first number there that is smaller
+-- if s is weakly increasing and b is the first number of the reversed s that is smaller than a, the arrangement after `before`, a, s is `before`, b
+-- and the reversed s with a in place of b
 pub next_arrangement :
     (before s front back : List ℕ) (a b : ℕ) → Rises s → reverse s ≡ front ++ b ∷ back → AreAtLeast a front → b < a
     → arrangements_after (before ++ a ∷ s)
@@ -360,7 +360,7 @@ swap_parts before front back a b i j e f =
     ∙ set-append_seam (before ++ b ∷ front) b back a
     ∙ append_assoc before (b ∷ front) (a ∷ back)
 
--- the last number of a list whose end from `behind` on is reversed is the number at `behind` before
+-- if the end of `old` from the index `behind` on is reversed, the last number is then the old number at `behind`
 pub last-turned :
     (old : List ℕ) (behind : ℕ) → behind < length old
     → get_or (take behind old ++ reverse (drop behind old)) (length (take behind old ++ reverse (drop behind old)) - 1) 0
@@ -376,8 +376,8 @@ last-turned old behind h =
     ap (λ l. get_or l (length l - 1) 0) parts ∙ ap (λ n. get_or (rest ++ c ∷ []) n 0) long
     ∙ get_or-append_seam rest c [] 0
 
--- `old` is the list at the start, `turned` the list with its weakly increasing end reversed, and `new` the list with two numbers exchanged: then
--- `new` is the next arrangement
+-- if the numbers of `old` from `behind` on are weakly increasing, `turned` is `old` with these numbers reversed, and `new` is `turned` with the
+-- number before them exchanged with the first one after it that is smaller, at `low`, then `new` is the next arrangement after `old`
 pub next_by_places :
     (old turned new : List ℕ) (behind low : ℕ) → 0 < behind → behind < length old
     → Rises (drop behind old) → turned ≡ take behind old ++ reverse (drop behind old)

@@ -24,8 +24,8 @@ more_partitions (shape ∷ shapes) next are is parts (inr later) =
 not_more : (a b : ℕ) → (b < a → ⊥) → a ≤ b
 not_more a b h = omega (arith, h)
 
--- if `shapes` are fewer than 8 factors with these sums, and `next` does not make them too big, they are factors with `next` appended, whose sums are
--- greater by its size and rows
+-- if fewer than 8 factors `shapes` have `cells` cells and `many` rows in all, and are not too big with the partition `next` appended, the factors with
+-- `next` appended have cells + size next cells and many + rows next rows
 pub HasSums-grown : (shapes items : List (List ℕ)) (next : List ℕ) (cells many a b : ℕ) → HasSums shapes cells many → IsPartition next
     → length shapes < 8 → (AreTooBig (shapes ++ next ∷ []) → ⊥) → items ≡ shapes ++ next ∷ [] → a ≡ size next → b ≡ rows next
     → HasSums items (cells + a) (many + b)
@@ -43,7 +43,8 @@ HasSums-grown shapes items next cells many a b had is room small e cells_are row
   rows_are = let e = more_rows shapes next in omega (arith, had.rows_are);
 })
 
--- the factors with `next` appended are too big if and only if the sums with its size and rows added exceed 4096 or 512
+-- if `shapes` have `cells` cells and `many` rows in all, they are too big with `next` appended if and only if cells + size next exceeds 4096 or
+-- many + rows next exceeds 512
 pub AreTooBig-grown : (shapes : List (List ℕ)) (next : List ℕ) (cells many a b : ℕ) → HasSums shapes cells many
     → a ≡ size next → b ≡ rows next
     → (AreTooBig (shapes ++ next ∷ []) → (4096 < cells + a) ⊎ (512 < many + b))

@@ -32,7 +32,8 @@ ArePositive-greatest_within (suc rows) (suc d) most p =
     let positive : 0 < min most (suc d) = min-positive most d (p (omega arith)) in
     (positive, ArePositive-greatest_within rows (suc d - min most (suc d)) (min most (suc d)) (λ _. positive))
 
--- if d > 0, the greatest partition of d with parts up to `most` begins with a = min(most, d), followed by that of d - a with parts up to a
+-- if d > 0, the greatest partition of d with parts up to `most` and at most rows ≥ 1 parts begins with a = min(most, d), followed by that of d - a with
+-- parts up to a and at most rows - 1 parts
 pub greatest_within-step :
     (d most rows : ℕ) → 0 < d → 0 < rows
     → greatest_within d most rows ≡ min most d ∷ greatest_within (d - min most d) (min most d) (rows - 1)
@@ -56,8 +57,7 @@ partitions_within-none (suc rows) (suc d) h =
 same_size : (d e m n : ℕ) → d ≡ e → m ≡ n → partitions_within d m d ≡ partitions_within e n e
 same_size d e m n p q = ap₂ (λ x y. partitions_within x y x) p q
 
--- if the partitions of suc d with the first part a begin with a ∷ g, then the list of those with a first part up to a begins with a ∷ g and goes on
--- with those after it
+-- if the partitions of suc d with the first part a begin with a ∷ g, then the partitions with a first part up to a are a ∷ g and those after a ∷ g
 starts :
     (rows d a : ℕ) (g : List ℕ) → 0 < a → a ≤ suc d → d ≤ rows → size g ≡ suc d - a
     → partitions_within (suc d - a) a rows ≡ g ∷ partitions_after g

@@ -31,13 +31,13 @@ ArePositive-lowered [] i p h = tt
 ArePositive-lowered (a ∷ xs) zero p h = (omega arith, p.1)
 ArePositive-lowered (a ∷ xs) (suc i) p h = (p.0, ArePositive-lowered xs i p.1 h)
 
--- if the part is more than 1, lowering it leaves no zero to remove
+-- if all numbers of xs are positive and the one at i is more than 1, lowering it by 1 leaves no zero to remove
 pub lowered_kept :
     (xs : List ℕ) (i : ℕ) → ArePositive xs → 1 < get_or xs i 0
     → without_last_zeros (lowered_at (suc i) xs) ≡ lowered_at (suc i) xs
 lowered_kept xs i p h = without_last_zeros-positive (lowered_at (suc i) xs) (ArePositive-lowered xs i p h)
 
--- if a part 1 is followed by a smaller one, it is the last part, and lowering it removes it
+-- if all numbers of xs are positive, and the one at i is 1 and greater than the next (0 after the last), it is the last, and lowering it removes it
 pub lowered_dropped :
     (xs : List ℕ) (i : ℕ) → ArePositive xs → get_or xs (suc i) 0 < get_or xs i 0 → get_or xs i 0 ≡ 1
     → without_last_zeros (lowered_at (suc i) xs) ≡ take (length xs - 1) (lowered_at (suc i) xs)

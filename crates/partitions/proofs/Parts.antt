@@ -68,7 +68,7 @@ Falls-rises xs (suc k) f r =
     let up : get_or xs k 0 < get_or xs (suc k) 0 = subst (λ i. get_or xs i 0 < get_or xs (suc k) 0) e r.rises in
     omega (arith, Falls-at xs f k r.within)
 
--- after the first increase of a list there is no other first one
+-- two places a < b cannot both be the first place with an increase
 rises-first :
     (xs : List ℕ) (a b : ℕ) → RisesFirstAt xs a → RisesFirstAt xs b → a < b → ⊥
 rises-first xs zero b r s h = omega (arith, r.later)
@@ -87,7 +87,7 @@ rises-first xs (suc k) b r s h =
 pub rises-same : (xs : List ℕ) (a b : ℕ) → RisesFirstAt xs a → RisesFirstAt xs b → a ≡ b
 rises-same xs a b r s = omega (arith, rises-first xs a b r s, rises-first xs b a s r)
 
--- a weakly decreasing list without zeros at its end is a partition
+-- if xs has only positive numbers when it is weakly decreasing, so has a ∷ xs, or [] if a = 0 and xs = []
 in_front-positive : (a : ℕ) (xs : List ℕ) → (Falls xs → ArePositive xs) → Falls (in_front a xs) → ArePositive (in_front a xs)
 in_front-positive zero [] p f = tt
 in_front-positive (suc a) [] p f = (omega arith, tt)

@@ -15,8 +15,8 @@ pub all_written : (n : ℕ) (xs ys : List ℕ) → length xs ≡ n → take n (x
 all_written n xs ys e =
     subst (λ k. take k (xs ++ drop (length xs) ys) ≡ xs) e (take-append_seam xs (drop (length xs) ys))
 
--- writing min(part, left) into the buffer, and after it the greatest partition of the rest, gives the same list as writing the greatest partition of
--- `left`
+-- writing a = min(part, left) into the buffer, and after it the greatest partition of left - a, gives the same list as writing the greatest partition
+-- of `left`
 pub fill-step :
     (xs : List ℕ) (at left part p : ℕ) → at < length xs → 0 < left → p ≡ min part left
     → take (at + 1) (set xs at p) ++ greatest_within (left - p) p (length (set xs at p) - (at + 1))
@@ -38,7 +38,8 @@ ArePositive-back : (xs ys : List ℕ) → ArePositive (xs ++ ys) → ArePositive
 ArePositive-back [] ys p = p
 ArePositive-back (x ∷ xs) ys p = ArePositive-back xs ys p.1
 
--- the parts in the buffer are its first above - 1 places, the part at above - 1, which is more than 1, and then only parts 1
+-- the first `rows` numbers of the buffer are above - 1 positive ones, the number at the index above - 1, which is more than 1, and then only numbers 1;
+-- their sum is the length of the buffer
 pub record Cuts (buffer : List ℕ) (rows above : ℕ) : Type 0 where
   pub parts :
       take rows buffer ≡ take (above - 1) buffer ++ get_or buffer (above - 1) 0 ∷ drop above (take rows buffer)
@@ -94,7 +95,8 @@ cuts buffer rows above h nonzero within ones other_part =
       room = omega arith;
     }
 
--- the partition that is written after a `Cuts` step is the next one after the partition in the buffer
+-- if the parts in the buffer satisfy `Cuts`, those before the index above - 1, followed by the greatest partition of the remaining sum with parts less
+-- than that at above - 1, are the next partition
 pub next_is :
     (buffer : List ℕ) (rows above : ℕ) (next : List ℕ) → Cuts buffer rows above
     → next ≡ take (above - 1) buffer
@@ -143,7 +145,7 @@ next_holds buffer next rows above result h c l r e =
           ∙ omega (arith, c.sum, l, size-greatest_within room (p + (rows - above)) (p - 1) fits (λ _. omega (arith, c.part)));
     }
 
--- filling a buffer of d places with the greatest partition of d gives a buffer that holds the parts of a partition of d
+-- a buffer of d ≤ 512 places that is filled with the greatest partition of d holds the parts of a partition of d
 pub first_holds :
     (d : ℕ) (before after : List ℕ) (rows : ℕ) → d ≤ 512 → length before ≡ d → length after ≡ d → rows ≤ length after
     → take rows after ≡ take 0 before ++ greatest_within d d (length before - 0) → HoldsParts after rows

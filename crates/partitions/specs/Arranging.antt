@@ -7,13 +7,13 @@ use Rattle.sym_model.specs.Bases.{down_from, exponent_lists}
 use Rattle.partitions.specs.declared.listing.Stage.{Stage}
 use Rattle.partitions.specs.declared.listing.Stage.TheVariants.{New, Listing, Ended}
 
--- the lists that begin with b, followed by n numbers, with the sum d, that sort to these parts
+-- the lists of b and n further numbers, with the sum d in all, that sort to the partition `parts`
 abbrev pub beginning_with : ℕ → List ℕ → ℕ → ℕ → List (List ℕ)
 beginning_with b parts n d =
     map (λ α. b ∷ α) (filter (λ α. same (insert_part b (sorted_parts α)) parts)
     (exponent_lists n (d - b)))
 
--- the lists that begin with a number below a, followed by n numbers, with the sum d, that sort to these parts
+-- the lists of a number b < a and n further numbers, with the sum d in all, that sort to the partition `parts`
 abbrev pub beginning_below : ℕ → List ℕ → ℕ → ℕ → List (List ℕ)
 beginning_below zero parts n d = []
 beginning_below (suc a) parts n d = flat_map (λ b. beginning_with b parts n d) (down_from a)

@@ -97,7 +97,7 @@ fn next_in_place(numbers: &mut [u16]) -> bool
     true
 }
 
-/// The place at which the longest weakly increasing end begins.
+/// The place at which the longest weakly increasing suffix begins.
 fn rising_end(numbers: &[u16]) -> usize
     ensures rises { Rises (drop result numbers.now) }
     ensures within { 0 < result → result < length numbers.now }
@@ -119,7 +119,8 @@ fn reverse_from(numbers: &mut [u16], start: usize)
     numbers[start..].reverse();
 }
 
-/// The first place from `start` on with a number below the bound. The last number is below it.
+/// The first place from `start` on with a number below `bound`. The last number must be below
+/// `bound`.
 fn first_below(numbers: &[u16], start: usize, bound: u16) -> usize
     requires within { start < length numbers.now }
     requires last { slice_index numbers.now (length numbers.now - 1) < bound }

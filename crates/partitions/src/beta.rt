@@ -8,7 +8,8 @@ use smallvec::SmallVec;
 use std::alloc::{AllocError, Global};
 use std::marker::Model;
 
-/// A beta list. A list of up to 16 entries allocates no memory.
+/// A beta list of a partition λ: the numbers λ_i + k - i for i from 1 to some k. A list of up to 16
+/// entries allocates no memory.
 #[derive(Debug, Drop)]
 pub struct Beta {
     entries: SmallVec<u16, 16>,
@@ -56,7 +57,7 @@ pub(crate) fn lengthened(
     Ok(entries)
 }
 
-/// Each entry less the number of entries after it.
+/// Each entry minus the number of entries after it.
 pub(crate) fn less_the_later(
     alloc: Global,
     entries: &[u16],

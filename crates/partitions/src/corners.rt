@@ -7,7 +7,7 @@ ghost use Rattle.smallvec.specs.SmallVec.{small_vec_len};
 use smallvec::SmallVec;
 
 /// Lowers the part at `place`, counted from 0, by 1, and removes it if it is then 0. The next part
-/// is smaller.
+/// must be smaller.
 pub(crate) fn lower_last(parts: &mut SmallVec<u16, 16>, place: usize)
     requires partition { IsPartition parts.old.items }
     requires corner { slice_index parts.old.items (place + 1) < slice_index parts.old.items place }

@@ -16,7 +16,7 @@ const MAX_CELLS: u16 = 4096;
 const MAX_ROWS: u16 = 512;
 
 /// The factors of a product: 2 to 8 partitions, with at most 4,096 cells and at most 512 rows in
-/// all. A contract sees the list of them.
+/// all. In contracts, a value of this type is the list of the factors.
 #[derive(Debug, Drop)]
 pub struct Factors {
     factors: Vec<Partition>,
@@ -38,7 +38,7 @@ impl Model for Factors {
 }
 
 impl Factors {
-    /// Two factors.
+    /// The list of these two factors.
     ///
     /// Returns `TooBig` if and only if they have more than 4,096 cells or more than 512 rows
     /// together.
@@ -133,7 +133,7 @@ impl Factors {
         self.rows
     }
 
-    /// Equal factors.
+    /// An equal list of factors.
     pub fn copy(&self) -> Result<Factors, NoMemory>
         ensures { IfOk result (λ copy. copy ≡ self.now) }
     {

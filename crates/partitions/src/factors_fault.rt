@@ -12,7 +12,7 @@ pub enum FactorsFault {
     /// There would be more than 8 factors.
     #[error("more than 8 factors")]
     TooMany,
-    /// They would have more than 4,096 cells or 512 rows together.
+    /// The factors would have more than 4,096 cells or 512 rows together.
     #[error("more than 4096 cells or 512 rows in all")]
     TooBig,
     /// Memory could not be allocated.

@@ -15,7 +15,7 @@ pub enum PartFault {
     /// The number at the place `at`, counted from 0, is greater than the one before it.
     #[error("the number at place {at} is greater than the one before it")]
     Rising { at: usize },
-    /// They have more than 4,096 cells together.
+    /// The parts have more than 4,096 cells together.
     #[error("more than 4096 cells")]
     TooBig,
     /// Memory could not be allocated.

@@ -122,8 +122,8 @@ fn rows_above_one(parts: &[u16]) -> usize
     rows
 }
 
-/// Writes the first partition of `left` with no part above `most` from the place `start` on, and
-/// returns the place after it.
+/// Writes the lexicographically greatest partition of `left` with no part above `most` from the
+/// place `start` on, and returns the place after it.
 fn fill(buffer: &mut [u16], start: usize, most: u16, left: u16) -> usize
     requires room { start + left ≤ length buffer.old }
     requires most { 0 < left → 0 < most }

@@ -158,7 +158,7 @@ impl Partition {
     }
 
     /// Compares this partition with `other` in the printed order: the greater size first, then
-    /// decreasing lexicographic order. `Equal` only for equal partitions.
+    /// decreasing lexicographic order. The result is `Equal` only if the partitions are equal.
     pub fn cmp_printed(&self, other: &Partition) -> Ordering
         ensures value { result ≡ printed_order self.now other.now }
         ensures equal { result ≡ Ordering.Equal → self.now ≡ other.now }
@@ -178,8 +178,8 @@ impl Partition {
         with_cells(*self.parts.allocator(), self.parts(), self.cells)
     }
 
-    /// The conjugate: its part i is the number of parts that are at least i. The first part is at
-    /// most 512. Up to 16 columns allocate no memory.
+    /// The conjugate: its part i is the number of parts that are at least i. The first part must be
+    /// at most 512. Up to 16 columns allocate no memory.
     pub fn conjugate(&self) -> Result<Partition, NoMemory>
         requires { columns self.now ≤ 512 }
         ensures ok { IfOk result (λ p. p ≡ conjugate self.now) }
@@ -191,8 +191,8 @@ impl Partition {
         })
     }
 
-    /// Removes the last cell of the row `row`, counted from 1. That row is longer than the next
-    /// one.
+    /// Removes the last cell of the row `row`, counted from 1. That row must be longer than the
+    /// next one.
     pub fn remove_corner(&mut self, row: u16)
         requires counted { 1 ≤ row }
         requires corner { part self.old (row + 1) < part self.old row }
@@ -202,8 +202,8 @@ impl Partition {
         self.cells -= 1;
     }
 
-    /// The beta list of length `k`: part i, plus k - i, for each i from 1 to k. `k` is at least the
-    /// number of rows and at most 512.
+    /// The beta list of length `k`: part i, plus k - i, for each i from 1 to k. `k` must be at
+    /// least the number of rows and at most 512.
     pub fn beta(&self, k: u16) -> Result<Beta, NoMemory>
         requires rows { rows self.now ≤ k }
         requires few { k ≤ 512 }
@@ -213,8 +213,8 @@ impl Partition {
         Ok(Beta::new(lengthened(*self.parts.allocator(), self.parts(), k)?))
     }
 
-    /// The partition whose beta list of this length is `b`, a strictly decreasing list of at most
-    /// 512 numbers.
+    /// The partition whose beta list, of the length of `b`, is `b`, a strictly decreasing list of
+    /// at most 512 numbers. The partition must be within the limits.
     pub fn from_beta(alloc: Global, b: &[u16]) -> Result<Partition, NoMemory>
         requires few { length b.now ≤ 512 }
         requires limits { IsWithinLimits (from_beta b.now) }
@@ -251,7 +251,7 @@ impl Hash for Partition {
     }
 }
 
-/// The partition with these parts, whose sum is known.
+/// The partition with these parts, whose sum is `cells`.
 fn with_cells(alloc: Global, parts: &[u16], cells: u16) -> Result<Partition, NoMemory>
     requires { HasCells parts.now cells }
     ensures ok { IfOk result (λ p. p ≡ parts.now) }

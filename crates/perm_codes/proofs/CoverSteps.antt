@@ -24,7 +24,8 @@ map-push : {A B : Type 0} (f : A → B) (xs : List A) (x : A) → map f (xs ++ x
 map-push f [] x = refl
 map-push f (y ∷ xs) x = ap (λ z. f y ∷ z) (map-push f xs x)
 
--- if a < b are places of w, w·t with t exchanging a + 1 and b + 1 is w with these letters exchanged, without its last fixed letters
+-- if a < b are indices of w, `times_swap (a + 1) (b + 1) w` is w with the letters at a and b exchanged, without the
+-- fixed letters at its end
 pub swap_in : (w : List ℕ) (a b : ℕ) → a < b → b < length w → times_swap (a + 1) (b + 1) w ≡ kept (swap w a b)
 swap_in w a b h l =
     ap₂ (λ i j. times_swap i j w) (add-one a) (add-one b) ∙ kept_swap w a b h l ∙ ap kept (sym (swap_is w a b (omega arith) l))
@@ -39,7 +40,8 @@ one_more_place w f start n t e =
     ∙ select-append (λ (v : List ℕ). inversions v == inversions w + 1) (map f (after start n)) (f (start + n + 1))
     ∙ ap (λ s. covers_among w (map f (after start n)) ++ cond s (f (start + n + 1) ∷ []) []) e
 
--- the exchange of the places a + 1 and b + 1 gives a cover of w if and only if the list with these letters exchanged has one inversion more than w
+-- for a permutation w of at most 255 letters, exchanging the places a + 1 and b + 1 gives a cover if and only if the list with these letters exchanged
+-- has one inversion more than w
 pub test_in :
     (w : List ℕ) (a b : ℕ) → a < b → b < length w → IsShortPermutation w
     → (inversions (times_swap (a + 1) (b + 1) w) == inversions w + 1) ≡ (inversions (swap w a b) == inversions w + 1)
@@ -74,7 +76,7 @@ covers_down_fixed w r n h l =
 
 -- ---- covers with one more place tried
 
--- the covers of w at place p with the other place from p + 1 on, up to q
+-- the covers of w that exchange the letter at place p, counted from 0, with a later one of the first q letters
 abbrev pub found_up_to : List ℕ → ℕ → ℕ → List (List ℕ)
 found_up_to w p q = covers_among w (map (λ j. times_swap (p + 1) j w) (after (p + 1) (q - (p + 1))))
 
@@ -102,7 +104,7 @@ pub passed_above :
     → (inversions (swap w p q) == inversions w + 1) ≡ false → list ≡ found_up_to w p q → list ≡ found_up_to w p (q + 1)
 passed_above w p q list h l s t e = e ∙ sym (append-nil (found_up_to w p q)) ∙ sym (step_above w p q false h l s t)
 
--- the covers of w at place p with the other place up to q
+-- the covers of w that exchange the letter at place p, counted from 0, with one of the first q letters
 abbrev pub found_below_to : List ℕ → ℕ → ℕ → List (List ℕ)
 found_below_to w p q = covers_among w (map (λ i. times_swap i (p + 1) w) (after 0 q))
 

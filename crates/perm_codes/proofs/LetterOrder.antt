@@ -1,6 +1,6 @@
--- The printed order of permutations without fixed letters at the end is the order of their lists of letters: if one
--- list is the front of the other, the next letter of the longer one, or one after it, is not fixed, and so it is
--- greater.
+-- The printed order of permutations without fixed letters at the end is the lexicographic order of their lists of
+-- letters: if one list is a prefix of the other, the first letter after the prefix that is not fixed is greater than
+-- its place.
 use Rattle.std.proofs.Common.{◌≡◌, ℕ, ◌+◌, ◌<◌, ◌≤◌, ◌==◌, List, [], ◌∷◌, ◌++◌, length, refl, sym, ap, ◌∙◌, subst, arith, inl, inr, ◌⊎◌, Bool, true, false, cond, eq-eqb, length-append, append_assoc}
 use Rattle.std.specs.Cmp.{nat_cmp_is}
 use Rattle.std.specs.Cmp.Lexicographic.{slice_cmp}
@@ -18,7 +18,7 @@ use Rattle.sym_model.proofs.Sums.{Among-append_right, length_within}
 use Rattle.sym_model.proofs.AfterLists.{length_after, among_after}
 use Rattle.perm_codes.specs.Limits.{IsWithinLimits}
 
--- ---- a list that is the front of another one
+-- ---- a list that is a prefix of another one
 
 apart : (p u : List ℕ) (x : ℕ) → Once (p ++ u) → Among x u → Among x p → ⊥
 apart [] u x o m n = n
@@ -59,7 +59,8 @@ beyond i b u e a o x m =
     let d : x ≡ b → ⊥ = λ q. o (subst (λ y. Among y u) q m) in
     omega arith
 
--- compared with fixed letters after place i, the letters u, all above i, come later or are all fixed themselves
+-- if the letters u are at the places from i + 1 on, either u comes after the fixed letters i + 1, i + 2, .. in the
+-- order, or all letters of u are fixed
 abbrev IsLater : ℕ → List ℕ → Type 0
 IsLater i u = ((rising_letters i [] u ≡ Less) × (rising_letters i u [] ≡ Greater)) ⊎ (without_fixed_from (i + 1) u ≡ [])
 

@@ -34,7 +34,7 @@ new_once (a ∷ w) o zero l m = absurd m
 new_once (a ∷ w) o (suc k) l (inl e) = o.0 (subst (λ b. Among b w) e (among_get k 0 w (omega arith)))
 new_once (a ∷ w) o (suc k) l (inr m) = new_once w o.1 k (omega arith) m
 
--- if each letter is new, the list is a permutation
+-- if each letter of w is one of 1, .., length w and differs from those before it, w is a permutation
 pub one_line_from_new : (w : List ℕ) → ((k : ℕ) → k < length w → IsNewLetter w k) → IsOneLine w
 one_line_from_new w h = record {
   letters = λ a m.

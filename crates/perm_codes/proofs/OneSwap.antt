@@ -1,5 +1,5 @@
--- The number of inversions of a list after two of its letters are exchanged: if the first is smaller, the old number
--- plus 1 plus 2 for each letter between them both in place and in value; otherwise the old number minus the same.
+-- The number of inversions of a list after two of its letters are exchanged: with d = 1 + 2·(the number of letters between them both in place and in
+-- value), it increases by d if the first letter is smaller, and otherwise decreases by d.
 use Rattle.std.proofs.Common.{◌≡◌, ℕ, zero, suc, ◌+◌, ◌-◌, ◌*◌, ◌<◌, ◌≤◌, ◌&&◌, ◌||◌, ◌==◌, nat_lt, Bool, true, false, not, List, [], ◌∷◌, length, take, drop, get_or, set, refl, sym, ap, ap₂, ◌∙◌, subst, arith, cond, inl, inr, eq-eqb, add-one, count_by}
 use Rattle.std.specs.List.{swap, list_any}
 use Rattle.std.proofs.lemmas.List.{take-set-le}
@@ -30,8 +30,8 @@ below_both low high a h = ap (λ s. cond {A = ℕ} (s && nat_lt a high) 1 0) (na
 above_both : (low high a : ℕ) → low < a → high ≤ a → cond {A = ℕ} (lies_between low high a) 1 0 ≡ 0
 above_both low high a h l = ap₂ (λ s t. cond {A = ℕ} (s && t) 1 0) (lt-ltb low a h) (nat_lt-false a high l)
 
--- a letter a has after the exchange of low and high as many inversions with them as before, and 2 more if it is
--- between them
+-- a letter a that is neither low nor high has, after these two are exchanged, the same number of inversions with them, or 2 more if it is between
+-- them
 one_letter : (low high a : ℕ) → low < high → (low ≡ a → ⊥) → (a ≡ high → ⊥)
     → cond {A = ℕ} (nat_lt a high) 1 0 + cond {A = ℕ} (nat_lt low a) 1 0
     ≡ cond {A = ℕ} (nat_lt a low) 1 0 + cond {A = ℕ} (nat_lt high a) 1 0 + 2 * cond {A = ℕ} (lies_between low high a) 1 0
@@ -61,7 +61,8 @@ one_letter low high a h n m = elim (cases_lt low a) [
       omega arith
 ]
 
--- if the first letter x is smaller than that at place b, exchanging them adds 1 to the number of inversions, and 2 for each letter between them
+-- if x is smaller than the letter at index b of w, exchanging the two in x ∷ w adds 1 to the number of inversions, and 2 for each letter between them in
+-- place and in value
 first_swapped : (x b : ℕ) (w : List ℕ) → b < length w → Once (x ∷ w) → x < get_or w b x
     → smaller (get_or w b x) (set w b x) + inversions (set w b x)
     ≡ smaller x w + inversions w + 1 + 2 * between x (get_or w b x) b w
@@ -136,7 +137,7 @@ falling_count a b w h l o f =
     ∙ ap (λ k. inversions (swap_at a b w) + 1 + 2 * count_by (lies_between (get_or w b 0) (get_or w a 0)) (take (b - k) (drop k w))) (sym (add-one a))
     ∙ ap (λ v. inversions v + 1 + 2 * count_by (lies_between (get_or w b 0) (get_or w a 0)) (take (b - (a + 1)) (drop (a + 1) w))) (sym (swap_is w a b (omega arith) l))
 
--- ---- one more inversion, as a test of the letters between
+-- ---- one more inversion, as a test of the letters between the exchanged ones
 
 none_step : (t s : Bool) (k : ℕ) → (t || s) ≡ false → (s ≡ false → k ≡ 0) → cond t 1 0 + k ≡ 0
 none_step true s k h r = cc

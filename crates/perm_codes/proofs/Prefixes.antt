@@ -7,7 +7,7 @@ use Rattle.sym_model.specs.PlaceOrders.{smaller}
 use Rattle.sym_model.specs.Permutation.{kept, without_fixed_from, in_front_unless_fixed}
 use Rattle.schubert_laws.proofs.FixedTails.{kept_added}
 
--- ---- counts of letters
+-- ---- counts of the letters after a place
 
 pub one_more : (t : Bool) (n : ℕ) → cond t 1 0 + n ≡ cond t (1 + n) n
 one_more true n = refl

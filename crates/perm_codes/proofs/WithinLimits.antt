@@ -1,5 +1,5 @@
--- Permutations within the limits: one without fixed letters at the end, one with letters exchanged or added, one made
--- of a code.
+-- Permutations are within the limits if they are made by removing the fixed letters at the end, by exchanging letters,
+-- by adding fixed letters, or from a code.
 use Rattle.std.proofs.Common.{◌≡◌, ℕ, ◌+◌, ◌-◌, ◌<◌, ◌≤◌, List, [], ◌∷◌, length, sym, ap, ◌∙◌, subst, arith, length-append}
 use Rattle.std.specs.List.{swap}
 use Rattle.sym_model.specs.Partition.{after}

@@ -27,7 +27,7 @@ pub record IsNewLetter (w : List ℕ) (at : ℕ) : Type 0 where
   pub within : slice_index w at ≤ length w
   pub new : ¬ Among (slice_index w at) (take at w)
 
--- the place `at` is the first whose letter is not such a new letter
+-- the place `at`, counted from 0, is the first whose letter is not new (`IsNewLetter`)
 pub record OffendsFirstAt (w : List ℕ) (at : ℕ) : Type 0 where
   pub inside : at < length w
   pub offends : ¬ IsNewLetter w at

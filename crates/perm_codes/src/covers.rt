@@ -68,7 +68,8 @@ impl Covers {
     }
 }
 
-/// The covers that exchange the letter at `place`, counted from 0, with one at a greater place.
+/// The covers that exchange the letter at `place`, counted from 0, with one at a greater place;
+/// `count` is the number of inversions of a cover.
 fn covers_above(
     alloc: Global,
     letters: &[u8],
@@ -92,7 +93,8 @@ fn covers_above(
     Ok(covers)
 }
 
-/// The covers that exchange the letter at `place`, counted from 0, with one at a smaller place.
+/// The covers that exchange the letter at `place`, counted from 0, with one at a smaller place;
+/// `count` is the number of inversions of a cover.
 pub(crate) fn covers_below(
     alloc: Global,
     letters: &[u8],

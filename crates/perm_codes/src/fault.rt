@@ -6,7 +6,8 @@ use calc_base::NoMemory;
 use std::alloc::AllocError;
 use thiserror::Error;
 
-/// The reasons for which a list of numbers is not the letters of a permutation, or not its code.
+/// The reasons for which a list of numbers is not the letters of a permutation, or not the code of
+/// one.
 #[derive(Clone, Copy, Debug, PartialEq, Eq, Hash, Error)]
 pub enum PermFault {
     /// There is no letter.

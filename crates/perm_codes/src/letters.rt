@@ -78,7 +78,7 @@ pub(crate) fn find_last_descent(letters: &[u8]) -> Option<u16>
     None
 }
 
-/// The number of letters before the fixed ones at the end; at least 1.
+/// The number of letters without the fixed ones at the end; the first letter is always counted.
 pub(crate) fn count_kept(letters: &[u8]) -> usize
     ensures { take result letters.now ≡ kept letters.now }
 {
@@ -103,8 +103,8 @@ pub(crate) fn makes_one_inversion(letters: &[u8], first: usize, second: usize) -
 }
 
 /// The number of inversions after exchanging the letters at two places, counted from 0, if `count`
-/// is the number before: if the first letter is smaller, `count` + 1 + 2·(letters between them both
-/// in place and in value); otherwise `count` minus the same.
+/// is the number before. With d = 1 + 2·(letters between them both in place and in value) it is
+/// `count` + d if the first letter is smaller, and otherwise `count` - d.
 pub(crate) fn inversions_exchanged(letters: &[u8], first: usize, second: usize, count: u16) -> u16
     requires permutation { IsShortPermutation letters.now }
     requires order { first < second }
@@ -166,7 +166,8 @@ pub(crate) fn add_fixed(alloc: Global, letters: &[u8], last: usize) -> Result<Le
     Ok(list)
 }
 
-/// The letters with a code: for each entry a, the remaining letter with exactly a smaller ones.
+/// The letters of the permutation with this code: for each entry a in turn, the unused letter that
+/// is greater than exactly a other unused ones.
 pub(crate) fn choose(alloc: Global, code: &[u16]) -> Result<Letters, AllocError>
     requires few { length code.now ≤ 255 }
     requires code { IsCode code.now }

@@ -2,11 +2,11 @@
 //!
 //! What is proved:
 //!
-//! `Perm` is its list of letters without fixed ones at the end: each error of `from_letters` and
-//! `from_code` has its exact cause, and `letter`, `inversions`, `last_descent`, `code`,
-//! `times_swap` and `covers_at` are those of the definitions; `last_descent` gives None if and only
-//! if the permutation is the identity; `cmp_printed` is the printed order; equality is that of the
-//! letters, and hashing agrees with it.
+//! In contracts, a `Perm` is its list of letters without fixed ones at the end. Each error of
+//! `from_letters` and `from_code` has its exact cause, and `letter`, `inversions`, `last_descent`,
+//! `code`, `times_swap` and `covers_at` agree with their definitions; `last_descent` gives None if
+//! and only if the permutation is the identity; `cmp_printed` is the printed order; equality is
+//! that of the letters, and hashing agrees with it.
 #![tactic(auto)]
 
 mod covers;

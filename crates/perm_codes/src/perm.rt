@@ -75,8 +75,9 @@ impl Perm {
         Ok(Perm::from_valid_letters(alloc, letters)?)
     }
 
-    /// The permutation with these letters, which the caller guarantees to be one. Up to 16 letters
-    /// allocate no memory.
+    /// The permutation with these letters, without the fixed letters at the end. The caller
+    /// guarantees that they are a permutation of at most 255 letters. Up to 16 letters allocate no
+    /// memory.
     pub fn from_valid_letters(alloc: Global, letters: &[u16]) -> Result<Perm, NoMemory>
         requires { IsShortPermutation letters.now }
         ensures ok { IfOk result (λ w. w ≡ kept letters.now) }
@@ -87,8 +88,9 @@ impl Perm {
 
     /// The permutation whose code, followed by zeros up to the length of this list, is this list.
     ///
-    /// Returns `Empty` and `TooMany` as `from_letters` does, otherwise `Letter` at the first place,
-    /// counted from 0, whose entry is greater than the number of entries after it.
+    /// Returns `Empty` if there is no number, `TooMany` if there are more than 255, otherwise
+    /// `Letter` at the first place, counted from 0, whose entry is greater than the number of
+    /// entries after it.
     pub fn from_code(alloc: Global, code: &[u16]) -> Result<Perm, PermFault>
         ensures ok { IfOk result (λ w. w ≡ from_code code.now) }
         ensures is_code { OnOk result (IsCode code.now) }
@@ -145,8 +147,8 @@ impl Perm {
         self.inversions
     }
 
-    /// The last place whose letter is greater than the next one; None if and only if this is the
-    /// identity.
+    /// The last place, counted from 1, whose letter is greater than the next one; None if and only
+    /// if this is the identity.
     pub fn last_descent(&self) -> Option<u16>
         ensures value { result ≡ last_descent self.now }
         ensures identity { (result ≡ None) ↔ (self.now ≡ 1 ∷ []) }
@@ -156,7 +158,7 @@ impl Perm {
     }
 
     /// Compares this permutation with `other` in the printed order: fewer inversions first, then
-    /// increasing lexicographic order of the letters. `Equal` only for equal permutations.
+    /// increasing lexicographic order of the letters. The result is `Equal` only if they are equal.
     pub fn cmp_printed(&self, other: &Perm) -> Ordering
         ensures value { result ≡ permutation_order self.now other.now }
         ensures equal { result ≡ Ordering.Equal → self.now ≡ other.now }

@@ -14,7 +14,7 @@ use Rattle.plain_programs.specs.PlainLists.{sum_of, part_polynomial, product_pol
 use Rattle.plain_programs.specs.declared.bases.PlainBasis.{PlainBasis}
 use Rattle.plain_programs.specs.declared.bases.PlainBasis.TheVariants.{Elementary, Complete, PowerSum}
 
--- each list has the sum of its numbers equal to d
+-- the numbers of each list add up to d
 abbrev pub HaveSize : ℕ → List (List ℕ) → Type 0
 HaveSize d [] = Unit {0}
 HaveSize d (α ∷ αs) = (size α ≡ d) × HaveSize d αs
@@ -126,7 +126,7 @@ among-item [] i x h e = absurd (omega arith)
 among-item (y ∷ xs) zero x h e = inl (ap (λ (z : Vec ℕ). z.items) e)
 among-item (y ∷ xs) (suc i) x h e = inr (among-item xs i x (omega arith) e)
 
--- the monomials of two sums whose degrees fit together can be multiplied
+-- the monomials of two sums of the degrees d and e can be multiplied if d + e is below 2^64
 pub can_multiply : (d e : ℕ) (f g : Poly) (αs βs : List (List ℕ)) → d + e < 2 ^ 64 → HasDegree d f → HasDegree e g → sum_of αs ≡ f → sum_of βs ≡ g → CanMultiply αs βs
 can_multiply d e f g αs βs h k l p q α β m n =
     let a = size-among d αs α (have_size-from_sum d αs (subst (HasDegree d) (sym p) k)) m in
@@ -145,13 +145,13 @@ pub size-first : (parts : List ℕ) → 1 ≤ length parts → size parts ≡ ge
 size-first [] h = absurd (omega arith)
 size-first (a ∷ parts) h = ap (λ ps. a + size ps) (sym (rest-is (a ∷ parts) h))
 
--- the polynomial of the first part times the product over the others is the product over all parts
+-- the polynomial of the first part times the product over the other parts is the product over all parts
 pub product_over-first : (f : ℕ → ℕ → Poly) (parts : List ℕ) (n : ℕ) → 1 ≤ length parts → times (f (get_or parts 0 0) n) (product_over f (take (length parts - 1) (drop 1 parts)) n) ≡ product_over f parts n
 product_over-first f [] n h = absurd (omega arith)
 product_over-first f (k ∷ parts) n h = ap (λ ps. times (f k n) (product_over f ps n)) (rest-is (k ∷ parts) h)
 
--- if αs are the monomials of the first part, βs those of the product over the others, and `all` the products of each of αs with each of βs, then the
--- sum of `all` is the product over all parts
+-- if αs are the monomials of the first part, βs those of the product over the other parts, and `all` the products of each of αs with each of βs, then
+-- the sum of `all` is the product over all parts
 pub product-is : (f : ℕ → ℕ → Poly) (parts : List ℕ) (n : ℕ) (αs βs all : List (List ℕ)) → 1 ≤ length parts → sum_of αs ≡ f (get_or parts 0 0) n → sum_of βs ≡ product_over f (take (length parts - 1) (drop 1 parts)) n → all ≡ flat_map (λ α. map (λ β. join α β) βs) αs → sum_of all ≡ product_over f parts n
 product-is f parts n αs βs all h p q e =
     ap sum_of e ∙ (sum_of-times αs βs ∙ (ap (λ g. times g (sum_of βs)) p ∙ (ap (λ g. times (f (get_or parts 0 0) n) g) q ∙ product_over-first f parts n h)))

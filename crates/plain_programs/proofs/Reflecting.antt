@@ -4,7 +4,8 @@ use Rattle.sym_model.specs.BetaList.{has_equal_entries, sorted_falling, sorting_
 use Rattle.sym_model.specs.AlcoveReduction.{spread, squares, reflected, with_sign, reflected_into_alcove}
 use Rattle.strip_laws.proofs.Reflections.{reflect_again, squares_fall, squares_sorted}
 
--- `next` is the reflection of `list`, which has a spread over n; `falling` is `next` in decreasing order, and `sign` the sign of sorting it
+-- `next` is the reflection of `list`, which has a spread over n, and has different entries; `falling` is `next` in decreasing order,
+-- and `sign` the sign of sorting it
 pub record Reflects (n : ℕ) (list next falling : List ℕ) (sign : ℤ) : Type 0 where
   pub positive : 1 ≤ n
   pub far : n < spread list

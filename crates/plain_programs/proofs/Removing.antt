@@ -1,6 +1,6 @@
 -- One removal of a rim hook, by its rows first, .., last, counted from 0.
 --     removal_found      a removal leaves the rows of `left_part`
---     none_in_rows       if the tests fail, no removal has these rows
+--     none_in_rows       if the tests fail, no removal has the rows first, .., last
 --     fewer_rows         a removal does not increase the number of rows
 use Rattle.std.proofs.Common.{◌≡◌, ℕ, ◌+◌, ◌-◌, ◌<◌, ◌≤◌, ◌⊎◌, List, length, get_or, sym, ◌∙◌, ap, subst, refl, inl, inr, arith}
 use Rattle.std.proofs.lemmas.Bool.{cases_lt, cases_eq}
@@ -39,7 +39,7 @@ left_last shape first last rest i h e = grind (arith, nat_tests)
 left_below : (shape : List ℕ) (first last rest i : ℕ) → first ≤ last → last < i → left_part shape first last rest i ≡ get_or shape i 0
 left_below shape first last rest i h l = grind (arith, nat_tests)
 
--- the tests for a removal with these rows, which leaves `rest` cells in the last of them
+-- the tests for removing a rim hook of n cells with the rows first, .., last, counted from 0, from `shape`; row last keeps `rest` cells
 pub record Fits (n : ℕ) (shape : List ℕ) (first last rest : ℕ) : Type 0 where
   pub partition : IsPartition shape
   pub ordered : first ≤ last
@@ -99,7 +99,7 @@ pub record IsLeft (n : ℕ) (shape left : List ℕ) (first last : ℕ) : Type 0 
   pub removal : IsRemoval n shape left
   pub height : height shape left ≡ last - first + 1
 
--- row i + 1 of the partition `numbers` is `left_part shape first last rest i`, for every i
+-- the number at each place i of `numbers` is `left_part shape first last rest i`
 abbrev AreLeft : List ℕ → List ℕ → ℕ → ℕ → ℕ → Type 0
 AreLeft numbers shape first last rest = (i : ℕ) → get_or numbers i 0 ≡ left_part shape first last rest i
 
@@ -179,7 +179,7 @@ removal_found n shape numbers first last rest h v =
 
 -- ---- the rows first to last from which no rim hook can be removed
 
--- bounds for the last row after a removal with these rows
+-- the conditions on the number `rest` of cells left in row last after a rim hook of n cells with the rows first, .., last, counted from 0, is removed
 record Bounds (n : ℕ) (shape : List ℕ) (first last rest : ℕ) : Type 0 where
   cells : rest + n ≡ get_or shape first 0 + (last - first)
   end : rest < get_or shape last 0

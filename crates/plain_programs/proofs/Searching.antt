@@ -1,5 +1,5 @@
 -- The search for a removal through all first and last rows.
---     search_on       if no removal begins in a row before `first` and none in `first`, none begins in a row up to `first`
+--     search_on       if no removal begins in the rows up to `done`, and none in row done + 1, none begins in the rows up to done + 1
 --     no_removal      if no removal begins in any row, there is none
 --     goes_on         a removal, and the removals after it
 use Rattle.std.proofs.Common.{◌≡◌, ℕ, suc, ◌+◌, ◌-◌, ◌<◌, ◌≤◌, ◌⊎◌, false, Option, Some, None, is_some, List, length, sym, ◌∙◌, ap, subst, inl, inr, arith, ℤ, ◌*ℤ◌}

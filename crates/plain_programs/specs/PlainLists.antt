@@ -18,23 +18,24 @@ lists all = map (λ list. list.items) all.items
 abbrev pub sum_of : List (List ℕ) → Poly
 sum_of αs = map (λ α. (α, pos 1)) αs
 
--- the exponents of each product of a first and a second monomial fit 64 bits
+-- |α| + |β| < 2^64 for each α of the first list and each β of the second, so that the exponents of their product fit
+-- 64 bits
 abbrev pub CanMultiply : List (List ℕ) → List (List ℕ) → Type 0
 CanMultiply αs βs = (α β : List ℕ) → Among α αs → Among β βs → size α + size β < 2 ^ 64
 
--- the exponent lists of the monomials of a part, among those of its degree
+-- whether the monomial with these exponents, whose degree is the part k, occurs in e_k, h_k or p_k, by the basis
 abbrev pub keeps : PlainBasis → ℕ → List ℕ → Bool
 keeps Elementary part = at_most_one
 keeps Complete part = λ α. true
 keeps PowerSum part = has part
 
--- the polynomial of a part
+-- e_k, h_k or p_k of the part k, by the basis
 abbrev pub part_polynomial : PlainBasis → ℕ → ℕ → Poly
 part_polynomial Elementary = elementary_of
 part_polynomial Complete = complete_of
 part_polynomial PowerSum = power_sum_of
 
--- the polynomial of a partition, which is the product over its parts
+-- e_λ, h_λ or p_λ of the partition λ, by the basis
 abbrev pub product_polynomial : PlainBasis → List ℕ → ℕ → Poly
 product_polynomial Elementary = elementary
 product_polynomial Complete = complete

@@ -1,4 +1,4 @@
--- The lists of the vectors of this crate.
+-- The lists that the vectors of this crate hold.
 use Rattle.std.specs.Prelude.{ℕ, List, map, Vec}
 use Rattle.std.specs.declared.alloc.Global.{Global}
 

@@ -1,4 +1,4 @@
-//! A plain program for the printed block, which goes by its definition.
+//! A plain program for the printed block, which follows the definition.
 
 ghost use Rattle.std.specs.Prelude.{◌≡◌, ◌++◌, codes, decimal, map, IfOk, OnOk, string_bytes};
 ghost use Rattle.std.specs.Fmt.{signed_decimal};

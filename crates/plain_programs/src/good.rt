@@ -15,9 +15,9 @@ use crate::readings::{plain_column_reading, plain_reading_right_of};
 use crate::words::plain_words;
 use std::alloc::{AllocError, Global};
 
-/// The column readings, in increasing lexicographic order, of the good tableaux of the shape
-/// outer/inner with this start and entries from 1 to k; none if start has more than k parts. The
-/// number of cells is below 2^64. Fails only if memory runs out.
+/// The column readings, in increasing lexicographic order, of the good tableaux (`plain_is_good`)
+/// of the shape outer/inner with this start and entries from 1 to k; none if start has more than k
+/// parts. The number of cells is below 2^64. Fails only if memory runs out.
 pub fn plain_good_readings(
     alloc: Global,
     k: u64,
@@ -35,8 +35,8 @@ pub fn plain_good_readings(
     those_among(alloc, &words, &readings)
 }
 
-/// The good tableaux of the shape outer/inner with this start and entries from 1 to k, each by its
-/// rows. Fails only if memory runs out.
+/// The good tableaux (`plain_is_good`) of the shape outer/inner with this start and entries from 1
+/// to k, each by its rows; none if start has more than k parts. Fails only if memory runs out.
 pub fn plain_good_tableaux(
     alloc: Global,
     k: u64,
@@ -91,8 +91,9 @@ fn push_if(
     Ok(())
 }
 
-/// Whether start plus the content of the columns right of column j, in letters from 1 to k, is
-/// weakly decreasing for each j from 0 to the last column. Fails only if memory runs out.
+/// Whether a tableau is good for a start: start plus the content of the columns right of column j,
+/// in letters from 1 to k, is weakly decreasing for each j from 0 to the last column. Fails only if
+/// memory runs out.
 pub fn plain_is_good(
     alloc: Global,
     k: u64,

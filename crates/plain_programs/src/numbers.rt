@@ -9,7 +9,7 @@ pub(crate) fn number_at(numbers: &[u64], i: usize) -> u64
     numbers.get(i).copied().unwrap_or(0)
 }
 
-/// The list without its first numbers.
+/// The list without its first `count` numbers.
 pub(crate) fn without_first(numbers: &[u64], count: u64) -> &[u64]
     ensures { result.now ≡ drop count numbers.now }
 {

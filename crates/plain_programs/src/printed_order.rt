@@ -1,4 +1,4 @@
-//! A plain program for the printed order, which goes by its definition.
+//! A plain program for the printed order, which follows the definition.
 
 ghost use Rattle.std.specs.Prelude.{◌≡◌, ◌^◌, ◌<◌};
 ghost use Rattle.sym_model.specs.Partition.{size};

@@ -22,8 +22,9 @@ pub struct Signed {
     pub is_negative: bool,
 }
 
-/// The reduction of a partition with at most k rows into the alcove of level n - k: a partition
-/// with a sign, or None if it is 0. Fails only if memory runs out.
+/// The reduction of a partition with at most k rows into the alcove of level n - k, for n at least
+/// 1: a partition with a sign, or None if it is 0. The greatest part plus k is below 2^64. Fails
+/// only if memory runs out.
 pub fn plain_alcove(
     alloc: Global,
     k: u64,
@@ -46,8 +47,8 @@ pub fn plain_alcove(
     }))
 }
 
-/// The result of reflecting a list until it is in the alcove, with a sign; None if it is 0. Fails
-/// only if memory runs out.
+/// The result of reflecting a list until the first entry minus the last is below n, which is at
+/// least 1, with a sign; None if it is 0. Fails only if memory runs out.
 pub fn plain_reflect(alloc: Global, n: u64, list: &[u64]) -> Result<Option<Signed>, AllocError>
     requires { 1 ≤ n }
     ensures { IfOk result (λ answer. signed_of answer ≡ reflected_into_alcove n list.now) }

@@ -19,7 +19,7 @@ pub struct Removal {
     pub height: u64,
 }
 
-/// An end of the removals, with a sign and the number of removals.
+/// The partition with which the removals of rim hooks end, with a sign and the number of removals.
 #[derive(Drop)]
 pub struct Core {
     /// The partition that is left at the end.
@@ -30,8 +30,9 @@ pub struct Core {
     pub power: u64,
 }
 
-/// Removes rim hooks of n cells from a partition with at most k rows until there is none; each
-/// multiplies the sign by (-1)^(k - height). Fails only if memory runs out.
+/// Removes rim hooks of n cells, n at least 1, from a partition with at most k rows and fewer than
+/// 2^64 cells until there is none; each multiplies the sign by (-1)^(k - height). Fails only if
+/// memory runs out.
 pub fn plain_core(alloc: Global, k: u64, n: u64, shape: &[u64]) -> Result<Core, AllocError>
     requires positive { 1 ≤ n }
     requires partition { IsPartition shape.now }
@@ -74,7 +75,8 @@ pub fn plain_removal(alloc: Global, n: u64, shape: &[u64]) -> Result<Option<Remo
     Ok(None)
 }
 
-/// A removal whose first row is `first`, counted from 0; None if there is none.
+/// A removal of a rim hook of n cells whose first row is `first`, counted from 0; None if there is
+/// none.
 fn removal_from(
     alloc: Global,
     n: u64,
@@ -93,7 +95,8 @@ fn removal_from(
     Ok(None)
 }
 
-/// The removal with these first and last rows, counted from 0; None if there is none.
+/// The removal of a rim hook of n cells with these first and last rows, counted from 0; None if
+/// there is none.
 fn removal_between(
     alloc: Global,
     n: u64,

@@ -35,7 +35,7 @@ use Rattle.sparse_polys.proofs.Bounds.{coefficient-list}
 use Rattle.sparse_polys.proofs.WholeLists.{Once-keys, labels-same}
 use Rattle.plethysm.specs.BoundedSums.{IsBoundedSum}
 use Rattle.plethysm.specs.PlethysmLists.{AreNaturalNumbers}
-use Rattle.plethysm.proofs.NumeratorLists.{keys-numerators}
+use Rattle.plethysm.proofs.NumeratorLists.{keys-mapped}
 use native.Mathlib.Nat.{mul-pos}
 
 -- each coefficient of the list has the denominator 1
@@ -116,7 +116,7 @@ natural-expansion e terms h is bounded x t m = (ones t m, subst (λ z. pos 0 ≤
     at : t.1.0 ≡ coefficient (cleared_value e (length t.0)) t.0
     at =
         sym
-        (coefficient_of_term (numerators terms) (subst (IsDistinct equal) (sym (keys-numerators terms)) is.distinct) (t.0, t.1.0)
+        (coefficient_of_term (numerators terms) (subst (IsDistinct equal) (sym (keys-mapped (λ (c : Fraction). c.0) terms)) is.distinct) (t.0, t.1.0)
         (Among-map (λ (u : List ℕ × Fraction). (u.0, u.1.0)) t terms m))
         ∙ coefficient-list (numerators terms) (cleared_value e)
         (λ n. Same_sym (cleared_value e n) (in_monomials (numerators terms) n)

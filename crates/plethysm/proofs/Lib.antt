@@ -1,6 +1,7 @@
 pub mod FactorLists
 pub mod PathSteps
 pub mod NumeratorLists
+pub mod QuotientLists
 pub mod InnerLists
 pub mod PlethysmAnswers
 pub mod FinishedBounds

@@ -1,23 +1,20 @@
--- One more term added when a list in p is multiplied out with a list in m in place of the variables (the path of a plethysm).
-use Rattle.std.proofs.Common.{◌≡◌, ℕ, ◌+◌, ◌*◌, ◌/◌, ◌^◌, ◌≤◌, List, [], ◌∷◌, ◌++◌, length, sym, ◌∙◌, ap, ap₂, subst, inl, inr, arith, ℤ, pos, ◌+ℤ◌, ◌*ℤ◌, append-nil, append_assoc}
+-- One more term added when a list in p is multiplied out with a list in m in place of the variables.
+use Rattle.std.proofs.Common.{◌≡◌, ℕ, ◌+◌, ◌*◌, ◌^◌, ◌≤◌, List, [], ◌∷◌, ◌++◌, length, sym, ◌∙◌, ap, ap₂, subst, inl, inr, arith, ℤ, pos, ◌+ℤ◌, ◌*ℤ◌, append-nil, append_assoc}
 use Rattle.std.specs.Prelude.{nat_abs}
 use Rattle.std.proofs.lemmas.Int.{ints, unsigned_abs-mul}
-use Rattle.std.proofs.lemmas.List.{map-append}
-use Rattle.sym_model.specs.Sum.{Among}
 use Rattle.sym_model.specs.Partition.{IsPartition}
 use Rattle.sym_model.specs.Polynomial.{Poly, Same, coefficient, plus, scale, pair}
 use Rattle.sym_model.specs.Bases.{monomial}
-use Rattle.sym_model.specs.Expansion.{Fraction, Terms}
 use Rattle.sym_model.specs.WholeTerms.{WholeTerms, combined}
 use Rattle.sym_model.proofs.Ring.{one-product}
 use Rattle.sym_model.proofs.Polynomials.{pair_plus, pair_scale, pair_determined, coefficient_plus, coefficient_scale}
 use Rattle.sym_model.proofs.WholeTerms.{coefficient-combined}
-use Rattle.monomial_laws.specs.ExpressionTerms.{in_monomials, IsList, over}
+use Rattle.monomial_laws.specs.ExpressionTerms.{in_monomials, IsList}
 use Rattle.sparse_polys.specs.Large.{SumIsLarge}
 use Rattle.sparse_polys.proofs.Bounds.{coefficient-list}
 use Rattle.plethysm_laws.specs.PowerSumPlethysm.{met}
 use Rattle.plethysm_laws.proofs.PathBounds.{coefficient-met}
-use Rattle.plethysm.specs.PathSums.{power_sum_in, power_sum_at, IsPastStep, IsPastPath}
+use Rattle.plethysm.specs.PathSums.{power_sum_in, power_sum_at, IsPastPath}
 
 pub sum-value : (A B S : WholeTerms) (z : ℤ) (P : ℕ → Poly) → Same S (plus (scale (pos 1) A) (scale z B)) → IsList B P → (n : ℕ) → Same (in_monomials S n) (plus (in_monomials A n) (scale z (P n)))
 sum-value A B S z P e h n α =
@@ -68,45 +65,39 @@ combined-push : (P : List ℕ → Poly) (W : WholeTerms) (t : List ℕ × ℤ) �
 combined-push P [] t = append-nil (scale t.1 (P t.0))
 combined-push P (u ∷ W) t = ap (λ f. scale u.1 (P u.0) ++ f) (combined-push P W t) ∙ sym (append_assoc (scale u.1 (P u.0)) (combined P W) (scale t.1 (P t.0)))
 
-over-push : (den : ℕ) (done : Terms (List ℕ)) (x : List ℕ × Fraction) → over den (done ++ x ∷ []) ≡ over den done ++ (x.0, x.1.0 *ℤ pos (den / x.1.1)) ∷ []
-over-push den done x = map-append (λ (t : List ℕ × Fraction). (t.0, t.1.0 *ℤ pos (den / t.1.1))) done (x ∷ [])
-
 met-append : (f : List ℕ → ℤ) (V U : WholeTerms) → met (V ++ U) f ≡ met V f + met U f
 met-append f [] U = omega arith
 met-append f (t ∷ V) U = omega (arith, met-append f V U)
 
 -- if S is the sum over the terms done so far, and T is S with z times p_λ[W] added for the next term, then T is the sum with this term
-pub path-step : (den n : ℕ) (W S T : WholeTerms) (done : Terms (List ℕ)) (x : List ℕ × Fraction) (z : ℤ) → z ≡ x.1.0 *ℤ pos (den / x.1.1)
-    → Same (in_monomials S n) (combined (λ label. power_sum_in W label n) (over den done))
-    → Same (in_monomials T n) (plus (in_monomials S n) (scale z (power_sum_in W x.0 n)))
-    → Same (in_monomials T n) (combined (λ label. power_sum_in W label n) (over den (done ++ x ∷ [])))
-path-step den n W S T done x z e h k α =
+pub path-step : (n : ℕ) (W S T done : WholeTerms) (x : List ℕ × ℤ)
+    → Same (in_monomials S n) (combined (λ label. power_sum_in W label n) done)
+    → Same (in_monomials T n) (plus (in_monomials S n) (scale x.1 (power_sum_in W x.0 n)))
+    → Same (in_monomials T n) (combined (λ label. power_sum_in W label n) (done ++ x ∷ []))
+path-step n W S T done x h k α =
     let P : List ℕ → Poly = λ label. power_sum_in W label n in
     k α
-    ∙ coefficient_plus (in_monomials S n) (scale z (power_sum_in W x.0 n)) α
-    ∙ ap₂ ◌+ℤ◌ (h α) (ap (λ y. coefficient (scale y (power_sum_in W x.0 n)) α) e)
-    ∙ sym (coefficient_plus (combined P (over den done)) (scale (x.1.0 *ℤ pos (den / x.1.1)) (power_sum_in W x.0 n)) α)
-    ∙ sym (ap (λ f. coefficient f α) (ap (combined P) (over-push den done x) ∙ combined-push P (over den done) (x.0, x.1.0 *ℤ pos (den / x.1.1))))
+    ∙ coefficient_plus (in_monomials S n) (scale x.1 (power_sum_in W x.0 n)) α
+    ∙ ap (λ y. y +ℤ coefficient (scale x.1 (power_sum_in W x.0 n)) α) (h α)
+    ∙ sym (coefficient_plus (combined P done) (scale x.1 (power_sum_in W x.0 n)) α)
+    ∙ sym (ap (λ f. coefficient f α) (combined-push P done x))
 
--- if |S| + |z|·|p_λ[W]| is 2^127 or more at ν, so is the sum over all terms of their absolute values at ν
-pub path-past : (den m : ℕ) (W S : WholeTerms) (done rest : Terms (List ℕ)) (x : List ℕ × Fraction) (z : ℤ) (ν : List ℕ) → z ≡ x.1.0 *ℤ pos (den / x.1.1) → IsPartition ν
-    → ((n : ℕ) → Same (in_monomials S n) (combined (λ label. power_sum_in W label n) (over den done)))
-    → m ≤ nat_abs (coefficient S ν) + nat_abs z * nat_abs (power_sum_at W ν x.0)
-    → m ≤ met (over den (done ++ (x ∷ rest))) (power_sum_at W ν)
-path-past den m W S done rest x z ν e p h l =
-    let f = power_sum_at W ν in
-    let a = coefficient-list S (λ n. combined (λ label. power_sum_in W label n) (over den done)) h ν p in
-    let b = coefficient-met (λ label. power_sum_in W label (length ν)) (over den done) ν in
-    let c = ap (λ V. met V (power_sum_at W ν)) (map-append (λ (t : List ℕ × Fraction). (t.0, t.1.0 *ℤ pos (den / t.1.1))) done (x ∷ rest)) in
-    let d = met-append (power_sum_at W ν) (over den done) (over den (x ∷ rest)) in
+-- if |S| + |z|·|p_λ[W]| is at least m at ν, so is the sum over all terms of their absolute values at ν, for the next term
+-- z·p_λ
+pub path-past : (m : ℕ) (W S done rest : WholeTerms) (x : List ℕ × ℤ) (ν : List ℕ) → IsPartition ν
+    → ((n : ℕ) → Same (in_monomials S n) (combined (λ label. power_sum_in W label n) done))
+    → m ≤ nat_abs (coefficient S ν) + nat_abs x.1 * nat_abs (power_sum_at W ν x.0)
+    → m ≤ met (done ++ (x ∷ rest)) (power_sum_at W ν)
+path-past m W S done rest x ν p h l =
+    let a = coefficient-list S (λ n. combined (λ label. power_sum_in W label n) done) h ν p in
+    let b = coefficient-met (λ label. power_sum_in W label (length ν)) done ν in
+    let d = met-append (power_sum_at W ν) done (x ∷ rest) in
     let g = ap nat_abs a in
-    let i = ap (λ y. nat_abs y * nat_abs (power_sum_at W ν x.0)) e in
     omega arith
 
-pub past-from_step : (den K b : ℕ) (W S : WholeTerms) (done rest terms : Terms (List ℕ)) (x : List ℕ × Fraction) (z : ℤ) → z ≡ x.1.0 *ℤ pos (den / x.1.1)
-    → done ++ (x ∷ rest) ≡ terms → Among x terms
-    → ((n : ℕ) → Same (in_monomials S n) (combined (λ label. power_sum_in W label n) (over den done)))
-    → IsPastStep K b W S x.0 z → IsPastPath den K b W terms
-past-from_step den K b W S done rest terms x z e all m h (inl l) = inr (inl (x, m, l))
-past-from_step den K b W S done rest terms x z e all m h (inr (ν, p, l)) =
-    inr (inr (ν, p, subst (λ (es : Terms (List ℕ)). 2 ^ 127 ≤ met (over den es) (power_sum_at W ν)) all (path-past den (2 ^ 127) W S done rest x z ν e p h l)))
+pub past-from_step : (K b : ℕ) (W S B done rest terms : WholeTerms) (x : List ℕ × ℤ) → done ++ (x ∷ rest) ≡ terms → IsList B (power_sum_in W x.0)
+    → ((n : ℕ) → Same (in_monomials S n) (combined (λ label. power_sum_in W label n) done))
+    → SumIsLarge S B (pos 1) x.1 → IsPastPath K b W terms
+past-from_step K b W S B done rest terms x all list h large =
+    let (ν, p, l) = sum-large S B x.1 (power_sum_in W x.0) list large in
+    inr (ν, p, subst (λ (es : WholeTerms). 2 ^ 127 ≤ met es (power_sum_at W ν)) all (path-past (2 ^ 127) W S done rest x ν p h l))

@@ -1,26 +1,32 @@
--- The list in m that the path gives is the plethysm.
-use Rattle.std.proofs.Common.{◌≡◌, ℕ, ◌/◌, ◌%◌, ◌<◌, ◌*ℤ◌, pos, List, [], ◌∷◌, ◌++◌, length, replicate, ap, ap₂, refl, flat_map}
+-- The list in m that multiplying out a list in p gives is the plethysm.
+use Rattle.std.proofs.Common.{◌≡◌, ℕ, ◌*◌, ◌<◌, ◌*ℤ◌, pos, ℤ, List, [], ◌∷◌, ◌++◌, length, replicate, sym, ◌∙◌, ap, ap₂, refl, arith, flat_map}
 use Rattle.std.specs.Prelude.{nat_abs}
-use Rattle.sym_model.specs.Sum.{Among}
-use Rattle.sym_model.specs.Partition.{ArePositive}
-use Rattle.sym_model.specs.Polynomial.{Poly, Same, coefficient}
-use Rattle.sym_model.specs.Expansion.{Basis, power_sums, Fraction, Terms, IsExpansionOf}
-use Rattle.sym_model.specs.Plethysm.{plethysm, exponent_lists_within, repeated_monomials}
-use Rattle.sym_model.specs.WholeTerms.{WholeTerms, HaveLabels, combined}
-use Rattle.sym_model.proofs.Orders.{is_label-tells}
-use Rattle.monomial_laws.specs.ExpressionTerms.{in_monomials, over}
-use Rattle.sym_model.proofs.WholeTerms.{labels_map}
-use Rattle.sparse_polys.proofs.Tables.{term-tests}
-use Rattle.sparse_polys.specs.Tables.{IsFractionTable}
-use Rattle.sparse_polys.proofs.WholeLists.{Once-keys}
+use Rattle.std.proofs.lemmas.Int.{ints}
+use Rattle.sym_model.specs.Bases.{monomial, power_sum}
+use Rattle.sym_model.specs.ListWeight.{IsBounded}
+use Rattle.sym_model.specs.Polynomial.{Poly, Same, coefficient, scale}
+use Rattle.sym_model.specs.Expansion.{Basis, basis_polynomial, power_sums, Terms, IsExpansionOf}
+use Rattle.sym_model.specs.Plethysm.{plethysm, substitute, exponent_lists_within, repeated_monomials}
+use Rattle.sym_model.specs.WholeTerms.{WholeTerms, combined}
+use Rattle.sym_model.proofs.Polynomials.{coefficient_scale}
+use Rattle.sym_model.proofs.Ring.{ring}
+use Rattle.sym_model.proofs.WholeTerms.{combined_respects}
+use Rattle.monomial_laws.specs.ExpressionTerms.{in_monomials, IsList, over}
+use Rattle.monomial_laws.proofs.DividedTerms.{IsDivided-over}
+use Rattle.sparse_polys.specs.Tables.{IsFractionTable, IsWholeTable}
+use Rattle.sparse_polys.proofs.WholeLists.{Once-keys, label-partition}
 use Rattle.sparse_polys.proofs.Quotients.{Quotients, IsDivided-quotients}
-use Rattle.plethysm_laws.proofs.Paths.{plethysm-path}
+use Rattle.basis_change.specs.Clearing.{IsMultipleIn}
+use Rattle.basis_change.proofs.Ends.{clears, expands}
+use Rattle.plethysm_laws.proofs.Paths.{substitute-combined}
 use Rattle.plethysm_laws.proofs.RepeatedMonomials.{repeated-places}
+use Rattle.plethysm_laws.proofs.Substitutions.{substitute_respects, substitute-scale}
 use Rattle.plethysm.specs.BoundedSums.{IsBoundedSum}
 use Rattle.plethysm.specs.PathSums.{power_sum_in}
 use Rattle.plethysm.proofs.FactorLists.{sums}
+use native.Mathlib.Nat.{mul-pos}
 
--- equal polynomials have the same monomials, each repeated according to its coefficient
+-- equal polynomials have the same monomials up to the degree d, each repeated according to its coefficient
 pub repeated_same : (d n : ℕ) (f g : Poly) → Same f g → repeated_monomials d n f ≡ repeated_monomials d n g
 repeated_same d n f g e = by (exponent_lists_within n d)
   where
@@ -28,22 +34,50 @@ repeated_same d n f g e = by (exponent_lists_within n d)
     by [] = refl
     by (α ∷ αs) = ap₂ ◌++◌ (ap (λ z. replicate (nat_abs z) α) (e α)) (by αs)
 
-pub positive-labels : (m : ℕ) (terms : Terms (List ℕ)) → IsFractionTable terms → HaveLabels ArePositive (over m terms)
-positive-labels m terms is =
-    labels_map ArePositive (λ (t : List ℕ × Fraction). (t.0, t.1.0 *ℤ pos (m / t.1.1))) terms
-    (λ t n. (is_label-tells t.0 (term-tests terms is t n).1).partition.positive)
-
--- terms is the outer list in p, cleared by m; W is the inner list in m; S is m times the plethysm in m, and the list
--- is S divided by m
-pub plethysm-answer : (m K b : ℕ) (outer terms list : Terms (List ℕ)) (W S : WholeTerms) → 0 < m → IsFractionTable terms → IsFractionTable list
-    → ((t : List ℕ × Fraction) → Among t terms → m % t.1.1 ≡ 0)
-    → IsBoundedSum K b W
-    → ((n : ℕ) → Same (in_monomials S n) (combined (λ label. power_sum_in W label n) (over m terms)))
-    → Quotients m list S
-    → ((n : ℕ) (f : Poly) (q : ℕ) → IsExpansionOf Basis.monomials outer n f q → IsExpansionOf power_sums terms n f q)
-    → (n : ℕ) (f : ℕ → Poly) (q : ℕ) → ((k : ℕ) → IsExpansionOf Basis.monomials outer k (f k) q)
-    → IsExpansionOf Basis.monomials list n (plethysm f b n (in_monomials W n)) q
-plethysm-answer m K b outer terms list W S some is js w bounded same_sum quotients changed n f q expands =
+-- let `terms` in p be k times the list `outer` in m: if the list S in m has the value of `terms` with p_λ[W] for each p_λ,
+-- then S is k times the plethysm of `outer` and W
+pub composed : (k K b : ℕ) (outer terms W S : WholeTerms) → IsWholeTable terms → IsBoundedSum K b W → IsMultipleIn power_sums k outer terms
+    → ((n : ℕ) → Same (in_monomials S n) (combined (λ label. power_sum_in W label n) terms))
+    → IsList S (λ n. scale (pos k) (plethysm (in_monomials outer) b n (in_monomials W n)))
+composed k K b outer terms W S is h multiple same_sum n α =
+    let g = in_monomials W n in
     let γs = repeated_monomials b n (in_monomials W n) in
-    plethysm-path m terms list S n γs (in_monomials W n) (f (length γs)) q some (Once-keys terms is) (positive-labels m terms is) w (repeated-places b n (in_monomials W n))
-    (sums W K b bounded n) (same_sum n) (IsDivided-quotients m S list some js quotients) (changed (length γs) (f (length γs)) q (expands (length γs)))
+    let m = length γs in
+    same_sum n α
+    ∙ sym (substitute-combined n γs g terms (λ t i. (label-partition terms is t i).positive) (repeated-places b n g) (sums W K b h n) α)
+    ∙ substitute_respects n γs (combined (λ label. power_sum label m) terms) (scale (pos k) (in_monomials outer m)) (multiple m) α
+    ∙ substitute-scale n γs (pos k) (in_monomials outer m) α
+
+-- V is D times the outer list; `list` is V with the monomials γs substituted; E is q times `list` in the target, and the answer is E divided by
+-- D·q: then the answer is the outer list with the monomials γs substituted
+pub expansion-composed : (target : Basis) (N D q p n : ℕ) (γs : List (List ℕ)) (outer answer : Terms (List ℕ)) (V list E : WholeTerms) (f : Poly) → 0 < D → 0 < q
+    → IsFractionTable outer → IsBounded N D outer → Same V (over D outer) → Same (in_monomials list n) (substitute n γs (in_monomials V (length γs)))
+    → IsMultipleIn target q list E → IsFractionTable answer → Quotients (D * q) answer E
+    → IsExpansionOf Basis.monomials outer (length γs) f p → IsExpansionOf target answer n (substitute n γs f) p
+expansion-composed target N D q p n γs outer answer V list E f some positive is b same substituted multiple js quotients x =
+    let P : List ℕ → Poly = λ label. basis_polynomial target label n in
+    let M : List ℕ → Poly = λ label. monomial label (length γs) in
+    let v = in_monomials V (length γs) in
+    let u = in_monomials (over D outer) (length γs) in
+    let S = substitute n γs in
+    let whole = clears M D p (over D outer) outer f (IsDivided-over D outer x.positive (Once-keys outer is) (λ t m. (b t m).0)) x in
+    let inner : Same (scale (pos p) (in_monomials V (length γs))) (scale (pos D) f) =
+    λ β.
+    coefficient_scale (pos p) v β ∙ ap (λ z. pos p *ℤ z) (combined_respects M V (over D outer) same β)
+    ∙ sym (coefficient_scale (pos p) u β) ∙ whole β in
+    expands P (D * q) p E answer (S f) (IsDivided-quotients (D * q) E answer (mul-pos some positive) js quotients) (mul-pos some positive)
+    (λ α.
+    coefficient_scale (pos p) (combined P E) α
+    ∙ ap (λ z. pos p *ℤ z) (multiple n α ∙ coefficient_scale (pos q) (in_monomials list n) α ∙ ap (λ z. pos q *ℤ z) (substituted α))
+    ∙ turned (pos p) (pos q) (coefficient (S v) α)
+    ∙ ap (λ z. pos q *ℤ z)
+    (sym (coefficient_scale (pos p) (S v) α) ∙ sym (substitute-scale n γs (pos p) v α) ∙ substitute_respects n γs (scale (pos p) v) (scale (pos D) f) inner α
+    ∙ substitute-scale n γs (pos D) f α ∙ coefficient_scale (pos D) (S f) α)
+    ∙ regrouped (pos q) (pos D) (coefficient (S f) α)
+    ∙ sym (coefficient_scale (pos (D * q)) (S f) α))
+  where
+    turned : (p q v : ℤ) → p *ℤ (q *ℤ v) ≡ q *ℤ (p *ℤ v)
+    turned p q v = simp ring (omega (arith, ints))
+
+    regrouped : (q D f : ℤ) → q *ℤ (D *ℤ f) ≡ (D *ℤ q) *ℤ f
+    regrouped q D f = simp ring (omega (arith, ints))

@@ -1,3 +1,4 @@
 pub mod PlethysmLists
 pub mod BoundedSums
 pub mod PathSums
+pub mod Compositions

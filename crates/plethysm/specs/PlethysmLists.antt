@@ -10,8 +10,9 @@ use Rattle.sym_model.specs.Plethysm.{plethysm}
 abbrev pub AreNaturalNumbers : Terms (List ℕ) → Type 0
 AreNaturalNumbers terms = (t : List ℕ × Fraction) → Among t terms → (t.1.1 ≡ 1) × (pos 0 ≤ℤ t.1.0)
 
--- the list, with its labels read in the target, is F[G] in every number of variables, for each F and G that the lists `outer` and `inner` expand in
--- m; no coefficient of G is negative and its degree is at most b
+-- for every n, F, G and q such that `outer` in m is F/q, in every number of variables, and `inner` in m is G, in n
+-- variables, the list, with its labels read in the target, is F[G]/q in n variables; F[G] is formed with the
+-- monomials of G of degree at most b
 abbrev pub IsPlethysmOf : Basis → ℕ → Terms (List ℕ) → Terms (List ℕ) → Terms (List ℕ) → Type 0
 IsPlethysmOf target b outer inner list =
     (n : ℕ) (f : ℕ → Poly) (g : Poly) (q : ℕ)

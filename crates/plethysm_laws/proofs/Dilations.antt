@@ -1,4 +1,4 @@
--- m_λ with each variable replaced by its k-th power is m_{kλ}.
+-- For k > 0, m_λ with each variable replaced by its k-th power is m_{kλ}.
 use Rattle.std.proofs.Common.{◌≡◌, ◌⊎◌, ℕ, zero, suc, ◌*◌, ◌/◌, ◌<◌, ◌≤◌, true, false, Bool, cond, eqb, List, [], ◌∷◌, map, length, sym, ◌∙◌, ap, ap₂, subst, refl, inl, inr, arith, pos}
 use Rattle.std.proofs.lemmas.Bool.{cases_lt}
 use Rattle.std.proofs.Math.Nat.{mul-div_cancel_left, mul-le-mul_left}
@@ -142,7 +142,7 @@ dilated-monomial k parts n h β =
         (λ e. d (multiplied-divided k β (sorted_multiples k β h (subst (AreMultiples k) (sym e) (AreMultiples-multiplied k parts h))))))
         ∙ nothing_there (eqb (length β) n))
 
--- multiplying each part of a list in m by k dilates its polynomial
+-- for k > 0, multiplying each part of a list in m by k replaces each variable of its polynomial by its k-th power
 pub dilated-list : (k : ℕ) (terms : WholeTerms) (n : ℕ) → 0 < k → Same (dilated k (in_monomials terms n)) (in_monomials (dilated k terms) n)
 dilated-list k terms n h =
     same_from_pair (dilated k (in_monomials terms n)) (in_monomials (dilated k terms) n)
@@ -154,7 +154,7 @@ dilated-list k terms n h =
     ∙ sym (pair-dilated k terms (λ label. pair (monomial label n) φ))
     ∙ sym (pair-combined (λ label. monomial label n) (dilated k terms) φ))
 
--- in a list in m dilated by k > 0, the coefficient of k·λ is that of λ in the list
+-- in a list in m with each part multiplied by k > 0, the coefficient of k·λ is that of λ in the list
 pub coefficient-dilated : (k : ℕ) (W : WholeTerms) (label : List ℕ) → 0 < k → coefficient (dilated k W) (multiplied k label) ≡ coefficient W label
 coefficient-dilated k W label h =
     coefficient_pair (dilated k W) (multiplied k label)

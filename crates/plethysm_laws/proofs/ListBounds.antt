@@ -1,4 +1,5 @@
--- A bounded list in m, with its fractions cleared, is bounded as a polynomial in every number of variables.
+-- The polynomial of a list in m that is bounded (specs/ListWeight), with its fractions cleared, is bounded in every number
+-- of variables (`IsBounded` of monomial_laws).
 use Rattle.std.proofs.Common.{◌≡◌, ◌⊎◌, ℕ, zero, suc, ◌+◌, ◌*◌, ◌/◌, ◌<◌, ◌≤◌, cond, List, [], ◌∷◌, length, sym, ◌∙◌, ap, subst, refl, inl, inr, arith, ℤ, pos, negsuc, ◌+ℤ◌, ◌*ℤ◌}
 use Rattle.std.specs.Prelude.{nat_abs, ◌≤ℤ◌}
 use Rattle.std.proofs.lemmas.Int.{ints, unsigned_abs-mul}
@@ -21,57 +22,26 @@ use Rattle.monomial_laws.proofs.Majorants.{bounded-scale, bounded-weaken, bounde
 use Rattle.monomial_laws.proofs.DividedTerms.{labels_of, over-there, over-missing, among_or_not}
 use Rattle.std.proofs.Math.Nat.{le_of_mul-le-mul_right}
 use Rattle.sym_model.specs.ListWeight.{factorials}
-use Rattle.sym_model.proofs.Sums.{among_down_from}
+use Rattle.sym_model.proofs.Sums.{among_down_from, total_not_negative}
 use native.Mathlib.Nat.{mul-le-mul_left}
+use Rattle.monomial_laws.proofs.Arrangements.{down_from-below}
 
--- ---- the factorials of sorted exponents
-
--- ---- a sum is at least each of its summands
-
-member_within : {A : Type 0} (f : A → ℤ) (x : A) (xs : List A) → ((y : A) → pos 0 ≤ℤ f y) → Among x xs → (f x ≤ℤ total f xs) × (pos 0 ≤ℤ total f xs)
-member_within {A = A} f x [] h m = absurd m
-member_within {A = A} f x (y ∷ xs) h (inl e) = let n = nonnegative xs in (subst (λ z. f z ≤ℤ (f y +ℤ total f xs)) (sym e) (front (f y) (total f xs) n), both (f y) (total f xs) (h y) n)
-  where
-    both : (a b : ℤ) → pos 0 ≤ℤ a → pos 0 ≤ℤ b → pos 0 ≤ℤ (a +ℤ b)
-    both a b p q = omega (arith, ints)
-
-    front : (a b : ℤ) → pos 0 ≤ℤ b → a ≤ℤ (a +ℤ b)
-    front a b q = omega (arith, ints)
-
-    nonnegative : (ys : List A) → pos 0 ≤ℤ total f ys
-    nonnegative [] = omega (arith, ints)
-    nonnegative (z ∷ ys) = both (f z) (total f ys) (h z) (nonnegative ys)
-member_within {A = A} f x (y ∷ xs) h (inr m) = let r = member_within f x xs h m in (later (f x) (f y) (total f xs) (h y) r.0, both (f y) (total f xs) (h y) r.1)
-  where
-    later : (a b c : ℤ) → pos 0 ≤ℤ b → a ≤ℤ c → a ≤ℤ (b +ℤ c)
-    later a b c p q = omega (arith, ints)
-
-    both : (a b : ℤ) → pos 0 ≤ℤ a → pos 0 ≤ℤ b → pos 0 ≤ℤ (a +ℤ b)
-    both a b p q = omega (arith, ints)
-
-low-down_from : (d a : ℕ) → Among d (down_from a) → d ≤ a
-low-down_from d zero (inl e) = omega arith
-low-down_from d zero (inr m) = absurd m
-low-down_from d (suc a) (inl e) = omega arith
-low-down_from d (suc a) (inr m) = omega (arith, low-down_from d a m)
+-- a sum of numbers that are not negative is at least each of its summands
+member_within : {A : Type 0} (f : A → ℤ) (x : A) (xs : List A) → ((y : A) → pos 0 ≤ℤ f y) → Among x xs → f x ≤ℤ total f xs
+member_within f x [] h m = absurd m
+member_within f x (y ∷ xs) h (inl e) = let n = total_not_negative f xs h in subst (λ z. f z ≤ℤ (f y +ℤ total f xs)) (sym e) (omega (arith, ints))
+member_within f x (y ∷ xs) h (inr m) = let r = member_within f x xs h m in let p = h y in omega (arith, ints)
 
 length-down_from : (a : ℕ) → length (down_from a) ≡ a + 1
 length-down_from zero = omega arith
 length-down_from (suc a) = omega (arith, length-down_from a)
 
 powers-nonnegative : (ds : List ℕ) (n : ℕ) (α : List ℕ) → pos 0 ≤ℤ coefficient (powers ds n) α
-powers-nonnegative ds n α = subst (λ z. pos 0 ≤ℤ z) (sym (coefficient-powers ds n α)) (by ds)
-  where
-    both : (a b : ℤ) → pos 0 ≤ℤ a → pos 0 ≤ℤ b → pos 0 ≤ℤ (a +ℤ b)
-    both a b p q = omega (arith, ints)
+powers-nonnegative ds n α = subst (λ z. pos 0 ≤ℤ z) (sym (coefficient-powers ds n α)) (total_not_negative (λ (d : ℕ). coefficient (power d n) α) ds (λ d. power-nonnegative d n α))
 
-    by : (xs : List ℕ) → pos 0 ≤ℤ total (λ (d : ℕ). coefficient (power d n) α) xs
-    by [] = omega (arith, ints)
-    by (x ∷ xs) = both (coefficient (power x n) α) (total (λ (d : ℕ). coefficient (power d n) α) xs) (power-nonnegative x n α) (by xs)
+-- ---- the polynomials of lists in m
 
--- ---- lists in m as polynomials
-
--- if |z|·F ≤ N·s!, P·F = s! and P ≤ S, then |z| ≤ N·S
+-- for F > 0 and P ≥ 0: if |z|·F ≤ N·s, P·F = s and P ≤ S, then |z| ≤ N·S
 within-power : (z P S : ℤ) (F N s : ℕ) → nat_abs z * F ≤ N * s → P *ℤ pos F ≡ pos s → 0 < F → pos 0 ≤ℤ P → P ≤ℤ S → pos (nat_abs z) ≤ℤ (pos N *ℤ S)
 within-power z (pos p) (pos t) F N s h e k o l =
     let f : p * F ≡ s = omega (arith, ints) in
@@ -110,7 +80,7 @@ majorant-list N D a n terms is w b α = by (cases_eq (length α) n)
         (factorials-positive α)
         (power-nonnegative (size α) n α)
         (subst (λ z. coefficient (power (size α) n) α ≤ℤ z) (sym (coefficient-powers (down_from a) n α))
-        (member_within (λ (d : ℕ). coefficient (power d n) α) (size α) (down_from a) (λ d. power-nonnegative d n α) (among_down_from (size α) a (omega arith))).0)
+        (member_within (λ (d : ℕ). coefficient (power d n) α) (size α) (down_from a) (λ d. power-nonnegative d n α) (among_down_from (size α) a (omega arith))))
 
     by : (length α ≡ n) ⊎ (length α ≡ n → ⊥) → pos (nat_abs (coefficient (in_monomials (over D terms) n) α)) ≤ℤ coefficient (scale (pos N) (powers (down_from a) n)) α
     by (inl l) =
@@ -127,7 +97,7 @@ bounded-list N D a n terms is w b =
     (record {
       exponents = down_from a;
       few = omega (arith, length-down_from a);
-      low = λ k m. low-down_from k a m;
+      low = λ k m. down_from-below a k m;
       majorant = λ α. itself (coefficient (powers (down_from a) n) α) (powers-nonnegative (down_from a) n α);
     })))
   where

@@ -1,4 +1,4 @@
--- The value of an expression of integers and atoms by sums and products has no negative coefficient.
+-- The value of an expression made of natural numbers and atoms by sums and products has no negative coefficient.
 use Rattle.std.proofs.Common.{◌≡◌, ℕ, ◌/◌, Bool, true, false, cond, List, [], ◌∷◌, map, sym, subst, inl, inr, refl, arith, ℤ, pos, ◌+ℤ◌, ◌*ℤ◌, filter}
 use Rattle.std.specs.Prelude.{◌≤ℤ◌}
 use Rattle.std.proofs.lemmas.Int.{ints}
@@ -72,7 +72,7 @@ nonnegative-value (sum e f) n h =
 nonnegative-value (difference e f) n h = absurd h
 nonnegative-value (product e f) n h = nonnegative-times (cleared_value e n) (cleared_value f n) (nonnegative-value e n h.0) (nonnegative-value f n h.1)
 
--- if an expression has no sign and no fraction, its denominator is 1
+-- if an expression has no minus and no fraction, its denominator is 1
 pub denominator-one : (e : Tree) → HasNoSigns e → denominator e ≡ 1
 denominator-one (number a) h = refl
 denominator-one (fraction a b) h = absurd h
@@ -82,7 +82,7 @@ denominator-one (sum e f) h = rw (denominator-one e h.0, denominator-one f h.1) 
 denominator-one (difference e f) h = absurd h
 denominator-one (product e f) h = rw (denominator-one e h.0, denominator-one f h.1) refl
 
--- if no coefficient of a list in m is negative, neither is one of its polynomial
+-- if no coefficient of a list in m is negative, no term of its polynomial has a negative coefficient
 pub nonnegative-monomial_terms : (W : WholeTerms) (n : ℕ) → AreNonnegative W → AreNonnegative (in_monomials W n)
 nonnegative-monomial_terms W n h t m =
     let r = Among_from_each (λ (t : List ℕ × ℤ). scale t.1 (monomial t.0 n)) t W m in

@@ -1,4 +1,5 @@
--- Bounds for the numbers on the path through power sums.
+-- Bounds for the numbers that occur if a plethysm is computed by way of power sums. A polynomial in n variables is bounded
+-- by K at the degree b if some sum of at most K powers of x_1 + .. + x_n, with exponents up to b, is a majorant of it.
 use Rattle.std.proofs.Common.{◌≡◌, ℕ, ◌+◌, ◌*◌, ◌^◌, ◌<◌, ◌≤◌, List, [], ◌∷◌, length, sym, subst, refl, inl, inr, arith, ℤ, pos, ◌+ℤ◌, ◌*ℤ◌}
 use Rattle.std.specs.Prelude.{nat_abs}
 use Rattle.std.proofs.lemmas.Nat.{mul-le}
@@ -26,7 +27,7 @@ use Rattle.monomial_laws.proofs.Majorants.{bounded-weaken}
 use Rattle.plethysm_laws.proofs.SubstitutedBounds.{bounded-power_sum, bounded-dilated}
 use native.Mathlib.Nat.{mul-le-mul_left}
 
--- p_λ[g], as a product, is bounded as the power of g with the exponent |λ|
+-- if g is bounded by K at the degree b, p_λ[g], as a product, is bounded by K^|λ| at the degree |λ|·b
 pub bounded-path : (K b n : ℕ) (γs : List (List ℕ)) (g : Poly) (parts : List ℕ) → ArePositive parts → HavePlaces n γs → Same (monomial_sum γs) g → In n g → IsBounded K b n g
     → IsBounded (K ^ size parts) (size parts * b) n (product_over (λ k m. dilated k g) parts n)
 bounded-path K b n γs g parts p h e i r =
@@ -34,7 +35,8 @@ bounded-path K b n γs g parts p h e i r =
     (substitute-power_sum parts n γs g p h e)
     (bounded-power_sum K b n γs g parts h e i r)
 
--- the coefficients of p_λ[g] are at most K^a·(a·b)! if λ has at most a cells
+-- if g is bounded by K ≥ 1 at the degree b and λ has at most a cells, the coefficients of p_λ[g] are at most K^a·(a·b)!
+-- in absolute value
 pub path-coefficient : (K b a n : ℕ) (γs : List (List ℕ)) (g : Poly) (parts : List ℕ) → 1 ≤ K → size parts ≤ a → ArePositive parts → HavePlaces n γs → Same (monomial_sum γs) g → In n g → IsBounded K b n g
     → (α : List ℕ) → length α ≡ n → nat_abs (coefficient (product_over (λ k m. dilated k g) parts n) α) ≤ K ^ a * factorial (a * b)
 path-coefficient K b a n γs g parts o s p h e i r α l =
@@ -43,7 +45,8 @@ path-coefficient K b a n γs g parts o s p h e i r α l =
     (pow-le-pow_right o s) (mul-le (size parts) b a b s (omega arith)) (bounded-path K b n γs g parts p h e i r))
     α l
 
--- if A is p_k[g] and B is p_λ[g], the coefficients of their product, computed with absolute values, are at most K^(k + |λ|) times the growth
+-- for g bounded by K at the degree b: if A is p_k[g] and B is p_λ[g], the coefficients of their product, computed with
+-- absolute values, are at most K^(k + |λ|) times the growth into m at the degree (k + |λ|)·b
 pub path-product : (K b k : ℕ) (rest : List ℕ) (A B : WholeTerms) (γs : ℕ → List (List ℕ)) (g : ℕ → Poly) → 0 < k → ArePositive rest
     → ((n : ℕ) → HavePlaces n (γs n)) → ((n : ℕ) → Same (monomial_sum (γs n)) (g n)) → ((n : ℕ) → In n (g n)) → ((n : ℕ) → IsBounded K b n (g n))
     → Once (labels A) → Once (labels B) → IsList A (λ n. dilated k (g n)) → IsList B (λ n. product_over (λ k m. dilated k (g n)) rest n)
@@ -79,7 +82,8 @@ met-within B f (t ∷ W) h =
     let p = mul-le-mul_left (nat_abs t.1) (h t (inl refl)) in
     omega arith
 
--- the sum over the labels of W of |coefficient|·|p_λ[g]| at one exponent list is at most the sum of the |coefficient| times K^a·(a·b)!
+-- for g bounded by K ≥ 1 at the degree b, and labels λ of W of at most a cells: the sum of |c|·|p_λ[g]|, at one exponent list,
+-- over the terms (λ, c) of W is at most the sum of the |c| times K^a·(a·b)!
 pub path-met : (K b a n : ℕ) (γs : List (List ℕ)) (g : Poly) (W : WholeTerms) → 1 ≤ K → ((t : List ℕ × ℤ) → Among t W → ArePositive t.0 × (size t.0 ≤ a))
     → HavePlaces n γs → Same (monomial_sum γs) g → In n g → IsBounded K b n g
     → (α : List ℕ) → length α ≡ n → met W (λ label. coefficient (product_over (λ k m. dilated k g) label n) α) ≤ absolute_total W * (K ^ a * factorial (a * b))

@@ -1,4 +1,4 @@
--- The numbers on the path of a plethysm are at most its weight.
+-- The numbers that occur if a plethysm is computed by way of power sums are at most its weight.
 use Rattle.std.proofs.Common.{ℕ, zero, suc, ◌+◌, ◌*◌, ◌^◌, ◌≤◌, max, arith}
 use Rattle.std.proofs.lemmas.Nat.{mul-le}
 use Rattle.std.proofs.Math.Nat.{one-le-pow, pow-le-pow_left, pow-le-pow_right}
@@ -6,10 +6,10 @@ use Rattle.sym_model.specs.Expansion.{Basis, power_sums}
 use Rattle.sym_model.specs.Weight.{factorial, growth}
 use Rattle.sym_model.specs.Plethysm.{plethysm_weight}
 use Rattle.monomial_laws.proofs.Growths.{factorial-positive, factorial-mono, growth-most, growth-one}
-use Rattle.monomial_laws.proofs.WeightBounds.{factorial-within_growth, growth-mono}
+use Rattle.monomial_laws.proofs.WeightBounds.{growth-mono}
 use native.Mathlib.Nat.{mul-le-mul_left}
 
--- the product of the factors N, X and Y ≤ C is at most the weight
+-- if D and s are at least 1 and Y is at most C, N·X·Y is at most N·D·s·X·C
 wide : (N D s X C Y : ℕ) → 1 ≤ D → 1 ≤ s → Y ≤ C → N * X * Y ≤ N * D * s * X * C
 wide N D s X C Y h k l =
     let p = mul-le-mul_left (N * X) l in
@@ -33,7 +33,7 @@ module _ (N D a K b : ℕ) (n : 1 ≤ N) (d : 1 ≤ D) (k : 1 ≤ K) where
       let w = wide N D (a + 1) ((K * (b + 1)) ^ a) (max (growth power_sums a * factorial (a * b)) (growth power_sums (a * b))) (growth power_sums a * factorial (a * b)) d (omega arith) (omega arith) in
       omega arith
 
-  -- the bound for the product over a label of s ≤ a cells is at most the weight
+  -- the bound for the product of the p_k[g] over the parts k of a label of s ≤ a cells is at most the weight
   pub weight-product : (s : ℕ) → s ≤ a → (K * (b + 1)) ^ s * growth Basis.monomials (s * b) ≤ plethysm_weight N D a K b
   weight-product s l =
       let x : (K * (b + 1)) ^ s ≤ (K * (b + 1)) ^ a = pow-le-pow_right some l in
@@ -51,15 +51,6 @@ module _ (N D a K b : ℕ) (n : 1 ≤ N) (d : 1 ≤ D) (k : 1 ≤ K) where
       let p = mul-le-mul_left (N * D * (a + 1) * (K * (b + 1)) ^ a) (let o : growth target (a * b) ≤ max (growth power_sums a * factorial (a * b)) (growth power_sums (a * b)) = omega arith in o) in
       omega arith
 
-  -- N·(a + 1)·(K·(b + 1))^a, which bounds the finished list, is at most the weight
-  pub weight-number : N * (a + 1) * (K * (b + 1)) ^ a ≤ plethysm_weight N D a K b
-  weight-number =
-      let o = growth-one (a * b) in
-      let m = mul-le 1 1 D (growth power_sums (a * b)) d (growth-one (a * b)) in
-      let p = mul-le-mul_left (N * (a + 1) * (K * (b + 1)) ^ a) (let q : 1 ≤ D * growth power_sums (a * b) = omega arith in q) in
-      let w = weight-finished power_sums in
-      omega arith
-
   -- the bound for the change of the outer list into p is at most the weight
   pub weight-outer : N * D * growth power_sums a ≤ plethysm_weight N D a K b
   weight-outer =
@@ -68,15 +59,6 @@ module _ (N D a K b : ℕ) (n : 1 ≤ N) (d : 1 ≤ D) (k : 1 ≤ K) where
       let p = mul-le (N * D) (growth power_sums a) (N * D * ((a + 1) * (K * (b + 1)) ^ a)) (max (growth power_sums a * factorial (a * b)) (growth power_sums (a * b)))
       (let r = mul-le-mul_left (N * D) (let o : 1 ≤ (a + 1) * (K * (b + 1)) ^ a = omega arith in o) in omega arith)
       (omega arith) in
-      omega arith
-
-  -- D·a!, the common denominator on the path, is at most the weight
-  pub weight-denominator : D * factorial a ≤ plethysm_weight N D a K b
-  weight-denominator =
-      let f = factorial-within_growth a in
-      let g = growth-most Basis.monomials a in
-      let p = mul-le D (factorial a) (N * D) (growth power_sums a) (times_more N D n) (omega arith) in
-      let w = weight-outer in
       omega arith
 
 -- ---- the weight is increasing in the degrees
@@ -89,7 +71,7 @@ growth-rises (suc d) (suc e) h =
     let q : (2 * suc e) ^ suc d ≤ (2 * suc e) ^ suc e = pow-le-pow_right (let o : 1 ≤ 2 * suc e = omega arith in o) h in
     mul-le (factorial (suc d)) ((2 * suc d) ^ suc d) (factorial (suc e)) ((2 * suc e) ^ suc e) (factorial-mono (suc d) (suc e) h) (omega arith)
 
--- if a ≤ c and b ≤ d, the weight with the degrees a and b is at most that with c and d
+-- if K ≥ 1, a ≤ c and b ≤ d, the weight with the degrees a and b is at most that with c and d
 pub weight-rises : (N D a c K b d : ℕ) → 1 ≤ K → a ≤ c → b ≤ d → plethysm_weight N D a K b ≤ plethysm_weight N D c K d
 weight-rises N D a c K b d k h l =
     let base = mul-le-mul_left K (let o : b + 1 ≤ d + 1 = omega arith in o) in

@@ -1,6 +1,6 @@
--- The sum of the exponent lists of a polynomial, each repeated according to its coefficient, is the polynomial.
+-- A polynomial without negative coefficients is the sum of its monomials, each repeated as often as its coefficient says.
 use Rattle.std.proofs.Common.{◌≡◌, ◌⊎◌, ℕ, zero, suc, ◌+◌, ◌-◌, ◌<◌, ◌≤◌, Bool, true, false, ◌&&◌, cond, eqb, leb, List, [], ◌∷◌, map, length, replicate, sym, ◌∙◌, ap, refl, inl, inr, arith, ℤ, pos, ◌+ℤ◌, ◌*ℤ◌}
-use Rattle.std.specs.Prelude.{nat_abs, ◌≤ℤ◌}
+use Rattle.std.specs.Prelude.{nat_abs}
 use Rattle.std.proofs.lemmas.Int.{ints}
 use Rattle.std.proofs.lemmas.Bool.{cases_lt, cases_eq, le-leb, lt-leb, leb-true, eq-eqb, ne_eqb, eqb-true, and_parts, and_from}
 use Rattle.sym_model.specs.Sum.{total, Among}
@@ -102,13 +102,10 @@ coefficient_repeated d n g β =
 pub repeated-sum : (d n : ℕ) (g : Poly) → IsMonomialSum d n g → Same (monomial_sum (repeated_monomials d n g)) g
 repeated-sum d n g h β = coefficient_repeated d n g β ∙ by (cases_eq (length β) n) (cases_lt d (size β))
   where
-    itself : (x : ℤ) → pos 0 ≤ℤ x → pos (nat_abs x) ≡ x
-    itself x h = omega (arith, ints)
-
     by : (length β ≡ n) ⊎ (length β ≡ n → ⊥) → (d < size β) ⊎ (size β ≤ d) → cond (is_within n d β) (pos (nat_abs (coefficient g β))) (pos 0) ≡ coefficient g β
     by (inr o) u = rw (ne_eqb (length β) n o) (sym (coefficient_outside n g β h.places o))
     by (inl e) (inl l) = rw (eq-eqb (length β) n e, lt-leb (size β) d l) (sym (h.low β e l))
-    by (inl e) (inr l) = rw (eq-eqb (length β) n e, le-leb (size β) d l) (itself (coefficient g β) (h.natural β))
+    by (inl e) (inr l) = rw (eq-eqb (length β) n e, le-leb (size β) d l) (let p = h.natural β in omega (arith, ints))
 
 -- ---- the number of places of exponent lists
 

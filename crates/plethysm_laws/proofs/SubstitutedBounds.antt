@@ -1,4 +1,6 @@
--- Substituting monomials for the variables turns majorants into majorants, and so bounds into bounds.
+-- Substituting monomials for the variables turns majorants into majorants, and so bounds into bounds. A polynomial in n
+-- variables is bounded by K at the degree b if some sum of at most K powers of x_1 + .. + x_n, with exponents up to b, is
+-- a majorant of it.
 use Rattle.std.proofs.Common.{◌≡◌, ℕ, zero, suc, ◌+◌, ◌*◌, ◌^◌, ◌<◌, ◌≤◌, max, List, [], ◌∷◌, length, replicate, sym, ◌∙◌, subst, refl, inl, inr, arith, pos}
 use Rattle.std.specs.Prelude.{◌≤ℤ◌, nat_abs}
 use Rattle.std.proofs.lemmas.Int.{ints}
@@ -32,7 +34,7 @@ majorant-substitute n γs F f m α =
     at : (h : Poly) → coefficient (substitute n γs h) α ≡ pair h (λ β. at_only α (replaced n γs β))
     at h = coefficient_pair (substitute n γs h) α ∙ pair-substitute n γs h (at_only α)
 
--- ---- bounds after substitution
+-- ---- bounds of polynomials into which monomials are substituted
 
 -- if g is bounded by K at the degree b, g^s is bounded by K^s at the degree s·b
 bounded-product : (K b s n : ℕ) (g : Poly) → In n g → IsBounded K b n g → IsBounded (K ^ s) (s * b) n (product_over (λ k m. dilated k g) (replicate s 1) n)
@@ -47,7 +49,8 @@ bounded-product K b (suc s) n g i h =
     (bounded_respects K b n g (dilated 1 g) (Same_sym (dilated 1 g) g (dilated-once g)) h)
     (bounded-product K b s n g i h))
 
--- (x_1 + .. + x_m)^s with the monomials of g substituted is g^s, so it is bounded by K^s at the degree s·b
+-- if g, the sum of m monomials, is bounded by K at the degree b, then (x_1 + .. + x_m)^s with these monomials substituted is g^s, so it is bounded by
+-- K^s at the degree s·b
 bounded-power : (K b s n : ℕ) (γs : List (List ℕ)) (g : Poly) → HavePlaces n γs → Same (monomial_sum γs) g → In n g → IsBounded K b n g
     → IsBounded (K ^ s) (s * b) n (substitute n γs (power s (length γs)))
 bounded-power K b s n γs g h e i k =
@@ -73,8 +76,8 @@ bounded-powers K b a n γs g (d ∷ ds) o h e i k low =
     (bounded-plus (K ^ d) (length ds * K ^ a) (d * b) (a * b) n first rest (bounded-power K b d n γs g h e i k)
     (bounded-powers K b a n γs g ds o h e i k (λ j m. low j (inr m)))))
 
--- if f has a degree of at most a and is bounded by N, and g has a degree of at most b and is bounded by K, then f with the monomials of g substituted
--- is bounded by N·K^a
+-- if f is bounded by N at the degree a, and g by K ≥ 1 at the degree b, f with the monomials of g substituted is bounded by
+-- N·K^a at the degree a·b
 pub bounded-substitute : (N a K b n : ℕ) (γs : List (List ℕ)) (f g : Poly) → 1 ≤ K → HavePlaces n γs → Same (monomial_sum γs) g → In n g → IsBounded K b n g
     → IsBounded N a (length γs) f → IsBounded (N * K ^ a) (a * b) n (substitute n γs f)
 bounded-substitute N a K b n γs f g o h e i k r =
@@ -84,7 +87,8 @@ bounded-substitute N a K b n γs f g o h e i k r =
     (bounded-weaken (length r.exponents * K ^ a) (N * K ^ a) (a * b) (a * b) n (substitute n γs F) (omega arith) (omega arith)
     (bounded-powers K b a n γs g r.exponents o h e i k r.low))
 
--- if g is bounded by K at the degree b, g with each variable replaced by its k-th power is bounded by K^k at the degree k·b
+-- if k > 0 and g is bounded by K at the degree b, g with each variable replaced by its k-th power is bounded by K^k at the
+-- degree k·b
 pub bounded-dilated : (K b k n : ℕ) (γs : List (List ℕ)) (g : Poly) → 0 < k → HavePlaces n γs → Same (monomial_sum γs) g → In n g → IsBounded K b n g
     → IsBounded (K ^ k) (k * b) n (dilated k g)
 bounded-dilated K b k n γs g l h e i r =

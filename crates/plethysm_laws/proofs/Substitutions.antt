@@ -138,7 +138,7 @@ total-one_place k n (γ ∷ γs) φ h =
     rest : HavePlaces n γs
     rest δ m = h δ (inr m)
 
--- substitution of the monomials of g turns p_k into p_k[g], the sum of their k-th powers
+-- for k > 0, substitution of the monomials of g turns p_k into p_k[g], the sum of their k-th powers
 pub substitute-power_sum_of : (k n : ℕ) (γs : List (List ℕ)) (g : Poly) → 0 < k → HavePlaces n γs → Same (monomial_sum γs) g
     → Same (substitute n γs (power_sum_of k (length γs))) (dilated k g)
 substitute-power_sum_of k n γs g l h e =
@@ -151,7 +151,7 @@ substitute-power_sum_of k n γs g l h e =
     ∙ pair_determined (monomial_sum γs) g (λ γ. φ (multiplied k γ)) e
     ∙ sym (pair-dilated k g φ))
 
--- substitution turns p_λ into the product of p_k[g] over the parts k of λ
+-- for a partition λ, substitution of the monomials of g turns p_λ into the product of p_k[g] over the parts k of λ
 pub substitute-power_sum : (parts : List ℕ) (n : ℕ) (γs : List (List ℕ)) (g : Poly) → ArePositive parts → HavePlaces n γs → Same (monomial_sum γs) g
     → Same (substitute n γs (power_sum parts (length γs))) (product_over (λ k m. dilated k g) parts n)
 substitute-power_sum [] n γs g p h e = substitute-one n (length γs) γs h

@@ -13,6 +13,6 @@ dilated k g = map (λ (t : Term). (multiplied k t.0, t.1)) g
 abbrev pub power_sum_plethysm : List ℕ → Poly → ℕ → Poly
 power_sum_plethysm parts g n = product_over (λ k m. dilated k g) parts n
 
--- the sum, over the terms of a list, of |coefficient|·|value of the label|
+-- the sum of |c|·|value(label)| over the terms (label, c)
 abbrev pub met : WholeTerms → (List ℕ → ℤ) → ℕ
 met W value = weighed (λ label. nat_abs (value label)) W

@@ -8,7 +8,7 @@ use Rattle.sym_model.specs.Polynomial.{Poly, In, coefficient}
 abbrev pub HavePlaces : ℕ → List (List ℕ) → Type 0
 HavePlaces n γs = (γ : List ℕ) → Among γ γs → length γ ≡ n
 
--- the sum of the monomials
+-- the sum of the monomials with these exponents
 abbrev pub monomial_sum : List (List ℕ) → Poly
 monomial_sum γs = map (λ (γ : List ℕ). (γ, pos 1)) γs
 

@@ -15,11 +15,19 @@ ghost use Rattle.monomial_laws.proofs.DividedTerms.{labels_of};
 ghost use Rattle.plethysm_laws.specs.SumsOfMonomials.{IsMonomialSum};
 ghost use Rattle.plethysm_laws.specs.PowerSumPlethysm.{power_sum_plethysm, met};
 
-/// Let f be of degree at most a and bounded by N, and g of degree at most b and bounded by K. Then
-/// f[g] is bounded by N·K^a at the degree ab. If a list in p with labels of at most a cells is
-/// multiplied out, the sum of the absolute values at each exponent list is at most the sum of the
-/// absolute values of its coefficients times K^a·(ab)!. A list in m bounded by N and D, with labels
-/// of at most a cells and its fractions cleared, is a polynomial bounded by N·(a+1).
+/// A polynomial in n variables is bounded by N at the degree d if the absolute values of its
+/// coefficients are at most the coefficients of a sum of at most N powers of x₁ + .. + xₙ with
+/// exponents up to d.
+///
+/// Let g have degree at most b and no negative coefficient, and let it be bounded by K ≥ 1 at the
+/// degree b. If f is bounded by N at the degree a, in every number of variables, then f[g] is
+/// bounded by N·K^a at the degree ab. If a list in p with labels λ of at most a cells is multiplied
+/// out, with p_λ[g] for each p_λ, the sum of the absolute values at each exponent list is at most
+/// the sum of the absolute values of its coefficients times K^a·(ab)!.
+///
+/// Let a list in m have each label once, with at most a cells, and D as a common denominator, such
+/// that |c|·D·Π λ_i! ≤ N·|λ|! for the coefficient c of each label λ. Then D times its polynomial is
+/// bounded by N·(a+1) at the degree a.
 pub fn plethysm_bounds_law()
     ensures plethysm { (N a K b n : ℕ) (f : ℕ → Poly) (g : Poly)
         → 1 ≤ K → IsMonomialSum b n g → IsBounded K b n g

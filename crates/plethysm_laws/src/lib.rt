@@ -1,4 +1,4 @@
-//! Laws of plethysm: power sums, lists in p and bounds if monomials replace the variables. A law
+//! Laws of plethysm: its computation by way of power sums, and bounds of its coefficients. A law
 //! function has an empty body: its contract is the law.
 //!
 //! What is proved:

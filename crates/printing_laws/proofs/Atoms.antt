@@ -16,7 +16,7 @@ pub record IsReadable (t : List ℕ × Fraction) : Type 0 where
 
 -- ---- the texts of atoms
 
--- the text of an atom has no byte below the comma
+-- the text of an atom whose numbers are below 10^64 has no byte below the comma (the byte 44)
 atom-lacks : (byte : ℕ) (basis : Basis) (numbers : List ℕ) → byte < 44 → AreShort numbers → Lacks byte (atom_text basis numbers)
 atom-lacks byte basis numbers low h = by basis
   where
@@ -30,7 +30,7 @@ atom-lacks byte basis numbers low h = by basis
     by power_sums = ((λ e. omega arith), rest)
     by schurs = ((λ e. omega arith), rest)
 
--- the text of an atom does not have the byte `-`, which is greater than the comma
+-- the text of an atom whose numbers are below 10^64 does not have the byte `-` (45)
 atom-lacks_minus : (basis : Basis) (numbers : List ℕ) → AreShort numbers → Lacks 45 (atom_text basis numbers)
 atom-lacks_minus basis numbers h = by basis
   where
@@ -44,7 +44,7 @@ atom-lacks_minus basis numbers h = by basis
     by power_sums = ((λ e. omega arith), rest)
     by schurs = ((λ e. omega arith), rest)
 
--- the numbers of an atom are read back
+-- if the numbers of an atom are below 10^64, they are read back from its text
 numbers_in-atom : (basis : Basis) (numbers : List ℕ) → AreShort numbers → numbers_in_atom (atom_text basis numbers) ≡ numbers
 numbers_in-atom basis numbers h = by basis
   where
@@ -74,7 +74,7 @@ atom-long basis numbers = by basis
 
 -- ---- the texts of coefficients without their signs
 
--- the text of a coefficient without its sign has no byte below `/`, so no sign
+-- the text of a short coefficient without its sign has no byte below `/` (the byte 47), so no sign
 unsigned-lacks : (byte : ℕ) (c : Fraction) → byte < 47 → IsShortFraction (without_sign c) → Lacks byte (fraction_text (without_sign c))
 unsigned-lacks byte c low h = by (eqb c.1 1)
   where
@@ -82,7 +82,7 @@ unsigned-lacks byte c low h = by (eqb c.1 1)
     by true = decimal-lacks byte (nat_abs c.0) (omega arith) h.num
     by false = lacks-append byte (decimal (nat_abs c.0)) _ (decimal-lacks byte (nat_abs c.0) (omega arith) h.num) ((λ e. omega arith), decimal-lacks byte c.1 (omega arith) h.den)
 
--- if the absolute value of a coefficient is not printed, it is 1
+-- if a coefficient is printed without its absolute value (`is_unit`), this value is 1
 unit-is : (c : Fraction) → is_unit c ≡ true → without_sign c ≡ (pos 1, 1)
 unit-is c h =
     let p = and_parts (eqb (nat_abs c.0) 1) (eqb c.1 1) h in

@@ -1,4 +1,4 @@
--- A block is read back as the list whose block it is, if the labels can be read.
+-- The block of a canonical list with numbers of 128 bits is read back as this list, if the labels can be read.
 use Rattle.std.proofs.Common.{◌≡◌, ℕ, ◌^◌, Bool, true, false, ◌&&◌, List, [], ◌∷◌, ◌++◌, cond, eqb, ltb, ℤ, pos, negsuc, nat_abs, Some, None, refl, ap, ◌∙◌, subst, append_assoc, arith}
 use Rattle.std.proofs.lemmas.Bool.{ltb-true, cond-true, and_parts, and_from}
 use Rattle.sym_model.specs.Polynomial.{same}
@@ -30,7 +30,7 @@ line_front rules t = fraction_text t.1 ++ rules.text t.0
 line_by-front : {Label : Type 0} (rules : LabelRules Label) (t : Label × Fraction) (rest : List ℕ) → line_by rules t ++ rest ≡ line_front rules t ++ (10 ∷ rest)
 line_by-front rules t rest = simp append_assoc
 
--- a line is read as its term
+-- if labels can be read (`IsLegible`), the line of a short term, without its LF, is read as this term
 pub term_of-line : {Label : Type 0} (rules : LabelRules Label) → IsLegible rules → (t : Label × Fraction) → IsShortTerm rules t → term_of_line rules (cut_at 32 (line_front rules t)) ≡ t ∷ []
 term_of-line rules legible t h =
     ap (term_of_line rules) (cut_at-space (fraction_text t.1) (rules.text t.0) (fraction_text-lacks 32 t.1 (omega arith) h.fraction) (legible.apart t.0 h.label))
@@ -42,7 +42,7 @@ line_front-lacks : {Label : Type 0} (rules : LabelRules Label) → IsLegible rul
 line_front-lacks rules legible t h =
     lacks-append 10 (fraction_text t.1) _ (fraction_text-lacks 10 t.1 (omega arith) h.fraction) (legible.one_line t.0 h.label)
 
--- if each term is short, the lines of the terms are read as these terms
+-- if labels can be read and each term is short, the lines of the terms are read as these terms
 pub terms_of-lines : {Label : Type 0} (rules : LabelRules Label) → IsLegible rules → (terms : Terms Label) → AreShortTerms rules terms → terms_of rules (lines_by rules terms) ≡ terms
 terms_of-lines rules legible [] h = refl
 terms_of-lines rules legible (t ∷ terms) h =
@@ -51,7 +51,7 @@ terms_of-lines rules legible (t ∷ terms) h =
     ∙ (ap (λ front. front ++ terms_of rules (lines_by rules terms)) (term_of-line rules legible t h.0)
     ∙ ap (λ ts. t ∷ ts) (terms_of-lines rules legible terms h.1)))
 
--- a block is read as its terms
+-- if labels can be read and each term is short, the block of the terms is read as these terms
 pub terms_of-block : {Label : Type 0} (rules : LabelRules Label) → IsLegible rules → (terms : Terms Label) → AreShortTerms rules terms → terms_of rules (block_by rules terms) ≡ terms
 terms_of-block rules legible [] h = refl
 terms_of-block rules legible (t ∷ terms) h = terms_of-lines rules legible (t ∷ terms) h
@@ -60,11 +60,11 @@ is_short-from_bits : (z : ℤ) → fits_128_bits z ≡ true → IsShort z
 is_short-from_bits (pos n) h = let e = ltb-true n (2 ^ 127) h in omega arith
 is_short-from_bits (negsuc n) h = let e = ltb-true n (2 ^ 127) h in omega arith
 
--- a coefficient is not 0
+-- a fraction that passes the test of a coefficient is not 0
 is_coefficient-counts : (has_fractions : Bool) (c : Fraction) → is_coefficient has_fractions c ≡ true → ltb 0 (nat_abs c.0) ≡ true
 is_coefficient-counts has_fractions c h = (and_parts (ltb 0 c.1) _ (and_parts _ (eqb (gcd (nat_abs c.0) c.1) 1) (and_parts _ (is_reduced c) h).1).0).1
 
--- a canonical list with numbers of 128 bits has short terms within the limits
+-- if each coefficient passes `is_coefficient`, each label is within the limits and the numbers have 128 bits, each term is short
 pub are_short-from_tests : {Label : Type 0} (rules : LabelRules Label) (terms : Terms Label) → each_term (λ (t : Label × Fraction). is_coefficient rules.has_fractions t.1 && rules.is_within_limits t.0) terms ≡ true → is_printable terms ≡ true → AreShortTerms rules terms
 are_short-from_tests rules [] h k = tt
 are_short-from_tests rules (t ∷ terms) h k =
@@ -77,7 +77,7 @@ are_short-from_tests rules (t ∷ terms) h k =
 abbrev pub is_block_of : {Label : Type 0} → LabelRules Label → List ℕ → Terms Label → Bool
 is_block_of rules text terms = is_canonical_by rules terms && is_printable terms && same (block_by rules terms) text
 
--- if the terms are canonical and printable, their block is read as these terms
+-- if labels can be read and the terms are canonical and printable, their block is read as these terms
 pub read_by-block : {Label : Type 0} (rules : LabelRules Label) → IsLegible rules → (terms : Terms Label) → is_canonical_by rules terms ≡ true → is_printable terms ≡ true → read_by rules (block_by rules terms) ≡ Some terms
 read_by-block rules legible terms h k =
     let short = are_short-from_tests rules terms (and_parts _ _ h).1 k in

@@ -8,16 +8,16 @@ use Rattle.sym_model.specs.NumberWord.{IsDigit, AreDigits}
 use Rattle.sym_model.specs.NumberText.{value_from, decimal_value, signed_value}
 use Rattle.sym_model.specs.Bounded.{Lacks}
 
--- the value of the digits xs followed by ys is that of ys read from the value of xs on
+-- the digits xs followed by ys, read from n on, have the value of ys read from the value of xs on
 pub value_from-append : (n : ℕ) (xs ys : List ℕ) → value_from n (xs ++ ys) ≡ value_from (value_from n xs) ys
 value_from-append n [] ys = refl
 value_from-append n (x ∷ xs) ys = value_from-append (10 * n + (x - 48)) xs ys
 
--- the value of the digits xs followed by d is 10 times that of xs plus d
+-- the digits xs followed by the digit d have 10 times the value of xs plus the value d - 48 of d
 pub value_from-push : (n : ℕ) (xs : List ℕ) (d : ℕ) → value_from n (xs ++ (d ∷ [])) ≡ 10 * value_from n xs + (d - 48)
 value_from-push n xs d = value_from-append n xs (d ∷ [])
 
--- the value of the first i + 1 digits, as a loop reads them
+-- the value of the first i + 1 digits is 10 times that of the first i digits plus that of the digit at place i, counted from 0
 pub decimal_value_more : (xs : List ℕ) (i : ℕ) → i < length xs → decimal_value (take (i + 1) xs) ≡ 10 * decimal_value (take i xs) + (get_or xs i 0 - 48)
 decimal_value_more xs i h = ap decimal_value (take_more xs i 0 h) ∙ value_from-push 0 (take i xs) (get_or xs i 0)
 
@@ -36,7 +36,7 @@ pub record IsWritten (n : ℕ) (text : List ℕ) : Type 0 where
   pub digits : AreDigits text
   pub value : decimal_value text ≡ n
 
--- the text of a number is digits, at least one, and is read as that number
+-- the text of a number below 10^64 is digits, at least one, and is read as that number
 pub decimal-is_written : (n : ℕ) → n < 10 ^ 64 → IsWritten n (decimal n)
 decimal-is_written = decimal_by_steps_wide IsWritten one more
   where
@@ -69,7 +69,7 @@ lacks-from_digits byte [] other h = tt
 lacks-from_digits byte (x ∷ xs) other h =
     ((λ e. other (subst IsDigit e h.0)), lacks-from_digits byte xs other h.1)
 
--- no byte below 48, such as a space, a comma, a parenthesis, `-`, `/` or LF, occurs in the text of a number
+-- no byte below 48, such as a space, a comma, a parenthesis, `-`, `/` or LF, occurs in the text of a number below 10^64
 pub decimal-lacks : (byte n : ℕ) → byte < 48 → n < 10 ^ 64 → Lacks byte (decimal n)
 decimal-lacks byte n low h = lacks-from_digits byte (decimal n) (λ d. omega arith) (decimal-digits n h)
 
@@ -78,7 +78,7 @@ abbrev pub IsShort : ℤ → Type 0
 IsShort (pos n) = n < 10 ^ 64
 IsShort (negsuc n) = n + 1 < 10 ^ 64
 
--- the text of an integer has no byte below 48 other than `-`
+-- the text of an integer with an absolute value below 10^64 has no byte below 48 other than `-`
 pub signed_decimal-lacks : (byte : ℕ) (z : ℤ) → byte < 48 → (45 ≡ byte → ⊥) → IsShort z → Lacks byte (signed_decimal z)
 signed_decimal-lacks byte (pos n) low other h = decimal-lacks byte n low h
 signed_decimal-lacks byte (negsuc n) low other h = (other, decimal-lacks byte (suc n) low (omega arith))
@@ -88,7 +88,7 @@ pub signed_value-digits : (xs : List ℕ) → AreDigits xs → signed_value xs �
 signed_value-digits [] h = refl
 signed_value-digits (x ∷ xs) h = cond-false (eqb x 45) _ _ (ne_eqb x 45 (λ e. omega (arith, h.0)))
 
--- the text of a whole number is read as that number
+-- the text of an integer with an absolute value below 10^64 is read as that integer
 pub signed_value-signed_decimal : (z : ℤ) → IsShort z → signed_value (signed_decimal z) ≡ z
 signed_value-signed_decimal (pos n) h =
     signed_value-digits (decimal n) (decimal-digits n h) ∙ ap pos (decimal_value-decimal n h)

@@ -4,7 +4,7 @@ use Rattle.std.specs.Cmp.{IsTotalOrder}
 use Rattle.std.specs.Cmp.Lexicographic.{slice_cmp}
 use Rattle.std.specs.Ordering.{nat_cmp, ordering_then, ordering_reverse}
 use Rattle.std.specs.declared.cmp.Ordering.TheVariants.{Less, Equal}
-use Rattle.std.proofs.lemmas.Cmp.{nat_cmp_total, lists_total, on_total, then_total, tied_itself}
+use Rattle.std.proofs.lemmas.Cmp.{nat_cmp_total, lists_total, on_total, then_total, tied_itself, nat_list_cmp_total}
 use Rattle.std.proofs.lemmas.Bool.{and_parts, eq-eqb, cond-true}
 use Rattle.sym_model.specs.Partition.{size, without_last_zeros, in_front}
 use Rattle.sym_model.specs.PlaceOrders.{inversions}
@@ -15,9 +15,9 @@ use Rattle.sym_model.specs.Kind.{Kind, number, expansion, product, pairs, powers
 use Rattle.sym_model.proofs.Orders.{printed_order-total, printed_order-equal, nat_cmp-equal, is_partition-tells, then-equal}
 use Rattle.sym_model.proofs.Exponents.{same_true}
 
--- ---- any two different labels are in one of the two orders
+-- ---- the orders of the labels are total
 
--- the letters of w at the places i + 1, .., i + n, with fixed letters after the end of w
+-- the letters of w at the places i + 1, .., i + n; after the end of w, the letter at a place is the place
 padded : ℕ → ℕ → List ℕ → List ℕ
 padded zero i w = []
 padded (suc n) i [] = (i + 1) ∷ padded n (i + 1) []
@@ -37,23 +37,20 @@ rising_letters-padded (suc n) i (a ∷ v) (b ∷ w) h k = ap (ordering_then (nat
 rising_letters-total : (i : ℕ) → IsTotalOrder (rising_letters i)
 rising_letters-total i = record { antisymm = antisymm; trans = trans; congr = congr }
   where
-    total : IsTotalOrder (slice_cmp nat_cmp)
-    total = lists_total nat_cmp_total
-
     antisymm : (x y : List ℕ) → rising_letters i x y ≡ ordering_reverse (rising_letters i y x)
     antisymm x y =
         let n : ℕ = length x + length y in
-        rising_letters-padded n i x y (omega arith) (omega arith) ∙ (total.antisymm (padded n i x) (padded n i y) ∙ ap ordering_reverse (sym (rising_letters-padded n i y x (omega arith) (omega arith))))
+        rising_letters-padded n i x y (omega arith) (omega arith) ∙ (nat_list_cmp_total.antisymm (padded n i x) (padded n i y) ∙ ap ordering_reverse (sym (rising_letters-padded n i y x (omega arith) (omega arith))))
 
     trans : (x y z : List ℕ) → rising_letters i x y ≡ Less → rising_letters i y z ≡ Less → rising_letters i x z ≡ Less
     trans x y z h k =
         let n : ℕ = length x + (length y + length z) in
-        rising_letters-padded n i x z (omega arith) (omega arith) ∙ total.trans (padded n i x) (padded n i y) (padded n i z) (sym (rising_letters-padded n i x y (omega arith) (omega arith)) ∙ h) (sym (rising_letters-padded n i y z (omega arith) (omega arith)) ∙ k)
+        rising_letters-padded n i x z (omega arith) (omega arith) ∙ nat_list_cmp_total.trans (padded n i x) (padded n i y) (padded n i z) (sym (rising_letters-padded n i x y (omega arith) (omega arith)) ∙ h) (sym (rising_letters-padded n i y z (omega arith) (omega arith)) ∙ k)
 
     congr : (x y z : List ℕ) → rising_letters i x y ≡ Equal → rising_letters i x z ≡ rising_letters i y z
     congr x y z h =
         let n : ℕ = length x + (length y + length z) in
-        rising_letters-padded n i x z (omega arith) (omega arith) ∙ (total.congr (padded n i x) (padded n i y) (padded n i z) (sym (rising_letters-padded n i x y (omega arith) (omega arith)) ∙ h) ∙ sym (rising_letters-padded n i y z (omega arith) (omega arith)))
+        rising_letters-padded n i x z (omega arith) (omega arith) ∙ (nat_list_cmp_total.congr (padded n i x) (padded n i y) (padded n i z) (sym (rising_letters-padded n i x y (omega arith) (omega arith)) ∙ h) ∙ sym (rising_letters-padded n i y z (omega arith) (omega arith)))
 
 -- the order on the only label of a number is total
 one_label-total : IsTotalOrder (label_rules number).order
@@ -98,11 +95,11 @@ monomials-tie x y h k e =
     let q = same_true (without_last_zeros y) y (and_parts _ _ (and_parts _ _ k).0).0 in
     sym p ∙ (falling_lexicographic-ties x y (then-equal (nat_cmp (size y) (size x)) (falling_lexicographic x y) e).1 ∙ q)
 
--- a fixed letter in front of the empty list is dropped
+-- a letter a that is equal to its place i is dropped in front of the empty list
 fixed-nothing : (i a : ℕ) → a ≡ i → in_front_unless_fixed i a [] ≡ []
 fixed-nothing i a e = cond-true (eqb a i) [] (a ∷ []) (eq-eqb a i e)
 
--- if two lists of letters compare as equal, they are equal up to fixed letters at their ends
+-- if two lists of letters compare as equal, they are equal up to letters at their ends that are equal to their places
 rising_letters-ties : (i : ℕ) (x y : List ℕ) → rising_letters i x y ≡ Equal → without_fixed_from (i + 1) x ≡ without_fixed_from (i + 1) y
 rising_letters-ties i [] [] e = refl
 rising_letters-ties i [] (b ∷ y) e =

@@ -19,7 +19,7 @@ list_rules-legible order limits has_fractions short = record {
   reads = λ numbers h. label_of-text numbers (short numbers h);
 }
 
--- ---- the limits of the labels keep the numbers short
+-- ---- the numbers of labels within the limits are below 10^64
 
 pub is_label-short : (label : List ℕ) → is_label label ≡ true → AreShort label
 is_label-short label h =

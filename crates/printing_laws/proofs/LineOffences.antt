@@ -154,7 +154,8 @@ narrow-terms has_fractions (t ∷ terms) h k lacks =
     let cells = (is_label-tells t.0 (and_parts (is_coefficient has_fractions t.1) (is_label t.0) tests.0).1).size in
     (record { label = omega arith; num = below t.1.0 own.0 (lacks t (inl refl)); den = ltb-true t.1.1 (2 ^ 127) own.1 }, narrow-terms has_fractions terms tests.1 bits.1 (λ u a. lacks u (inr a)))
 
--- no number in the line exceeds 2^127 - 1, so none of its errors is of this kind
+-- if the coefficients are valid and have 128 bits, the labels are within the limits and no numerator is -2^127, no number in
+-- the line exceeds 2^127 - 1, so no error of the line is of the kind `literal`
 pub line-no_literal : (has_fractions : Bool) (basis : Basis) (terms : Terms (List ℕ))
     → each_term (λ (t : List ℕ × Fraction). is_coefficient has_fractions t.1 && is_label t.0) terms ≡ true → is_printable terms ≡ true → LacksLowest terms
     → (target : Basis) (o : WordOffence) → Among o (offences target (line_phrase basis terms)) → o.1 ≡ literal → ⊥

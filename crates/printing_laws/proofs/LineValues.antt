@@ -1,5 +1,5 @@
 -- The expression of a one-line form denotes its list.
-use Rattle.std.proofs.Common.{◌≡◌, ℕ, zero, suc, ◌*◌, ◌/◌, ◌<◌, Bool, true, false, List, [], ◌∷◌, map, cond, eqb, ℤ, pos, negsuc, nat_abs, neg_ℤ, ◌+ℤ◌, ◌*ℤ◌, refl, sym, ap, ap₂, ◌∙◌, subst, decimal, arith}
+use Rattle.std.proofs.Common.{◌≡◌, ℕ, suc, ◌*◌, ◌/◌, ◌<◌, Bool, true, false, List, [], ◌∷◌, map, cond, eqb, ℤ, pos, negsuc, nat_abs, neg_ℤ, ◌+ℤ◌, ◌*ℤ◌, refl, sym, ap, ap₂, ◌∙◌, subst, decimal, arith}
 use Rattle.std.proofs.lemmas.Int.{ints}
 use Rattle.std.proofs.lemmas.Bool.{eqb-true, and_parts}
 use Rattle.std.proofs.Math.Nat.{mul-div_cancel}
@@ -20,6 +20,8 @@ use Rattle.printing_laws.proofs.Decimals.{decimal_value-decimal}
 use Rattle.printing_laws.proofs.NumberTexts.{AreShort}
 use Rattle.printing_laws.proofs.Atoms.{IsReadable}
 use Rattle.printing_laws.proofs.LinePhrases.{atom_phrase, coefficient_phrase, term_phrase, joined, later_phrase, first_phrase, line_phrase}
+use Rattle.std.proofs.Math.IntN.{+ℤ_assoc}
+use native.Mathlib.Nat.{mul-pos}
 
 -- ---- equations between integers, with which values of terms are multiplied, added and negated
 
@@ -199,11 +201,8 @@ module _ (basis : Basis) (n : ℕ) (α : List ℕ) where
   stands-later q left s [] h divides k = subst (λ z. Stands q (tree left) z) (let e : s ≡ s +ℤ pos 0 = omega (arith, ints) in e) k
   stands-later q left s (t ∷ terms) h divides k =
       let x = (t.1.0 *ℤ pos (q / t.1.1)) *ℤ at_label t.0 in
-      subst (λ z. Stands q (tree (later_phrase basis (joined basis left t) terms)) z) (regrouped s x (shares q terms))
+      subst (λ z. Stands q (tree (later_phrase basis (joined basis left t) terms)) z) (+ℤ_assoc s x (shares q terms))
       (stands-later q (joined basis left t) (s +ℤ x) terms h.1 divides.1 (stands-joined q left s t h.0 divides.0 k))
-    where
-      regrouped : (a b c : ℤ) → (a +ℤ b) +ℤ c ≡ a +ℤ (b +ℤ c)
-      regrouped a b c = omega (arith, ints)
 
   stands-first : (q : ℕ) (t : List ℕ × Fraction) → IsProper t → q / t.1.1 * t.1.1 ≡ q → Stands q (tree (first_phrase basis t)) ((t.1.0 *ℤ pos (q / t.1.1)) *ℤ at_label t.0)
   stands-first q (numbers, (pos m, den)) h divides = stands-term q (numbers, (pos m, den)) h divides
@@ -232,12 +231,7 @@ divisors k (t ∷ terms) h =
 
 denominators-positive : (terms : Terms (List ℕ)) → AreProper terms → 0 < denominators terms
 denominators-positive [] h = omega arith
-denominators-positive (t ∷ terms) h = product-positive t.1.1 (denominators terms) h.0.den (denominators-positive terms h.1)
-  where
-    product-positive : (a b : ℕ) → 0 < a → 0 < b → 0 < a * b
-    product-positive zero b h k = absurd (omega arith)
-    product-positive (suc a) zero h k = absurd (omega arith)
-    product-positive (suc a) (suc b) h k = grind arith
+denominators-positive (t ∷ terms) h = mul-pos h.0.den (denominators-positive terms h.1)
 
 pub line-value : (basis : Basis) (terms : Terms (List ℕ)) → AreProper terms → (n : ℕ)
     → IsExpansionOf basis terms n (cleared_value (tree (line_phrase basis terms)) n) (denominator (tree (line_phrase basis terms)))

@@ -1,4 +1,4 @@
--- A number, a fraction or a list of numbers is read back as what was written.
+-- A number below 10^64, and a fraction or a list of numbers below 10^64, is read back from its text.
 use Rattle.std.proofs.Common.{◌≡◌, ℕ, ◌^◌, ◌<◌, Bool, true, false, List, [], ◌∷◌, ◌++◌, length, map, cond, eqb, refl, sym, ap, ◌∙◌, decimal, length-append, arith}
 use Rattle.std.specs.Fmt.{signed_decimal}
 use Rattle.std.proofs.lemmas.Bool.{eq-eqb, ne_eqb, eqb-true, cond-true, cond-false}
@@ -15,7 +15,7 @@ split_at-whole s [] h = refl
 split_at-whole s (b ∷ text) h =
     cond-false (eqb b s) _ _ (ne_eqb b s h.0) ∙ ap (before_first b) (split_at-whole s text h.1)
 
--- a text of a piece, the separator and a rest is split into the piece and the pieces of the rest
+-- if a piece has no separator, the piece, the separator and a rest are split into the piece and the pieces of the rest
 pub split_at-piece : (s : ℕ) (piece rest : List ℕ) → Lacks s piece → split_at s (piece ++ (s ∷ rest)) ≡ piece ∷ split_at s rest
 split_at-piece s [] rest h = cond-true (eqb s s) _ _ (eq-eqb s s refl)
 split_at-piece s (b ∷ piece) rest h =
@@ -44,7 +44,7 @@ split_at-numbers a [] h =
 split_at-numbers a (b ∷ numbers) h =
     ap (map decimal_value) (split_at-piece 44 (decimal a) (numbers_text (b ∷ numbers)) (decimal-lacks 44 a (omega arith) h.0)) ∙ (ap (λ n. n ∷ map decimal_value (split_at 44 (numbers_text (b ∷ numbers)))) (decimal_value-decimal a h.0) ∙ ap (λ ns. a ∷ ns) (split_at-numbers b numbers h.1))
 
--- a byte below 48 other than the comma does not occur in the text of numbers
+-- a byte below 48 other than the comma does not occur in the text of numbers below 10^64
 pub numbers_text-lacks : (byte : ℕ) (numbers : List ℕ) → byte < 48 → (44 ≡ byte → ⊥) → AreShort numbers → Lacks byte (numbers_text numbers)
 numbers_text-lacks byte [] low other h = tt
 numbers_text-lacks byte (a ∷ []) low other h = decimal-lacks byte a low h.0
@@ -69,7 +69,7 @@ numbers_of-text [] h = refl
 numbers_of-text (a ∷ numbers) h =
     numbers_of-nonempty (numbers_text (a ∷ numbers)) (numbers_text-nonempty a numbers h) ∙ split_at-numbers a numbers h
 
--- a label is read as its numbers
+-- if the numbers of a label are below 10^64, its text is read as these numbers
 pub label_of-text : (numbers : List ℕ) → AreShort numbers → label_of (label_text numbers) ≡ numbers
 label_of-text numbers h =
     ap numbers_of (without_last-push (numbers_text numbers) 41) ∙ numbers_of-text numbers h
@@ -83,7 +83,7 @@ pub record IsShortFraction (c : Fraction) : Type 0 where
   pub num : IsShort c.0
   pub den : c.1 < 10 ^ 64
 
--- a fraction is read back from its text
+-- a fraction with numerator and denominator below 10^64 is read back from its text
 pub fraction_of-text : (c : Fraction) → IsShortFraction c → fraction_of (fraction_text c) ≡ c
 fraction_of-text c h = by (eqb c.1 1) refl
   where

@@ -25,7 +25,7 @@ is_sign-byte : (z : ℤ) → is_sign (sign_byte z) ≡ true
 is_sign-byte (pos n) = refl
 is_sign-byte (negsuc n) = refl
 
--- a later term with its sign
+-- the text of a later term with its sign in front
 abbrev later_piece : Basis → List ℕ × Fraction → List ℕ
 later_piece basis t = sign_byte t.1.0 ∷ unsigned_text basis t
 
@@ -39,7 +39,7 @@ later_text-more basis (label, (negsuc n, den)) terms = refl
 abbrev later_pieces : Basis → Terms (List ℕ) → List (List ℕ)
 later_pieces basis terms = map (later_piece basis) terms
 
--- a text without signs and the terms after it are cut into the text and the pieces of the terms
+-- if the terms can be read, a text without signs and the terms after it are cut into the text and the pieces of the terms
 pieces-later : (basis : Basis) (front : List ℕ) (terms : Terms (List ℕ)) → LacksSigns front → AreReadable terms
     → cut_at_signs (front ++ later_text basis terms) ≡ front ∷ later_pieces basis terms
 pieces-later basis front terms lacks h =
@@ -146,7 +146,8 @@ are_readable rules short (t ∷ terms) h k =
 abbrev pub is_line_of : Basis → LabelRules (List ℕ) → List ℕ → Terms (List ℕ) → Bool
 is_line_of basis rules text terms = is_canonical_by rules terms && is_printable terms && same (one_line basis terms) text
 
--- if the terms are canonical and printable, their one-line form is read as these terms
+-- if the terms are canonical and printable, and the numbers of labels within the limits are below 10^64, their one-line form
+-- is read as these terms
 pub read_one_line-line : (basis : Basis) (rules : LabelRules (List ℕ)) → ((label : List ℕ) → rules.is_within_limits label ≡ true → AreShort label) → (terms : Terms (List ℕ))
     → is_canonical_by rules terms ≡ true → is_printable terms ≡ true → read_one_line basis rules (one_line basis terms) ≡ Some terms
 read_one_line-line basis rules short terms h k =

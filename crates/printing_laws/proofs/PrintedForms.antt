@@ -1,4 +1,4 @@
--- A text that is printed in a form is read back in that form.
+-- The text of a canonical and printable list in a printed form, a block or one line, is read back as that list.
 use Rattle.std.proofs.Common.{◌≡◌, ℕ, List, Some, true}
 use Rattle.sym_model.specs.Expansion.{Terms}
 use Rattle.sym_model.specs.Kind.{Kind, Label, number, expansion, product, pairs, powers, permutations, polynomial, shifts, label_rules}
@@ -8,7 +8,7 @@ use Rattle.printing_laws.proofs.Blocks.{read_by-block, read_by-tells}
 use Rattle.printing_laws.proofs.LegibleKinds.{legible, is_label-short}
 use Rattle.printing_laws.proofs.OneLines.{read_one_line-line, read_one_line-tells}
 
--- the text of a list in a form is read as that list
+-- if the terms are canonical and printable, their text in a form is read as these terms
 pub read_in-text : (form : PrintedForm) (kind : Kind) (terms : Terms (Label kind)) → is_canonical_by (label_rules kind) terms ≡ true → is_printable terms ≡ true
     → read_in form kind (text_in form kind terms) ≡ Some terms
 read_in-text as_block kind terms h k = read_by-block (label_rules kind) (legible kind) terms h k

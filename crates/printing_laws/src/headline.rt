@@ -1,4 +1,4 @@
-//! The meaning of the text of a command that is read back.
+//! The text of an answer, read back as the list of terms that the command asks for.
 
 ghost use Rattle.std.specs.Prelude.{◌≡◌, ◌↔◌, ℕ, List};
 ghost use Rattle.sym_model.specs.Command.{Command};
@@ -6,8 +6,9 @@ ghost use Rattle.sym_model.specs.Outcome.{PrintsAnswer};
 ghost use Rattle.sym_model.specs.Headline.{ReadsBack};
 
 /// A text is the text of a printable answer to a command, in the form that the command asks for, if
-/// and only if it can be read back in that form as a canonical list of terms, and that list is the
-/// answer to the command.
+/// and only if it can be read back in that form as a canonical list of terms (labels within the
+/// limits, in the printed order and each once; coefficients in lowest terms, not 0), and that list
+/// is the answer to the command.
 pub fn headline_law()
     ensures { (command : Command) (text : List ℕ) → PrintsAnswer command text
         ↔ ReadsBack command text }

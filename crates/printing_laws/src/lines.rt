@@ -6,9 +6,10 @@ ghost use Rattle.sym_model.specs.Kind.{Kind, Label, label_rules};
 ghost use Rattle.sym_model.specs.Canonical.{IsCanonicalBy, is_printable};
 ghost use Rattle.sym_model.specs.PrintedForm.{PrintedForm, text_in, read_in};
 
-/// In each form: the text of a canonical list with numbers of 128 bits reads back as that list, and
-/// a text that reads as a list is the text of that list,
-/// which is canonical with numbers of 128 bits.
+/// In each form: the text of a canonical list (labels within the limits, in the printed order and
+/// each once; coefficients in lowest terms, not 0) with numbers of 128 bits reads back as that
+/// list, and a text that reads as a list is the text of that list, which is canonical with numbers
+/// of 128 bits.
 pub fn printed_form_law()
     ensures reads { (form : PrintedForm) (kind : Kind) (terms : Terms (Label kind))
         → IsCanonicalBy (label_rules kind) terms

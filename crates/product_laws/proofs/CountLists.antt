@@ -29,7 +29,7 @@ counts-scale c terms h k t m =
 pub counts-each : {A : Type 0} (h : A → WholeTerms) (xs : List A) → ((x : A) → Among x xs → AreCounts (h x)) → AreCounts (flat_map h xs)
 counts-each h xs c t m = let s = Among_from_each h t xs m in c s.0 s.1 t s.2
 
--- the coefficient of α in the list of one x is at most that in the lists of all x together, if none is negative
+-- if no coefficient is negative and x is in xs, the coefficient of α in h(x) is at most that in the lists h(y) of all y in xs together
 pub coefficient-each : {A : Type 0} (h : A → WholeTerms) (xs : List A) (x : A) (α : List ℕ) → ((y : A) → Among y xs → AreCounts (h y)) → Among x xs
     → coefficient (h x) α ≤ℤ coefficient (flat_map h xs) α
 coefficient-each h [] x α c m = absurd m

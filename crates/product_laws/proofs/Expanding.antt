@@ -78,7 +78,8 @@ expands_next (Some given) k front next terms after w v q labels few e is =
     e (subst (λ (l : WholeTerms). Same (numerators after) l) (sym (by_products k next (numerators terms))) is)
     few
 
--- if no label has more than k rows, the list of the products of its labels with `next` expands the product with `next`
+-- if `product` expands the product of `front`, and its labels are partitions with at most k rows, the sum `after` of the products of its labels with
+-- `next` expands the product of `front` and `next`
 pub expands_whole : (given : Option ℕ) (k : ℕ) (front : List (List ℕ)) (next : List ℕ)
     (product after : WholeTerms) → IsPartition next
     → ((t : Term) → Among t product

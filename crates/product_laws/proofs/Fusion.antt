@@ -1,11 +1,11 @@
 -- Reflecting into the alcove after each factor.
---     window_value          the part of a reduction at a label, by the sum and the remainders of any list of exponents
---     window_unique         that part is an alternating sum, so it can be multiplied by a Schur polynomial
---     reflected_early       a label can be reflected before it is multiplied
+--     window_value          the coefficient at a label after an alternant a_b is reflected into the alcove, from the sum and the remainders of b
+--     window_unique         the reflections of the terms of a_b have this coefficient at the label
+--     reflected_early       a partition can be reflected before it is multiplied by a factor
 --     fusion_step           reflecting after each factor gives the result of reflecting once
 use Rattle.std.proofs.Common.{◌≡◌, ◌⊎◌, ℕ, zero, suc, ◌+◌, ◌%◌, ◌<◌, ◌≤◌, ◌==◌, Bool, true, false, cond, List, [], ◌∷◌, ◌++◌, map, length, drop, refl, sym, ◌∙◌, ap, ap₂, subst, inl, inr, arith, ℤ, pos, neg_ℤ, ◌*ℤ◌, Option, Some, None}
 use Rattle.std.proofs.lemmas.Bool.{cases_eq, eq-eqb, eqb-true, le-leb, or_cases}
-use Rattle.std.proofs.lemmas.List.{length-map}
+use Rattle.std.proofs.lemmas.List.{length-map, map-append}
 use Rattle.std.proofs.Math.Nat.{mod-mod, mod-add-mod}
 use Rattle.std.proofs.Math.IntN.{*ℤ-zero, +ℤ_idr}
 use Rattle.sym_model.specs.Polynomial.{Term, Same, same, join, pair, negate, scale}
@@ -31,9 +31,8 @@ use Rattle.alternant_laws.proofs.SortedAlternants.{alternant-equal, alternant-so
 use Rattle.beta_list_laws.specs.AlcoveEnd.{remainders, IsAlcoveEnd, past, up}
 use Rattle.beta_list_laws.proofs.Lowest.{strict_falls}
 use Rattle.beta_list_laws.proofs.Windows.{sorted-map-sorted, LieIn, narrow_lie, window_back, alcove_only, length-end}
-use Rattle.beta_list_laws.proofs.AlcoveEnds.{equal_map, not_both, remainders_of_ups, matches_up, same_remainders_has, Reduced, alcove_reduced, end_found, equal_inside}
+use Rattle.beta_list_laws.proofs.AlcoveEnds.{equal_map, remainders_of_ups, matches_up, same_remainders_has, Reduced, alcove_reduced, end_found, equal_inside, ups_differ}
 use Rattle.beta_list_laws.proofs.ReducedSums.{alcove_value, alcove_share, reflected_sum}
-use Rattle.beta_list_laws.proofs.BetaLowerings.{map_append}
 use Rattle.product_laws.specs.FactorSteps.{fused}
 use Rattle.product_laws.proofs.Straightened.{IsShape, on_strict, pair-value, at_strict, shape_of_strict}
 use Rattle.product_laws.proofs.ManyFactors.{sums-schur, added, join-beta, pair_shapes, two_value, step_value}
@@ -72,7 +71,7 @@ lies_from_bottom : (n : ℕ) (c : List ℕ) → FallsStrictly c → spread c < n
 lies_from_bottom n [] f l = tt
 lies_from_bottom n (a ∷ b) f l = narrow_lie n a b f l
 
--- ---- the value of a list of exponents at a label
+-- ---- the coefficient that an alternant a_b gives at a label
 
 abbrev pub value : Bool → Bool → Bool → ℤ → ℤ
 value equal sum there sign = cond equal (pos 0) (cond sum (cond there sign (pos 0)) (pos 0))
@@ -109,12 +108,12 @@ sorted_value-exchange label left x y right sum = by (cases_eq x y)
 
 window_value-exchange : (n t : ℕ) (label left : List ℕ) (x y : ℕ) (right : List ℕ) → window_value n t label (left ++ (x ∷ y ∷ right)) ≡ neg_ℤ (window_value n t label (left ++ (y ∷ x ∷ right)))
 window_value-exchange n t label left x y right =
-    ap (λ u. sorted_value label u (size (left ++ (x ∷ y ∷ right)))) (map_append (up n t) left (x ∷ y ∷ right))
+    ap (λ u. sorted_value label u (size (left ++ (x ∷ y ∷ right)))) (map-append (up n t) left (x ∷ y ∷ right))
     ∙ sorted_value-exchange label (ups n t left) (up n t x) (up n t y) (ups n t right) (size (left ++ (x ∷ y ∷ right)))
     ∙ ap (λ s. neg_ℤ (sorted_value label (ups n t left ++ (up n t y ∷ up n t x ∷ ups n t right)) s)) (size-exchange left x y right)
-    ∙ ap (λ u. neg_ℤ (sorted_value label u (size (left ++ (y ∷ x ∷ right))))) (sym (map_append (up n t) left (y ∷ x ∷ right)))
+    ∙ ap (λ u. neg_ℤ (sorted_value label u (size (left ++ (y ∷ x ∷ right))))) (sym (map-append (up n t) left (y ∷ x ∷ right)))
 
--- the value at a label depends only on the sum and the remainders
+-- `window_value` at a label depends only on the sum of a list and its remainders
 window_value-periodic : (n t : ℕ) (label b c : List ℕ) → remainders n b ≡ remainders n c → size b ≡ size c → window_value n t label b ≡ window_value n t label c
 window_value-periodic n t label b c e s =
     ap₂ (sorted_value label) (sym (ups_of_remainders n t b) ∙ ap (ups n t) e ∙ ups_of_remainders n t c) s
@@ -127,13 +126,6 @@ window_value-equal n t label b e = ap (λ v. value v (size (ups n t b) == size b
 -- the start of the window of the beta list of the label
 abbrev pub start_of : ℕ → List ℕ → ℕ
 start_of k label = bottom (beta k label)
-
-distinct_ups : (n t : ℕ) (b : List ℕ) → 1 ≤ n → has_equal_entries (remainders n b) ≡ false → has_equal_entries (ups n t b) ≡ false
-distinct_ups n t b h d = by (has_equal_entries (ups n t b)) refl
-  where
-    by : (v : Bool) → has_equal_entries (ups n t b) ≡ v → v ≡ false
-    by false e = refl
-    by true e = absurd (not_both (has_equal_entries (remainders n b)) (ap has_equal_entries (sym (remainders_of_ups n t b h)) ∙ equal_map (λ x. x % n) (ups n t b) e) d)
 
 equal_ups : (n t : ℕ) (b : List ℕ) → has_equal_entries (remainders n b) ≡ true → has_equal_entries (ups n t b) ≡ true
 equal_ups n t b e = ap has_equal_entries (sym (ups_of_remainders n t b)) ∙ equal_map (up n t) (remainders n b) e
@@ -161,7 +153,7 @@ window_value-strict k n label b h l f = by (reflected_into_alcove n b) (alcove_r
             let sum : size (ups n (start_of k label) b) ≡ size b = sym (size-sorted (ups n (start_of k label) b)) ∙ ap size sorts ∙ end.sum in
             let members = same_remainders_has n b a.0 end.alike in
             let values : ups n s b ≡ ups n (start_of k label) b = sym (matches_up n s b a.0 h lies members) ∙ matches_up n (start_of k label) b a.0 h own members in
-            ap (λ v. value v (size (ups n (start_of k label) b) == size b) (same (from_beta (sorted_falling (ups n (start_of k label) b))) label) (sorting_sign (ups n (start_of k label) b))) (distinct_ups n (start_of k label) b h distinct)
+            ap (λ v. value v (size (ups n (start_of k label) b) == size b) (same (from_beta (sorted_falling (ups n (start_of k label) b))) label) (sorting_sign (ups n (start_of k label) b))) (ups_differ n (start_of k label) b h distinct)
             ∙ ap (λ v. value false v (same (from_beta (sorted_falling (ups n (start_of k label) b))) label) (sorting_sign (ups n (start_of k label) b))) (eq-eqb _ _ sum)
             ∙ ap (λ v. value false true (same (from_beta v) label) (sorting_sign (ups n (start_of k label) b))) sorts
             ∙ ap (λ v. value false true (same (from_beta a.0) label) v) (ap sorting_sign (sym values) ∙ sym sign)
@@ -210,7 +202,7 @@ window_unique k n label b h = sort_back P b kept sorted
             ∙ sym (window_value-equal n (start_of k label) label (sorted_falling b) (equal_map (up n (start_of k label)) (sorted_falling b) e))
         by false e = at_strict_list (sorted_falling b) l (sorted_strict b (sym (equal-sorted b) ∙ e))
 
--- ---- the reductions at a label of a_b times a Schur polynomial
+-- ---- the reflections at a label of the terms of a_b times a Schur polynomial
 
 -- the coefficient at `label` of the reflections of the terms of a_b·s_next
 abbrev multiplied_value : ℕ → ℕ → List ℕ → List ℕ → List ℕ → ℤ
@@ -244,9 +236,9 @@ multiplied-periodic k n next label b c h q l m e s =
     (λ α. window_value-periodic n (start_of k label) label (join b α) (join c α) (remainders-join n b c α e) (let x = size-join b α in let y = size-join c α in omega arith))
     ∙ sym (multiplied_windows k n next label c h q m)
 
--- ---- lists with two entries of one remainder
+-- ---- lists in which two entries leave the same remainder
 
--- if r is the remainder of some entry of b, that entry is at some place of b
+-- if r is the remainder of some entry of b, then b is `middle` followed by an entry y with this remainder and by `right`
 place_of : (n r : ℕ) (b : List ℕ) → has r (remainders n b) ≡ true → (middle : List ℕ) × (y : ℕ) × (right : List ℕ) × (b ≡ middle ++ (y ∷ right)) × (y % n ≡ r)
 place_of n r [] e = absurd (cc)
 place_of n r (c ∷ b) e = by (or_cases (c % n == r) (has r (remainders n b)) e) (λ t. place_of n r b t)
@@ -257,7 +249,7 @@ place_of n r (c ∷ b) e = by (or_cases (c % n == r) (has r (remainders n b)) e)
     by (inl t) later = ([], c, b, refl, eqb-true (c % n) r t)
     by (inr t) later = let p = later t in (c ∷ p.0, p.1, p.2, ap (λ l. c ∷ l) p.3, p.4)
 
--- two entries of a list leave one remainder
+-- two entries of a list leave the same remainder modulo n
 pub record Repeats (n : ℕ) (b : List ℕ) : Type 0 where
   pub left : List ℕ
   pub x : ℕ
@@ -347,7 +339,7 @@ reflected_list k n next label b h q l f = by (reflected_into_alcove n b) (alcove
           shape = shape_of_strict k a.0 long end.strict;
           equal =
               multiplied-periodic k n next label b u h q l (length-map b (up n t) ∙ l) (sym (remainders_of_ups n t b h)) (sym sum)
-              ∙ alternant-sorted u (added k next (on_strict (alcove_share k n label))) (distinct_ups n t b h distinct)
+              ∙ alternant-sorted u (added k next (on_strict (alcove_share k n label))) (ups_differ n t b h distinct)
               ∙ ap (λ c. sorting_sign u *ℤ multiplied_value k n next label c) sorts
               ∙ ap (λ z. z *ℤ multiplied_value k n next label a.0) (sym sign)
               ∙ ap (λ z. a.1 *ℤ z) (sym (at_strict k a.0 (added k next (on_strict (alcove_share k n label))) long end.strict));
@@ -362,7 +354,7 @@ reflected_early k n next label parts h q p =
     (subst (λ z. IsReducedEarly k n next label z (as_partition (reflected_into_alcove n (beta k parts))))
     (sym (ap (λ b. pair (alternant b) (added k next (on_strict (alcove_share k n label)))) (join-beta k parts p))) r)
 
--- ---- reflecting with one more factor
+-- ---- reflecting the product with one more factor
 
 pair-reflected : (k n : ℕ) (terms : WholeTerms) (χ : List ℕ → ℤ) → pair (reflected_terms k n terms) χ ≡ pair terms (λ parts. at_reduced χ (alcove_reduction k n parts))
 pair-reflected k n terms χ =

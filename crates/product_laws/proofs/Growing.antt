@@ -1,5 +1,5 @@
--- Products of Schur polynomials with one more factor: their coefficients are counts, at labels with no more rows than
--- all factors together, and some coefficient is at least as great as each one before.
+-- Classical products with one more factor: no coefficient is negative, no label has more rows than all factors together, and some coefficient is at
+-- least c if the product of the earlier factors has a coefficient of at least c.
 use Rattle.std.proofs.Common.{◌≡◌, ℕ, zero, suc, ◌+◌, ◌≤◌, ◌<◌, ◌⊎◌, inl, inr, Bool, true, false, cond, List, [], ◌∷◌, ◌++◌, append_assoc, append-nil, map, refl, sym, ◌∙◌, ap, subst, arith, ℤ, pos, ◌*ℤ◌, filter}
 use Rattle.std.specs.Prelude.{◌≤ℤ◌, nat_abs, nat_le, nat_lt}
 use Rattle.std.proofs.lemmas.Bool.{cases_lt}
@@ -15,7 +15,7 @@ use Rattle.sym_model.proofs.Sums.{Among_from_map, Among_from_each, Among_from_se
 use Rattle.sym_model.proofs.PartitionLists.{partitions_of-tells}
 use Rattle.sym_model.proofs.Exponents.{same_true}
 use Rattle.sym_model.proofs.SortedParts.{IsPartition-none}
-use Rattle.sym_model.proofs.Polynomials.{coefficient_scale}
+use Rattle.sym_model.proofs.Polynomials.{coefficient_scale, at_only-nonnegative}
 use Rattle.sym_model.proofs.Integers.{product-at_least}
 use Rattle.tableau_laws.proofs.ColumnCounts.{contains_nothing}
 use Rattle.alternant_laws.proofs.ClassicalProducts.{classical_product-coefficient, classical_product-term, classical_product-once, IsClassicalTerm}
@@ -27,7 +27,7 @@ use Rattle.sym_model.specs.WholeTerms.{AreCounts}
 use Rattle.product_laws.proofs.CountLists.{counts-coefficient, counts-scale, counts-each, coefficient-each, some_term, coefficient_of_once}
 use Rattle.product_laws.proofs.SomeLabel.{some_label}
 
--- a term of the classical product has the Schur coefficient at its label
+-- the coefficient of a term of the classical product is the Schur coefficient of the product of the factors at the label of the term
 pub term_is : (k : ℕ) (factors : List (List ℕ)) (t : Term) → Among t (classical_product k factors) → t.1 ≡ schur_coefficient k t.0 (schur_product factors k)
 term_is k factors t m =
     let c = classical_product-term k factors t m in
@@ -75,7 +75,7 @@ pub counted-one : (k : ℕ) (parts : List ℕ) → IsPartition parts → IsCount
 counted-one k parts p = record {
   counts = λ t m.
       let c = classical_product-term k (parts ∷ []) t m in
-      subst (λ (z : ℤ). pos 0 ≤ℤ z) (sym (is t m)) (not_negative (same parts t.0));
+      subst (λ (z : ℤ). pos 0 ≤ℤ z) (sym (is t m)) (at_only-nonnegative t.0 parts);
   row_bound = λ t m.
       let c = classical_product-term k (parts ∷ []) t m in
       only t (same parts t.0) refl (λ e. c.counts (is t m ∙ ap (λ b. cond b (pos 1) (pos 0)) e));
@@ -85,10 +85,6 @@ counted-one k parts p = record {
     is t m =
         let c = classical_product-term k (parts ∷ []) t m in
         term_is k (parts ∷ []) t m ∙ schur_coefficient_of_schur k parts t.0 p c.partition c.few
-
-    not_negative : (b : Bool) → pos 0 ≤ℤ cond b (pos 1) (pos 0)
-    not_negative true = omega (arith, ints)
-    not_negative false = omega (arith, ints)
 
     only : (t : Term) (b : Bool) → same parts t.0 ≡ b → (b ≡ false → ⊥) → rows t.0 ≤ size (map rows (parts ∷ []))
     only t true e h = let d = ap rows (same_true parts t.0 e) in omega arith
@@ -103,7 +99,7 @@ multiplied_counts k next terms is q c =
 labels_are : (k : ℕ) (front : List (List ℕ)) (t : Term) → Among t (classical_product k front) → IsPartition t.0
 labels_are k front t m = let c = classical_product-term k front t m in c.partition
 
--- the label is one of the product of some label of `terms` with the factor `next`
+-- the label occurs in the classical product of some label of `terms` with the factor `next`
 record ComesFrom (k : ℕ) (next : List ℕ) (terms : WholeTerms) (label : List ℕ) : Type 0 where
   from : Term
   among : Among from terms
@@ -122,7 +118,7 @@ rows-push : (front : List (List ℕ)) (next : List ℕ) → size (map rows (fron
 rows-push [] next = omega arith
 rows-push (parts ∷ front) next = let h = rows-push front next in omega arith
 
--- the coefficient of a term of the product with `next` is that of the product before, multiplied by `next`
+-- the coefficient of a term of the product with `next` is that of its label in the list of the products of the earlier labels with `next`
 step_coefficient : (k : ℕ) (front : List (List ℕ)) (next : List ℕ) → ArePartitions front → IsPartition next → (t : Term)
     → Among t (classical_product k (front ++ (next ∷ []))) → t.1 ≡ coefficient (multiplied k next (classical_product k front)) t.0
 step_coefficient k front next p q t m =
@@ -145,7 +141,7 @@ counted-push k front next p q h = record {
       omega arith;
 }
 
--- ---- if the product of front has a coefficient of at least c, so has its product with one more factor, `next`
+-- if the product of `front` has a coefficient of at least c, so has its product with one more factor, `next`
 
 step_reaches : (k c : ℕ) (front : List (List ℕ)) (next : List ℕ) → ArePartitions front → IsPartition next → rows next ≤ k → 1 ≤ c → IsCounted k front
     → Reaches k c (classical_product k front) → Reaches k c (classical_product k (front ++ (next ∷ [])))

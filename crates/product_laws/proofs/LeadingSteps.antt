@@ -1,7 +1,7 @@
 -- Steps from factor to factor, for any relation as the step.
 --     last_changed    the last list of the steps can be replaced by an equal one
 --     last_is         a property that each step gives to its result holds of the last list
---     some_lead       there are steps through all factors, if each list has a step
+--     some_lead       if each list has a step for each factor, there are steps through all factors
 use Rattle.std.proofs.Common.{ℕ, List, [], ◌∷◌, refl, subst}
 use Rattle.sym_model.specs.WholeTerms.{WholeTermsOf}
 use Rattle.sym_model.specs.ReductionSteps.{StepsLead}

@@ -1,5 +1,5 @@
 -- The classical product of several factors, one factor after another.
---     classical_pairing    the classical product, paired with alternants
+--     classical_pairing    the alternants a_(ν + ρ) of the terms of the classical product add up to a_ρ times the product
 --     classical_step       the product with one more factor
 use Rattle.std.proofs.Common.{◌≡◌, ℕ, List, [], ◌∷◌, ◌++◌, length, refl, sym, ◌∙◌, ap, subst, inl, inr, arith, ℤ, ◌*ℤ◌}
 use Rattle.sym_model.specs.Polynomial.{Poly, Term, In, Same, join, one, times, pair, no_exponents, scale}
@@ -108,7 +108,7 @@ product-last k (parts ∷ second ∷ front) next =
     (times_respects (schur parts k) (schur parts k) _ _ (Same_refl (schur parts k)) (product-last k (second ∷ front) next))
     (Same_sym _ _ (times_assoc (schur parts k) (schur_product (second ∷ front) k) (schur next k)))
 
--- the sum of φ(γ + δ) over the exponents δ of s_next
+-- the sum of c·φ(γ + δ) over the terms c·x^δ of s_next
 abbrev pub added : ℕ → List ℕ → (List ℕ → ℤ) → List ℕ → ℤ
 added k next φ γ = pair (schur next k) (λ δ. φ (join γ δ))
 

@@ -1,6 +1,5 @@
 -- Exponents that do not add a strip cancel: in pairs, or as alternants with two equal exponents.
 use Rattle.std.proofs.Common.{◌≡◌, ◌⊎◌, ℕ, zero, suc, ◌+◌, ◌-◌, ◌<◌, ◌≤◌, Bool, true, false, ◌&&◌, ◌||◌, not, cond, nat_le, List, [], ◌∷◌, ◌++◌, map, length, drop, refl, sym, ◌∙◌, ap, ap₂, subst, inl, inr, arith, ℤ, pos, ◌+ℤ◌, neg_ℤ, filter}
-use Rattle.std.proofs.lemmas.Int.{ints}
 use Rattle.std.proofs.lemmas.Bool.{cases_lt, and_parts, le-leb, leb-true, lt-leb, or_right}
 use Rattle.sym_model.specs.Sum.{total, Among}
 use Rattle.sym_model.specs.Partition.{Falls, size}
@@ -16,6 +15,7 @@ use Rattle.sym_model.proofs.Monomials.{members_of-exponent_lists}
 use Rattle.alternant_laws.proofs.Alternants.{alternant_exchange}
 use Rattle.product_laws.proofs.ExponentLists.{among_exponent_lists, once_exponent_lists}
 use Rattle.product_laws.proofs.StripShapes.{keeps_below}
+use lib.IntN.{+ℤ_idr}
 
 -- U changes its sign if two neighbouring entries of its list are exchanged
 abbrev pub Turns : (List ℕ → ℤ) → Type 0
@@ -150,7 +150,7 @@ strips_remain (suc (suc n)) (a ∷ b ∷ m) U l f t d =
     first (λ c. strips_remain (suc n) (b ∷ m) (λ β. U ((a + suc n + c) ∷ β)) (omega arith) f.1 (λ left. t ((a + suc n + c) ∷ left)) (d - c))
     ∙ total_split F narrow (filter wide lists)
     ∙ ap₂ ◌+ℤ◌ (narrowed F wide narrow lists (λ α i. implied α)) (over_step a b m n d U f.0 t)
-    ∙ alone (total F (filter narrow lists))
+    ∙ +ℤ_idr (total F (filter narrow lists))
   where
     lists : List (List ℕ)
     lists = exponent_lists (suc (suc n)) d
@@ -164,20 +164,13 @@ strips_remain (suc (suc n)) (a ∷ b ∷ m) U l f t d =
     narrow : List ℕ → Bool
     narrow α = keeps_below (a ∷ b ∷ m) α
 
-    alone : (x : ℤ) → x +ℤ pos 0 ≡ x
-    alone x = omega (arith, ints)
+    none_kept : (m : List ℕ) → keeps_below (b ∷ m) [] ≡ true
+    none_kept [] = refl
+    none_kept (c ∷ m) = refl
 
     implied : (α : List ℕ) → narrow α ≡ true → wide α ≡ true
-    implied [] e = by m
-      where
-        by : (m : List ℕ) → keeps_below (b ∷ m) [] ≡ true
-        by [] = refl
-        by (c ∷ m) = refl
-    implied (x ∷ []) e = by m
-      where
-        by : (m : List ℕ) → keeps_below (b ∷ m) [] ≡ true
-        by [] = refl
-        by (c ∷ m) = refl
+    implied [] e = none_kept m
+    implied (x ∷ []) e = none_kept m
     implied (x ∷ y ∷ α) e = (and_parts (nat_le (b + y) a) (keeps_below (b ∷ m) (y ∷ α)) e).1
 
     rows_of : ℕ → List (List ℕ)

@@ -1,13 +1,11 @@
 -- Pieri's rules, by alternants: h_k and e_k are sums of monomials, and the terms that are not strips cancel.
-use Rattle.std.proofs.Common.{◌≡◌, ℕ, ◌+◌, ◌≤◌, Bool, true, false, ◌&&◌, cond, eqb, nat_le, List, [], ◌∷◌, ◌++◌, length, refl, sym, ◌∙◌, ap, ap₂, arith, ℤ, pos, ◌*ℤ◌, filter, flat_map}
-use Rattle.std.proofs.lemmas.Int.{ints}
+use Rattle.std.proofs.Common.{◌≡◌, ℕ, ◌+◌, ◌≤◌, Bool, true, false, ◌&&◌, cond, nat_le, List, length, refl, sym, ◌∙◌, ap, ℤ, pos, ◌*ℤ◌, filter, flat_map}
 use Rattle.std.proofs.lemmas.Bool.{leb-true}
 use Rattle.sym_model.specs.Sum.{total}
 use Rattle.sym_model.specs.Partition.{Falls, IsPartition, Holds, rows, size, without_last_zeros}
 use Rattle.sym_model.specs.Polynomial.{Same, join, resize, pair, times}
-use Rattle.sym_model.specs.Symmetric.{Symmetric}
 use Rattle.sym_model.specs.Strip.{IsHorizontalStrip, IsVerticalStrip}
-use Rattle.sym_model.specs.Bases.{exponent_lists, monomials, at_most_one, complete_of, elementary_of}
+use Rattle.sym_model.specs.Bases.{exponent_lists, at_most_one, complete_of, elementary_of}
 use Rattle.sym_model.specs.Schur.{schur}
 use Rattle.sym_model.specs.Alternant.{alternant, staircase}
 use Rattle.sym_model.specs.GoodTableau.{is_falling}
@@ -15,45 +13,23 @@ use Rattle.sym_model.proofs.Sums.{total_ext, total_among, total_select, Among_fr
 use Rattle.sym_model.proofs.FirstPlaces.{Falls-resize}
 use Rattle.sym_model.proofs.Exponents.{join_comm, join_assoc, length-resize}
 use Rattle.sym_model.proofs.Polynomials.{pair_monomials}
-use Rattle.sym_model.proofs.Monomials.{coefficient-monomials, members_of-exponent_lists, In-monomials}
+use Rattle.sym_model.proofs.Monomials.{members_of-exponent_lists, In-monomials}
 use Rattle.monomial_laws.proofs.SchurMajorants.{In-schur}
-use Rattle.beta_list_laws.proofs.NeighbourExchanges.{length-exchange, size-exchange}
 use Rattle.alternant_laws.proofs.FallingAlternants.{join_padded}
 use Rattle.alternant_laws.proofs.SortedAlternants.{alternant-equal}
 use Rattle.product_laws.specs.StripLists.{ListsEach, AddsHorizontalStrip, AddsVerticalStrip}
 use Rattle.product_laws.proofs.StripShapes.{keeps_below, adds_column, shapes_total, horizontal_sound, horizontal_complete, vertical_sound, vertical_complete}
 use Rattle.product_laws.proofs.StaircaseProducts.{strip_product}
 use Rattle.product_laws.proofs.Overlaps.{alternants_turn, strips_remain, equal_found}
-
--- ---- sums of all monomials whose exponents pass a symmetric test
-
-pub symmetric-monomials : (test : List ℕ → Bool) (n d : ℕ) → ((left : List ℕ) (a b : ℕ) (right : List ℕ) → test (left ++ (a ∷ b ∷ right)) ≡ test (left ++ (b ∷ a ∷ right)))
-    → Symmetric (monomials test n d)
-symmetric-monomials test n d h left a b right =
-    coefficient-monomials test n d (left ++ (a ∷ b ∷ right))
-    ∙ ap₂ (λ (s t : Bool). cond s (cond t (pos 1) (pos 0)) (pos 0))
-    (ap₂ (λ (l s : ℕ). eqb l n && eqb s d) (length-exchange left a b right) (size-exchange left a b right)) (h left a b right)
-    ∙ sym (coefficient-monomials test n d (left ++ (b ∷ a ∷ right)))
-
-ones-exchange : (left : List ℕ) (a b : ℕ) (right : List ℕ) → at_most_one (left ++ (a ∷ b ∷ right)) ≡ at_most_one (left ++ (b ∷ a ∷ right))
-ones-exchange [] a b right = turned (nat_le a 1) (nat_le b 1) (at_most_one right)
-  where
-    turned : (x y z : Bool) → (x && (y && z)) ≡ (y && (x && z))
-    turned true true z = refl
-    turned true false z = refl
-    turned false true z = refl
-    turned false false z = refl
-ones-exchange (c ∷ left) a b right = ap (λ (t : Bool). nat_le c 1 && t) (ones-exchange left a b right)
+use Rattle.sym_model.proofs.Ring.{one-product}
+use Rattle.schur_laws.proofs.SymmetricPolynomials.{symmetric-monomials, at_most_one-exchange}
 
 -- ---- sums over exponent lists of n places
 
 turned_sum : (n : ℕ) (m α : List ℕ) → join (join m (staircase n)) α ≡ join (join m α) (staircase n)
 turned_sum n m α = join_assoc m (staircase n) α ∙ ap (join m) (join_comm (staircase n) α) ∙ sym (join_assoc m α (staircase n))
 
-once_times : (x : ℤ) → x ≡ pos 1 *ℤ x
-once_times x = omega (arith, ints)
-
--- if the exponents α that pass a test are those for which μ + α is a shape of S, each once, a sum over the shapes is the sum over these exponents
+-- let μ be `parts`: if the exponents α that pass the test are those for which μ + α is a partition of `list`, a sum over these α is a sum over `list`
 pub strips_total : (n k : ℕ) (parts : List ℕ) → IsPartition parts → rows parts ≤ n → (test : List ℕ → Bool) (S : List ℕ → Type 0)
     → ((α : List ℕ) → length α ≡ n → test α ≡ true → Falls (join (resize n parts) α) × S (without_last_zeros (join (resize n parts) α)))
     → ((α : List ℕ) → length α ≡ n → Falls (join (resize n parts) α) → S (without_last_zeros (join (resize n parts) α)) → test α ≡ true)
@@ -69,14 +45,14 @@ strips_total n k parts p few test S sound complete held list l φ =
     ∙ total_among (λ (ν : List ℕ). pair (alternant (join (resize n ν) (staircase n))) φ) (λ (ν : List ℕ). pos 1 *ℤ pair (alternant (join ν (staircase n))) φ) (filter (λ (ν : List ℕ). nat_le (rows ν) n) list)
     (λ ν i.
     ap (λ β. pair (alternant β) φ) (join_padded n ν (leb-true (rows ν) n (Among_from_select (λ (ν : List ℕ). nat_le (rows ν) n) ν list i).1))
-    ∙ once_times (pair (alternant (join ν (staircase n))) φ))
+    ∙ sym (one-product (pair (alternant (join ν (staircase n))) φ)))
 
 pub horizontal : (n k : ℕ) (parts : List ℕ) (list : List (List ℕ)) → IsPartition parts
     → ListsEach (AddsHorizontalStrip k parts) list
     → Same (times (complete_of k n) (schur parts n)) (flat_map (λ ν. schur ν n) list)
 horizontal n k parts list p l =
     strip_product n parts (complete_of k n) (λ ν. schur ν n) (λ ν. pos 1) list p (In-monomials (λ α. true) n k) (symmetric-monomials (λ α. true) n k (λ left a b right. refl))
-    (λ ν. In-schur ν n) (λ ν φ. once_times (pair (schur ν n) φ)) (λ ν i. let q = (l.members ν).0 i in (q.0, q.2.holds))
+    (λ ν. In-schur ν n) (λ ν φ. sym (one-product (pair (schur ν n) φ))) (λ ν i. let q = (l.members ν).0 i in (q.0, q.2.holds))
     (λ few φ.
     pair_monomials (filter (λ (α : List ℕ). true) (exponent_lists n k)) (λ α. pair (alternant (join (join parts (staircase n)) α)) φ)
     ∙ total_select (λ (α : List ℕ). pair (alternant (join (join parts (staircase n)) α)) φ) (λ (α : List ℕ). true) (exponent_lists n k)
@@ -90,8 +66,8 @@ pub vertical : (n k : ℕ) (parts : List ℕ) (list : List (List ℕ)) → IsPar
     → ListsEach (AddsVerticalStrip k parts) list
     → Same (times (elementary_of k n) (schur parts n)) (flat_map (λ ν. schur ν n) list)
 vertical n k parts list p l =
-    strip_product n parts (elementary_of k n) (λ ν. schur ν n) (λ ν. pos 1) list p (In-monomials at_most_one n k) (symmetric-monomials at_most_one n k ones-exchange)
-    (λ ν. In-schur ν n) (λ ν φ. once_times (pair (schur ν n) φ)) (λ ν i. let q = (l.members ν).0 i in (q.0, q.2.holds))
+    strip_product n parts (elementary_of k n) (λ ν. schur ν n) (λ ν. pos 1) list p (In-monomials at_most_one n k) (symmetric-monomials at_most_one n k at_most_one-exchange)
+    (λ ν. In-schur ν n) (λ ν φ. sym (one-product (pair (schur ν n) φ))) (λ ν i. let q = (l.members ν).0 i in (q.0, q.2.holds))
     (λ few φ.
     pair_monomials (filter at_most_one (exponent_lists n k)) (λ α. pair (alternant (join (join parts (staircase n)) α)) φ)
     ∙ total_ext (λ (α : List ℕ). pair (alternant (join (join parts (staircase n)) α)) φ) (λ (α : List ℕ). pair (alternant (join (join (resize n parts) (staircase n)) α)) φ)

@@ -1,12 +1,12 @@
 -- Reducing by rim hooks after each factor.
---     ends_value        the part of a reduction at a label, by the sum and the remainders of any list of exponents
---     ends_unique       that part is an alternating sum, so it can be multiplied by a Schur polynomial
---     lowered_early     a label can be reduced before it is multiplied
+--     ends_value        the coefficient at a label and a power of q after an alternant a_b is reduced, from the sum and the remainders of b
+--     ends_unique       the reductions of the terms of a_b have this coefficient at the label and the power
+--     lowered_early     a partition can be reduced before it is multiplied by a factor
 --     quantum_step      reducing after each factor gives the result of reducing once
 use Rattle.std.proofs.Common.{◌≡◌, ◌⊎◌, ℕ, zero, suc, ◌+◌, ◌-◌, ◌*◌, ◌%◌, ◌<◌, ◌≤◌, ◌==◌, ◌&&◌, nat_le, Bool, true, false, cond, List, [], ◌∷◌, ◌++◌, map, length, refl, sym, ◌∙◌, ap, ap₂, subst, inl, inr, arith, ℤ, pos, neg_ℤ, ◌+ℤ◌, ◌*ℤ◌, Some, None}
-use Rattle.std.proofs.lemmas.Bool.{cases_eq, cases_lt, eq-eqb, or_cases, or_parts}
+use Rattle.std.proofs.lemmas.Bool.{cases_eq, cases_lt, eq-eqb, or_cases, or_parts, ne_eqb}
 use Rattle.std.proofs.lemmas.Bool.Decides.{nat_tests}
-use Rattle.std.proofs.lemmas.List.{length-map}
+use Rattle.std.proofs.lemmas.List.{length-map, map-append}
 use Rattle.std.proofs.Math.Nat.{mod-le, mod-lt, mod-mod, mul-le-mul_left}
 use Rattle.std.proofs.Math.IntN.{*ℤ-zero, +ℤ_idl}
 use Rattle.sym_model.specs.Sum.{total}
@@ -30,7 +30,6 @@ use Rattle.alternant_laws.proofs.Alternants.{alternant_exchange, opposite_is_zer
 use Rattle.alternant_laws.proofs.SortedAlternants.{alternant-equal, alternant-sorted}
 use Rattle.beta_list_laws.specs.AlcoveEnd.{remainders}
 use Rattle.beta_list_laws.specs.LowestList.{alike, lowest, end_of, end_sign, power_of, reduction_by_remainders}
-use Rattle.beta_list_laws.proofs.Remainders.{test_unlike}
 use Rattle.beta_list_laws.proofs.Windows.{has_alike, lacks_alike}
 use Rattle.beta_list_laws.proofs.Ends.{goes_to_end, goes_cells, narrow, wide}
 use Rattle.beta_list_laws.proofs.AlcoveEnds.{equal_map, equal_inside}
@@ -39,7 +38,6 @@ use Rattle.sym_model.specs.WholeTerms.{WholeTerms, WholeTermsOf, coefficient_by,
 use Rattle.sym_model.specs.Reductions.{Reduction, reduced_terms}
 use Rattle.sym_model.specs.Products.{classical_product}
 use Rattle.beta_list_laws.specs.ReductionLists.{reductions_of}
-use Rattle.beta_list_laws.proofs.BetaLowerings.{map_append}
 use Rattle.product_laws.specs.FactorSteps.{reduced_product, quantized}
 use Rattle.product_laws.proofs.Straightened.{IsShape, on_strict, pair-value, at_strict, shape_of_strict}
 use Rattle.product_laws.proofs.ManyFactors.{sums-schur, added, join-beta, pair_shapes, two_value, step_value}
@@ -48,7 +46,7 @@ use Rattle.sym_model.specs.Bounded.{AreBelow}
 use Rattle.alternant_laws.proofs.FailingColumns.{at_sum}
 use Rattle.sym_model.specs.ReductionSteps.{with_power}
 
--- ---- lists in which no two entries leave one remainder
+-- ---- lists in which no two entries leave the same remainder
 
 lowest-distinct : (n : ℕ) (b : List ℕ) → has_equal_entries (remainders n b) ≡ false → lowest n b ≡ remainders n b
 lowest-distinct n [] d = refl
@@ -109,9 +107,9 @@ distinct_end k n parts h p d =
           ∙ ap₂ (λ e s. Some (e, s, power_of k n parts)) end_is sign;
     }
 
--- ---- lists with two entries of one remainder
+-- ---- lists in which two entries leave the same remainder
 
--- an entry of the list is at least m
+-- some entry of the list is at least m
 abbrev HasAtLeast : ℕ → List ℕ → Type 0
 HasAtLeast m [] = ⊥
 HasAtLeast m (x ∷ b) = (m ≤ x) ⊎ HasAtLeast m b
@@ -157,9 +155,9 @@ repeated_end k n parts h p e =
     wide k n parts (wide_end k n (sorted_falling (lowest n b)) (length-sorted (lowest n b) ∙ (length-lowest n b ∙ length-beta k parts))
     (sorted_falls (lowest n b)) (sort_reach (HasAtLeast n) (lowest n b) (high_kept n) (high_lowest n b h e)))
 
--- ---- the value of a list of exponents at a label and a power
+-- ---- the coefficient that an alternant a_b gives at a label and a power of q
 
--- the sign of sorting u, if u sorts to the beta list of the label and s is its sum plus `power`·n; otherwise 0
+-- (-1)^(power·(k + 1)) times the sign of sorting u, if u sorts to the beta list of the label and s is its sum plus `power`·n; otherwise 0
 abbrev sorted_value : ℕ → ℕ → ℕ → List ℕ → List ℕ → ℕ → ℤ
 sorted_value k n power label u s =
     value (has_equal_entries u) (s == size u + power * n) (same (from_beta (sorted_falling u)) label) (minus_one_to (power * (k + 1)) *ℤ sorting_sign u)
@@ -193,16 +191,16 @@ sorted_value-exchange k n power label left x y right s = by (cases_eq x y)
 
 ends_value-exchange : (k n power : ℕ) (label left : List ℕ) (x y : ℕ) (right : List ℕ) → ends_value k n power label (left ++ (x ∷ y ∷ right)) ≡ neg_ℤ (ends_value k n power label (left ++ (y ∷ x ∷ right)))
 ends_value-exchange k n power label left x y right =
-    ap (λ u. sorted_value k n power label u (size (left ++ (x ∷ y ∷ right)))) (map_append (λ z. z % n) left (x ∷ y ∷ right))
+    ap (λ u. sorted_value k n power label u (size (left ++ (x ∷ y ∷ right)))) (map-append (λ z. z % n) left (x ∷ y ∷ right))
     ∙ sorted_value-exchange k n power label (remainders n left) (x % n) (y % n) (remainders n right) (size (left ++ (x ∷ y ∷ right)))
     ∙ ap (λ s. neg_ℤ (sorted_value k n power label (remainders n left ++ (y % n ∷ x % n ∷ remainders n right)) s)) (size-exchange left x y right)
-    ∙ ap (λ u. neg_ℤ (sorted_value k n power label u (size (left ++ (y ∷ x ∷ right))))) (sym (map_append (λ z. z % n) left (y ∷ x ∷ right)))
+    ∙ ap (λ u. neg_ℤ (sorted_value k n power label u (size (left ++ (y ∷ x ∷ right))))) (sym (map-append (λ z. z % n) left (y ∷ x ∷ right)))
 
 ends_value-equal : (k n power : ℕ) (label b : List ℕ) → has_equal_entries (remainders n b) ≡ true → ends_value k n power label b ≡ pos 0
 ends_value-equal k n power label b e =
     ap (λ v. value v (size b == size (remainders n b) + power * n) (same (from_beta (sorted_falling (remainders n b))) label) (minus_one_to (power * (k + 1)) *ℤ sorting_sign (remainders n b))) e
 
--- the number of removals p is determined by p·n
+-- if p·n = q·n for n ≥ 1, then p = q
 powers_differ : (n p q : ℕ) → 1 ≤ n → p * n ≡ q * n → p ≡ q
 powers_differ n p q h e = elim (cases_lt p q) [
   | inl l ↦ (let m = mul-le-mul_left n l in absurd (omega arith))
@@ -234,8 +232,8 @@ ends_value-shape k n power label parts h p = by (has_equal_entries (remainders n
             ∙ sym (ap₂ (λ v m. cond (v && same (from_beta (sorted_falling r)) label) (minus_one_to (m * (k + 1)) *ℤ sorting_sign r) (pos 0)) (eq-eqb q power i) i)
         alike_powers q s (inr m) =
             ap (λ v. value false v (same (from_beta (sorted_falling r)) label) (minus_one_to (power * (k + 1)) *ℤ sorting_sign r))
-            (test_unlike (size b) (size r + power * n) (λ e'. m (powers_differ n q power h (omega arith))))
-            ∙ sym (ap (λ v. cond (v && same (from_beta (sorted_falling r)) label) (minus_one_to (q * (k + 1)) *ℤ sorting_sign r) (pos 0)) (test_unlike q power m))
+            (ne_eqb (size b) (size r + power * n) (λ e'. m (powers_differ n q power h (omega arith))))
+            ∙ sym (ap (λ v. cond (v && same (from_beta (sorted_falling r)) label) (minus_one_to (q * (k + 1)) *ℤ sorting_sign r) (pos 0)) (ne_eqb q power m))
 
 -- ---- the reductions of an alternant of any list of exponents
 
@@ -267,7 +265,7 @@ ends_unique k n power label b h = sort_back P b kept sorted
             ∙ sym (ends_value-equal k n power label (sorted_falling b) (equal_map (λ z. z % n) (sorted_falling b) e))
         by false e = at_strict_list (sorted_falling b) l (sorted_strict b (sym (equal-sorted b) ∙ e))
 
--- ---- the reductions at a label of a_b times a Schur polynomial
+-- ---- the reductions at a label of the terms of a_b times a Schur polynomial
 
 -- the coefficient at `power` and `label` of the reductions of the terms of a_b·s_next
 abbrev multiplied_value : ℕ → ℕ → List ℕ → ℕ → List ℕ → List ℕ → ℤ
@@ -348,7 +346,7 @@ no_value false there x = refl
 past_value : (k n q power : ℕ) (label b α : List ℕ) → 1 ≤ n → power < q → size b ≡ size (remainders n b) + q * n → ends_value k n power label (join b α) ≡ pos 0
 past_value k n q power label b α h l s =
     ap (λ v. value (has_equal_entries (remainders n (join b α))) v (same (from_beta (sorted_falling (remainders n (join b α)))) label) (minus_one_to (power * (k + 1)) *ℤ sorting_sign (remainders n (join b α))))
-    (test_unlike (size (join b α)) (size (remainders n (join b α)) + power * n) (λ e.
+    (ne_eqb (size (join b α)) (size (remainders n (join b α)) + power * n) (λ e.
     let low = remainders_low n (join (remainders n b) α) in
     let is = ap size (joined_remainders n b α) in
     let x = size-join b α in
@@ -492,7 +490,7 @@ reduced_pairing k n power f (t ∷ terms) = by (reduction_by_remainders k n t.0)
     by None e = e ∙ sym (ap (λ z. z +ℤ rest) (*ℤ-zero t.1) ∙ +ℤ_idl rest)
     by (Some a) e = ap₂ ◌+ℤ◌ (product_assoc t.1 a.1 (within power a.2 (λ p. f p a.0))) e
 
--- ---- reducing with one more factor
+-- ---- reducing the product with one more factor
 
 pub quantum_step : (k n : ℕ) (front : List (List ℕ)) (next : List ℕ) (terms : WholeTermsOf (ℕ × List ℕ)) → 1 ≤ n → ArePartitions front → IsPartition next
     → ((label : ℕ × List ℕ) → coefficient_by same_power terms label ≡ coefficient_by same_power (reduced_product k n front) label)

@@ -1,9 +1,9 @@
--- Reducing by rim hooks after each factor, and once.
---     quantum_step_made       conditions that make a step
---     quantum_step_is         the conditions that a step meets
---     quantum_steps_meet      the result of steps through all factors is the whole reduction
---     quantum_steps_answer    such a list meets the definition of the command
---     quantum_in_steps        a collected list that is the whole reduction is the result of steps
+-- Reducing by rim hooks after each factor gives the same as reducing the whole product once.
+--     quantum_step_made       conditions that are enough for a list to be the result of a step
+--     quantum_step_is         conditions that the result of each step meets
+--     quantum_steps_meet      the result of steps through all factors is the whole classical product, reduced once
+--     quantum_steps_answer    the result of steps meets the definition of the command `quantum`
+--     quantum_in_steps        a collected list that is the classical product, reduced once, is the result of steps
 use Rattle.std.proofs.Common.{◌≡◌, ℕ, ◌+◌, ◌≤◌, true, List, [], ◌∷◌, ◌++◌, map, length, refl, sym, ◌∙◌, ap, ap₂, subst, inl, arith, append-nil, append_assoc, ℤ, pos}
 use Rattle.std.proofs.lemmas.Bool.{and_parts, and_from, eq-eqb, eqb-true}
 use Rattle.sym_model.specs.Expansion.{Terms}
@@ -79,7 +79,7 @@ quantum_step_is k n factor terms next h s label =
     ∙ ap (λ (r : List (List Reduction)). coefficient_by same_power (reduced_each k factor terms r) label) (each_only k n factor terms s.reductions h s.reduce)
     ∙ ap (λ (l : PowerTerms). coefficient_by same_power l label) (reduced_each-quantized k n factor terms)
 
--- ---- from steps to the whole product
+-- ---- from steps to the reduction of the whole product
 
 later_steps : (k n : ℕ) (front factors : List (List ℕ)) (terms last : PowerTerms) → 1 ≤ n → ArePartitions (front ++ factors)
     → ((label : ℕ × List ℕ) → coefficient_by same_power terms label ≡ coefficient_by same_power (reduced_product k n front) label)
@@ -99,7 +99,7 @@ later_steps k n front (factor ∷ factors) terms last h p e lead label =
     lead.2 label
     ∙ ap (λ (l : List (List ℕ)). coefficient_by same_power (reduced_product k n l) label) whole
 
--- adding the power 0 does not change a list
+-- adding the power 0 to each label and multiplying by 1 does not change a list
 raised_itself : (xs : PowerTerms) → with_power 0 (pos 1) xs ≡ xs
 raised_itself [] = refl
 raised_itself (x ∷ xs) =
@@ -130,7 +130,7 @@ quantum_steps_meet k n factors terms h l p s = record {
   sums = steps_whole k n factors (numerators terms) h l p s;
 }
 
--- if a list of integers results from steps through the factors, it meets the definition of the command `quantum`
+-- if a list of terms with integer coefficients results from steps through the factors, it meets the definition of the command `quantum`
 pub quantum_steps_answer : (k width : ℕ) (factors : List (List ℕ)) (terms : PowerTerms)
     → 1 ≤ k + width → 2 ≤ length factors → ArePartitions factors
     → IsReducedInSteps k (k + width) factors terms
@@ -139,7 +139,7 @@ quantum_steps_answer k width factors terms h l p s =
     quantum_steps_meet k (k + width) factors (as_fractions terms) h l p
     (subst (IsReducedInSteps k (k + width) factors) (sym (numerators-as_fractions terms)) s)
 
--- ---- from the whole product to steps
+-- ---- from the reduction of the whole product to steps
 
 pub quantum_step_some : (k n : ℕ) → 1 ≤ n → (factor : List ℕ) (terms : PowerTerms) → (next : PowerTerms) × IsQuantumStep k n factor terms next
 quantum_step_some k n h factor terms =

@@ -1,5 +1,5 @@
 -- One entry of a strictly decreasing list raised: if the raised list has no equal entries, the entry moves in front of
--- some others, and the list is the beta list of a greater partition.
+-- some entries, and the list is the beta list of a greater partition.
 use Rattle.std.proofs.Common.{◌≡◌, ◌⊎◌, ℕ, zero, suc, ◌+◌, ◌<◌, ◌≤◌, true, false, ◌==◌, List, [], ◌∷◌, ◌++◌, map, length, replicate, drop, get_or, refl, sym, ◌∙◌, ap, ap₂, subst, inl, inr, arith, ℤ, pos, neg_ℤ, ◌*ℤ◌, append_assoc}
 use Rattle.std.proofs.lemmas.Int.{ints}
 use Rattle.std.proofs.lemmas.Bool.{cases_lt, cases_eq, both_ways, eq-eqb, or_parts, or_right}
@@ -8,7 +8,6 @@ use Rattle.sym_model.specs.Polynomial.{join}
 use Rattle.sym_model.specs.Bases.{has}
 use Rattle.sym_model.specs.PlaceOrders.{minus_one_to}
 use Rattle.sym_model.specs.BetaList.{has_equal_entries}
-use Rattle.sym_model.proofs.Ring.{ring}
 use Rattle.sym_model.proofs.Sums.{Among-map, Among_from_map, Once-map}
 use Rattle.sym_model.proofs.Exponents.{join_comm, join_zeros}
 use Rattle.sym_model.proofs.SortedParts.{has_here, has_past}
@@ -18,36 +17,29 @@ use Rattle.beta_list_laws.proofs.BetaLists.{strict_tail}
 use Rattle.beta_list_laws.proofs.NeighbourExchanges.{parity_of}
 use Rattle.beta_list_laws.proofs.BetaLowerings.{not_below}
 use Rattle.product_laws.proofs.Overlaps.{Turns}
+use Rattle.sym_model.proofs.Ring.{negation-product, one-product}
+use Rattle.std.proofs.Math.Seq.{append_snoc}
 
 -- ---- an entry moved in front of other entries
-
-pushed : (left : List ℕ) (c : ℕ) (rest : List ℕ) → (left ++ (c ∷ [])) ++ rest ≡ left ++ (c ∷ rest)
-pushed left c rest = append_assoc left (c ∷ []) rest
 
 pub moved : {A : Type 0} (f : List ℕ → A) → ((left : List ℕ) (a b : ℕ) (right : List ℕ) → f (left ++ (a ∷ b ∷ right)) ≡ f (left ++ (b ∷ a ∷ right)))
     → (left middle right : List ℕ) (z : ℕ) → f (left ++ (z ∷ (middle ++ right))) ≡ f (left ++ (middle ++ (z ∷ right)))
 moved f h left [] right z = refl
 moved f h left (c ∷ middle) right z =
     h left z c (middle ++ right)
-    ∙ ap f (sym (pushed left c (z ∷ (middle ++ right))))
+    ∙ ap f (sym (append_snoc left c (z ∷ (middle ++ right))))
     ∙ moved f h (left ++ (c ∷ [])) middle right z
-    ∙ ap f (pushed left c (middle ++ (z ∷ right)))
-
-negated : (x y : ℤ) → neg_ℤ (x *ℤ y) ≡ neg_ℤ x *ℤ y
-negated x y = simp ring (omega (arith, ints))
+    ∙ ap f (append_snoc left c (middle ++ (z ∷ right)))
 
 pub turned_past : (U : List ℕ → ℤ) → Turns U → (left middle right : List ℕ) (z : ℕ)
     → U (left ++ (z ∷ (middle ++ right))) ≡ minus_one_to (length middle) *ℤ U (left ++ (middle ++ (z ∷ right)))
-turned_past U t left [] right z = front (U (left ++ (z ∷ right)))
-  where
-    front : (x : ℤ) → x ≡ pos 1 *ℤ x
-    front x = omega (arith, ints)
+turned_past U t left [] right z = sym (one-product (U (left ++ (z ∷ right))))
 turned_past U t left (c ∷ middle) right z =
     t left z c (middle ++ right)
-    ∙ ap neg_ℤ (ap U (sym (pushed left c (z ∷ (middle ++ right))))
+    ∙ ap neg_ℤ (ap U (sym (append_snoc left c (z ∷ (middle ++ right))))
     ∙ turned_past U t (left ++ (c ∷ [])) middle right z
-    ∙ ap (λ l. minus_one_to (length middle) *ℤ U l) (pushed left c (middle ++ (z ∷ right))))
-    ∙ negated (minus_one_to (length middle)) (U (left ++ (c ∷ (middle ++ (z ∷ right)))))
+    ∙ ap (λ l. minus_one_to (length middle) *ℤ U l) (append_snoc left c (middle ++ (z ∷ right))))
+    ∙ sym (negation-product (minus_one_to (length middle)) (U (left ++ (c ∷ (middle ++ (z ∷ right))))))
 
 pub sign_twice : (k : ℕ) (x : ℤ) → minus_one_to k *ℤ (minus_one_to k *ℤ x) ≡ x
 sign_twice k x = elim (parity_of k) [ inl e ↦ ap (λ s. s *ℤ (s *ℤ x)) e.1 ∙ plain x | inr e ↦ ap (λ s. s *ℤ (s *ℤ x)) e.1 ∙ twice x ]
@@ -110,12 +102,9 @@ split (a ∷ front) z x rest l f h =
     let p = or_parts (a == z) (has z front) h in
     by p.0 (cases_lt a z) (cases_eq a z) (split front z x rest l (strict_tail a (front ++ (x ∷ rest)) f) p.1)
   where
-    first : (c : ℕ) (t : List ℕ) → FallsStrictly (a ∷ c ∷ t) → c < a
-    first c t g = g.0
-
     over : (left middle : List ℕ) → z < a → front ≡ left ++ middle → FallsStrictly (left ++ (z ∷ (middle ++ rest))) → FallsStrictly (a ∷ (left ++ (z ∷ (middle ++ rest))))
     over [] middle o e g = (o, g)
-    over (c ∷ left) middle o e g = (first c ((left ++ middle) ++ (x ∷ rest)) (subst (λ t. FallsStrictly (a ∷ (t ++ (x ∷ rest)))) e f), g)
+    over (c ∷ left) middle o e g = ((subst (λ t. FallsStrictly (a ∷ (t ++ (x ∷ rest)))) e f).0, g)
 
     by : (a == z) ≡ false → (a < z) ⊎ (z ≤ a) → (a ≡ z) ⊎ (a ≡ z → ⊥) → (left : List ℕ) × (middle : List ℕ) × (front ≡ left ++ middle) × FallsStrictly (left ++ (z ∷ (middle ++ rest)))
         → (left : List ℕ) × (middle : List ℕ) × (a ∷ front ≡ left ++ middle) × FallsStrictly (left ++ (z ∷ (middle ++ rest)))
@@ -157,7 +146,7 @@ length-raised k n b α l m = let q = raised_at k n b α l m in ap length q.4 ∙
     changed [] z x rest = refl
     changed (a ∷ front) z x rest = ap suc (changed front z x rest)
 
--- ---- each place of the raised entry occurs once
+-- `one_place k n` has no list twice
 
 pub once_one_place : (k n : ℕ) → 1 ≤ k → Once (one_place k n)
 once_one_place k zero h = tt
@@ -173,7 +162,7 @@ head_lost : (k c : ℕ) (b β : List ℕ) → 1 ≤ k → FallsStrictly (c ∷ b
 head_lost k c b β h f same =
     both_ways (has c ((c + k) ∷ b)) (has_past c (c + k) b (λ e. omega (arith, e, h)) ∙ not_below c c b f (omega arith)) (same c ∙ has_here c (c + 0) β (omega arith))
 
--- if the lists b raised at α and at β have no equal entries and give the same partition, then α is β
+-- if b is strictly decreasing, and b + α and b + β have no equal entries and consist of the same numbers, then α is β
 pub same_place : (k n : ℕ) (b α β : List ℕ) → 1 ≤ k → length b ≡ n → FallsStrictly b → Among α (one_place k n) → Among β (one_place k n)
     → has_equal_entries (join b α) ≡ false → has_equal_entries (join b β) ≡ false → ((x : ℕ) → has x (join b α) ≡ has x (join b β)) → α ≡ β
 same_place k zero b α β h l f m i d e same = absurd m

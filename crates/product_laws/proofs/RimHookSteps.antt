@@ -1,4 +1,4 @@
--- The relation of rim-hook reduction, one factor after another.
+-- The labels of classical products have no reductions by rim hooks other than those that are computed by remainders.
 use Rattle.std.proofs.Common.{◌≡◌, ◌≤◌, ℕ, List, [], ◌∷◌, refl, ap₂, inl, inr, ℤ}
 use Rattle.sym_model.specs.Sum.{Among}
 use Rattle.sym_model.specs.Partition.{IsPartition, rows}
@@ -9,7 +9,7 @@ use Rattle.alternant_laws.proofs.ClassicalProducts.{classical_product-term}
 use Rattle.beta_list_laws.specs.ReductionLists.{reductions_of}
 use Rattle.beta_list_laws.proofs.Ends.{reduces_only}
 
--- if a list of reductions belongs to the labels of the terms, it is the list of their reductions by remainders
+-- if all labels of the terms are partitions, the only list of reductions of these labels is that of their reductions by remainders
 are_only : (k n : ℕ) (terms : WholeTerms) (reductions : List Reduction) → 1 ≤ n → ((t : List ℕ × ℤ) → Among t terms → IsPartition t.0)
     → AreReductions k n terms reductions → reductions ≡ reductions_of k n terms
 are_only k n [] [] h p a = refl

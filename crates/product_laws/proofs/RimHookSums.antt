@@ -27,10 +27,10 @@ use Rattle.alternant_laws.proofs.SortedAlternants.{alternant-equal, from_beta-jo
 use Rattle.product_laws.specs.StripLists.{ListsEach, AddsRimHook}
 use Rattle.product_laws.proofs.StaircaseProducts.{strip_product}
 use Rattle.product_laws.proofs.Overlaps.{alternants_turn}
-use Rattle.product_laws.proofs.Pieri.{symmetric-monomials}
+use Rattle.schur_laws.proofs.SymmetricPolynomials.{symmetric-monomials}
 use Rattle.product_laws.proofs.RaisedEntries.{moved, turned_past, sign_twice, place_found, Raises, raises, length-raised, once_one_place, same_place}
 
--- μ + ρ in n places is the beta list of length n of μ
+-- for a partition μ with at most n rows, μ + ρ in n places is the beta list of length n
 beta_joined : (n : ℕ) (parts : List ℕ) → IsPartition parts → rows parts ≤ n → join parts (staircase n) ≡ beta n parts
 beta_joined n parts p h =
     ap₂ (λ l k. join l (staircase k)) (sym (from_beta-beta n parts p h)) (sym (length-beta n parts))
@@ -44,7 +44,8 @@ apart b α = not (has_equal_entries (join b α))
 abbrev pub raised_shape : List ℕ → List ℕ → List ℕ
 raised_shape b α = from_beta (sorted_falling (join b α))
 
--- if b + α has no equal entries for the beta list b of μ, then `raised_shape` is a partition from which μ is left by removing a rim hook of k cells
+-- if b + α has no equal entries, b being the beta list of `parts`, then `raised_shape` is a partition from which removing a rim hook of k cells
+-- leaves `parts`
 record Shows (n k : ℕ) (parts α : List ℕ) (φ : List ℕ → ℤ) : Type 0 where
   removal : IsRemoval k (raised_shape (beta n parts) α) parts
   partition : IsPartition (raised_shape (beta n parts) α)
@@ -103,7 +104,7 @@ shows n k parts α φ h p few m e = by (raises k n (beta n parts) α (length-bet
               ∙ ap (λ l. pair (alternant l) φ) (sym r.is));
         }
 
--- each rim hook is made by raising an entry
+-- each partition ν from which removing a rim hook of k cells leaves `parts` is made by raising an entry of the beta list of `parts`
 pub found : (n k : ℕ) (parts ν : List ℕ) → IsPartition parts → IsPartition ν → rows ν ≤ n → IsRemoval k ν parts
     → (α : List ℕ) × Among α (one_place k n) × (has_equal_entries (join (beta n parts) α) ≡ false) × (raised_shape (beta n parts) α ≡ ν)
 found n k parts ν p q few r =

@@ -20,7 +20,7 @@ use lib.IntN.{*ℤ-zero}
 use Rattle.strip_laws.proofs.Containment.{Holds-get_or}
 use Rattle.product_laws.proofs.StripShapes.{rows_held}
 
--- a_ρ times a product is an alternant times the other factor
+-- a_ρ·f·s_λ, for λ = `parts`, is the sum of c·a_(λ + ρ + α) over the terms c·x^α of f, by pairings with φ
 staircase_first : (n : ℕ) (parts : List ℕ) (f : Poly) (φ : List ℕ → ℤ) → IsPartition parts → rows parts ≤ n → In n f → Symmetric f
     → pair (times (alternant (staircase n)) (times f (schur parts n))) φ ≡ pair f (λ α. pair (alternant (join (join parts (staircase n)) α)) φ)
 staircase_first n parts f φ p h i s =
@@ -45,7 +45,7 @@ staircase_first n parts f φ p h i s =
         (Same_sym (times (times A S) f) (times A (times S f)) (times_assoc A S f))
         (times_respects (times A S) (alternant (join parts (staircase n))) f f (bialternant n parts p h) (Same_refl f)))
 
--- a sum of multiples of Schur polynomials is the product, if a_ρ times the sum is a_ρ times the product
+-- f·s_λ, for λ = `parts`, is the sum of c(ν)·s_ν over `list`, if a_ρ·f·s_λ is the sum of c(ν)·a_(ν + ρ) over the ν of `list` with at most n rows
 pub strip_product : (n : ℕ) (parts : List ℕ) (f : Poly) (h : List ℕ → Poly) (c : List ℕ → ℤ) (list : List (List ℕ)) → IsPartition parts → In n f → Symmetric f
     → ((ν : List ℕ) → In n (h ν)) → ((ν : List ℕ) (φ : List ℕ → ℤ) → pair (h ν) φ ≡ c ν *ℤ pair (schur ν n) φ)
     → ((ν : List ℕ) → Among ν list → IsPartition ν × Holds ν parts)

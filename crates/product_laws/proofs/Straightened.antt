@@ -1,6 +1,6 @@
 -- A sum of alternants as a sum over partitions.
 --     `straightened_sum`         the terms of the sum of c·a_b over a list of terms (b, c)
---     pair-straightened      both sums have the same pairings
+--     pair-straightened      a sum of alternants and its straightened sum have the same pairings
 --     pair-value             the pairing of the alternant of a strictly decreasing list with a test function is its value there
 use Rattle.std.proofs.Common.{◌≡◌, ◌⊎◌, ℕ, ◌<◌, ◌≤◌, Bool, true, false, ◌&&◌, cond, nat_lt, List, [], ◌∷◌, length, refl, sym, ◌∙◌, ap, subst, inl, inr, arith, ℤ, pos, ◌+ℤ◌, ◌*ℤ◌, flat_map}
 use Rattle.std.proofs.lemmas.Bool.{and_parts, cond-true, cond-false}

@@ -1,4 +1,4 @@
--- The number of strips and rim hooks of k cells around a partition.
+-- Bounds for the numbers of strips and of rim hooks of k cells that can be added to a partition.
 use Rattle.std.proofs.Common.{◌≡◌, ℕ, zero, suc, ◌+◌, ◌-◌, ◌*◌, ◌^◌, ◌≤◌, Bool, cond, List, [], ◌∷◌, map, length, refl, ◌∙◌, ap, subst, arith, length-append, pow-suc, flat_map}
 use Rattle.std.proofs.lemmas.Bool.{ne_eqb}
 use Rattle.std.proofs.lemmas.List.{length-map}
@@ -24,7 +24,7 @@ use Rattle.product_laws.proofs.RimHookSums.{raised_shape, found}
 use native.Mathlib.Nat.{mul-le-mul_right}
 use Rattle.strip_laws.proofs.Containment.{Holds-get_or}
 
--- ---- the exponent lists of n places with the sum d are at most n^d
+-- ---- there are at most n^d exponent lists of n places with the sum d
 
 next_power : (n p q s t : ℕ) → 1 ≤ p → s ≤ q → t ≤ p * (q * n) → s + t ≤ p * suc n * q
 next_power n p q s t h l m =

@@ -129,7 +129,7 @@ shapes_total n k parts p few test S sound complete held list l g =
         let e = (lists α i).0 in
         ap (λ z. row_lengths z m) (resize-without_last_zeros n (join m α) (wide α e)) ∙ less_join m α (length-resize n parts ∙ sym e)
 
--- ---- sums that are horizontal strips
+-- ---- exponents that add a horizontal strip to a list
 
 -- whether a_(i+1) + α_(i+1) is at most a_i for each i, so that the cells added form a horizontal strip
 abbrev pub keeps_below : List ℕ → List ℕ → Bool
@@ -209,7 +209,7 @@ horizontal_complete n parts α fall h e falls s = below_from (resize n parts) α
         let c = get-padded n parts k h in
         omega (arith, u, v, a, b, c)
 
--- ---- sums that are vertical strips
+-- ---- exponents that add a vertical strip to a list
 
 -- whether no exponent of α is greater than 1 and m + α is weakly decreasing, so that the cells added form a vertical strip
 abbrev pub adds_column : List ℕ → List ℕ → Bool

@@ -10,12 +10,13 @@ use Rattle.sym_model.specs.Reductions.{reduced_terms, reflected_terms}
 use Rattle.beta_list_laws.specs.ReductionLists.{reductions_of}
 use Rattle.sym_model.specs.ReductionSteps.{with_power}
 
--- each label replaced by its classical product with one more factor
+-- each label replaced by its classical product in k variables with `next`, times its coefficient
 abbrev pub multiplied : ℕ → List ℕ → WholeTerms → WholeTerms
 multiplied k next terms =
     flat_map (λ (t : List ℕ × ℤ). scale t.1 (classical_product k (t.0 ∷ next ∷ []))) terms
 
--- each label replaced by its classical product with one more factor, reflected into the alcove
+-- each label replaced by its classical product in k variables with `next`, times its coefficient, reflected into the
+-- alcove of level n - k
 abbrev pub fused : ℕ → ℕ → List ℕ → WholeTerms → WholeTerms
 fused k n next terms =
     flat_map (λ (t : List ℕ × ℤ). scale t.1
@@ -26,12 +27,13 @@ abbrev pub products_of : (List ℕ → Terms (List ℕ)) → WholeTerms → Whol
 products_of products terms =
     flat_map (λ (t : List ℕ × ℤ). scale t.1 (numerators (products t.0))) terms
 
--- the classical product with its labels reduced by rim hooks of n cells
+-- the classical product of the factors in k variables with its labels reduced by rim hooks of n cells
 abbrev pub reduced_product : ℕ → ℕ → List (List ℕ) → WholeTermsOf (ℕ × List ℕ)
 reduced_product k n factors =
     reduced_terms (classical_product k factors) (reductions_of k n (classical_product k factors))
 
--- each label replaced by its product with one more factor, reduced by rim hooks of n cells, with the powers added
+-- each label replaced by its product with `next` for k rows, reduced by rim hooks of n cells, times its coefficient,
+-- with the powers of q added
 abbrev pub quantized : ℕ → ℕ → List ℕ → WholeTermsOf (ℕ × List ℕ) → WholeTermsOf (ℕ × List ℕ)
 quantized k n next terms =
     flat_map (λ (t : (ℕ × List ℕ) × ℤ). with_power t.0.0 t.1

@@ -10,8 +10,9 @@ ghost use Rattle.sym_model.specs.Reductions.{IsRimHookReduction, reflected_terms
 ghost use Rattle.sym_model.specs.Products.{classical_product};
 ghost use Rattle.sym_model.specs.Partition.{ArePartitions};
 
-/// A list is the product of two factors or more, reduced after each factor, if and only if its
-/// terms are collected and it is the result of reducing the whole classical product once.
+/// A list is the product of two factors or more, reduced after each factor by rim hooks of n cells
+/// or by reflections into the alcove, if and only if its terms are collected (each label once, no
+/// coefficient 0) and it is the result of reducing the whole classical product once.
 /// Example: in two variables, with rim hooks of four cells, the product of (1) and (1) is (2) +
 /// (1,1), and its product with (1) is 2·(2,1) + (3); here (3) reduces to 0. The whole product, (3)
 /// + 2·(2,1), reduces to the same.

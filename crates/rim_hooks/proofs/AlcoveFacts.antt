@@ -1,4 +1,4 @@
--- The end of the reflections, computed by moving the entries into a window.
+-- The reduction into the alcove, computed by moving the entries of the beta list into a window of n numbers.
 use Rattle.std.proofs.Common.{◌≡◌, ℕ, zero, suc, ◌+◌, ◌-◌, ◌*◌, ◌/◌, ◌%◌, ◌<◌, ◌≤◌, ◌||◌, inl, inr, Bool, true, false, cond, nat_le, List, [], ◌∷◌, map, length, get_or, set, drop, replicate, refl, sym, ◌∙◌, ap, ap₂, subst, arith, ℤ, Option, Some, None, Fits, w16}
 use Rattle.std.proofs.lemmas.Bool.{cases_lt}
 use Rattle.std.proofs.lemmas.Bool.Decides.{nat_tests}
@@ -199,8 +199,8 @@ pub alcove_equal : (k n : ℕ) (shape b : List ℕ) → 1 ≤ n → rows shape �
 alcove_equal k n shape b h r l e d =
     sym (alcove_is k n shape r ∙ ap as_partition (alcove_none n (beta k shape) h (beta_strict k shape l.partition.falls) (ap (λ c. has_equal_entries (remainders n c)) (sym e) ∙ d)))
 
--- the numbers are the entries of the beta list b of `shape`, moved into the window from `start` on, in decreasing order, and `odd` is the parity of
--- sorting them
+-- the entries of the beta list b of `shape` differ modulo n, keep their sum when moved by multiples of n into the n numbers from `start`
+-- on, and are then in decreasing order `numbers`; `odd` is the parity of sorting them
 pub record HoldsWindow (k n start : ℕ) (shape b numbers : List ℕ) (odd : Bool) : Type 0 where
   pub entries : b ≡ beta k shape
   pub differ : has_equal_entries (remainders n b) ≡ false
@@ -282,7 +282,8 @@ alcove_some k n start shape b numbers end odd sign h r l w e s =
     ∙ ap (λ x. f x (sorting_sign (map (up n start) b))) (sym e)
     ∙ ap (f end) (sym (s ∙ w.turns)))
 
--- the partition of the moved entries is the reduction of `shape` into the alcove, with the sign of sorting them and of the alcove
+-- if the entries of the beta list b of `shape` differ modulo n, and keep their sum when moved by multiples of n into the n numbers from `start`
+-- on, the partition `end` of the moved entries is the reduction of `shape` into the alcove, with the sign of sorting them
 pub alcove_told : (k n start : ℕ) (shape b numbers end : List ℕ) (odd : Bool) (sign : ℤ) → 1 ≤ n → IsWithinLimits shape → HoldsWindow k n start shape b numbers odd
     → end ≡ from_beta numbers → sign ≡ sign_of odd → IsAlcoveOf k n shape end sign
 alcove_told k n start shape b numbers end odd sign h l w e s =

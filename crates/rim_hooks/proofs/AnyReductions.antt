@@ -1,5 +1,5 @@
 -- Sums of reductions do not depend on the order in which rim hooks are removed.
---     any_reductions         a list of fractions is the sum of some reductions of the classical product if and only if it is that of any
+--     any_reductions         a list of fractions that is the sum of some reductions of the classical product is the sum of any
 --     any_whole_reductions   a list of integers that is the sum of some reductions is the sum of any
 --     any_step_reductions    the reductions of the product with one more factor
 use Rattle.std.proofs.Common.{ℕ, ◌≤◌, List, sym, ◌∙◌, ap, subst}
@@ -28,7 +28,7 @@ any_reductions k n factors terms reductions h a r label =
     (classical_only k n factors r.reductions h r.reduce
     ∙ sym (classical_only k n factors reductions h a))
 
--- if a list of whole numbers is the sum of some reductions of the classical product, then it is the sum of any others
+-- if a list of integers is the sum of some reductions of the classical product, it is the sum of every list of reductions of that product
 pub any_whole_reductions : (k n : ℕ) (factors : List (List ℕ)) (terms : WholeTermsOf (ℕ × List ℕ))
     (reductions : List Reduction) → 1 ≤ n
     → AreReductions k n (classical_product k factors) reductions
@@ -39,7 +39,7 @@ any_whole_reductions k n factors terms reductions h a r =
     (reduced_terms (classical_product k factors) reductions)) (numerators-as_fractions terms)
     (any_reductions k n factors (as_fractions terms) reductions h a r)
 
--- if `next` is a step from `terms`, it is the sum of any reductions of the products with one more factor
+-- if `next` is a quantum step from `terms` with the factor, it has the sums of any reductions of the products of the terms with the factor
 pub any_step_reductions : (k n : ℕ) (factor : List ℕ) (terms next : WholeTermsOf (ℕ × List ℕ))
     (reductions : List (List Reduction)) → 1 ≤ n
     → ReduceEach k n factor terms reductions → IsQuantumStep k n factor terms next

@@ -1,6 +1,6 @@
 -- The classical product as a list of terms, and its weight.
---     classical_long_left, classical_long_right    it is empty if a factor has more rows than there are variables
---     weight_within       its weight is at least that of a canonical list with its coefficients
+--     classical_long_left, classical_long_right    the list of two factors is empty if one has more rows than there are variables
+--     weight_within       a canonical list with the same coefficients has absolute values that add up to at most the weight
 use Rattle.std.proofs.Common.{◌≡◌, ℕ, ◌<◌, ◌≤◌, cond, true, arith, nat_le, nat_lt, List, [], ◌∷◌, map, refl, ◌∙◌, ap, subst, ℤ, pos, filter}
 use Rattle.std.specs.Prelude.{nat_abs}
 use Rattle.std.proofs.lemmas.Bool.{and_parts}
@@ -41,7 +41,7 @@ once_canonical terms c =
 
 -- ---- the coefficients of the classical product
 
--- if each coefficient f is 0, no term is left
+-- if f is 0 at each partition, the list of the terms (μ, f(μ)) without those with the coefficient 0 is empty
 all_zero : (f : List ℕ → ℤ) → ((parts : List ℕ) → f parts ≡ pos 0) → (shapes : List (List ℕ)) → (let pairs : WholeTerms = map (λ (parts : List ℕ). (parts, f parts)) shapes in nonzero pairs) ≡ []
 all_zero f z [] = refl
 all_zero f z (parts ∷ shapes) =

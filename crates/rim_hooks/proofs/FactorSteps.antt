@@ -1,5 +1,5 @@
 -- Steps from factor to factor, for any kind of step.
---     vanishes            if a factor has more than k rows, the steps can lead to 0
+--     vanishes            if a factor has more than k rows, steps can lead to the empty list
 --     factor_at           the factors from the place i on are the one at i, and those after it
 --     lead_on, heavy_here, heavy_later    steps through all factors from one step and the steps after it
 use Rattle.std.proofs.Common.{◌≡◌, ◌⊎◌, ℕ, ◌+◌, ◌^◌, ◌<◌, ◌≤◌, List, [], ◌∷◌, suc, drop, drop-cons, add-one, refl, sym, ◌∙◌, ap, subst, inl, inr, arith, Some}

@@ -1,4 +1,5 @@
--- The lowest list, computed from the last entry to the first, with counts of remainders.
+-- The lowest list (each entry lowered by multiples of n as far as they stay different), computed from the last entry to
+-- the first, with counts of remainders.
 use Rattle.std.proofs.Common.{◌≡◌, ℕ, zero, suc, ◌+◌, ◌-◌, ◌*◌, ◌%◌, ◌<◌, ◌≤◌, ◌⊎◌, inl, inr, List, [], ◌∷◌, length, get_or, set, drop, replicate, refl, sym, ◌∙◌, ap, subst, arith}
 use Rattle.std.proofs.lemmas.Bool.{cases_eq}
 use Rattle.std.proofs.lemmas.List.{get_or-set_same, get_or-set_other, get_or-replicate, length-set, length-replicate}
@@ -67,7 +68,7 @@ count_more n table b x at h m e c = record {
         ∙ c.counts r l
         ∙ sym (alike-past n r x b (λ g. d (sym (mod-eq_of_lt l) ∙ sym g ∙ sym e)))
 
--- the table gives an entry the number of later entries with its remainder
+-- the table has, at the remainder `at` of x modulo n, the number of entries of b with this remainder
 pub count_found : (n : ℕ) (table b : List ℕ) (x at : ℕ) → 1 ≤ n → at ≡ x % n → Counts n table b → get_or table at 0 ≡ alike n x b
 count_found n table b x at h e c =
     let k = mod-lt x h in

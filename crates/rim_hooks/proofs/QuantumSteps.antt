@@ -1,5 +1,5 @@
 -- Quantum products in steps.
---     quantum_none         if a factor has more than k rows, steps can lead to 0
+--     quantum_none         if one of at least two factors has more than k rows, steps lead to the empty list
 use Rattle.std.proofs.Common.{◌≡◌, ◌⊎◌, ℕ, ◌<◌, ◌≤◌, List, [], ◌∷◌, ◌++◌, length, refl, sym, ◌∙◌, ap, subst, inl, inr, arith, pos}
 use Rattle.sym_model.specs.Sum.{Among}
 use Rattle.sym_model.specs.Partition.{IsPartition, rows, ArePartitions}

@@ -2,8 +2,8 @@
 --     mass_multiplied     the mass of the next list is at most the weight of the step
 --     gains_classical     a list with the coefficients of the classical product may be replaced by it
 --     overflow_taken, overflow_list    overflows in the product of a label and a factor
---     heavy_step          a step with an overflow is heavy
---     room_next           the labels of the next list have room
+--     heavy_step          a step with an overflow has a weight of 2^127 or more
+--     room_next           the labels of the next list have room for the cells of the further factors
 use Rattle.std.proofs.Common.{◌≡◌, ℕ, zero, suc, ◌+◌, ◌*◌, ◌^◌, ◌≤◌, Bool, true, cond, List, [], ◌∷◌, ◌++◌, append-nil, length, map, refl, sym, ◌∙◌, ap, subst, inl, inr, arith, ℤ, pos, ◌*ℤ◌, Some}
 use Rattle.std.specs.Prelude.{nat_abs, slice_get}
 use Rattle.std.specs.Cmp.{IsEquivalence}
@@ -66,8 +66,8 @@ module _ {L : Type 0} (k : ℕ) (shape : L → List ℕ) (reduced : L → List �
       let d = mass_multiplied factor terms in
       omega arith
 
-  -- if c times the reductions of a list overflows, and the list has a mass of at most w, a list of mass at most
-  -- |c|·w overflows
+  -- if adding c times the reductions of a list overflows, and the absolute values of its coefficients add up to at most w, adding some list
+  -- of which they add up to at most |c|·w overflows
   pub overflow_list : (eq : L → L → Bool) (old : WholeTermsOf L) (l : L) (c : ℤ) (list : WholeTerms) (w : ℕ) → mass list ≤ w
       → Overflows eq old (scaled c (replaced (reduced l) list)) → OverflowsWithin eq old (nat_abs c * w)
   overflow_list eq old l c list w h o =
@@ -76,8 +76,8 @@ module _ {L : Type 0} (k : ℕ) (shape : L → List ℕ) (reduced : L → List �
       let d = mul-le-mul_left (nat_abs c) b in
       (scaled c (replaced (reduced l) list), omega arith, o)
 
-  -- if a list has the coefficients of the classical product of the label and the factor, gains of its reductions are gains of those of the classical
-  -- product
+  -- if a list has the coefficients of the classical product of a label and a factor, adding c times the reductions of its terms adds c times
+  -- those of the product
   pub gains_classical : (old new : WholeTermsOf L) (l : L) (c : ℤ) (factor : List ℕ) (list : WholeTerms) → Same list (classical_product k (shape l ∷ factor ∷ []))
       → Gains old (scaled c (replaced (reduced l) list)) new → Gains old (scaled c (products k shape reduced factor l)) new
   gains_classical old new l c factor list s =
@@ -88,7 +88,7 @@ module _ {L : Type 0} (k : ℕ) (shape : L → List ℕ) (reduced : L → List �
       ∙ ap (λ z. c *ℤ z) (replaced_over (reduced l) φ list ∙ sums_same list product s (λ μ. over φ (reduced l μ)) ∙ sym (replaced_over (reduced l) φ product))
       ∙ sym (scaled_over c φ (products k shape reduced factor l)))
 
-  -- if adding the reduced product of one label overflows, the step has a weight of 2^127 or more
+  -- if adding the reduced product of the term p to those of the terms before it overflows, the step has a weight of 2^127 or more
   pub heavy_step : (eq : L → L → Bool) (factor : List ℕ) (done : WholeTermsOf L) (p : L × ℤ) (rest terms cur : WholeTermsOf L) → done ++ p ∷ rest ≡ terms
       → Gains [] (multiplied k shape reduced factor done) cur → OverflowsWithin eq cur (nat_abs p.1 * classical_weight k (shape p.0 ∷ factor ∷ []))
       → 2 ^ 127 ≤ step_weight shape k factor terms
@@ -101,7 +101,7 @@ module _ {L : Type 0} (k : ℕ) (shape : L → List ℕ) (reduced : L → List �
       let m = o.1 in
       omega arith
 
-  -- if a label has room for |μ| more cells, the labels of its reduced product with μ have room for the further factors
+  -- if cells(l) + |factor| + more ≤ 4096, each label m of the reduced product of l and the factor has at most k rows and cells(m) + more ≤ 4096
   module _ (cells : L → ℕ)
       (room : (l : L) (μ : List ℕ) → IsPartition μ → rows μ ≤ k → HaveLabels (λ m. (rows (shape m) ≤ k) × (cells m + size (shape l) ≤ cells l + size μ)) (reduced l μ)) where
     fits : (factor : List ℕ) (more : ℕ) (l : L) → cells l + (size factor + more) ≤ 4096 → HaveLabels (λ m. (rows (shape m) ≤ k) × (cells m + more ≤ 4096)) (products k shape reduced factor l)
@@ -127,7 +127,7 @@ module _ {L : Type 0} (k : ℕ) (shape : L → List ℕ) (reduced : L → List �
           (labels_replaced (products k shape reduced factor) (λ m. (rows (shape m) ≤ k) × (cells m + more ≤ 4096)) terms (λ t n. let r = h t n in fits factor more t.0 r.1))
           gains is
 
--- some list with a mass of at most a·w overflows if w, the weight of a classical product, is at least 2^127
+-- if w ≥ 2^127 and a ≥ 1, adding some list whose absolute values add up to at most a·w overflows
 pub overflow_taken : {L : Type 0} {eq : L → L → Bool} (laws : IsEquivalence eq) (same : (x y : L) → eq x y ≡ true → x ≡ y) (old : WholeTermsOf L) (l : L) (a w : ℕ)
     → 1 ≤ a → 2 ^ 127 ≤ w → OverflowsWithin eq old (a * w)
 overflow_taken laws same old l a w some large =
@@ -143,7 +143,7 @@ overflow_one eq old l c e large = let h = ap (λ b. cond b (nat_abs c) 0) e in (
 pub reductions_append : {K L : Type 0} (c : ℤ) (image : K → WholeTermsOf L) (xs ys : WholeTermsOf K) → scaled c (replaced image (xs ++ ys)) ≡ scaled c (replaced image xs) ++ scaled c (replaced image ys)
 reductions_append c image xs ys = ap (scaled c) (replaced_append image xs ys) ∙ scaled_append c (replaced image xs) (replaced image ys)
 
--- the labels of a list, read as fractions with few rows, have few rows
+-- if all labels of a list, read as fractions, have at most k rows, so have the labels of the list of integers
 pub rows_listed : (k : ℕ) (list : WholeTerms) → ((t : List ℕ × Fraction) → Among t (as_fractions list) → rows t.0 ≤ k) → HaveLabels (λ μ. rows μ ≤ k) list
 rows_listed k list h t m = h (t.0, (t.1, 1)) (Among-map (λ (u : List ℕ × ℤ). let term : List ℕ × Fraction = (u.0, (u.1, 1)) in term) t list m)
 
@@ -158,7 +158,7 @@ few_at k (y ∷ factors) (suc at) x e f = few_at k factors at x e (λ parts m. f
 
 -- ---- the step from the first factor to the product of two
 
--- the list whose only label is that of the first factor, with the coefficient 1
+-- the step with the factor `second` from the list of l, with the coefficient 1, gives the reduced product of l and `second`
 module _ {L : Type 0} (k : ℕ) (shape : L → List ℕ) (reduced : L → List ℕ → WholeTermsOf L) (l : L) (second : List ℕ) (one : ℤ) (is : one ≡ pos 1) where
   pub gains_first : (new : WholeTermsOf L) → Gains [] (scaled one (products k shape reduced second l)) new → Gains [] (multiplied k shape reduced second ((l, pos 1) ∷ [])) new
   gains_first new a = subst (λ z. Gains [] z new) (ap (λ z. scaled z (products k shape reduced second l)) is ∙ sym (append-nil (scaled (pos 1) (products k shape reduced second l)))) a
@@ -170,14 +170,14 @@ module _ {L : Type 0} (k : ℕ) (shape : L → List ℕ) (reduced : L → List �
       let b : nat_abs one * classical_weight k (shape l ∷ second ∷ []) ≡ 1 * classical_weight k (shape l ∷ second ∷ []) = ap (λ z. nat_abs z * classical_weight k (shape l ∷ second ∷ [])) is in
       omega arith
 
--- if steps lead to `last`, they lead to each list with the same sums, such as the sorted one
+-- if each step to `last` is also one to `other`, and steps through at least two factors lead to `last`, they also lead to `other`
 pub leads_sorted : {L : Type 0} (step : List ℕ → WholeTermsOf L → WholeTermsOf L → Type 0) (start : List ℕ → L) (factors : List (List ℕ)) (last other : WholeTermsOf L) → 2 ≤ length factors
     → ((factor : List ℕ) (terms : WholeTermsOf L) → step factor terms last → step factor terms other) → LeadsTo step start factors last → LeadsTo step start factors other
 leads_sorted step start [] last other l e s = absurd (omega arith)
 leads_sorted step start (first ∷ []) last other l e s = absurd (omega arith)
 leads_sorted step start (first ∷ second ∷ factors) last other l e s = last_changed step last other e factors second ((start first, pos 1) ∷ []) s
 
--- a label of a canonical list is within the limits
+-- a label of a canonical list has at most 4096 cells
 pub label_small : (terms : WholeTerms) → IsCanonicalList printed_order is_label whole terms → (t : List ℕ × ℤ) → Among t terms → size t.0 ≤ 4096
 label_small terms c t m =
     (is_label-tells t.0 (and_parts (is_reduced (whole t.1)) (is_label t.0) (term-among is_label whole terms (and_parts (is_ordered printed_order terms) (are_terms whole is_label terms) c).1 t m)).1).size

@@ -4,8 +4,9 @@ use Rattle.sym_model.specs.BetaList.{beta, has_equal_entries, sorting_sign}
 use Rattle.beta_list_laws.specs.AlcoveEnd.{remainders, match_in, IsAlcoveEnd}
 
 -- no two entries of the beta list of shape have the same remainder modulo n; the beta list of end is the only
--- strictly decreasing list with the same sum, the same remainders and a spread below n; and the sign is that of the
--- order in which the entries of one list are matched with those of the other
+-- strictly decreasing list with the same sum and the same remainders whose first entry minus its last is below n;
+-- and the sign is that of the order in which the entries of the one list are matched with those of the other, by
+-- their remainders
 pub record IsAlcoveOf (k n : ℕ) (shape end : List ℕ) (sign : ℤ) : Type 0 where
   pub differ : has_equal_entries (remainders n (beta k shape)) ≡ false
   pub ends : IsAlcoveEnd n (beta k shape) (beta k end)

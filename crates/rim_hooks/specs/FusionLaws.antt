@@ -50,7 +50,7 @@ shape_light k n label μ = by (alcove_reduction k n μ) (alcove_is k n μ)
 abbrev pub ShapeFits : ℕ → ℕ → List ℕ → Type 0
 ShapeFits k most shape = (rows shape ≤ k) × (size shape ≤ most)
 
--- a reflection has at most k rows and keeps the size
+-- the partition at the end of the reflections, if there is one, has at most k rows and at most `most` cells
 abbrev pub EndFits : ℕ → ℕ → Option (List ℕ × ℤ) → Type 0
 EndFits k most None = Unit {0}
 EndFits k most (Some end) = ShapeFits k most end.0

@@ -6,13 +6,13 @@ use Rattle.sym_model.specs.PrintedBlock.{read_by}
 use Rattle.sym_model.specs.ReductionSteps.{IsReducedInSteps, IsReflectedInSteps}
 use Rattle.sym_model.specs.WholeTerms.{numerators}
 
--- the block reads back as a list that results from reducing by rim hooks of n cells after each factor
+-- the text reads back as the quantum product of the factors in k variables, reduced by rim hooks of n cells after each factor
 pub record ReadsReducedInSteps (k n : ℕ) (factors : List (List ℕ)) (text : List ℕ) : Type 0 where
   pub terms : Terms (ℕ × List ℕ)
   pub reads : read_by (label_rules powers) text ≡ Some terms
   pub steps : IsReducedInSteps k n factors (numerators terms)
 
--- the block reads back as a list that results from reflecting into the alcove of level n - k after each factor
+-- the text reads back as the fusion product of the factors in k variables, reflected into the alcove of level n - k after each factor
 pub record ReadsReflectedInSteps (k n : ℕ) (factors : List (List ℕ)) (text : List ℕ) : Type 0 where
   pub terms : Terms (List ℕ)
   pub reads : read_by (label_rules product) text ≡ Some terms

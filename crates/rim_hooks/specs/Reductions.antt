@@ -17,18 +17,17 @@ abbrev pub multiplied : {L : Type 0} → ℕ → (L → List ℕ) → (L → Lis
     → WholeTermsOf L → WholeTermsOf L
 multiplied k shape reduced factor terms = replaced (products k shape reduced factor) terms
 
--- each shape has at most k rows, and each label with `more` cells added has at most 4096
+-- each shape has at most k rows, and the number of cells of each label plus `more` is at most 4096
 abbrev pub HaveRoom : {L : Type 0} → ℕ → (L → List ℕ) → (L → ℕ) → ℕ → WholeTermsOf L → Type 0
 HaveRoom k shape cells more terms =
     HaveLabels (λ l. (rows (shape l) ≤ k) × (cells l + more ≤ 4096)) terms
 
--- one of the steps from the label of the first factor through the others has a weight of 2^127 or
--- more
+-- one of the steps from the label of the first factor through the factors after it has a weight of 2^127 or more
 abbrev pub IsHeavyFrom : {L : Type 0} → (L → List ℕ)
     → (List ℕ → WholeTermsOf L → WholeTermsOf L → Type 0) → (List ℕ → L) → ℕ → List (List ℕ)
     → Type 0
 IsHeavyFrom shape step start k factors = HasHeavy (IsWeightFrom shape step start k factors)
 
--- some list whose absolute values add up to at most `most` overflows when it is added
+-- adding some list, whose absolute values add up to at most `most`, to the table `old` overflows
 abbrev pub OverflowsWithin : {L : Type 0} → (L → L → Bool) → WholeTermsOf L → ℕ → Type 0
 OverflowsWithin {L} eq old most = (g : WholeTermsOf L) × (mass g ≤ most) × Overflows eq old g

@@ -1,4 +1,5 @@
--- Tables of integers as the lists of a step: they are collected, and determined by their sums.
+-- Tables of integers as the lists of a step: each label occurs once, with a coefficient other than 0, and sums
+-- determine the coefficients.
 use Rattle.std.proofs.Common.{◌≡◌, Bool, true, false, cond, ◌&&◌, [], ◌∷◌, sym, ◌∙◌, ap, ℤ, pos}
 use Rattle.std.proofs.Common.{◌*ℤ◌, subst, inl, inr, arith}
 use Rattle.std.specs.List.{IsDistinct, AllByRecursion}
@@ -46,7 +47,7 @@ module _ {L : Type 0} (eq test : L → L → Bool) (eq_true : (a b : L) → eq a
         collected is_label terms (IsDistinct-tail eq t.0 (keys_of terms) d) here.1,
       )
 
-  -- the terms of a table are collected
+  -- each label of a table occurs once, with a coefficient other than 0
   pub collected_table : (is_label : L → Bool) (terms : WholeTermsOf L)
       → IsCombination eq is_label whole terms → AreCollected test terms
   collected_table is_label terms c = collected is_label terms c.distinct c.proper
@@ -71,7 +72,7 @@ same_by {L} test first second e label =
     by_over test first label ∙ e (λ l. cond (test l label) (pos 1) (pos 0))
     ∙ sym (by_over test second label)
 
--- a table that was empty and gained the terms `gained` has their sums
+-- if an empty table gains the terms `gained`, the sum of c·φ(label) over the new table is that over `gained`
 pub sums_gained : {L : Type 0} (gained new : WholeTermsOf L) → Gains [] gained new → (φ : L → ℤ)
     → over φ new ≡ over φ gained
 sums_gained gained new a φ = let s = a.sums φ in omega (arith, ints)

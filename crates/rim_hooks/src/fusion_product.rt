@@ -95,11 +95,12 @@ impl Reduction<Partition> for Reflections {
 
 /// The fusion product of the factors for partitions with at most `rows` rows at a level: the
 /// product of their Schur polynomials in `rows` variables, with each term reflected into the alcove
-/// of that level. It is reflected after each factor. It is 0 if a factor has more than `rows` rows.
+/// of that level. `rows` and the level are from 1 to 64. Terms are reflected after each factor. The
+/// product is 0 if a factor has more than `rows` rows.
 ///
 /// Returns `Large` only if a weight of a step is 2^127 or more: the sum, over the terms of the
 /// product so far, of the absolute value of the coefficient times the sum of the coefficients of
-/// the product of the shape and the next factor.
+/// the classical product of the shape and the next factor.
 pub fn fusion(
     alloc: Global,
     factors: &Factors,

@@ -1,24 +1,26 @@
 //! Reductions of partitions by rim hooks and into the alcove, and quantum and fusion products of
 //! two to eight Schur classes, which are reduced after each factor.
 //!
-//! Laws of quantum and fusion products: the order in which rim hooks are removed does not matter,
-//! and the text of such a product as a result of reducing after each factor.
+//! Two laws of these products: the order in which rim hooks are removed does not matter, and a text
+//! reads back as such a product if and only if it reads back as a result of reducing after each
+//! factor.
 //!
 //! A law function has an empty body: its contract is the law.
 //!
 //! What is proved:
 //!
-//! `core_of`: the end of the removals of rim hooks, with sign and power, for any order of the
-//! removals. `alcove_of`: the reduction into the alcove, which is 0 if and only if two entries of
-//! the beta list have the same remainder. `quantum`, `fusion`: the reductions of the classical
-//! product of 2 to 8 factors, computed by reducing after each factor, by one function with the
-//! `Reduction` as a parameter; those of `quantum` are the same whichever rim hooks are removed
-//! first. `Large` is returned only if a step weight is 2^127 or more.
+//! `core_of` gives the partition that is left after removing rim hooks as long as possible, with
+//! sign and number of removals, whatever their order. `alcove_of` gives the reduction into the
+//! alcove, which is 0 if and only if two entries of the beta list have the same remainder.
+//! `quantum` and `fusion` give the reductions of the classical product of 2 to 8 factors, computed
+//! by reducing after each factor, by one function with the `Reduction` as a parameter; those of
+//! `quantum` are the same whichever rim hooks are removed first. `Large` is returned only if the
+//! weight of a step, which `quantum` defines, is 2^127 or more.
 //!
-//! `removal_order_law`: a quantum product is the sum of the reductions of its classical product,
-//! whichever rim hooks are removed first, for the whole product and for one more factor.
-//! `printed_steps_law`: a text reads back as the answer to `quantum` or `fusion` if and only if it
-//! reads back as a list that results from reducing after each factor.
+//! `removal_order_law` says that a quantum product is the sum of the reductions of its classical
+//! product, whichever rim hooks are removed first, for the whole product and for one more factor.
+//! `printed_steps_law` says that a text reads back as the answer to `quantum` or `fusion` if and
+//! only if it reads back as a list that results from reducing after each factor.
 #![tactic(auto)]
 
 mod collecting;

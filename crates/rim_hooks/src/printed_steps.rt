@@ -6,9 +6,9 @@ ghost use Rattle.sym_model.specs.Headline.{ReadsBack};
 ghost use Rattle.rim_hooks.specs.PrintedSteps.{ReadsReducedInSteps, ReadsReflectedInSteps};
 ghost use Rattle.sym_model.specs.Partition.{ArePartitions};
 
-/// The headline of `quantum` and of `fusion`, factor by factor: a text reads back as a canonical
-/// list that is the answer to the command if and only if it reads back as a list that results from
-/// reducing after each factor.
+/// The main statement of `quantum` and of `fusion`, factor by factor: a text reads back as a
+/// canonical list that is the answer to the command if and only if it reads back as a list that
+/// results from reducing after each factor.
 ///
 /// Example: the answer to `quantum 2 2 1 - 1 - 1 - 1` is the reduction of the classical product (4)
 /// + 3·(3,1) + 2·(2,2); the steps (2) + (1,1) and 2·(2,1), since (3) reduces to 0, lead to the same

@@ -104,12 +104,12 @@ impl Reduction<Power> for RimHooks {
 
 /// The quantum product of the factors for partitions with at most `rows` rows and `cols` columns:
 /// the product of their Schur polynomials in `rows` variables, with each term reduced by rim hooks
-/// of `rows + cols` cells. It is reduced after each factor. It is 0 if a factor has more than
-/// `rows` rows.
+/// of `rows + cols` cells. `rows` and `cols` are from 1 to 64. Terms are reduced after each factor.
+/// The product is 0 if a factor has more than `rows` rows.
 ///
 /// Returns `Large` only if a weight of a step is 2^127 or more: the sum, over the terms of the
 /// product so far, of the absolute value of the coefficient times the sum of the coefficients of
-/// the product of the shape and the next factor.
+/// the classical product of the shape and the next factor.
 pub fn quantum(
     alloc: Global,
     factors: &Factors,

@@ -15,7 +15,7 @@ use std::alloc::Global;
 /// A reduction of shapes, and the labels of the reduced terms: each shape of the product of a label
 /// and a factor becomes one label with a sign, or nothing.
 pub(crate) trait Reduction<L: Label> {
-    // The numbers of variables and of cells are within their limits.
+    // The parameters of the reduction are within their limits.
     ghost is_rule: { Self → Type 0 };
 
     // The number of variables.
@@ -33,7 +33,7 @@ pub(crate) trait Reduction<L: Label> {
     // The reduced term, or none, for a label and a shape of its product with a factor.
     ghost reduced: { Self → L → List ℕ → List (L × ℤ) };
 
-    // The second list follows from the first by multiplying with one more factor.
+    // The second list is the reduced product of the first and one more factor.
     ghost step: { Self → List ℕ → List (L × ℤ) → List (L × ℤ) → Type 0 };
 
     /// The number of variables.
@@ -49,7 +49,8 @@ pub(crate) trait Reduction<L: Label> {
         ensures { IfOk result (λ label. label ≡ start first.now) };
 
     /// Adds c·d times the reduced term for a label and the shape `grown` of its product with a
-    /// factor, in which `grown` has the coefficient `d`. Returns `Large` only if this overflows.
+    /// factor, in which `grown` has the coefficient `d`. Returns `Large` only if adding this term
+    /// overflows.
     fn add_reduced(
         &self,
         alloc: Global,

@@ -16,7 +16,7 @@ use calc_base::NoMemory;
 use partitions::Partition;
 use std::alloc::Global;
 
-/// The end of the reflections of a partition.
+/// The result of reflecting a partition into the alcove.
 #[derive(Debug, Drop)]
 pub struct Alcove {
     /// The resulting partition.
@@ -26,7 +26,8 @@ pub struct Alcove {
 }
 
 /// The partition with at most `k` rows to which `shape` reduces in the alcove of level `n - k`,
-/// with its sign; `None` if and only if the reduction is 0.
+/// with its sign; `None` if and only if the reduction is 0. `shape` must have at most `k` rows, and
+/// 1 ≤ k < n ≤ 512.
 pub fn alcove_of(
     alloc: Global,
     shape: &Partition,
@@ -56,8 +57,8 @@ pub fn alcove_of(
     }))
 }
 
-/// Counts of remainders that are all different, and the sum of the quotients of the entries by the
-/// modulus.
+/// For entries whose remainders modulo `n` all differ: the number of times that each remainder
+/// occurs (0 or 1), and the sum of the quotients of the entries by `n`.
 struct Turns {
     counts: [u16; MAX_CELLS],
     turns: u32,
@@ -84,8 +85,8 @@ fn turns_of(entries: &[u16], n: u16) -> Option<Turns>
     Some(Turns { counts, turns })
 }
 
-/// The first number of the window of `n` numbers into which the entries can be moved with the same
-/// sum; `None` if and only if two entries have the same remainder.
+/// The first number of the window of `n` numbers into which the entries can be moved by multiples
+/// of `n` with the same sum; `None` if and only if two entries have the same remainder.
 fn window_start(entries: &[u16], n: u16) -> Option<u32>
     requires few { (1 ≤ length entries.now) × (length entries.now ≤ 512) }
     requires cells { (2 ≤ n) × (n ≤ 512) }
@@ -105,7 +106,8 @@ fn window_start(entries: &[u16], n: u16) -> Option<u32>
     Some(start)
 }
 
-/// The entries, moved by multiples of `n` into the window, in decreasing order.
+/// The entries, each moved by a multiple of `n` to one of the numbers start, .., start + n - 1, in
+/// decreasing order.
 fn raised_entries(alloc: Global, entries: &[u16], n: u16, start: u32) -> Result<Sorted, NoMemory>
     requires { (1 ≤ n) × (start + n ≤ 65536) }
     ensures { IfOk result (λ sorted. Sorts sorted (map (up n start) entries.now)) }

@@ -11,11 +11,13 @@ ghost use Rattle.sym_model.specs.WholeTerms.{WholeTermsOf, numerators, same_powe
 ghost use Rattle.rim_hooks.specs.AnyOrder.{HaveSameSums};
 
 /// The order in which rim hooks are removed does not matter in a quantum product: a list is the sum
-/// of some reductions of the classical product if and only if it is the sum of any. The same holds
-/// for one more factor in a product that is reduced after each factor.
+/// of some reductions of the classical product if and only if it is the sum of every list of
+/// reductions of that product. The same holds for one more factor in a product that is reduced
+/// after each factor.
 ///
 /// Example: from (2,2), rim hooks of two cells remove the second column or the second row first,
-/// and then the rest. Both ways end with the empty partition, q^2 and the sign 1 for two rows.
+/// and then the two cells that remain. Both ways end with the empty partition, q^2 and the sign 1
+/// for two rows.
 pub fn removal_order_law()
     ensures whole { (k n : ℕ) (factors : List (List ℕ)) (terms : Terms (ℕ × List ℕ))
         (reductions : List Reduction) → 1 ≤ n

@@ -16,20 +16,21 @@ use calc_base::NoMemory;
 use partitions::Partition;
 use std::alloc::Global;
 
-/// The end of the removals of rim hooks from a partition.
+/// The result of removing rim hooks from a partition as long as possible.
 #[derive(Debug, Drop)]
 pub struct Core {
     /// The resulting partition.
     pub shape: Partition,
-    /// The product of the signs, 1 or -1.
+    /// The product of the signs of the removed rim hooks, 1 or -1.
     pub sign: i8,
     /// The number of removals.
     pub power: u32,
 }
 
-/// The partition with at most `k` rows that is left after removing rim hooks of `n` cells from
-/// `shape` as long as possible, with its sign and the number of removals; `None` if and only if it
-/// has more than `n - k` columns. The order of the removals does not matter.
+/// The partition that is left after removing rim hooks of `n` cells from `shape` as long as
+/// possible, with its sign and the number of removals; `None` if and only if the partition that is
+/// left has more than `n - k` columns. The order of the removals does not matter. `shape` must have
+/// at most `k` rows, and 1 ≤ k < n ≤ 512.
 pub fn core_of(alloc: Global, shape: &Partition, k: u16, n: u16) -> Result<Option<Core>, NoMemory>
     requires rows { (rows shape.now ≤ k) × (1 ≤ k) }
     requires cells { (k < n) × (n ≤ 512) }
@@ -56,15 +57,16 @@ pub fn core_of(alloc: Global, shape: &Partition, k: u16, n: u16) -> Result<Optio
     }))
 }
 
-/// Whether `power` removals change the sign: each has the sign (-1)^(k + 1) and that of the
-/// exchanges that sort its entries.
+/// Whether the factors (-1)^(k + 1) of `power` removals multiply to -1. The sign of the exchanges
+/// that sort the entries is not counted here.
 fn turns_the_sign(power: u16, k: u16) -> bool
     ensures { sign_of result ≡ minus_one_to (power * (k + 1)) }
 {
     is_odd(usize::from(power) * (usize::from(k) + 1))
 }
 
-/// The entries, each lowered by multiples of `n` as far as there is room, in decreasing order.
+/// The entries, lowered by multiples of `n` as far as possible so that they stay different, in
+/// decreasing order.
 fn lowest_entries(alloc: Global, entries: &[u16], n: u16) -> Result<Sorted, NoMemory>
     requires strict { FallsStrictly entries.now }
     requires cells { (2 ≤ n) × (n ≤ 512) }

@@ -21,7 +21,8 @@ use lr_product::mult;
 use partitions::{Factors, Partition};
 use std::alloc::Global;
 
-/// Adds the reduced terms for a label and each shape of a list, times `c`.
+/// Adds, for each of the terms, `c` times its coefficient times the reduced term for the label and
+/// the shape of the term.
 fn add_reductions<L: Label, R: Reduction<L>>(
     alloc: Global,
     rule: &R,

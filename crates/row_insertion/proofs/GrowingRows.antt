@@ -69,7 +69,7 @@ end-new (suc i) k (row ∷ rows) h = ap (λ (l : List (List ℕ)). row ∷ l) (e
 
 -- ---- insertion, row by row
 
--- inserting `first` into `start` gives the rows before i of `rows`, followed by those from i on with `letter` inserted
+-- inserting `first` into `start` gives the rows before i of `rows`, followed by those from i on with `letter` inserted, and adds a cell in the same row
 pub record IsInserting (start : List (List ℕ)) (first i : ℕ) (rows : List (List ℕ)) (letter : ℕ) : Type 0 where
   pub rest : inserted start (Some first) ≡ take i rows ++ inserted (drop i rows) (Some letter)
   pub row : grown (shape_of (inserted start (Some first))) (shape_of start)

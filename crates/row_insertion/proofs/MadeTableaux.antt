@@ -1,4 +1,4 @@
--- Tableaux from rows that are those of a tableau, and rows copied from tableaux.
+-- Tableaux made from their rows, and rows copied from tableaux.
 use Rattle.std.proofs.Common.{◌≡◌, ℕ, zero, suc, ◌+◌, ◌-◌, ◌<◌, ◌≤◌, true, List, [], ◌∷◌, ◌++◌, length, take, drop, get_or, reverse, Vec, ◌∙◌, ap, ap₂, sym, refl, arith, append-nil}
 use Rattle.std.specs.declared.alloc.Global.{Global}
 use Rattle.std.proofs.lemmas.Bool.{and_from}

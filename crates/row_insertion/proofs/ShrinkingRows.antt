@@ -101,7 +101,8 @@ back_at b (suc i) (a ∷ c ∷ row) l h e =
 
 -- ---- the letter moving up through the rows
 
--- the letter has moved up from row `at` to `above`: the rows before `above` are still those of `start`, and the others have changed
+-- the letter has moved up from row `at` to `above`: the rows before `above` are still those of `start`, and the rows from there on are changed by
+-- `removed`
 pub record IsRising (start : List (List ℕ)) (at above : ℕ) (now : List (List ℕ)) (letter : ℕ) : Type 0 where
   pub under : above ≤ at
   pub rows : now ≡ take above start ++ (removed (at - above) (drop above start)).0

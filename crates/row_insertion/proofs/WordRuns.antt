@@ -146,7 +146,7 @@ straight_shape :
     (t : SkewFilling) (rows : List (List ℕ)) → shape_of rows ≡ row_lengths t.outer t.inner → t.inner ≡ [] → shape_of rows ≡ t.outer
 straight_shape t rows h e = h ∙ ap (row_lengths t.outer) e ∙ row_lengths-none t.outer
 
--- the rows that the code copies from p and q are those of a pair of tableaux of one straight shape
+-- if p is a tableau, q is standard, and both have one straight shape of n cells, their rows are a pair of tableaux with the recorded numbers 1, .., n
 pub given_pair :
     (p q : SkewFilling) (n : ℕ) (ps qs : List (List ℕ)) → IsTableauWithin p → IsStandard q.rows → HaveOneShape p q
     → n + size p.inner ≡ size p.outer → ps ≡ p.rows → shape_of ps ≡ row_lengths p.outer p.inner → qs ≡ q.rows

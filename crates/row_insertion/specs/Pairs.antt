@@ -9,7 +9,7 @@ pub record HaveOneShape (p q : SkewFilling) : Type 0 where
   pub q_straight : q.inner ≡ []
   pub same : p.outer ≡ q.outer
 
--- the word is the only one that insertion takes to these rows
+-- the word is the only one whose insertion makes the pair of tableaux with the rows p and q
 pub record IsTheWordOf (word : List ℕ) (p q : List (List ℕ)) : Type 0 where
   pub inserted : insertion_pair word ≡ (p, q)
   pub only : (other : List ℕ) → insertion_pair other ≡ (p, q) → other ≡ word

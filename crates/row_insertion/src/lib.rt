@@ -3,11 +3,12 @@
 //!
 //! What is proved:
 //!
-//! `insert_word`: the two tableaux of a word by row insertion, both of one straight shape, the
-//! first one the only straight tableau of the word's Knuth class. `word_of_pair`: the only word
-//! that insertion takes to a given pair of a straight and a standard tableau of one shape.
-//! `reading_word`: the rows from the bottom up. `push_at`, `standard_of`: rows that grow, and the
-//! standard tableau with given rows. Each of these fails only if memory runs out.
+//! `insert_word` gives the two tableaux of a word by row insertion; both have one straight shape,
+//! and the first one is the only straight tableau of the word's Knuth class. `word_of_pair` gives
+//! the only word that insertion takes to a given pair of a straight and a standard tableau of one
+//! shape. `reading_word` gives the rows of a tableau from the bottom up. `push_at` appends a number
+//! to a row, and `standard_of` gives the standard tableau with given rows. Each of these fails only
+//! if memory runs out.
 #![tactic(auto)]
 
 mod growing;

@@ -59,7 +59,8 @@ fn put_row(filled: &mut Filled, row: u16, numbers: &[u16])
     }
 }
 
-/// The standard tableau with these rows. Fails only if memory runs out.
+/// The standard tableau with these rows, which must be those of a standard tableau of at most 512
+/// cells. Fails only if memory runs out.
 pub fn standard_of(alloc: Global, rows: &[Vec<u16>]) -> Result<Standard, NoMemory>
     requires standard { IsStandard (rows_in rows.now) }
     requires tableau { AreRows 1 (rows_in rows.now) }

@@ -68,7 +68,8 @@ fn pop_last(row: &mut Vec<u16>) -> u16
     row.pop().unwrap_or(0)
 }
 
-/// Writes a letter over the last smaller one of a row, and returns that one.
+/// Writes a letter over the last smaller one of a row that begins with a smaller one, and returns
+/// the letter that was there.
 fn put_back(row: &mut Vec<u16>, letter: u16) -> u16
     requires { 0 < length row.old.items }
     ensures row { row.new.items ≡ row_back letter row.old.items }
@@ -78,7 +79,8 @@ fn put_back(row: &mut Vec<u16>, letter: u16) -> u16
     mem::replace(&mut row[place], letter)
 }
 
-/// The place of the last smaller letter of a row that begins with a smaller one, counted from 0.
+/// The place, counted from 0, of the last letter smaller than `letter` in a row that begins with a
+/// smaller one.
 fn last_smaller(row: &[u16], letter: u16) -> usize
     requires { 0 < length row.now }
     ensures within { result < length row.now }

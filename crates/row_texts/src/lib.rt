@@ -1,4 +1,4 @@
-//! Lines of the programs that print rows of library calls.
+//! Prints lines for the programs that print results of library calls, one line for each call.
 //!
 //! A function that prints computed values is expensive to prove, and so is one that drops several
 //! values between several `?`. So the printing is done here, and a list of results is printed by

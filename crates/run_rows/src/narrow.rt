@@ -2,7 +2,7 @@
 use std::io;
 use std::io::{ErrorKind, Read, Write};
 
-/// Gives a byte, fails, gives a byte, and has ended.
+/// A reader that gives a byte, fails, gives a byte, and has ended.
 #[derive(Drop)]
 pub struct NarrowReader {
     reads: u8,
@@ -29,8 +29,8 @@ impl Read for NarrowReader {
     }
 }
 
-/// Takes one byte at each write, except that the fifth write fails and the seventh takes nothing.
-/// The second flush fails.
+/// A writer that takes one byte at each write, except that the fifth write fails and the seventh
+/// takes nothing. Its second flush fails.
 #[derive(Drop)]
 pub struct NarrowWriter {
     taken: [u8; 8],

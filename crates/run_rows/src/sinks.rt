@@ -1,4 +1,4 @@
-//! Rows of sinks: the outcome of each call, and the bytes that were written.
+//! Calls of sinks: the outcome of each call, and the bytes that were written.
 use crate::narrow::NarrowWriter;
 use anyhow::Result;
 use calc_base::{CountSink, FixedSink, MemSink, Sink, StdOut};
@@ -6,7 +6,7 @@ use row_texts::{end, said, start, term, text};
 use std::alloc::Global;
 use std::io::BufWriter;
 
-/// Prints the rows of sinks in memory, in a buffer, without bytes and over a writer.
+/// Prints the outcomes of calls of sinks in memory, in a buffer, without bytes and over a writer.
 pub fn print(rt: &(impl Print + Alloc<A = Global>)) -> Result<()> {
     in_memory(
         rt,

@@ -1,11 +1,11 @@
-//! Rows of sources: the result of each call.
+//! Calls of sources, with the result of each call.
 use crate::narrow::NarrowReader;
 use anyhow::Result;
 use calc_base::{MemSource, Source, StdIn};
 use row_texts::{said, text};
 use std::alloc::Global;
 
-/// Prints the rows of sources in memory and over a reader.
+/// Prints the results of calls of sources in memory and over a reader.
 pub fn print(rt: &(impl Print + Alloc<A = Global>)) -> Result<()> {
     in_memory(rt, MemSource::new(rt.alloc(), b"abc", 2, &[1])?)?;
     in_memory(rt, MemSource::new(rt.alloc(), b"ab", 1, &[])?)?;

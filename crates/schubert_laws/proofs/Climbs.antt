@@ -80,7 +80,7 @@ across_exchanged φ a b =
 pub across_across : (φ : ℕ → ℕ → ℤ) (a b : ℕ) → across (across φ) a b ≡ pos 0
 across_across φ a b = across_alternating (across φ) (λ c d. omega (arith, ints)) a b
 
--- ∂ satisfies the rule of products (Leibniz): ∂(f·g) is ∂f·g plus f with x and y exchanged times ∂g
+-- the rule of products (Leibniz): ∂(f·g) = ∂f·g + f'·∂g, f' being f with x and y exchanged
 pub across_product : (φ : ℕ → ℕ → ℤ) (a b p q : ℕ)
     → across φ (a + p) (b + q) ≡ across (λ c d. φ (c + p) (d + q)) a b +ℤ across (λ c d. φ (b + c) (a + d)) p q
 across_product φ a b p q =

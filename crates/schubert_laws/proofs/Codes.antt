@@ -80,7 +80,7 @@ smaller_index (suc c) (x ∷ l) a h =
 
 -- ---- the letters that a code chooses
 
--- if a code chooses all letters of the list l, as many of the chosen letters as of those of l are below x
+-- if a code chooses the letters of the list l, the chosen letters and those of l have the same number of letters below x
 smaller-letters : (x : ℕ) (cs l : List ℕ) → IsCode cs → length l ≡ length cs → smaller x (letters_by_code cs l) ≡ smaller x l
 smaller-letters x [] l i e = refl
 smaller-letters x (c ∷ cs) l i e =
@@ -152,7 +152,7 @@ one_line_letters cs i =
 pub one_line_from_code : (cs : List ℕ) → IsCode cs → IsOneLine (from_code cs)
 one_line_from_code cs i = one_line_kept (letters_by_code cs (places (length cs))) (one_line_letters cs i)
 
--- ---- the code of w followed by fixed letters is that of w followed by zeros; cs is the code of from_code cs followed by zeros
+-- the code of a permutation followed by fixed letters is its code followed by zeros; a code cs is the code of `from_code cs`, followed by zeros
 
 code_zeros : (k : ℕ) (w : List ℕ) → IsOneLine w → code (w ++ after (length w) k) ≡ code w ++ replicate k 0
 code_zeros zero w o = ap code (append-nil w) ∙ sym (append-nil (code w))

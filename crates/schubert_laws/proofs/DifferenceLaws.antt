@@ -78,7 +78,7 @@ In_differences k n f i = In_each n (λ (t : Term). scale t.1 (difference_after k
 
 -- ---- exchanges of two neighbouring variables
 
--- the polynomial f with the variables after the first k and after the first k + 1 exchanged
+-- the polynomial f with the two variables at the places k and k + 1, counted from 0, exchanged
 abbrev pub exchange_variables : ℕ → Poly → Poly
 exchange_variables k f = map (λ (t : Term). (exchange_at k t.0, t.1)) f
 
@@ -144,7 +144,7 @@ along_quotient zero φ (a ∷ []) h = absurd (omega arith)
 along_quotient zero φ (a ∷ b ∷ α) h = across_stepped (λ c d. φ (c ∷ d ∷ α)) a b
 along_quotient (suc k) φ (a ∷ α) h = along_quotient k (λ γ. φ (a ∷ γ)) α (omega arith)
 
--- let x and y be the variables after the first k: then (x - y)·∂ f is f less f with x and y exchanged
+-- let x and y be the variables at the places k and k + 1, counted from 0: then (x - y)·∂ f is f less f with x and y exchanged
 pub difference_quotient : (k n : ℕ) (f : Poly) → In n f → suc k < n
     → Same (times (plus (variable_after k) (negate (variable_after (suc k)))) (differences_after k f)) (plus f (negate (exchange_variables k f)))
 difference_quotient k n f i h =

@@ -40,7 +40,7 @@ climb_range φ (suc a) b s e =
     let k = ap (φ a) d in
     omega (arith, ints)
 
--- the sum of the powers from b to a - 1 is a difference of climbs
+-- the sum of φ c (s - 1 - c) over the c from b to a - 1 is `across φ a b`, a difference of climbs
 between : (φ : ℕ → ℕ → ℤ) (a b s : ℕ) → a + b ≡ s → b ≤ a → total (λ c. φ c (s - 1 - c)) (range_with_len b (a - b)) ≡ across φ a b
 between φ a b s e h =
     let f : b + (a - b) ≡ a = omega arith in

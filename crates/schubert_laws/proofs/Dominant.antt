@@ -1,5 +1,4 @@
--- The Schubert polynomial of a dominant list: if the code is decreasing, it is the monomial of the code. And the code
--- of a list with a fixed letter added.
+-- If a list is dominant, that is, its code is decreasing, its Schubert polynomial is the monomial of the code.
 use Rattle.std.proofs.Common.{◌≡◌, ℕ, zero, suc, ◌+◌, ◌<◌, ◌≤◌, List, [], ◌∷◌, length, refl, sym, ◌∙◌, ap, ap₂, subst, arith, inl, inr, ◌⊎◌, cond, nat_lt, Bool, true, false, None, ℤ}
 use Rattle.std.proofs.lemmas.Int.{ints}
 use Rattle.std.proofs.lemmas.Bool.{cases_eq, cases_lt, lt-ltb, ltb-true, ltb-false}
@@ -22,6 +21,7 @@ use Rattle.schubert_laws.proofs.Differences.{along, pair_differences}
 use Rattle.schubert_laws.proofs.Exchanges.{exchange_at, Rises, IsFirstAscent, first_ascent_cases, rising_pairs_exchange, length-exchange_at}
 use Rattle.schubert_laws.proofs.DifferenceLaws.{differences_respect}
 use Rattle.schubert_laws.proofs.Paths.{over_top, over_first}
+use Rattle.std.proofs.Math.Arith.{lt_of_le-ne}
 
 pub pair_x_to : (α : List ℕ) (φ : List ℕ → ℤ) → pair (x_to α) φ ≡ φ α
 pair_x_to α φ = +ℤ_idr _ ∙ one-product (φ α)
@@ -81,10 +81,7 @@ greater_head a [] o n x m = absurd m
 greater_head a (b ∷ w) o n x m = by m (greater_head b w o.1 (λ k. n (suc k)))
   where
     below : b < a
-    below = elim (cases_lt b a) [ inl l ↦ l | inr l ↦ elim (cases_eq a b) [ inl e ↦ absurd (o.0 (inl e)) | inr d ↦ absurd (n 0 (strict d l)) ] ]
-      where
-        strict : (a ≡ b → ⊥) → a ≤ b → a < b
-        strict d l = omega arith
+    below = elim (cases_lt b a) [ inl l ↦ l | inr l ↦ elim (cases_eq a b) [ inl e ↦ absurd (o.0 (inl e)) | inr d ↦ absurd (n 0 (lt_of_le-ne l d)) ] ]
 
     by : (x ≡ b) ⊎ Among x w → ((y : ℕ) → Among y w → y < b) → x < a
     by (inl e) rest = let h = below in omega arith

@@ -1,10 +1,10 @@
 -- Neighbours exchanged, and one entry raised, by recursion on the place, counted from 0.
---     exchange_at k w     the entries after the first k and k + 1 exchanged: `exchanged` as a recursion
---     raise k α           one more at the entry after the first k: the exponents of a product with a variable
---     `Rises k w`         the entry after the first k is smaller than the next
-use Rattle.std.proofs.Common.{◌≡◌, ℕ, zero, suc, ◌+◌, ◌-◌, ◌<◌, ◌≤◌, List, [], ◌∷◌, ◌++◌, length, replicate, set, get_or, refl, ap, ap₂, arith, inl, inr, ◌⊎◌, cond, nat_lt, Bool, true, false, Some, None}
+--     exchange_at k w     the entries at the places k and k + 1 exchanged: `exchanged` as a recursion
+--     raise k α           the list with the entry at the place k increased by 1: the exponents of a product with a variable
+--     `Rises k w`         the entry at the place k is smaller than the next
+use Rattle.std.proofs.Common.{◌≡◌, ℕ, zero, suc, ◌+◌, ◌-◌, ◌<◌, List, [], ◌∷◌, ◌++◌, length, replicate, set, get_or, refl, ap, ap₂, arith, inl, inr, ◌⊎◌, cond, nat_lt, Bool, true, false, Some, None}
 use Rattle.std.specs.List.{swap}
-use Rattle.std.proofs.lemmas.Bool.{lt-ltb, ltb-true, ltb-false}
+use Rattle.std.proofs.lemmas.Bool.{lt-ltb, ltb-true, ltb-false, le-ltb}
 use Rattle.sym_model.specs.Polynomial.{join}
 use Rattle.sym_model.specs.BetaList.{greater, rising_pairs}
 use Rattle.sym_model.specs.Permutation.{exchanged, first_ascent}
@@ -90,15 +90,8 @@ rising_pairs_exchange k [] r = absurd r
 rising_pairs_exchange zero (a ∷ []) r = absurd r
 rising_pairs_exchange zero (a ∷ b ∷ w) r =
     let e = lt-ltb a b r in
-    let f : nat_lt b a ≡ false = not_less b a (omega arith) in
+    let f : nat_lt b a ≡ false = le-ltb b a (omega arith) in
     rw (e, f) (omega arith)
-  where
-    not_less : (x y : ℕ) → y ≤ x → nat_lt x y ≡ false
-    not_less x y h = by (nat_lt x y) refl
-      where
-        by : (t : Bool) → nat_lt x y ≡ t → t ≡ false
-        by true e = absurd (omega (arith, ltb-true x y e))
-        by false e = refl
 rising_pairs_exchange (suc k) (a ∷ w) r =
     let h = rising_pairs_exchange k w r in
     let g = greater_exchange a k w in

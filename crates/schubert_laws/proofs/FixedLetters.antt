@@ -28,7 +28,7 @@ pub In_x_to : (n : ℕ) (α : List ℕ) → length α ≡ n → In n (x_to α)
 In_x_to n α e t (inl d) = ap (λ (s : Term). length s.0) d ∙ e
 In_x_to n α e t (inr m) = absurd m
 
--- S(w) of n letters is a polynomial in n variables
+-- if g is a polynomial in n variables, so is `descended g`, which takes divided differences of it
 pub In_descended : (g : Poly) (n : ℕ) (fuel : ℕ) (w : List ℕ) → In n g → In n (descended g fuel w)
 In_descended g n zero w i = i
 In_descended g n (suc fuel) w i = by (first_ascent w) (λ k. In_descended g n fuel (exchanged k w) i)
@@ -143,7 +143,7 @@ fixed_within (suc n) m w b o h = by (first_ascent_cases w) (λ v c p q. fixed_wi
         ∙ ap (λ i. coefficient (restrict (suc i) (x_to (staircase (length w)))) α) (length-staircase (length w))
         ∙ ap (λ u. coefficient (restrict (suc (length w)) u) α) (sym (over_top (x_to (staircase (length w))) (rising_pairs w) w none.0))
 
--- a last letter that is greater than all others can be treated as a fixed one
+-- if m is greater than all letters of w, which are different, the Schubert polynomial of w followed by m is S_w, read in one more variable
 pub last_letter : (m : ℕ) (w : List ℕ) → Once w → ((a : ℕ) → Among a w → a < m) → Same (schubert (w ++ (m ∷ []))) (restrict (suc (length w)) (schubert w))
 last_letter m w o h = fixed_within (suc (rising_pairs w)) m w (omega arith) o h
 

@@ -1,7 +1,7 @@
 -- Fixed letters: added to a permutation up to a place, and dropped at its end.
 --     one_line_added     a permutation with fixed letters added is a permutation
---     schubert_added     it has the same Schubert polynomial in n variables, and so has the list without its last fixed letters
---     inversions_added   it has the same number of inversions
+--     schubert_added     fixed letters at the end, added or dropped, do not change the Schubert polynomial in n variables
+--     inversions_added   fixed letters at the end do not change the number of inversions
 use Rattle.std.proofs.Common.{◌≡◌, ℕ, zero, suc, ◌+◌, ◌<◌, ◌≤◌, List, [], ◌∷◌, ◌++◌, length, refl, sym, ◌∙◌, ap, ap₂, subst, arith, inl, inr, cond, ◌==◌, Bool, true, false, length-append, append_assoc, eqb-true, eq-eqb}
 use Rattle.std.proofs.lemmas.List.{append-nil}
 use Rattle.std.proofs.lemmas.Bool.{cases_lt}
@@ -17,6 +17,7 @@ use Rattle.schubert_laws.proofs.FixedLetters.{once_added, smaller_added}
 use Rattle.schubert_laws.proofs.PathsFromOne.{below_next, fixed_letter_in}
 use Rattle.sym_model.proofs.AfterLists.{length_after, among_after}
 use Rattle.sym_model.proofs.Numbers.{counts-not_less, counts-less}
+use Rattle.std.proofs.Math.Arith.{lt_of_le-ne}
 
 -- ---- a permutation with fixed letters added one at a time
 
@@ -128,7 +129,7 @@ inversions_kept w o =
 
 -- ---- each pair of different letters is increasing or an inversion
 
--- the number of pairs of places, out of n
+-- the number of pairs of two of n places, n·(n - 1)/2
 unfoldable pub pairs : ℕ → ℕ
 pairs zero = 0
 pairs (suc n) = n + pairs n
@@ -139,18 +140,15 @@ greater_or_smaller a (b ∷ w) n =
     let e = greater_or_smaller a w (λ m. n (inr m)) in
     elim (cases_lt a b) [
       | inl l ↦ let p = counts-less a b l in let q = counts-not_less b a (omega arith) in omega arith
-      | inr l ↦ let q = counts-less b a (strict (λ d. n (inl d)) l) in let p = counts-not_less a b l in omega arith
+      | inr l ↦ let q = counts-less b a (lt_of_le-ne l (λ d. n (inl (sym d)))) in let p = counts-not_less a b l in omega arith
     ]
-  where
-    strict : (a ≡ b → ⊥) → b ≤ a → b < a
-    strict d l = omega arith
 
 rising_or_inversion : (w : List ℕ) → Once w → rising_pairs w + inversions w ≡ pairs (length w)
 unfolding pairs
 rising_or_inversion [] o = refl
 rising_or_inversion (a ∷ w) o = let e = rising_or_inversion w o.1 in let g = greater_or_smaller a w o.0 in omega arith
 
--- w has one increasing pair more than v if and only if it has one inversion less
+-- for lists w and v of one length, each with different entries: w has one increasing pair more than v if and only if v has one inversion more than w
 pub one_more_inversion : (w v : List ℕ) → Once w → Once v → length v ≡ length w → rising_pairs w ≡ suc (rising_pairs v) → inversions v ≡ inversions w + 1
 one_more_inversion w v o p l e = let a = rising_or_inversion w o in let b = rising_or_inversion v p in let c = ap pairs l in omega arith
 

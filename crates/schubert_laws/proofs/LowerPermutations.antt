@@ -1,10 +1,10 @@
--- The transition rule ends: each permutation on its right side is lower, and each permutation except the identity has
--- places for the rule.
+-- The transition rule ends: each permutation on its right side is lower, and each permutation except the identity has places r and s at which the
+-- rule applies.
 use Rattle.std.proofs.Common.{◌≡◌, ℕ, zero, suc, ◌+◌, ◌-◌, ◌<◌, ◌≤◌, List, [], ◌∷◌, ◌++◌, ◌==◌, map, length, get_or, refl, sym, ◌∙◌, ap, ap₂, subst, arith, inl, inr, ◌⊎◌, cond, nat_lt, length-append, eqb-true, Some, None, Option, option_map, unwrap_or, replicate}
 use Rattle.std.specs.Option.{option_or}
 use Rattle.std.proofs.Math.ListN.{get_or-append}
 use Rattle.std.proofs.Math.Seq.{get_or-append_seam}
-use Rattle.std.proofs.lemmas.List.{append-nil}
+use Rattle.std.proofs.lemmas.List.{append-nil, get_or_past}
 use Rattle.std.proofs.lemmas.Bool.{cases_eq, cases_lt}
 use Rattle.sym_model.specs.Sum.{Among, Once}
 use Rattle.sym_model.specs.Polynomial.{Same, coefficient, one, restrict}
@@ -23,7 +23,7 @@ use Rattle.schubert_laws.proofs.PathsFromOne.{below_next}
 use Rattle.schubert_laws.proofs.Swaps.{swap_at, length-swap_at, raises, get_swap_left, get_swap_right, among_get}
 use Rattle.schubert_laws.proofs.MonkFromOne.{one_line_swap}
 use Rattle.schubert_laws.proofs.Transition.{IsStep, RisesFrom, last_descent_is, one_fewer, rises_chain, get_swap_other, once_get}
-use Rattle.schubert_laws.proofs.TransitionFromOne.{step_of, kept_swap, covers_down_kept, get_past}
+use Rattle.schubert_laws.proofs.TransitionFromOne.{step_of, kept_swap, covers_down_kept}
 use Rattle.sym_model.proofs.AfterLists.{after_among}
 use Rattle.sym_model.proofs.Numbers.{counts-not_less, nat_lt-false}
 use Rattle.sym_model.proofs.Lists.{get_or-any}
@@ -37,11 +37,11 @@ letter_next w i h = elim (cases_lt (i - 1) (length w)) [
   | inr l ↦ elim (cases_eq (i - 1) (length w)) [
     | inl e ↦
         let a = ap (λ j. get_or (w ++ ((length w + 1) ∷ [])) j i) e ∙ get_or-append_seam w (length w + 1) [] i in
-        let b = get_past w (i - 1) i l in
+        let b = get_or_past w (i - 1) i l in
         omega arith
     | inr n ↦
         let la = length-append w ((length w + 1) ∷ []) in
-        get_past (w ++ ((length w + 1) ∷ [])) (i - 1) i (omega arith) ∙ sym (get_past w (i - 1) i l)
+        get_or_past (w ++ ((length w + 1) ∷ [])) (i - 1) i (omega arith) ∙ sym (get_or_past w (i - 1) i l)
   ]
 ]
 
@@ -298,7 +298,7 @@ transition_exists w r o e =
               let x = get_or-any w (d - 1) d 0 l in
               let y = c.1.3 (d - 1) (omega arith) (omega arith) in
               omega arith
-          | inr l ↦ let x = get_past w (d - 1) d l in omega arith
+          | inr l ↦ let x = get_or_past w (d - 1) d l in omega arith
         ];
       },
     )

@@ -1,4 +1,4 @@
--- The permutations on the right side of the transition rule: they are permutations with no more letters.
+-- The lists on the right side of the transition rule are permutations with no more letters than the one on the left.
 use Rattle.std.proofs.Common.{◌≡◌, ℕ, ◌+◌, ◌-◌, ◌<◌, ◌≤◌, List, ◌==◌, map, length, sym, ap, subst, arith, length-append, eqb-true}
 use Rattle.sym_model.specs.Sum.{Among}
 use Rattle.sym_model.specs.Partition.{after}

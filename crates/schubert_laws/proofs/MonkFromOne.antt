@@ -3,7 +3,7 @@ use Rattle.std.proofs.Common.{◌≡◌, ℕ, zero, suc, ◌+◌, ◌-◌, ◌<�
 use Rattle.std.specs.List.{swap}
 use Rattle.std.proofs.Math.ListN.{get_or-append}
 use Rattle.std.proofs.lemmas.Int.{ints}
-use Rattle.std.proofs.lemmas.List.{append-nil}
+use Rattle.std.proofs.lemmas.List.{append-nil, set-append_left}
 use Rattle.sym_model.specs.Sum.{total, Once}
 use Rattle.sym_model.specs.Polynomial.{Poly, Same, plus, negate, times, pair, nothing, restrict}
 use Rattle.sym_model.specs.Partition.{after}
@@ -41,13 +41,8 @@ pub swap_is : (w : List ℕ) (i j : ℕ) → i < length w → j < length w → s
 swap_is [] i j h l = absurd (omega arith)
 swap_is (d ∷ w) i j h l = sets_are_swap (d ∷ w) i j d h l
 
-set_append : (w : List ℕ) (b x : ℕ) (z : List ℕ) → b < length w → set (w ++ z) b x ≡ set w b x ++ z
-set_append [] b x z h = absurd (omega arith)
-set_append (y ∷ w) zero x z h = refl
-set_append (y ∷ w) (suc b) x z h = ap (λ v. y ∷ v) (set_append w b x z (omega arith))
-
 one_append : (w : List ℕ) (b x : ℕ) (z : List ℕ) → b < length w → get_or (w ++ z) b x ∷ set (w ++ z) b x ≡ get_or w b x ∷ (set w b x ++ z)
-one_append w b x z h = ap₂ ◌∷◌ (get_or-append w z x b h) (set_append w b x z h)
+one_append w b x z h = ap₂ ◌∷◌ (get_or-append w z x b h) (set-append_left w z b x h)
 
 pub swap_at_append : (a b : ℕ) (w z : List ℕ) → a < length w → b < length w → swap_at a b (w ++ z) ≡ swap_at a b w ++ z
 swap_at_append a b [] z h l = absurd (omega arith)
@@ -92,7 +87,7 @@ longer w k = w ++ after (length w) (k + 1)
 abbrev pub top_of : List ℕ → Poly
 top_of w = x_to (staircase (length w))
 
--- the pairing of φ with the Schubert polynomial in n variables, if v is a cover of w; otherwise 0
+-- the pairing of φ with S_v in n variables, if v has one inversion more than w; otherwise 0
 abbrev pub cover_value : ℕ → (List ℕ → ℤ) → List ℕ → List ℕ → ℤ
 cover_value n φ w v = cond (inversions v == inversions w + 1) (pair (schubert_in v n) φ) (pos 0)
 
@@ -124,7 +119,8 @@ swap_added u t a b h l = swap_at_append a b u (after (length u) t) h l ∙ ap (�
 pair_within : (n : ℕ) (φ : List ℕ → ℤ) (a b : ℕ) (long : List ℕ) → pair (schubert_over (top_of long) (swap_at a b long)) (restricted_test n φ) ≡ pair (schubert_in (swap_at a b long) n) φ
 pair_within n φ a b long = ap (λ f. pair f (restricted_test n φ)) (over_swap a b long) ∙ sym (pair_restrict n (schubert (swap_at a b long)) φ)
 
--- the term of the places a and b for u with t fixed letters added is `cover_value` of u with the letters at a and b swapped
+-- if u and w have the same number of inversions, `covered` for the places a and b of u with t fixed letters added is `cover_value` of u with the letters
+-- at a and b exchanged, without the fixed letters at its end
 term_added : (n : ℕ) (φ : List ℕ → ℤ) (w u : List ℕ) (t a b : ℕ) → IsOneLine u → a < length u → b < length u → inversions u ≡ inversions w
     → covered (top_of (u ++ after (length u) t)) (restricted_test n φ) (u ++ after (length u) t) a b ≡ cover_value n φ w (kept (swap u a b))
 term_added n φ w u t a b o h l e =
@@ -176,7 +172,7 @@ monk_longer w k q o h =
     subst (λ u. IsMonk (top_of u) no_factors u q) (sym (whole_longer w k))
     (monk_last (length (w ++ after (length w) k) + 1) q (w ++ after (length w) k) ov.once (below_next (w ++ after (length w) k) ov) (omega arith))
 
--- the sum over those lists f(j) that are covers of w, paired with φ, is the sum of their `cover_value`
+-- the sum of the Schubert polynomials of those lists f(j) that have one inversion more than w, paired with φ, is the sum of `cover_value` over all f(j)
 pub pair_covers : (n : ℕ) (φ : List ℕ → ℤ) (w : List ℕ) (f : ℕ → List ℕ) (js : List ℕ)
     → pair (schuberts_in (covers_among w (map f js)) n) φ ≡ total (λ j. cover_value n φ w (f j)) js
 pair_covers n φ w f js =

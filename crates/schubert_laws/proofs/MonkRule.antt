@@ -1,7 +1,7 @@
 -- Monk's rule for the lists that end in a letter greater than all others.
---     monk_over      if the rule holds for the lists without an ascent before the last letter, it holds for all, for any polynomial at the top
+--     monk_over      if the rule holds for the lists without an ascent before the last letter, it holds for all, for any polynomial g at the start
 --     monk_last      the rule for Schubert polynomials
-use Rattle.std.proofs.Common.{◌≡◌, ℕ, zero, suc, ◌+◌, ◌<◌, ◌≤◌, List, [], ◌∷◌, ◌++◌, length, get_or, set, refl, sym, ◌∙◌, ap, ap₂, subst, arith, inl, inr, ◌⊎◌, None, ℤ, pos, neg_ℤ, length-append}
+use Rattle.std.proofs.Common.{◌≡◌, ℕ, zero, suc, ◌+◌, ◌<◌, ◌≤◌, List, [], ◌∷◌, ◌++◌, length, get_or, refl, sym, ◌∙◌, ap, ap₂, subst, arith, inl, inr, ◌⊎◌, None, ℤ, pos, neg_ℤ, length-append}
 use Rattle.std.proofs.Math.ListN.{get_or-append}
 use Rattle.std.proofs.lemmas.Bool.{cases_lt}
 use lib.IntN.{+ℤ_idr}
@@ -24,6 +24,8 @@ use Rattle.schubert_laws.proofs.FixedLetters.{In_schubert, In_x_to, rises_added,
 use Rattle.schubert_laws.proofs.Swaps.{swap_at, moved, moved_within, length-swap_at, raises, greater_swap, smaller_swap, once_swap, among_get}
 use Rattle.schubert_laws.proofs.PlaceSums.{sum_below_only}
 use Rattle.schubert_laws.proofs.MonkStep.{covered, value, signed_up, signed_down, signed_same, covered_sym, covered_none, covered_is, Passes, IsMonk, pair_factor_sum, monk_step}
+use Rattle.std.proofs.Math.Seq.{get_or-append_seam, set-append_seam}
+use Rattle.std.proofs.Math.Nat.{le_of_lt}
 
 abbrev pub HasNoAscent : List ℕ → Type 0
 HasNoAscent v = (k : ℕ) → Rises k v → ⊥
@@ -82,16 +84,8 @@ greater_of_none x (y ∷ u) h =
     let e = greater_of_none x u (λ z i. h z (inr i)) in
     omega arith
 
-set_last : (u : List ℕ) (x y : ℕ) → set (u ++ (y ∷ [])) (length u) x ≡ u ++ (x ∷ [])
-set_last [] x y = refl
-set_last (z ∷ u) x y = ap (λ t. z ∷ t) (set_last u x y)
-
-get_last : (u : List ℕ) (y d : ℕ) → get_or (u ++ (y ∷ [])) (length u) d ≡ y
-get_last [] y d = refl
-get_last (z ∷ u) y d = get_last u y d
-
 swap_first : (a m : ℕ) (v : List ℕ) → swap_at zero (suc (length v)) ((a ∷ v) ++ (m ∷ [])) ≡ m ∷ (v ++ (a ∷ []))
-swap_first a m v = ap₂ ◌∷◌ (get_last v m a) (set_last v a m)
+swap_first a m v = ap₂ ◌∷◌ (get_or-append_seam v m [] a) (set-append_seam v m [] a)
 
 below_or : (a m : ℕ) (v : List ℕ) → IsBelow m v → a < m → (y : ℕ) → Among y (v ++ (a ∷ [])) → y < m
 below_or a m v b h y i = elim (Among_from_append y v (a ∷ []) i) [
@@ -109,22 +103,16 @@ last_cover m zero (a ∷ v) o b n h =
     let below = greater_head a v o n in
     let x = rising_pairs_added m v (λ y i. b y (inr i)) in
     let y = rising_pairs_added a v below in
-    let g = greater_of_none m (v ++ (a ∷ [])) (λ z i. less_or z (below_or a m v (λ t j. b t (inr j)) (b a (inl refl)) z i)) in
+    let g = greater_of_none m (v ++ (a ∷ [])) (λ z i. le_of_lt (below_or a m v (λ t j. b t (inr j)) (b a (inl refl)) z i)) in
     let p = rising_pairs_added m (a ∷ v) b in
-    let q = greater_of_none a v (λ z i. less_or_a z (below z i)) in
+    let q = greater_of_none a v (λ z i. le_of_lt (below z i)) in
     omega arith
-  where
-    less_or : (z : ℕ) → z < m → z ≤ m
-    less_or z l = omega arith
-
-    less_or_a : (z : ℕ) → z < a → z ≤ a
-    less_or_a z l = omega arith
 last_cover m (suc r) (a ∷ v) o b n h =
     let e = last_cover m r v o.1 (λ y i. b y (inr i)) (λ k. n (suc k)) (omega arith) in
     let g = greater_swap a r (length v) (v ++ (m ∷ [])) in
     omega arith
 
--- the code of that cover is the code of v followed by m, with 1 added at place r
+-- if v has no ascent and m is greater than its letters, swapping the letter at r with m in v followed by m adds 1 to entry r of the code
 pub last_code : (m r : ℕ) (v : List ℕ) → Once v → IsBelow m v → HasNoAscent v → r < length v
     → code (swap_at r (length v) (v ++ (m ∷ []))) ≡ raise r (code (v ++ (m ∷ [])))
 last_code m r [] o b n h = absurd (omega arith)

@@ -1,10 +1,10 @@
--- From Monk's rule for a list to the rule for the list with two neighbours exchanged, for any polynomial g at the top.
--- The factor is a variable plus a polynomial that commutes with divided differences (0 for Schubert polynomials, and
--- minus the variable y of a letter for double ones).
+-- Monk's rule for a list that increases at two neighbouring places follows from the rule for the list with these places exchanged, for any polynomial
+-- g from which the divided differences start. The factor is a variable plus a polynomial that commutes with divided differences (0 for Schubert
+-- polynomials, and minus the variable y of a letter for double ones).
 --     value g φ w r b     the pairing of φ with the term of place b: the polynomial of w with places r and b swapped, if
 --                         that is a cover of w, with the sign + if b is after r and - if b is before r
 --     IsMonk g c w r      Monk's rule for x_r, as an equation of pairings
---     monk_step           from the exchanged list to the list
+--     monk_step           the rule for a list, from the rule for the list with two neighbours exchanged
 use Rattle.std.proofs.Common.{◌≡◌, ℕ, zero, suc, ◌<◌, ◌≤◌, List, [], ◌∷◌, length, get_or, refl, sym, ◌∙◌, ap, ap₂, subst, arith, inl, inr, ◌⊎◌, cond, nat_lt, ◌==◌, Bool, true, false, ℤ, pos, ◌+ℤ◌, neg_ℤ, eq-eqb, eqb-true}
 use Rattle.std.proofs.lemmas.Int.{ints}
 use Rattle.std.proofs.lemmas.Bool.{cases_eq, cases_lt, lt-ltb, ne_eqb}
@@ -25,6 +25,7 @@ use Rattle.schubert_laws.proofs.Paths.{any_ascent}
 use Rattle.schubert_laws.proofs.FixedLetters.{In_descended}
 use Rattle.schubert_laws.proofs.Swaps.{swap_at, moved, swap_at_sym, length-swap_at, moved_within, moved_order, get_moved, exchange_swap, swap_neighbour, raises, lowers, once_swap}
 use Rattle.schubert_laws.proofs.PlaceSums.{sum_below, sum_below_ext, sum_below_add, sum_below_only, sum_below_moved}
+use Rattle.std.proofs.Math.Arith.{lt_of_le-ne}
 
 -- ---- a divided difference of the product of a polynomial and a variable
 
@@ -125,10 +126,7 @@ covered_is g φ w a b e = ap (λ t. cond t (pair (schubert_over g (swap_at a b w
 rises_or : (k : ℕ) (w : List ℕ) → suc k < length w → Once w → Rises k w ⊎ Rises k (exchange_at k w)
 rises_or k [] h o = absurd (omega arith)
 rises_or zero (a ∷ []) h o = absurd (omega arith)
-rises_or zero (a ∷ b ∷ w) h o = elim (cases_lt a b) [ inl l ↦ inl l | inr l ↦ inr (strict l (λ e. o.0 (inl e))) ]
-  where
-    strict : b ≤ a → (a ≡ b → ⊥) → b < a
-    strict l d = omega arith
+rises_or zero (a ∷ b ∷ w) h o = elim (cases_lt a b) [ inl l ↦ inl l | inr l ↦ inr (lt_of_le-ne l (λ e. o.0 (inl (sym e)))) ]
 rises_or (suc k) (a ∷ w) h o = rises_or k w (omega arith) o.1
 
 -- if w increases at places k and k + 1, S_w paired with φ is S of w with these exchanged, paired with `along k φ`
@@ -164,7 +162,8 @@ term_along g φ k p v r = by (p == suc (rising_pairs v)) (pair_ascent_along g v 
     by true e = e
     by false e = refl
 
--- if a and b are not k and k + 1, the term of u for a and b, paired with φ, is a term of u with k and k + 1 exchanged, paired with `along k φ`
+-- unless a is k and b is k + 1: the term of u at a and b, paired with φ, is that of u with k and k + 1 exchanged, at `moved k a` and `moved k b`,
+-- paired with `along k φ`
 covered_step : (g : Poly) (φ : List ℕ → ℤ) (k a b : ℕ) (u : List ℕ) → Once u → Rises k u → a < b → b < length u → (a ≡ k → b ≡ suc k → ⊥)
     → covered g φ u a b ≡ covered g (along k φ) (exchange_at k u) (moved k a) (moved k b)
 covered_step g φ k a b u o r l h d =
@@ -206,7 +205,8 @@ covered_step g φ k a b u o r l h d =
               omega arith
         ]
 
--- if r and b are not k and k + 1, the value of u at b is that of u with k and k + 1 exchanged, at the moved places
+-- unless {r, b} is {k, k + 1}: the `value` of u at r and b is that of u with k and k + 1 exchanged, at the exchanged places `moved k r` and `moved k b`,
+-- with `along k φ` in place of φ
 value_step : (g : Poly) (φ : List ℕ → ℤ) (k r b : ℕ) (u : List ℕ) → Once u → Rises k u → r < length u → b < length u
     → (r ≡ k → b ≡ suc k → ⊥) → (b ≡ k → r ≡ suc k → ⊥) → value g φ u r b ≡ value g (along k φ) (exchange_at k u) (moved k r) (moved k b)
 value_step g φ k r b u o s h l d e = elim (cases_lt r b) [
@@ -226,7 +226,8 @@ value_step g φ k r b u o s h l d e = elim (cases_lt r b) [
   ]
 ]
 
--- if u increases at places k and k + 1, u with these exchanged is a cover of u, but u is not one of it
+-- if u increases at places k and k + 1, the list v with these exchanged is a cover of u, so `covered` of u for them is the polynomial of v paired
+-- with φ
 covered_pair : (g : Poly) (φ : List ℕ → ℤ) (k : ℕ) (u : List ℕ) → Rises k u → covered g φ u k (suc k) ≡ pair (schubert_over g (exchange_at k u)) φ
 covered_pair g φ k u r =
     let e = swap_neighbour k u (rises_within k u r) in
@@ -234,6 +235,7 @@ covered_pair g φ k u r =
     let p = rising_pairs_exchange k u r in
     covered_is g φ u k (suc k) (omega arith) ∙ ap (λ v. pair (schubert_over g v) φ) e
 
+-- if u increases at places k and k + 1, u is not a cover of the list v with these exchanged, so `covered` of v for these places is 0
 covered_back : (g : Poly) (φ : List ℕ → ℤ) (k : ℕ) (u : List ℕ) → Rises k u → covered g φ (exchange_at k u) k (suc k) ≡ pos 0
 covered_back g φ k u r =
     let n = length-exchange_at k u in
@@ -243,7 +245,7 @@ covered_back g φ k u r =
     let p = rising_pairs_exchange k u r in
     covered_none g φ (exchange_at k u) k (suc k) (λ q. omega arith)
 
--- the difference between the term of place b for u and the term for u with k and k + 1 exchanged: it is 0 except for b = `moved k r`
+-- the difference between the terms of place b for u and for u with k and k + 1 exchanged: 0 unless b is `moved k r`
 abbrev correction : ℕ → ℕ → ℤ → ℕ → ℤ
 correction k r z b = cond (b == moved k r) (jump k r z) (pos 0)
 

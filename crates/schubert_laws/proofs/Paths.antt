@@ -1,6 +1,6 @@
--- Every path of divided differences gives the same polynomial, whatever the polynomial g at the top.
---     over_first      the defining step, at the first ascent
---     any_ascent      the same step at any ascent
+-- Every path of divided differences gives the same polynomial, whatever the polynomial g from which the paths start.
+--     over_first      S_w by the divided difference at the first ascent of w
+--     any_ascent      S_w by the divided difference at any ascent of w
 use Rattle.std.proofs.Common.{◌≡◌, ℕ, zero, suc, ◌+◌, ◌-◌, ◌<◌, ◌≤◌, List, [], ◌∷◌, length, get_or, refl, sym, ◌∙◌, ap, subst, arith, inl, inr, ◌⊎◌, Some, None}
 use Rattle.std.specs.Option.{option_map_or}
 use Rattle.std.proofs.lemmas.Bool.{cases_eq, cases_lt}
@@ -61,7 +61,7 @@ rises_earlier zero (suc (suc k)) (a ∷ b ∷ w) h r = r
 rises_earlier (suc j) (suc k) [] h r = absurd r
 rises_earlier (suc j) (suc k) (a ∷ w) h r = rises_earlier j k w (omega arith) r
 
--- of three increasing entries a, b, c: in b a c the last two are increasing, in b c a the first two, and so on
+-- for neighbouring entries a < b < c: in b a c and c a b the last two increase, in a c b and b c a the first two
 rises_ends : (k : ℕ) (w : List ℕ) → Rises k w → Rises (suc k) w → Rises (suc k) (exchange_at k w) × Rises k (exchange_at (suc k) w)
 rises_ends k [] r s = absurd r
 rises_ends zero (a ∷ []) r s = absurd r

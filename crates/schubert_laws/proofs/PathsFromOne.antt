@@ -1,4 +1,4 @@
--- The laws of `Paths`, with places counted from 1, as the law function states them.
+-- Every path of divided differences gives the same polynomial: with places counted from 1, as the law function states it.
 use Rattle.std.proofs.Common.{◌≡◌, ℕ, suc, ◌+◌, ◌-◌, ◌<◌, List, [], ◌∷◌, ◌++◌, length, sym, ap, subst, arith, None}
 use Rattle.std.proofs.lemmas.List.Edits.{length-swap}
 use Rattle.sym_model.specs.Alternant.{staircase}

@@ -1,4 +1,4 @@
--- A permutation on the right side of the transition rule has a smaller number than the one on the left.
+-- A permutation on the right side of the transition rule has a smaller rank (specs/TransitionOrder) than the one on the left.
 use Rattle.std.proofs.Common.{◌≡◌, ℕ, zero, suc, ◌+◌, ◌-◌, ◌*◌, ◌<◌, ◌≤◌, List, [], ◌∷◌, length, get_or, refl, ap, inl, inr, arith, Some, None, Option, unwrap_or}
 use Rattle.std.proofs.lemmas.Bool.{cases_lt}
 use Rattle.sym_model.specs.Sum.{Among}
@@ -8,10 +8,10 @@ use Rattle.sym_model.proofs.Lists.{get_or-any}
 use Rattle.schubert_laws.specs.TransitionOrder.{rank}
 use Rattle.schubert_laws.proofs.Swaps.{among_get}
 use Rattle.schubert_laws.proofs.Transition.{last_descent_is}
-use Rattle.schubert_laws.proofs.TransitionFromOne.{get_past}
 use native.Mathlib.Nat.{mul-le-mul_left}
+use Rattle.std.proofs.lemmas.List.{get_or_past}
 
--- the letter at a place from 1 on is at least 1; after the last letter it is the place
+-- for i ≥ 1 the letter of a permutation w at place i is at least 1; after the end of w it is i itself
 pub letter_counts : (w : List ℕ) (i : ℕ) → IsOneLine w → 1 ≤ i → 1 ≤ letter w i
 letter_counts w i o h = at w (i - 1) (λ a m. (o.letters a m).0)
   where
@@ -20,14 +20,14 @@ letter_counts w i o h = at w (i - 1) (λ a m. (o.letters a m).0)
     at (x ∷ v) zero g = g x (inl refl)
     at (x ∷ v) (suc j) g = at v j (λ a m. g a (inr m))
 
--- a letter at a place within the list is at most its length
+-- the letter of a permutation v at a place i ≤ length v is at most the length of v
 pub letter_within : (v : List ℕ) (i : ℕ) → IsOneLine v → i ≤ length v → letter v i ≤ length v
 letter_within v i o h = elim (cases_lt (i - 1) (length v)) [
   | inl l ↦
       let d = get_or-any v (i - 1) i 0 l in
       let m = (o.letters (get_or v (i - 1) 0) (among_get (i - 1) 0 v l)).1 in
       omega arith
-  | inr l ↦ let p = get_past v (i - 1) i l in omega arith
+  | inr l ↦ let p = get_or_past v (i - 1) i l in omega arith
 ]
 
 descent_within : (v : List ℕ) → last_descent_place v ≤ length v

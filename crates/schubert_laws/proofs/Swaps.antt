@@ -1,7 +1,7 @@
 -- Two entries of a list swapped, by recursion on their places, counted from 0, and the effect on counts of pairs.
 --     swap_at a b w        w with the entries at places a and b swapped
 --     moved k a            the place to which the exchange after the first k entries moves place a
---     exchange_swap        exchanging in a swapped list is swapping the moved places of the exchanged list
+--     exchange_swap        swapping a and b and then exchanging k and k + 1 is exchanging first and then swapping `moved k a` and `moved k b`
 --     raises, lowers       swapping a decreasing pair gives more increasing pairs; swapping an increasing one gives no more
 use Rattle.std.proofs.Common.{◌≡◌, ℕ, zero, suc, ◌+◌, ◌<◌, ◌≤◌, List, [], ◌∷◌, length, get_or, set, refl, sym, ◌∙◌, ap, ap₂, subst, arith, inl, inr, ◌⊎◌, cond, nat_lt, length-set}
 use Rattle.std.proofs.lemmas.Bool.{cases_eq, cases_lt}
@@ -11,6 +11,7 @@ use Rattle.sym_model.specs.BetaList.{greater, rising_pairs}
 use Rattle.sym_model.proofs.Numbers.{counts-not_less, counts-less}
 use Rattle.sym_model.proofs.Lists.{get_or-any}
 use Rattle.schubert_laws.proofs.Exchanges.{exchange_at}
+use Rattle.std.proofs.lemmas.List.{get_or-set_same}
 
 abbrev pub swap_at : ℕ → ℕ → List ℕ → List ℕ
 swap_at a b [] = []
@@ -179,23 +180,18 @@ set_back [] b x d h = absurd (omega arith)
 set_back (y ∷ w) zero x d h = refl
 set_back (y ∷ w) (suc b) x d h = ap (λ v. y ∷ v) (set_back w b x d (omega arith))
 
-get_set : (w : List ℕ) (b x d : ℕ) → b < length w → get_or (set w b x) b d ≡ x
-get_set [] b x d h = absurd (omega arith)
-get_set (y ∷ w) zero x d h = refl
-get_set (y ∷ w) (suc b) x d h = get_set w b x d (omega arith)
-
 pub swap_twice : (a b : ℕ) (w : List ℕ) → a < length w → b < length w → swap_at a b (swap_at a b w) ≡ w
 swap_twice a b [] l m = refl
 swap_twice zero zero (x ∷ w) l m = refl
-swap_twice zero (suc b) (x ∷ w) l m = ap₂ ◌∷◌ (get_set w b x (get_or w b x) (omega arith)) (set_back w b x x (omega arith))
-swap_twice (suc a) zero (x ∷ w) l m = ap₂ ◌∷◌ (get_set w a x (get_or w a x) (omega arith)) (set_back w a x x (omega arith))
+swap_twice zero (suc b) (x ∷ w) l m = ap₂ ◌∷◌ (get_or-set_same w b x (get_or w b x) (omega arith)) (set_back w b x x (omega arith))
+swap_twice (suc a) zero (x ∷ w) l m = ap₂ ◌∷◌ (get_or-set_same w a x (get_or w a x) (omega arith)) (set_back w a x x (omega arith))
 swap_twice (suc a) (suc b) (x ∷ w) l m = ap (λ v. x ∷ v) (swap_twice a b w (omega arith) (omega arith))
 
 pub get_swap_left : (a b d : ℕ) (w : List ℕ) → a < length w → b < length w → get_or (swap_at a b w) a d ≡ get_or w b d
 get_swap_left a b d [] l m = absurd (omega arith)
 get_swap_left zero zero d (x ∷ w) l m = refl
 get_swap_left zero (suc b) d (x ∷ w) l m = get_or-any w b x d (omega arith)
-get_swap_left (suc a) zero d (x ∷ w) l m = get_set w a x d (omega arith)
+get_swap_left (suc a) zero d (x ∷ w) l m = get_or-set_same w a x d (omega arith)
 get_swap_left (suc a) (suc b) d (x ∷ w) l m = get_swap_left a b d w (omega arith) (omega arith)
 
 pub get_swap_right : (a b d : ℕ) (w : List ℕ) → a < length w → b < length w → get_or (swap_at a b w) b d ≡ get_or w a d
@@ -244,7 +240,7 @@ among_get b d [] h = absurd (omega arith)
 among_get zero d (y ∷ w) h = inl refl
 among_get (suc b) d (y ∷ w) h = inr (among_get b d w (omega arith))
 
--- if the entries of w are different, and the entry at b is still in w after x is written over it, it is x
+-- if the entries of w are different, and the entry y at b is still in w after x is written over it, y is x
 replaced : (b d x : ℕ) (w : List ℕ) → b < length w → Once w → Among (get_or w b d) (set w b x) → get_or w b d ≡ x
 replaced b d x [] h o m = absurd m
 replaced zero d x (y ∷ w) h o (inl e) = e

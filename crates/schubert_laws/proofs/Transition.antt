@@ -1,6 +1,6 @@
 -- The transition rule, as Monk's rule at the last descent.
 --     raises_by_one     swapping a decreasing pair with only smaller entries between gives one more increasing pair
---     between           swapping an increasing pair with an entry between in size removes three or more increasing pairs
+--     between           swapping an increasing pair with an entry between both in place and in value does not remove exactly one increasing pair
 use Rattle.std.proofs.Common.{◌≡◌, ℕ, zero, suc, ◌+◌, ◌-◌, ◌<◌, ◌≤◌, max, List, [], ◌∷◌, ◌++◌, length, get_or, set, refl, sym, ◌∙◌, ap, ap₂, subst, arith, inl, inr, cond, nat_lt, Bool, true, false, ℤ, pos, length-append, eq-eqb, Option, Some, None, option_map}
 use Rattle.std.specs.Option.{option_or}
 use Rattle.std.specs.List.{swap}

@@ -1,7 +1,7 @@
 -- The transition rule as its law function states it: with places counted from 1, and permutations without their last fixed letters.
-use Rattle.std.proofs.Common.{◌≡◌, ℕ, zero, suc, ◌+◌, ◌-◌, ◌<◌, ◌≤◌, List, [], ◌∷◌, ◌++◌, ◌==◌, map, length, get_or, refl, sym, ◌∙◌, ap, ap₂, subst, arith, inl, inr, length-append, append_assoc, Some, filter}
+use Rattle.std.proofs.Common.{◌≡◌, ℕ, suc, ◌+◌, ◌-◌, ◌<◌, ◌≤◌, List, ◌++◌, ◌==◌, map, length, get_or, sym, ◌∙◌, ap, ap₂, subst, arith, inl, inr, length-append, append_assoc, Some, filter}
 use Rattle.std.specs.List.{swap}
-use Rattle.std.proofs.lemmas.List.{append-nil}
+use Rattle.std.proofs.lemmas.List.{append-nil, get_or_past}
 use Rattle.std.proofs.lemmas.Bool.{cases_lt}
 use Rattle.sym_model.specs.Polynomial.{Same, coefficient, plus, times}
 use Rattle.sym_model.specs.Partition.{after}
@@ -20,9 +20,7 @@ use Rattle.sym_model.proofs.Lists.{get_or-any, map-among}
 -- ---- fixed letters at the end do not change a swap
 
 pub get_past : (w : List ℕ) (i d : ℕ) → length w ≤ i → get_or w i d ≡ d
-get_past [] i d h = refl
-get_past (x ∷ w) zero d h = absurd (omega arith)
-get_past (x ∷ w) (suc i) d h = get_past w i d (omega arith)
+get_past w i d h = get_or_past w i d h
 
 swap_longer : (x : List ℕ) (t a b : ℕ) → a < length x → b < length x → 0 < length x → kept (swap (x ++ after (length x) t) a b) ≡ kept (swap x a b)
 swap_longer x t a b h l p =
@@ -93,7 +91,7 @@ step_of w r s o t =
     let sm = t.smaller in
     let inside : s - 1 < length w = elim (cases_lt (s - 1) (length w)) [
       | inl h ↦ h
-      | inr h ↦ let p = get_past w (s - 1) s h in absurd (omega arith)
+      | inr h ↦ let p = get_or_past w (s - 1) s h in absurd (omega arith)
     ] in
     let ls = get_or-any w (s - 1) s 0 inside in
     let order : f.0 < s - 1 = elim (cases_lt f.0 (s - 1)) [

@@ -30,8 +30,8 @@ front_ext φ ψ e a b c = across_ext (λ x y. φ x y c) (λ x y. ψ x y c) (λ x
 pub back_ext : (φ ψ : Triple) → ((a b c : ℕ) → φ a b c ≡ ψ a b c) → (a b c : ℕ) → back φ a b c ≡ back ψ a b c
 back_ext φ ψ e a b c = across_ext (λ x y. φ a x y) (λ x y. ψ a x y) (λ x y. e a x y) b c
 
--- an alternating χ is ∂ of χ with its first number raised by 1, minus any alternating χ'; and ∂ of χ' minus χ with its
--- second number raised by 1
+-- let χ and χ' change their signs if their two numbers are exchanged: then `across` of χ(x + 1, y) - χ'(x, y) is χ, and so is `across` of χ'(x, y) -
+-- χ(x, y + 1)
 raised : (χ χ' : ℕ → ℕ → ℤ) → ((a b : ℕ) → χ b a ≡ neg_ℤ (χ a b)) → ((a b : ℕ) → χ' b a ≡ neg_ℤ (χ' a b)) → (a b : ℕ)
     → across (λ x y. χ (suc x) y -ℤ χ' x y) a b ≡ χ a b
 raised χ χ' h k a b =
@@ -110,7 +110,7 @@ back_front_back ψ a b c =
     let s = across_stepped (λ p q. ψ p a q -ℤ ψ p q a) b c in
     omega (arith, ints)
 
--- φ with its first two numbers replaced by a climb; every test function is made by three such steps
+-- the climb of φ in its first two numbers; `three_climbs` writes each test function as three steps by such climbs
 abbrev climbed_front : Triple → Triple
 climbed_front φ a b c = climb (λ x y. φ x y c) a b
 

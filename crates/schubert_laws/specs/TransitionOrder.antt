@@ -9,6 +9,8 @@ pub record IsShort (n : ℕ) (w : List ℕ) : Type 0 where
   pub one_line : IsOneLine w
   pub few : length w ≤ n
 
--- one number for (inversions, last descent, letter at the last descent) in lexicographic order; the transition rule decreases it
+-- the number (ℓ·base + r)·base + w_r, with ℓ the number of inversions of w and r its last descent; for permutations
+-- of fewer than `base` letters it is ordered as (ℓ, r, w_r) lexicographically, so that a step of the transition rule
+-- decreases it
 abbrev pub rank : ℕ → List ℕ → ℕ
 rank base w = (inversions w * base + last_descent_place w) * base + letter w (last_descent_place w)

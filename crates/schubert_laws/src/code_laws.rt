@@ -7,9 +7,10 @@ ghost use Rattle.sym_model.specs.Permutation.{IsOneLine, kept, code, IsCode, let
 ghost use Rattle.sym_model.specs.Permutation.{from_code};
 
 /// The number of inversions is the sum of the code. A list in which no entry is greater than the
-/// number of entries after it is the code of exactly one permutation: the letters that are chosen
-/// by a code have that code, so that of the kept permutation is the code without zeros at its end,
-/// and a permutation is determined by its code.
+/// number of entries after it is the code of exactly one permutation: for each entry a in turn, its
+/// letter is the unused one that is greater than exactly a other unused ones. Dropping fixed
+/// letters at the end of a permutation only drops zeros at the end of its code. A permutation is
+/// determined by its code, up to such letters.
 ///
 /// Example: 3 1 2 has the code 2 0 0.
 pub fn code_law()

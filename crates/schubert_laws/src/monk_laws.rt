@@ -8,9 +8,9 @@ ghost use Rattle.sym_model.specs.DividedDifference.{variable_in};
 ghost use Rattle.sym_model.specs.Schubert.{schubert_in, schuberts_in};
 
 /// Monk's rule in every number of variables: x_r·S_w is the sum over the covers w·t_rj with j > r
-/// less the sum over the covers w·t_ir with i < r. The transition rule is the case of it at the
+/// less the sum over the covers w·t_ir with i < r. The transition rule is this rule at the
 /// last descent r of w: with s the last place whose letter is smaller than that at place r, and
-/// v = w·t_rs, S_w is x_r·S_v and the sum over the covers v·t_ir with i < r.
+/// v = w·t_rs, S_w is x_r·S_v plus the sum over the covers v·t_ir with i < r.
 ///
 /// Example: x_2·S_(1,3,2) = S_(1,4,2,3) - S_(3,1,2), so S_(1,4,2,3) = x_2·S_(1,3,2) + S_(3,1,2).
 pub fn monk_law()

@@ -8,11 +8,11 @@ ghost use Rattle.sym_model.specs.Permutation.{IsOneLine, IsDescent, first_ascent
 ghost use Rattle.sym_model.specs.DividedDifference.{x_to, divided_difference};
 ghost use Rattle.sym_model.specs.Schubert.{schubert, schubert_over, schubert_in};
 
-/// The defining equations: S(w) is the polynomial at the top if w has no ascent, and otherwise the
-/// divided difference at the first ascent. Every path gives the same: ∂_i takes S(w) to S(w·s_i)
-/// for each descent i of a list w, whatever the polynomial at the top. S(w) of n letters is a
-/// polynomial in n variables, and a fixed letter added at the end does not change it. If the code
-/// of w is decreasing, S(w) is the monomial of the code.
+/// Let S(w) be made from any polynomial g: it is g if w has no ascent, and otherwise ∂_i of
+/// S(w·s_i), with i the first ascent of w. Every path gives the same: ∂_i takes S(w) to S(w·s_i)
+/// for each descent i of w. For Schubert polynomials, S(w) of n letters is a polynomial in n
+/// variables, and a fixed letter added at the end of a permutation does not change it; if the
+/// letters of w are different and its code is decreasing, S(w) is the monomial of the code.
 ///
 /// Example: ∂_2 takes x_1^2·x_2 = S(3,2,1) to x_1^2 = S(3,1,2).
 pub fn path_law()

@@ -1,7 +1,7 @@
--- A monomial times a Schubert polynomial (specs/Acted).
---     acted_start       1 times the Schubert polynomial is that polynomial
---     acted_natural     the product has no negative coefficients
---     acted_at          its coefficient at a monomial
+-- A monomial times a Schubert polynomial, x^e·S_w, in n variables (specs/Acted).
+--     acted_start       for e = 0 it is S_w
+--     acted_natural     it has no negative coefficients
+--     acted_at          its coefficient at x^e times the first monomial of S_w is at least 1
 use Rattle.std.proofs.Common.{◌≡◌, ℕ, Bool, true, false, cond, List, [], refl, ap, ◌∙◌, arith, ℤ, pos, ◌≤ℤ◌}
 use Rattle.std.proofs.lemmas.Int.{ints}
 use Rattle.sym_model.specs.Polynomial.{Poly, same, join, pair, one, resize, fits_in}

@@ -1,6 +1,6 @@
--- The list at the end of the transition rule is the Schubert polynomial.
---     final            the list is the polynomial
---     overflow_past    an overflow on the way shows a coefficient that exceeds the limit
+-- The list at the end of the transition rule is the Schubert polynomial of w.
+--     final            the list is S_w
+--     overflow_past    an overflow on the way shows that a coefficient of S_w exceeds the limit
 use Rattle.std.proofs.Common.{◌≡◌, ℕ, zero, suc, ◌+◌, ◌*◌, ◌^◌, ◌≤◌, Bool, true, false, cond, List, [], ◌∷◌, length, refl, sym, ap, ◌∙◌, subst, inl, inr, arith, ℤ, pos, negsuc, ◌+ℤ◌, ◌-ℤ◌, ◌*ℤ◌, ◌≤ℤ◌}
 use Rattle.std.specs.Prelude.{nat_abs, nat_eq, FitsSigned, Result, Ok, Err, IfOk, OnOk}
 use Rattle.std.specs.Int.{w128}
@@ -45,7 +45,7 @@ use Rattle.sym_model.specs.PastLimit.{HasPast, IsCoefficientOfSchubert}
 use Rattle.linear_combinations.specs.Gains.{weighed}
 use Rattle.sparse_polys.proofs.PolynomialValues.{pair_x_to_in}
 
--- ---- the polynomial of the list
+-- ---- the coefficients of a Schubert polynomial
 
 -- the coefficient of x^α in S_w is that in S_w read in one variable for each letter of w
 coefficient_is : (w α : List ℕ) → coefficient_of (polynomials.schubert w) α ≡ pair (schubert_in w (length w)) (at_only α)
@@ -122,7 +122,8 @@ not_negative f (u ∷ terms) h t m some = by m (least u.1 (f u.0)) (all terms) (
 
 -- ---- the list at the end of the transition rule
 
--- `terms` is S_w in every number of variables, a table of monomials, with coefficients below 2^127
+-- `terms` is S_w in every number of variables, a table of monomials with coefficients of 128 bits, and the sum of its shares at the
+-- identity is at most that of w
 record IsMade (w : List ℕ) (terms : WholeTerms) : Type 0 where
   value : (n : ℕ) (φ : List ℕ → ℤ) → over (λ e. pair (x_to_in e n) φ) terms ≡ acted n φ w []
   table : IsMonomialTable terms
@@ -176,7 +177,7 @@ module _ (w : List ℕ) (short : IsShort (length w) w) (terms : WholeTerms) (is 
       represents_sums (λ e. x_to_in e n) terms (schubert_in w n)
       (λ φ. total_ext (λ (t : List ℕ × ℤ). t.1 *ℤ pair (x_to_in t.0 n) φ) (λ (t : List ℕ × ℤ). t.1 *ℤ restricted_test n φ t.0) (λ t. ap (λ z. t.1 *ℤ z) (pair_x_to_in n t.0 φ)) terms ∙ sums n φ)
 
-  -- the table holds all coefficients, so none exceeds the limit
+  -- the table holds all coefficients of S_w, so none exceeds the limit
   fits : HasPast (IsCoefficientOfSchubert w) → ⊥
   fits (c, (α, e), large) =
       let a = sums (length w) (at_only α) in
@@ -216,9 +217,10 @@ pub fits_of : {E : Type 0} (w : List ℕ) (r : Result WholeTerms E) → IfOk r (
 fits_of w (Ok terms) h = h.fits
 fits_of w (Err e) h = tt
 
--- ---- overflows on the way
+-- ---- an overflow in the transition rule shows a coefficient that exceeds the limit
 
--- an overflow at a label makes the coefficient of x^γ exceed the limit, if γ occurs in the label times its polynomial
+-- if an overflow is at the monomial x^e of the list of v, and x^γ occurs in x^e·S_v in one variable for each letter of w, a
+-- coefficient of S_w exceeds the limit
 reached : (w : List ℕ) → IsOneLine w
     → (o : SharesOverflow (λ r v e. raised_terms r e) (λ e. 255 + size e) (length w) (top_of w 255) (λ share. share w [])) (γ : List ℕ)
     → at_only o.label o.label ≤ℤ acted (length w) (at_only γ) o.perm o.label → HasPast (IsCoefficientOfSchubert w)

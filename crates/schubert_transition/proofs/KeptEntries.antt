@@ -23,7 +23,7 @@ use Rattle.schubert_transition.specs.TermLists.{IsSchubertOf, IsMonomialTable}
 abbrev is : List ℕ → List ℕ → Bool
 is w = pointwise nat_eq w
 
--- removing the entry that a test finds leaves one entry less
+-- removing the entry that a test finds leaves one entry fewer
 removed_length : {K V : Type 0} (test : K → Bool) (es : List (K × V)) (e : K × V) → lookup_entry test es ≡ Some e → length (remove_entry test es) + 1 ≡ length es
 removed_length test [] e h = cc
 removed_length {K} {V} test (f ∷ es) e h = by (test f.0) h (removed_length test es e)
@@ -79,7 +79,7 @@ copied w terms copy second same h = record {
 pub as_long : (terms copy : WholeTerms) → IsMonomialTable terms → IsMonomialTable copy → HasSameCoefficients (pointwise nat_eq) (pos 0) terms copy → length copy ≤ length terms
 as_long terms copy first second same = length_same nat_list_eq_equiv same_partition (pos 0) whole refl copy terms second first (λ label. sym (same label))
 
--- after an insertion each entry is an old one or the inserted one
+-- if w is put into a store of Schubert polynomials with S_w of at most 4,096 terms, it remains such a store
 pub put_kept : (c : LruCache (List ℕ) WholeTerms) (w : List ℕ) (terms : WholeTerms) → AreKept c.entries → IsSchubertOf w terms
     → length terms ≤ 4096 → AreKept (put_entries (pointwise nat_eq) c w terms)
 put_kept c w terms kept h few = record { each = λ e at. by e (Contains-put_entries (pointwise nat_eq) c w terms e at) }
@@ -90,7 +90,7 @@ put_kept c w terms kept h few = record { each = λ e at. by e (Contains-put_entr
     by e (inr (same, inr was)) =
         (subst (λ t. IsSchubertOf e.0 t) (sym same) (subst (λ v. IsSchubertOf v terms) (same_partition w e.0 was.2) h), subst (λ (t : WholeTerms). length t ≤ 4096) (sym same) few)
 
--- if the look-up of w returns a reference to a polynomial, that polynomial is S_w
+-- if the look-up of w in a store of Schubert polynomials returns a reference to a polynomial, that polynomial is S_w
 pub found_if : (w : List ℕ) (entries : List (List ℕ × WholeTerms)) (o : Option (Bor WholeTerms)) → AreKept entries
     → option_copied o ≡ lookup (is w) entries → IfSome o (λ terms. IsSchubertOf w terms.now)
 found_if w entries None kept at = tt
@@ -104,7 +104,7 @@ put_if c new w terms (Ok x) held h few well ill =
     (record { kept = put_kept c w terms held.kept h few; few = put_length (pointwise nat_eq) c w terms held.few held.room; room = held.room })
 put_if c new w terms (Err e) held h few well ill = subst IsSchubertStore (sym ill) held
 
--- if the store did not have w and has changed, the new one has w with its polynomial in front
+-- if the old store does not have w, and the new one is the old one or the old one with w put in, then w is first in a new one that differs
 pub comes_first : (w : List ℕ) (old new : Store) → kept_for w old ≡ None
     → (new ≡ old) ⊎ ((polynomial : WholeTerms) × (new ≡ lru_cache (put_entries (pointwise nat_eq) old w polynomial) old.cap)) → (new ≡ old) ⊎ ComesFirst w old new
 comes_first w old new none (inl same) = inl same

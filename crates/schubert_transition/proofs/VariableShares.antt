@@ -1,7 +1,7 @@
--- Shares of monomials that wait with permutations (specs/Growth of `transition_walk`).
---     exact_share      a coefficient of the monomial times the Schubert polynomial
---     outside_falls    0 within the bounds of variables and degree, the weight of the permutation outside
---     within_terms     so the terms of a list lie within them
+-- Bounds for monomials x^e that wait with a permutation w, which no step of the transition rule raises (`IsShare` of `transition_walk`).
+--     exact_share      the coefficient of x^γ in x^e·S_w is such a bound
+--     outside_falls    so is `outside_share`: 0 if x^e and w are within the limits of variables and degree, else the weight of w
+--     within_terms     if the sum of |c|·outside_share over the terms of a list is 0, all of them are within these limits
 use Rattle.std.proofs.Common.{◌≡◌, ℕ, zero, suc, ◌+◌, ◌≤◌, Bool, true, false, ◌&&◌, cond, List, [], ◌∷◌, length, refl, ap, inl, inr, arith, leb, ℤ, pos, negsuc}
 use Rattle.std.specs.Prelude.{nat_abs}
 use Rattle.std.proofs.lemmas.Int.{ints}
@@ -36,7 +36,7 @@ use Rattle.linear_combinations.specs.Gains.{weighed}
 use Rattle.linear_combinations.proofs.Weighed.{weighed_among}
 use native.Mathlib.Nat.{mul-le-mul_left}
 
--- ---- the share that is a coefficient of x^e·S_w
+-- ---- a share: the coefficient of x^γ in x^e·S_w
 
 -- the coefficient of x^γ in x^e·S_w, in n variables
 abbrev pub coefficient_share : ℕ → List ℕ → List ℕ → List ℕ → ℕ
@@ -67,7 +67,7 @@ exact_share n top γ = record {
       omega (arith, ints);
 }
 
--- ---- the share that is 0 within bounds of variables and of the degree
+-- ---- `outside_share`: 0 if x^e and w are within bounds for variables and degree, and the weight of w otherwise
 
 -- whether x^e has at most n variables, and |e| plus the number of inversions of w is at most d
 abbrev pub is_within : ℕ → ℕ → List ℕ → List ℕ → Bool
@@ -121,11 +121,11 @@ outside_falls n d top = record { falls = λ r s w e short small t inside extent.
         let c = covers_weigh_less 255 r s w (omega arith) (record { one_line = short.one_line; few = small }) t in
         omega arith
 
--- if w has at most d inversions, the empty monomial has the share 0
+-- if w has at most d inversions, `outside_share` of the monomial 1 is 0
 pub outside_start : (n d : ℕ) (w : List ℕ) → inversions w ≤ d → outside_share n d w [] ≡ 0
 outside_start n d w h = outside_none n d w [] (omega arith) (omega arith)
 
--- if x^e has the share 0, it has at most n variables, and |e| plus the inversions of w is at most d
+-- if `outside_share` of x^e is 0, x^e has at most n variables, and |e| plus the number of inversions of w is at most d
 pub within_by : (n d : ℕ) (w e : List ℕ) → (1 ≤ outside_share n d w e → ⊥) → (length e ≤ n) × (size e + inversions w ≤ d)
 within_by n d w e none = by (is_within n d w e) refl
   where
@@ -133,7 +133,7 @@ within_by n d w e none = by (is_within n d w e) refl
     by true h = within_is n d w e h
     by false h = absurd (none (let p = weight_positive w in let q = ap (λ b. cond b 0 (weight w)) h in omega arith))
 
--- if a list of monomials has the weight 0, each of them has at most n variables, and its degree plus the inversions of w is at most d
+-- if the sum of |c|·outside_share over a table of monomials is 0, each has at most n variables, and its degree plus the inversions of w is at most d
 pub within_terms : (n d : ℕ) (w : List ℕ) (terms : WholeTerms) → IsMonomialTable terms → weighed (outside_share n d w) terms ≤ 0
     → (t : List ℕ × ℤ) → Among t terms → (length t.0 ≤ n) × (size t.0 + inversions w ≤ d)
 within_terms n d w terms is none t m =

@@ -6,7 +6,7 @@ use Rattle.sym_model.specs.Schubert.{schubert_in}
 use Rattle.sym_model.specs.WholeTerms.{WholeTerms}
 use Rattle.sym_model.proofs.PolynomialLaws.{restricted_test}
 
--- x^exponents times the Schubert polynomial of w, in n variables, paired with a test function
+-- the sum of c·φ(α) over the terms c·x^α of x^exponents·S_w in n variables
 abbrev pub acted : ℕ → (List ℕ → ℤ) → List ℕ → List ℕ → ℤ
 acted n φ w exponents =
     restricted_test n (λ α. pair (schubert_in w n) (λ β. φ (join α β))) exponents

@@ -65,7 +65,7 @@ acted_step n r s φ w e o t =
         sym (+ℤ_idl (total (λ (x : List ℕ). pos 0) (covers_down r (times_swap r s w)))
         ∙ total_zero (covers_down r (times_swap r s w)))
 
--- if w is the identity, x^e·S_w is x^e
+-- if w is the identity, x^e·S_w is x^e in n variables, both paired with φ
 pub identity_shows : (n : ℕ) (φ : List ℕ → ℤ) (e : List ℕ)
     → acted n φ (1 ∷ []) e ≡ restricted_test n φ e
 identity_shows n φ e =

@@ -25,12 +25,13 @@ pub record IsTerm (n d : ℕ) (t : List ℕ × ℤ) : Type 0 where
 abbrev pub AreTerms : ℕ → ℕ → WholeTerms → Type 0
 AreTerms n d terms = (t : List ℕ × ℤ) → Among t terms → IsTerm n d t
 
--- each monomial occurs once, with a coefficient that is not 0
+-- each monomial occurs once, within the limits of a label, with a coefficient that is not 0
 abbrev pub IsMonomialTable : WholeTerms → Type 0
 IsMonomialTable terms = IsCombination (pointwise nat_eq) is_monomial_label whole terms
 
--- the list is the Schubert polynomial of the permutation, in every number of variables, with
--- coefficients below 2^127
+-- the list is the Schubert polynomial of the permutation w, in every number of variables: each monomial occurs once,
+-- with at most as many variables as w has letters, of at most the degree ℓ(w), and with a coefficient from 1 to
+-- 2^127 - 1
 pub record IsSchubertOf (w : List ℕ) (terms : WholeTerms) : Type 0 where
   pub represents : (n : ℕ) → Represents (λ exponents. x_to_in exponents n) (as_fractions terms)
       (schubert_in w n) 1

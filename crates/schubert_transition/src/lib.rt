@@ -2,12 +2,12 @@
 //!
 //! What is proved:
 //!
-//! `schubert`, `schubert_terms`: the Schubert polynomial of a permutation, in every number of
-//! variables, by transition (`transition_walk`); `Large` is returned if and only if a coefficient
-//! is 2^127 or more. `Memo`: a bounded store of Schubert polynomials over `lru`; each kept
-//! polynomial is that of its permutation, in every number of variables, with at most 4,096 terms.
-//! Its `schubert` and `schubert_terms` return what the functions without a store do; `kept` returns
-//! None if and only if the polynomial is not kept.
+//! `schubert` and `schubert_terms` give the Schubert polynomial of a permutation, in every number
+//! of variables, by the transition rule (`transition_walk`); `Large` is returned if and only if a
+//! coefficient is 2^127 or more. `Memo` is a bounded store of Schubert polynomials, an LRU cache;
+//! each kept polynomial is that of its permutation, in every number of variables, with at most
+//! 4,096 terms. Its `schubert` and `schubert_terms` return what the functions without a store do;
+//! `kept` returns None if and only if the polynomial is not kept.
 //!
 //! The store never keeps more than its capacity (`IsSchubertStore`, which every method that changes
 //! the store ensures). A kept polynomial moves to the front when it is requested (`GoesFirst`);

@@ -51,7 +51,7 @@ impl Model for Memo {
 }
 
 impl Memo {
-    /// An empty store of at most `capacity` polynomials.
+    /// An empty store of at most `capacity` polynomials; the capacity is from 1 to 4,096.
     pub fn new(alloc: Global, capacity: usize) -> Result<Memo, NoMemory>
         requires { (1 ≤ capacity) × (capacity ≤ 4096) }
         ensures { IfOk result (λ memo. memo ≡ lru_cache [] capacity) }
@@ -103,8 +103,9 @@ impl Memo {
         self.cache.peek(w)
     }
 
-    /// The terms of the Schubert polynomial of a permutation, in the printed order; the polynomial
-    /// is kept as by `schubert`.
+    /// The terms of the Schubert polynomial of a permutation, in the printed order. If the
+    /// polynomial is kept, it moves to the front of the store; otherwise it is inserted in front,
+    /// or the store is unchanged.
     ///
     /// Returns `Large` if and only if a coefficient exceeds 2^127 - 1.
     pub fn schubert_terms(&mut self, w: &Perm) -> Result<Terms<Monomial, Int>, SumFault>

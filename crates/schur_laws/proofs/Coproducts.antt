@@ -1,7 +1,7 @@
--- The coproduct of a Schur polynomial: tableaux cut at an entry, with their contents.
+-- The coproduct of a Schur polynomial, by the contents of tableaux that are cut at an entry.
 use Rattle.std.proofs.Common.{◌≡◌, ℕ, zero, suc, ◌+◌, ◌-◌, ◌<◌, ◌≤◌, ◌==◌, ◌⊎◌, inl, inr, true, ◌&&◌, cond, List, [], ◌∷◌, ◌++◌, append-nil, map, length, replicate, refl, sym, ap, ap₂, ◌∙◌, arith, ℤ, pos, ◌+ℤ◌, ◌*ℤ◌, filter, flat_map}
 use Rattle.std.proofs.lemmas.Bool.{ne_eqb, eq-eqb, cases_eq, lt-ltb}
-use Rattle.std.proofs.lemmas.List.{map-append}
+use Rattle.std.proofs.lemmas.List.{map-append, length-replicate}
 use Rattle.sym_model.specs.Sum.{total}
 use Rattle.sym_model.specs.Partition.{IsPartition, columns, part, after, in_front, without_last_zeros}
 use Rattle.sym_model.specs.Polynomial.{Term, Same, pair}
@@ -19,9 +19,10 @@ use Rattle.schur_laws.specs.InnerShapes.{shapes_inside}
 use Rattle.schur_laws.proofs.RisingWords.{rising_words, raised_by, AreLetters, after_shift, rising-tells}
 use Rattle.schur_laws.proofs.CutRows.{tableaux_below, may_follow, total_straight, total_semistandard, HaveLetters, below-tells, below-same}
 use Rattle.schur_laws.proofs.CutTableaux.{glued, cut_below, total_cut}
-use Rattle.schur_laws.proofs.InnerShapeLists.{IsInside, inside-tells, same-without_last_zeros, contains-without_last_zeros}
-use Rattle.sym_model.specs.Bounded.{AreAtMost}
+use Rattle.schur_laws.proofs.InnerShapeLists.{IsInside, inside-tells, contains-without_last_zeros}
 use lib.IntN.{+ℤ_idr}
+use Rattle.sym_model.proofs.Parts.{get_or-without_last_zeros}
+use Rattle.schur_laws.proofs.StripsRemoved.{zeros_at_most}
 
 -- ---- skew Schur polynomials as sums over the first row of a tableau
 
@@ -126,15 +127,8 @@ content-glued n k S T l m e =
 
 -- ---- the coproduct in n + k variables
 
-zeros_up_to : (n m : ℕ) → AreAtMost n (replicate m 0)
-zeros_up_to n zero = tt
-zeros_up_to n (suc m) = (omega arith, zeros_up_to n m)
-
-length_zeros : (m : ℕ) → length {A = ℕ} (replicate m 0) ≡ m
-length_zeros zero = refl
-length_zeros (suc m) = ap suc (length_zeros m)
-
--- the sum over the tableaux S of an inner shape and T of the rest of the shape, with φ at the content of both
+-- the sum, over the tableaux S of `inner` and T of shape/inner, of φ at the content of S and T together is the pairing of φ with the product of the
+-- Schur polynomial of `inner` and the skew Schur polynomial of shape/inner, each in its own variables
 one_inside : (n k : ℕ) (shape inner : List ℕ) (c m : ℕ) (φ : List ℕ → ℤ) → IsInside shape m inner
     → total (λ S. total (λ T. φ (content (n + k) (letters_of (glued n S T)))) (tableaux_below k shape inner c [])) (tableaux_below n inner [] 0 (replicate c 0))
     ≡ pair (beside (schur (without_last_zeros inner) n) (skew_schur shape (without_last_zeros inner) k)) φ
@@ -144,7 +138,7 @@ one_inside n k shape inner c m φ r =
     (λ S o. let s = below-tells n inner [] 0 (replicate c 0) S o in
     total_among (λ T. φ (content (n + k) (letters_of (glued n S T)))) (λ T. φ (content n (letters_of S) ++ content k (letters_of T))) (tableaux_below k shape inner c [])
     (λ T q. let t = below-tells k shape inner c [] T q in ap φ (content-glued n k S T s.letters t.letters (s.rows ∙ r.rows ∙ sym t.rows)))
-    ∙ sym (below-same k shape part_of inner c [] (λ T. φ (content n (letters_of S) ++ content k (letters_of T))) (same-without_last_zeros inner))
+    ∙ sym (below-same k shape part_of inner c [] (λ T. φ (content n (letters_of S) ++ content k (letters_of T))) (get_or-without_last_zeros inner))
     ∙ sym (pair_skew_schur k shape part_of c (λ β. φ (content n (letters_of S) ++ β)) (contains-without_last_zeros shape inner r.inside)))
     ∙ below-without_last_zeros n inner (replicate c 0) (λ l. pair (skew_schur shape part_of k) (λ β. φ (content n l ++ β)))
     ∙ sym (below_zeros n c part_of (λ S. pair (skew_schur shape part_of k) (λ β. φ (content n (letters_of S) ++ β))))
@@ -156,11 +150,11 @@ pub coproduct : (n k : ℕ) (shape : List ℕ) → IsPartition shape
 coproduct n k shape p =
     same_from_pair (schur shape (n + k)) (flat_map (λ inner. beside (schur (without_last_zeros inner) n) (skew_schur shape (without_last_zeros inner) k)) (shapes_inside shape (columns shape))) (λ φ.
     let c = columns shape in
-    let z = length_zeros c in
+    let z = length-replicate {A = ℕ} c 0 in
     pair_skew_schur (n + k) shape [] 0 φ (contains_nothing shape)
     ∙ below_zeros (n + k) c shape (λ T. φ (content (n + k) (letters_of T)))
     ∙ ap (λ q. total (λ T. φ (content (n + k) (letters_of T))) (tableaux_below (n + k) shape [] 0 q)) (sym (append-nil (replicate c 0)))
-    ∙ total_cut n k shape (replicate c 0) [] (λ T. φ (content (n + k) (letters_of T))) (zeros_up_to n c) p.falls (omega arith)
+    ∙ total_cut n k shape (replicate c 0) [] (λ T. φ (content (n + k) (letters_of T))) (zeros_at_most n c) p.falls (omega arith)
     ∙ ap (λ i. cut_below n k shape i (replicate c 0) [] (λ S T. φ (content (n + k) (letters_of (glued n S T))))) z
     ∙ total_among (λ inner. total (λ S. total (λ T. φ (content (n + k) (letters_of (glued n S T)))) (tableaux_below k shape inner c [])) (tableaux_below n inner [] 0 (replicate c 0)))
     (λ inner. pair (beside (schur (without_last_zeros inner) n) (skew_schur shape (without_last_zeros inner) k)) φ) (shapes_inside shape c)

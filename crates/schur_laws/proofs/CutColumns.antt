@@ -1,5 +1,5 @@
 -- Two rows have strictly increasing columns if and only if both parts of the rows, cut at a letter n, do.
-use Rattle.std.proofs.Common.{◌≡◌, ℕ, zero, suc, ◌+◌, ◌-◌, ◌<◌, ◌≤◌, ◌⊎◌, inl, inr, nat_le, nat_lt, Bool, true, false, ◌&&◌, List, [], ◌∷◌, ◌++◌, length, drop, refl, sym, ap, ap₂, ◌∙◌, arith}
+use Rattle.std.proofs.Common.{◌≡◌, ℕ, suc, ◌+◌, ◌-◌, ◌<◌, ◌≤◌, ◌⊎◌, inl, inr, nat_le, nat_lt, Bool, true, false, ◌&&◌, List, [], ◌∷◌, ◌++◌, length, drop, refl, sym, ap, ap₂, ◌∙◌, arith}
 use Rattle.std.proofs.lemmas.Bool.{cases_lt, le-leb, lt-leb, lt-ltb, le-ltb}
 use Rattle.sym_model.specs.Schur.{columns_rise}
 use Rattle.sym_model.proofs.Numbers.{nat_le-suc}
@@ -7,6 +7,7 @@ use Rattle.sym_model.proofs.Lists.{drop-none}
 use Rattle.tableau_laws.proofs.PaddedTableaux.{columns_rise-nothing}
 use Rattle.schur_laws.proofs.RisingWords.{AreLetters, raised_by}
 use Rattle.sym_model.specs.Bounded.{AreAtMost}
+use Rattle.std.proofs.lemmas.List.{drop_all}
 
 pub letters_up_to : (n : ℕ) (w : List ℕ) → AreLetters n w → AreAtMost n w
 letters_up_to n [] h = tt
@@ -35,11 +36,7 @@ columns_cut m n [] (a ∷ q) (b ∷ v) w f g h k =
     ap (λ t. t && columns_rise (raised_by n q) (v ++ raised_by n w)) (le-ltb (n + a) b (omega arith))
     ∙ sym (ap (λ t. t && (true && columns_rise (a ∷ q) (drop (0 - suc (length v)) w))) (lt-leb (suc (length v)) 0 (omega arith)))
 columns_cut m n (a ∷ p) q [] [] f g h k =
-    sym (ap₂ (λ s t. s && t) (le-leb 0 (suc (length p)) (omega arith)) (ap (columns_rise q) (nothing (suc (length p) - 0)) ∙ columns_rise-nothing q))
-  where
-    nothing : (i : ℕ) → drop {A = ℕ} i [] ≡ []
-    nothing zero = refl
-    nothing (suc i) = refl
+    sym (ap₂ (λ s t. s && t) (le-leb 0 (suc (length p)) (omega arith)) (ap (columns_rise q) (drop_all (suc (length p) - 0) [] (omega arith)) ∙ columns_rise-nothing q))
 columns_cut m n (a ∷ p) q [] (b ∷ w) f g h k =
     let low = h.0 in
     let high = f.0 in

@@ -1,5 +1,5 @@
--- Semistandard tableaux row by row from the top, each row below the one above it.
-use Rattle.std.proofs.Common.{◌≡◌, ℕ, zero, suc, ◌-◌, Bool, true, false, ◌&&◌, cond, List, [], ◌∷◌, map, length, drop, get_or, refl, sym, ap, ◌∙◌, subst, inl, inr, arith, ℤ, pos, flat_map}
+-- Semistandard tableaux listed row by row from the top: each further row is one that fits below the row before it.
+use Rattle.std.proofs.Common.{◌≡◌, ℕ, suc, ◌-◌, Bool, true, false, ◌&&◌, cond, List, [], ◌∷◌, map, length, drop, get_or, refl, sym, ap, ◌∙◌, subst, inl, inr, arith, ℤ, pos, flat_map}
 use Rattle.sym_model.specs.Sum.{total, Among}
 use Rattle.sym_model.specs.Partition.{part}
 use Rattle.sym_model.specs.Schur.{words, row_lengths, fillings_of, row_rises, columns_rise, semistandard}
@@ -7,6 +7,7 @@ use Rattle.sym_model.proofs.Sums.{total_ext, total_map, total_each, Among_from_e
 use Rattle.sym_model.proofs.Lists.{drop-none}
 use Rattle.sym_model.proofs.Parts.{part-drop}
 use Rattle.schur_laws.proofs.RisingWords.{rising_words, IsWord, AreLetters, total_rising_words, rising-tells}
+use Rattle.strip_laws.proofs.Containment.{get_or-below}
 
 -- the tableaux of outer/inner with entries from 1 to n that fit below a row p, which begins in column c + 1
 abbrev pub tableaux_below : ℕ → List ℕ → List ℕ → ℕ → List ℕ → List (List (List ℕ))
@@ -138,12 +139,7 @@ abbrev pub SameParts : List ℕ → List ℕ → Type 0
 SameParts inner other = (i : ℕ) → get_or inner i 0 ≡ get_or other i 0
 
 next_parts : (inner other : List ℕ) → SameParts inner other → SameParts (drop 1 inner) (drop 1 other)
-next_parts inner other e i = at inner i ∙ e (suc i) ∙ sym (at other i)
-  where
-    at : (l : List ℕ) (j : ℕ) → get_or (drop 1 l) j 0 ≡ get_or l (suc j) 0
-    at [] zero = refl
-    at [] (suc j) = refl
-    at (b ∷ l) j = ap (λ m. get_or m j 0) (drop-none l)
+next_parts inner other e i = get_or-below inner i ∙ e (suc i) ∙ sym (get_or-below other i)
 
 pub below-same : (n : ℕ) (outer inner other : List ℕ) (c : ℕ) (p : List ℕ) (h : List (List ℕ) → ℤ) → SameParts inner other
     → total h (tableaux_below n outer inner c p) ≡ total h (tableaux_below n outer other c p)

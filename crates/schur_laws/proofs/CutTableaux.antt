@@ -1,17 +1,17 @@
 -- The tableaux of a straight shape with entries from 1 to n + k, cut at the entry n into a tableau of an inner shape
 -- and one of the skew shape that is left.
-use Rattle.std.proofs.Common.{◌≡◌, ℕ, ◌+◌, ◌-◌, ◌≤◌, inl, inr, nat_le, Bool, true, false, ◌&&◌, cond, List, [], ◌∷◌, ◌++◌, map, length, drop, min, refl, sym, ap, ◌∙◌, arith, ℤ, pos}
+use Rattle.std.proofs.Common.{◌≡◌, ℕ, ◌+◌, ◌-◌, ◌≤◌, nat_le, Bool, true, false, ◌&&◌, cond, List, [], ◌∷◌, ◌++◌, map, length, drop, min, refl, sym, ap, ◌∙◌, arith, ℤ, pos}
 use Rattle.std.proofs.lemmas.Int.{ints}
-use Rattle.sym_model.specs.Sum.{total, Among}
+use Rattle.sym_model.specs.Sum.{total}
 use Rattle.sym_model.specs.Partition.{Falls, columns}
 use Rattle.sym_model.specs.Schur.{columns_rise}
-use Rattle.sym_model.proofs.AfterLists.{after_among}
 use Rattle.sym_model.proofs.Sums.{total_ext, total_among, total_zero, total_map, total_each, total_exchange, total_cond as total_tested}
 use Rattle.schur_laws.specs.InnerShapes.{up_to, shapes_inside}
 use Rattle.schur_laws.proofs.RisingWords.{rising_words, raised_by, cut_sum, total_cut_words, total_up_to, rising-tells}
 use Rattle.schur_laws.proofs.CutRows.{tableaux_below, total_straight, total_skew}
 use Rattle.schur_laws.proofs.CutColumns.{letters_up_to, columns_cut}
 use Rattle.sym_model.specs.Bounded.{AreAtMost}
+use Rattle.schur_laws.proofs.InnerShapeLists.{among_up_to}
 
 -- the rows of two fillings one after the other, the letters of the second raised by n
 abbrev pub glued : ℕ → List (List ℕ) → List (List ℕ) → List (List ℕ)
@@ -19,7 +19,8 @@ glued n [] T = []
 glued n (v ∷ S) [] = []
 glued n (v ∷ S) (w ∷ T) = (v ++ raised_by n w) ∷ glued n S T
 
--- the sum of h(S, T) over the inner shapes, the tableaux S of the inner shape that fit below p, and the tableaux T of the rest that fit below q
+-- the sum of h(S, T) over the inner shapes, the tableaux S of the inner shape that fit below p, and the tableaux T of the skew shape outer/inner that
+-- fit below q
 abbrev pub cut_below : ℕ → ℕ → List ℕ → ℕ → List ℕ → List ℕ → (List (List ℕ) → List (List ℕ) → ℤ) → ℤ
 cut_below n k outer c p q h = total (λ inner. total (λ S. total (λ T. h S T) (tableaux_below k outer inner c q)) (tableaux_below n inner [] 0 p)) (shapes_inside outer c)
 
@@ -27,7 +28,7 @@ cut_below n k outer c p q h = total (λ inner. total (λ S. total (λ T. h S T) 
 abbrev before : (List (List ℕ) → List (List ℕ) → ℤ) → List ℕ → List ℕ → List (List ℕ) → List (List ℕ) → ℤ
 before h v w S T = h (v ∷ S) (w ∷ T)
 
--- the sum of h(S, T) over the tableaux S of one inner shape and T of the rest
+-- the sum of h(S, T) over the tableaux S of one inner shape that fit below p and the tableaux T of the skew shape outer/inner that fit below q
 abbrev over_shape : ℕ → ℕ → ℕ → List ℕ → ℕ → List ℕ → List ℕ → (List (List ℕ) → List (List ℕ) → ℤ) → List ℕ → ℤ
 over_shape n k a outer c p q h inner = total (λ S. total (λ T. h S T) (tableaux_below k (a ∷ outer) inner c q)) (tableaux_below n inner [] 0 p)
 
@@ -89,14 +90,10 @@ total_cut n k (a ∷ outer) p q h f g l =
     (λ b. total (cut_sum n k (λ u. cond (columns_rise (p ++ raised_by n q) u) (total (λ T. h (u ∷ T)) (tableaux_below (n + k) outer [] 0 u)) (pos 0)) (a - b)) (rising_words n 0 b))
     (λ b. cond (nat_le b (length p)) (total (λ v. total (λ w. cond (columns_rise p v && columns_rise q (drop (length p - b) w)) (cut_below n k outer b v w (λ S T. h (glued n (v ∷ S) (w ∷ T)))) (pos 0)) (rising_words k 0 (a - b))) (rising_words n 0 b)) (pos 0))
     (up_to a)
-    (λ b m. cut_at b (up_to_tells b m) (λ v w lv lw lb. total_cut n k outer v w (λ T. h ((v ++ raised_by n w) ∷ T)) lv (next_falls a outer g).0 lb))
+    (λ b m. cut_at b (among_up_to a b m) (λ v w lv lw lb. total_cut n k outer v w (λ T. h ((v ++ raised_by n w) ∷ T)) lv (next_falls a outer g).0 lb))
     ∙ total_up_to a (length p) (λ b. total (λ v. total (λ w. cond (columns_rise p v && columns_rise q (drop (length p - b) w)) (cut_below n k outer b v w (λ S T. h (glued n (v ∷ S) (w ∷ T)))) (pos 0)) (rising_words k 0 (a - b))) (rising_words n 0 b))
     ∙ sym (first_rows n k a outer (length p) p q (λ S T. h (glued n S T)))
   where
-    up_to_tells : (b : ℕ) → Among b (up_to a) → b ≤ a
-    up_to_tells b (inl e) = omega arith
-    up_to_tells b (inr m) = let r = after_among 0 a b m in let z = r.1 in omega arith
-
     split : (t s : Bool) (z y : ℤ) → z ≡ y → cond (t && s) z (pos 0) ≡ cond t (cond s y (pos 0)) (pos 0)
     split true true z y e = e
     split true false z y e = refl

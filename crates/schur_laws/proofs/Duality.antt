@@ -1,10 +1,9 @@
--- The number of good tableaux of λ/μ for the start σ with sum τ equals the number of good tableaux of τ/σ for the start
--- μ with sum λ.
-use Rattle.std.proofs.Common.{◌≡◌, ℕ, zero, suc, ◌<◌, ◌≤◌, ◌⊎◌, ◌==◌, Bool, true, false, cond, ◌&&◌, List, [], ◌∷◌, map, length, get_or, nat_le, sym, ◌∙◌, ap, subst, refl, inl, inr, arith, pos, filter}
+-- The number of good tableaux T of λ/μ with σ + content(T) = τ equals the number of good tableaux U of τ/σ with μ + content(U) = λ.
+use Rattle.std.proofs.Common.{◌≡◌, ℕ, zero, suc, ◌<◌, ◌≤◌, ◌⊎◌, ◌==◌, true, cond, ◌&&◌, List, [], ◌∷◌, map, length, get_or, nat_le, sym, ◌∙◌, ap, subst, refl, inl, inr, arith, pos, filter}
 use Rattle.std.proofs.lemmas.List.{length-map, get_or_past}
 use Rattle.std.proofs.lemmas.Bool.{and_parts, cases_lt, leb-true, eqb-true}
 use Rattle.sym_model.specs.Sum.{Among, Once, Within}
-use Rattle.sym_model.specs.Partition.{Falls, ArePositive, IsPartition, rows, without_last_zeros}
+use Rattle.sym_model.specs.Partition.{Falls, IsPartition, rows, without_last_zeros}
 use Rattle.sym_model.specs.Polynomial.{same, resize}
 use Rattle.sym_model.specs.Schur.{contains}
 use Rattle.sym_model.specs.GoodTableau.{is_falling}
@@ -18,8 +17,10 @@ use Rattle.tableau_laws.proofs.ColumnSums.{of_good_columns, total_good_columns}
 use Rattle.tableau_laws.proofs.ColumnCounts.{sum_at_start, falling-resize}
 use Rattle.schur_laws.proofs.GoodTableaux.{is_counted, IsTableau, tableau_tells, tableau_back}
 use Rattle.schur_laws.proofs.Companions.{companion, length_companion, IsCompanion, companion_tells, companion_tableau, told_by_companion}
+use Rattle.sym_model.proofs.Parts.{positive-at}
+use Rattle.tableau_laws.proofs.GoodReadings.{both_tests}
 
--- the padded rows of the good tableaux of outer/inner for start, with entries from 1 to n, whose sum is `end`
+-- the padded rows of the good tableaux of outer/inner for start, with entries from 1 to n, for which start plus the content is `end`
 abbrev pub counted : ℕ → List ℕ → List ℕ → List ℕ → List ℕ → List (List (List ℕ))
 counted n start outer inner end = filter (is_counted n start end) (fillings_over n (pattern_of outer inner))
 
@@ -39,24 +40,19 @@ contains_places [] (b ∷ inner) h (suc r) =
 contains_places (a ∷ outer) (b ∷ inner) h zero = leb-true b a (and_parts (nat_le b a) (contains outer inner) h).0
 contains_places (a ∷ outer) (b ∷ inner) h (suc r) = contains_places outer inner (and_parts (nat_le b a) (contains outer inner) h).1 r
 
-positive_at : (parts : List ℕ) → ArePositive parts → (r : ℕ) → r < length parts → 0 < get_or parts r 0
-positive_at [] p r l = absurd (omega arith)
-positive_at (a ∷ parts) p zero l = p.0
-positive_at (a ∷ parts) p (suc r) l = positive_at parts p.1 r (omega arith)
-
--- if a partition `inner` is inside `outer`, it has no more rows
+-- if a partition `inner` is inside `outer`, `inner` has no more rows than `outer`
 pub rows_inside : (outer inner : List ℕ) → IsPartition inner → contains outer inner ≡ true → rows inner ≤ rows outer
 rows_inside outer inner p c = by (cases_lt (length outer) (length inner))
   where
     by : (length outer < length inner) ⊎ (length inner ≤ length outer) → length inner ≤ length outer
     by (inl l) =
-        let a = positive_at inner p.positive (length outer) l in
+        let a = positive-at inner (length outer) p.positive l in
         let b = contains_places outer inner c (length outer) in
         let d = get_or_past outer (length outer) 0 (omega arith) in
         absurd (omega arith)
     by (inr l) = l
 
--- ---- the tests that a counted tableau passes
+-- the properties of the tableaux in the list `counted`
 
 pub counted_tells : (n : ℕ) (start outer inner end : List ℕ) (P : List (List ℕ)) → Falls outer → contains outer inner ≡ true → length start ≤ n → length end ≤ n
     → Among P (counted n start outer inner end) → IsTableau n start outer inner end P
@@ -110,24 +106,19 @@ same_counts start outer inner end s o i e h g ls li =
     let b = at_most inner end start outer i e s o g h li ls in
     omega arith
 
--- ---- the number of counted tableaux, column by column
+-- the length of the list `counted`, as a sum over the ways to add columns
 
 pub counted_by_columns : (n : ℕ) (start outer inner end : List ℕ) → IsPartition start → length start ≤ n
     → pos (length (counted n start outer inner end)) ≡ over_columns n (column_lines outer inner) (is_sum end) (resize n start) []
 counted_by_columns n start outer inner end s h =
     length-select (is_counted n start end) (fillings_over n (pattern_of outer inner))
     ∙ total_ext (λ (P : List (List ℕ)). cond (is_counted n start end P) (pos 1) (pos 0)) (λ (P : List (List ℕ)). of_good_columns n start (is_sum end) (transposed P))
-    (λ P. both (are_tableau_columns (transposed P) && is_good_by_columns n start (transposed P)) (same (without_last_zeros (sum_reached n start (transposed P))) end))
+    (λ P. sym (both_tests (are_tableau_columns (transposed P) && is_good_by_columns n start (transposed P)) (same (without_last_zeros (sum_reached n start (transposed P))) end) (pos 1)))
     (fillings_over n (pattern_of outer inner))
     ∙ transposed-sum n (pattern_of outer inner) (of_good_columns n start (is_sum end))
     ∙ total_good_columns n start (column_lines outer inner) (is_sum end)
     ∙ ap (λ ν. cond (is_falling ν) (over_columns n (column_lines outer inner) (is_sum end) ν []) (pos 0)) (sum_at_start n start h)
     ∙ ap (λ b. cond b (over_columns n (column_lines outer inner) (is_sum end) (resize n start) []) (pos 0)) (falling-resize n start s.falls)
-  where
-    both : (a b : Bool) → cond (a && b) (pos 1) (pos 0) ≡ cond a (cond b (pos 1) (pos 0)) (pos 0)
-    both true true = refl
-    both true false = refl
-    both false b = refl
 
 pub duality : (start outer inner end : List ℕ) → IsPartition start → IsPartition outer → IsPartition inner → IsPartition end
     → contains outer inner ≡ true → contains end start ≡ true

@@ -1,5 +1,5 @@
 -- Families of symmetric polynomials: sums, multiples and products of them, the bases, the values of expressions and of lists.
---     family-one, -plus, -scale, -negate, -times, -basis, -value      each of these is a family
+--     family-one, -plus, -scale, -negate, -times, -basis, -value      1, sums, multiples, negatives, products, bases and values are families
 --     degree-value                                                    the value of an expression has at most its degree
 --     expansions_agree                                                an expansion in enough variables is one in every number
 use Rattle.std.proofs.Common.{ℕ, ◌/◌, ◌≤◌, inl, inr, true, cond, ℤ, pos, neg_ℤ, List, [], ◌∷◌, length, ◌*ℤ◌, refl, sym, ◌∙◌, ap, arith}
@@ -130,7 +130,7 @@ family-value (difference e f) p =
     (family-negate (λ n. scale (pos (q / denominator f)) (cleared_value f n)) (family-scale (pos (q / denominator f)) (cleared_value f) (family-value f p.1)))
 family-value (product e f) p = family-times (cleared_value e) (cleared_value f) (family-value e p.0) (family-value f p.1)
 
--- ---- the degrees of values
+-- ---- the degrees of the values of expressions
 
 -- above the degree of an expression each coefficient of its value is 0, at an exponent list of any length
 pub degree-value : (e : Tree) (n : ℕ) → HasDegreeAtMost (degree e) (cleared_value e n)

@@ -36,12 +36,12 @@ falling_padded (suc d) m (suc a ∷ α) f l h = ap (λ (r : List ℕ). suc a ∷
 
 -- ---- families of symmetric polynomials in different numbers of variables
 
--- the coefficient of x^α in f(n) is that in f(n + m) of α followed by m zeros
+-- for a symmetric family f, the coefficient of x^α in f(n) is that in f(n + m) of α followed by m zeros; it is 0 if α has not n entries
 coefficient_in_fewer : (f : ℕ → Poly) (n m : ℕ) (α : List ℕ) → IsSymmetricFamily f
     → coefficient (f n) α ≡ cond (eqb (length α) n) (coefficient (f (n + m)) (α ++ replicate m 0)) (pos 0)
 coefficient_in_fewer f n m α s = sym (s.compatible n (n + m) (omega arith) α) ∙ coefficient_restrict_padded n m (f (n + m)) α (s.variables (n + m))
 
--- the coefficient in f(d + m) of α, of length d, followed by m zeros, is that of x^α in f(d)
+-- for a symmetric family f, the coefficient in f(d + m) of α, of length d, followed by m zeros is that of x^α in f(d)
 coefficient_in_more : (f : ℕ → Poly) (d m : ℕ) (α : List ℕ) → IsSymmetricFamily f → length α ≡ d
     → coefficient (f (d + m)) (α ++ replicate m 0) ≡ coefficient (f d) α
 coefficient_in_more f d m α s l =
@@ -53,7 +53,7 @@ agree_in_fewer f g n m s t e α =
     ∙ ap (λ c. cond (eqb (length α) n) c (pos 0)) (e (α ++ replicate m 0))
     ∙ sym (coefficient_in_fewer g n m α t)
 
--- if f and g agree in d variables and have a degree of at most d, their coefficients at weakly decreasing exponents agree in d + m variables
+-- if the symmetric families f and g of degree at most d agree in d variables, their coefficients at weakly decreasing exponents agree in d + m
 agree_falling : (d m : ℕ) (f g : ℕ → Poly) → IsSymmetricFamily f → IsSymmetricFamily g
     → HasDegreeAtMost d (f (d + m)) → HasDegreeAtMost d (g (d + m)) → Same (f d) (g d)
     → (α : List ℕ) → Falls α → coefficient (f (d + m)) α ≡ coefficient (g (d + m)) α
@@ -66,7 +66,7 @@ agree_falling d m f g s t p q e α h = elim (cases_eq (length α) (d + m)) [
   ]
 ]
 
--- and so, since they are symmetric, at all exponents
+-- if the symmetric families f and g agree in d variables and have a degree of at most d, they agree in d + m variables
 agree_in_more : (d m : ℕ) (f g : ℕ → Poly) → IsSymmetricFamily f → IsSymmetricFamily g
     → HasDegreeAtMost d (f (d + m)) → HasDegreeAtMost d (g (d + m)) → Same (f d) (g d) → Same (f (d + m)) (g (d + m))
 agree_in_more d m f g s t p q e α =

@@ -1,4 +1,4 @@
--- Good tableaux with a given sum, by the number of times that each letter occurs in each row.
+-- Good tableaux for which start plus the content is a given list, by the number of times that each letter occurs in each row.
 use Rattle.std.proofs.Common.{◌≡◌, ℕ, zero, suc, ◌+◌, ◌-◌, ◌<◌, ◌≤◌, ◌⊎◌, ◌==◌, Bool, true, cond, ◌&&◌, List, [], ◌∷◌, map, length, drop, get_or, nat_le, sym, ◌∙◌, ap, subst, refl, inl, inr, arith}
 use Rattle.std.proofs.lemmas.Bool.Decides.{nat_tests}
 use Rattle.std.proofs.lemmas.Bool.{cases_lt, and_parts, and_from}
@@ -16,13 +16,14 @@ use Rattle.tableau_laws.proofs.PatternFillings.{AllFit, filling_lengths}
 use Rattle.tableau_laws.proofs.Grids.{grid-transposed}
 use Rattle.tableau_laws.proofs.RowSums.{pattern_lengths}
 use Rattle.alternant_laws.proofs.Exchanges.{length_content}
-use Rattle.alternant_laws.proofs.StraightShapes.{falls_places, same_places}
+use Rattle.alternant_laws.proofs.StraightShapes.{falls_places, same_places, at_resize}
 use Rattle.alternant_laws.proofs.FallingAlternants.{resize-without_last_zeros, without_last_zeros-resize}
 use Rattle.schur_laws.proofs.RisingRows.{up_to_letter, one_more_letter, zeros_up_to, Rises, below_counts, counts_below}
 use Rattle.schur_laws.proofs.Interlacing.{add_up, add_up-last, add_up-none}
-use Rattle.schur_laws.proofs.TableauPlaces.{row, RowCounts, line_tells, line_back, fit_at, fit_all, grid_tells, grid_back, letters_right, letters_in_all, good_tells, good_back, sum_at, places_fall, resized_at}
+use Rattle.schur_laws.proofs.TableauPlaces.{row, RowCounts, line_tells, line_back, fit_at, fit_all, grid_tells, grid_back, letters_right, letters_in_all, good_tells, good_back, sum_at, places_fall}
+use Rattle.strip_laws.proofs.Strips.{falls_get}
 
--- whether padded rows are a good tableau for start whose sum is `end`
+-- whether padded rows are a good tableau for start, and start plus their content is `end`
 abbrev pub is_counted : ℕ → List ℕ → List ℕ → List (List ℕ) → Bool
 is_counted n start end P =
     are_tableau_columns (transposed P) && is_good_by_columns n start (transposed P)
@@ -43,7 +44,7 @@ pub record IsTableau (n : ℕ) (start outer inner end : List ℕ) (P : List (Lis
   pub all_good : (i : ℕ) → sum_of (λ w. w) start P (suc i) ≤ sum_of (λ w. w) start P i
   pub sums : (i : ℕ) → sum_of (λ w. w) start P i ≡ get_or end i 0
 
--- ---- the letters of a word
+-- ---- the number of letters of a word that are at most k
 
 pub letters_up_to : (k : ℕ) (w : List ℕ) → up_to_letter k w ≡ times_in 0 w + add_up (λ i. times_in (suc i) w) 0 k
 letters_up_to zero w = let e = zeros_up_to w in omega arith
@@ -68,9 +69,6 @@ all_up_to m (a ∷ w) h = by (cases_lt m a) (all_up_to m w (λ k l. let e = h k 
 falls_for : (outer : List ℕ) (P : List (List ℕ)) → map length P ≡ outer → Falls outer → Falls (map length P)
 falls_for outer P e f = subst Falls (sym e) f
 
-past_row : (P : List (List ℕ)) (r : ℕ) → length P ≤ r → row P r ≡ []
-past_row P r l = get_or_past {X = List ℕ} P r [] l
-
 row_facts : (n : ℕ) (outer inner : List ℕ) (P : List (List ℕ)) → length P ≡ length outer → ((r : ℕ) → get_or inner r 0 ≤ get_or outer r 0)
     → AllFit n (pattern_of outer inner) P → (r : ℕ) → RowCounts n (get_or inner r 0) (get_or outer r 0 - get_or inner r 0) (row P r)
 row_facts n outer inner P e inside f r = by (cases_lt r (length outer))
@@ -78,7 +76,7 @@ row_facts n outer inner P e inside f r = by (cases_lt r (length outer))
     by : (r < length outer) ⊎ (length outer ≤ r) → RowCounts n (get_or inner r 0) (get_or outer r 0 - get_or inner r 0) (row P r)
     by (inl l) = line_tells n (get_or inner r 0) (get_or outer r 0 - get_or inner r 0) (row P r) (fit_at n outer inner P f r l)
     by (inr l) =
-        let past = past_row P r (omega arith) in
+        let past : row P r ≡ [] = get_or_past P r [] (omega arith) in
         let o = get_or_past outer r 0 l in
         let i = inside r in
         record {
@@ -87,7 +85,8 @@ row_facts n outer inner P e inside f r = by (cases_lt r (length outer))
           letters = λ x m. ap (times_in x) past;
         }
 
--- start_(i+1) plus the number of letters i + 1 in the columns right of column j + 1, as a number of the sum reached and row by row
+-- if no letter of P is above n, entry i of start plus the content of the columns right of column j + 1 is start_i plus the number of
+-- letters i + 1 in these columns
 sum_right : (n : ℕ) (start : List ℕ) (P : List (List ℕ)) → ((r k : ℕ) → n < k → times_in k (row P r) ≡ 0) → (j i : ℕ)
     → get_or (sum_reached n start (drop (suc j) (transposed P))) i 0 ≡ sum_of (drop (suc j)) start P i
 sum_right n start P h j i =
@@ -124,12 +123,12 @@ sum_tells n s end l m e i = by (cases_lt i n)
     is = sym (resize-without_last_zeros n s l) ∙ ap (resize n) e
 
     by : (i < n) ⊎ (n ≤ i) → get_or s i 0 ≡ get_or end i 0
-    by (inl h) = ap (λ (v : List ℕ). get_or v i 0) is ∙ resized_at n end i h
+    by (inl h) = ap (λ (v : List ℕ). get_or v i 0) is ∙ at_resize n i end h
     by (inr h) = get_or_past s i 0 (omega arith) ∙ sym (get_or_past end i 0 (omega arith))
 
 sum_back : (n : ℕ) (s end : List ℕ) → length s ≡ n → length end ≤ n → ArePositive end → ((i : ℕ) → get_or s i 0 ≡ get_or end i 0) → without_last_zeros s ≡ end
 sum_back n s end l m p h =
-    ap without_last_zeros (same_places s (resize n end) (l ∙ sym (length-resize n end)) (λ i k. h i ∙ sym (resized_at n end i (omega arith))))
+    ap without_last_zeros (same_places s (resize n end) (l ∙ sym (length-resize n end)) (λ i k. h i ∙ sym (at_resize n i end (omega arith))))
     ∙ without_last_zeros-resize n end p m
 
 pub tableau_tells : (n : ℕ) (start outer inner end : List ℕ) (P : List (List ℕ)) → Falls outer → contains outer inner ≡ true → ((r : ℕ) → get_or inner r 0 ≤ get_or outer r 0)
@@ -154,7 +153,7 @@ tableau_tells n start outer inner end P falls holds inside s t fit c =
       long = long;
       letters = letters;
       columns = λ r k. below_counts k (row P r) (row P (suc r)) (grid_tells P grid r).1
-          (let e = long r in let e' = long (suc r) in let f = outer_falls outer falls r in omega arith);
+          (let e = long r in let e' = long (suc r) in let f = falls_get outer falls r in omega arith);
       good = λ j i. (let e = falls_places (sum_reached n start (drop (suc j) (transposed P))) (falling (suc j)) i in
           let l = sum_right n start P letters j (suc i) in let r = sum_right n start P letters j i in omega arith);
       all_good = λ i. (let e = falls_places (sum_reached n start (drop 0 (transposed P))) (falling 0) i in
@@ -163,13 +162,6 @@ tableau_tells n start outer inner end P falls holds inside s t fit c =
           let l = sum_in_all n start P letters (suc i) in let r = sum_in_all n start P letters i in omega arith);
       sums = places;
     }
-  where
-    outer_falls : (parts : List ℕ) → Falls parts → (r : ℕ) → get_or parts (suc r) 0 ≤ get_or parts r 0
-    outer_falls [] f r = let e = get_or_past {X = ℕ} [] (suc r) 0 (omega arith) in omega arith
-    outer_falls (a ∷ []) f zero = omega arith
-    outer_falls (a ∷ []) f (suc r) = let e = get_or_past {X = ℕ} [] (suc r) 0 (omega arith) in omega arith
-    outer_falls (a ∷ b ∷ parts) f zero = f.0
-    outer_falls (a ∷ b ∷ parts) f (suc r) = outer_falls (b ∷ parts) f.1 r
 
 pub tableau_back : (n : ℕ) (start outer inner end : List ℕ) (P : List (List ℕ)) → Falls outer → contains outer inner ≡ true → ((r : ℕ) → get_or inner r 0 ≤ get_or outer r 0)
     → length start ≤ n → length end ≤ n → ArePositive end

@@ -4,7 +4,6 @@
 --     `total_down_from-ext`, `-cut`   sums over 0 to d
 use Rattle.std.proofs.Common.{◌≡◌, ℕ, zero, suc, ◌+◌, ◌-◌, ◌<◌, ◌≤◌, Bool, true, false, cond, ◌&&◌, List, [], ◌∷◌, ◌++◌, map, length, replicate, nat_le, sym, ◌∙◌, ap, ap₂, subst, refl, inl, inr, arith, ℤ, pos, ◌+ℤ◌, append-nil}
 use Rattle.std.proofs.lemmas.Bool.{le-leb, lt-leb}
-use Rattle.std.proofs.lemmas.Int.{ints}
 use Rattle.sym_model.specs.Sum.{total, Among}
 use Rattle.sym_model.specs.Partition.{after}
 use Rattle.sym_model.specs.Bases.{down_from}
@@ -12,7 +11,7 @@ use Rattle.sym_model.specs.Schur.{words, row_rises}
 use Rattle.sym_model.proofs.Sums.{total_ext, total_among, total_append, total_none, total_map, total_each, total_exchange, Among_from_each, Among_from_map}
 use Rattle.sym_model.proofs.AfterLists.{after_among, after-last}
 use Rattle.tableau_laws.specs.Grid.{may_precede}
-use lib.IntN.{+ℤ_idl, +ℤ_idr}
+use lib.IntN.{+ℤ_idl, +ℤ_idr, +ℤ_comm}
 use Rattle.monomial_laws.proofs.Arrangements.{down_from-below}
 
 -- ---- sums over the numbers from 0 to d
@@ -59,7 +58,7 @@ words-letters n (suc k) w m =
 
 -- ---- weakly increasing words as rows
 
--- the sum over the weakly increasing words of k letters up to n
+-- the sum of a function over the weakly increasing words of k letters up to n
 abbrev pub over_rising : ℕ → ℕ → (List ℕ → ℤ) → ℤ
 over_rising n k g = total (λ (w : List ℕ). cond (row_rises w) (g w) (pos 0)) (words n k)
 
@@ -68,7 +67,7 @@ rising-ext n k f g h =
     total_among (λ (w : List ℕ). cond (row_rises w) (f w) (pos 0)) (λ (w : List ℕ). cond (row_rises w) (g w) (pos 0)) (words n k)
     (λ w m. let l = words-letters n k w m in ap (λ z. cond (row_rises w) z (pos 0)) (h w l.0 l.1))
 
-nothing_either : (b : Bool) → cond b (pos 0) (pos 0) ≡ pos 0
+pub nothing_either : (b : Bool) → cond b (pos 0) (pos 0) ≡ pos 0
 nothing_either true = refl
 nothing_either false = refl
 
@@ -128,7 +127,7 @@ abbrev EndsWithGreatest : ℕ → ℕ → Type 0
 EndsWithGreatest n k =
     (g : List ℕ → ℤ) → over_rising (suc n) k g ≡ total (λ (i : ℕ). over_rising n (k - i) (λ v. g (ended n i v))) (down_from k)
 
--- the sum over the weakly increasing words of k + 1 letters that begin with a ≤ n
+-- the sum over the weakly increasing words of k + 1 letters that begin with a ≤ n, by the number i of letters n + 1 at their end
 smaller_front : (n k a : ℕ) (g : List ℕ → ℤ) → EndsWithGreatest n k → a ≤ n
     → over_rising (suc n) k (λ w. cond (may_precede nat_le a w) (g (a ∷ w)) (pos 0))
     ≡ total (λ (i : ℕ). over_rising n (k - i) (λ v. cond (may_precede nat_le a v) (g (a ∷ ended n i v)) (pos 0))) (down_from k)
@@ -184,14 +183,11 @@ rising-greatest n (suc k) g =
     ∙ ap (total first) (after_zero-last n)
     ∙ total_append first (after 0 n) (suc n ∷ [])
     ∙ ap₂ ◌+ℤ◌ (smaller_fronts n k g (rising-greatest n k)) (+ℤ_idr (first (suc n)) ∙ greatest_front n k g (rising-greatest n k))
-    ∙ flip (total (λ (i : ℕ). over_rising n (suc k - i) (λ v. g (ended n i v))) (down_from k)) (g (replicate (suc k) (suc n)))
+    ∙ +ℤ_comm (total (λ (i : ℕ). over_rising n (suc k - i) (λ v. g (ended n i v))) (down_from k)) (g (replicate (suc k) (suc n)))
     ∙ ap (λ z. z +ℤ total (λ (i : ℕ). over_rising n (suc k - i) (λ v. g (ended n i v))) (down_from k)) (sym all)
   where
     first : ℕ → ℤ
     first a = over_rising (suc n) k (λ w. cond (may_precede nat_le a w) (g (a ∷ w)) (pos 0))
-
-    flip : (x y : ℤ) → x +ℤ y ≡ y +ℤ x
-    flip x y = omega (arith, ints)
 
     all : over_rising n (suc k - suc k) (λ v. g (ended n (suc k) v)) ≡ g (replicate (suc k) (suc n))
     all = ap (λ j. over_rising n j (λ v. g (ended n (suc k) v))) (let e : suc k - suc k ≡ 0 = omega arith in e) ∙ rising-none n (λ v. g (ended n (suc k) v))

@@ -1,5 +1,5 @@
 -- The shapes inside a shape: partitions with zeros at their ends.
-use Rattle.std.proofs.Common.{◌≡◌, ℕ, zero, suc, ◌≤◌, nat_le, ◌==◌, true, List, [], ◌∷◌, map, length, min, refl, sym, ap, ◌∙◌, subst, inl, inr, arith}
+use Rattle.std.proofs.Common.{◌≡◌, ℕ, zero, suc, ◌≤◌, nat_le, ◌==◌, true, List, [], ◌∷◌, map, length, min, refl, sym, ap, subst, inl, inr, arith}
 use Rattle.std.proofs.lemmas.Bool.{and_parts, and_from, le-leb}
 use Rattle.sym_model.specs.Sum.{Among}
 use Rattle.sym_model.specs.Partition.{IsPartition, Falls, columns, in_front, without_last_zeros}
@@ -7,7 +7,7 @@ use Rattle.sym_model.specs.Schur.{contains}
 use Rattle.sym_model.proofs.AfterLists.{after_among}
 use Rattle.sym_model.proofs.SortedParts.{IsPartition-without_last_zeros}
 use Rattle.sym_model.proofs.Sums.{Among_from_each, Among_from_map}
-use Rattle.sym_model.proofs.Parts.{in_front-get_or}
+use Rattle.sym_model.proofs.Parts.{get_or-without_last_zeros}
 use Rattle.tableau_laws.proofs.ColumnCounts.{contains_nothing}
 use Rattle.schur_laws.specs.InnerShapes.{up_to, shapes_inside}
 use Rattle.schur_laws.proofs.CutRows.{SameParts}
@@ -18,7 +18,7 @@ pub record IsInside (outer : List ℕ) (m : ℕ) (inner : List ℕ) : Type 0 whe
   pub first : columns inner ≤ m
   pub inside : contains outer inner ≡ true
 
-among_up_to : (j b : ℕ) → Among b (up_to j) → b ≤ j
+pub among_up_to : (j b : ℕ) → Among b (up_to j) → b ≤ j
 among_up_to j b (inl e) = omega arith
 among_up_to j b (inr m) = let r = after_among 0 j b m in let l = r.1 in omega arith
 
@@ -44,9 +44,7 @@ inside-tells (a ∷ outer) m inner k =
 -- ---- inner shapes without the zeros at their ends
 
 pub same-without_last_zeros : (inner : List ℕ) → SameParts (without_last_zeros inner) inner
-same-without_last_zeros [] i = refl
-same-without_last_zeros (b ∷ inner) zero = in_front-get_or b (without_last_zeros inner) zero
-same-without_last_zeros (b ∷ inner) (suc i) = in_front-get_or b (without_last_zeros inner) (suc i) ∙ same-without_last_zeros inner i
+same-without_last_zeros inner = get_or-without_last_zeros inner
 
 pub contains-without_last_zeros : (outer inner : List ℕ) → contains outer inner ≡ true → contains outer (without_last_zeros inner) ≡ true
 contains-without_last_zeros outer [] h = contains_nothing outer

@@ -1,5 +1,5 @@
--- Rows of two neighbouring letters by three decreasing sequences: row r has y cells with the first letter, from place A
--- to place B, and x with the next one, from place B to place C.
+-- The cells of two neighbouring letters in the rows, described by three decreasing sequences A, B, C of places: row r has y cells with the first
+-- letter, from place A to place B, and x with the next one, from place B to place C.
 use Rattle.std.proofs.Common.{◌≡◌, ℕ, zero, suc, ◌+◌, ◌<◌, ◌≤◌, ◌⊎◌, max, ◌∙◌, ap, ap₂, refl, inl, inr, arith}
 use Rattle.std.proofs.lemmas.Bool.{cases_lt}
 
@@ -20,7 +20,7 @@ pub add_up-none : (f : ℕ → ℕ) (a k : ℕ) → ((i : ℕ) → a ≤ i → f
 add_up-none f a zero e = refl
 add_up-none f a (suc k) e = let h = e a (omega arith) in let g = add_up-none f (suc a) k (λ i l. e i (omega arith)) in omega arith
 
--- if f is 0 from m on, more summands add nothing
+-- if f is 0 from a + m on, summands after the first m add nothing
 pub add_up-longer : (f : ℕ → ℕ) (a m k : ℕ) → ((i : ℕ) → a + m ≤ i → f i ≡ 0) → add_up f a (m + k) ≡ add_up f a m
 add_up-longer f a zero k e = let d : 0 + k ≡ k = omega arith in ap (add_up f a) d ∙ add_up-none f a k (λ i l. e i (omega arith))
 add_up-longer f a (suc m) k e =
@@ -35,7 +35,7 @@ pub record Places (A B C x y : ℕ → ℕ) : Type 0 where
   pub left : (r : ℕ) → B (suc r) ≤ A r
   pub right : (r : ℕ) → C (suc r) ≤ B r
 
--- X(j, r) and Y(j, r) are the numbers of cells of both letters that row r has right of place j
+-- row r has right of place j Y(j, r) cells with the first letter and X(j, r) with the next one
 pub record RightOf (A B C : ℕ → ℕ) (X Y : ℕ → ℕ → ℕ) : Type 0 where
   pub first : (j r : ℕ) → Y j r + max (A r) j ≡ max (B r) j
   pub second : (j r : ℕ) → X j r + max (B r) j ≡ max (C r) j
@@ -54,7 +54,8 @@ none_left A B C x y X Y p q j a (suc m) l =
     let h = none_left A B C x y X Y p q j (suc a) m (omega arith) in
     omega arith
 
--- if the sums of x and y compare for each row, so do the sums of X and Y for each column
+-- if s + x(a) + .. + x(a + i) ≤ t + y(a) + .. + y(a + i - 1) for each i, then s plus the sum of X(j, r) is at most t plus the sum of Y(j, r), over
+-- the m rows r from a on
 pub by_columns : (A B C x y : ℕ → ℕ) (X Y : ℕ → ℕ → ℕ) → Places A B C x y → RightOf A B C X Y → (j m a s t : ℕ)
     → ((i : ℕ) → s + add_up x a (suc i) ≤ t + add_up y a i)
     → s + add_up (X j) a m ≤ t + add_up (Y j) a m
@@ -83,7 +84,8 @@ by_columns A B C x y X Y p q j (suc m) a s t h =
         let f = q.second j a in let g = p.second a in let f' = q.first j a in let g' = p.first a in
         omega arith
 
--- if the sums of X and Y compare for each column, so do the sums of x and y for each row
+-- if s plus the sum of X(j, r) is at most t plus the sum of Y(j, r), over the m rows r from a on, for each j up to some number ≥ B(a), then
+-- s + x(a) + .. + x(a + i) ≤ t + y(a) + .. + y(a + i - 1) for i < m
 pub by_rows : (A B C x y : ℕ → ℕ) (X Y : ℕ → ℕ → ℕ) → Places A B C x y → RightOf A B C X Y → (i m a s t most : ℕ) → i < m → B a ≤ most
     → ((j : ℕ) → j ≤ most → s + add_up (X j) a m ≤ t + add_up (Y j) a m)
     → s + add_up x a (suc i) ≤ t + add_up y a i

@@ -1,8 +1,7 @@
 -- The coefficients of Schur polynomials are Kostka numbers.
---     strips_off-removals     the removals of strips of k cells, among those of all sizes
---     coefficient-schur_last  the coefficient by its last exponent
+--     strips_off-removals     the horizontal strips of k cells, among those of any size that can be removed
+--     coefficient-schur_last  the coefficient of x^α in s_λ, by the last exponent of α
 --     coefficient-kostka      the coefficient of x^κ in s_λ
-use Rattle.std.proofs.lemmas.Int.{ints}
 use Rattle.std.proofs.Common.{◌<◌, ap₂, ◌⊎◌, ◌≡◌, ℕ, zero, suc, ◌+◌, ◌-◌, ◌≤◌, Bool, true, false, cond, ◌&&◌, ◌==◌, min, List, [], ◌∷◌, ◌++◌, map, length, sym, ◌∙◌, ap, subst, refl, inl, inr, arith, ℤ, pos, ◌+ℤ◌}
 use Rattle.std.proofs.lemmas.Bool.{ne_eqb, eq-eqb, eqb-true}
 use Rattle.sym_model.specs.Sum.{total, Among}
@@ -21,7 +20,8 @@ use Rattle.schur_laws.proofs.GreatestLetters.{total_down_from-ext, total_down_fr
 use Rattle.schur_laws.proofs.TableauRows.{over_rows, over_rows-ext, over_rows-zeros, pair-schur_rows}
 use Rattle.schur_laws.proofs.StripsRemoved.{removals, over_rows-greatest}
 use Rattle.schur_laws.proofs.Exchanged.{coefficient-last_first}
-use lib.IntN.{+ℤ_idr}
+use lib.IntN.{+ℤ_idr, +ℤ_comm}
+use Rattle.sym_model.proofs.Restrictions.{and_middle}
 
 -- ---- the numbers 0, 1, .., n - 1
 
@@ -42,10 +42,7 @@ total_below f zero = refl
 total_below f (suc n) =
     total_append f (below (suc n)) (suc n ∷ [])
     ∙ ap₂ ◌+ℤ◌ (total_below f n) (+ℤ_idr (f (suc n)))
-    ∙ flip (total f (down_from n)) (f (suc n))
-  where
-    flip : (x y : ℤ) → x +ℤ y ≡ y +ℤ x
-    flip x y = omega (arith, ints)
+    ∙ +ℤ_comm (total f (down_from n)) (f (suc n))
 
 -- ---- strips of k cells among the removals of strips of any size
 
@@ -116,15 +113,9 @@ same-last (c ∷ γ) [] s k = longer (c == k) (s == k) γ
     longer true false (c ∷ γ) = refl
     longer false true γ = refl
     longer false false γ = refl
-same-last (c ∷ γ) (b ∷ α) s k = ap (λ t. (c == b) && t) (same-last γ α s k) ∙ swap (c == b) (s == k) (same γ α)
-  where
-    swap : (p q r : Bool) → (p && (q && r)) ≡ (q && (p && r))
-    swap true true r = refl
-    swap true false r = refl
-    swap false true r = refl
-    swap false false r = refl
+same-last (c ∷ γ) (b ∷ α) s k = ap (λ t. (c == b) && t) (same-last γ α s k) ∙ and_middle (c == b) (s == k) (same γ α)
 
--- the coefficient of x^α in s_λ is the sum, over tableaux by rows, of 1 at the content α
+-- the coefficient of x^α in s_λ is the number of semistandard tableaux of the shape λ and the content α, as a sum row by row
 coefficient-rows : (n : ℕ) (parts α : List ℕ) → coefficient (schur parts n) α ≡ over_rows n [] parts (at_only α)
 coefficient-rows n parts α = coefficient_pair (schur parts n) α ∙ pair-schur_rows n parts (at_only α)
 
@@ -150,7 +141,7 @@ coefficient-schur_last n k parts α f =
     (removals parts)
     ∙ sym (strips_off-removals k parts (λ rest. coefficient (schur rest n) α))
 
--- ---- the partition that is left
+-- ---- the partition that is left after a strip is removed
 
 -- `rest` is a partition with k cells fewer than `parts`, no more rows, and no greater first part
 pub record IsLeft (k : ℕ) (parts rest : List ℕ) : Type 0 where

@@ -36,7 +36,7 @@ product_by_shape λ' μ ν p q r h =
     product_count-columns (rows ν) λ' μ ν p q (rows_inside ν λ' p h)
     ∙ duality λ' μ [] ν p q IsPartition-none r (contains_nothing μ) h
 
--- if λ is not inside ν, no good tableau for the start λ has the sum ν
+-- if λ is not inside ν, no good tableau T of μ for the start λ has λ + content(T) = ν
 pub product_outside : (λ' μ ν : List ℕ) → IsPartition λ' → IsPartition μ → IsPartition ν → contains ν λ' ≡ false → product_count (rows ν) λ' μ ν ≡ 0
 product_outside λ' μ ν p q r h = by (cases_lt (rows ν) (rows λ'))
   where

@@ -52,7 +52,7 @@ right_of_place k (suc j) (a ∷ w) h =
     late r l (inl e) = let n = none_up_to k a w h l in let g : cond {A = ℕ} (nat_le a (suc k)) 1 0 ≡ 1 = grind (arith, nat_tests) in omega arith
     late r l (inr d) = let n = none_up_to k a w h l in let m = none_up_to (suc k) a w h (omega arith) in omega arith
 
--- ---- counts of a weakly increasing word below another
+-- ---- the numbers of letters up to k of a weakly increasing word and of a word that fits below it
 
 pub below_counts : (k : ℕ) (v w : List ℕ) → pass_by_place may_stand_above v w ≡ true → length w ≤ length v → up_to_letter (suc k) w ≤ up_to_letter k v
 below_counts k v [] h l = omega arith

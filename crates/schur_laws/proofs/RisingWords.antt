@@ -8,7 +8,8 @@ use Rattle.sym_model.specs.Schur.{words, row_rises}
 use Rattle.sym_model.proofs.AfterLists.{after_among, after-append}
 use Rattle.sym_model.proofs.Sums.{total_ext, total_among, total_append, total_none, total_map, total_each, total_exchange, Among_from_each, Among_from_map, total_cond, total_cond_list as total_listed}
 use Rattle.schur_laws.specs.InnerShapes.{up_to}
-use lib.IntN.{+ℤ_idl, +ℤ_idr}
+use lib.IntN.{+ℤ_idl, +ℤ_idr, +ℤ_comm}
+use Rattle.tableau_laws.proofs.GoodReadings.{both_tests}
 
 -- the words of b letters from 1 to n that are weakly increasing from x on
 abbrev pub rising_words : ℕ → ℕ → ℕ → List (List ℕ)
@@ -24,12 +25,6 @@ AreLetters n (a ∷ w) = (0 < a) × (a ≤ n) × AreLetters n w
 abbrev pub raised_by : ℕ → List ℕ → List ℕ
 raised_by n w = map (λ j. n + j) w
 
--- ---- sums restricted by a test
-
-pub cond_both : (p q : Bool) (z : ℤ) → cond (p && q) z (pos 0) ≡ cond p (cond q z (pos 0)) (pos 0)
-cond_both true q z = refl
-cond_both false q z = refl
-
 -- ---- weakly increasing words among all words
 
 pub total_rising : (n x b : ℕ) (f : List ℕ → ℤ) → total f (rising_words n x (suc b)) ≡ total (λ y. cond (nat_le x y) (total (λ w. f (y ∷ w)) (rising_words n y b)) (pos 0)) (after 0 n)
@@ -44,7 +39,7 @@ rising_of_words n x (suc b) f =
     total_each (λ w. cond (row_rises (x ∷ w)) (f w) (pos 0)) (λ y. map (λ w. y ∷ w) (words n b)) (after 0 n)
     ∙ total_ext (λ y. total (λ w. cond (row_rises (x ∷ w)) (f w) (pos 0)) (map (λ w. y ∷ w) (words n b))) (λ y. cond (nat_le x y) (total (λ w. f (y ∷ w)) (rising_words n y b)) (pos 0))
     (λ y. total_map (λ w. cond (row_rises (x ∷ w)) (f w) (pos 0)) (λ w. y ∷ w) (words n b)
-    ∙ total_ext (λ w. cond (nat_le x y && row_rises (y ∷ w)) (f (y ∷ w)) (pos 0)) (λ w. cond (nat_le x y) (cond (row_rises (y ∷ w)) (f (y ∷ w)) (pos 0)) (pos 0)) (λ w. cond_both (nat_le x y) (row_rises (y ∷ w)) (f (y ∷ w))) (words n b)
+    ∙ total_ext (λ w. cond (nat_le x y && row_rises (y ∷ w)) (f (y ∷ w)) (pos 0)) (λ w. cond (nat_le x y) (cond (row_rises (y ∷ w)) (f (y ∷ w)) (pos 0)) (pos 0)) (λ w. sym (both_tests (nat_le x y) (row_rises (y ∷ w)) (f (y ∷ w)))) (words n b)
     ∙ total_cond (nat_le x y) (λ w. cond (row_rises (y ∷ w)) (f (y ∷ w)) (pos 0)) (words n b)
     ∙ ap (λ z. cond (nat_le x y) z (pos 0)) (rising_of_words n y b (λ w. f (y ∷ w)))) (after 0 n)
     ∙ sym (total_rising n x b f)
@@ -77,7 +72,7 @@ rising-tells n x (suc b) w m =
         let high : y ≤ n = let h = r.1 in omega arith in
         subst (λ u. IsWord n (suc b) u) (sym v.2) (record { letters = (r.0, high, i.letters); long = ap suc i.long })
 
--- ---- words in letters after n
+-- ---- words in letters greater than n
 
 pub after_shift : (n a k : ℕ) → after (n + a) k ≡ map (λ j. n + j) (after a k)
 after_shift n a zero = refl
@@ -120,7 +115,7 @@ total_next a g =
     (ap (total g) (ap (λ i. after i a) (let e : 0 + 1 ≡ 1 + 0 = omega arith in e) ∙ after_shift 1 0 a)
     ∙ total_map g (λ j. 1 + j) (after 0 a) ∙ total_ext (λ j. g (1 + j)) (λ j. g (suc j)) (λ j. ap g (let e : 1 + j ≡ suc j = omega arith in e)) (after 0 a))
 
--- the sum of f over the words v followed by a weakly increasing word of m letters, raised by n
+-- the sum of f over the words made of v and, after it, a weakly increasing word of m letters from n + 1 to n + k
 abbrev pub cut_sum : ℕ → ℕ → (List ℕ → ℤ) → ℕ → List ℕ → ℤ
 cut_sum n k f m v = total (λ w. f (v ++ raised_by n w)) (rising_words k 0 m)
 
@@ -130,12 +125,9 @@ total_cut_words n k (suc a) x f h =
     total_rising (n + k) x a f
     ∙ total_letters n k (λ y. cond (nat_le x y) (total (λ w. f (y ∷ w)) (rising_words (n + k) y a)) (pos 0))
     ∙ ap₂ ◌+ℤ◌ (below (λ y l. total_cut_words n k a y (λ w. f (y ∷ w)) l)) above
-    ∙ turned (total (λ b. total (cut_sum n k f (a - b)) (rising_words n x (suc b))) (up_to a)) (total (λ w. f (raised_by n w)) (rising_words k 0 (suc a)))
+    ∙ +ℤ_comm (total (λ b. total (cut_sum n k f (a - b)) (rising_words n x (suc b))) (up_to a)) (total (λ w. f (raised_by n w)) (rising_words k 0 (suc a)))
     ∙ ap₂ ◌+ℤ◌ first rest
   where
-    turned : (y z : ℤ) → y +ℤ z ≡ z +ℤ y
-    turned y z = omega (arith, ints)
-
     below : ((y : ℕ) → y ≤ n → total (λ w. f (y ∷ w)) (rising_words (n + k) y a) ≡ total (λ b. total (λ w. cut_sum n k f (a - b) (y ∷ w)) (rising_words n y b)) (up_to a))
         → total (λ y. cond (nat_le x y) (total (λ w. f (y ∷ w)) (rising_words (n + k) y a)) (pos 0)) (after 0 n) ≡ total (λ b. total (cut_sum n k f (a - b)) (rising_words n x (suc b))) (up_to a)
     below rec =

@@ -1,22 +1,22 @@
 -- Lists of Kostka numbers, and their bounds.
---     list-schur            the list of the Kostka numbers is the Schur polynomial
+--     list-schur            a list in m whose coefficients are the Kostka numbers of λ is s_λ
 --     kostka-other_size     a Kostka number is 0 if the content has another size
---     kostka-not_negative   and -within: bounds of Kostka numbers
+--     kostka-not_negative, -within     bounds of Kostka numbers
 --     kostka-ones           there is a standard tableau of each shape
-use Rattle.std.proofs.Common.{◌≡◌, ℕ, zero, suc, ◌+◌, ◌-◌, ◌*◌, ◌≤◌, Bool, true, false, cond, eqb, min, List, [], ◌∷◌, ◌++◌, map, length, replicate, length-append, sym, ◌∙◌, ap, subst, refl, inl, inr, arith, ℤ, pos}
+use Rattle.std.proofs.Common.{◌≡◌, ℕ, zero, suc, ◌+◌, ◌-◌, ◌*◌, ◌≤◌, eqb, min, List, [], ◌∷◌, ◌++◌, map, length, replicate, length-append, sym, ◌∙◌, ap, subst, refl, inl, inr, arith, ℤ, pos}
 use Rattle.std.specs.Prelude.{◌≤ℤ◌, nat_abs}
 use Rattle.std.proofs.lemmas.Bool.{eq-eqb, cond-true}
 use Rattle.std.proofs.lemmas.Int.{ints}
 use Rattle.std.proofs.lemmas.List.{length-replicate}
 use Rattle.sym_model.specs.Sum.{total, Among}
 use Rattle.sym_model.specs.Partition.{IsPartition, size, part, in_front, sorted_parts}
-use Rattle.sym_model.specs.Polynomial.{same, coefficient, In}
+use Rattle.sym_model.specs.Polynomial.{coefficient, In}
 use Rattle.sym_model.specs.Schur.{schur}
 use Rattle.sym_model.specs.Expansion.{Basis}
 use Rattle.sym_model.specs.Weight.{growth}
 use Rattle.sym_model.specs.WholeTerms.{WholeTerms}
 use Rattle.sym_model.proofs.Sums.{total_none, Among-each, Among-map, total_not_negative}
-use Rattle.sym_model.proofs.Polynomials.{same_in}
+use Rattle.sym_model.proofs.Polynomials.{same_in, at_only-nonnegative}
 use Rattle.sym_model.proofs.Restrictions.{coefficient_restrict_padded}
 use Rattle.sym_model.proofs.SortedParts.{IsPartition-none, IsPartition-sorted_parts}
 use Rattle.tableau_laws.proofs.FewerLetters.{restrict-skew_schur}
@@ -71,11 +71,7 @@ total-at_least f (y ∷ ys) x h (inl e) = let r = total_not_negative f ys h in l
 total-at_least f (y ∷ ys) x h (inr m) = let r = total-at_least f ys x h m in let k = h y in omega (arith, ints)
 
 pub kostka-not_negative : (content parts : List ℕ) → pos 0 ≤ℤ kostka parts content
-kostka-not_negative [] parts = by (same parts [])
-  where
-    by : (b : Bool) → pos 0 ≤ℤ cond b (pos 1) (pos 0)
-    by true = omega (arith, ints)
-    by false = omega (arith, ints)
+kostka-not_negative [] parts = at_only-nonnegative [] parts
 kostka-not_negative (k ∷ content) parts = total_not_negative (λ rest. kostka rest content) (strips_off k parts) (λ rest. kostka-not_negative content rest)
 
 pub kostka-within : (parts content : List ℕ) → IsPartition parts → nat_abs (kostka parts content) ≤ growth Basis.monomials (size parts)

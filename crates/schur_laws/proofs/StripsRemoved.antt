@@ -4,24 +4,26 @@
 --     ended_content       the content of a row with the greatest letter at its end
 --     over_rows-greatest  sums over tableaux with one more letter
 use Rattle.std.proofs.Common.{◌≡◌, ℕ, zero, suc, ◌+◌, ◌-◌, ◌<◌, ◌≤◌, Bool, true, false, cond, ◌&&◌, List, [], ◌∷◌, ◌++◌, map, length, replicate, nat_le, nat_lt, sym, ◌∙◌, ap, ap₂, refl, arith, ℤ, pos, ◌+ℤ◌, append-nil, flat_map}
-use Rattle.std.proofs.lemmas.Bool.{le-leb, lt-leb, lt-ltb, ne_eqb, eq-eqb, leb-true}
+use Rattle.std.proofs.lemmas.Bool.{le-leb, lt-leb, lt-ltb, ne_eqb, eq-eqb, leb-true, le-ltb}
 use Rattle.std.proofs.lemmas.List.{map-append, length-replicate}
 use Rattle.sym_model.specs.Sum.{total}
 use Rattle.sym_model.specs.Partition.{Falls, part, after}
 use Rattle.sym_model.specs.Polynomial.{join}
 use Rattle.sym_model.specs.Bases.{down_from}
 use Rattle.sym_model.specs.Schur.{words, row_rises, columns_rise, times_in, content}
-use Rattle.sym_model.proofs.Sums.{total_ext, total_zero, total_map, total_each, total_exchange}
+use Rattle.sym_model.proofs.Sums.{total_ext, total_zero, total_map, total_each, total_exchange, total_cond}
 use Rattle.sym_model.proofs.Exponents.{tests_agree}
 use Rattle.sym_model.proofs.SortedParts.{Falls_tail, Falls_first}
 use Rattle.sym_model.proofs.AfterLists.{after_among}
 use Rattle.sym_model.proofs.Contents.{times_in-append}
 use Rattle.sym_model.proofs.Lists.{map-among}
 use Rattle.alternant_laws.proofs.Exchanges.{length_content}
-use Rattle.schur_laws.proofs.GreatestLetters.{over_rising, rising-ext, rising-greatest, ended, AreLetters, after_zero-last, total_down_from-ext, total_down_from-cut}
+use Rattle.schur_laws.proofs.GreatestLetters.{over_rising, rising-ext, rising-greatest, ended, AreLetters, after_zero-last, total_down_from-ext, total_down_from-cut, nothing_either}
 use Rattle.schur_laws.proofs.TableauRows.{over_rows, over_rows-ext, over_rows-no_row_above}
 use Rattle.sym_model.specs.Bounded.{AreAtMost}
 use lib.IntN.{+ℤ_idr}
+use Rattle.tableau_laws.proofs.PaddedTableaux.{columns_rise-nothing}
+use Rattle.sym_model.proofs.Restrictions.{and_middle}
 
 -- the shapes that removing a horizontal strip leaves, with the number of its cells; empty rows are kept
 abbrev pub removals : List ℕ → List (List ℕ × ℕ)
@@ -80,68 +82,40 @@ columns_rise-ended n zero zero [] [] u h l = refl
 columns_rise-ended n (suc c) zero [] [] u h l = refl
 columns_rise-ended n zero (suc i) [] [] u h l = absurd (omega arith)
 columns_rise-ended n (suc c) (suc i) [] [] u h l =
-    ap (λ b. b && columns_rise (replicate c (suc n)) (replicate i (suc n))) (not_above (suc n) (suc n) (omega arith))
+    ap (λ b. b && columns_rise (replicate c (suc n)) (replicate i (suc n))) (le-ltb (suc n) (suc n) (omega arith))
     ∙ ap (λ b. b && true) (sym (lt-leb (0 + suc i) 0 (omega arith)))
-  where
-    not_above : (a b : ℕ) → b ≤ a → nat_lt a b ≡ false
-    not_above a b h = lt-leb (suc a) b (omega arith)
 columns_rise-ended n zero i [] (b ∷ v) u h l = absurd (omega arith)
 columns_rise-ended n (suc c) i [] (b ∷ v) u h l =
     let k = h.0.1 in
-    ap (λ t. t && columns_rise (replicate c (suc n)) (ended n i v)) (not_above (suc n) b (omega arith))
+    ap (λ t. t && columns_rise (replicate c (suc n)) (ended n i v)) (le-ltb (suc n) b (omega arith))
     ∙ ap (λ t. t && true) (sym (lt-leb (suc (length v) + i) 0 (omega arith)))
-  where
-    not_above : (a b : ℕ) → b ≤ a → nat_lt a b ≡ false
-    not_above a b h = lt-leb (suc a) b (omega arith)
 columns_rise-ended n c zero (a ∷ upper) [] u h l = ap (λ t. t && true) (sym (le-leb (0 + 0) (suc (length upper)) (omega arith)))
 columns_rise-ended n c (suc i) (a ∷ upper) [] u h l =
     let k = u.0 in
     ap (λ t. t && columns_rise (ended n c upper) (ended n i [])) (lt-ltb a (suc n) (omega arith))
     ∙ columns_rise-ended n c i upper [] u.1 tt (omega arith)
-    ∙ ap₂ (λ (s t : Bool). s && t) (tests_agree (nat_le (0 + i) (length upper)) (nat_le (0 + suc i) (suc (length upper))) (λ e. le-leb (0 + suc i) (suc (length upper)) (let m = leb-true (0 + i) (length upper) e in omega arith)) (λ e. le-leb (0 + i) (length upper) (let m = leb-true (0 + suc i) (suc (length upper)) e in omega arith))) (nothing_below upper)
-  where
-    nothing_below : (w : List ℕ) → columns_rise w [] ≡ true
-    nothing_below [] = refl
-    nothing_below (b ∷ w) = refl
+    ∙ ap₂ (λ (s t : Bool). s && t) (tests_agree (nat_le (0 + i) (length upper)) (nat_le (0 + suc i) (suc (length upper))) (λ e. le-leb (0 + suc i) (suc (length upper)) (let m = leb-true (0 + i) (length upper) e in omega arith)) (λ e. le-leb (0 + i) (length upper) (let m = leb-true (0 + suc i) (suc (length upper)) e in omega arith))) (columns_rise-nothing upper)
 columns_rise-ended n c i (a ∷ upper) (b ∷ v) u h l =
     ap (λ t. nat_lt a b && t) (columns_rise-ended n c i upper v u.1 h.1 (omega arith))
-    ∙ swap (nat_lt a b) (nat_le (length v + i) (length upper)) (columns_rise upper v)
+    ∙ and_middle (nat_lt a b) (nat_le (length v + i) (length upper)) (columns_rise upper v)
     ∙ ap (λ t. t && (nat_lt a b && columns_rise upper v)) (tests_agree (nat_le (length v + i) (length upper)) (nat_le (suc (length v) + i) (suc (length upper))) (λ e. le-leb (suc (length v) + i) (suc (length upper)) (let m = leb-true (length v + i) (length upper) e in omega arith)) (λ e. le-leb (length v + i) (length upper) (let m = leb-true (suc (length v) + i) (suc (length upper)) e in omega arith)))
-  where
-    swap : (p q r : Bool) → (p && (q && r)) ≡ (q && (p && r))
-    swap true true r = refl
-    swap true false r = refl
-    swap false true r = refl
-    swap false false r = refl
 
--- ---- sums over rows
+-- ---- sums over weakly increasing rows
 
 rising-under : (n k : ℕ) (b : Bool) (f : List ℕ → ℤ) → over_rising n k (λ v. cond b (f v) (pos 0)) ≡ cond b (over_rising n k f) (pos 0)
 rising-under n k true f = refl
 rising-under n k false f = total_ext (λ (w : List ℕ). cond (row_rises w) (pos 0) (pos 0)) (λ (w : List ℕ). pos 0) (λ w. nothing_either (row_rises w)) (words n k) ∙ total_zero (words n k)
-  where
-    nothing_either : (b : Bool) → cond b (pos 0) (pos 0) ≡ pos 0
-    nothing_either true = refl
-    nothing_either false = refl
-
-cond_total : {A : Type 0} (b : Bool) (f : A → ℤ) (xs : List A) → cond b (total f xs) (pos 0) ≡ total (λ (x : A). cond b (f x) (pos 0)) xs
-cond_total true f xs = refl
-cond_total false f xs = sym (total_zero xs)
 
 rising-total : {A : Type 0} (n k : ℕ) (f : A → List ℕ → ℤ) (xs : List A) → over_rising n k (λ v. total (λ (x : A). f x v) xs) ≡ total (λ (x : A). over_rising n k (f x)) xs
 rising-total {A} n k f xs =
     total_ext (λ (w : List ℕ). cond (row_rises w) (total (λ (x : A). f x w) xs) (pos 0)) (λ (w : List ℕ). total (λ (x : A). cond (row_rises w) (f x w) (pos 0)) xs)
-    (λ w. cond_total (row_rises w) (λ (x : A). f x w) xs) (words n k)
+    (λ w. sym (total_cond (row_rises w) (λ (x : A). f x w) xs)) (words n k)
     ∙ total_exchange (λ (w : List ℕ) (x : A). cond (row_rises w) (f x w) (pos 0)) (words n k) xs
 
 four : {A : Type 0} (b q s : Bool) (f : A → ℤ) (xs : List A)
     → cond (b && q) (cond s (total f xs) (pos 0)) (pos 0) ≡ cond b (cond s (total (λ (x : A). cond q (f x) (pos 0)) xs) (pos 0)) (pos 0)
 four true true s f xs = refl
 four true false s f xs = sym (ap (λ z. cond s z (pos 0)) (total_zero xs) ∙ nothing_either s)
-  where
-    nothing_either : (b : Bool) → cond b (pos 0) (pos 0) ≡ pos 0
-    nothing_either true = refl
-    nothing_either false = refl
 four false q s f xs = refl
 
 -- ---- tableaux with their greatest letter removed
@@ -154,7 +128,8 @@ LosesGreatest n parts =
     → over_rows (suc n) (ended n c upper) parts φ
     ≡ cond (nat_le (part parts 1) (length upper)) (total (λ (r : List ℕ × ℕ). over_rows n upper r.0 (λ γ. φ (γ ++ (r.1 ∷ [])))) (removals parts)) (pos 0)
 
--- the sum over the rows v followed by i letters n + 1, and over the tableaux below this row
+-- if the first row is v followed by i letters n + 1, the sum over the rows below it is a sum over the removals of a strip from these rows, with v
+-- above them
 row_ended : (n c i a : ℕ) (upper v parts : List ℕ) (φ : List ℕ → ℤ) → LosesGreatest n parts → AreAtMost n upper → Falls (a ∷ parts) → a ≤ length upper + c → i ≤ a
     → length v ≡ a - i → AreLetters n v
     → cond (columns_rise (ended n c upper) (ended n i v)) (over_rows (suc n) (ended n i v) parts (λ γ. φ (join (content (suc n) (ended n i v)) γ))) (pos 0)
@@ -196,7 +171,7 @@ loses_greatest n (a ∷ parts) c upper φ u f l =
     (rising-under n (a - i) (nat_le (part parts 1) (a - i)) _
     ∙ ap (λ z. cond (nat_le (part parts 1) (a - i)) z (pos 0))
     (rising-total n (a - i) (λ (r : List ℕ × ℕ) (v : List ℕ). cond (columns_rise upper v) (over_rows n v r.0 (λ γ. φ (join (content n v) γ ++ ((i + r.1) ∷ [])))) (pos 0)) (removals parts))))
-    ∙ sym (cond_total (nat_le a (length upper)) (λ (i : ℕ). cond (nat_le (part parts 1) (a - i)) (left i) (pos 0)) (down_from a))
+    ∙ total_cond (nat_le a (length upper)) (λ (i : ℕ). cond (nat_le (part parts 1) (a - i)) (left i) (pos 0)) (down_from a)
     ∙ ap (λ z. cond (nat_le a (length upper)) z (pos 0))
     (total_greatest a (part parts 1) left (Falls_first a parts f)
     ∙ total_ext left (λ (i : ℕ). total value (map (λ (r : List ℕ × ℕ). ((a - i) ∷ r.0, i + r.1)) (removals parts)))
@@ -209,12 +184,16 @@ loses_greatest n (a ∷ parts) c upper φ u f l =
     left : ℕ → ℤ
     left i = total (λ (r : List ℕ × ℕ). over_rows n upper ((a - i) ∷ r.0) (λ γ. φ (γ ++ ((i + r.1) ∷ [])))) (removals parts)
 
+pub zeros_at_most : (n m : ℕ) → AreAtMost n (replicate m 0)
+zeros_at_most n zero = tt
+zeros_at_most n (suc m) = (omega arith, zeros_at_most n m)
+
 pub over_rows-greatest : (n : ℕ) (parts : List ℕ) (φ : List ℕ → ℤ) → Falls parts
     → over_rows (suc n) [] parts φ ≡ total (λ (r : List ℕ × ℕ). over_rows n [] r.0 (λ γ. φ (γ ++ (r.1 ∷ [])))) (removals parts)
 over_rows-greatest n parts φ f =
     over_rows-no_row_above (suc n) (part parts 1) parts φ
     ∙ ap (λ w. over_rows (suc n) w parts φ) (sym (append-nil zeros))
-    ∙ loses_greatest n parts 0 zeros φ (zeros_up_to (part parts 1)) f (let e = long in omega arith)
+    ∙ loses_greatest n parts 0 zeros φ (zeros_at_most n (part parts 1)) f (let e = long in omega arith)
     ∙ ap (λ b. cond b (total (λ (r : List ℕ × ℕ). over_rows n zeros r.0 (λ γ. φ (γ ++ (r.1 ∷ [])))) (removals parts)) (pos 0)) (le-leb (part parts 1) (length zeros) (let e = long in omega arith))
     ∙ total_ext (λ (r : List ℕ × ℕ). over_rows n zeros r.0 (λ γ. φ (γ ++ (r.1 ∷ [])))) (λ (r : List ℕ × ℕ). over_rows n [] r.0 (λ γ. φ (γ ++ (r.1 ∷ []))))
     (λ r. sym (over_rows-no_row_above n (part parts 1) r.0 (λ γ. φ (γ ++ (r.1 ∷ []))))) (removals parts)
@@ -224,7 +203,3 @@ over_rows-greatest n parts φ f =
 
     long : length zeros ≡ part parts 1
     long = length-replicate (part parts 1) 0
-
-    zeros_up_to : (m : ℕ) → AreAtMost n (replicate m 0)
-    zeros_up_to zero = tt
-    zeros_up_to (suc m) = (omega arith, zeros_up_to m)

@@ -1,7 +1,7 @@
 -- Polynomials that are symmetric.
 --     symmetric-monomials             a sum of the monomials that pass a test which no exchange changes
---     symmetric-plus, -scale, -negate, -times
-use Rattle.std.proofs.Common.{◌≡◌, ℕ, zero, suc, ◌==◌, Bool, true, false, ◌&&◌, cond, eqb, nat_le, ℤ, pos, neg_ℤ, ◌+ℤ◌, ◌*ℤ◌, List, [], ◌∷◌, ◌++◌, length, replicate, refl, sym, ◌∙◌, ap, ap₂}
+--     symmetric-plus, -scale, -negate, -times     sums, multiples, negatives and products of symmetric polynomials
+use Rattle.std.proofs.Common.{◌≡◌, ℕ, zero, suc, ◌==◌, Bool, false, ◌&&◌, cond, eqb, nat_le, ℤ, pos, neg_ℤ, ◌+ℤ◌, ◌*ℤ◌, List, [], ◌∷◌, ◌++◌, length, replicate, refl, sym, ◌∙◌, ap, ap₂}
 use Rattle.sym_model.specs.Polynomial.{Poly, same, coefficient, In, one, plus, scale, negate, times, join, pair}
 use Rattle.sym_model.specs.Partition.{sorted_parts}
 use Rattle.sym_model.specs.Bases.{monomials, at_most_one}
@@ -13,6 +13,7 @@ use Rattle.alternant_laws.proofs.Exchanges.{exchanged, same_exchanged, exchanged
 use Rattle.beta_list_laws.proofs.NeighbourExchanges.{size-exchange, length-exchange}
 use Rattle.alternant_laws.proofs.Symmetry.{pair_exchanged}
 use Rattle.alternant_laws.proofs.StraightenedMonomials.{sorted-exchange}
+use Rattle.std.proofs.lemmas.Bool.{and_right}
 
 -- if two neighbours of a list are exchanged, the result of the test is the same
 abbrev pub SeesNoExchange : (List ℕ → Bool) → Type 0
@@ -75,13 +76,7 @@ symmetric-times n f g i j s t left a b right =
 zeros-exchange : (n : ℕ) → SeesNoExchange (λ α. same (replicate n 0) α)
 zeros-exchange zero [] a b right = refl
 zeros-exchange zero (c ∷ left) a b right = refl
-zeros-exchange (suc zero) [] a b right = short (0 == a) (0 == b)
-  where
-    short : (x y : Bool) → (x && false) ≡ (y && false)
-    short true true = refl
-    short true false = refl
-    short false true = refl
-    short false false = refl
+zeros-exchange (suc zero) [] a b right = and_right (0 == a) false refl ∙ sym (and_right (0 == b) false refl)
 zeros-exchange (suc (suc n)) [] a b right = and_middle (0 == a) (0 == b) (same (replicate n 0) right)
 zeros-exchange (suc n) (c ∷ left) a b right = ap (λ t. (0 == c) && t) (zeros-exchange n left a b right)
 

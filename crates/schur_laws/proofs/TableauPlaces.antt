@@ -3,7 +3,6 @@ use Rattle.std.proofs.Common.{◌≡◌, ℕ, zero, suc, ◌+◌, ◌-◌, ◌<�
 use Rattle.std.proofs.lemmas.Bool.Decides.{nat_tests}
 use Rattle.std.proofs.lemmas.Bool.{cases_lt, and_parts, and_from, le-leb}
 use Rattle.std.proofs.lemmas.List.{get_or_past, get_or-drop}
-use Rattle.sym_model.specs.Polynomial.{resize}
 use Rattle.sym_model.specs.Schur.{times_in, letters_of, content}
 use Rattle.sym_model.specs.GoodTableau.{is_falling}
 use Rattle.sym_model.proofs.Exponents.{get_or-join}
@@ -16,6 +15,7 @@ use Rattle.alternant_laws.proofs.Exchanges.{length_content}
 use Rattle.alternant_laws.proofs.StraightShapes.{at_content}
 use Rattle.schur_laws.proofs.RisingRows.{Rises, rises_rest, none_up_to, few_times}
 use Rattle.schur_laws.proofs.Interlacing.{add_up}
+use Rattle.tableau_laws.proofs.Contents.{times_in-put}
 
 -- row r of the padded rows, counted from 0
 abbrev pub row : List (List ℕ) → ℕ → List ℕ
@@ -140,27 +140,14 @@ grid_back (w ∷ P) h g =
     (and_from (pass_by_place may_stand_above w (first_line P)) (is_padded_tableau P)
     (subst (λ v. pass_by_place may_stand_above w v ≡ true) (sym (first_row P)) (g 0)) (grid_back P (λ r. h (suc r)) (λ r. g (suc r))))
 
--- ---- the sums of a good tableau after columns
+-- start plus the contents of the columns of a good tableau right of a given one
 
 drop_put : (k j : ℕ) (w : List ℕ) (cs : List (List ℕ))
     → times_in k (letters_of (drop (suc j) (put_row w cs))) ≡ times_in k (drop (suc j) w) + times_in k (letters_of (drop (suc j) cs))
 drop_put k j [] cs = omega arith
-drop_put k zero (x ∷ w) [] = let e = put_none k w in e
-  where
-    put_none : (k' : ℕ) (v : List ℕ) → times_in k' (letters_of (put_row v [])) ≡ times_in k' v + 0
-    put_none k' [] = refl
-    put_none k' (y ∷ v) = let e = put_none k' v in omega arith
+drop_put k zero (x ∷ w) [] = times_in-put k w []
 drop_put k (suc j) (x ∷ w) [] = drop_put k j w []
-drop_put k zero (x ∷ w) (c ∷ cs) = put_all k w cs
-  where
-    put_all : (k' : ℕ) (v : List ℕ) (ds : List (List ℕ)) → times_in k' (letters_of (put_row v ds)) ≡ times_in k' v + times_in k' (letters_of ds)
-    put_all k' [] ds = omega arith
-    put_all k' (y ∷ v) [] = let e = put_all k' v [] in omega arith
-    put_all k' (y ∷ v) (d ∷ ds) =
-        let e = put_all k' v ds in
-        let a = times_in-append k' d (letters_of (put_row v ds)) in
-        let b = times_in-append k' d (letters_of ds) in
-        omega arith
+drop_put k zero (x ∷ w) (c ∷ cs) = times_in-put k w cs
 drop_put k (suc j) (x ∷ w) (c ∷ cs) = drop_put k j w cs
 
 add_up-later : (f : ℕ → ℕ) (a k : ℕ) → add_up f (suc a) k ≡ add_up (λ r. f (suc r)) a k
@@ -199,10 +186,3 @@ pub places_fall : (α : List ℕ) → ((i : ℕ) → get_or α (suc i) 0 ≤ get
 places_fall [] h = refl
 places_fall (a ∷ []) h = refl
 places_fall (a ∷ b ∷ α) h = and_from (nat_le b a) (is_falling (b ∷ α)) (le-leb b a (h 0)) (places_fall (b ∷ α) (λ i. h (suc i)))
-
-pub resized_at : (n : ℕ) (α : List ℕ) (i : ℕ) → i < n → get_or (resize n α) i 0 ≡ get_or α i 0
-resized_at zero α i l = absurd (omega arith)
-resized_at (suc n) [] zero l = refl
-resized_at (suc n) [] (suc i) l = resized_at n [] i (omega arith) ∙ (get_or_past [] i 0 (omega arith) ∙ sym (get_or_past [] (suc i) 0 (omega arith)))
-resized_at (suc n) (a ∷ α) zero l = refl
-resized_at (suc n) (a ∷ α) (suc i) l = resized_at n α i (omega arith)

@@ -1,6 +1,6 @@
 -- Sums over the semistandard tableaux of a straight shape, row by row from the first on.
 --     over_rows               the sum of φ of the contents, over tableaux with a row above the first one
---     pair-schur_rows         the pairing of φ with a Schur polynomial is such a sum
+--     pair-schur_rows         the pairing of φ with a Schur polynomial is `over_rows` of φ without a row above
 --     over_rows-ext           only the values of φ at lists of n numbers matter
 --     over_rows-zeros         empty rows at the end add nothing
 --     over_rows-no_row_above  a row of zeros above changes nothing
@@ -23,7 +23,7 @@ use Rattle.alternant_laws.proofs.Exchanges.{length_content}
 use Rattle.schur_laws.proofs.GreatestLetters.{over_rising, rising-ext, rising-none, AreLetters}
 use lib.IntN.{+ℤ_idr}
 
--- the sum over the semistandard tableaux with rows of these lengths and letters up to n that fit below the row `upper`
+-- the sum of φ at the contents of the semistandard tableaux with rows of these lengths and letters up to n that fit below the row `upper`
 abbrev pub over_rows : ℕ → List ℕ → List ℕ → (List ℕ → ℤ) → ℤ
 over_rows n upper [] φ = φ (content n [])
 over_rows n upper (a ∷ parts) φ =
@@ -75,7 +75,7 @@ pair-schur_rows n parts φ =
     ∙ ap (λ l. total (λ (rows : List (List ℕ)). cond (semistandard [] rows) (φ (content n (letters_of rows))) (pos 0)) (fillings_of n l)) (row_lengths-none parts)
     ∙ total_below n [] parts φ
 
--- ---- changes that do not change the sum
+-- ---- changes of φ, of the rows and of the row above that do not change the sum
 
 -- if φ and ψ agree at lists of n numbers, their sums over rows are equal
 pub over_rows-ext : (n : ℕ) (upper parts : List ℕ) (φ ψ : List ℕ → ℤ) → ((γ : List ℕ) → length γ ≡ n → φ γ ≡ ψ γ) → over_rows n upper parts φ ≡ over_rows n upper parts ψ

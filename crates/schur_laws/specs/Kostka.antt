@@ -1,4 +1,4 @@
--- Shapes without a horizontal strip, and the Kostka numbers (Macdonald, I.5 and I.6).
+-- The shapes that are left after a horizontal strip is removed, and the Kostka numbers (Macdonald, I.5 and I.6).
 use Rattle.std.specs.Prelude.{ℕ, zero, suc, ◌-◌, ◌==◌, min, cond, ℤ, pos, List, [], ◌∷◌, ◌++◌, map}
 use Rattle.std.specs.Prelude.{flat_map}
 use Rattle.sym_model.specs.Sum.{total}
@@ -10,8 +10,8 @@ abbrev pub below : ℕ → List ℕ
 below zero = []
 below (suc n) = below n ++ (n ∷ [])
 
--- the partitions ρ such that λ/ρ is a horizontal strip of k cells, each once: i cells are removed from the first row,
--- at most those with no cell below, and k - i from the other rows
+-- for a partition λ, the partitions ρ such that λ/ρ is a horizontal strip of k cells, each once: i cells are removed
+-- from the first row, at most those with no cell below, and k - i from the other rows
 abbrev pub strips_off : ℕ → List ℕ → List (List ℕ)
 strips_off k [] = cond (k == 0) ([] ∷ []) []
 strips_off k (a ∷ parts) =

@@ -10,10 +10,10 @@ ghost use Rattle.sym_model.specs.WholeTerms.{WholeTerms};
 ghost use Rattle.monomial_laws.specs.ExpressionTerms.{IsList};
 ghost use Rattle.schur_laws.specs.Kostka.{kostka};
 
-/// A list with the Kostka numbers K(λ,κ) as the coefficients of the partitions κ is the Schur
+/// A list in m with the Kostka numbers K(λ,κ) as the coefficients of the partitions κ is the Schur
 /// polynomial of λ, in every number of variables. K(λ,κ) is the number of semistandard tableaux of
-/// shape λ and content κ, for contents in any order; it counts the ways to remove λ by horizontal
-/// strips of κ₁, κ₂, .. cells, and is at most the growth at the size of λ.
+/// shape λ and content κ, also for a κ that is not decreasing; it counts the ways to remove λ by
+/// horizontal strips of κ₁, κ₂, .. cells. It is at most d^d for the size d of λ, or 1 if d = 0.
 ///
 /// Example: two tableaux of shape (2,1) have the content (1,1,1).
 pub fn schur_in_monomials_law()

@@ -7,10 +7,12 @@ ghost use Rattle.sym_model.specs.Schur.{contains};
 ghost use Rattle.sym_model.specs.GoodTableau.{product_count};
 ghost use Rattle.tableau_laws.specs.ColumnFold.{over_columns, column_lines, is_sum};
 
-/// For partitions σ inside τ and μ inside λ: the number of good tableaux of the shape λ/μ for the
-/// start σ with sum τ equals the number of good tableaux of the shape τ/σ for the start μ with sum
-/// λ. In corresponding tableaux the letter k occurs in row r of the first as often as r in row k of
-/// the second.
+/// A good tableau of a shape for a start has the sum τ if start plus its content is τ; it is good
+/// if, for each column, start plus the content of that column and of those right of it is a
+/// partition. For partitions σ inside τ and μ inside λ: the number of good tableaux of the shape
+/// λ/μ for the start σ with the sum τ equals the number of good tableaux of the shape τ/σ for the
+/// start μ with the sum λ. In corresponding tableaux the letter k occurs in row r of the first as
+/// often as r in row k of the second.
 ///
 /// So a coefficient of the product of two Schur polynomials is a count of lattice tableaux of a
 /// skew shape, those of ν/λ with the content μ; it is 0 if λ is not inside ν; and the factors can

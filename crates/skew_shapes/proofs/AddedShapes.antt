@@ -1,8 +1,8 @@
 -- The rim hooks that can be added to a partition (specs/AddedHooks).
---     ending_none, ending_one, ending_next    the rim hooks with one last row after another
+--     ending_none, ending_one, ending_next    the rim hooks for each last row, from the first row down
 --     hooks_added                             the list has the rim hooks, in decreasing lexicographic order
 use Rattle.std.proofs.Common.{◌≡◌, ◌⊎◌, ℕ, suc, ◌+◌, ◌-◌, ◌<◌, ◌≤◌, ◌==◌, max, nat_lt, nat_le, Bool, true, false, ◌||◌, cond, List, [], ◌∷◌, ◌++◌, map, refl, sym, ap, ◌∙◌, subst, inl, inr, arith, flat_map}
-use Rattle.std.proofs.lemmas.Bool.{cases_lt, cases_eq, and_parts, and_from}
+use Rattle.std.proofs.lemmas.Bool.{cases_lt, cases_eq, and_parts, and_from, ltb-true, lt-ltb}
 use Rattle.std.proofs.lemmas.Bool.Decides.{nat_tests}
 use Rattle.sym_model.specs.Sum.{Among}
 use Rattle.sym_model.specs.Partition.{Falls, IsPartition, after, part, rows, size}
@@ -31,11 +31,8 @@ pub record CanAdd (k : ℕ) (inner : List ℕ) (first last : ℕ) : Type 0 where
 pub can_add-tells : (k : ℕ) (inner : List ℕ) (first last : ℕ) → can_add k inner first last ≡ true → CanAdd k inner first last
 can_add-tells k inner first last e =
     let p = and_parts (nat_lt (part inner first + (last - first)) (part inner last + k)) (first == 1 || nat_le (part inner last + k) (part inner (first - 1) + (last - first))) e in
-    record { longer = less (part inner first + (last - first)) (part inner last + k) p.0; below = by (cases_eq first 1) p.1 }
+    record { longer = ltb-true (part inner first + (last - first)) (part inner last + k) p.0; below = by (cases_eq first 1) p.1 }
   where
-    less : (a b : ℕ) → nat_lt a b ≡ true → a < b
-    less a b h = grind (arith, nat_tests)
-
     at_most : (a b : ℕ) (c : Bool) → (first ≡ 1 → ⊥) → (first == 1 || nat_le a b) ≡ true → a ≤ b
     at_most a b c n h = grind (arith, nat_tests)
 
@@ -47,11 +44,8 @@ can_add-tells k inner first last e =
 pub can_add-from : (k : ℕ) (inner : List ℕ) (first last : ℕ) → CanAdd k inner first last → can_add k inner first last ≡ true
 can_add-from k inner first last c =
     and_from (nat_lt (part inner first + (last - first)) (part inner last + k)) (first == 1 || nat_le (part inner last + k) (part inner (first - 1) + (last - first)))
-    (less (part inner first + (last - first)) (part inner last + k) c.longer) (by c.below)
+    (lt-ltb (part inner first + (last - first)) (part inner last + k) c.longer) (by c.below)
   where
-    less : (a b : ℕ) → a < b → nat_lt a b ≡ true
-    less a b h = grind (arith, nat_tests)
-
     one : (b : Bool) → first ≡ 1 → (first == 1 || b) ≡ true
     one b e = grind (arith, nat_tests)
 
@@ -76,7 +70,7 @@ later_begins k inner first last next end f h o p l c d = by (cases_lt next first
         let z = d.longer in
         absurd (omega arith)
 
--- ---- the rim hooks that end in one given row
+-- ---- the rim hooks whose last row is `last`
 
 pub ending_none : (k : ℕ) (inner : List ℕ) (first last : ℕ) → Falls inner → BeginsFrom k inner first last → first ≤ last
     → (first < last → part inner first + last < part inner last + k + first) → can_add k inner first last ≡ false → hooks_ending k inner last ≡ []
@@ -245,7 +239,7 @@ hook_height k inner first last f h o t =
     let c = can_add-tells k inner first last t in
     sym (height_of_rows (with_hook k inner first last) inner first last (hook_partition k inner first last f h o c).falls (hook_is k inner first last f h o c))
 
--- ---- each rim hook is listed
+-- ---- each rim hook that can be added is in the list
 
 record IsFound (k : ℕ) (inner ν : List ℕ) (first last : ℕ) : Type 0 where
   pub counts : 1 ≤ first

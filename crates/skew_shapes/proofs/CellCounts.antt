@@ -1,4 +1,4 @@
--- The number of cells of a skew shape is the size of outer less that of inner.
+-- The number of cells of a skew shape is the size of outer minus that of inner.
 use Rattle.std.proofs.Common.{◌≡◌, ℕ, zero, suc, ◌+◌, ◌-◌, ◌≤◌, List, [], ◌∷◌, ◌++◌, length, take, get_or, ◌∙◌, ap, refl, arith, flat_map}
 use Rattle.std.proofs.lemmas.List.{length-map, length-append, take_all}
 use Rattle.sym_model.specs.Partition.{ArePositive, part, size, after, cells, row_cells}

@@ -74,7 +74,7 @@ map_cells : (f : ℕ → ℕ → ℕ) (j : ℕ) (xs : List ℕ) → map (λ i. f
 map_cells f j [] = refl
 map_cells f j (x ∷ xs) = ap (λ l. f x j ∷ l) (map_cells f j xs)
 
--- the letters of a column are the numbers of its cells, from top to bottom
+-- the letters of column j of the filling with f in each cell are f of the cells of that column, from top to bottom
 pub column-rows_by :
     (f : ℕ → ℕ → ℕ) (outer inner : List ℕ) (j : ℕ)
     → column inner (rows_by f outer inner) j ≡ map (λ (c : ℕ × ℕ). f c.0 c.1) (column_cells outer inner j)
@@ -252,7 +252,7 @@ letters-put starts numbers outer inner w j k a h r held e row column c =
         (append_assoc (cells_right_of outer inner j) (cells_above outer inner j k) ((k + 1, j) ∷ [])
         ∙ ap (λ l. cells_right_of outer inner j ++ l) (sym (above-reached outer inner j k r)))
 
--- if the word has no letter left, the other cells get no letter
+-- if w has no letter left for the cell of column j in row k + 1, and the cells read before it hold the letters of w, so do the cells up to it
 pub letters-spent :
     (starts numbers outer inner w : List ℕ) (j k : ℕ) → reaches outer inner j (k + 1) ≡ true
     → HoldsLetters starts numbers outer inner (cells_right_of outer inner j ++ cells_above outer inner j k) w
@@ -286,7 +286,7 @@ letters-spent starts numbers outer inner w j k r held short row column c =
         ∙ ap (λ l. letter_of_cell (k + 1) j l w) more
         ∙ sym (ap₂ (λ x y. letter_of_cell x y (cells_right_of outer inner j ++ cells_above outer inner j (k + 1)) w) p q)
 
--- if the next row has no cell in the column, it is skipped
+-- if row k + 1 has no cell in column j, and the cells read up to row k hold the letters of w, so do the cells read up to row k + 1
 pub letters-passed :
     (starts numbers outer inner w : List ℕ) (j k : ℕ) → reaches outer inner j (k + 1) ≡ false
     → HoldsLetters starts numbers outer inner (cells_right_of outer inner j ++ cells_above outer inner j k) w
@@ -294,3 +294,40 @@ pub letters-passed :
 letters-passed starts numbers outer inner w j k r held row column c =
     held row column c
     ∙ ap (λ l. letter_of_cell row column (cells_right_of outer inner j ++ l) w) (sym (above-passed outer inner j k r))
+
+-- ---- a value for each cell, written column by column
+
+pub pushed-passed :
+    (f : ℕ → ℕ → ℕ) (outer inner given letters : List ℕ) (j k : ℕ) → reaches outer inner j (k + 1)
+    ≡ false
+    → letters ≡ given ++ map (λ (c : ℕ × ℕ). f c.0 c.1) (cells_above outer inner j k)
+    → letters ≡ given ++ map (λ (c : ℕ × ℕ). f c.0 c.1) (cells_above outer inner j (k + 1))
+pushed-passed f outer inner given letters j k r e =
+    e ∙ ap (λ l. given ++ map (λ (c : ℕ × ℕ). f c.0 c.1) l) (sym (above-passed outer inner j k r))
+
+pub pushed-reached :
+    (f : ℕ → ℕ → ℕ) (outer inner given letters new : List ℕ) (j k a : ℕ) → reaches outer inner j
+    (k + 1) ≡ true
+    → letters ≡ given ++ map (λ (c : ℕ × ℕ). f c.0 c.1) (cells_above outer inner j k)
+    → a ≡ f (k + 1) j → new ≡ letters ++ a ∷ []
+    → new ≡ given ++ map (λ (c : ℕ × ℕ). f c.0 c.1) (cells_above outer inner j (k + 1))
+pushed-reached f outer inner given letters new j k a r e is push =
+    let cells = cells_above outer inner j k in
+    push ∙ ap₂ (λ l n. l ++ n ∷ []) e is ∙ append_assoc given (map (λ (c : ℕ × ℕ). f c.0 c.1) cells)
+    (f (k + 1) j ∷ [])
+    ∙ ap (λ l. given ++ l) (sym (map-append (λ (c : ℕ × ℕ). f c.0 c.1) cells ((k + 1, j) ∷ [])))
+    ∙ ap (λ l. given ++ map (λ (c : ℕ × ℕ). f c.0 c.1) l) (sym (above-reached outer inner j k r))
+
+pub pushed-column :
+    (f : ℕ → ℕ → ℕ) (outer inner given letters new : List ℕ) (j : ℕ) → 1 ≤ j → j ≤ columns outer
+    → letters ≡ given ++ map (λ (c : ℕ × ℕ). f c.0 c.1) (cells_right_of outer inner j)
+    → new ≡ letters ++ map (λ (c : ℕ × ℕ). f c.0 c.1) (column_cells outer inner j)
+    → new ≡ given ++ map (λ (c : ℕ × ℕ). f c.0 c.1) (cells_right_of outer inner (j - 1))
+pushed-column f outer inner given letters new j h l e push =
+    let right = cells_right_of outer inner j in
+    push ∙ ap (λ xs. xs ++ map (λ (c : ℕ × ℕ). f c.0 c.1) (column_cells outer inner j)) e
+    ∙ append_assoc given (map (λ (c : ℕ × ℕ). f c.0 c.1) right) (map (λ (c : ℕ × ℕ). f c.0 c.1)
+    (column_cells outer inner j))
+    ∙ ap (λ xs. given ++ xs)
+    (sym (map-append (λ (c : ℕ × ℕ). f c.0 c.1) right (column_cells outer inner j)))
+    ∙ ap (λ xs. given ++ map (λ (c : ℕ × ℕ). f c.0 c.1) xs) (sym (right-more outer inner j h l))

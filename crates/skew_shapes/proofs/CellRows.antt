@@ -11,7 +11,7 @@ use Rattle.sym_model.proofs.Parts.{get_or-without_last_zeros, get_or-lowered, ge
 use Rattle.skew_shapes.specs.CellFillings.{is_cell, row_of, place_in_row, rows_with_entry}
 use Rattle.skew_shapes.specs.Rows.{row_by, rows_by}
 
--- ---- lists of the values at consecutive numbers
+-- ---- lists f(a + 1), .., f(a + k) of the values of a function
 
 pub map_after-at : {B : Type 0} (g : ℕ → B) (a k n : ℕ) (d : B) → n < k → get_or (map g (after a k)) n d ≡ g (a + n + 1)
 map_after-at g a zero n d h = absurd (omega arith)
@@ -23,7 +23,7 @@ map_after-ext f g a zero e = refl
 map_after-ext f g a (suc k) e =
     ap₂ ◌∷◌ (e (a + 1) (omega arith) (omega arith)) (map_after-ext f g (a + 1) k (λ i h l. e i (omega arith) (omega arith)))
 
--- setting one place of a list of values of f gives the values of a function that differs from f only there
+-- replacing one number of a list of values of f gives the values of a function g that differs from f only there
 pub map_after-set :
     {B : Type 0} (f g : ℕ → B) (a k n : ℕ) (x : B) → n < k → g (a + n + 1) ≡ x
     → ((i : ℕ) → a < i → i ≤ a + k → (i ≡ a + n + 1 → ⊥) → g i ≡ f i)
@@ -43,7 +43,7 @@ take-map_after f a k zero h = refl
 take-map_after f a zero (suc m) h = absurd (omega arith)
 take-map_after f a (suc k) (suc m) h = ap (λ l. f (a + 1) ∷ l) (take-map_after f (a + 1) k m (omega arith))
 
--- ---- the rows of cells
+-- ---- the row and the column of a cell of a skew shape
 
 -- a row with a cell is a row of the outer partition
 pub cell_row : (outer inner : List ℕ) (row column : ℕ) → IsCell outer inner row column → row ≤ length outer
@@ -150,7 +150,7 @@ rows_by-set f g outer inner row column a c e o =
     map_after-ext (g i) (f i) (part inner i) (part outer i - part inner i)
     (λ j q r. o i j (record { row_counts = omega arith; outside = q; within = omega arith }) (λ s. d (s.0 ∙ sym this)))))
 
--- ---- the parts of a partition with one of them lowered by 1
+-- ---- the parts of a partition after one of them is lowered by 1
 
 pub part-lowered_here : (xs : List ℕ) (row : ℕ) → 1 ≤ row → part (without_last_zeros (lowered_at row xs)) row ≡ part xs row - 1
 part-lowered_here xs zero h = absurd (omega arith)

@@ -1,4 +1,4 @@
--- Letters written into all cells are the filling of a word.
+-- If the letters of a word are written into all cells of a shape, the numbers are the filling with that word as its column reading.
 use Rattle.std.proofs.Common.{◌≡◌, ℕ, List, ap, subst}
 use Rattle.sym_model.specs.Tableau.{SkewFilling}
 use Rattle.sym_model.specs.TableauList.{letter_of_cell, reading_cells}

@@ -118,14 +118,11 @@ entry-filling_in shape starts numbers row column h =
     sym (ap (λ b. cond b (Some (slice_index (row_of (rows_by (number_in starts numbers) shape.0 shape.1) row) (place_in_row shape.1 row column))) None) h
     ∙ ap Some (letter-rows_by (number_in starts numbers) shape.0 shape.1 row column c))
 
--- ---- the numbers of one row
+-- ---- the numbers of one row as a slice of the list
 
 pub map_after-slice :
     (xs : List ℕ) (s p k : ℕ) → s + p + k ≤ length xs → map (λ j. get_or xs (s + (j - 1)) 0) (after p k) ≡ take k (drop (s + p) xs)
-map_after-slice xs s p zero h = none (drop (s + p) xs)
-  where
-    none : (ys : List ℕ) → [] ≡ take 0 ys
-    none ys = refl
+map_after-slice xs s p zero h = refl
 map_after-slice xs s p (suc k) h =
     let e : s + (p + 1 - 1) ≡ s + p = omega arith in
     let f : s + (p + 1) ≡ suc (s + p) = omega arith in
@@ -359,7 +356,7 @@ IsSkew-outer_lowered outer inner new (suc i) s c p e =
       holds = contains-from new inner (subst (λ xs. Holds xs inner) (sym e) all);
     }
 
--- ---- one row as a slice of the list
+-- ---- rows of a filling as slices of the list, and the length of each row
 
 pub row-kept :
     (shape : List ℕ × List ℕ) (starts numbers : List ℕ) (row from to : ℕ) → IsKept shape starts numbers → 1 ≤ row → row ≤ length shape.0

@@ -1,4 +1,4 @@
--- Lists of the shapes that fit, and shapes by their rows.
+-- Lists of the shapes whose numbers pass a test, and partitions that are given by their rows.
 --     none_fits, one_fits, among_fitting, from_fitting    the shapes at the numbers that pass a test
 --     fall_after, fall_fitting                            shapes in decreasing lexicographic order
 --     before_by_row                                       the order is that of the first rows that differ
@@ -61,7 +61,7 @@ from_fitting test shape ν xs m =
     by i true e (inr h) = absurd h
     by i false e h = absurd h
 
--- ---- lists that are in decreasing order, one after another
+-- ---- lists of shapes in decreasing lexicographic order, joined into one
 
 pub fall_after : (f : ℕ → List (List ℕ)) (a n : ℕ) → ((i : ℕ) → a < i → i ≤ a + n → FallsLexicographically (f i))
     → ((i j : ℕ) (x y : List ℕ) → a < i → i < j → j ≤ a + n → Among x (f i) → Among y (f j) → falling_lexicographic x y ≡ Less)
@@ -108,7 +108,7 @@ before_at (suc n) (a ∷ x) (b ∷ y) e h =
 pub before_by_row : (row : ℕ) (x y : List ℕ) → 1 ≤ row → ((i : ℕ) → 1 ≤ i → i < row → part x i ≡ part y i) → part y row < part x row → falling_lexicographic x y ≡ Less
 before_by_row row x y h e l = before_at (row - 1) x y (λ j m. sym (part-get_or x j) ∙ e (j + 1) (omega arith) (omega arith) ∙ part-get_or y j) l
 
--- ---- partitions with equal rows
+-- ---- partitions that are given by their rows
 
 same_places : (x y : List ℕ) → ArePositive x → ArePositive y → ((j : ℕ) → get_or x j 0 ≡ get_or y j 0) → x ≡ y
 same_places [] [] p q e = refl

@@ -2,7 +2,7 @@
 --     beginning_none, beginning_one, beginning_next    the rim hooks for each first row, from the lowest up
 --     hooks_removed                                    the list has the rim hooks, in decreasing lexicographic order
 use Rattle.std.proofs.Common.{◌≡◌, ◌⊎◌, ℕ, zero, suc, ◌+◌, ◌-◌, ◌<◌, ◌≤◌, ◌==◌, nat_lt, nat_le, Bool, true, false, ◌||◌, cond, List, [], ◌∷◌, ◌++◌, map, refl, sym, ap, ◌∙◌, subst, inl, inr, arith}
-use Rattle.std.proofs.lemmas.Bool.{cases_lt, cases_eq, and_parts, and_from}
+use Rattle.std.proofs.lemmas.Bool.{cases_lt, cases_eq, and_parts, and_from, ltb-true, lt-ltb, leb-true, le-leb}
 use Rattle.std.proofs.lemmas.Bool.Decides.{nat_tests}
 use Rattle.std.specs.declared.cmp.Ordering.TheVariants.{Less}
 use Rattle.sym_model.specs.Sum.{Among}
@@ -32,24 +32,12 @@ pub record CanRemove (k : ℕ) (outer : List ℕ) (first last : ℕ) : Type 0 wh
 pub can_remove-tells : (k : ℕ) (outer : List ℕ) (first last : ℕ) → can_remove k outer first last ≡ true → CanRemove k outer first last
 can_remove-tells k outer first last e =
     let p = and_parts (nat_le (part outer (last + 1) + k) (part outer first + (last - first))) (nat_lt (part outer first + (last - first)) (part outer last + k)) e in
-    record { below = at_most (part outer (last + 1) + k) (part outer first + (last - first)) p.0; shorter = less (part outer first + (last - first)) (part outer last + k) p.1 }
-  where
-    less : (a b : ℕ) → nat_lt a b ≡ true → a < b
-    less a b h = grind (arith, nat_tests)
-
-    at_most : (a b : ℕ) → nat_le a b ≡ true → a ≤ b
-    at_most a b h = grind (arith, nat_tests)
+    record { below = leb-true (part outer (last + 1) + k) (part outer first + (last - first)) p.0; shorter = ltb-true (part outer first + (last - first)) (part outer last + k) p.1 }
 
 pub can_remove-from : (k : ℕ) (outer : List ℕ) (first last : ℕ) → CanRemove k outer first last → can_remove k outer first last ≡ true
 can_remove-from k outer first last c =
     and_from (nat_le (part outer (last + 1) + k) (part outer first + (last - first))) (nat_lt (part outer first + (last - first)) (part outer last + k))
-    (at_most (part outer (last + 1) + k) (part outer first + (last - first)) c.below) (less (part outer first + (last - first)) (part outer last + k) c.shorter)
-  where
-    less : (a b : ℕ) → a < b → nat_lt a b ≡ true
-    less a b h = grind (arith, nat_tests)
-
-    at_most : (a b : ℕ) → a ≤ b → nat_le a b ≡ true
-    at_most a b h = grind (arith, nat_tests)
+    (le-leb (part outer (last + 1) + k) (part outer first + (last - first)) c.below) (lt-ltb (part outer first + (last - first)) (part outer last + k) c.shorter)
 
 -- if a rim hook can be removed, its last row is a row of the partition
 pub last_within : (k : ℕ) (outer : List ℕ) (first last : ℕ) → CanRemove k outer first last → (0 < part outer last) × (last ≤ rows outer)
@@ -66,7 +54,7 @@ no_two k outer first last end f o l c d =
     let x = falls_far outer f (last + 1) end (omega arith) (omega arith) in
     absurd (omega arith)
 
--- ---- the rim hooks that begin in one given row
+-- ---- the rim hooks whose first row is `first`
 
 pub beginning_none : (k : ℕ) (outer : List ℕ) (first last : ℕ) → Falls outer → EndsUpTo k outer first last → first ≤ last
     → (first < last → part outer first + last < part outer last + first + k) → can_remove k outer first last ≡ false → hooks_beginning k outer first ≡ []
@@ -245,7 +233,7 @@ pub left_height : (k : ℕ) (outer : List ℕ) (first last : ℕ) → Falls oute
 left_height k outer first last f h o t =
     sym (height_of_rows outer (without_hook k outer first last) first last f (hook_is k outer first last f h o (can_remove-tells k outer first last t)))
 
--- ---- each rim hook is listed
+-- ---- each rim hook that can be removed is in the list
 
 record IsFound (k : ℕ) (outer ν : List ℕ) (first last : ℕ) : Type 0 where
   pub counts : 1 ≤ first

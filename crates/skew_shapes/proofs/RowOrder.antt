@@ -1,15 +1,16 @@
--- A filling is a tableau if and only if each of its rows passes the test.
+-- A filling is a tableau if and only if each of its rows passes the test `row_passes`.
 use Rattle.std.proofs.Common.{◌≡◌, ℕ, zero, suc, ◌+◌, ◌-◌, ◌<◌, Bool, true, false, ◌&&◌, cond, nat_le, nat_lt, List, [], ◌∷◌, ◌++◌, length, drop, get_or, slice_index_or, ◌∙◌, ap, ap₂, sym, refl, inl, inr, arith, append-nil}
 use Rattle.std.proofs.lemmas.Bool.{cases_lt, lt-ltb, le-ltb, and_parts}
-use Rattle.std.proofs.Math.Bool.{and-true}
+use Rattle.std.proofs.Math.Bool.{and-true, and-false}
 use Rattle.sym_model.specs.Partition.{part, after}
 use Rattle.sym_model.specs.Schur.{row_rises, columns_rise, semistandard, letters_of}
 use Rattle.sym_model.specs.GoodTableau.{every}
 use Rattle.sym_model.specs.Tableau.{SkewFilling, are_letters}
 use Rattle.skew_shapes.specs.CellFillings.{IsFilling, IsTableauWithin, is_tableau, row_of}
 use Rattle.skew_shapes.specs.RowTests.{row_passes, stands_below}
+use Rattle.std.proofs.Math.Numerals.{add-one}
 
--- ---- a test of every number of a list
+-- ---- tests that each number of a list must pass
 
 every-append : (test : ℕ → Bool) (v w : List ℕ) → every test (v ++ w) ≡ (every test v && every test w)
 every-append test [] w = refl
@@ -24,11 +25,8 @@ every_after-shift f g a zero h = refl
 every_after-shift f g a (suc k) h = ap₂ (λ x y. x && y) (h (a + 1) (omega arith)) (every_after-shift f g (a + 1) k (λ i l. h i (omega arith)))
 
 pub every_after-more : (test : ℕ → Bool) (a k : ℕ) → every test (after a k) ≡ true → test (a + k + 1) ≡ true → every test (after a (k + 1)) ≡ true
-every_after-more test a k h e = ap (λ n. every test (after a n)) next ∙ more a k h e
+every_after-more test a k h e = ap (λ n. every test (after a n)) (add-one k) ∙ more a k h e
   where
-    next : k + 1 ≡ suc k
-    next = omega arith
-
     more : (a k : ℕ) → every test (after a k) ≡ true → test (a + k + 1) ≡ true → every test (after a (suc k)) ≡ true
     more a zero h e = let same : a + 1 ≡ a + 0 + 1 = omega arith in ap (λ b. b && true) (ap test same ∙ e)
     more a (suc k) h e =
@@ -43,13 +41,9 @@ every_after-fails test a (suc k) zero h e =
     ap (λ b. b && every test (after (a + 1) k)) (ap test same ∙ e)
 every_after-fails test a (suc k) (suc i) h e =
     let same : a + 1 + i + 1 ≡ a + suc i + 1 = omega arith in
-    ap (λ b. test (a + 1) && b) (every_after-fails test (a + 1) k i (omega arith) (ap test same ∙ e)) ∙ never (test (a + 1))
-  where
-    never : (b : Bool) → (b && false) ≡ false
-    never true = refl
-    never false = refl
+    ap (λ b. test (a + 1) && b) (every_after-fails test (a + 1) k i (omega arith) (ap test same ∙ e)) ∙ and-false (test (a + 1))
 
--- ---- the test of one row after another
+-- ---- the test `row_passes`, one row after another
 
 row_of-next : (row : List ℕ) (rows : List (List ℕ)) (i : ℕ) → 0 < i → row_of (row ∷ rows) (i + 1) ≡ row_of rows i
 row_of-next row rows i h =
@@ -85,16 +79,8 @@ passes-next inner row rows i h =
 
 regroup : (a b c d e : Bool) → ((a && b) && (c && d && e)) ≡ ((a && (c && d)) && (b && e))
 regroup false b c d e = refl
-regroup true b false d e = never b
-  where
-    never : (b : Bool) → (b && false) ≡ false
-    never true = refl
-    never false = refl
-regroup true b true false e = never b
-  where
-    never : (b : Bool) → (b && false) ≡ false
-    never true = refl
-    never false = refl
+regroup true b false d e = and-false b
+regroup true b true false e = and-false b
 regroup true b true true e = refl
 
 pub tests-rows :

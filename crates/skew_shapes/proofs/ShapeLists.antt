@@ -18,7 +18,7 @@ use Rattle.skew_shapes.specs.VerticalStrips.{vertical_on, AreVerticalStrips}
 
 -- ---- shapes whose rows have at most one cell more
 
--- each row of outer is that of inner or has one cell more, outer is weakly decreasing, and its first row is at most `most`
+-- each row of outer is as long as that of inner or one cell longer, outer is weakly decreasing, and its first row is at most `most`
 abbrev IsBeside : ℕ → List ℕ → List ℕ → Type 0
 IsBeside most [] [] = Unit {0}
 IsBeside most [] (b ∷ outer) = (b ≡ 1) × (b ≤ most) × IsBeside b [] outer
@@ -30,7 +30,7 @@ beside_size most [] outer o = omega arith
 beside_size most (a ∷ inner) [] o = absurd o
 beside_size most (a ∷ inner) (b ∷ outer) o = let r = beside_size b inner outer o.3 in let l = o.0 in omega arith
 
--- each row of outer has at most one cell more than that of inner, the cells are `left` more, and the rows at most `left` more
+-- outer has rows as `IsBeside` says, and `left` cells and at most `left` rows more than inner
 pub record IsWidened (most left : ℕ) (inner outer : List ℕ) : Type 0 where
   pub beside : IsBeside most inner outer
   pub cells : size outer ≡ size inner + left
@@ -45,6 +45,10 @@ beside_ones most [] o = refl
 beside_ones most (b ∷ outer) o =
     let r = beside_ones b outer o.2 in
     ap₂ ◌∷◌ o.0 r ∙ ap (λ n. replicate n 1) (let e : suc (size outer) ≡ b + size outer = (let q = o.0 in omega arith) in e)
+
+pub falls_more : (a b : ℕ) (inner : List ℕ) → a ≤ b → Falls (a ∷ inner) → Falls (b ∷ inner)
+falls_more a b [] l f = tt
+falls_more a b (c ∷ inner) l f = (let x = f.0 in omega arith, f.1)
 
 pub vertical_on-tell : (most left : ℕ) (inner outer : List ℕ) → Falls (most ∷ inner) → 1 ≤ most → ArePositive inner → Among outer (vertical_on most left inner) → IsWidened most left inner outer
 vertical_on-tell most left [] outer f h p (inl e) =
@@ -65,10 +69,6 @@ vertical_on-tell most left (a ∷ inner) outer f h p m =
     let t = r.few in
     subst (IsWidened most left (a ∷ inner)) (sym tail.2)
     (record { beside = (omega arith, omega arith, omega arith, r.beside); cells = omega arith; few = omega arith })
-  where
-    falls_more : (a b : ℕ) (inner : List ℕ) → a ≤ b → Falls (a ∷ inner) → Falls (b ∷ inner)
-    falls_more a b [] l f = tt
-    falls_more a b (c ∷ inner) l f = (let x = f.0 in omega arith, f.1)
 
 pub Among-vertical_on : (most left : ℕ) (inner outer : List ℕ) → Falls (most ∷ inner) → IsBeside most inner outer → size outer ≡ size inner + left → Among outer (vertical_on most left inner)
 Among-vertical_on most left [] outer f o s = inl (beside_ones most outer o ∙ ap (λ n. replicate n 1) (let e : size outer ≡ left = omega arith in e))
@@ -82,10 +82,6 @@ Among-vertical_on most left (a ∷ inner) (b ∷ outer) f o s =
     Among-each (λ row. map (λ rest. row ∷ rest) (vertical_on row (left + a - row) inner)) b (b ∷ outer) (counting_down (min most (a + min left 1)) (min most (a + min left 1) + 1 - a))
     (among-down (min most (a + min left 1)) (min most (a + min left 1) + 1 - a) b (omega arith) (omega arith))
     (Among-map (λ rest. b ∷ rest) outer (vertical_on b (left + a - b) inner) (Among-vertical_on b (left + a - b) inner outer (falls_more a b inner (omega arith) f.1) o.3 (omega arith)))
-  where
-    falls_more : (a b : ℕ) (inner : List ℕ) → a ≤ b → Falls (a ∷ inner) → Falls (b ∷ inner)
-    falls_more a b [] l f = tt
-    falls_more a b (c ∷ inner) l f = (let x = f.0 in omega arith, f.1)
 
 -- ---- the listed shapes are in decreasing lexicographic order
 
@@ -176,7 +172,7 @@ widened_limits inner k p cells few rest m =
 
 -- ---- shapes by their first row
 
--- if a listed shape of the other rows is put below a first row of length `row`, the result is a listed shape
+-- a first row of length `row`, followed by a listed shape of the other rows, is a listed shape
 pub listed_further : (most left a row n : ℕ) (inner rest : List ℕ) → n < min most (a + min left 1) + 1 - a → row ≡ min most (a + min left 1) - n → Among rest (vertical_on row (left + a - row) inner)
     → Among (row ∷ rest) (vertical_on most left (a ∷ inner))
 listed_further most left a row n inner rest h e m =
@@ -184,7 +180,7 @@ listed_further most left a row n inner rest h e m =
     (among-down (min most (a + min left 1)) (min most (a + min left 1) + 1 - a) row (omega arith) (omega arith))
     (Among-map (λ rest. row ∷ rest) rest (vertical_on row (left + a - row) inner) m)
 
--- if the first row has had all of its lengths, the shapes added are the whole list
+-- if each possible length of the first row has been tried, the shapes added are the whole list
 pub widened_all : (most left a n : ℕ) (below rows inner : List ℕ) (before cur : List (List ℕ)) → a ∷ below ≡ inner → n ≡ min most (a + min left 1) + 1 - a
     → cur ≡ before ++ map (λ rest. rows ++ rest) (flat_map (λ row. map (λ rest. row ∷ rest) (vertical_on row (left + a - row) below)) (counting_down (min most (a + min left 1)) n))
     → cur ≡ before ++ map (λ rest. rows ++ rest) (vertical_on most left inner)

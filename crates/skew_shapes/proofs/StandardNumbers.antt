@@ -8,7 +8,7 @@ use Rattle.sym_model.specs.GoodTableau.{every}
 use Rattle.sym_model.specs.StandardTableau.{IsStandard}
 use Rattle.sym_model.specs.Tableau.{SkewFilling, IsTableau, shape_of}
 use Rattle.sym_model.proofs.Lists.{each-append}
-use Rattle.sym_model.proofs.Tableaux.{length-row_lengths, row_lengths-none}
+use Rattle.sym_model.proofs.Tableaux.{length-row_lengths, row_lengths-none, length-letters_of}
 use Rattle.skew_shapes.specs.CellFillings.{IsTableauWithin, row_of}
 
 -- ---- the letters of the first rows of a tableau
@@ -33,10 +33,6 @@ length-letters-take (row ∷ rows) (suc i) =
       length-letters-take rows i,
     )
 
-length-letters : (rows : List (List ℕ)) → length (letters_of rows) ≡ size (map length rows)
-length-letters [] = refl
-length-letters (row ∷ rows) = length-append row (letters_of rows) ∙ ap (λ n. length row + n) (length-letters rows)
-
 size-row_lengths : (outer inner : List ℕ) → size (row_lengths outer inner) ≤ size outer
 size-row_lengths [] inner = omega arith
 size-row_lengths (a ∷ outer) [] = omega (arith, size-row_lengths outer [])
@@ -47,11 +43,11 @@ rows-tableau t h = sym (length-map t.rows length) ∙ ap length h.tableau.cells 
 
 pub few-letters : (t : SkewFilling) → IsTableauWithin t → length (letters_of t.rows) ≤ 4096
 few-letters t h =
-    omega (arith, length-letters t.rows, ap size h.tableau.cells, size-row_lengths t.outer t.inner, h.shape.outside.small)
+    omega (arith, length-letters_of t.rows, ap size h.tableau.cells, size-row_lengths t.outer t.inner, h.shape.outside.small)
 
 pub straight-letters : (t : SkewFilling) → IsTableauWithin t → t.inner ≡ [] → length (letters_of t.rows) ≡ size t.outer
 straight-letters t h e =
-    length-letters t.rows ∙ ap size (h.tableau.cells ∙ ap (row_lengths t.outer) e ∙ row_lengths-none t.outer)
+    length-letters_of t.rows ∙ ap size (h.tableau.cells ∙ ap (row_lengths t.outer) e ∙ row_lengths-none t.outer)
 
 -- ---- tableaux in which each number occurs once
 

@@ -18,6 +18,8 @@ use Rattle.strip_laws.proofs.Strips.{horizontal_from_rows, horizontal_rows}
 use Rattle.partitions.specs.Limits.{IsWithinLimits}
 use Rattle.skew_shapes.specs.HorizontalStrips.{counting_down, strips_on, last_of, AreHorizontalStrips}
 use Rattle.std.proofs.lemmas.Grind.{flat_map-append}
+use Rattle.std.proofs.lemmas.List.{map-append, append-nil, drop_all}
+use Rattle.std.proofs.lemmas.Option.{slice_get_past}
 
 -- ---- numbers that decrease by 1
 
@@ -57,7 +59,7 @@ over_size most (a ∷ inner) (b ∷ outer) o =
     let y = r.1 in
     (omega arith, omega arith)
 
--- each row of outer lies between two rows of inner, the cells are `left` more, and the rows at most `left` more
+-- outer has rows as `IsOver` says, and `left` cells and at most `left` rows more than inner
 pub record IsGrown (most left : ℕ) (inner outer : List ℕ) : Type 0 where
   pub over : IsOver most inner outer
   pub cells : size outer ≡ size inner + left
@@ -233,17 +235,9 @@ horizontal_strips inner k p = record {
 
 -- ---- shapes by their first row
 
-pub map_append : (g : List ℕ → List ℕ) (xs ys : List (List ℕ)) → map g (xs ++ ys) ≡ map g xs ++ map g ys
-map_append g [] ys = refl
-map_append g (x ∷ xs) ys = ap (λ l. g x ∷ l) (map_append g xs ys)
-
 pub prefix_longer : (rows : List ℕ) (row : ℕ) (xs : List (List ℕ)) → map (λ rest. (rows ++ (row ∷ [])) ++ rest) xs ≡ map (λ rest. rows ++ rest) (map (λ rest. row ∷ rest) xs)
 prefix_longer rows row [] = refl
 prefix_longer rows row (x ∷ xs) = ap₂ ◌∷◌ (append_assoc rows (row ∷ []) x) (prefix_longer rows row xs)
-
-pub append_none : (xs : List (List ℕ)) → xs ++ [] ≡ xs
-append_none [] = refl
-append_none (x ∷ xs) = ap (λ l. x ∷ l) (append_none xs)
 
 -- the shapes of the list that have `row` as their first row
 abbrev pub grown : ℕ → ℕ → List ℕ → ℕ → List (List ℕ)
@@ -259,13 +253,13 @@ each-next later high n rows longer before cur new c l e =
     ∙ ap (λ x. (before ++ map (λ rest. rows ++ rest) (flat_map (λ row. map (λ rest. row ∷ rest) (later row)) (counting_down high n))) ++ x) (prefix_longer rows (high - n) (later (high - n)))
     ∙ append_assoc before (map (λ rest. rows ++ rest) (flat_map (λ row. map (λ rest. row ∷ rest) (later row)) (counting_down high n))) (map (λ rest. rows ++ rest) (map (λ rest. (high - n) ∷ rest) (later (high - n))))
     ∙ ap (λ x. before ++ x)
-    (sym (map_append (λ rest. rows ++ rest) (flat_map (λ row. map (λ rest. row ∷ rest) (later row)) (counting_down high n)) (map (λ rest. (high - n) ∷ rest) (later (high - n))))
+    (sym (map-append (λ rest. rows ++ rest) (flat_map (λ row. map (λ rest. row ∷ rest) (later row)) (counting_down high n)) (map (λ rest. (high - n) ∷ rest) (later (high - n))))
     ∙ ap (map (λ rest. rows ++ rest))
-    (ap (λ x. flat_map (λ row. map (λ rest. row ∷ rest) (later row)) (counting_down high n) ++ x) (sym (append_none (map (λ rest. (high - n) ∷ rest) (later (high - n)))))
+    (ap (λ x. flat_map (λ row. map (λ rest. row ∷ rest) (later row)) (counting_down high n) ++ x) (sym (append-nil (map (λ rest. (high - n) ∷ rest) (later (high - n)))))
     ∙ sym (flat_map-append (λ row. map (λ rest. row ∷ rest) (later row)) (counting_down high n) ((high - n) ∷ []))
     ∙ ap (flat_map (λ row. map (λ rest. row ∷ rest) (later row))) (sym (down-next high n))))
 
--- if a listed shape of the other rows is put below a first row of length `row`, the result is a listed shape
+-- a first row of length `row`, followed by a listed shape of the other rows, is a listed shape
 pub listed_further : (most left a row n : ℕ) (inner rest : List ℕ) → n < min most (a + left) + 1 - max left a → row ≡ min most (a + left) - n → Among rest (strips_on a (left + a - row) inner)
     → Among (row ∷ rest) (strips_on most left (a ∷ inner))
 listed_further most left a row n inner rest h e m =
@@ -297,7 +291,7 @@ last_row left h = by (left == 0) refl
     by true e = absurd (let z = eqb-true left 0 e in omega arith)
     by false e = refl
 
--- if the first row has had all of its lengths, the shapes added are the whole list
+-- if each possible length of the first row has been tried, the shapes added are the whole list
 pub grown_all : (most left a n : ℕ) (below rows inner : List ℕ) (before cur : List (List ℕ)) → a ∷ below ≡ inner → n ≡ min most (a + left) + 1 - max left a
     → cur ≡ before ++ map (λ rest. rows ++ rest) (flat_map (grown a left below) (counting_down (min most (a + left)) n)) → cur ≡ before ++ map (λ rest. rows ++ rest) (strips_on most left inner)
 grown_all most left a n below rows inner before cur split e c =
@@ -322,22 +316,11 @@ some_here (suc i) (x ∷ xs) h = some_here i xs (omega arith)
 pub some_shape : (i : ℕ) (xs : List (List ℕ)) → i < length xs → IsSome (last_of (i + 1) xs)
 some_shape i xs h = subst (λ j. IsSome (last_of j xs)) (sym (add-one i)) (some_here i xs h)
 
-none_here : (i : ℕ) (xs : List (List ℕ)) → length xs ≤ i → slice_get xs i ≡ None
-none_here i [] h = refl
-none_here zero (x ∷ xs) h = absurd (omega arith)
-none_here (suc i) (x ∷ xs) h = none_here i xs (omega arith)
-
 pub none_shape : (n : ℕ) (xs : List (List ℕ)) → n ≡ length xs → last_of (n + 1) xs ≡ None
-none_shape n xs e = subst (λ j. last_of j xs ≡ None) (sym (add-one n)) (none_here n xs (omega arith))
-
-none_left : (i : ℕ) (xs : List (List ℕ)) → length xs ≤ i → drop i xs ≡ []
-none_left zero [] h = refl
-none_left (suc i) [] h = refl
-none_left zero (x ∷ xs) h = absurd (omega arith)
-none_left (suc i) (x ∷ xs) h = none_left i xs (omega arith)
+none_shape n xs e = subst (λ j. last_of j xs ≡ None) (sym (add-one n)) (slice_get_past xs n (omega arith))
 
 pub ended : (i n : ℕ) (xs : List (List ℕ)) → length xs ≤ i → n ≡ length xs → drop i xs ≡ option_to_list (last_of (n + 1) xs) ++ drop (n + 1) xs
-ended i n xs h e = none_left i xs h ∙ sym (ap₂ (λ (o : Option (List ℕ)) (l : List (List ℕ)). option_to_list o ++ l) (none_shape n xs e) (none_left (n + 1) xs (omega arith)))
+ended i n xs h e = drop_all i xs h ∙ sym (ap₂ (λ (o : Option (List ℕ)) (l : List (List ℕ)). option_to_list o ++ l) (none_shape n xs e) (drop_all (n + 1) xs (omega arith)))
 
 pub no_some : (o : Option (List ℕ)) → o ≡ None → IsSome o → ⊥
 no_some None e s = cc

@@ -14,36 +14,36 @@ can_add k inner first last =
     nat_lt (part inner first + (last - first)) (part inner last + k)
     && (first == 1 || nat_le (part inner last + k) (part inner (first - 1) + (last - first)))
 
--- the length of a row after that rim hook is added
+-- the length of row `row` after the rim hook of k cells in the rows first, .., last is added to inner
 abbrev pub added_row : ℕ → List ℕ → ℕ → ℕ → ℕ → ℕ
 added_row k inner first last row =
     cond (nat_lt row first || nat_lt last row) (part inner row)
     (cond (row == first) (part inner last + k - (last - first)) (part inner (row - 1) + 1))
 
--- the partition with that rim hook
+-- the partition made by adding the rim hook of k cells in the rows first, .., last to inner
 abbrev pub with_hook : ℕ → List ℕ → ℕ → ℕ → List ℕ
 with_hook k inner first last =
     without_last_zeros (map (added_row k inner first last) (after 0 (max (rows inner) last)))
 
--- the partitions made by rim hooks with this last row: at most one
+-- the partitions made by adding to inner a rim hook of k cells whose last row is `last`: at most one
 abbrev pub hooks_ending : ℕ → List ℕ → ℕ → List (List ℕ)
 hooks_ending k inner last =
     flat_map (λ first. cond (can_add k inner first last) (with_hook k inner first last ∷ []) [])
     (after 0 last)
 
--- the partitions made by rim hooks whose last row is after `last`
+-- the partitions made by adding to inner a rim hook of k cells whose last row is after `last`
 abbrev pub hooks_ending_after : ℕ → List ℕ → ℕ → List (List ℕ)
 hooks_ending_after k inner last =
     flat_map (hooks_ending k inner) (after last (rows inner + k - last))
 
--- no rim hook of k cells with this last row, or with one after it, begins in a row before `first`
+-- no rim hook of k cells with last row `last`, or with a later one, begins in a row before `first`
 pub record BeginsFrom (k : ℕ) (inner : List ℕ) (first last : ℕ) : Type 0 where
   pub counts : 1 ≤ first
   pub ordered : first ≤ last + 1
   pub passed : (row : ℕ) → 1 ≤ row → row < first → part inner last + k + row ≤ part inner row + last
 
--- the rows first, .., last are those of the current rim hook, and the buffer has the lengths of the
--- rows
+-- the rows first, .., last are those of the current rim hook, and the buffer has the lengths of the rows of inner with
+-- this hook added
 pub record IsAddedIn (buffer : List ℕ) (k : ℕ) (inner : List ℕ) (first last : ℕ) : Type 0 where
   pub ordered : first ≤ last
   pub fits : can_add k inner first last ≡ true

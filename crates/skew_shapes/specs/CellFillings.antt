@@ -57,7 +57,7 @@ abbrev pub with_entry : SkewFilling → ℕ → ℕ → ℕ → SkewFilling
 with_entry t row column a =
     record { outer = t.outer; inner = t.inner; rows = rows_with_entry t.inner t.rows row column a }
 
--- the filling in which the last inner cell of a row is a cell with the number 0
+-- the filling in which the last cell of a row of the inner partition has become a cell of the shape, with the number 0
 abbrev pub with_inner_cell : SkewFilling → ℕ → SkewFilling
 with_inner_cell t row =
     record {

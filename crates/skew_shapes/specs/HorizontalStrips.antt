@@ -13,7 +13,7 @@ pub record AreHorizontalStrips (inner : List ℕ) (k : ℕ) (list : List (List �
   pub members : (ν : List ℕ) → Among ν list
       ↔ (IsPartition ν × (size ν ≡ size inner + k) × IsHorizontalStrip ν inner)
 
--- `count` numbers, from `high` down
+-- the n numbers high, high - 1, .., if n is at most high + 1
 abbrev pub counting_down : ℕ → ℕ → List ℕ
 counting_down high zero = []
 counting_down high (suc n) = high ∷ counting_down (high - 1) n
@@ -21,7 +21,7 @@ counting_down high (suc n) = high ∷ counting_down (high - 1) n
 -- The partitions made by adding a horizontal strip of `left` cells to the rows of a partition, with a first row of at
 -- most `most`, by decreasing first row: from the longest to the shortest that leaves no more cells than the rows below
 -- it can take, each of which grows at most to the length that the row above it had. After the last row `most` has no
--- effect: all cells left are one row.
+-- effect: all cells left form one row.
 abbrev pub strips_on : ℕ → ℕ → List ℕ → List (List ℕ)
 strips_on most left [] = cond (left == 0) ([] ∷ []) ((left ∷ []) ∷ [])
 strips_on most left (a ∷ inner) =

@@ -7,37 +7,38 @@ use Rattle.sym_model.specs.Partition.{Falls, after, part, rows, without_last_zer
 use Rattle.skew_shapes.specs.HookLists.{HooksListed}
 
 -- whether a rim hook of k cells can be removed from outer in the rows first, .., last: each of them but the last
--- shrinks to the length of the row below less 1, and the remaining cells make the last row shorter, but not shorter
+-- shrinks to the length of the row below minus 1, and the remaining cells make the last row shorter, but not shorter
 -- than the row below it
 abbrev pub can_remove : ℕ → List ℕ → ℕ → ℕ → Bool
 can_remove k outer first last =
     nat_le (part outer (last + 1) + k) (part outer first + (last - first))
     && nat_lt (part outer first + (last - first)) (part outer last + k)
 
--- the length of a row after that rim hook is removed
+-- the length of row `row` after the rim hook of k cells in the rows first, .., last is removed from outer
 abbrev pub left_row : ℕ → List ℕ → ℕ → ℕ → ℕ → ℕ
 left_row k outer first last row =
     cond (nat_lt row first || nat_lt last row) (part outer row)
     (cond (row == last) (part outer first + (last - first) - k) (part outer (row + 1) - 1))
 
--- the partition without that rim hook
+-- the partition that is left if the rim hook of k cells in the rows first, .., last is removed from outer
 abbrev pub without_hook : ℕ → List ℕ → ℕ → ℕ → List ℕ
 without_hook k outer first last =
     without_last_zeros (map (left_row k outer first last) (after 0 (rows outer)))
 
--- the partitions that are left by rim hooks with this first row: at most one
+-- the partitions that are left by removing from outer a rim hook of k cells whose first row is `first`: at most one
 abbrev pub hooks_beginning : ℕ → List ℕ → ℕ → List (List ℕ)
 hooks_beginning k outer first =
     flat_map (λ last. cond (can_remove k outer first last)
     (without_hook k outer first last ∷ []) []) (after (first - 1) (rows outer + 1 - first))
 
--- the partitions left by rim hooks with a first row among the first `above` rows
+-- the partitions that are left by removing from outer a rim hook of k cells whose first row is among the first
+-- `above` rows
 abbrev pub hooks_beginning_within : ℕ → List ℕ → ℕ → List (List ℕ)
 hooks_beginning_within k outer zero = []
 hooks_beginning_within k outer (suc above) =
     hooks_beginning k outer (suc above) ++ hooks_beginning_within k outer above
 
--- no rim hook of k cells with this first row, or with one before it, ends in a row after `last`
+-- no rim hook of k cells with first row `first`, or with an earlier one, ends in a row after `last`
 pub record EndsUpTo (k : ℕ) (outer : List ℕ) (first last : ℕ) : Type 0 where
   pub counts : 1 ≤ first
   pub ordered : first ≤ last + 1
@@ -45,8 +46,8 @@ pub record EndsUpTo (k : ℕ) (outer : List ℕ) (first last : ℕ) : Type 0 whe
   pub passed : (row : ℕ) → last < row → row ≤ rows outer
       → part outer row + first + k ≤ part outer first + row
 
--- the rows first, .., last are those of the current rim hook, and the buffer has the lengths of the
--- rows
+-- the rows first, .., last are those of the current rim hook, and the buffer has the lengths of the rows of outer
+-- without this hook
 pub record IsLeftIn (buffer : List ℕ) (k : ℕ) (outer : List ℕ) (first last : ℕ) : Type 0 where
   pub ordered : first ≤ last
   pub fits : can_remove k outer first last ≡ true

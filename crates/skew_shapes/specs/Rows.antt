@@ -1,4 +1,5 @@
--- Fillings as functions of cells, and those that are kept in one list of numbers, row by row.
+-- Fillings given by a function f, with the number f row column in the cell (row, column), and fillings kept in one list
+-- of numbers, row by row.
 use Rattle.std.specs.Prelude.{◌≡◌, ℕ, ◌+◌, ◌-◌, ◌<◌, ◌≤◌, nat_le, nat_lt, Bool, ◌&&◌, List, map}
 use Rattle.std.specs.Prelude.{length, reverse, slice_index, filter, flat_map}
 use Rattle.sym_model.specs.Partition.{IsCell, part, rows, columns, after}
@@ -6,15 +7,15 @@ use Rattle.sym_model.specs.TableauList.{column_cells, letter_of_cell}
 use Rattle.sym_model.specs.Tableau.{SkewFilling}
 use Rattle.skew_shapes.specs.Shapes.{IsSkew}
 
--- the row of outer/inner with the number f row column in each cell
+-- row `row` of the filling of outer/inner that has the number f row column in each cell (row, column)
 abbrev pub row_by : (ℕ → ℕ → ℕ) → List ℕ → List ℕ → ℕ → List ℕ
 row_by f outer inner row = map (f row) (after (part inner row) (part outer row - part inner row))
 
--- the rows of the filling of outer/inner with these numbers
+-- the rows of the filling of outer/inner that has the number f row column in each cell (row, column)
 abbrev pub rows_by : (ℕ → ℕ → ℕ) → List ℕ → List ℕ → List (List ℕ)
 rows_by f outer inner = map (row_by f outer inner) (after 0 (rows outer))
 
--- the place of a cell, if each row begins at its start
+-- the index of the cell (row, column) in the list of numbers, in which `starts` has the index of the first number of each row
 abbrev pub place_of : List ℕ → ℕ → ℕ → ℕ
 place_of starts row column = slice_index starts (row - 1) + (column - 1)
 
@@ -22,7 +23,7 @@ place_of starts row column = slice_index starts (row - 1) + (column - 1)
 abbrev pub number_in : List ℕ → List ℕ → ℕ → ℕ → ℕ
 number_in starts numbers row column = slice_index numbers (place_of starts row column)
 
--- the filling of the shape whose numbers are kept in this list
+-- the filling of the shape whose numbers are in the list `numbers`, each row from its start on
 abbrev pub filling_in : List ℕ × List ℕ → List ℕ → List ℕ → SkewFilling
 filling_in shape starts numbers =
     record {
@@ -31,14 +32,14 @@ filling_in shape starts numbers =
       rows = rows_by (number_in starts numbers) shape.0 shape.1;
     }
 
--- different cells of the partition have different places
+-- the rows of the partition, each from its start on, do not overlap and are within a list of length `places`
 pub record HasPlaces (starts outer : List ℕ) (places : ℕ) : Type 0 where
   pub rows : length outer ≤ length starts
   pub apart : (i k : ℕ) → i < k → k < length outer
       → slice_index starts i + slice_index outer i ≤ slice_index starts k
   pub within : (i : ℕ) → i < length outer → slice_index starts i + slice_index outer i ≤ places
 
--- a skew shape with a place for each cell of its outer partition
+-- `shape` is a skew shape, and the list `numbers` has a place for each cell of its outer partition
 pub record IsKept (shape : List ℕ × List ℕ) (starts numbers : List ℕ) : Type 0 where
   pub skew : IsSkew shape.0 shape.1
   pub places : HasPlaces starts shape.0 (length numbers)

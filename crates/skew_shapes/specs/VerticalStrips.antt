@@ -13,10 +13,9 @@ pub record AreVerticalStrips (inner : List ℕ) (k : ℕ) (list : List (List ℕ
   pub members : (ν : List ℕ) → Among ν list
       ↔ (IsPartition ν × (size ν ≡ size inner + k) × IsVerticalStrip ν inner)
 
--- the partitions made by adding a strip of `left` cells to the rows of a partition, with a first
--- row of at most `most`: first those whose first row has a cell more, if it may be so long, and
--- then those with the first row unchanged; after the last row come rows of one cell, for which
--- `most` has no effect
+-- the partitions made by adding a vertical strip of `left` cells to a partition, with a first row of at most `most`:
+-- first those whose first row has a cell more, if it may be so long, and then those with the first row unchanged;
+-- after the last row come rows of one cell, for which `most` has no effect
 abbrev pub vertical_on : ℕ → ℕ → List ℕ → List (List ℕ)
 vertical_on most left [] = replicate left 1 ∷ []
 vertical_on most left (a ∷ inner) =

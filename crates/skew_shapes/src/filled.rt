@@ -23,7 +23,8 @@ use std::marker::Model;
 #[derive(Debug, Drop)]
 pub struct Filled {
     shape: Skew,
-    /// The place at which each row of the partition begins; there are places for all of its cells.
+    /// The place at which each row of the outer partition begins; there are places for all of its
+    /// cells.
     starts: Vec<u16>,
     numbers: Vec<u16>,
 }
@@ -96,7 +97,8 @@ impl Filled {
         Some(self.numbers[place(&self.starts, row, column)])
     }
 
-    /// Sets the number in the cell of this row and this column; all other cells stay unchanged.
+    /// Sets the number in the cell of this row and this column, both counted from 1, which must be
+    /// a cell of the shape; all other cells stay unchanged.
     pub fn set(&mut self, row: u16, column: u16, value: u16)
         requires { IsCell self.old.outer self.old.inner row column }
         ensures { self.new ≡ with_entry self.old row column value }
@@ -169,8 +171,8 @@ impl Filled {
         true
     }
 
-    /// Whether the numbers of this row are positive and weakly increasing, and those below them are
-    /// greater.
+    /// Whether the numbers of this row are positive and weakly increasing, and smaller than those
+    /// directly below them.
     fn row_passes(&self, row: u16) -> bool
         requires { (1 ≤ row) × (row ≤ rows self.now.outer) }
         ensures { result ≡ row_passes self.now.inner self.now.rows row }
@@ -179,7 +181,8 @@ impl Filled {
         all_positive(numbers) && (rises(numbers) && self.stands_on_next(row))
     }
 
-    /// Whether the numbers below those of this row are greater; true for the last row.
+    /// Whether each number of the next row is greater than the one directly above it; true for the
+    /// last row.
     fn stands_on_next(&self, row: u16) -> bool
         requires { (1 ≤ row) × (row ≤ rows self.now.outer) }
         ensures { result ≡ (if nat_lt row

@@ -22,10 +22,10 @@ pub struct HooksAdded {
     base: Partition,
     /// The number of cells of a rim hook.
     k: u16,
-    /// A place for each row that a partition can have, with the length of that row in the current
-    /// one.
+    /// The lengths of the rows of the current partition; there is a place for each row that a
+    /// partition can have.
     buffer: Vec<u16>,
-    /// The rows of the current rim hook. The next ones end after its last row.
+    /// The rows of the current rim hook; hooks that are not listed yet end after its last row.
     hook: HookRows,
     /// Whether a partition is current.
     listed: bool,
@@ -44,8 +44,8 @@ impl Model for HooksAdded {
 
 impl HooksAdded {
     /// The partitions made by adding a rim hook of `k` cells to `inner`; none of them is current
-    /// yet. The cells and k together are at most 4,096, and the rows and k at most 512. For k = 0
-    /// there is none.
+    /// yet. The cells of `inner` and k together are at most 4,096, and its rows and k at most 512.
+    /// For k = 0 there is none.
     pub fn new(alloc: Global, inner: &Partition, k: u16) -> Result<HooksAdded, NoMemory>
         requires cells { size inner.now + k ≤ 4096 }
         requires rows { rows inner.now + k ≤ 512 }
@@ -127,7 +127,8 @@ fn find_next(inner: &[u16], k: u16, most: u16, hook: &mut HookRows) -> bool
     false
 }
 
-/// The first row that is not too long for a rim hook with this last row.
+/// The first row from `hook.first` on that is not too long to be the first row of a rim hook of `k`
+/// cells with the last row `hook.last`; `hook.last` if all before it are too long.
 fn first_passed(inner: &[u16], k: u16, hook: HookRows) -> u16
     requires ordered { hook.first ≤ hook.last }
     requires begins { BeginsFrom k inner.now hook.first hook.last }
@@ -158,7 +159,7 @@ fn can_be_added(inner: &[u16], k: u16, hook: HookRows) -> bool
         && (hook.first == 1 || raised <= u32::from(length_of(inner, hook.first - 1)) + below)
 }
 
-/// Writes the lengths of the rows of the partition with this rim hook.
+/// Writes the lengths of the rows of the partition to which this rim hook is added.
 fn write_rows(inner: &[u16], k: u16, hook: HookRows, buffer: &mut [u16])
     requires counts { 1 ≤ hook.first }
     requires ordered { hook.first ≤ hook.last }
@@ -176,7 +177,7 @@ fn write_rows(inner: &[u16], k: u16, hook: HookRows, buffer: &mut [u16])
     }
 }
 
-/// The length of a row of the partition with this rim hook.
+/// The length of a row of the partition with this rim hook added.
 fn row_with_hook(inner: &[u16], k: u16, hook: HookRows, row: u16) -> u16
     requires counts { 1 ≤ hook.first }
     requires ordered { hook.first ≤ hook.last }

@@ -23,9 +23,9 @@ pub struct HooksRemoved {
     base: Partition,
     /// The number of cells of a rim hook.
     k: u16,
-    /// A place for each row, with the length of that row in the current partition.
+    /// For each row of the outer partition, its length in the current partition.
     buffer: Vec<u16>,
-    /// The rows of the current rim hook. The next ones begin before its first row.
+    /// The rows of the current rim hook; hooks that are not listed yet begin before its first row.
     hook: HookRows,
     /// Whether a partition is current.
     listed: bool,
@@ -124,7 +124,8 @@ fn find_next(outer: &[u16], k: u16, hook: &mut HookRows) -> bool
     false
 }
 
-/// The last row that is not too short for a rim hook with this first row.
+/// The last row up to `hook.last` that is not too short to be the last row of a rim hook of `k`
+/// cells with the first row `hook.first`; `hook.first` if all after it are too short.
 fn last_passed(outer: &[u16], k: u16, hook: HookRows) -> u16
     requires ordered { hook.first ≤ hook.last }
     requires few { rows outer.now ≤ 512 }

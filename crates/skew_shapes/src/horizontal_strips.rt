@@ -16,7 +16,7 @@ use std::marker::Model;
 #[derive(Drop)]
 pub struct HorizontalStrips {
     shapes: Vec<Partition>,
-    // The number of shapes listed so far; after the last one, one more than there are.
+    // The number of shapes listed so far; after the end, the number of all shapes plus 1.
     listed: usize,
 }
 
@@ -31,9 +31,9 @@ impl Model for HorizontalStrips {
 }
 
 impl HorizontalStrips {
-    /// The partitions made by adding a strip of `k` cells to `inner`; none of them is current yet.
-    /// The cells and k together are at most 4,096, and the rows and k at most 512. For k = 0 the
-    /// only one is `inner`.
+    /// The partitions made by adding a horizontal strip of `k` cells to `inner`; none of them is
+    /// current yet. The cells of `inner` and k together are at most 4,096, and its rows and k at
+    /// most 512. For k = 0 the only one is `inner`.
     pub fn new(alloc: Global, inner: &Partition, k: u16) -> Result<HorizontalStrips, NoMemory>
         requires cells { size inner.now + k ≤ 4096 }
         requires rows { rows inner.now + k ≤ 512 }
@@ -92,8 +92,9 @@ pub fn with_horizontal_strip(
     Ok(shapes)
 }
 
-/// Adds the shapes that begin with the rows of `above`, which do not change, followed by the rows
-/// of a partition with a strip of `left` cells added, whose first row is at most `most` long.
+/// Adds to `shapes` the partitions that begin with the rows of `above`, followed by the rows of
+/// `inner` with a strip of `left` cells added, the first of them at most `most` long. `above` is
+/// unchanged at the end.
 fn add_strips(
     alloc: Global,
     most: u16,
@@ -127,8 +128,8 @@ fn add_strips(
     Ok(())
 }
 
-/// Adds the shape of the rows of `above`, which do not change, and of a last row of `left` cells if
-/// that is not 0.
+/// Adds to `shapes` the partition with the rows of `above` and, if `left` is not 0, a last row of
+/// `left` cells. `above` is unchanged at the end.
 fn add_last(
     alloc: Global,
     left: u16,

@@ -1,4 +1,4 @@
-//! Numbers of cells in one list, row by row.
+//! The numbers in the cells of a skew shape, kept in one list, row by row.
 ghost use Rattle.std.specs.Prelude.{◌≡◌, ℕ, ◌+◌, ◌-◌, ◌<◌, ◌≤◌, [], ◌++◌, map, length, take, drop};
 ghost use Rattle.std.specs.Prelude.{slice_index, IfOk, OnOk};
 ghost use Rattle.sym_model.specs.Partition.{columns, size};
@@ -78,8 +78,8 @@ pub(crate) fn replace_columns(
     put_columns(numbers, starts, outer, inner, word);
 }
 
-/// Writes letters into the cells of one column. `rest` has the letters of the word that are left
-/// before, and the result those that are left after.
+/// Writes letters of the word into the cells of one column, from top to bottom. `rest` has the
+/// letters that are not written yet, and the result has those that are left after this column.
 fn put_column<'a>(
     numbers: &mut [u16],
     starts: &[u16],

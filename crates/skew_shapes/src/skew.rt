@@ -83,8 +83,8 @@ impl Skew {
         row >= 1 && self.inner.part(row) < column && column <= self.outer.part(row)
     }
 
-    /// Removes the last cell of a row of the inner partition, so that it becomes a cell of the
-    /// shape.
+    /// Removes the last cell of this row of the inner partition, so that it becomes a cell of the
+    /// shape. The row, counted from 1, must be longer than the next one.
     pub(crate) fn remove_inner_corner(&mut self, row: u16)
         requires { HasInnerCorner row self.old.1 }
         ensures { self.new ≡ (self.old.0, without_last_zeros (lowered_at row self.old.1)) }
@@ -92,7 +92,8 @@ impl Skew {
         self.inner.remove_corner(row);
     }
 
-    /// Removes the last cell of a row of the outer partition, which must be a cell of the shape.
+    /// Removes the last cell of this row of the outer partition, which must be a cell of the shape.
+    /// The row, counted from 1, must be longer than the next one.
     pub(crate) fn remove_outer_corner(&mut self, row: u16)
         requires corner { HasInnerCorner row self.old.0 }
         requires cell { part self.old.1 row < part self.old.0 row }

@@ -44,7 +44,7 @@ impl Standard {
         Ok(Standard { tableau: t })
     }
 
-    /// The tableau that is standard.
+    /// This standard tableau as a tableau.
     pub fn tableau(&self) -> &Tableau
         ensures value { result.now ≡ self.now }
         ensures standard { (self.now.inner ≡ []) × IsStandard self.now.rows }

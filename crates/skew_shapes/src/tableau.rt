@@ -10,8 +10,8 @@ use calc_base::NoMemory;
 use std::alloc::Global;
 use std::marker::Model;
 
-/// A semistandard tableau of a skew shape, with entries at least 1. When it is made it takes one
-/// place for each cell of its outer partition.
+/// A semistandard tableau of a skew shape, with entries at least 1. It keeps one number for each
+/// cell of its outer partition, in memory that is allocated when the tableau is made.
 #[derive(Debug, Drop)]
 pub struct Tableau {
     filled: Filled,

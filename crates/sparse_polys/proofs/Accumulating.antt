@@ -1,4 +1,4 @@
--- Products of scalars and counts that are added to a cleared list, and their overflows.
+-- Products of scalars and counts that are added to a list with its fractions cleared, and their overflows.
 use Rattle.std.proofs.Common.{◌≡◌, ◌⊎◌, ℕ, zero, suc, ◌*◌, ◌^◌, ◌<◌, ◌≤◌, Bool, true, List, [], ◌∷◌, sym, ◌∙◌, ap, ap₂, subst, refl, inl, inr, arith, ℤ, pos, ◌*ℤ◌, unsigned_abs}
 use Rattle.std.specs.Prelude.{nat_eq, nat_abs, Option, Some, None, IfSome}
 use Rattle.std.specs.Int.{◌∣◌}
@@ -66,7 +66,7 @@ product-value d e a b p c n la lb lp f g h =
           ∙ ap₂ ◌*ℤ◌ (ap (scaled (d * e)) f ∙ u.1) (scaled-count n),
     )
 
--- the product of two scalars is refused only if it is too large
+-- if d and e are denominators of x and y with d·e < 2^127, the product of x and y is refused only if |d·x|·|e·y| ≥ 2^127
 pub product-refused : {R : Type 0} (value : R → Fraction) (x y : R) (d e : ℕ)
     → AnswersProduct value x y None → IsDenominator d (value x) × IsDenominator e (value y)
     → d * e < 2 ^ 127 → 2 ^ 127 ≤ magnitude d (value x) * magnitude e (value y)

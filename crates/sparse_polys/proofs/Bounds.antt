@@ -1,5 +1,5 @@
 -- Bounds of a family of polynomials and of the coefficients of its list.
---     coefficient-within         by the numerator and the growth
+--     coefficient-within         a coefficient is at most the numerator of the bound times its growth
 --     coefficient-higher_label   a label of a size above the degree has the coefficient 0
 --     greatest-within            the greatest size of a label is within the limit
 --     past-weight                if a coefficient is 2^127 or more, so is the weight
@@ -24,7 +24,7 @@ use Rattle.monomial_laws.proofs.PowerSumCoefficients.{coefficient-monomial_terms
 use Rattle.monomial_laws.proofs.Majorants.{bounded_value, coefficient-higher}
 use Rattle.monomial_laws.proofs.WeightBounds.{coefficient_within_growth, growth-within_weight}
 
--- a partition's coefficient in the list is that of its monomial
+-- if the list W expands the polynomials f, the coefficient of a partition in W is that of its monomial in f
 pub coefficient-list : (W : WholeTerms) (f : ℕ → Poly) → IsList W f → (label : List ℕ) → IsPartition label → coefficient W label ≡ coefficient (f (length label)) label
 coefficient-list W f h label p =
     ap (coefficient W) (sym (sorted_parts-partition label p))
@@ -42,7 +42,7 @@ coefficient-higher_label N d W f h b label p high =
     coefficient-list W f h label p
     ∙ coefficient-higher N d (length label) (f (length label)) (b (length label)) label refl high
 
--- if the polynomials of a table are bounded at the degree d, no label has a size above d
+-- if the polynomials that a table expands are bounded by N at the degree d, no label has a size above d
 pub AreWithin-list : (N d : ℕ) (terms : WholeTerms) (f : ℕ → Poly) → IsWholeTable terms → IsList terms f → ((n : ℕ) → IsBounded N d n (f n)) → AreWithin d terms
 AreWithin-list N d terms f is h b t m = by (cases_lt d (size t.0))
   where

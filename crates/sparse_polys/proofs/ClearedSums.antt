@@ -1,8 +1,8 @@
 -- Lists to which terms are added one after another, with their fractions cleared
 -- (linear_combinations' specs/Cleared).
 --     found_over, mass_over, table_over   a cleared list is a table of integers
---     Gains-term, Overflows-term          one term, in a list of fractions
---     Gains-entry, Overflows-entry        one term, in a table over any ring
+--     Gains-term, Overflows-term          one term added to a list of fractions
+--     Gains-entry, Overflows-entry        one term added to a table over any ring
 --     scaled_twice                        a multiple of a multiple
 use Rattle.std.proofs.Common.{◌≡◌, ◌⊎◌, ℕ, ◌+◌, ◌*◌, ◌/◌, ◌^◌, ◌<◌, ◌≤◌, Bool, true, false, cond, List, [], ◌∷◌, ◌++◌, refl, sym, ap, ap₂, ◌∙◌, subst, inl, inr, arith, ℤ, pos, ◌+ℤ◌, ◌*ℤ◌, unsigned_abs}
 use Rattle.std.specs.Prelude.{nat_eq, nat_abs, Option, Some, None, IsSome}
@@ -65,7 +65,7 @@ module _ (q : ℕ) where
   mass_over [] = refl
   mass_over (t ∷ terms) = ap₂ (λ a b. a + b) (nat_abs-product t.1.0 (pos (q / t.1.1))) (mass_over terms)
 
-  -- the sum of the list with its fractions cleared by q, against φ, is a sum over the terms
+  -- the sum of c·φ(label) over the list with its fractions cleared by q is that of (q·c)·φ(label) over its terms
   pub over_sum : (φ : List ℕ → ℤ) (terms : Terms (List ℕ)) → pair (over q terms) φ ≡ total (λ (t : List ℕ × Fraction). scaled q t.1 *ℤ φ t.0) terms
   over_sum φ terms = total_map (λ (t : List ℕ × ℤ). t.1 *ℤ φ t.0) (λ (t : List ℕ × Fraction). (t.0, scaled q t.1)) terms
 
@@ -149,7 +149,8 @@ module _ {is_label : List ℕ → Bool} (q : ℕ) (old new : Terms (List ℕ)) (
     gains = record { sums = λ φ. sums_more φ ∙ ap (λ y. pair (over q old) φ +ℤ pair ((k, y) ∷ []) φ) e };
   }
 
--- a sum is refused only if it is too large
+-- if q < 2^127 is a common denominator and the ring refuses the sum of c and the coefficient a of k in `old`, then
+-- |q·a| + |q·c| ≥ 2^127
 module _ {R : Type 0} (is_held : R → Type 0) (value : R → Fraction) (checked : R → R → Option R) (answers : (a b : R) → is_held a → is_held b → AnswersSum value a b (checked a b))
     (q : ℕ) (old : Terms (List ℕ)) (k : List ℕ) (c : Fraction) (refused : IsRefused is_held value checked (coefficient_at old k) c)
     (some : 0 < q) (small : q < 2 ^ 127) (divides : c.1 ∣ q)
@@ -237,7 +238,7 @@ cleared-product d e a b c la lb f h =
           ∙ ap₂ ◌*◌ (unsigned_abs-scaled d a) (unsigned_abs-scaled e b);
     }
 
--- ---- multiples of multiples
+-- ---- a multiple of a multiple of a list
 
 -- d times a list, and then c times the result, is c·d times the list
 pub scaled_twice : {L : Type 0} (c d : ℤ) (xs : WholeTermsOf L) → multiple (c *ℤ d) xs ≡ multiple c (multiple d xs ++ [])

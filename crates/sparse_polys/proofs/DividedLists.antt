@@ -1,4 +1,4 @@
--- The polynomials that a list expands after it is divided by a number.
+-- The polynomials of a list after it is divided by a number.
 --     within-multiple, bounded-multiple      bounds of the polynomials bound its labels and coefficients
 --     expansion-, within-, bounded-quotients the bounds for an expression, from its degree and its numerator
 use Rattle.std.proofs.Common.{◌≡◌, ◌⊎◌, ℕ, ◌*◌, ◌/◌, ◌<◌, ◌≤◌, true, List, length, sym, ◌∙◌, ap, ap₂, subst, refl, inl, inr, arith, pos, ◌*ℤ◌}

@@ -102,7 +102,8 @@ common-denominators terms is = record {
 partition_at : (terms : Terms (List ℕ)) → IsPartitionTable terms → (t : List ℕ × Fraction) → Among t terms → IsPartition t.0
 partition_at terms is t m = (is_label-tells t.0 (term-tests terms is t m).1).partition
 
--- if q is a multiple of the denominator of the coefficient at each partition, it is one of the denominator of each term
+-- if q is a multiple of the denominator of the coefficient at each partition, it is a multiple of the denominator of
+-- each term
 pub divides_terms : (q : ℕ) (product : Terms (List ℕ)) → IsPartitionTable product → ((ν : List ℕ) → IsPartition ν → (coefficient_at product ν).1 ∣ q)
     → (t : List ℕ × Fraction) → Among t product → t.1.1 ∣ q
 divides_terms q product ip h t m =
@@ -117,8 +118,8 @@ value-list terms n α = ap (λ (f : Poly). coefficient f α) (sym (cleared-over 
 cancel : (num : ℤ) (D den r : ℕ) → r * den ≡ D → num *ℤ pos D ≡ num *ℤ pos r *ℤ pos den
 cancel num D den r e = ap (λ n. num *ℤ pos n) (sym e) ∙ sym (product_assoc num (pos r) (pos den))
 
--- product is the list to which all products of terms were added, with the fractions cleared by any common
--- denominators
+-- for all common denominators d of `left` and e of `right`, d·e·`product` is the sum of the products of a term of d·`left`
+-- and one of e·`right`
 abbrev pub IsClearedProduct : Terms (List ℕ) → Terms (List ℕ) → Terms (List ℕ) → Type 0
 IsClearedProduct left right product =
     (d e : ℕ) → IsCommonDenominator d left → IsCommonDenominator e right
@@ -174,7 +175,7 @@ expansion_nothing left [] product n d e h =
     record { positive = omega arith; equal = λ α. sym (ap (λ g. coefficient (scale (pos 1) g) α) (times_nothing f)) } in
     subst (λ (l : Terms (List ℕ)). IsExpansionOf Basis.monomials l n (times f []) d) (sym e) none
 
--- ---- the labels of a product have sums of sizes
+-- ---- the size of each label of a product is the sum of two sizes
 
 -- the size of each label of a product is the sum of the sizes of a label of `left` and one of `right`
 pub sums_of_sizes : (d e : ℕ) (left right product : Terms (List ℕ)) → 0 < d * e
@@ -246,7 +247,7 @@ label_among {R = R} value entries u m =
     let v = Among_from_map (λ (p : List ℕ × R). (p.0, value p.1)) u entries m in
     (v.0, v.1, ap (λ (w : List ℕ × Fraction). size w.0) (sym v.2))
 
--- if the labels of the values of a product are sums of labels of the values of its factors, so are those of the entries
+-- if the sizes of the labels of a product are sums of sizes of labels of its factors in the lists of values, they are so in the lists of entries
 pub sums_values : {R : Type 0} (value : R → Fraction) (left right product : List (List ℕ × R))
     → AreSums (terms_of value left) (terms_of value right) (terms_of value product)
     → AreSums left right product

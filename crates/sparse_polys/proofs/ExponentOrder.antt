@@ -1,5 +1,5 @@
--- The printed order of monomials is the reversed order of their degrees and lists of exponents: if one list is the
--- front of the other, the longer one has an exponent that is not 0 after it.
+-- The printed order of monomials is the reverse of the order by degree and then by list of exponents: if one list is a
+-- proper prefix of the other, the rest of the longer one has an exponent that is not 0.
 use Rattle.std.proofs.Common.{◌≡◌, ℕ, zero, suc, List, [], ◌∷◌, refl, sym, ap, ◌∙◌, inl, inr, ◌⊎◌, arith}
 use Rattle.std.specs.Cmp.{nat_cmp_is}
 use Rattle.std.specs.Cmp.Lexicographic.{slice_cmp}
@@ -14,7 +14,7 @@ positive_cmp a = sym (nat_cmp_is (suc a) 0 Greater (omega arith))
 zero_cmp : (a : ℕ) → nat_cmp 0 (suc a) ≡ Less
 zero_cmp a = sym (nat_cmp_is 0 (suc a) Less (omega arith))
 
--- compared with no exponents, a list has a positive one and so comes first, or it has only zeros
+-- a list of exponents has a positive one, and so comes before the empty list, or it has only zeros
 abbrev HasPositive : List ℕ → Type 0
 HasPositive u = ((falling_lexicographic [] u ≡ Greater) × (falling_lexicographic u [] ≡ Less)) ⊎ (without_last_zeros u ≡ [])
 

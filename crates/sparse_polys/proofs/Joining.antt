@@ -12,7 +12,7 @@ take-join a b i h =
     let l = length-join a b in
     take_more (join a b) i 0 (omega arith) ∙ ap (λ n. take i (join a b) ++ n ∷ []) (get_or-join a b i)
 
--- the sum a_i + b_i is at most the sum of all of them
+-- a_i + b_i is at most the sum of all exponents of the product
 pub entry-join : (a b : List ℕ) (i : ℕ) → get_or a i 0 + get_or b i 0 ≤ size (join a b)
 entry-join a b i =
     let s = size-join a b in

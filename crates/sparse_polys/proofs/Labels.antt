@@ -1,4 +1,4 @@
--- The invariant of the type and the test of a label agree.
+-- Exponents within the limits of the type `Monomial` pass the test of a label.
 use Rattle.std.proofs.Common.{◌≡◌, ℕ, ◌&&◌, true, List, length}
 use Rattle.std.specs.Prelude.{nat_le}
 use Rattle.std.proofs.lemmas.Bool.{and_from, le-leb}

@@ -21,8 +21,7 @@ module _ {R : Type 0} (value : R → Fraction) where
   over_pieces q [] ys = refl
   over_pieces q (x ∷ xs) ys = ap (λ l. (x.0, scaled q (value x.1)) ∷ l) (over_pieces q xs ys)
 
-  -- a list of pairs is added by adding its pieces: a term times the list, the list times another, and x_r times the
-  -- list
+  -- a list xs ++ ys times a term, a polynomial or x_r is xs times it, followed by ys times it
   pub row_pieces : (s : Term) (e : ℕ) (xs ys : List (List ℕ × R))
       → times (s ∷ []) (over e (terms_of value (xs ++ ys))) ≡ times (s ∷ []) (over e (terms_of value xs)) ++ times (s ∷ []) (over e (terms_of value ys))
   row_pieces s e [] ys = refl

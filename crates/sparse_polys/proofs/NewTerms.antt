@@ -1,4 +1,4 @@
--- A list of terms whose monomials are those of another list times a variable: the next one is new.
+-- A list of terms whose monomials are those of another list times a variable: the next monomial is not in it yet.
 use Rattle.std.proofs.Common.{◌≡◌, ℕ, Bool, true, false, cond, List, [], ◌∷◌, ◌++◌, refl, sym, ap, ◌∙◌, subst, inl, inr, pos}
 use Rattle.std.specs.Prelude.{nat_eq, Some, None}
 use Rattle.std.specs.List.{IsDistinct}
@@ -33,7 +33,7 @@ absent_coefficient (u ∷ terms) k h = by (pointwise nat_eq k u.0) refl (absent_
     by true p rest = absurd (h u (inl refl) (sym (same_partition k u.0 p)))
     by false p rest = rest
 
--- a monomial that a look-up does not find is that of no term
+-- if a look-up does not find the monomial k, no term has the monomial k
 missed : (terms : Terms (List ℕ)) (k : List ℕ) → lookup (pointwise nat_eq k) terms ≡ None → (t : List ℕ × Fraction) → Among t terms → t.0 ≡ k → ⊥
 missed [] k none t m e = m
 missed (u ∷ terms) k none t m e = by (pointwise nat_eq k u.0) refl none (missed terms k) m
@@ -71,7 +71,8 @@ module _ {R : Type 0} (value : R → Fraction) (r : ℕ) (done rest : List (List
       (subst (λ (l : Terms (List ℕ)). IsDistinct (pointwise nat_eq) (keys_of l)) (sym split) is.distinct) in
       missed (terms_of value done) k none u.0 u.1 same)
 
-  -- with the next term k added, each monomial of the new list is still the product of a monomial of the old one and the variable
+  -- after the product of the next monomial k and the variable is added, each monomial of the new list is still the
+  -- product of a monomial of the old one and the variable
   pub labels_next : (new : Terms (List ℕ)) → IsPolynomialTable cur → IsPolynomialTable new → HasMoreAt (pointwise nat_eq) cur (raised r k) (value v) new
       → AreRaised r (terms_of value (done ++ (k, v) ∷ [])) new
   labels_next new was also more t m = by (pointwise nat_eq (raised r k) t.0) refl

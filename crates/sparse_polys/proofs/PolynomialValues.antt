@@ -209,7 +209,7 @@ variable_value n r terms φ =
     ∙ row_value n terms φ x
     ∙ pair_ext f (λ β. restricted_test n φ (join x β)) (λ e. restricted_test n φ (raised r e)) (λ e. ap (restricted_test n φ) (join_comm x e)))
 
--- the product with an empty list represents 0
+-- if `right` is empty, the empty list represents the product of the polynomials of `left` and `right`
 pub represents_nothing : (n d : ℕ) (left right product : Terms (List ℕ)) → product ≡ [] → length right ≡ 0
     → Represents (λ e. x_to_in e n) product (times (value_in left n) (value_in right n)) d
 represents_nothing n d left (t ∷ right) product e h = absurd (omega arith)

@@ -1,7 +1,7 @@
 -- The product of two lists of terms in m as one list (specs/MonomialProducts).
 --     counted_gains, counted_overflows        the counts of a search are the list of m_λ·m_μ
 --     products_coefficient, products_large    the coefficients of the product of two lists
---     products_sizes                          the sizes of its labels
+--     products_sizes                          the sizes of the labels of the product
 use Rattle.std.proofs.Common.{◌≡◌, ◌⊎◌, ℕ, ◌+◌, ◌*◌, ◌^◌, Bool, true, false, cond, List, [], ◌∷◌, ◌++◌, map, refl, sym, ap, ◌∙◌, subst, inl, inr, arith, ℤ, pos, ◌+ℤ◌, ◌*ℤ◌}
 use Rattle.std.specs.Prelude.{nat_eq, nat_abs, ◌≤ℤ◌}
 use Rattle.std.specs.Cmp.Lexicographic.{pointwise}
@@ -36,7 +36,7 @@ use Rattle.linear_combinations.specs.Cleared.{GainsCleared, OverflowsCleared}
 use Rattle.linear_combinations.proofs.Cleared.{Gains-as}
 use Rattle.sparse_polys.proofs.ExactCounts.{all_among}
 
--- for each ν, either ν has the property P of the labels of g, or ν does not occur in g
+-- if all labels of g have the property P, each ν has the property P or does not occur in g
 label_or_none : (P : List ℕ → Type 0) (g : WholeTerms) → HaveLabels P g → (ν : List ℕ) → (P ν) ⊎ (mass_at (pointwise nat_eq) ν g ≡ 0)
 label_or_none P [] h ν = inr refl
 label_or_none P (t ∷ g) h ν = by (pointwise nat_eq ν t.0) refl (label_or_none P g (λ u n. h u (inr n)) ν)
@@ -193,7 +193,7 @@ module _ (f g : WholeTerms) (ν : List ℕ) (p : IsPartition ν) where
 products_labels : (P : List ℕ → Type 0) (f g : WholeTerms) → ((s t : List ℕ × ℤ) → Among s f → Among t g → HaveLabels P (product_terms s.0 t.0)) → HaveLabels P (products f g)
 products_labels P f g h = labels_replaced (λ l. replaced (product_terms l) g) P f (λ s m. labels_replaced (product_terms s.0) P g (λ t n. h s t m n))
 
--- if the product overflows, so does the product of the absolute values at some partition
+-- if the product of f and g overflows, the product of |f| and |g| has a coefficient of 2^127 or more at some partition
 pub products_large : (f g : WholeTerms) → Overflows (pointwise nat_eq) [] (products f g) → (ν : List ℕ) × IsPartition ν × (pos (2 ^ 127) ≤ℤ product_coefficient (absolute f) (absolute g) ν)
 products_large f g o = by (label_or_none IsPartition (products f g) (products_labels IsPartition f g (λ s t m n u k. (terms_labels s.0 t.0 u k).0)) o.0)
   where

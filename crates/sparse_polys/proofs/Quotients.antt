@@ -1,6 +1,6 @@
 -- Integers divided by one positive number, in lowest terms.
---     Quotients-next         a table of quotients with one more
---     IsDivided-quotients    such a table is the list divided by the number
+--     Quotients-next         a table of quotients with one more quotient
+--     IsDivided-quotients    the table of all quotients is the list divided by the number
 use Rattle.std.proofs.Common.{◌≡◌, ◌⊎◌, ℕ, ◌*◌, ◌<◌, true, cond, List, [], ◌∷◌, ◌++◌, refl, sym, ◌∙◌, ap, subst, inl, inr, arith, ℤ, pos, ◌+ℤ◌, ◌*ℤ◌}
 use Rattle.std.proofs.lemmas.Int.{ints}
 use Rattle.std.proofs.lemmas.List.{map-append}
@@ -31,7 +31,7 @@ use Rattle.sparse_polys.proofs.PartitionTerms.{once_before}
 use lib.IntN.{+ℤ_idr}
 use native.Mathlib.Nat.{mul-pos}
 
--- the sum of a/x and b/x is (a + b)/x
+-- (a·x + b·x)/(x·x) = (a + b)/x, with both sides multiplied by the denominators
 cross : (a b x : ℤ) → (a *ℤ x +ℤ b *ℤ x) *ℤ x ≡ (a +ℤ b) *ℤ (x *ℤ x)
 cross a b x = simp ring
 

@@ -102,7 +102,7 @@ size-padded [] zero = refl
 size-padded [] (suc k) = let h = size-padded [] k in omega arith
 size-padded (a ∷ e) k = ap (λ n. a + n) (size-padded e k)
 
--- refilling a list with one of the same length gives the latter
+-- if a list ws has the length of xs, filling xs anew with ws gives ws
 pub refilled : (xs ws : List ℕ) → length ws ≡ length xs → refill (length xs) xs ws ≡ ws
 refilled xs ws h = take-append-le (length xs) ws (drop (length ws) xs) (omega arith) ∙ ap (λ n. take n ws) (sym h) ∙ take_all (length ws) ws (omega arith)
 

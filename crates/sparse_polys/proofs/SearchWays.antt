@@ -21,7 +21,7 @@ states_first left s states h = h 0 s (omega arith)
 pub states_rest : (left : ℕ) (s : State) (states : List State) → AreStates left (s ∷ states) → AreStates left states
 states_rest left s states h k d l = h (suc k) d (omega arith)
 
--- if |rest| is not the size of the remaining parts, there is no way to continue to it
+-- if |rest| is not the size of the remaining parts, there is no way to continue to `rest`
 pub ways-sizes : (left : ℕ) (states : List State) (rest : List ℕ) → AreStates left states → (left ≡ size rest → ⊥) → ways states rest ≡ 0
 ways-sizes left [] rest h n = refl
 ways-sizes left (s ∷ states) rest h n =
@@ -120,7 +120,7 @@ found-step prefix i states next ν h =
             bound (inl l) = lt-leb y (i + 1) (omega arith) ∙ sym (lt-leb y i l)
             bound (inr l) = le-leb y (i + 1) (omega arith) ∙ sym (le-leb y i l)
 
--- if no part may be chosen and something is left, ν is not found
+-- if no part may be chosen, but the size `left` that is still to come is not 0, ν is not found
 pub found-none : (prefix : List ℕ) (left : ℕ) (states : List State) (ν : List ℕ) → AreStates left states → 0 < left → found prefix 0 states ν ≡ 0
 found-none prefix left states ν h l = by (after_prefix prefix ν)
   where
@@ -158,7 +158,7 @@ found-min prefix left m states ν h = by (cases_lt left m)
     by (inl l) = let e : min m left ≡ left = omega arith in ap (λ k. found prefix k states ν) e ∙ found-top prefix left m states ν h (omega arith)
     by (inr l) = let e : min m left ≡ m = omega arith in ap (λ k. found prefix k states ν) e
 
--- if nothing is left, ν is found if and only if it consists of the chosen parts
+-- if nothing is left, ν has the number of ways of all states, up to 2^128 - 1, if it consists of the chosen parts, and otherwise 0
 pub found-end : (prefix : List ℕ) (m : ℕ) (states : List State) (ν : List ℕ) → AreStates 0 states → found prefix m states ν ≡ cond (same prefix ν) (capped (ways states [])) 0
 found-end [] m states [] h = refl
 found-end [] m states (y ∷ ν) h = by (ltb 0 y) refl
@@ -216,7 +216,7 @@ IsChosen-more m x prefix h l c = record {
   positive = ArePositive-append prefix x h c.positive;
 }
 
--- from no states, ν is not found
+-- a search from no states finds no way to ν
 pub found-nothing : (prefix : List ℕ) (m : ℕ) (ν : List ℕ) → found prefix m [] ν ≡ 0
 found-nothing prefix m ν = by (after_prefix prefix ν)
   where
@@ -228,7 +228,7 @@ found-nothing prefix m ν = by (after_prefix prefix ν)
         none true = refl
         none false = refl
 
--- if a partition of `total` is appended to partitions of `total`, each entry is still one
+-- if a partition of `total` is appended to a list of partitions of `total`, all entries are partitions of `total`
 pub counted-more : (total : ℕ) (terms : List Counted) (t : Counted) → IsPartition t.parts.items → size t.parts.items ≡ total → AreCounted total terms → AreCounted total (terms ++ (t ∷ []))
 counted-more total [] t p s h zero d l = (p, s)
 counted-more total [] t p s h (suc k) d l = absurd (omega arith)
@@ -244,7 +244,8 @@ IsPartition-goes_on m x (y ∷ rest) f p h =
     (and_from (ltb 0 x) (leb x m) (lt-ltb 0 x p.0) (le-leb x m h))
     (IsPartition-goes_on x y rest f.1 p.1 f.0)
 
--- a search from one state with the labels l and r, and no chosen part, finds each arrangement
+-- a search from one state with the labels l and r, and no chosen part, finds for each partition ν the number of ways to
+-- write it as a sum of arrangements of l and r, up to 2^128 - 1
 pub found-all : (l r ν : List ℕ) (s : State) (total : ℕ) → s.left.items ≡ l → s.right.items ≡ r → s.count ≡ 1 → IsPartition ν → size l + size r ≡ total
     → found [] total (s ∷ []) ν ≡ capped (arrangements l r ν)
 found-all l r [] s total a b k p z = ap capped (one l r [] s a b k)
@@ -278,7 +279,7 @@ found-all l r (x ∷ rest) s total a b k p z = by (cases_lt total x)
 
 -- ---- the count of each entry of the result
 
--- after the chosen parts, nothing of the list of these parts is left
+-- removing the chosen parts from the front of the list of these parts leaves the empty list
 after_prefix-all : (prefix : List ℕ) → after_prefix prefix prefix ≡ Some []
 after_prefix-all [] = refl
 after_prefix-all (a ∷ prefix) = ap (λ b. cond b (after_prefix prefix prefix) None) (eq-eqb a a refl) ∙ after_prefix-all prefix
@@ -311,14 +312,15 @@ Counts-step f prefix x m states next p l h k ν rest a b =
     ∙ k ν (x ∷ rest) (then_part-some x (after_prefix prefix ν) rest (sym (after_prefix-append prefix x ν) ∙ a))
     (and_from (ltb 0 x && leb x m) (falls_from x rest) (and_from (ltb 0 x) (leb x m) (lt-ltb 0 x p) (le-leb x m l)) b)
 
--- if all counts so far are those of f, and the next entry has the count of f, so are all counts with it
+-- if all counts so far are those of f, and the next entry has the count of f, all counts of the longer list are those of f
 pub counts-more : (f : List ℕ → ℕ) (terms : List Counted) (t : Counted) → t.count ≡ f t.parts.items → HaveCounts f terms → HaveCounts f (terms ++ (t ∷ []))
 counts-more f [] t e h zero d l = e
 counts-more f [] t e h (suc k) d l = absurd (omega arith)
 counts-more f (u ∷ terms) t e h zero d l = h zero d (omega arith)
 counts-more f (u ∷ terms) t e h (suc k) d l = counts-more f terms t e (λ j i m. h (suc j) i (omega arith)) k d (omega arith)
 
--- from one state with nothing chosen, each count is the number of arrangements
+-- from one state with the labels l and r, and no chosen part, each count is the number of ways to write ν as a sum of
+-- arrangements of l and r, up to 2^128 - 1
 pub Counts-begin : (l r : List ℕ) (s : State) (m : ℕ) → s.left.items ≡ l → s.right.items ≡ r → s.count ≡ 1
     → Counts (λ ν. capped (arrangements l r ν)) [] m (s ∷ [])
 Counts-begin l r s m a b k ν rest e f =

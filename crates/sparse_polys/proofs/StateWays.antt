@@ -27,7 +27,7 @@ capped-count n (suc a) rest = by (cases_lt (2 ^ 128 - 1) n)
         rw m (omega arith)
     by (inr h) = let m : min n (2 ^ 128 - 1) ≡ n = omega arith in rw m refl
 
--- the number of ways of a list of states is that of state i plus that of the others, whatever state replaces state i
+-- the number of ways of a list of states is that of state i plus that of the other states, whatever state replaces state i
 others-of : (xs : List State) (i : ℕ) (s : State) (ν : List ℕ) → i < length xs → s ≡ get_or xs i s → (rest : ℕ) × (ways xs ν ≡ ways_of s ν + rest) × ((t : State) → ways (set xs i t) ν ≡ ways_of t ν + rest)
 others-of xs i s ν h e =
     let b = ap (λ (l : List State). ways l ν) (sym (take-append-drop i xs)) ∙ ways-append (take i xs) (drop i xs) ν in
@@ -37,7 +37,7 @@ others-of xs i s ν h e =
       λ t. let a = ap (λ (l : List State). ways l ν) (set_split xs i t h) ∙ ways-append (take i xs) (t ∷ drop (suc i) xs) ν in omega arith,
     )
 
--- increasing the count of a state by c adds c times its arrangements
+-- increasing the count of a state by c, up to 2^128 - 1, adds c times the arrangements of its labels to the capped number of ways to ν
 pub ways-more : (xs : List State) (i : ℕ) (s t : State) (c : ℕ) (ν : List ℕ) → i < length xs → s ≡ get_or xs i s → t.left ≡ s.left → t.right ≡ s.right → t.count ≡ min (s.count + c) (2 ^ 128 - 1)
     → capped (ways (set xs i t) ν) ≡ capped (ways xs ν + c * arrangements s.left.items s.right.items ν)
 ways-more xs i s t c ν h e l r k =

@@ -21,7 +21,7 @@ IsRest-taken a b left l r s h k = record {
   sizes = omega (arith, s.sizes, size-taken a l s.first h, size-taken b r s.second k);
 }
 
--- if a remaining part is greater than all parts still to come, there is no way
+-- if l without its part a has a part greater than a + b, and all parts of ν are at most a + b, there is no way to continue to ν
 pub taken-above_left : (a b left : ℕ) (l r ν : List ℕ) → IsRest left l r → AreBelow (a + b + 1) ν → HasPartAbove (a + b) (without_one a l) → taken l r a b ν ≡ 0
 taken-above_left a b left l r ν s below (k, m, h) = by (has b (0 ∷ r))
   where
@@ -55,7 +55,7 @@ taken_over-total x l r ν (b ∷ bs) = by (leb b x) (has (x - b) (0 ∷ r)) (arr
     by true false n {z} e = omega (arith, ints)
     by false t n {z} e = omega (arith, ints)
 
--- of the first part x, either nothing is removed from l, or one of the different parts of l and the rest from r
+-- the ways to x ∷ ν are those that remove nothing from l and x from r, and those that remove a part b of l, each different b once, and x - b from r
 pub arrangements-first : (x : ℕ) (ν l r : List ℕ) → IsPartition l → IsPartition r → arrangements l r (x ∷ ν) ≡ taken l r 0 x ν + taken_over x l r ν (distinct l)
 arrangements-first x ν l r p q = as_number (arrangements-cons x ν l r p q ∙ taken_over-total x l r ν (distinct (0 ∷ l))) ∙ ap (taken_over x l r ν) zero_first ∙ first
   where
@@ -98,7 +98,8 @@ next_way w2 w1 k t o rest goal h e g =
     ∙ ap (λ n. capped n) (let p = ap (λ n. k * n) e in let q : w1 + k * t + k * rest ≡ w1 + k * o = omega arith in q)
     ∙ g
 
--- the sum over the parts from index i on, if part i is a choice: its ways, plus the sum over the later parts
+-- if part i is at most x and not among the later parts, the sum over the parts from index i on is the number of ways with part i removed
+-- from the left label, plus the sum over the later parts
 pub taken_over-choice : (x : ℕ) (l r ν parts : List ℕ) (i : ℕ) → i < length parts → is_choice_at parts i x ≡ true
     → taken_over x l r ν (distinct (drop i parts)) ≡ taken l r (get_or parts i 0) (x - get_or parts i 0) ν + taken_over x l r ν (distinct (drop (i + 1) parts))
 taken_over-choice x l r ν parts i h e =
@@ -138,7 +139,7 @@ rest_at a b l r e s = subst (λ k. IsRest k l r) e s
 pub below_at : (a b : ℕ) (ν : List ℕ) → a ≡ b → AreBelow a ν → AreBelow b ν
 below_at a b ν e s = subst (λ k. AreBelow k ν) e s
 
--- if part i is a choice for x, it is at most x
+-- if `is_choice_at` accepts part i for x, this part is at most x
 pub choice-within : (x : ℕ) (parts : List ℕ) (i : ℕ) → is_choice_at parts i x ≡ true → get_or parts i 0 ≤ x
 choice-within x parts i e = leb-true (get_or parts i 0) x (and_parts (leb (get_or parts i 0) x) (not (has (get_or parts i 0) (drop (i + 1) parts))) e).0
 

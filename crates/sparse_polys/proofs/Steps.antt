@@ -1,4 +1,4 @@
--- Loops over the pairs of a table: one more pair.
+-- Statements about the pairs of a table that a loop has reached, and their change when the loop takes one more pair.
 use Rattle.std.proofs.Common.{◌≡◌, Bool, List, [], ◌∷◌, ◌++◌, pos, refl, ◌∙◌, inl, inr}
 use Rattle.std.specs.Prelude.{Option, Some}
 use Rattle.std.specs.List.{IsDistinct}
@@ -10,7 +10,7 @@ use Rattle.sparse_polys.specs.Combination.{terms_of, IsCombination}
 use Rattle.sparse_polys.specs.Refusal.{IsRefused}
 pub use Rattle.linear_combinations.proofs.Steps.{absent_before, error_is, all_done}
 
--- adding 0 to a coefficient never returns `Large`
+-- the ring does not refuse the sum of 0 and a coefficient
 module _ {R : Type 0} {is_held : R → Type 0} {value : R → Fraction} {checked : R → R → Option R} (answers : (a b : R) → is_held a → is_held b → AnswersSum value a b (checked a b)) where
   pub fits-zero_left : (a b : Fraction) → a ≡ whole (pos 0) → IsRefused is_held value checked a b → ⊥
   fits-zero_left a b e r = let h : checked r.left r.right ≡ Some r.right = (answers r.left r.right r.left_held r.right_held).zero_left (r.left_value ∙ e) in let f = r.refused in cc

@@ -1,6 +1,6 @@
--- The operations of a table with integer coefficients on its list of terms.
---     Same-multiple, Same-sum        the values
---     large_product, large_sum       the conditions of refusals
+-- The operations on a table with integer coefficients, as operations on its list of terms.
+--     Same-multiple, Same-sum        the list of a multiple of a table, and of a sum of two tables
+--     large_product, large_sum       if a multiple or a sum of tables is refused, one of its coefficients is too large
 use Rattle.std.proofs.Common.{◌≡◌, ◌^◌, ◌≤◌, Bool, true, false, sym, ◌∙◌, ap, ap₂, subst, refl, arith, ℤ, pos, ◌+ℤ◌, ◌*ℤ◌}
 use Rattle.std.specs.Prelude.{nat_abs, FitsSigned}
 use Rattle.std.specs.Int.{w128}

@@ -50,7 +50,7 @@ module _ {L : Type 0} (is_label : L → Bool) where
   is_ordered-fractions order (t ∷ u ∷ terms) =
       ap (λ b. is_lt (order t.0 u.0) && b) (is_ordered-fractions order (u ∷ terms))
 
-  -- a list is canonical if and only if it is in order and each term passes the test of one
+  -- a list is canonical if and only if its labels are in order and each element passes the test of a term
   pub canonical-fractions : (order : L → L → Ordering) (terms : Terms L)
       → is_canonical_list order is_label terms
       ≡ (is_ordered order terms

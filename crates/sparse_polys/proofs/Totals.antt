@@ -10,7 +10,7 @@ use Rattle.sparse_polys.specs.Combination.{coefficient, IsCombination, HasMoreAt
 
 module _ {L : Type 0} {eq : L → L → Bool} (laws : IsEquivalence eq) (same : (x y : L) → eq x y ≡ true → x ≡ y) where
   module _ {is_label : L → Bool} where
-    -- a term of one combination occurs in each other one with its coefficient
+    -- a term of one combination occurs in every other one that has the same coefficient at its label
     pub carried : (first second : Terms L) → IsCombination eq is_label first → (t : L × Fraction) → Among t first → coefficient eq second t.0 ≡ coefficient eq first t.0 → Among t second
     carried first second is = Totals.carried laws same (whole (pos 0)) (λ (r : Fraction). r) refl first second is
 
@@ -20,7 +20,8 @@ module _ {L : Type 0} {eq : L → L → Bool} (laws : IsEquivalence eq) (same : 
       total_same =
           Totals.total_same laws same (whole (pos 0)) (λ (r : Fraction). r) refl first second is also
 
-  -- if `new` is `old` with c added at the label k, the sum of f over `new`, less that over `old`, is f(k, new coefficient) less f(k, old coefficient)
+  -- if f(l, 0) = 0 for all labels l, and `new` is `old` with c added at the label k, then (sum of f over `new`) + f(k, old
+  -- coefficient) = (sum of f over `old`) + f(k, new coefficient)
   pub total-more : (f : L → Fraction → ℤ) → ((l : L) → f l (whole (pos 0)) ≡ pos 0) → (k : L) → {is_label : L → Bool} (old new : Terms L)
       → IsCombination eq is_label old → IsCombination eq is_label new → (c : Fraction) → HasMoreAt eq old k c new
       → total (λ (t : L × Fraction). f t.0 t.1) new +ℤ f k (coefficient eq old k) ≡ total (λ (t : L × Fraction). f t.0 t.1) old +ℤ f k (coefficient eq new k)

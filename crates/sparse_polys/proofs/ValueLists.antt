@@ -70,7 +70,7 @@ module _ {L R : Type 0} (value : R → Fraction) where
           by true = sums (Entries.coefficient eq zero old k) c ∙ ap (λ (r : Fraction). fraction_sum r (value c)) (coefficient_values old k)
           by false = coefficient_values old q
 
--- ---- operations that are refused
+-- ---- operations of a ring that are refused
 
 module _ {R : Type 0} (value : R → Fraction) (is_held : R → Type 0) (checked : R → R → Option R) where
   pub refused_values : (a b : R) (x y : Fraction) → value a ≡ x → value b ≡ y → Entries.IsRefused is_held checked a b → IsRefused is_held value checked x y

@@ -82,7 +82,8 @@ Finds terms W = (label : List ℕ) → coefficient equal (pos 0) terms label ≡
 pub Same-from_look_ups : (terms W : WholeTerms) → IsWholeTable terms → Finds terms W → Same terms W
 Same-from_look_ups terms W is h label = coefficient_found terms is.distinct label ∙ h label
 
--- adding c at a label of the table appends the term to the list W
+-- if each look-up in the table `old` gives the coefficient in W, and `new` has c more at the label, each look-up in
+-- `new` gives the coefficient in W with the term (label, c) appended
 pub Finds-next : (old new W : WholeTerms) (label : List ℕ) (c : ℤ) → Finds old W → HasMoreAt equal (pos 0) ◌+ℤ◌ old label c new → Finds new (W ++ (label, c) ∷ [])
 Finds-next old new W label c h more l = more l ∙ by (same_or_not label l) ∙ sym (coefficient_plus W ((label, c) ∷ []) l)
   where
@@ -97,15 +98,15 @@ Finds-next old new W label c h more l = more l ∙ by (same_or_not label l) ∙ 
         ∙ h l
         ∙ sym (ap (λ z. coefficient_of W l +ℤ z) (ap (λ b. cond b c (pos 0) +ℤ pos 0) (same_apart label l n)) ∙ +ℤ_idr (coefficient_of W l))
 
--- a table to which only c at one label was added is the list of this term
+-- an empty table to which only c at one label was added is the list of this term
 pub Same-single : (new : WholeTerms) (label : List ℕ) (c : ℤ) → IsWholeTable new → HasMoreAt equal (pos 0) ◌+ℤ◌ [] label c new → Same new ((label, c) ∷ [])
 Same-single new label c is more = Same-from_look_ups new ((label, c) ∷ []) is (Finds-next [] new [] label c (λ l. refl) more)
 
--- adding c to the coefficient a = 0 never returns `Large`
+-- the ring does not refuse the sum of a = 0 and c
 pub not_refused : (a c : ℤ) → a ≡ pos 0 → IsRefused (FitsSigned w128) (λ (x y : ℤ). checked_i128 (x +ℤ y)) a c → ⊥
 not_refused a c e = fits-zero_left {is_held = FitsSigned w128} {value = whole} {checked = λ (x y : ℤ). checked_i128 (x +ℤ y)} sum_answers_i128 a c (ap whole e)
 
--- if lists, labels and coefficients are equal, a clause for the one holds for the other
+-- if lists, labels and coefficients are equal, adding c' at label' to old' gives the list that adding c at the label to `old` gives
 pub more_as : (old old' new : WholeTerms) (label label' : List ℕ) (c c' : ℤ) → old ≡ old' → label ≡ label' → c ≡ c'
     → HasMoreAt equal (pos 0) ◌+ℤ◌ old label c new → HasMoreAt equal (pos 0) ◌+ℤ◌ old' label' c' new
 more_as old old' new label label' c c' p q r h =
@@ -131,7 +132,7 @@ labels-same P terms W is h each =
 
 -- ---- look-ups in tables of fractions
 
--- a look-up finds each term of a table
+-- looking up the label of a term of a table finds the coefficient of the term
 pub found-among : (terms : Terms (List ℕ)) → IsDistinct equal (keys_of terms) → (t : List ℕ × Fraction) → Among t terms → found terms t.0 ≡ t.1
 found-among terms d t m = ap (λ (o : Option Fraction). unwrap_or o (pos 0, 1)) (look_up-among nat_list_eq_equiv same_partition terms d t m)
 

@@ -9,7 +9,7 @@ use Rattle.sym_model.specs.Canonical.{is_label}
 use Rattle.sym_model.specs.LabelLimits.{is_monomial_label}
 use Rattle.linear_combinations.specs.Entries
 
--- the list of terms of a list of pairs of labels and scalars
+-- the list of terms of a list of pairs of labels and scalars, with the value of each scalar as the coefficient
 abbrev pub terms_of : {L R : Type 0} → (R → Fraction) → List (L × R) → Terms L
 terms_of {L} {R} value pairs = map (λ (p : L × R). (p.0, value p.1)) pairs
 
@@ -21,20 +21,23 @@ coefficient eq terms label = Entries.coefficient eq (pos 0, 1) terms label
 abbrev pub are_terms : {L : Type 0} → (L → Bool) → Terms L → Bool
 are_terms is_label terms = Entries.are_terms (λ (c : Fraction). c) is_label terms
 
--- a finite linear combination: each label occurs once, with a coefficient that is not 0
+-- a finite linear combination: each label occurs once, within its limits, with a coefficient that is not 0 and in
+-- lowest terms
 abbrev pub IsCombination : {L : Type 0} → (L → L → Bool) → (L → Bool) → Terms L → Type 0
 IsCombination eq is_label terms = Entries.IsCombination eq is_label (λ (c : Fraction). c) terms
 
--- a combination of partitions
+-- a finite linear combination of partitions within the limits: each occurs once, with a coefficient that is not 0
+-- and in lowest terms
 abbrev pub IsPartitionTable : Terms (List ℕ) → Type 0
 IsPartitionTable terms = IsCombination (pointwise nat_eq) is_label terms
 
--- a combination of monomials
+-- a finite linear combination of monomials within the limits: each occurs once, with a coefficient that is not 0 and
+-- in lowest terms
 abbrev pub IsPolynomialTable : Terms (List ℕ) → Type 0
 IsPolynomialTable terms = IsCombination (pointwise nat_eq) is_monomial_label terms
 
--- whether a list of terms is canonical: each label once, in the printed order, with a coefficient
--- that is not 0 and in lowest terms
+-- whether a list of terms is canonical: each label once, within its limits and in the given order, with a
+-- coefficient that is not 0 and in lowest terms
 abbrev pub is_canonical_list : {L : Type 0} → (L → L → Ordering) → (L → Bool) → Terms L → Bool
 is_canonical_list order is_label terms =
     Entries.is_canonical_list order is_label (λ (c : Fraction). c) terms
@@ -43,11 +46,11 @@ is_canonical_list order is_label terms =
 abbrev pub HasMoreAt : {L : Type 0} → (L → L → Bool) → Terms L → L → Fraction → Terms L → Type 0
 HasMoreAt eq old label c new = Entries.HasMoreAt eq (pos 0, 1) fraction_sum old label c new
 
--- the coefficient of each label is the sum of those in the two other lists
+-- the coefficient of each label in `sum` is the sum of those in the lists `first` and `second`
 abbrev pub IsSumOf : {L : Type 0} → (L → L → Bool) → Terms L → Terms L → Terms L → Type 0
 IsSumOf eq first second sum = Entries.IsSumOf eq (pos 0, 1) fraction_sum first second sum
 
--- the coefficient of each label is that of the other list times c
+-- the coefficient of each label in `multiple` is that in the list `terms` times c
 abbrev pub IsMultipleOf : {L : Type 0} → (L → L → Bool) → Terms L → Fraction → Terms L → Type 0
 IsMultipleOf eq terms c multiple =
     Entries.IsMultipleOf eq (pos 0, 1) fraction_product terms c multiple

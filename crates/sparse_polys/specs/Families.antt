@@ -13,7 +13,7 @@ polynomial_of Elementary = elementary_of
 polynomial_of Complete = complete_of
 polynomial_of PowerSum = power_sum_of
 
--- the basis of the products
+-- the basis of the products of the polynomials of a family
 abbrev pub basis_in : Family → Basis
 basis_in Elementary = elementaries
 basis_in Complete = completes

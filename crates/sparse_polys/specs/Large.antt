@@ -1,4 +1,4 @@
--- Lists of terms with a coefficient that is too large.
+-- Lists of terms with a coefficient that has an absolute value of 2^127 or more.
 use Rattle.std.specs.Prelude.{◌^◌, ◌≤◌, ◌⊎◌, ℕ, nat_abs, ℤ, pos, ◌≤ℤ◌, List}
 use Rattle.sym_model.specs.Partition.{IsPartition}
 use Rattle.sym_model.specs.Polynomial.{coefficient, plus, scale}
@@ -12,8 +12,8 @@ pub record HasLarge (terms : WholeTerms) : Type 0 where
   pub partition : IsPartition label
   pub large : 2 ^ 127 ≤ nat_abs (coefficient terms label)
 
--- p times the first list, q times the second, or the sum of both has a coefficient of 2^127 or
--- more at a partition
+-- p times the first list, q times the second, or the sum of both has at a partition a coefficient with an absolute
+-- value of 2^127 or more
 abbrev pub SumIsLarge : WholeTerms → WholeTerms → ℤ → ℤ → Type 0
 SumIsLarge first second p q =
     HasLarge (scale p first) ⊎ HasLarge (scale q second)

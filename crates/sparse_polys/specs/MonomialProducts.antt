@@ -36,7 +36,7 @@ product_terms left right =
 abbrev pub products : WholeTerms → WholeTerms → WholeTerms
 products left right = replaced (λ l. replaced (product_terms l) right) left
 
--- VALUE: the last list is the product of the two others, as expansions in m, in every number of variables
+-- VALUE: the last list is the product of the first two, as expansions in m, in every number of variables
 abbrev pub IsProductInMonomials : Terms (List ℕ) → Terms (List ℕ) → Terms (List ℕ) → Type 0
 IsProductInMonomials left right product =
     (n : ℕ) → IsExpansionOf monomials product n

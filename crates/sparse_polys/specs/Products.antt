@@ -13,7 +13,7 @@ use Rattle.sparse_polys.specs.Raised.{raised}
 abbrev pub value_in : Terms (List ℕ) → ℕ → Poly
 value_in terms n = value_by (λ e. x_to_in e n) terms
 
--- VALUE: the last list is the product of the two others, in every number of variables
+-- VALUE: the last list is the product of the first two, in every number of variables
 abbrev pub IsProductOf : Terms (List ℕ) → Terms (List ℕ) → Terms (List ℕ) → Type 0
 IsProductOf left right product =
     (n : ℕ) → Represents (λ e. x_to_in e n) product (times (value_in left n) (value_in right n))
@@ -24,11 +24,11 @@ abbrev pub FitTogether : Terms (List ℕ) → Terms (List ℕ) → Type 0
 FitTogether first second =
     (s t : List ℕ × Fraction) → Among s first → Among t second → IsWithinLimits (join s.0 t.0)
 
--- each product with x_r is within the limits of a monomial
+-- each monomial of the list times x_r is within the limits of a monomial
 abbrev pub HaveRoomForVariable : ℕ → Terms (List ℕ) → Type 0
 HaveRoomForVariable r terms = (t : List ℕ × Fraction) → Among t terms → IsWithinLimits (raised r t.0)
 
--- the coefficient of a monomial
+-- the coefficient of the monomial x^e in the list; 0 if it does not occur
 abbrev pub coefficient_at : Terms (List ℕ) → List ℕ → Fraction
 coefficient_at terms e = coefficient (pointwise nat_eq) terms e
 
@@ -36,7 +36,7 @@ coefficient_at terms e = coefficient (pointwise nat_eq) terms e
 abbrev pub times_variable : ℕ → Poly → Poly
 times_variable r f = map (λ (t : Term). (raised r t.0, t.1)) f
 
--- each monomial of the list is x_r times one of the other list
+-- each monomial of the list `after` is x_r times a monomial of the list `before`
 abbrev pub AreRaised : ℕ → Terms (List ℕ) → Terms (List ℕ) → Type 0
 AreRaised r before after =
     (t : List ℕ × Fraction) → Among t after

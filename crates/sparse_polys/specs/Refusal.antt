@@ -1,4 +1,4 @@
--- The condition under which a ring refuses an operation, by the values of the two scalars.
+-- The values of two scalars at which an operation of a ring has no result.
 use Rattle.std.specs.Prelude.{◌≡◌, Option, None}
 use Rattle.sym_model.specs.Expansion.{Fraction}
 

@@ -22,19 +22,20 @@ abbrev pub falls_from : ℕ → List ℕ → Bool
 falls_from m [] = true
 falls_from m (x ∷ rest) = nat_lt 0 x && nat_le x m && falls_from x rest
 
--- the parts of ν after the chosen ones; None if ν does not begin with these
+-- the parts of ν after `prefix`; None if ν does not begin with `prefix`
 abbrev pub after_prefix : List ℕ → List ℕ → Option (List ℕ)
 after_prefix [] ν = Some ν
 after_prefix (a ∷ prefix) [] = None
 after_prefix (a ∷ prefix) (b ∷ ν) = cond (a == b) (after_prefix prefix ν) None
 
--- the ways to continue to the remaining parts, if these are weakly decreasing and at most m
+-- the number of ways in which the states continue to the parts `rest`, at most 2^128 - 1, if `rest` is weakly
+-- decreasing and its parts are from 1 to m; otherwise 0
 abbrev pub found_behind : ℕ → List State → Option (List ℕ) → ℕ
 found_behind m states None = 0
 found_behind m states (Some rest) = cond (falls_from m rest) (capped (ways states rest)) 0
 
--- the number of ways that a search from these states finds for ν, if it has chosen some parts and may choose no part
--- above m from here on
+-- the number of ways that a search from these states finds for ν, if it has chosen the parts `prefix` and chooses only
+-- parts up to m from here on
 abbrev pub found : List ℕ → ℕ → List State → List ℕ → ℕ
 found prefix m states ν = found_behind m states (after_prefix prefix ν)
 

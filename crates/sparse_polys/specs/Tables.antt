@@ -10,10 +10,11 @@ use Rattle.sparse_polys.specs.Combination.{coefficient, IsCombination}
 abbrev pub equal : List ℕ → List ℕ → Bool
 equal = pointwise nat_eq
 
--- the coefficient that a look-up of a label finds in a list of fractions
+-- the coefficient of a label in a list of fractions; 0 if it does not occur
 abbrev pub found : Terms (List ℕ) → List ℕ → Fraction
 found terms label = coefficient equal terms label
 
--- the list of fractions is a table: no label occurs twice, and no coefficient is 0
+-- the list of fractions is a table: no partition occurs twice, each is within the limits, and each coefficient is in
+-- lowest terms and not 0
 abbrev pub IsFractionTable : Terms (List ℕ) → Type 0
 IsFractionTable terms = IsCombination equal is_label terms

@@ -16,7 +16,8 @@ capped n = min n (2 ^ 128 - 1)
 abbrev pub labels_left : State → List ℕ × List ℕ
 labels_left s = (s.left.items, s.right.items)
 
--- the number of ways in which the states continue to the parts ν
+-- the sum, over the states, of the count times the number of ways to write ν as an arrangement of the remaining left
+-- parts plus one of the remaining right parts
 abbrev pub ways : List State → List ℕ → ℕ
 ways [] ν = 0
 ways (s ∷ states) ν = s.count * arrangements s.left.items s.right.items ν + ways states ν

@@ -1,4 +1,4 @@
-//! The product of two labels, with exact counts.
+//! The product of the monomial symmetric polynomials of two labels, with exact counts.
 ghost use Rattle.std.specs.Prelude.{◌≡◌, ℕ, ◌+◌, ◌^◌, ◌<◌, ◌≤◌, true, false, List, IfOk, IsErrOf};
 ghost use Rattle.sym_model.specs.Partition.{IsPartition, size};
 ghost use Rattle.monomial_laws.specs.MonomialProduct.{arrangements};
@@ -22,8 +22,8 @@ fn too_large(terms: &[Counted]) -> bool
     false
 }
 
-/// The partitions in the product of two labels, each with its number of ways. Returns `Large` if
-/// one of these is 2^127 or more.
+/// The partitions in the product of the monomial symmetric polynomials of two labels, each with its
+/// coefficient. Returns `Large` if one of these coefficients is 2^127 or more.
 pub(crate) fn exact_product(
     alloc: Global,
     left: &[u16],

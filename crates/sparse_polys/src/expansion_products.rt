@@ -46,7 +46,7 @@ fn times_count<R: Ring>(left: R, right: R, count: u128) -> Option<R>
     product.mul(R::from_whole(count as i128))
 }
 
-/// Adds the product of two scalars and the count of an entry at its partition.
+/// Adds to `sum`, at the partition of `term`, the product of two scalars and the count of `term`.
 fn add_count<R: Ring>(
     alloc: Global,
     term: &Counted,
@@ -175,11 +175,11 @@ fn cleared_product<R: Ring>(
 }
 
 /// The product of two expansions in m, in every number of variables. The greatest sizes of their
-/// labels add up to at most 512.
+/// labels must add up to at most 512.
 ///
 /// Returns `Large` only if the product of the least common denominators of both lists is 2^127 or
-/// more, or this product times some coefficient of the product of the two lists with absolute
-/// values as coefficients.
+/// more, or if this product times some coefficient of the product of the two lists with absolute
+/// values as coefficients is.
 pub fn times_in_m<R: Ring>(
     alloc: Global,
     left: &Lin<Partition, R>,
@@ -198,7 +198,8 @@ pub fn times_in_m<R: Ring>(
     cleared_product(alloc, left, right)
 }
 
-/// The product of two expansions in m with integer coefficients, as by `times_in_m`.
+/// The product of two expansions in m with integer coefficients. The greatest sizes of their labels
+/// must add up to at most 512.
 ///
 /// Returns `Large` only if some coefficient of the product of the two lists with absolute values as
 /// coefficients is 2^127 or more.

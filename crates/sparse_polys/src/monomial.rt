@@ -131,7 +131,8 @@ impl Monomial {
     }
 
     /// Compares this monomial with `other` in the printed order: the greater degree first, then
-    /// decreasing lexicographic order of the exponents. `Equal` only for equal monomials.
+    /// decreasing lexicographic order of the exponents. The result is `Equal` only if they are
+    /// equal.
     pub fn cmp_printed(&self, other: &Monomial) -> Ordering
         ensures value { result ≡ printed_order self.now other.now }
         ensures equal { result ≡ Ordering.Equal → self.now ≡ other.now }
@@ -176,7 +177,7 @@ impl Hash for Monomial {
     }
 }
 
-/// The monomial with these exponents, whose sum is known.
+/// The monomial with these exponents, whose sum is `degree`.
 fn with_degree(alloc: Global, exponents: &[u16], degree: u16) -> Result<Monomial, NoMemory>
     requires { HasDegree exponents.now degree }
     ensures ok { IfOk result (λ m. m ≡ exponents.now) }

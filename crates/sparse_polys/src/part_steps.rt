@@ -1,4 +1,5 @@
-//! One part of the partition removed from the labels in all ways.
+//! A step of the search for the partitions in the product of two monomial symmetric polynomials:
+//! one part of the product's partition is removed from the two labels, in all ways.
 ghost use Rattle.std.specs.Prelude.{◌≡◌, ℕ, ◌+◌, ◌*◌, ◌^◌, ◌<◌, ◌≤◌, ◌∷◌, [], true, false, List};
 ghost use Rattle.std.specs.Prelude.{length, IfOk, OnOk};
 ghost use Rattle.sym_model.specs.Bases.{has};
@@ -28,8 +29,8 @@ fn can_give(parts: &[u16], part: u16) -> bool
     part == 0 || has_part(parts, part)
 }
 
-/// Removes a from the left label and b from the right one, if b is one of its parts or 0. The
-/// result is dropped if parts up to a + b cannot use it up.
+/// Removes a from the left label and b from the right one, if b is one of its parts or 0. The new
+/// state is dropped if it has a part greater than a + b, which no later part can use up.
 fn take_both(
     alloc: Global,
     state: &State,
@@ -63,8 +64,7 @@ fn take_both(
     add_state(next, left, right, state.count)
 }
 
-/// Whether the part at a place can be removed from the left label, and does not occur after it
-/// again.
+/// Whether the part at the place `i` is at most `part`, and does not occur again after that place.
 fn is_choice(parts: &[u16], i: usize, part: u16) -> bool
     requires { i < length parts.now }
     ensures { result ≡ is_choice_at parts.now i part }
@@ -73,7 +73,7 @@ fn is_choice(parts: &[u16], i: usize, part: u16) -> bool
     a <= part && !has_part(&parts[i + 1..], a)
 }
 
-/// Removes the part from one state in all ways.
+/// Removes the part `part` of the product's partition from one state in all ways.
 fn take_part(
     alloc: Global,
     state: &State,

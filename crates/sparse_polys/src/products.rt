@@ -77,9 +77,12 @@ fn add_row<R: Ring>(
 }
 
 /// The product of two polynomials, in every number of variables. Each product of a monomial of one
-/// and a monomial of the other is within the limits of a monomial: its degree is at most 32,385.
+/// and a monomial of the other must be within the limits of a monomial: its degree is at most
+/// 32,385.
 ///
-/// Returns `Large` only if the weights of the two lists have a product of 2^127 or more.
+/// Returns `Large` only if the weights of the two lists have a product of 2^127 or more. The weight
+/// of a list is max(1, D·A)·D, with D its least common denominator and A the sum of the absolute
+/// values of its coefficients.
 pub fn times<R: Ring>(alloc: Global, left: &Poly<R>, right: &Poly<R>) -> Result<Poly<R>, SumFault>
     requires { FitTogether (terms_of R.value left.now) (terms_of R.value right.now) }
     ensures value { IfOk result (λ product. IsProductOf (terms_of R.value left.now)
@@ -99,8 +102,8 @@ pub fn times<R: Ring>(alloc: Global, left: &Poly<R>, right: &Poly<R>) -> Result<
 }
 
 /// The product of a polynomial and the variable x_r, in every number of variables. The place r is
-/// from 1 to 255, and each product of a monomial and x_r is within the limits of a monomial. Fails
-/// only if out of memory, since no coefficient changes.
+/// from 1 to 255, and each product of a monomial and x_r must be within the limits of a monomial.
+/// Fails only if out of memory, since no coefficient changes.
 pub fn times_var<R: Ring>(alloc: Global, list: Poly<R>, r: u16) -> Result<Poly<R>, NoMemory>
     requires first { 1 ≤ r }
     requires last { r ≤ 255 }

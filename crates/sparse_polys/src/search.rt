@@ -1,4 +1,5 @@
-//! The partitions of the product of two labels, found by their parts from the greatest down.
+//! The partitions in the product of two monomial symmetric polynomials, found part by part, the
+//! greatest part first.
 ghost use Rattle.std.specs.Prelude.{◌≡◌, ℕ, ◌+◌, ◌^◌, ◌<◌, [], List, All, IfOk, OnOk, vec_len};
 ghost use Rattle.sym_model.specs.Partition.{IsPartition, size};
 ghost use Rattle.monomial_laws.specs.MonomialProduct.{arrangements};
@@ -16,7 +17,7 @@ use std::alloc::{AllocError, Global};
 pub(crate) struct Counted {
     /// The parts of the partition in decreasing order.
     pub parts: Vec<u16>,
-    /// The number of ways.
+    /// The number of ways, up to 2^128 - 1.
     pub count: u128,
 }
 
@@ -29,7 +30,8 @@ fn copy_of(alloc: Global, parts: &[u16]) -> Result<Vec<u16>, AllocError>
     Ok(copy)
 }
 
-/// The number of ways that the states count, if no parts are left.
+/// For states in which no parts are left: the number of ways that they count, or 2^128 - 1 if there
+/// are more.
 fn ways_to_end(states: &[State]) -> u128
     requires { AreStates 0 states.now }
     ensures { result ≡ capped (ways states.now []) }
@@ -86,8 +88,8 @@ fn extend(
 }
 
 /// The partitions in the product of two monomial symmetric polynomials, each with the number of
-/// ways to write it as the sum of an arrangement of one label and an arrangement of the other. A
-/// partition that is not listed has no way.
+/// ways to write it as the sum of an arrangement of one label and an arrangement of the other, or
+/// 2^128 - 1 if there are more. A partition that is not listed has no way.
 pub(crate) fn label_product(
     alloc: Global,
     left: &[u16],

@@ -36,8 +36,8 @@ fn place_of(states: &[State], left: &[u16], right: &[u16]) -> Option<usize>
     None
 }
 
-/// Adds ways at these remaining parts, to their state if there is one, so that no two states have
-/// the same remaining parts.
+/// Adds a number of ways to the state with these remaining parts, or a new state if there is none.
+/// If no two states had the same remaining parts before, none have after it.
 pub(crate) fn add_state(
     states: &mut Vec<State>,
     left: Vec<u16>,

@@ -16,7 +16,8 @@ use std::alloc::Global;
 /// A list of terms with integer coefficients, in any basis.
 pub type Whole = Lin<Partition, Int>;
 
-/// The list with one term; it is empty if the coefficient is 0. It never returns `Large`.
+/// The list with one term, whose parts are a partition within the limits; it is empty if the
+/// coefficient is 0. It never returns `Large`.
 pub fn single(alloc: Global, parts: &[u16], c: i128) -> Result<Whole, SumFault>
     requires { IsWithinLimits parts.now }
     ensures value { IfOk result (λ list. Same list ((parts.now, c) ∷ [])) }

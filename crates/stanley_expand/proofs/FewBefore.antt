@@ -1,6 +1,6 @@
--- Permutations in which at most m greater letters come before each letter: their polynomials in m variables are not 0.
---     some_cover    one of the covers in the transition rule is such a permutation too
---     some_shape    so the Schubert polynomial in m variables has a positive Schur coefficient
+-- Permutations in which at most m greater letters come before each letter: their Schubert polynomials in m variables are not 0.
+--     some_cover    if w is such a permutation and its last descent is after place m, so is one of its covers in the transition rule
+--     some_shape    if it is also increasing at places 1 to m, its Schubert polynomial has a positive Schur coefficient
 use Rattle.std.proofs.Common.{◌≡◌, ◌⊎◌, ℕ, zero, suc, ◌+◌, ◌-◌, ◌<◌, ◌≤◌, Bool, false, List, [], ◌∷◌, ◌==◌, map, take, drop, length, get_or, refl, sym, ◌∙◌, ap, ap₂, subst, arith, inl, inr, cond, count_by, Some, None, Option, unwrap_or, pos, ◌≤ℤ◌}
 use Rattle.std.proofs.lemmas.Int.{ints}
 use Rattle.std.proofs.lemmas.Bool.{cases_lt, cases_eq, eq-eqb}
@@ -36,9 +36,10 @@ use Rattle.stanley_expand.proofs.GreaterLetters.{greater_next}
 use Rattle.stanley_expand.proofs.Steps.{covers_pair, shape_pairs}
 use Rattle.stanley_expand.proofs.Tables.{perms_natural}
 
--- ---- counts of greater letters in the front of a list
+-- ---- counts of greater letters in a prefix of a list
 
--- if no entry is above x and at most z, at most as many are greater than x as are greater than z
+-- if each of the first q entries is at most x or greater than z, the number of them greater than x is at most the
+-- number greater than z
 greater_gap : (x z q : ℕ) (w : List ℕ) → ((c : ℕ) → c < q → (get_or w c 0 ≤ x) ⊎ (z < get_or w c 0)) → greater x (take q w) ≤ greater z (take q w)
 greater_gap x z zero w h = omega arith
 greater_gap x z (suc q) [] h = omega arith
@@ -96,7 +97,8 @@ find_smaller x (suc q) w = by (find_smaller x q w) (cases_lt (get_or w q 0) x)
 
 -- ---- the two exchanges of the transition rule, with places counted from 0
 
--- if no letter of w has more than m greater ones before it, the same holds after exchanging q and b for each letter but that at q
+-- if no letter of w has more than m greater ones before it, then, after the letters at q and b, the places of the transition rule, are exchanged, no
+-- letter but that at q has
 down_few : (m q b p : ℕ) (w : List ℕ) → IsOneLine w → IsStep w q b → ((i : ℕ) → i < length w → before w i ≤ m) → p < length w → (p ≡ q → ⊥)
     → before (swap_at q b w) p ≤ m
 down_few m q b p w o s few i n =
@@ -142,7 +144,8 @@ down_few m q b p w o s few i n =
           | inr e ↦ let x = get_swap_other q b j 0 w e (λ z. omega arith) in let y = smaller_between q b j w o s (omega arith) l in omega arith
         ]
 
--- if the letter at b has at most m greater ones before it, then after exchanging q and b the letter at q has fewer than m
+-- if the letter at b has at most m greater ones before it, then, after the letters at q and b, the places of the transition rule, are exchanged, the
+-- letter at q has fewer than m
 down_first : (m q b : ℕ) (w : List ℕ) → IsStep w q b → before w b ≤ m → before (swap_at q b w) q < m
 down_first m q b w s few =
     let order = s.order in
@@ -154,8 +157,8 @@ down_first m q b w s few =
     let c = counts-less (get_or w b 0) (get_or w q 0) s.falls in
     omega arith
 
--- exchanging the letter at q with the greatest smaller letter before it leaves at most m greater letters before
--- each place
+-- if each letter of u but that at q has at most m greater ones before it, and that at q fewer than m, then each letter has at most
+-- m after the entry at q is exchanged with that at i, the greatest of the smaller entries before q
 up_few : (m i q p : ℕ) (u : List ℕ) → i < q → q < length u → get_or u i 0 < get_or u q 0
     → ((c : ℕ) → c < q → (c ≡ i → ⊥) → (get_or u c 0 < get_or u i 0) ⊎ (get_or u q 0 < get_or u c 0))
     → ((c : ℕ) → c < length u → (c ≡ q → ⊥) → before u c ≤ m) → before u q < m → p < length u → before (swap_at i q u) p ≤ m

@@ -1,7 +1,7 @@
 -- The transition rule in the variables at the first places of a permutation that is increasing there.
---     dropped       the term with x_r is 0 if r is after the last of these places
---     still_rising  the other permutations of the rule are also increasing there
---     leaf          without a descent after these places the polynomial is a Schur polynomial
+--     dropped       if r > m, the term with x_r is 0 in m variables
+--     still_rising  if r > m, the covers in the transition rule are also increasing at places 1 to m
+--     leaf          the Schubert polynomial of a Grassmannian permutation in m variables is a Schur polynomial
 use Rattle.std.proofs.Common.{◌≡◌, ℕ, zero, suc, ◌+◌, ◌-◌, ◌<◌, ◌≤◌, List, [], ◌∷◌, ◌++◌, ◌==◌, ◌&&◌, map, reverse, take, drop, length, get_or, replicate, refl, sym, ◌∙◌, ap, ap₂, subst, arith, inl, inr, cond, nat_lt, true, false, pos, eqb-true, Some, None, Option, unwrap_or, length-append}
 use Rattle.std.proofs.Math.Seq.{take-suc}
 use Rattle.std.proofs.lemmas.Int.{ints}
@@ -32,7 +32,7 @@ use Rattle.stanley_expand.specs.Grassmannian.{RisesTo, IsGrassmannian, front_bet
 use Rattle.stanley_expand.proofs.SortingPaths.{IsFront, pred}
 use Rattle.stanley_expand.proofs.Grassmannian.{AllRise, smaller_of_none, code_rising, grassmannian}
 
--- ---- x_r is 0 in fewer variables
+-- ---- the variable x_r is 0 in fewer than r variables
 
 unit_past : (m j : ℕ) → m ≤ j → fits_in m (replicate j 0 ++ (1 ∷ [])) ≡ false
 unit_past zero zero h = refl
@@ -177,7 +177,7 @@ smaller_one_line x v o h l =
     inside : Within v (places (length v))
     inside a m = let r = o.letters a m in let p = r.0 in let q = r.1 in among_after 0 (length v) a (omega arith) (omega arith)
 
--- from place m on no letter is greater than the next, if the last descent is at most m
+-- if the last descent is at most m, then at the places from m on, counted from 0, no letter is greater than the next
 pub rises_past : (m : ℕ) (v : List ℕ) → last_descent_place v ≤ m → (b : ℕ) → m ≤ b → suc b < length v → get_or v b 0 ≤ get_or v (suc b) 0
 rises_past m v h b l k = by (last_descent v) refl
   where

@@ -1,7 +1,6 @@
--- If the first m letters are increasing and the others are too, the Schubert polynomial in m variables is a Schur
--- polynomial.
---     symmetric_front  the polynomial is symmetric
---     grassmannian     a_ρ times each side is one alternant
+-- If a permutation is increasing at places 1 to m and after place m, its Schubert polynomial in m variables is a Schur polynomial.
+--     symmetric_front  the Schubert polynomial is symmetric
+--     grassmannian     a_ρ times the Schubert polynomial and a_ρ times the Schur polynomial are one alternant
 use Rattle.std.proofs.Common.{◌≡◌, ℕ, zero, suc, ◌<◌, ◌≤◌, List, [], ◌∷◌, ◌++◌, map, reverse, length, replicate, refl, sym, ◌∙◌, ap, ap₂, subst, arith, inl, inr, ◌⊎◌, cond, nat_le, false, ℤ, pos, length-append}
 use Rattle.std.proofs.lemmas.Bool.{cases_eq}
 use Rattle.std.proofs.lemmas.Bool.Decides.{nat_tests}
@@ -149,7 +148,7 @@ symmetric_front n u l r left a b right = by (cases_eq (length (left ++ (a ∷ b 
 
 -- ---- Schubert polynomials of Grassmannian permutations
 
--- the partition of the parts u(i) - i for i from m down to 1, if u(1), .., u(m) are increasing
+-- for an increasing list w of m letters, the partition of the parts w(i) - i for i from m down to 1
 abbrev pub front_parts : List ℕ → List ℕ
 front_parts w = from_beta (map pred (reverse w))
 

@@ -1,5 +1,5 @@
 -- A letter with more than m greater ones before it, in the steps of the transition rule.
---     step_more     each permutation on the right side of the rule has such a letter too
+--     step_more     each cover in the transition rule has such a letter too
 --     none_left     a permutation without a descent after place m has none
 --     no_polynomial if there is such a letter, the Schubert polynomial in m variables is 0
 use Rattle.std.proofs.Common.{◌≡◌, ℕ, zero, suc, ◌+◌, ◌-◌, ◌<◌, ◌≤◌, List, [], ◌∷◌, ◌++◌, map, take, set, length}
@@ -33,7 +33,7 @@ use Rattle.schubert_laws.proofs.Ranks.{rank_lower}
 use Rattle.stanley_expand.specs.GreaterBefore.{HasMoreBefore, greater_before}
 use Rattle.stanley_expand.proofs.FirstPlaces.{dropped, rises_past}
 
--- ---- counts of greater letters in the front of a list
+-- ---- counts of greater letters in a prefix of a list
 
 pub greater_longer : (x p q : ℕ) (w : List ℕ) → p ≤ q → greater x (take p w) ≤ greater x (take q w)
 greater_longer x zero q w h = omega arith
@@ -60,7 +60,8 @@ greater_most x (suc m) (y ∷ w) =
       | inr l ↦ let p = counts-not_less x y l in omega arith
     ]
 
--- if the entries from place k to q are not greater than x, the number of entries greater than x before q is at most that before k
+-- if no entry at a place from k to q - 1 is greater than x, the number of entries greater than x before q is at most
+-- that before k
 pub greater_past : (x k q : ℕ) (w : List ℕ) → ((c : ℕ) → k ≤ c → c < q → get_or w c 0 ≤ x)
     → greater x (take q w) ≤ greater x (take k w)
 greater_past x k zero w h = omega arith
@@ -108,7 +109,8 @@ take_swap (suc p) (suc a) (suc b) (y ∷ w) h k = ap (λ v. y ∷ v) (take_swap 
 pub greater_both : (x p a b : ℕ) (w : List ℕ) → a < p → b < p → greater x (take p (swap_at a b w)) ≡ greater x (take p w)
 greater_both x p a b w h k = ap (greater x) (take_swap p a b w h k) ∙ greater_swap x a b (take p w)
 
--- if the entry at a < p is exchanged with that at b ≥ p, the count before p loses the one and gains the other, each if it is greater than x
+-- if the entry at a < p is exchanged with that at b ≥ p, the count before p loses the entry at a and gains the entry at b, each if it is greater than
+-- x
 pub greater_one : (x p a b : ℕ) (w : List ℕ) → a < p → p ≤ b → b < length w
     → greater x (take p (swap_at a b w)) + cond (nat_lt x (get_or w a 0)) 1 0
     ≡ greater x (take p w) + cond (nat_lt x (get_or w b 0)) 1 0
@@ -129,14 +131,15 @@ greater_one x (suc p) (suc a) (suc b) (y ∷ w) h k l =
 abbrev pub before : List ℕ → ℕ → ℕ
 before w p = greater (get_or w p 0) (take p w)
 
--- a place with more than m greater letters before it
+-- a place, counted from 0, whose letter has more than m greater ones before it
 abbrev pub MoreBefore : ℕ → List ℕ → Type 0
 MoreBefore m w = (p : ℕ) × (p < length w) × (m < before w p)
 
 pub at_letter : (w : List ℕ) (p x : ℕ) → get_or w p 0 ≡ x → before w p ≡ greater x (take p w)
 at_letter w p x e = ap (λ z. greater z (take p w)) e
 
--- if u(j) < u(q) for j < q, exchanging them gives the place q one more greater letter before it
+-- if at least m letters of u before q are greater than u(q), and u(j) < u(q) for j < q, a letter has more than m greater ones before it after u(j) and u(q)
+-- are exchanged
 up_there : (m j q : ℕ) (u : List ℕ) → j < q → q < length u → get_or u j 0 < get_or u q 0 → m ≤ before u q
     → MoreBefore m (swap_at j q u)
 up_there m j q u h k l f =
@@ -359,7 +362,7 @@ covers_more m q b w x o s more mem =
     subst (HasMoreBefore m) (sym e) (to_kept m (swap_at (c.0 - 1) q (swap_at q b w)) oy
     (step_more m q b (c.0 - 1) w o s (omega arith) l more))
 
--- if w has a letter with more than m greater ones before it, so has each permutation on the right side of the transition rule
+-- if w has a letter with more than m greater ones before it, so has each of its covers in the transition rule
 pub more_on : (w : List ℕ) (r s m : ℕ) → IsOneLine w → IsTransition w r s → HasMoreBefore m w
     → (x : List ℕ) → Among x (covers_down r (times_swap r s w)) → HasMoreBefore m x
 more_on w r s m o t more x mem =

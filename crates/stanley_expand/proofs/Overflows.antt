@@ -1,4 +1,4 @@
--- A count that is too large makes some Schur coefficient too large, since no waiting polynomial is 0.
+-- A count of a waiting permutation that is too large makes a Schur coefficient too large.
 use Rattle.std.proofs.Common.{◌≡◌, ℕ, zero, suc, ◌+◌, ◌≤◌, Bool, true, false, cond, List, [], ◌∷◌, get_or, refl, ◌∙◌, ap, subst, arith, inl, inr, ℤ, pos, negsuc, ◌+ℤ◌, ◌*ℤ◌, ◌≤ℤ◌}
 use Rattle.std.specs.Prelude.{nat_eq}
 use Rattle.std.specs.Cmp.Lexicographic.{pointwise}
@@ -20,7 +20,7 @@ use Rattle.stanley_expand.proofs.Steps.{over_schurs, large_at}
 use Rattle.stanley_expand.proofs.Tables.{over_natural, rising_natural, table_natural, tables_natural, only_natural}
 use lib.IntN.{*ℤ-zero, zero-*ℤ}
 
--- the sum over a table of counts times values that are not negative is at least the count of p times its value
+-- if no count n(x) and no value f(x) of a table is negative, n(p)·f(p) is at most the sum of the products n(x)·f(x)
 at_least_one : (f : List ℕ → ℤ) (p : List ℕ) (table : WholeTerms) → AreCounts table → HaveLabels (λ x. pos 0 ≤ℤ f x) table
     → (over (only (pointwise nat_eq) p) table *ℤ f p) ≤ℤ over f table
 at_least_one f p [] counts values = let z = zero-*ℤ (f p) in omega (arith, ints)
@@ -50,7 +50,7 @@ times_more a f h l =
     omega (arith, ints)
 
 module _ (m : ℕ) (κ : List ℕ) (q : IsPartition κ) (few : rows κ ≤ m) where
-  -- the sum over all waiting tables is at least that over one of them
+  -- if no count is negative and each permutation is increasing at places 1 to m, the Schur coefficient at κ of one table is at most that of all
   one_table : (at : ℕ) (todo : List WholeTerms) → ((k : ℕ) → HaveLabels (IsRising m (m + 16)) (get_or todo k [])) → ((k : ℕ) → AreCounts (get_or todo k []))
       → over (λ p. pair (schubert_in p m) (schur_test m κ)) (get_or todo at []) ≤ℤ waited m (schur_test m κ) todo
   one_table at [] labels counts = omega (arith, ints)
@@ -62,7 +62,7 @@ module _ (m : ℕ) (κ : List ℕ) (q : IsPartition κ) (few : rows κ ≤ m) wh
       let b = one_table at todo (λ k. labels (suc k)) (λ k. counts (suc k)) in
       omega (arith, ints)
 
--- if the count of a waiting permutation overflows, some Schur coefficient does
+-- if adding c ≥ 0 to the count of p overflows, and no letter of p has more than m greater ones before it, a Schur coefficient is at least 2^127
 pub large_waiting : (m at : ℕ) (p : List ℕ) (c : ℤ) (sum : WholeTerms) (todo : List WholeTerms) (table : WholeTerms) → WaitsAt m at p → (HasMoreBefore m p → ⊥) → pos 0 ≤ℤ c
     → table ≡ get_or todo at [] → Overflows (pointwise nat_eq) table ((p, c) ∷ []) → OverflowsWith m sum todo (λ φ. c *ℤ pair (schubert_in p m) φ)
 large_waiting m at p c sum todo table waits few positive e overflow waiting shapes =

@@ -1,7 +1,7 @@
 -- Stanley polynomials are sums of Schur polynomials.
---     rising_covers    the permutations on the right side of the rule are increasing at the first places too
---     schur_positive   by induction on their order each polynomial is a sum of Schur polynomials
---     natural          no Schur coefficient is negative
+--     rising_covers    if w is increasing at places 1 to m and r > m, so are its covers in the transition rule
+--     schur_positive   the Schubert polynomial in m variables of a permutation increasing at places 1 to m is a sum of Schur polynomials
+--     natural          a sum of Schur polynomials has no negative Schur coefficient
 use Rattle.std.proofs.Common.{◌≡◌, ℕ, zero, suc, ◌+◌, ◌<◌, ◌≤◌, List, [], ◌∷◌, ◌++◌, length, refl, sym, ◌∙◌, ap, ap₂, subst, arith, inl, inr, cond, Bool, true, false, pos, ◌+ℤ◌, ◌≤ℤ◌, Some, None, Option, unwrap_or, flat_map}
 use Rattle.std.proofs.lemmas.Int.{ints}
 use Rattle.std.proofs.lemmas.Bool.{cases_lt}

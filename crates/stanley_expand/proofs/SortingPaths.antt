@@ -1,6 +1,6 @@
 -- Divided differences along the path that sorts the first letters, on alternating functions.
 --     along_lowered      ∂ takes an alternating function of d + α to that of c + α, if c is d with one less at the first of two equal places
---     grassmannian_path  the differences along the path that sorts the first letters take it to the function of the shape
+--     grassmannian_path  the differences along the path give the value of an alternating function at the sorted first letters, each minus 1
 use Rattle.std.proofs.Common.{◌≡◌, ℕ, zero, suc, ◌+◌, ◌-◌, ◌<◌, ◌≤◌, List, [], ◌∷◌, ◌++◌, map, length, replicate, refl, sym, ◌∙◌, ap, ap₂, subst, arith, inl, inr, ◌⊎◌, cond, Bool, true, false, None, ℤ, pos, neg_ℤ, length-append}
 use Rattle.std.proofs.lemmas.Int.{ints}
 use Rattle.std.proofs.lemmas.Bool.{cases_lt}
@@ -78,7 +78,7 @@ along_within zero (suc (suc n)) φ (a ∷ []) h l = absurd (omega arith)
 along_within zero (suc (suc n)) φ (a ∷ b ∷ α) h l = across_if (fits_in n α) (λ c d. φ (c ∷ d ∷ resize n α)) a b
 along_within (suc k) (suc n) φ (a ∷ α) h l = along_within k n (λ β. φ (a ∷ β)) α (omega arith) (omega arith)
 
--- ---- the front of a list, and its code
+-- ---- a prefix of a list, and its code
 
 abbrev pub rising_code : List ℕ → List ℕ
 rising_code [] = []
@@ -119,7 +119,7 @@ sorted_exchange_at zero (a ∷ b ∷ w) = sorted-exchange [] b a w
 sorted_exchange_at (suc k) [] = refl
 sorted_exchange_at (suc k) (a ∷ w) = ap (put_falling a) (sorted_exchange_at k w)
 
--- w are the letters at the first places and z the others, all different; each letter x of w has x - 1 smaller ones, and z is increasing
+-- w are the letters at the first places and z those after them, all different; x - 1 letters are smaller than x, for each x of w, and z is increasing
 pub record IsFront (w z : List ℕ) : Type 0 where
   pub once : Once (w ++ z)
   pub counts : (x : ℕ) → Among x w → 1 ≤ x

@@ -39,9 +39,9 @@ use Rattle.stanley_expand.specs.Walk.{AreShapes, IsHeld, IsWorkedOff, OverflowsW
 use Rattle.stanley_expand.proofs.Tables.{waited_natural}
 use Rattle.linear_combinations.specs.Entries.{IsWholeTable}
 
--- ---- the Schur coefficients of the sum
+-- ---- the Schur coefficients of a sum of Schur polynomials
 
--- the Schur coefficient at κ of a sum of Schur polynomials is its coefficient at κ
+-- for κ of at most m rows, the Schur coefficient at κ of a sum of Schur polynomials is the coefficient of κ in the list of its terms
 pub over_schurs : (m : ℕ) (κ : List ℕ) (terms : WholeTerms) → IsWholeTable terms → IsPartition κ → rows κ ≤ m
     → over (λ ν. pair (schur ν m) (schur_test m κ)) terms ≡ over (only (pointwise nat_eq) κ) terms
 over_schurs m κ terms is q few =
@@ -51,7 +51,7 @@ over_schurs m κ terms is q few =
 
 -- ---- the sum with one more shape
 
--- adding c ≥ 0 at a partition κ with at most m rows gives a table of shapes again
+-- if c ≥ 0 is added without overflow at κ, with at most m rows, a table of partitions with at most m rows and coefficients ≥ 0 stays one
 pub more_shapes : (m : ℕ) (κ : List ℕ) (c : ℤ) (old new : WholeTerms) → rows κ ≤ m → pos 0 ≤ℤ c → Gains old ((κ, c) ∷ []) new → IsWholeTable new → IsHeld new
     → AreShapes m old → AreShapes m new
 more_shapes m κ c old new few natural gains table held was = record {
@@ -66,7 +66,7 @@ more_shapes m κ c old new few natural gains table held was = record {
       omega (arith, ints);
 }
 
--- if adding the count c at κ overflows, the Schur coefficient there is at least 2^127
+-- if no coefficient of `old` is negative, and adding c ≥ 0 at κ overflows, the coefficient of κ in `old` plus c is at least 2^127
 pub large_at : (κ : List ℕ) (c : ℤ) (old : WholeTerms) → IsDistinct (pointwise nat_eq) (keys_of old) → IsHeld old
     → ((ν : List ℕ) → pos 0 ≤ℤ over (only (pointwise nat_eq) ν) old) → pos 0 ≤ℤ c
     → Overflows (pointwise nat_eq) old ((κ, c) ∷ []) → pos (2 ^ 127) ≤ℤ (over (only (pointwise nat_eq) κ) old +ℤ c)
@@ -101,13 +101,14 @@ covers_pair m n r s p φ i t h =
     pair_determined (schubert_in p m) (schuberts_in (covers_down r (times_swap r s p)) m) φ (dropped p r s m i.short.one_line t h)
     ∙ pair_each (λ (x : List ℕ). schubert_in x m) (covers_down r (times_swap r s p)) φ
 
--- c times the sum of the Schubert polynomials of these covers is c times that of p
+-- if p is increasing at the first m places and r > m, c times the sum of the Schubert polynomials of the covers in the transition rule, in m variables, is
+-- c times that of p
 pub put_pair : (m n r s : ℕ) (p : List ℕ) (c : ℤ) (φ : List ℕ → ℤ) (covers : List (List ℕ)) → covers ≡ covers_down r (times_swap r s p) → IsRising m n p → IsTransition p r s → m < r
     → c *ℤ total (λ x. pair (schubert_in x m) φ) covers ≡ c *ℤ pair (schubert_in p m) φ
 put_pair m n r s p c φ covers e i t h =
     ap (λ xs. c *ℤ total (λ x. pair (schubert_in x m) φ) xs) e ∙ ap (λ z. c *ℤ z) (sym (covers_pair m n r s p φ i t h))
 
--- the covers in the transition rule have smaller table numbers than p, and are increasing at the first places
+-- if p is increasing at the first m places and r > m, the covers in the transition rule are so too, and their table numbers are smaller than that of p
 pub covers_number : (m r s : ℕ) (p x : List ℕ) → m ≤ 64 → IsRising m (m + 16) p → IsTransition p r s → m < r → Among x (covers_down r (times_swap r s p))
     → IsRising m (m + 16) x × (number m x < number m p)
 covers_number m r s p x few i t h mem =
@@ -146,7 +147,7 @@ module _ (m n : ℕ) (p : List ℕ) (i : IsRising m n p) (h : last_descent_place
     shapes = more_shapes m (front_shape m p) c old new (front_rows m p) natural gains table held;
   }
 
-  -- if adding the count c at the partition of p overflows, some Schur coefficient is 2^127 or more
+  -- if adding the count c ≥ 0 at the partition of the Grassmannian permutation p overflows, some Schur coefficient is 2^127 or more
   pub large_shape : (c : ℤ) (old : WholeTerms) (todo : List WholeTerms) → pos 0 ≤ℤ c → Overflows (pointwise nat_eq) old ((front_shape m p, c) ∷ [])
       → OverflowsWith m old todo (λ φ. c *ℤ pair (schubert_in p m) φ)
   large_shape c old todo positive overflow waiting is =

@@ -1,7 +1,7 @@
 -- The tables of waiting permutations: sums over them, and their change by one more permutation.
---     waited_natural    no Schur coefficient of what waits is negative
+--     waited_natural    no Schur coefficient of the sum over the waiting permutations is negative
 --     put_step          one more permutation, with its count
---     none_step, both_steps, as_step    nothing, two steps in turn, and a step with the same pairings
+--     none_step, both_steps, as_step    no step, two steps in turn, and a step with the same pairings
 --     large_with        adding something that is not negative leaves a large coefficient large
 use Rattle.std.proofs.Common.{◌≡◌, ℕ, zero, suc, Bool, ◌+◌, ◌^◌, ◌<◌, ◌≤◌, List, [], ◌∷◌, ◌++◌, length, get_or, set, replicate, refl, sym, ◌∙◌, ap, subst, arith, inl, inr, ℤ, pos, ◌+ℤ◌, ◌*ℤ◌, ◌≤ℤ◌}
 use Rattle.std.specs.Prelude.{nat_eq}
@@ -50,7 +50,7 @@ over_natural f (t ∷ table) counts values =
     omega (arith, ints)
 
 module _ (m : ℕ) (κ : List ℕ) (q : IsPartition κ) (few : rows κ ≤ m) where
-  -- the Schur coefficients of a permutation with increasing first letters are not negative
+  -- if p is increasing at places 1 to m, the coefficient of s_κ in its Schubert polynomial in m variables is not negative
   pub rising_natural : (p : List ℕ) → IsRising m (m + 16) p → pos 0 ≤ℤ pair (schubert_in p m) (schur_test m κ)
   rising_natural p i = natural m (schubert_in p m) κ (schur_positive m (m + 16) p i) q few
 
@@ -75,7 +75,7 @@ module _ (m : ℕ) (κ : List ℕ) (q : IsPartition κ) (few : rows κ ≤ m) wh
       let b = perms_natural ps (λ x i. rising x (inr i)) in
       omega (arith, ints)
 
--- ---- steps that follow one another
+-- ---- no step, and several steps one after the other
 
 pub none_step : (m : ℕ) (sum : WholeTerms) (todo : List WholeTerms) (more : (List ℕ → ℤ) → ℤ) → ((φ : List ℕ → ℤ) → more φ ≡ pos 0) → IsWorkedOff m sum todo more sum todo
 none_step m sum todo more none = record {
@@ -119,14 +119,14 @@ overflows_as m sum todo f g e large waiting shapes =
 
 -- ---- the elements that a loop has visited, and those still to come
 
--- the elements before x, x itself and those after it are all elements
+-- the elements before x, x and the elements after x are all elements of the list
 pub still_all : {A : Type 0} (done rest left all : List A) (x : A) → left ≡ x ∷ rest → done ++ left ≡ all → done ++ x ∷ rest ≡ all
 still_all done rest left all x next e = ap (λ xs. done ++ xs) (sym next) ∙ e
 
 pub next_among : {A : Type 0} (done rest all : List A) (x : A) → done ++ x ∷ rest ≡ all → Among x all
 next_among done rest all x e = subst (Among x) e (Among-append_right x done (x ∷ rest) (inl refl))
 
--- if adding one permutation p of a list with the count c overflows, so does adding all of the list
+-- if c ≥ 0 and adding c at p overflows, after c was added at the permutations before p of a list, adding c at all of the list overflows
 pub large_perm : (m : ℕ) (c : ℤ) (sum : WholeTerms) (todo mid : List WholeTerms) (done rest all : List (List ℕ)) (p : List ℕ) → pos 0 ≤ℤ c → done ++ p ∷ rest ≡ all
     → ((x : List ℕ) → Among x all → IsRising m (m + 16) x) → IsWorkedOff m sum todo (λ φ. c *ℤ total (λ x. pair (schubert_in x m) φ) done) sum mid
     → OverflowsWith m sum mid (λ φ. c *ℤ pair (schubert_in p m) φ) → OverflowsWith m sum todo (λ φ. c *ℤ total (λ x. pair (schubert_in x m) φ) all)
@@ -146,7 +146,7 @@ large_perm m c sum todo mid done rest all p positive e rising step large waiting
     three : (c x y z : ℤ) → c *ℤ (x +ℤ (y +ℤ z)) ≡ c *ℤ x +ℤ (c *ℤ y +ℤ c *ℤ z)
     three c x y z = distributes_left c x (y +ℤ z) ∙ ap (λ w. c *ℤ x +ℤ w) (distributes_left c y z)
 
--- if adding one term of a table overflows, so does adding the whole table
+-- if no count of a table is negative, and adding a term overflows after those before it were added, adding the whole table overflows
 pub large_count : (m : ℕ) (sum sum2 : WholeTerms) (todo mid : List WholeTerms) (done rest all : WholeTerms) (t : List ℕ × ℤ) → done ++ t ∷ rest ≡ all
     → HaveLabels (IsRising m (m + 16)) all → AreCounts all → IsWorkedOff m sum todo (λ φ. over (λ x. pair (schubert_in x m) φ) done) sum2 mid
     → OverflowsWith m sum2 mid (λ φ. t.1 *ℤ pair (schubert_in t.0 m) φ) → OverflowsWith m sum todo (λ φ. over (λ x. pair (schubert_in x m) φ) all)
@@ -160,12 +160,12 @@ large_count m sum sum2 todo mid done rest all t e rising counts step large waiti
     omega (arith, ints))
     (large (step.waiting waiting) (step.shapes shapes))
 
--- ---- one more permutation in its table
+-- ---- one more permutation in the table of its number
 
 pub only_natural : (x y : List ℕ) → pos 0 ≤ℤ only (pointwise nat_eq) x y
 only_natural x y = cond-nonnegative (pointwise nat_eq x y) (pos 1) (omega (arith, ints))
 
--- if P holds of each table and of the new one, it holds of each after the replacement
+-- if P holds of each table and of `new`, it holds of each after the table at `at` is replaced by `new`
 set_all : (P : WholeTerms → Type 0) (todo : List WholeTerms) (at : ℕ) (new : WholeTerms) → at < length todo → P new → ((k : ℕ) → P (get_or todo k [])) → (k : ℕ) → P (get_or (set todo at new) k [])
 set_all P todo at new inside here old k = elim (cases_eq k at) [
   | inl e ↦ subst (λ n. P (get_or (set todo at new) n [])) (sym e) (subst P (sym (get_or-set_same todo at new [] inside)) here)
@@ -173,7 +173,7 @@ set_all P todo at new inside here old k = elim (cases_eq k at) [
 ]
 
 module _ (m at : ℕ) (p : List ℕ) (c : ℤ) (waits : WaitsAt m at p) (positive : pos 0 ≤ℤ c) where
-  -- adding a permutation to a table of counts gives a table of counts
+  -- if no count of a table is negative, none is after p is added with the count c ≥ 0
   pub more_counts : (old new : WholeTerms) {is_label : List ℕ → Bool} → IsCombination (pointwise nat_eq) is_label whole new → Gains old ((p, c) ∷ []) new
       → AreCounts old → AreCounts new
   more_counts old new is gains counts t i =

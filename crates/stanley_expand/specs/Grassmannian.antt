@@ -20,7 +20,7 @@ pub record IsRising (m n : ℕ) (u : List ℕ) : Type 0 where
   pub short : IsShort n u
   pub rises : RisesTo m u
 
--- the letters at the places m to 1, each less by 1
+-- the letters at the places m to 1, each minus 1
 abbrev pub front_beta : ℕ → List ℕ → List ℕ
 front_beta zero u = []
 front_beta (suc i) u = (letter u (suc i) - 1) ∷ front_beta i u

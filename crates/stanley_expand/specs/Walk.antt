@@ -47,15 +47,17 @@ pub record AreWaiting (m : ℕ) (todo : List WholeTerms) : Type 0 where
   pub distinct : (at : ℕ) → IsDistinct (pointwise nat_eq) (keys_of (get_or todo at []))
   pub held : (at : ℕ) → IsHeld (get_or todo at [])
 
--- the sum of the waiting Schubert polynomials in m variables, each times its count, paired with a test function
+-- the sum of k·c·φ(α) over the terms c·x^α of S_p in m variables, for each waiting permutation p with its count k
 abbrev pub waited : ℕ → (List ℕ → ℤ) → List WholeTerms → ℤ
 waited m φ todo = total (λ table. over (λ p. pair (schubert_in p m) φ) table) todo
 
--- the sum so far and the waiting polynomials, paired with a test function
+-- the sum of k·c·φ(α) over the terms c·x^α of s_κ in m variables, for each term (κ, k) of the sum so far, plus that
+-- of S_p for each waiting permutation p with its count k
 abbrev pub walked : ℕ → (List ℕ → ℤ) → WholeTerms → List WholeTerms → ℤ
 walked m φ sum todo = over (λ κ. pair (schur κ m) φ) sum +ℤ waited m φ todo
 
--- VALUE: the sum and the waiting polynomials together have gained `more`, given by its pairings
+-- VALUE: for every φ, the sum and the waiting polynomials, paired with φ, have gained `more φ`; the number of tables
+-- is the same, and the invariants of the tables and of the sum are kept
 pub record IsWorkedOff (m : ℕ) (sum : WholeTerms) (todo : List WholeTerms)
     (more : (List ℕ → ℤ) → ℤ) (sum2 : WholeTerms) (todo2 : List WholeTerms) : Type 0 where
   pub value : (φ : List ℕ → ℤ) → walked m φ sum2 todo2 ≡ walked m φ sum todo +ℤ more φ

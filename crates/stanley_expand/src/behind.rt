@@ -1,4 +1,4 @@
-//! Permutations after fixed letters.
+//! The permutation 1^m × w, in which w follows m fixed letters.
 ghost use Rattle.std.specs.Prelude.{◌≡◌, ◌≤◌, length, IfOk, OnOk};
 ghost use Rattle.perm_codes.specs.Limits.{IsWithinLimits};
 ghost use Rattle.sym_model.specs.Partition.{after};

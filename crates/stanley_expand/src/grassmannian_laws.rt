@@ -7,7 +7,7 @@ ghost use Rattle.sym_model.specs.Schubert.{schubert_in};
 ghost use Rattle.sym_model.specs.Schur.{schur};
 ghost use Rattle.stanley_expand.specs.Grassmannian.{IsGrassmannian, front_shape};
 
-/// The Schubert polynomial of a permutation u without a descent but at place m, in m variables, is
+/// The Schubert polynomial of a permutation u with no descent except at place m, in m variables, is
 /// the Schur polynomial of the partition of the parts u(i) - i for i from m down to 1 (Macdonald,
 /// Notes on Schubert polynomials, IV).
 ///

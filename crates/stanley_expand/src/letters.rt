@@ -7,8 +7,8 @@ use perm_codes::Perm;
 
 /// Whether some letter has more than `most` greater letters before it.
 ///
-/// A letter that follows a smaller one has at most as many of them as that one, so they are counted
-/// only for a letter that follows a greater one.
+/// A letter that follows a smaller one has at most as many greater letters before it as that
+/// smaller letter, so the greater letters are counted only for a letter that follows a greater one.
 pub(crate) fn has_more_before(perm: &Perm, most: u16) -> bool
     requires { length perm.now ≤ 254 }
     ensures { IsTrue result ↔ HasMoreBefore most perm.now }

@@ -1,20 +1,22 @@
 //! Stanley polynomials in Schur polynomials, by the transition rule from 1^m × w: terms with a
 //! variable after the last one are dropped, and so is a permutation in which some letter has more
 //! greater letters before it than there are variables. A permutation without a descent after place
-//! m is a Schur polynomial. Equal permutations are merged, with a count.
+//! m contributes a Schur polynomial. Equal permutations are merged, with a count.
 //!
-//! Grassmannian permutations and Stanley polynomials as sums of Schur polynomials.
+//! The crate also has laws on Grassmannian permutations, and on Stanley polynomials as sums of
+//! Schur polynomials.
 //!
 //! A law function has an empty body: its contract is the law.
 //!
 //! What is proved:
 //!
-//! `stanley`: the Stanley polynomial of a permutation of at most 16 letters in 1 to 64 variables,
-//! in Schur polynomials with at most one row for each variable; `Large` is returned if and only if
-//! a coefficient exceeds 2^127 - 1.
+//! `stanley` gives the Stanley polynomial of a permutation of at most 16 letters in 1 to 64
+//! variables, in Schur polynomials with at most one row for each variable; `Large` is returned if
+//! and only if a coefficient exceeds 2^127 - 1.
 //!
-//! `grassmannian_law`: the Schubert polynomial of a Grassmannian permutation is a Schur polynomial.
-//! `stanley_law`: a Stanley polynomial is a sum of Schur polynomials, with no negative coefficient.
+//! `grassmannian_law` says that the Schubert polynomial of a Grassmannian permutation is a Schur
+//! polynomial. `stanley_law` says that a Stanley polynomial is a sum of Schur polynomials, with no
+//! negative coefficient.
 #![tactic(auto)]
 
 mod behind;

@@ -33,11 +33,12 @@ pub(crate) type Schurs = Lin<Partition, Int>;
 /// The permutations that wait, each with the number of times that the rule reached it.
 type Counts = Lin<Perm, Int>;
 
-/// The Schubert polynomial of a permutation with increasing letters at places 1 to `rows`, in
-/// `rows` variables, as a sum of Schur polynomials.
+/// The Schubert polynomial of a permutation of at most `rows` + 16 letters, with increasing letters
+/// at places 1 to `rows`, in `rows` variables, as a sum of Schur polynomials.
 ///
-/// The table with the greatest number is worked off first: the transition rule lowers the number,
-/// so by then all equal permutations are in that table.
+/// The waiting permutations are kept in numbered tables (`number`). The table with the greatest
+/// number is worked off first: the transition rule lowers the number, so by then all equal
+/// permutations are in that table.
 pub(crate) fn in_schurs(alloc: Global, start: Perm, rows: u16) -> Result<Schurs, SumFault>
     requires few { rows ≤ 64 }
     requires rising { IsRising rows (rows + 16) start }
@@ -106,7 +107,8 @@ fn put(todo: &mut Vec<Counts>, perm: Perm, count: Int, rows: u16) -> Result<(), 
     counts.add_owned(perm, count)
 }
 
-/// Works off the permutations of a table.
+/// Replaces each permutation of a table by those of the transition rule, or adds its Schur
+/// polynomial to the sum if it is Grassmannian.
 fn work_off_each(
     alloc: Global,
     todo: &mut Vec<Counts>,
@@ -223,7 +225,7 @@ fn add_shape(
     sum.add_owned(shape, count)
 }
 
-/// The letters at the places from `rows` down to 1, each less by 1.
+/// The letters at the places from `rows` down to 1, each minus 1.
 fn front(alloc: Global, perm: &Perm, rows: u16) -> Result<Vec<u16>, NoMemory>
     requires { rows ≤ 64 }
     ensures { IfOk result (λ list. list.items ≡ front_beta rows perm.now) }

@@ -1,9 +1,9 @@
 -- Containment of shapes by parts, by cells and as a test.
---     `contains-tells`, `contains-from`  the test and the parts
---     `cells-from`, `cells-tell`         the parts and the cells
---     `cell`                             a place between the parts of a row is a cell
---     `Holds_below`, `Holds-..`          the rows after the first ones, sizes, and the number of long rows
-use Rattle.std.proofs.Common.{◌≡◌, ◌⊎◌, ℕ, zero, suc, ◌+◌, ◌-◌, ◌<◌, ◌≤◌, true, cond, List, [], ◌∷◌, drop, get_or, leb, eqb, subst, refl, sym, inl, inr, arith, ◌&&◌, ap, ap₂, ◌∙◌}
+--     `contains-tells`, `contains-from`  from the test `contains` to the parts, and back
+--     `cells-from`, `cells-tell`         from the parts to the cells, and back
+--     `cell`                             a column after the inner part of a row, up to its outer part, has a cell in this row
+--     `Holds_below`, `Holds-..`          shapes without their first rows, shapes of one size, and the number of long rows
+use Rattle.std.proofs.Common.{◌≡◌, ◌⊎◌, ℕ, zero, suc, ◌+◌, ◌-◌, ◌<◌, ◌≤◌, true, cond, List, [], ◌∷◌, drop, get_or, leb, eqb, subst, refl, sym, inl, inr, arith, ap, ap₂}
 use Rattle.std.proofs.lemmas.Bool.{cases_lt, eq-eqb, eqb-true, leb-true, le-leb, lt-leb, and_parts, and_from}
 use Rattle.sym_model.specs.Partition.{part, size, ArePositive, Holds, IsCell}
 use Rattle.sym_model.specs.Conjugate.{count_from}
@@ -24,20 +24,20 @@ under-from_test [] (b ∷ inner) h (suc j) = under-from_test [] inner (and_parts
 under-from_test (a ∷ outer) (b ∷ inner) h zero = leb-true b a (and_parts (leb b a) (contains outer inner) h).0
 under-from_test (a ∷ outer) (b ∷ inner) h (suc j) = under-from_test outer inner (and_parts (leb b a) (contains outer inner) h).1 j
 
-test-from_under : (outer inner : List ℕ) → Under outer inner → contains outer inner ≡ true
-test-from_under outer [] h = refl
-test-from_under [] (b ∷ inner) h =
+pub contains_from_places : (outer inner : List ℕ) → ((j : ℕ) → get_or inner j 0 ≤ get_or outer j 0) → contains outer inner ≡ true
+contains_from_places outer [] h = refl
+contains_from_places [] (b ∷ inner) h =
     let e : b ≡ 0 = (let l = h 0 in omega (arith, l)) in
-    and_from (eqb b 0) (contains [] inner) (eq-eqb b 0 e) (test-from_under [] inner (λ j. h (suc j)))
-test-from_under (a ∷ outer) (b ∷ inner) h =
-    and_from (leb b a) (contains outer inner) (le-leb b a (h 0)) (test-from_under outer inner (λ j. h (suc j)))
+    and_from (eqb b 0) (contains [] inner) (eq-eqb b 0 e) (contains_from_places [] inner (λ j. h (suc j)))
+contains_from_places (a ∷ outer) (b ∷ inner) h =
+    and_from (leb b a) (contains outer inner) (le-leb b a (h 0)) (contains_from_places outer inner (λ j. h (suc j)))
 
 pub contains-tells : (outer inner : List ℕ) → contains outer inner ≡ true → Holds outer inner
 contains-tells outer inner h i = under-from_test outer inner h (i - 1)
 
 pub contains-from : (outer inner : List ℕ) → Holds outer inner → contains outer inner ≡ true
 contains-from outer inner h =
-    test-from_under outer inner (λ j.
+    contains_from_places outer inner (λ j.
     let e : j + 1 - 1 ≡ j = omega arith in
     subst (λ k. get_or inner k 0 ≤ get_or outer k 0) e (h (j + 1)))
 
@@ -49,47 +49,35 @@ cells-from outer inner h row column c =
     let l = h row in
     record { row_counts = a; outside = b; within = omega (arith, d, l) }
 
-pub cells-tell : (outer inner : List ℕ) → ((row column : ℕ) → IsCell inner [] row column → IsCell outer [] row column) → Holds outer inner
-cells-tell outer inner h = from
-  where
-    counted : (i : ℕ) → 1 ≤ i → part inner i ≤ part outer i
-    counted i n = elim (cases_lt 0 (part inner i)) [
-      | inl l ↦ (h i (part inner i) (record { row_counts = n; outside = l; within = omega arith })).within
-      | inr l ↦ omega (arith, l)
-    ]
+row_within : (outer inner : List ℕ) → ((row column : ℕ) → IsCell inner [] row column → IsCell outer [] row column) → (i : ℕ) → 1 ≤ i → part inner i ≤ part outer i
+row_within outer inner h i n = elim (cases_lt 0 (part inner i)) [
+  | inl l ↦ (h i (part inner i) (record { row_counts = n; outside = l; within = omega arith })).within
+  | inr l ↦ omega (arith, l)
+]
 
-    from : Holds outer inner
-    from zero = counted 1 (omega arith)
-    from (suc i) = counted (suc i) (omega arith)
+pub cells-tell : (outer inner : List ℕ) → ((row column : ℕ) → IsCell inner [] row column → IsCell outer [] row column) → Holds outer inner
+cells-tell outer inner h zero = row_within outer inner h 1 (omega arith)
+cells-tell outer inner h (suc i) = row_within outer inner h (suc i) (omega arith)
 
 pub Holds-get_or : (outer inner : List ℕ) → Holds outer inner → (i : ℕ) → get_or inner i 0 ≤ get_or outer i 0
 Holds-get_or outer inner h i =
     let e : i + 1 - 1 ≡ i = omega arith in
     subst (λ k. get_or inner k 0 ≤ get_or outer k 0) e (h (i + 1))
 
-pub contains_from_places : (outer inner : List ℕ) → ((j : ℕ) → get_or inner j 0 ≤ get_or outer j 0) → contains outer inner ≡ true
-contains_from_places [] [] h = refl
-contains_from_places (a ∷ outer) [] h = refl
-contains_from_places [] (b ∷ inner) h =
-    let z : b ≡ 0 = (let y = h 0 in omega (arith, y)) in
-    ap (λ x. x && contains [] inner) (eq-eqb b 0 z) ∙ contains_from_places [] inner (λ j. let y = h (suc j) in y)
-contains_from_places (a ∷ outer) (b ∷ inner) h =
-    ap (λ x. x && contains outer inner) (le-leb b a (h 0)) ∙ contains_from_places outer inner (λ j. h (suc j))
-
 pub cell : (outer inner : List ℕ) (row column : ℕ) → 1 ≤ row → part inner row < column → column ≤ part outer row → IsCell outer inner row column
 cell outer inner row column a b c = record { row_counts = a; outside = b; within = c }
 
 -- ---- shapes without their first rows
 
+pub get_or-below : (parts : List ℕ) (n : ℕ) → get_or (drop 1 parts) n 0 ≡ get_or parts (suc n) 0
+get_or-below [] zero = refl
+get_or-below [] (suc n) = refl
+get_or-below (a ∷ parts) n = refl
+
 pub Holds_below : (outer inner : List ℕ) → Holds outer inner → Holds (drop 1 outer) (drop 1 inner)
 Holds_below outer inner h i =
-    subst (λ (n : ℕ). n ≤ get_or (drop 1 outer) (i - 1) 0) (sym (at inner (i - 1)))
-    (subst (λ (n : ℕ). get_or inner (suc (i - 1)) 0 ≤ n) (sym (at outer (i - 1))) (Holds-get_or outer inner h (suc (i - 1))))
-  where
-    at : (parts : List ℕ) (n : ℕ) → get_or (drop 1 parts) n 0 ≡ get_or parts (suc n) 0
-    at [] zero = refl
-    at [] (suc n) = refl
-    at (a ∷ parts) n = refl
+    subst (λ (n : ℕ). n ≤ get_or (drop 1 outer) (i - 1) 0) (sym (get_or-below inner (i - 1)))
+    (subst (λ (n : ℕ). get_or inner (suc (i - 1)) 0 ≤ n) (sym (get_or-below outer (i - 1))) (Holds-get_or outer inner h (suc (i - 1))))
 
 pub Holds-size : (outer inner : List ℕ) → Holds outer inner → size inner ≤ size outer
 Holds-size outer [] h = omega arith

@@ -1,6 +1,6 @@
 -- The number of cells of a rim hook, from its rows.
 --     size_rows       the size of a partition as the sum of its rows
---     hook_size       the size of outer is that of inner plus the number of cells by the first and the last row
+--     hook_size       for a rim hook with the rows first, .., last: |outer| + inner_last = |inner| + outer_first + (last - first)
 use Rattle.std.proofs.Common.{◌≡◌, ℕ, zero, suc, ◌+◌, ◌-◌, ◌≤◌, List, [], ◌∷◌, length, get_or, ◌∙◌, ap, refl, arith}
 use Rattle.sym_model.specs.Partition.{size, part}
 use Rattle.strip_laws.specs.HookRows.{IsHookRows}

@@ -1,4 +1,4 @@
--- The bound in the definition of reflections is never reached: each reflection lowers the sum of the squares.
+-- The bound for the number of steps in the definition of reflections is never reached: each reflection lowers the sum of the squares.
 --     `squares_fall`     a reflection lowers the sum of the squares
 --     enough             any two numbers of steps above that sum give the same result
 --     reflect_again      the reflection rule holds without a bound

@@ -1,6 +1,6 @@
--- Rim hooks by their rows.
---     hook_from_rows      rows that are chained make a rim hook
---     hook_rows           each rim hook has such rows
+-- Rim hooks by their rows, which are chained (`IsHookRows`): each row begins above the last cell of the next.
+--     hook_from_rows      rows that are chained (`IsHookRows`) make a rim hook
+--     hook_rows           the rows of each rim hook are chained
 --     height_of_rows      the height of a rim hook is the number of its rows
 use Rattle.std.proofs.Common.{◌≡◌, ℕ, zero, suc, ◌+◌, ◌-◌, ◌<◌, ◌≤◌, min, max, ◌⊎◌, List, [], ◌∷◌, ◌++◌, length, Bool, true, false, nat_lt, sym, subst, refl, inl, inr, arith, filter}
 use Rattle.std.proofs.lemmas.Bool.{cases_lt}
@@ -251,7 +251,8 @@ hook_rows outer inner f g h =
 
 -- ---- the height of a rim hook
 
--- if, of the rows a + 1, .., a + k, the test passes exactly for those from `first` to `last`, the number of rows that pass is the number of these
+-- if the test passes exactly for the rows from `first` to `last`, the number of the rows a + 1, .., a + k that pass is the number of these rows that are
+-- from `first` to `last`
 counted : (test : ℕ → Bool) (first last a k : ℕ) → ((i : ℕ) → 1 ≤ i → first ≤ i → i ≤ last → test i ≡ true) → ((i : ℕ) → 1 ≤ i → (i < first) ⊎ (last < i) → test i ≡ false)
     → first ≤ last + 1 → length (filter test (after a k)) ≡ (min last (a + k) + 1) - max first (a + 1)
 counted test first last a zero yes' no' o = omega arith

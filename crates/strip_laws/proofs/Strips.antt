@@ -1,7 +1,7 @@
 -- Horizontal and vertical strips by their rows.
---     `falls_part`            the parts of a decreasing list decrease from each row to the next
---     horizontal_from_rows    in a horizontal strip outer part i + 1 is at most inner part i
---     vertical_from_rows      in a vertical strip outer part i is at most inner part i plus 1
+--     `falls_part`            each part of a decreasing list is at least the next one
+--     horizontal_from_rows    outer/inner is a horizontal strip if each outer part i + 1 is at most inner part i
+--     vertical_from_rows      outer/inner is a vertical strip if each outer part i is at most inner part i plus 1
 use Rattle.std.proofs.Common.{◌≡◌, ℕ, zero, suc, ◌+◌, ◌-◌, ◌<◌, ◌≤◌, List, [], ◌∷◌, get_or, sym, ap, subst, refl, inl, inr, arith}
 use Rattle.std.proofs.lemmas.Bool.{cases_order, cases_lt}
 use Rattle.sym_model.specs.Partition.{Falls, part, Holds, IsCell}

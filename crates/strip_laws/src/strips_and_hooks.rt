@@ -1,4 +1,4 @@
-//! Strips and rim hooks of partitions by their rows, and worked examples of both.
+//! Strips and rim hooks of partitions by their rows.
 
 ghost use Rattle.std.specs.Prelude.{◌≡◌, ℕ, ◌+◌, ◌-◌, ◌≤◌, ◌↔◌, List};
 ghost use Rattle.sym_model.specs.Partition.{Falls, Holds, part, size};
@@ -6,11 +6,12 @@ ghost use Rattle.sym_model.specs.Strip.{IsHorizontalStrip, IsVerticalStrip, IsRi
 ghost use Rattle.strip_laws.specs.HookRows.{IsHookRows};
 
 /// The conditions on cells as conditions on parts. A skew shape of decreasing lists is a horizontal
-/// strip if no part of the outer list is greater than the inner part of the row above, a vertical
-/// strip if each part is at most 1 greater than the inner one, and a rim hook if it has cells
-/// exactly in the rows first, .., last, and these are chained together. Its height is then the
-/// number of these rows, and the number of its cells is the height plus the difference of the first
-/// outer part and the last inner part, less 1.
+/// strip if and only if no part of the outer list is greater than the inner part of the row above,
+/// a vertical strip if and only if each part is at most 1 greater than the inner one, and a rim
+/// hook if and only if it has cells exactly in the rows first, .., last, and in each of these rows
+/// but the first the outer part is 1 greater than the inner part of the row above. Its height is
+/// then the number of these rows, and the number of its cells is the height, plus the outer part of
+/// the row first, minus the inner part of the row last, minus 1.
 pub fn strip_law()
     ensures horizontal { (outer inner : List ℕ) → Falls outer → Falls inner → Holds outer inner
         → (IsHorizontalStrip outer inner

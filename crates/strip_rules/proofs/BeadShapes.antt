@@ -1,7 +1,7 @@
 -- The partitions made by moves of beads (specs/BeadMoves).
---     horizontal_moves, vertical_moves     they are the partitions made by adding a strip, each once
+--     strip_lists     the lists of moved beads are those of the partitions made by adding a strip, each once
 use Rattle.std.proofs.Common.{◌≡◌, ℕ, zero, suc, ◌+◌, ◌-◌, ◌<◌, ◌≤◌, List, [], ◌∷◌, map, length, get_or, refl, sym, ap, ◌∙◌, subst, arith}
-use Rattle.sym_model.specs.Sum.{Among}
+use Rattle.sym_model.specs.Sum.{Among, Once}
 use Rattle.sym_model.specs.Partition.{IsPartition, Holds, part, after, size, rows}
 use Rattle.sym_model.specs.Alternant.{staircase}
 use Rattle.sym_model.specs.BetaList.{beta, from_beta, less_the_rest}
@@ -13,11 +13,10 @@ use Rattle.beta_list_laws.proofs.BetaLists.{length-beta, from_beta-beta, beta-fr
 use Rattle.product_laws.specs.StripLists.{ListsEach, AddsHorizontalStrip, AddsVerticalStrip}
 use Rattle.strip_rules.specs.declared.bead_strips.Strip.{Strip}
 use Rattle.strip_rules.specs.declared.bead_strips.Strip.TheVariants.{Horizontal, Vertical}
-use Rattle.strip_rules.specs.BeadMoves.{barrier, moves}
 use Rattle.strip_rules.proofs.ShapeLists.{IsAround, rows_around}
-use Rattle.strip_rules.proofs.BeadLists.{AreMoved, FallsBelow, falls_strictly, length-moved, moved_falls, moves-tell, among-moves, once_moves}
+use Rattle.strip_rules.proofs.BeadLists.{barrier, AreMoved, falls_strictly, length-moved, moved_falls}
 
--- ---- the rows of moved beads
+-- ---- the rows of a partition after its beads have moved
 
 rows_up : (strip : Strip) (limit : ℕ) (beads moved : List ℕ) → AreMoved strip limit beads moved → (i : ℕ) → get_or (less_the_rest beads) i 0 ≤ get_or (less_the_rest moved) i 0
 rows_up strip limit [] [] a i = omega arith
@@ -45,7 +44,7 @@ rows_near limit (b ∷ beads) [] a i = absurd a
 rows_near limit (b ∷ beads) (c ∷ moved) a zero = let o = a.0.one refl in let l = length-moved Vertical c beads moved a.1 in omega arith
 rows_near limit (b ∷ beads) (c ∷ moved) a (suc i) = rows_near c beads moved a.1 i
 
--- ---- beads of two partitions
+-- ---- partitions made by adding a strip, and their beads
 
 moved_after : (strip : Strip) (f g : ℕ → ℕ) (a k limit : ℕ) → ((i : ℕ) → a < i → i ≤ a + k → (f i ≤ g i) × (strip ≡ Vertical → g i ≤ f i + 1))
     → ((i : ℕ) → a < i → i < a + k → g (i + 1) < barrier strip (f i) (g i)) → g (a + 1) < limit → AreMoved strip limit (map f (after a k)) (map g (after a k))
@@ -57,13 +56,6 @@ moved_after strip f g a (suc (suc k)) limit up below first =
       record { up = u.0; below = first; one = u.1 },
       moved_after strip f g (a + 1) (suc k) (barrier strip (f (a + 1)) (g (a + 1))) (λ i h l. up i (omega arith) (omega arith)) (λ i h l. below i (omega arith) (omega arith)) (below (a + 1) (omega arith) (omega arith)),
     )
-
--- the beads of a partition are strictly decreasing and below `limit` if size(parts) + n is
-pub beads_below : (n limit : ℕ) (parts : List ℕ) → IsPartition parts → size parts + n < limit → FallsBelow limit (beta n parts)
-beads_below n limit parts p wide =
-    moved_falls Vertical limit (beta n parts) (beta n parts)
-    (moved_after Vertical (λ i. part parts i + (n - i)) (λ i. part parts i + (n - i)) 0 n limit (λ i h l. (omega arith, λ e. omega arith))
-    (λ i h l. let f = falls_part parts p.falls i (omega arith) in omega arith) (let s = get_or-le-size parts (0 + 1 - 1) in omega arith))
 
 -- ν is made from the inner partition by adding a strip of k cells
 abbrev pub AddsStrip : Strip → ℕ → List ℕ → List ℕ → Type 0
@@ -146,41 +138,47 @@ module _ (n k limit : ℕ) (parts : List ℕ) (p : IsPartition parts) (few : row
   next_below Horizontal ν s i h l = let r = horizontal_rows ν parts s.0.falls p.falls s.2 i h in omega arith
   next_below Vertical ν s i h l = let r = falls_part ν s.0.falls i h in omega arith
 
-  made : (strip : Strip) (ν : List ℕ) → AddsStrip strip k parts ν → Among ν (map from_beta (moves strip limit k (beta n parts)))
-  made strip ν s =
+  -- the beads of a partition ν made by adding a strip of k cells are moved beads, k places up in all, and ν is their partition
+  moved : (strip : Strip) (ν : List ℕ) → AddsStrip strip k parts ν → AreMoved strip limit (beta n parts) (beta n ν) × (size (beta n ν) ≡ size (beta n parts) + k) × (from_beta (beta n ν) ≡ ν)
+  moved strip ν s =
       let r = around strip ν s in
       let q = r.partition in
       let c = r.cells in
       let rows_fit = rows_around k parts ν p r in
       let fit : rows ν ≤ n = omega arith in
-      let moved = moved_after strip (λ i. part parts i + (n - i)) (λ i. part ν i + (n - i)) 0 n limit
-      (λ i h l. (let o = r.holds i in omega arith, λ e. let o = one_more strip ν s e i (omega arith) in omega arith))
-      (λ i h l. next_below strip ν s i (omega arith) (omega arith)) (let z = get_or-le-size ν (0 + 1 - 1) in omega arith) in
       let t = size-beta n parts p fits in
-      let u = size-beta n ν q fit in
-      let m = among-moves strip limit k (beta n parts) (beta n ν) (beads_below n limit parts p (omega arith)) moved (omega arith) in
-      subst (λ (l : List ℕ). Among l (map from_beta (moves strip limit k (beta n parts)))) (from_beta-beta n ν q fit)
-      (Among-map from_beta (beta n ν) (moves strip limit k (beta n parts)) m)
+      let u = size-beta n ν q fit in (
+        moved_after strip (λ i. part parts i + (n - i)) (λ i. part ν i + (n - i)) 0 n limit
+            (λ i h l. (let o = r.holds i in omega arith, λ e. let o = one_more strip ν s e i (omega arith) in omega arith))
+            (λ i h l. next_below strip ν s i (omega arith) (omega arith)) (let z = get_or-le-size ν (0 + 1 - 1) in omega arith),
+        omega arith,
+        from_beta-beta n ν q fit,
+      )
 
-  pub strip_moves : (strip : Strip) → ListsEach (AddsStrip strip k parts) (map from_beta (moves strip limit k (beta n parts)))
-  strip_moves strip = record {
-    once = Once-map from_beta (moves strip limit k (beta n parts)) same (once_moves strip limit k (beta n parts));
-    members = λ ν. (one_of ν, made strip ν);
+  -- if `lists` has each list of beads moved k places up in all once, its partitions are those made by adding a strip of k cells,
+  -- each once
+  pub strip_lists : (strip : Strip) (lists : List (List ℕ)) → Once lists → ((m : List ℕ) → Among m lists → AreMoved strip limit (beta n parts) m × (size m ≡ size (beta n parts) + k))
+      → ((m : List ℕ) → AreMoved strip limit (beta n parts) m → size m ≡ size (beta n parts) + k → Among m lists) → ListsEach (AddsStrip strip k parts) (map from_beta lists)
+  strip_lists strip lists once tells there = record {
+    once = Once-map from_beta lists same once;
+    members = λ ν. (one_of ν, made ν);
   }
     where
-      tells : (m : List ℕ) → Among m (moves strip limit k (beta n parts)) → AreMoved strip limit (beta n parts) m × (size m ≡ size (beta n parts) + k)
-      tells m i = moves-tell strip limit k (beta n parts) m (beads_below n limit parts p (omega arith)) i
-
-      back : (m : List ℕ) → Among m (moves strip limit k (beta n parts)) → beta n (from_beta m) ≡ m
+      back : (m : List ℕ) → Among m lists → beta n (from_beta m) ≡ m
       back m i =
           let t = tells m i in
           ap (λ j. beta j (from_beta m)) (sym (long strip m t.0 t.1)) ∙ beta-from_beta m (strict strip m t.0 t.1)
 
-      same : (x y : List ℕ) → Among x (moves strip limit k (beta n parts)) → Among y (moves strip limit k (beta n parts)) → from_beta x ≡ from_beta y → x ≡ y
+      same : (x y : List ℕ) → Among x lists → Among y lists → from_beta x ≡ from_beta y → x ≡ y
       same x y i j e = sym (back x i) ∙ ap (beta n) e ∙ back y j
 
-      one_of : (ν : List ℕ) → Among ν (map from_beta (moves strip limit k (beta n parts))) → AddsStrip strip k parts ν
+      one_of : (ν : List ℕ) → Among ν (map from_beta lists) → AddsStrip strip k parts ν
       one_of ν i =
-          let f = Among_from_map from_beta ν (moves strip limit k (beta n parts)) i in
+          let f = Among_from_map from_beta ν lists i in
           let t = tells f.0 f.1 in
           subst (AddsStrip strip k parts) (sym f.2) (sound strip f.0 t.0 t.1)
+
+      made : (ν : List ℕ) → AddsStrip strip k parts ν → Among ν (map from_beta lists)
+      made ν s =
+          let m = moved strip ν s in
+          subst (λ (l : List ℕ). Among l (map from_beta lists)) m.2 (Among-map from_beta (beta n ν) lists (there (beta n ν) m.0 m.1))

@@ -1,143 +1,98 @@
--- The sets made by moves of beads, added to a table one after another.
---     terms-append, terms-front     the sets of appended lists, and of lists with one bead in front
---     gains_next, overflows_next    one more place of the first bead
---     set_of-numbers                a set from its numbers
-use Rattle.std.proofs.Common.{◌≡◌, ℕ, zero, suc, ◌+◌, ◌-◌, ◌*◌, ◌/◌, ◌%◌, ◌^◌, ◌<◌, ◌≤◌, max, min, Bool, true, false, cond, List, [], ◌∷◌, ◌++◌, map, length, refl, sym, ap, ap₂, ◌∙◌, subst, arith, ℤ, pos, flat_map}
+-- The beta sets made by adding cells, added to a table one after another.
+--     gains_next, overflows_next     the sets for one more place
+--     cells_none, cells_some         the sets if no cell is left to add, and if at least one is
+use Rattle.std.proofs.Common.{◌≡◌, ℕ, zero, suc, ◌+◌, ◌-◌, ◌*◌, ◌^◌, ◌<◌, ◌≤◌, List, [], ◌∷◌, ◌++◌, refl, sym, ap, ◌∙◌, subst, arith, ℤ, pos, flat_map, append_assoc, append-nil, inl}
 use Rattle.std.specs.Prelude.{nat_eq}
-use Rattle.std.specs.List.{range_with_len}
 use Rattle.std.proofs.lemmas.List.{map-append}
-use Rattle.std.proofs.Math.Nat.{pow-le-pow_right}
-use Rattle.std.proofs.lemmas.Bool.{eq-eqb, ne_eqb}
+use Rattle.std.proofs.lemmas.Grind.{flat_map-append}
 use Rattle.sym_model.specs.WholeTerms.{WholeTermsOf}
+use Rattle.sym_model.proofs.Ring.{product-one}
 use Rattle.linear_combinations.specs.Gains.{Gains, Overflows, each_by, scaled}
 use Rattle.linear_combinations.proofs.Gains.{gains_both, scaled_append, overflows_both, overflows_more}
-use Rattle.beta_sets.specs.BetaSets.{numbers, places}
-use Rattle.sym_model.proofs.Ring.{product-one}
-use Rattle.beta_sets.proofs.GreatestPlaces.{numbers-none}
-use Rattle.beta_sets.proofs.BinaryPlaces.{lowest, places-suc, places-none}
+use Rattle.sym_model.specs.Sum.{Among}
+use Rattle.sym_model.proofs.Sums.{Among-append_right}
+use Rattle.beta_sets.specs.BetaSets.{numbers, IsSplit}
 use Rattle.strip_rules.specs.declared.bead_strips.Strip.{Strip}
-use Rattle.strip_rules.specs.BeadMoves.{set_of, reach, barrier, moves}
-use Rattle.strip_rules.proofs.BeadLists.{moved_first, first_places, up_to}
+use Rattle.strip_rules.specs.declared.bead_strips.Strip.TheVariants.{Horizontal, Vertical}
+use Rattle.strip_rules.specs.BeadMoves.{next_bound, next_places, with_cells}
+use Rattle.strip_rules.proofs.CellMoves.{next_tells, place_low, power_within}
 
--- the sets of the lists, each joined with the set `moved` of the beads moved before, with coefficient 1
-abbrev pub terms : ℕ → List (List ℕ) → WholeTermsOf ℕ
-terms moved lists = each_by (λ (s : ℕ). pos 1) (map (λ (l : List ℕ). moved + set_of l) lists)
+-- the sets, each with coefficient 1
+abbrev pub ones : List ℕ → WholeTermsOf ℕ
+ones sets = each_by (λ (s : ℕ). pos 1) sets
 
-pub terms-append : (moved : ℕ) (xs ys : List (List ℕ)) → terms moved (xs ++ ys) ≡ terms moved xs ++ terms moved ys
-terms-append moved xs ys =
-    ap (each_by (λ (s : ℕ). pos 1)) (map-append (λ (l : List ℕ). moved + set_of l) xs ys)
-    ∙ map-append (λ (s : ℕ). (s, pos 1)) (map (λ (l : List ℕ). moved + set_of l) xs) (map (λ (l : List ℕ). moved + set_of l) ys)
+-- the sets made by adding `left` cells, the first one by moving the bead at place b
+abbrev pub from_bead : Strip → ℕ → ℕ → ℕ → List ℕ
+from_bead strip left set b = with_cells strip (left - 1) (next_bound strip b) (set + 2 ^ b)
 
-set_of-front : (c : ℕ) (l : List ℕ) → set_of (c ∷ l) ≡ 2 ^ c + set_of l
-unfolding set_of
-set_of-front c l = refl
+ones-append : (xs ys : List ℕ) → ones (xs ++ ys) ≡ ones xs ++ ones ys
+ones-append xs ys = map-append (λ (s : ℕ). (s, pos 1)) xs ys
 
-pub terms-front : (moved with c : ℕ) (lists : List (List ℕ)) → with ≡ moved + 2 ^ c → terms with lists ≡ terms moved (map (λ (l : List ℕ). c ∷ l) lists)
-terms-front moved with c [] e = refl
-terms-front moved with c (l ∷ lists) e =
-    ap₂ (λ (s : ℕ) ts. (s, pos 1) ∷ ts) (let f = set_of-front c l in omega arith) (terms-front moved with c lists e)
+module _ (c : ℤ) (done g : List ℕ) (old cur : WholeTermsOf ℕ) (so_far : Gains old (scaled c (ones done)) cur) where
+  gains_more : (new : WholeTermsOf ℕ) → Gains cur (scaled c (ones g)) new → Gains old (scaled c (ones (done ++ g))) new
+  gains_more new more =
+      subst (λ l. Gains old l new) (sym (ap (scaled c) (ones-append done g) ∙ scaled_append c (ones done) (ones g)))
+      (gains_both old (scaled c (ones done)) cur (scaled c (ones g)) new so_far more)
 
--- ---- one more place of the first bead
-
-module _ (c : ℤ) (moved : ℕ) (done g : List (List ℕ)) (old cur : WholeTermsOf ℕ) (so_far : Gains old (scaled c (terms moved done)) cur) where
-  pub gains_next : (new : WholeTermsOf ℕ) → Gains cur (scaled c (terms moved g)) new → Gains old (scaled c (terms moved (done ++ g))) new
-  gains_next new more =
-      subst (λ l. Gains old l new) (sym (ap (scaled c) (terms-append moved done g) ∙ scaled_append c (terms moved done) (terms moved g)))
-      (gains_both old (scaled c (terms moved done)) cur (scaled c (terms moved g)) new so_far more)
-
-  pub overflows_next : (rest all : List (List ℕ)) → (done ++ g) ++ rest ≡ all → Overflows nat_eq cur (scaled c (terms moved g)) → Overflows nat_eq old (scaled c (terms moved all))
-  overflows_next rest all is large =
+  overflows_then : (rest all : List ℕ) → (done ++ g) ++ rest ≡ all → Overflows nat_eq cur (scaled c (ones g)) → Overflows nat_eq old (scaled c (ones all))
+  overflows_then rest all is large =
       subst (Overflows nat_eq old)
-      (ap (λ l. l ++ scaled c (terms moved rest)) (sym (scaled_append c (terms moved done) (terms moved g)) ∙ ap (scaled c) (sym (terms-append moved done g)))
-      ∙ sym (scaled_append c (terms moved (done ++ g)) (terms moved rest)) ∙ ap (scaled c) (sym (terms-append moved (done ++ g) rest) ∙ ap (terms moved) is))
-      (overflows_more nat_eq old (scaled c (terms moved done) ++ scaled c (terms moved g)) (scaled c (terms moved rest)) (overflows_both nat_eq old (scaled c (terms moved done)) cur (scaled c (terms moved g)) so_far large))
+      (ap (λ l. l ++ scaled c (ones rest)) (sym (scaled_append c (ones done) (ones g)) ∙ ap (scaled c) (sym (ones-append done g)))
+      ∙ sym (scaled_append c (ones (done ++ g)) (ones rest)) ∙ ap (scaled c) (sym (ones-append (done ++ g) rest) ∙ ap ones is))
+      (overflows_more nat_eq old (scaled c (ones done) ++ scaled c (ones g)) (scaled c (ones rest)) (overflows_both nat_eq old (scaled c (ones done)) cur (scaled c (ones g)) so_far large))
 
--- the lists for the places from `place` on are those for `place` and then those for the places after it
-pub places_next : {A : Type 0} (f : ℕ → List A) (place end : ℕ) → place < end
-    → flat_map f (range_with_len place (end - place)) ≡ f place ++ flat_map f (range_with_len (place + 1) (end - (place + 1)))
-places_next f place end l = ap (λ n. flat_map f (range_with_len place n)) (let e : end - place ≡ suc (end - (place + 1)) = omega arith in e)
+pub cells_none : (strip : Strip) (left bound set : ℕ) (c : ℤ) → left ≡ 0 → (set, c) ∷ [] ≡ scaled c (ones (with_cells strip left bound set))
+cells_none strip left bound set c e =
+    ap (λ (z : ℤ). (set, z) ∷ []) (sym (product-one c)) ∙ ap (λ n. scaled c (ones (with_cells strip n bound set))) (sym e)
 
--- ---- the list of moves in each case
+cells_some : (strip : Strip) (left bound set : ℕ) → (left ≡ 0 → ⊥) → with_cells strip left bound set ≡ flat_map (from_bead strip left set) (next_places strip bound (numbers set))
+cells_some strip zero bound set n = absurd (n refl)
+cells_some strip (suc k) bound set n =
+    ap (λ j. flat_map (λ b. with_cells strip j (next_bound strip b) (set + 2 ^ b)) (next_places strip bound (numbers set))) (let e : k ≡ suc k - 1 = omega arith in e)
 
-pub moves-none_left : (strip : Strip) (limit left : ℕ) (beads : List ℕ) → left ≡ 0 → moves strip limit left beads ≡ beads ∷ []
-moves-none_left strip limit left [] e = ap (λ t. cond t ([] ∷ []) []) (eq-eqb left 0 e)
-moves-none_left strip limit left (b ∷ beads) e =
-    ap (λ t. cond t ((b ∷ beads) ∷ []) (flat_map (moved_first strip left b beads) (first_places strip limit left b beads))) (eq-eqb left 0 e)
+-- the step of the loop at place b: `passed` are the places before b, and `others` those after it
+module _ (strip : Strip) (left bound set b : ℕ) (c : ℤ) (passed others : List ℕ) (old cur : WholeTermsOf ℕ) (so_far : Gains old (scaled c (ones (flat_map (from_bead strip left set) passed))) cur) where
+  pub gains_next : (new : WholeTermsOf ℕ) → Gains cur (scaled c (ones (from_bead strip left set b))) new → Gains old (scaled c (ones (flat_map (from_bead strip left set) (passed ++ b ∷ [])))) new
+  gains_next new more =
+      let f = from_bead strip left set in
+      subst (λ (l : List ℕ). Gains old (scaled c (ones l)) new)
+      (ap (λ (l : List ℕ). flat_map f passed ++ l) (sym (append-nil (f b))) ∙ sym (flat_map-append f passed (b ∷ [])))
+      (gains_more c (flat_map f passed) (f b) old cur so_far new more)
 
-pub moves-no_beads : (strip : Strip) (limit left : ℕ) → (left ≡ 0 → ⊥) → moves strip limit left [] ≡ []
-moves-no_beads strip limit left n = ap (λ t. cond t ([] ∷ []) []) (ne_eqb left 0 n)
+  pub overflows_next : (left ≡ 0 → ⊥) → passed ++ b ∷ others ≡ next_places strip bound (numbers set) → Overflows nat_eq cur (scaled c (ones (from_bead strip left set b)))
+      → Overflows nat_eq old (scaled c (ones (with_cells strip left bound set)))
+  overflows_next n all large =
+      let f = from_bead strip left set in
+      overflows_then c (flat_map f passed) (f b) old cur so_far (flat_map f others) (with_cells strip left bound set)
+      (append_assoc (flat_map f passed) (f b) (flat_map f others)
+      ∙ sym (flat_map-append f passed (b ∷ others)) ∙ ap (flat_map f) all ∙ sym (cells_some strip left bound set n)) large
 
-pub moves-first : (strip : Strip) (limit left b : ℕ) (beads : List ℕ) → (left ≡ 0 → ⊥) → moves strip limit left (b ∷ beads) ≡ flat_map (moved_first strip left b beads) (first_places strip limit left b beads)
-moves-first strip limit left b beads n =
-    ap (λ t. cond t ((b ∷ beads) ∷ []) (flat_map (moved_first strip left b beads) (first_places strip limit left b beads))) (ne_eqb left 0 n)
+pub gains_all : (strip : Strip) (left bound set : ℕ) (c : ℤ) (passed : List ℕ) (old new : WholeTermsOf ℕ) → (left ≡ 0 → ⊥) → passed ≡ next_places strip bound (numbers set)
+    → Gains old (scaled c (ones (flat_map (from_bead strip left set) passed))) new → Gains old (scaled c (ones (with_cells strip left bound set))) new
+gains_all strip left bound set c passed old new n all =
+    subst (λ (l : List ℕ). Gains old (scaled c (ones l)) new) (ap (flat_map (from_bead strip left set)) all ∙ sym (cells_some strip left bound set n))
 
--- ---- a set from its numbers
+-- ---- the conditions at each call of `add_cells`
 
-set_of-raised : (xs : List ℕ) (b : Bool) → set_of (map suc xs ++ lowest b) ≡ 2 * set_of xs + cond b 1 0
-unfolding set_of
-set_of-raised [] true = refl
-set_of-raised [] false = refl
-set_of-raised (x ∷ xs) b = let r = set_of-raised xs b in let p : 2 ^ suc x ≡ 2 * 2 ^ x = omega arith in omega arith
+-- the next place b of the loop is below 63 - left, and 2^b is at most `set`
+pub bead_low : (strip : Strip) (bound left set places b : ℕ) (passed : List ℕ) → left ≤ 20 → set < 2 ^ (63 - left) → IsSplit places b (places - 2 ^ b) → passed ++ numbers places ≡ next_places strip bound (numbers set)
+    → (b < 63 - left) × (2 ^ b ≤ set)
+bead_low strip bound left set places b passed l h split all =
+    place_low (63 - left) set b (omega arith) h
+    (next_tells strip bound b (numbers set)
+    (subst (Among b) all (Among-append_right b passed (numbers places) (subst (Among b) (sym split.numbers) (inl refl))))).0
 
-set_of-nothing : (n : ℕ) → n ≡ 0 → set_of [] ≡ n
-unfolding set_of
-set_of-nothing n e = sym e
+pub next_bound_low : (strip : Strip) (b : ℕ) → b < 63 → next_bound strip b < 64
+next_bound_low Horizontal b l = omega arith
+next_bound_low Vertical b l = omega arith
 
-set_of-places : (k n : ℕ) → n < 2 ^ k → set_of (places k n) ≡ n
-set_of-places zero n h = ap set_of (places-none n) ∙ set_of-nothing n (omega arith)
-set_of-places (suc k) n h =
-    let r = set_of-places k (n / 2) (omega arith) in
-    let d = digit (n % 2) (let l : n % 2 < 2 = omega arith in l) in
-    ap set_of (places-suc k n) ∙ set_of-raised (places k (n / 2)) (nat_eq (n % 2) 1) ∙ (omega arith)
-  where
-    digit : (r : ℕ) → r < 2 → cond (nat_eq r 1) 1 0 ≡ r
-    digit zero l = refl
-    digit (suc zero) l = refl
-    digit (suc (suc r)) l = absurd (omega arith)
+pub raised_room : (left set b : ℕ) → (left ≡ 0 → ⊥) → left ≤ 20 → set < 2 ^ (63 - left) → 2 ^ b ≤ set → set + 2 ^ b < 2 ^ (63 - (left - 1))
+raised_room left set b n l h p =
+    let e : 2 ^ (63 - (left - 1)) ≡ 2 ^ suc (63 - left) = ap (λ m. 2 ^ m) (let s : 63 - (left - 1) ≡ suc (63 - left) = omega arith in s) in
+    let d : 2 ^ suc (63 - left) ≡ 2 * 2 ^ (63 - left) = omega arith in
+    omega arith
 
-pub set_of-numbers : (set : ℕ) → set < 2 ^ 64 → set_of (numbers set) ≡ set
-set_of-numbers set h = set_of-places 64 set h
-
--- ---- the conditions at each call of `add_strips`
-
-pub terms_alone : (strip : Strip) (limit left moved set joined : ℕ) (c : ℤ) → left ≡ 0 → set < 2 ^ 64 → joined ≡ moved + set → (joined, c) ∷ [] ≡ scaled c (terms moved (moves strip limit left (numbers set)))
-terms_alone strip limit left moved set joined c e l j =
-    ap₂ (λ (s : ℕ) (z : ℤ). (s, z) ∷ []) (j ∙ ap (λ s. moved + s) (sym (set_of-numbers set l))) (sym (product-one c))
-    ∙ ap (λ ls. scaled c (terms moved ls)) (sym (moves-none_left strip limit left (numbers set) e))
-
-pub terms_none : (strip : Strip) (limit left moved set : ℕ) → (left ≡ 0 → ⊥) → set ≡ 0 → [] ≡ terms moved (moves strip limit left (numbers set))
-terms_none strip limit left moved set n e =
-    ap (terms moved) (sym (ap (moves strip limit left) (ap numbers e ∙ numbers-none) ∙ moves-no_beads strip limit left n))
-
-pub first_range : (strip : Strip) (limit left bead others set lowest end len r : ℕ) → lowest ≡ max bead (len + r) → end ≡ min limit (bead + r + 1) → len ≡ length (numbers others) → r ≡ reach strip left
-    → numbers set ≡ bead ∷ numbers others → (left ≡ 0 → ⊥) → flat_map (moved_first strip left bead (numbers others)) (range_with_len lowest (end - lowest)) ≡ moves strip limit left (numbers set)
-first_range strip limit left bead others set lowest end len r l e m q split n =
-    ap₂ (λ a b. flat_map (moved_first strip left bead (numbers others)) (range_with_len a (b - a)))
-    (l ∙ ap₂ (λ x y. max bead (x + y)) m q) (e ∙ ap (λ y. min limit (bead + y + 1)) q)
-    ∙ sym (ap (moves strip limit left) split ∙ moves-first strip limit left bead (numbers others) n)
-
-pub here_terms : (strip : Strip) (left bead others place moved with single next : ℕ) → with ≡ moved + single → single ≡ 2 ^ place → next ≡ barrier strip bead place
-    → terms with (moves strip next (left + bead - place) (numbers others)) ≡ terms moved (moved_first strip left bead (numbers others) place)
-here_terms strip left bead others place moved with single next w s e =
-    ap (λ n. terms with (moves strip n (left + bead - place) (numbers others))) e
-    ∙ terms-front moved with place (moves strip (barrier strip bead place) (left + bead - place) (numbers others)) (w ∙ ap (λ x. moved + x) s)
-
-pub power_within : (a b : ℕ) → a ≤ b → 2 ^ a ≤ 2 ^ b
-power_within a b l = pow-le-pow_right {n = 2} (omega arith) {i = a} {j = b} l
-
--- room for a bead at a place below the limit, and for those below its barrier
-pub place_room : (moved place limit : ℕ) → place < limit → moved + 2 ^ limit ≤ 2 ^ 64 → (moved + 2 ^ place < 2 ^ 64) × (moved + 2 ^ place + 2 ^ place ≤ 2 ^ 64)
-place_room moved place limit l room =
-    let p = power_within (suc place) limit l in
-    let q : 2 ^ suc place ≡ 2 * 2 ^ place = omega arith in
-    let r = power_within 0 place (omega arith) in
-    (omega arith, omega arith)
-
-pub next_room : (strip : Strip) (bead others place next : ℕ) → bead ≤ place → next ≡ barrier strip bead place → others < 2 ^ bead → (next ≤ place) × (others < 2 ^ next) × (2 ^ next ≤ 2 ^ place)
-next_room strip bead others place next l e h =
-    let u = up_to strip bead place l in
-    let low = u.0 in
-    let high = u.1 in
-    let p = power_within bead next (omega arith) in
-    let q = power_within next place (omega arith) in
-    (omega arith, omega arith, q)
+pub word_room : (left set b : ℕ) → left ≤ 20 → set < 2 ^ (63 - left) → 2 ^ b ≤ set → set + 2 ^ b < 2 ^ 64
+word_room left set b l h p =
+    let w = power_within (63 - left) 63 (omega arith) in
+    omega arith

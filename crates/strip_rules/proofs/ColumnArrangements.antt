@@ -1,7 +1,7 @@
 -- The coefficients of m_μ·e_k, row by row.
 --     column-raised     the coefficient after a row of length c in μ and c + 1 in ν
 --     column-kept       the coefficient after a row of length c in both
---     column-strips     only vertical strips have a coefficient
+--     column-strips     the coefficient is 0 unless ν/μ is a vertical strip
 use Rattle.std.proofs.Common.{◌≡◌, ◌⊎◌, ℕ, zero, suc, ◌+◌, ◌-◌, ◌*◌, ◌<◌, ◌≤◌, Bool, true, false, ◌&&◌, ◌||◌, cond, ◌==◌, eqb, leb, List, [], ◌∷◌, ◌++◌, length, sym, ◌∙◌, ap, ap₂, refl, inl, inr, arith, ℤ, pos, ◌+ℤ◌, ◌*ℤ◌}
 use Rattle.std.proofs.lemmas.Bool.{cases_eq, cases_lt, le-leb, lt-leb, eq-eqb, ne_eqb, and_parts}
 use Rattle.std.proofs.lemmas.Int.{ints}
@@ -45,7 +45,7 @@ column-lists k left ν =
     ∙ pair_ext left (λ μ. pair ((column k, pos 1) ∷ []) (λ r. pos (arrangements μ r ν)))
     (λ μ. pos (arrangements μ (column k) ν)) (λ μ. one (pos (arrangements μ (column k) ν)))
 
--- if ν and ρ sort to the same parts, the numbers of ways to write ν and ρ are equal
+-- if ν and ρ sort to the same parts, `arrangements l r` has the same value at ν and at ρ
 pub arrangements-sorted : (l r ν ρ : List ℕ) → sorted_parts ν ≡ sorted_parts ρ → arrangements l r ν
     ≡ arrangements l r ρ
 arrangements-sorted l r ν ρ e = as_number
@@ -68,7 +68,7 @@ sorted_parts-last c [] = refl
 sorted_parts-last c (a ∷ α) = ap (insert_part a) (sorted_parts-last c α)
     ∙ insert_part_comm a c (sorted_parts α)
 
--- ---- columns of cells as labels
+-- ---- the label (1^k)
 
 column-first : (k : ℕ) → insert_part 1 (column k) ≡ column (suc k)
 column-first zero = refl
@@ -140,7 +140,8 @@ arrangements-total l r ν = length-select
 
 module _ (c k : ℕ) (α ν : List ℕ) (long : length α ≡ length ν)
     (above : (d : ℕ) → Among d ν → c < d) where
-  -- if the first part of a split sorts to c inserted into the parts of α, c occurs in it once more than in α
+  -- the number of times that c occurs in the first part of a split, summed over the splits that `arrangements` counts, is
+  -- the number of these splits times 1 + the multiplicity of c in α
   left : total (λ (s : List ℕ × List ℕ). pos (times_in c s.0) *ℤ are_labels
       (insert_part c (sorted_parts α)) (column (suc k)) (sorted_parts s.0) (sorted_parts s.1))
       (splits (suc c ∷ ν))

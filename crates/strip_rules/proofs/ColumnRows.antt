@@ -1,6 +1,6 @@
 -- The coefficient of m_ν in m_μ·e_k for a vertical strip ν/μ, computed row by row.
 --     `rises`     the coefficient does not decrease from row to row
---     at_end      after the last row it is the coefficient
+--     `at_end`    after the last row it is the coefficient of m_ν in m_μ·e_k
 --     fraction, row_.., next_..   the change by one row
 use Rattle.std.proofs.Common.{◌≡◌, ◌⊎◌, ℕ, zero, suc, ◌+◌, ◌-◌, ◌*◌, ◌<◌, ◌≤◌, List, [], ◌∷◌, ◌++◌, length, get_or, refl, sym, ap, ap₂, ◌∙◌, inl, inr, arith}
 use Rattle.std.proofs.lemmas.Bool.{cases_lt, cases_eq}
@@ -35,8 +35,8 @@ pub record IsCounted (μ ν : List ℕ) (i count run longer : ℕ) : Type 0 wher
   pub few_rows : run ≤ i
   pub few_longer : longer ≤ i
 
--- the state after row i + 1 is counted: the coefficient, the number `run` of rows of its length in ν, and `longer` of them that are longer in ν than
--- in μ
+-- the state after row i + 1: the coefficient for these rows, the number `run` of them that are as long as row i + 1 in ν,
+-- and `longer` of them that are longer in ν than in μ
 pub record IsRow (μ ν : List ℕ) (i count run longer : ℕ) : Type 0 where
   pub count_is : count ≡ so_far μ ν (suc i)
   pub run_is : run ≡ times_in (get_or ν i 0) (resize (suc i) ν)
@@ -121,8 +121,8 @@ module _ (μ ν : List ℕ) (p : IsPartition μ) (q : IsPartition ν) (s : IsVer
       ∙ column-raised c k (resize i μ) (resize i ν) (both-first i)
       (λ d m. omega (arith, next-resize i ν d q.falls m))
 
-  -- if row i of ν, counted from 0, has length c + 1 and j ≤ i, at most as many of the first j rows of μ have length c as of those of ν have length c
-  -- + 1
+  -- if row i of ν, counted from 0, has length c + 1 and j ≤ i, then among the first j rows, those of μ that have length c
+  -- are at most as many as those of ν that have length c + 1
   few : (i c j : ℕ) → get_or ν i 0 ≡ suc c → j ≤ i
       → times_in c (resize j μ) ≤ times_in (suc c) (resize j ν)
   few i c zero e h = omega arith
@@ -278,7 +278,7 @@ module _ (μ ν : List ℕ) (p : IsPartition μ) (q : IsPartition ν) (s : IsVer
     few_longer = omega arith;
   }
 
-  -- if the next row of ν has the same length, the counts of rows go on
+  -- if the next row of ν is as long as this one, `run` and `longer` also count for the next row
   pub next_same : (i count run longer : ℕ) → IsRow μ ν i count run longer
       → get_or ν i 0 ≤ get_or ν (suc i) 0 → IsCounted μ ν (suc i) count run longer
   next_same i count run longer h l =

@@ -1,5 +1,5 @@
 -- The product with e_k in m as a sum over vertical strips, for one m_μ and for a list.
---     column_sums                        the sum over the vertical strips, listed in any order
+--     column_sums                        the sum over all partitions is that over the vertical strips
 --     product_value, product_large       the coefficients of a list times e_k, and the case of 2^127 or more
 use Rattle.std.proofs.Common.{◌≡◌, ◌⊎◌, ℕ, ◌+◌, ◌^◌, ◌<◌, ◌≤◌, List, sym, ap, ◌∙◌, subst, inl, inr, arith, ℤ, pos, ◌+ℤ◌, ◌*ℤ◌}
 use Rattle.std.specs.Prelude.{nat_abs, ◌≤ℤ◌}
@@ -40,7 +40,8 @@ module _ (k : ℕ) (μ : List ℕ) (p : IsPartition μ) where
   column_labels = each_by-labels (λ ν. pos (column_count k μ ν)) IsPartition (partitions_of (size μ + k))
       (λ ν m. (partitions_of-tells (size μ + k) ν m).0)
 
-  -- a partition to which no vertical strip leads has the coefficient 0
+  -- the sum of φ(ν) times the coefficient of m_ν in m_μ·e_k is the same over the ν such that ν/μ is a vertical strip of
+  -- k cells and over all partitions ν of |μ| + k cells, since the coefficient is 0 for every other ν
   pub column_sums : (shapes : List (List ℕ)) → AreVerticalStrips μ k shapes → (φ : List ℕ → ℤ)
       → over φ (counted (column_count k μ) shapes) ≡ over φ (column_terms k μ)
   column_sums shapes s φ =

@@ -12,6 +12,7 @@ mod RowTables
 mod Values
 pub mod TermsAdded
 pub mod BeadLists
+pub mod CellMoves
 pub mod BeadShapes
 pub mod BeadSums
 pub mod BeadSteps
@@ -19,3 +20,4 @@ pub mod ShapeLists
 pub mod Signs
 pub mod TermProducts
 pub mod ListProducts
+pub mod HookMoves

@@ -1,6 +1,6 @@
 -- The products of the terms of a list, one after another, and their weights.
---     AddsList-none, AddsList-next    one term after another
---     list_large                      if one term is refused, the weight of the list is at least 2^127
+--     AddsList-none, AddsList-next    the sum with the products of no term, and of one more term
+--     list_large                      if the common denominator or the sum of |c| over it is at least 2^127, so is the weight
 --     weight_within                   the weight of the products
 use Rattle.std.proofs.Common.{◌≡◌, ℕ, zero, suc, ◌+◌, ◌*◌, ◌/◌, ◌^◌, ◌<◌, ◌≤◌, max, List, [], ◌∷◌, ◌++◌, refl, sym, ap, ap₂, ◌∙◌, subst, inl, inr, arith, ℤ, ◌+ℤ◌, ◌*ℤ◌}
 use Rattle.std.specs.Prelude.{nat_eq, nat_abs}
@@ -52,7 +52,8 @@ use lib.IntN.{+ℤ_idr}
 
 -- ---- the terms of a list, one after another
 
--- q times `sum` has gained the products of f and the terms in `done`
+-- q times the table `sum` is q times the sum of the products of f with the terms in `done`; with bounds for the coefficients and
+-- the labels
 pub record AddsList (f : ℕ → Poly) (k q : ℕ) (list done sum : Terms (List ℕ)) : Type 0 where
   pub gained : WholeTerms
   pub gains : GainsCleared (pointwise nat_eq) is_label q [] gained sum
@@ -73,7 +74,8 @@ AddsList-none f k q list = record {
 
 module _ {R : Type 0} (value : R → Fraction) (f : ℕ → Poly) (k q : ℕ) (done : List (List ℕ × R)) (list cur : Terms (List ℕ)) (label : List ℕ) (v : R)
     (h : AddsList f k q list (terms_of value done) cur) (terms : WholeTerms) (p : IsProduct f k label terms) where
-  -- each label ν is gained at most Σ|c|·q times, over the coefficients c of the terms so far and the next one
+  -- the absolute values of the coefficients gained at a label ν add up to at most Σ|c|·q, over the coefficients c of the terms so
+  -- far and the next one
   once_next : (ν : List ℕ) → mass_at (pointwise nat_eq) ν (h.gained ++ gained_times (numerator_over q (value v)) terms) ≤ mass (numerators_over q (terms_of value done)) + nat_abs (numerator_over q (value v))
   once_next ν =
       let z = numerator_over q (value v) in
@@ -133,7 +135,8 @@ module _ {R : Type 0} (value : R → Fraction) (f : ℕ → Poly) (k q : ℕ) (d
             (omega arith, omega arith)));
       }
 
-  -- if the next term returns `Large`, the sum of the absolute values of the list over q is at least 2^127
+  -- if adding v times the terms overflows, and q is less than 2^127, the sum of |c|·q over the coefficients c of the list is at
+  -- least 2^127
   pub refused_large : (rest : List (List ℕ × R)) → terms_of value (done ++ (label, v) ∷ rest) ≡ list → IsDenominator q (value v) → q < 2 ^ 127
       → OverflowsMultiple (pointwise nat_eq) (value v) terms cur → 2 ^ 127 ≤ absolute_sum q list
   refused_large rest whole d small e =
@@ -194,7 +197,7 @@ entry_term value entries is t m =
     let p = and_parts _ _ (term-among is_label value entries is.proper t m) in
     ((is_label-tells t.0 p.1).partition, lowest-is_reduced (value t.1) p.0)
 
--- the next pair p of a loop is one of all pairs
+-- p, the next pair of a loop over the list `all`, is in this list
 pub pair_here : {A : Type 0} (done rest left begun items all : List A) (p : A) → left ≡ p ∷ rest → done ++ left ≡ begun → begun ≡ items → items ≡ all → Among p all
 pair_here done rest left begun items all p steps so_far given is =
     subst (Among p) (all_pairs done rest left begun items all p steps so_far given is) (next_among done p rest)

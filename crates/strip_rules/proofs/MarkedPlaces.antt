@@ -1,6 +1,6 @@
 -- The ways to split a list, with one place of its first part marked.
---     marking            a sum over the splits with the places of b in the first part, as one over all places of ν
---     marked-equal, marked-from      over the places of a number, or of the numbers from it on, all with one value
+--     marking            a sum over the splits and the places of b in their first part, as a sum over the places of ν
+--     marked-equal, marked-from      the sum over the places of a number, or of the numbers at least it, if all have one value
 use Rattle.std.proofs.Common.{◌≡◌, ℕ, ◌+◌, ◌-◌, cond, eqb, leb, List, [], ◌∷◌, sym, ◌∙◌, ap, ap₂, refl, inl, inr, arith, ℤ, pos, ◌+ℤ◌, ◌*ℤ◌}
 use Rattle.sym_model.specs.Sum.{total, Among}
 use Rattle.sym_model.specs.Partition.{insert_part, sorted_parts}
@@ -15,12 +15,12 @@ use Rattle.monomial_laws.specs.MonomialProduct.{splits}
 use Rattle.monomial_laws.proofs.Splits.{total_splits, sorted_total}
 use lib.IntN.{+ℤ_idr, zero-*ℤ, *ℤ-zero}
 
--- a sum over the places of a list, of a function of the number there and of the list without it
+-- the sum over the places of a list of f at the number there and the list without that number
 abbrev pub marked : (ℕ → List ℕ → ℤ) → List ℕ → ℤ
 marked f [] = pos 0
 marked f (d ∷ ν) = f d ν +ℤ marked (λ (e : ℕ) (rest : List ℕ). f e (d ∷ rest)) ν
 
--- d is at a place of ν, and the others are `rest`
+-- d is a number of ν, and `rest` has the numbers of ν without one d, in any order
 pub record IsTaken (d : ℕ) (rest ν : List ℕ) : Type 0 where
   pub among : Among d ν
   pub parts : insert_part d (sorted_parts rest) ≡ sorted_parts ν

@@ -1,4 +1,5 @@
--- Placings row by row from the last one.
+-- The number of placings of μ in ν (specs/StripProduct), the ways to put the parts of μ, and zeros, in the places of ν, none
+-- greater than the number there, computed row by row from the last row on.
 --     placings-row      the number of placings with one more row in front
 use Rattle.std.proofs.Common.{◌≡◌, ℕ, suc, ◌-◌, ◌*◌, ◌<◌, ◌≤◌, cond, List, [], ◌∷◌, length, take, drop, get_or, sym, ◌∙◌, ap, ap₂, subst, arith}
 use Rattle.std.proofs.lemmas.Bool.{le-leb}
@@ -45,7 +46,7 @@ no_rows (v ∷ μ) shape h = absurd (omega arith)
 
 -- ---- partitions without their first rows
 
--- `inner` and `shape` without their first rows are partitions, and the second contains the first
+-- `inner` and `shape` have a first row; without it both are partitions, and the second contains the first
 pub record HaveRows (inner shape : List ℕ) : Type 0 where
   pub first : 1 ≤ length shape
   pub inner_below : IsPartition (take (length inner - 1) (drop 1 inner))

@@ -1,5 +1,6 @@
--- The placings of the parts of a partition (specs/StripProduct).
---     placings-next     the number of placings with one more part v, at most those before it
+-- The placings of a partition μ in ν (specs/StripProduct): the ways to put the parts of μ, and zeros, in the places of ν, none
+-- greater than the number there.
+--     placings-next     the number of placings with one more part v, which is at most the parts before it
 use Rattle.std.proofs.Common.{◌≡◌, ◌⊎◌, ℕ, suc, ◌+◌, ◌-◌, ◌*◌, ◌<◌, ◌≤◌, Bool, true, false, cond, ◌==◌, eqb, leb, List, [], ◌∷◌, ◌++◌, length, sym, ◌∙◌, ap, ap₂, subst, refl, inl, inr, arith, ℤ, pos, ◌*ℤ◌}
 use Rattle.std.proofs.lemmas.Bool.{cases_eq, le-leb, eq-eqb, ne_eqb, eqb-true, leb-true}
 use Rattle.std.proofs.lemmas.Int.{ints}
@@ -46,8 +47,8 @@ repeats-positive [] = omega arith
 repeats-positive (v ∷ μ) = mul-pos (let p : 0 < suc (times_in v μ) = omega arith in p)
     (repeats-positive μ)
 
--- the number of ways to place the parts one after another in the places of ν, each in one that is at least the part and not taken, if j places are
--- taken already
+-- the number of ways to place the parts one after another in the places of ν, each in a place whose number is at least the
+-- part and that is not taken, if j places are taken already
 abbrev pub placed : ℕ → List ℕ → List ℕ → ℕ
 placed j ν [] = 1
 placed j ν (v ∷ μ) = (count_from v ν - j) * placed (suc j) ν μ
@@ -63,7 +64,7 @@ placed-taken d j rest ν (v ∷ μ) t h =
     ap₂ ◌*◌ (let f : count_from v rest - j ≡ count_from v ν - suc j = omega arith in f)
     (placed-taken d (suc j) rest ν μ t (λ w m. h w (inr m)))
 
--- if a place x is at least each part of μ, adding x to ν and taking one more place leaves the number of ways to place μ the same
+-- if x is at least each part of μ, the number of ways to place μ remains the same if a place with the number x is added to ν and one more place is taken
 pub placed-first : (x j : ℕ) (ν μ : List ℕ) → ((w : ℕ) → Among w μ → w ≤ x) → placed (suc j) (x ∷ ν) μ ≡ placed j ν μ
 placed-first x j ν [] h = refl
 placed-first x j ν (w ∷ μ) h =
@@ -124,7 +125,8 @@ placings-placed (v ∷ μ) ν p =
     front : insert_part v μ ≡ v ∷ μ
     front = insert_part-front v μ p.positive.0 p.falls
 
-    -- if the first part of a split sorts to v ∷ μ, v occurs in it with its multiplicity in v ∷ μ
+    -- the multiplicity of v, summed over the splits whose first part sorts to v ∷ μ, is the number of these splits times 1
+    -- + the multiplicity of v in μ
     left : total (λ (s : List ℕ × List ℕ). pos (times_in v s.0) *ℤ at_only (v ∷ μ)
         (sorted_parts s.0)) (splits ν) ≡ pos (suc (times_in v μ) * placings (v ∷ μ) ν)
     left =
@@ -236,7 +238,7 @@ placings-next v μ ν p =
     grouped_again : (x y z : ℕ) → x * y * z ≡ y * z * x
     grouped_again x y z = omega arith
 
--- ---- shapes that have placings
+-- ---- shapes in which the parts of μ can be placed
 
 pub placings-hold : (μ ν : List ℕ) → IsPartition μ → IsPartition ν → 0 < placings μ ν → Holds ν μ
 placings-hold μ ν p q h =

@@ -44,7 +44,8 @@ row_sums k μ shapes p l φ =
 
 -- ---- the coefficients of a list of shapes
 
--- if `list` has each partition of d with its count, the coefficient of ν is its count if |ν| = d, and 0 otherwise
+-- in the list of all partitions of d with their counts, the coefficient of ν is its count if |ν| = d, and 0 otherwise; b
+-- says whether |ν| = d
 listed_at : (d : ℕ) (count : List ℕ → ℕ) (ν : List ℕ) → IsPartition ν → (b : Bool) → (b ≡ true → size ν ≡ d) → (b ≡ false → size ν ≡ d → ⊥)
     → coefficient (counted count (partitions_of d)) ν ≡ cond b (pos (count ν)) (pos 0)
 listed_at d count ν p b here there =
@@ -95,7 +96,7 @@ module _ (k : ℕ) (ν : List ℕ) (p : IsPartition ν) where
       (sym (total_map (λ (t : List ℕ × ℤ). t.1 *ℤ row_at t.0) (λ (t : List ℕ × ℤ). (t.0, pos (nat_abs t.1))) list)
       ∙ sym (placings-lists k (absolute list) (complete_terms k) (complete_at k) ν)) h
 
--- ---- coefficients that are too large
+-- ---- coefficients of the product with h_k that are 2^127 or more
 
 pub product-large : (k : ℕ) (list old : WholeTerms) → old ≡ [] → Overflows equal old (replaced (row_terms k) list)
     → (ν : List ℕ) × IsPartition ν × (pos (2 ^ 127) ≤ℤ product_coefficient (absolute list) (complete_terms k) ν)

@@ -1,5 +1,5 @@
 -- A product as the list of some shapes, each once with its coefficient.
---     coefficient-shapes     the coefficients of such a list, if it has all shapes whose coefficient is not 0
+--     coefficient-shapes     the coefficients of this list, if it has all shapes whose coefficient is not 0
 --     column-shapes          m_μ·e_k over the vertical strips
 --     row-shapes             m_μ·h_k over the partitions that contain μ
 use Rattle.std.proofs.Common.{◌≡◌, ◌⊎◌, ℕ, ◌+◌, ◌<◌, ◌≤◌, Bool, cond, List, map, refl, ap, ◌∙◌, subst, inl, inr, arith, ℤ, pos}

@@ -1,6 +1,6 @@
 -- The shapes that arise from a partition by adding strips and rim hooks of k cells.
---     horizontal_list, vertical_list, hook_list    each list has exactly these shapes, each once
---     rows_around, shape_limits                    they have k more cells, and at most k more rows
+--     horizontal_list, vertical_list, hook_list    each list has the shapes made by adding a strip or a rim hook, each once
+--     rows_around, shape_limits                    a shape with k more cells has at most k more rows
 --     height_positive                              the height of a rim hook is at least 1
 --     among_next, next_on, so_far_on               the position of a loop in the list of shapes
 use Rattle.std.proofs.Common.{◌≡◌, ℕ, suc, ◌+◌, ◌≤◌, List, [], ◌∷◌, ◌++◌, append_assoc, get_or, refl, sym, ap, ◌∙◌, subst, inl, arith}
@@ -28,13 +28,13 @@ vertical_list k parts list h = record { once = Once-FallsLexicographically list 
 pub hook_list : (k : ℕ) (parts : List ℕ) (list : List (List ℕ)) → AreHooksAdded parts k list → ListsEach (AddsRimHook k parts) list
 hook_list k parts list h = record { once = Once-FallsLexicographically list h.falls; members = h.members }
 
--- a partition that contains another one, with k cells more
+-- `outer` is a partition that contains `inner` and has k cells more
 pub record IsAround (k : ℕ) (inner outer : List ℕ) : Type 0 where
   pub partition : IsPartition outer
   pub cells : size outer ≡ size inner + k
   pub holds : Holds outer inner
 
--- if outer contains inner, the number of rows it has more is at most the number of cells it has more
+-- if outer contains inner, the number of rows added is at most the number of cells added
 rows_grow : (inner outer : List ℕ) → ArePositive inner → ArePositive outer → ((j : ℕ) → get_or inner j 0 ≤ get_or outer j 0) → rows outer + size inner ≤ rows inner + size outer
 rows_grow [] [] p q h = omega arith
 rows_grow [] (b ∷ outer) p q h = let r = rows_grow [] outer tt q.1 (λ j. omega arith) in let s = q.0 in omega arith
@@ -70,12 +70,12 @@ height_positive k parts list p h ν m =
     let o = r.2.ordered in
     omega arith
 
--- ---- the shapes of a lister, one after another
+-- ---- the shapes that a lister (an iterator over shapes) returns, one after another
 
 pub among_next : (done rest all : List (List ℕ)) (k : List ℕ) → done ++ k ∷ rest ≡ all → Among k all
 among_next done rest all k e = subst (Among k) e (Among-append_right k done (k ∷ rest) (inl refl))
 
--- if the lister returns k next, k follows the shapes listed so far and comes before those still to come
+-- if a lister (an iterator over shapes) returns k next, k follows the shapes listed so far and comes before those still to come
 pub next_on : (done old new all : List (List ℕ)) (item : Option (List ℕ)) (k : List ℕ) → done ++ old ≡ all → old ≡ option_to_list item ++ new → item ≡ Some k → done ++ k ∷ new ≡ all
 next_on done old new all item k so_far next current = ap (λ xs. done ++ xs) (ap (λ o. option_to_list o ++ new) (sym current) ∙ sym next) ∙ so_far
 

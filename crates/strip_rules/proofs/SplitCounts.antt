@@ -1,8 +1,8 @@
--- The numbers of both parts of a split together, and the first part compared with the whole.
---     counts-splits     the first part has at most as many numbers from k on
---     counts-near       if the second part has only 0 and 1, the whole has at most as many numbers from k + 1 on as the
---                       first part has from k on
---     some_split        a count that is not 0 is of some split
+-- The two parts of a split of a list, which add up to it place by place, compared with the list by the numbers at least k.
+--     counts-splits     the first part has at most as many numbers that are at least k as the whole
+--     counts-near       if the second part has only 0 and 1, the whole has at most as many numbers that are at least k + 1
+--                       as the first part has that are at least k
+--     some_split        if the number of splits that pass a test is not 0, some split passes it
 use Rattle.std.proofs.Common.{◌≡◌, ◌⊎◌, ℕ, zero, suc, ◌+◌, ◌-◌, ◌<◌, ◌≤◌, Bool, true, false, cond, leb, List, [], ◌∷◌, map, length, refl, sym, ap, ◌∙◌, subst, inl, inr, arith, filter}
 use Rattle.std.proofs.lemmas.Bool.{cases_lt, le-leb, lt-leb}
 use Rattle.sym_model.specs.Sum.{Among}
@@ -18,7 +18,7 @@ use Rattle.sym_model.proofs.Numbers.{nat_le-suc}
 use Rattle.strip_laws.proofs.Strips.{vertical_from_rows}
 use Rattle.sym_model.proofs.Parts.{positive_within}
 
--- s is a split of c ∷ ν: its first numbers are `first` ≤ c and c - first, and the others are a split of ν
+-- s is a split of c ∷ ν: its first numbers are `first` ≤ c and c - first, and the numbers after them are a split of ν
 pub record IsSplitOf (c : ℕ) (ν : List ℕ) (s : List ℕ × List ℕ) : Type 0 where
   pub first : ℕ
   pub rest : List ℕ × List ℕ

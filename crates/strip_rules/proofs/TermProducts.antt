@@ -2,7 +2,7 @@
 --     strips_value, hooks_value                 the sum over the shapes of a term is its product
 --     horizontal_product, vertical_, hooks_     the shapes of a term with their signs are its product
 --     list_value                                a list of products is the product of the list
---     expansion                                 a list with the sums of a polynomial is its expansion
+--     expansion                                 a list expands f if its pairings with test functions are those of f
 use Rattle.std.proofs.Common.{◌≡◌, ℕ, suc, ◌+◌, ◌-◌, ◌*◌, ◌^◌, ◌≤◌, Bool, true, false, cond, List, [], ◌∷◌, length, refl, sym, ap, ap₂, ◌∙◌, subst, inl, inr, arith, ℤ, pos, ◌+ℤ◌, ◌*ℤ◌, flat_map}
 use Rattle.std.specs.Prelude.{nat_eq, nat_abs}
 use Rattle.std.specs.Int.{◌∣◌}
@@ -39,7 +39,7 @@ use Rattle.sym_model.proofs.Integers.{sign_size}
 use Rattle.linear_combinations.specs.Gains.{each_by}
 use native.Mathlib.Nat.{pow-suc, pow-zero}
 
--- ---- the product of one term
+-- ---- the product of one Schur polynomial and h_k, e_k or p_k
 
 pub strips_value : (f : Poly) (n : ℕ) (parts : List ℕ) (list : List (List ℕ)) (φ : List ℕ → ℤ) → Same (times f (schur parts n)) (flat_map (λ ν. schur ν n) list)
     → total (λ ν. pos 1 *ℤ pair (schur ν n) φ) list ≡ pair (times f (schur parts n)) φ
@@ -56,7 +56,7 @@ hooks_value k n parts list φ h p l =
     ∙ sym (pair_each (λ (ν : List ℕ). scale (sign ν) (schur ν n)) list φ)
     ∙ sym (pair_determined (times (power_sum_of k n) (schur parts n)) (flat_map (λ (ν : List ℕ). scale (sign ν) (schur ν n)) list) φ (rim_hooks n k parts list h p l))
 
--- at most (size + k)^k shapes come from adding a rim hook of k cells
+-- at most (size + k)^k partitions come from adding a rim hook of k cells to a partition of this size
 hook_count : (k : ℕ) (parts : List ℕ) (list : List (List ℕ)) → 1 ≤ k → IsPartition parts → ListsEach (AddsRimHook k parts) list → length list ≤ (size parts + k) ^ k
 hook_count k parts list h p l =
     let c = hooks_within k parts list p l in
@@ -95,7 +95,8 @@ module _ (sign : List ℕ → ℤ) (unit : (ν : List ℕ) → nat_abs (sign ν)
           omega arith
       by false e r = omega arith
 
-  -- if shapes with signs have the sums of f·s_label, they are the product of f and s_label
+  -- if the shapes are different partitions, at most (size + k)^k in number, that contain the label and have k more cells, and with
+  -- their signs have the sum f·s_label in every number of variables, they are the product of f and s_label
   signs_product : (f : ℕ → Poly) (k : ℕ) (label : List ℕ) (shapes : List (List ℕ)) → IsPartition label
       → ((n : ℕ) (φ : List ℕ → ℤ) → total (λ ν. sign ν *ℤ pair (schur ν n) φ) shapes ≡ pair (times (f n) (schur label n)) φ)
       → length shapes ≤ (size label + k) ^ k → Once shapes → ((ν : List ℕ) → Among ν shapes → IsAround k label ν)
@@ -157,7 +158,7 @@ list_value f n terms φ =
     pair_factor t.1 f (λ α. pair (schur t.0 n) (λ β. φ (join α β)))
     ∙ ap (λ z. t.1 *ℤ z) (sym (pair_times f (schur t.0 n) φ))) list)
 
--- ---- expansions by the sums of a list
+-- ---- a list of terms expands f if its pairings with test functions are those of f
 
 pub expansion : (terms : Terms (List ℕ)) (d n : ℕ) (f : Poly) → IsFractionTable terms → ((t : List ℕ × Fraction) → Among t terms → t.1.1 ∣ d)
     → ((φ : List ℕ → ℤ) → pair (over d terms) (λ ν. pair (schur ν n) φ) ≡ pair f φ) → IsExpansionOf Basis.schurs terms n f d

@@ -67,7 +67,7 @@ module _ {R : Type 0} (value : R → Fraction) (zero : R) (none : value zero ≡
       Gains-entry value zero none q entries k v was d.positive (signed_divides q d) cleared sum
       sums after low also more (numerator_over q c *ℤ s) (is.value q)
 
-  -- a sum is refused only if it is too large
+  -- if adding v to the coefficient of k is refused, adding c times the sign s at k overflows
   pub Overflows-signed : (is_held : R → Type 0) (checked : R → R → Option R)
       → ((a b : R) → is_held a → is_held b → AnswersSum value a b (checked a b))
       → Entries.IsRefused is_held checked (Entries.coefficient (pointwise nat_eq) zero entries k) v

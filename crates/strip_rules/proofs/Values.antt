@@ -1,4 +1,4 @@
--- If the coefficients of a list in m are those of a product with e_k or h_k, so is its polynomial.
+-- A list in m with the coefficients of a product with e_k or h_k has the polynomial of this product.
 use Rattle.std.proofs.Common.{◌≡◌, ℕ, List}
 use Rattle.sym_model.specs.Bases.{elementary_of, complete_of}
 use Rattle.sym_model.specs.Partition.{IsPartition}

@@ -1,4 +1,4 @@
--- The lists of terms that are added for one term of a list in s: shapes with their signs, whose sum is a product.
+-- The terms that are added for one term of an expansion in s: shapes with their signs, whose sum is a product.
 use Rattle.std.specs.Prelude.{◌≡◌, ℕ, ◌+◌, ◌^◌, ◌≤◌, ℤ, ◌*ℤ◌, nat_eq, List}
 use Rattle.std.specs.Cmp.Lexicographic.{pointwise}
 use Rattle.sym_model.specs.Partition.{size, rows}
@@ -9,7 +9,7 @@ use Rattle.sym_model.specs.WholeTerms.{WholeTerms}
 use Rattle.coeff_rings.specs.Fractions.{scaled as numerator_over}
 use Rattle.linear_combinations.specs.Gains.{over, mass, mass_at, HaveLabels}
 
--- VALUE: the second list in s is the first one times f, in every number of variables
+-- the second list in s is the first one times f, in every number of variables
 abbrev pub IsTimes : (ℕ → Poly) → Terms (List ℕ) → Terms (List ℕ) → Type 0
 IsTimes f list product =
     (n : ℕ) → IsExpansionOf schurs product n (times (f n) (value schurs list n)) (denominators list)
@@ -19,8 +19,9 @@ pub record IsSigned (c : Fraction) (sign : ℤ) (d : Fraction) : Type 0 where
   pub denominator : d.1 ≡ c.1
   pub value : (q : ℕ) → numerator_over q d ≡ numerator_over q c *ℤ sign
 
--- the terms are the product of f, a polynomial of degree k, and s_label:
--- each label at most once, with 1 or -1
+-- the terms are the product of f, a polynomial of degree k, and s_label in Schur polynomials: the absolute values of
+-- the coefficients add up to at most 1 at each label, and to at most (|label| + k)^k in all; each label has at most
+-- k cells and k rows more than `label`
 pub record IsProduct (f : ℕ → Poly) (k : ℕ) (label : List ℕ) (terms : WholeTerms) : Type 0 where
   pub value : (n : ℕ) (φ : List ℕ → ℤ)
       → over (λ ν. pair (schur ν n) φ) terms ≡ pair (times (f n) (schur label n)) φ

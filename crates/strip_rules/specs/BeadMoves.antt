@@ -1,50 +1,35 @@
--- Strips added to a partition, as moves of the beads of its beta set: there is a bead at each beta
--- number, and it moves to greater ones (James and Kerber, 2.7; the conditions on the moves are
--- those on the rows of a strip, Macdonald, I.1). By the lemma `strip_moves` the partitions of these
--- lists are exactly those that a strip makes, each once.
-use Rattle.std.specs.Prelude.{◌≡◌, ℕ, ◌+◌, ◌-◌, ◌^◌, ◌<◌, ◌≤◌, ◌==◌, min, max, cond, List, [], ◌∷◌, map}
-use Rattle.std.specs.Prelude.{flat_map, length}
-use Rattle.std.specs.List.{range_with_len}
-use Rattle.sym_model.specs.Partition.{size}
-use Rattle.beta_sets.specs.BetaSets.{numbers, shape}
+-- Strips added to a partition cell by cell, as moves of the beads of its beta set: there is a bead at each beta number,
+-- and a cell is added by moving a bead up by one place, to a place without a bead (James and Kerber, 2.7). The cells of a
+-- horizontal strip are added from left to right, by moves from places that increase; those of a vertical strip from top to
+-- bottom, by moves from places that decrease. By the lemma `strip_cells` the sets are exactly those that a strip makes,
+-- each once.
+use Rattle.std.specs.Prelude.{ℕ, zero, suc, ◌+◌, ◌^◌, List, [], ◌∷◌, flat_map}
+use Rattle.beta_sets.specs.BetaSets.{numbers, free, from_place, below_place}
 use Rattle.strip_rules.specs.declared.bead_strips.Strip.{Strip}
 use Rattle.strip_rules.specs.declared.bead_strips.Strip.TheVariants.{Horizontal, Vertical}
 
--- the set with these numbers
-unfoldable pub set_of : List ℕ → ℕ
-set_of [] = 0
-set_of (b ∷ beads) = 2 ^ b + set_of beads
+-- the bound for the place of the first bead that moves: the place is at least the bound (horizontal) or below it (vertical)
+abbrev pub first_bound : Strip → ℕ
+first_bound Horizontal = 0
+first_bound Vertical = 63
 
--- the greatest number of places that one bead may move up if all together are to move up by `left`
-abbrev pub reach : Strip → ℕ → ℕ
-reach Horizontal left = left
-reach Vertical left = min left 1
+-- the bound for the place of the next bead, after one moved from place b
+abbrev pub next_bound : Strip → ℕ → ℕ
+next_bound Horizontal b = b + 1
+next_bound Vertical b = b
 
--- The limit of the next bead, which stays below it, after a bead moved from `old` to `new`. In a
--- horizontal strip it is the old place, so that no two new cells are in a column.
-abbrev pub barrier : Strip → ℕ → ℕ → ℕ
-barrier Horizontal old new = old
-barrier Vertical old new = new
+-- the beads that may move next: those with no bead at the next place, from the bound on (horizontal) or below it (vertical)
+abbrev pub next_places : Strip → ℕ → List ℕ → List ℕ
+next_places Horizontal bound beads = from_place bound (free 1 beads)
+next_places Vertical bound beads = below_place bound (free 1 beads)
 
--- The lists made from a decreasing list of beads by moving them up by `left` places together, the
--- first one to a place below `limit`. The least place of the first bead leaves out only lists whose
--- other beads could not move by the rest.
-abbrev pub moves : Strip → ℕ → ℕ → List ℕ → List (List ℕ)
-moves strip limit left [] = cond (left == 0) ([] ∷ []) []
-moves strip limit left (b ∷ beads) =
-    let lowest = max b (length beads + reach strip left) in
-    let end = min limit (b + reach strip left + 1) in
-    cond (left == 0) ((b ∷ beads) ∷ [])
-    (flat_map (λ c. map (λ others. c ∷ others)
-    (moves strip (barrier strip b c) (left + b - c) beads))
-    (range_with_len lowest (end - lowest)))
+-- the sets made from a set by adding k cells one after another, the first one by a bead within the bound
+abbrev pub with_cells : Strip → ℕ → ℕ → ℕ → List ℕ
+with_cells strip zero bound set = set ∷ []
+with_cells strip (suc k) bound set =
+    flat_map (λ b. with_cells strip k (next_bound strip b) (set + 2 ^ b))
+    (next_places strip bound (numbers set))
 
 -- the sets made from a set by adding a strip of k cells
 abbrev pub strips : Strip → ℕ → ℕ → List ℕ
-strips strip k set = map set_of (moves strip 64 k (numbers set))
-
--- `set` is below 2^64 and has n numbers, and its partition has at most d cells
-pub record IsInRows (n d set : ℕ) : Type 0 where
-  pub word : set < 2 ^ 64
-  pub rows : length (numbers set) ≡ n
-  pub cells : size (shape set) ≤ d
+strips strip k set = with_cells strip k (first_bound strip) set

@@ -5,3 +5,4 @@ pub mod Room
 pub mod Adding
 pub mod BeadMoves
 pub mod FamilyShapes
+pub mod HookMoves

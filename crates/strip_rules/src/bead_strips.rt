@@ -1,8 +1,8 @@
-//! Adds strips to partitions by moving the beads of beta sets.
-ghost use Rattle.std.specs.Prelude.{◌≡◌, ◌+◌, ◌^◌, ◌<◌, ◌≤◌, pos, nat_eq, map, OnOk, IsErrOf};
+//! Adds strips to partitions, cell by cell, by moving the beads of beta sets.
+ghost use Rattle.std.specs.Prelude.{◌≡◌, ◌-◌, ◌^◌, ◌<◌, ◌≤◌, pos, nat_eq, OnOk, IsErrOf};
 ghost use Rattle.linear_combinations.specs.Gains.{Gains, Overflows, each_by, scaled};
 ghost use Rattle.beta_sets.specs.BetaSets.{numbers};
-ghost use Rattle.strip_rules.specs.BeadMoves.{barrier, moves, reach, set_of};
+ghost use Rattle.strip_rules.specs.BeadMoves.{first_bound, next_bound, next_places, with_cells};
 
 use beta_sets::{BetaSet, Shapes};
 use calc_base::SumFault;
@@ -17,65 +17,70 @@ pub(crate) enum Strip {
 }
 
 impl Strip {
-    /// The greatest number of places that one bead may move up if all beads together are to move up
-    /// by `left` places.
-    fn reach(self, left: u16) -> u16
-        ensures { result ≡ reach self left }
+    /// The bound for the place of the first bead that moves: in a horizontal strip the place is at
+    /// least the bound, in a vertical strip it is below the bound.
+    fn first_bound(self) -> u16
+        ensures { result ≡ first_bound self }
     {
         match self {
-            Strip::Horizontal => left,
-            Strip::Vertical => left.min(1),
+            Strip::Horizontal => 0,
+            Strip::Vertical => 63,
         }
     }
 
-    /// The limit of the next bead, which stays below it, after a bead moved from `old` to `new`:
-    /// the old place in a horizontal strip, the new one in a vertical strip.
-    fn barrier(self, old: u16, new: u16) -> u16
-        ensures { result ≡ barrier self old new }
+    /// The bound for the place of the next bead, after one moved from `place`: the places increase
+    /// in a horizontal strip and decrease in a vertical strip.
+    fn next_bound(self, place: u16) -> u16
+        requires { place < 63 }
+        ensures { result ≡ next_bound self place }
     {
         match self {
-            Strip::Horizontal => old,
-            Strip::Vertical => new,
+            Strip::Horizontal => place + 1,
+            Strip::Vertical => place,
+        }
+    }
+
+    /// The beads that may move next: those with no bead at the next place, from `bound` on in a
+    /// horizontal strip and below it in a vertical one.
+    fn next_places(self, set: BetaSet, bound: u16) -> BetaSet
+        requires { bound < 64 }
+        ensures { numbers result ≡ next_places self bound (numbers set) }
+    {
+        match self {
+            Strip::Horizontal => set.free(1).from(bound),
+            Strip::Vertical => set.free(1).below(bound),
         }
     }
 }
 
-/// Moves the beads up by `left` places together, in all ways that the strip allows, with the
-/// highest bead below `limit`. It adds `c` at the union of each set made so and `moved`, the beads
-/// moved before. Returns `Large` only if, at some set, the absolute values of the old coefficient
-/// and of the gains add up to 2^127 or more.
-fn add_strips(
+/// Adds `c` to `sum` at each set that is made from `set` by adding `left` cells one after another,
+/// as the strip allows; the first cell comes from a bead within `bound`. Returns `Large` only if,
+/// at some set, the absolute values of the old coefficient and of the gains add up to 2^127 or
+/// more.
+fn add_cells(
     sum: &mut Shapes,
     strip: Strip,
-    moved: BetaSet,
-    beads: BetaSet,
-    limit: u16,
+    set: BetaSet,
+    bound: u16,
     left: u16,
     c: Int,
 ) -> Result<(), SumFault>
     requires few { left ≤ 20 }
-    requires below { (limit ≤ 64) × (beads < 2 ^ limit) }
-    requires room { moved + 2 ^ limit ≤ 2 ^ 64 }
+    requires bound { bound < 64 }
+    requires low { set < 2 ^ (63 - left) }
     ensures gains { OnOk result (Gains sum.old (scaled c (each_by (λ _. pos 1)
-        (map (λ list. moved + set_of list) (moves strip limit left (numbers beads))))) sum.new) }
-    ensures large { IsErrOf result SumFault.Large
-        → Overflows nat_eq sum.old (scaled c (each_by (λ _. pos 1)
-        (map (λ list. moved + set_of list) (moves strip limit left (numbers beads))))) }
+        (with_cells strip left bound set))) sum.new) }
+    ensures large { IsErrOf result SumFault.Large → Overflows nat_eq sum.old
+        (scaled c (each_by (λ _. pos 1) (with_cells strip left bound set))) }
 {
     if left == 0 {
-        return sum.add_owned(moved.joined(beads), c);
+        return sum.add_owned(set, c);
     }
-    let Some(bead) = beads.greatest() else {
-        return Ok(());
-    };
-    let others = beads.without(bead);
-    let reach = strip.reach(left);
-    let lowest = bead.max(others.len() as u16 + reach);
-    let end = limit.min(bead + reach + 1);
-    for place in lowest..end {
-        let with = moved.joined(BetaSet::single(place));
-        let next = strip.barrier(bead, place);
-        add_strips(sum, strip, with, others, next, left + bead - place, c)?;
+    let mut places = strip.next_places(set, bound);
+    while let Some(place) = places.greatest() {
+        places = places.without(place);
+        let next = strip.next_bound(place);
+        add_cells(sum, strip, set.raised_at(place), next, left - 1, c)?;
     }
     Ok(())
 }
@@ -90,13 +95,21 @@ pub(crate) struct StripAdded {
 impl Rule<BetaSet, BetaSet> for StripAdded {
     ghost use Rattle.std.specs.Prelude.{pos, ◌-◌, ◌≤◌};
     ghost use Rattle.linear_combinations.specs.Gains.{each_by};
-    ghost use Rattle.strip_rules.specs.BeadMoves.{strips, IsInRows};
+    ghost use Rattle.beta_sets.specs.BetaSets.{IsInRows};
+    ghost use Rattle.strip_rules.specs.BeadMoves.{strips};
 
     ghost takes = { λ rule set. (rule.cells ≤ 20) × IsInRows 20 (20 - rule.cells) set };
 
     ghost image = { λ rule set. each_by (λ _. pos 1) (strips rule.strip rule.cells set) };
 
     fn add_image(&self, label: &BetaSet, c: Int, sum: &mut Shapes) -> Result<(), SumFault> {
-        add_strips(sum, self.strip, BetaSet::empty(), *label, 64, self.cells, c)
+        add_cells(
+            sum,
+            self.strip,
+            *label,
+            self.strip.first_bound(),
+            self.cells,
+            c,
+        )
     }
 }

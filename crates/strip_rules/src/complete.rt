@@ -56,8 +56,8 @@ fn placings(inner: &[u16], shape: &[u16]) -> Option<u128>
     times_quotient(later, rows_from(shape, *v), rows_from(inner, *v))
 }
 
-/// The product of a number and the number of placings of `inner` in `shape`. Returns an error if
-/// and only if its absolute value is 2^127 or more.
+/// The product of a number and the number that `placings` gives for `inner` and `shape`. Returns an
+/// error only if its absolute value is 2^127 or more.
 fn times_placings(c: Int, inner: &[u16], shape: &[u16]) -> Result<Int, Large>
     requires inner { IsPartition inner.now }
     requires shape { IsPartition shape.now }
@@ -72,8 +72,8 @@ fn times_placings(c: Int, inner: &[u16], shape: &[u16]) -> Result<Int, Large>
     times_count(c, placings(inner, shape))
 }
 
-/// Adds, at each of some shapes that contain a partition, `c` times the number of placings of the
-/// partition in the shape.
+/// Adds, at each of the shapes, which contain the partition `label`, `c` times the number that
+/// `placings` gives for `label` and the shape.
 fn add_placings(
     label: &Partition,
     shapes: &[Partition],
@@ -104,7 +104,8 @@ fn first_and_below(rows: &[u16]) -> (u16, &[u16])
     }
 }
 
-/// Adds the shape of the rows of `above` followed by those of `inner`. `above` is unchanged.
+/// Appends to `shapes` the partition that has the rows of `above` followed by those of `inner`.
+/// `above` is unchanged.
 fn add_shape(
     alloc: Global,
     inner: &[u16],
@@ -123,8 +124,9 @@ fn add_shape(
     Ok(())
 }
 
-/// Adds the shapes that begin with the rows of `above` and continue with a partition that contains
-/// `inner`, has `left` cells more and no row longer than `most`. `above` is unchanged at the end.
+/// Appends to `shapes` the partitions that begin with the rows of `above` and continue with a
+/// partition that contains `inner`, has `left` cells more and no row longer than `most`. `above` is
+/// unchanged at the end.
 fn add_shapes(
     alloc: Global,
     most: u16,
@@ -169,7 +171,8 @@ fn with_cells(alloc: Global, inner: &Partition, k: u16) -> Result<Vec<Partition>
 }
 
 /// The rule that multiplies by h_k: m_μ·h_k is the sum of the m_ν over the partitions ν with k more
-/// cells than μ, each times the number of placings of the parts of μ in the rows of ν.
+/// cells than μ, each times the number of ways to place the parts of μ, and zeros, in the rows of
+/// ν, no part longer than its row.
 #[derive(Drop)]
 struct TimesComplete {
     alloc: Global,

@@ -26,8 +26,8 @@ fn coefficient_of(count: u128) -> Option<Int>
     Some(Int::new(i128::try_from(count).ok()?))
 }
 
-/// The product of a number other than 0 and a count, which is `None` if it is 2^128 or more.
-/// Returns an error if and only if the absolute value of the product is 2^127 or more.
+/// The product of a number other than 0 and a count; `count` is `None` if the count is 2^128 or
+/// more. Returns an error only if the absolute value of the product is 2^127 or more.
 pub(crate) fn times_count(c: Int, count: Option<u128>) -> Result<Int, Large>
     requires { c ≢ pos 0 }
     ensures { (n : ℕ) → MatchOption count (2 ^ 128 ≤ n) (λ m. m ≡ n)

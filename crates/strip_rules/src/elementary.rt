@@ -1,11 +1,13 @@
 //! A list in m times e_k.
-ghost use Rattle.std.specs.Prelude.{◌≡◌, ℕ, ◌+◌, ◌^◌, ◌≤◌, [], ◌∷◌, get_or};
-ghost use Rattle.std.specs.Prelude.{MatchOption, IfOk, OnOk, IsErrOf};
+ghost use Rattle.std.specs.Prelude.{◌≡◌, ℕ, ◌+◌, ◌^◌, ◌≤◌, ◌*ℤ◌, pos, [], ◌∷◌, get_or};
+ghost use Rattle.std.specs.Prelude.{FitsSigned, MatchOption, IfOk, OnOk, IsErrOf};
+ghost use Rattle.std.specs.Int.{w128};
 ghost use Rattle.sym_model.specs.Bases.{elementary_of};
 ghost use Rattle.sym_model.specs.Partition.{size};
 ghost use Rattle.sym_model.specs.Polynomial.{Same, times};
 ghost use Rattle.sym_model.specs.Strip.{IsVerticalStrip};
 ghost use Rattle.monomial_laws.specs.ExpressionTerms.{elementary_terms, in_monomials};
+ghost use Rattle.linear_combinations.specs.Entries.{coefficient, IsRefused};
 ghost use Rattle.linear_combinations.specs.Gains.{Gains, Overflows, counted, scaled, HaveLabels};
 ghost use Rattle.sparse_polys.specs.Large.{ProductIsLarge};
 ghost use Rattle.sparse_polys.specs.Tables.{equal, IsWholeTable};
@@ -38,8 +40,8 @@ fn coefficient_at(inner: &Partition, outer: &Partition) -> Option<u128>
     let shorter = inner.parts();
     let rows = outer.parts();
     let mut count: u128 = 1;
-    // The number of rows so far of the same length as the next one, and of those among them with a
-    // new cell.
+    // `run` is the number of rows so far that are as long as the next one, and `longer` is the
+    // number of these that have a new cell.
     let mut run = 0;
     let mut longer = 0;
     for at in 0..rows.len() {
@@ -58,13 +60,17 @@ fn coefficient_at(inner: &Partition, outer: &Partition) -> Option<u128>
 }
 
 /// Adds `c` times the coefficient of m_ν in m_μ·e_k at the shape ν, for the label μ; ν/μ is a
-/// vertical strip.
+/// vertical strip. If the sum at ν is too large, this returns `Large` even if memory runs out, too.
 fn add_shape(label: &Partition, shape: &Partition, c: Int, sum: &mut Whole) -> Result<(), SumFault>
     requires { IsVerticalStrip shape.now label.now }
     ensures gains { OnOk result ((k : ℕ) → size shape.now ≡ size label.now + k
         → Gains sum.old (scaled c (counted (column_count k label.now) (shape.now ∷ []))) sum.new) }
     ensures large { IsErrOf result SumFault.Large → (k : ℕ) → size shape.now ≡ size label.now + k
         → Overflows equal sum.old (scaled c (counted (column_count k label.now) (shape.now ∷ []))) }
+    ensures refused { (k : ℕ) → size shape.now ≡ size label.now + k
+        → IsRefused (FitsSigned w128) ⟦<Int as Scalar>⟧.checked_sum
+        (coefficient equal (pos 0) sum.old shape.now)
+        (c *ℤ pos (column_count k label.now shape.now)) → IsErrOf result SumFault.Large }
 {
     if c.is_zero() {
         return Ok(());
@@ -98,8 +104,8 @@ impl Rule<Partition, Partition> for TimesElementary {
     }
 }
 
-/// The product of a list in m and e_k, in every number of variables. Each label has room for k more
-/// cells and k more rows.
+/// The product of a list in m and e_k, in every number of variables. Each label has at most 4,096 -
+/// k cells and at most 512 - k rows.
 ///
 /// Returns `Large` only if some coefficient of the product of e_k and the list with absolute values
 /// as coefficients is 2^127 or more.

@@ -1,21 +1,20 @@
 //! Expansions times h_k, e_k and p_k: those in s by Pieri's two rules and the rule of Murnaghan and
-//! Nakayama, those in m by what a strip, or a cell more in some rows, makes of a label.
+//! Nakayama, those in m by adding strips to a label, or cells to some of its rows.
 //!
-//! A linear map that is given on labels takes four steps; here those of e_k.
+//! A linear map that is given by its values on labels takes four steps; here are those of e_k.
 //!
-//! 1. A definition (`specs/`): the list of labels with whole numbers that one label stands for.
-//! Here it is the list of the partitions of k cells more, each with its coefficient, which is a
+//! 1. A definition (`specs/`): the image of one label, a list of labels with integer coefficients.
+//! Here it is the list of the partitions with k cells more, each with its coefficient, which is a
 //! count (`counted`).
 //! 2. A type with `impl Rule`: `takes` says which labels it takes, `image` is that list, and
-//! `add_image` adds c times it to a table by the adders of `Lin`. Each adder says by `Gains` what
-//! the table has gained, and by `Overflows` when it refuses.
+//! `add_image` adds c times it to a table by the methods of `Lin` that add terms. Each of these
+//! says by `Gains` what the table has gained, and by `Overflows` when it returns `Large`.
 //! 3. The law of one label, here `column_product_law`, the product with a column.
 //! 4. The map of a list: an empty table and `add_by`, which adds the image of each term. The value
 //! of the result follows from the sums of `Gains` and from the law.
 //!
-//! The proofs need no lemma about lists and tables of their own: those on loops over a list are in
-//! `linear_combinations/proofs/Gains` (`places_gain`), those on labels with counts and on images
-//! under a rule in `Counted` there.
+//! The lemmas about loops over a list are in `linear_combinations/proofs/Gains` (`places_gain`);
+//! those about labels with counts, and about images under a rule, are in `Counted` there.
 //!
 //! A law function takes no argument, returns nothing and does nothing at run time: its contract is
 //! the law.
@@ -23,13 +22,15 @@
 //! What is proved:
 //!
 //! `add_row`, `add_column`, `add_hook`: the product with h_k, e_k and p_k in every number of
-//! variables, by Pieri's two rules and the rule of Murnaghan and Nakayama. The weight of the list
-//! grows by a factor of at most (m + k)^k, and `Large` is returned only if the weight of the list
-//! is 2^127 or more. `times_family` is the call of the three that a family names.
+//! variables, by Pieri's two rules and the rule of Murnaghan and Nakayama. The weight of a list is
+//! max(1, D·A)·D, with D its least common denominator and A the sum of the absolute values of its
+//! coefficients. It grows by a factor of at most (m + k)^k, for the greatest size m of a label, and
+//! `Large` is returned only if the weight of the list is 2^127 or more. `times_family` is one of
+//! the three calls, chosen by a family.
 //!
-//! `rows_product`, `columns_product`: the products of h_k and of e_k over the parts k of a partition
-//! of at most 20 cells, in s, in every number of variables: strips are moves of beads on beta sets,
-//! each a machine word.
+//! `rows_product`, `columns_product`, `hooks_product`: the products of h_k, of e_k and of p_k over
+//! the parts k of a partition of at most 20 cells, in s, in every number of variables: cells and rim
+//! hooks are added by moves of beads on beta sets, each a machine word. They never return `Large`.
 //!
 //! `times_elementary`, `times_complete`: the coefficients of the product with e_k and with h_k;
 //! `Large` is returned only if, with the absolute values of the coefficients, some coefficient of
@@ -39,6 +40,7 @@
 //! coefficients of m_μ·h_k, part by part.
 #![tactic(auto)]
 
+mod bead_hooks;
 mod bead_strips;
 mod columns;
 mod complete;
@@ -52,6 +54,6 @@ mod shapes;
 pub use columns::column_product_law;
 pub use complete::times_complete;
 pub use elementary::times_elementary;
-pub use family_products::{columns_product, rows_product};
+pub use family_products::{columns_product, hooks_product, rows_product};
 pub use products::{add_column, add_hook, add_row, times_family};
 pub use rows::row_product_law;

@@ -55,9 +55,14 @@ fn add_strips<R: Ring>(
     }
 }
 
-/// The product of an expansion in s and e_k, h_k or p_k, in every number of variables:
-/// `add_column`, `add_row` or `add_hook`, with their conditions, sizes, weight and refusal. For
-/// p_k, k is at least 1.
+/// The product of an expansion in s and e_k, h_k or p_k, by the family, in every number of
+/// variables. Each label has at most 4,096 - k cells and at most 512 - k rows; for p_k, k is at
+/// least 1.
+///
+/// The labels of the product have at most k cells and k rows more. If m is the greatest size of a
+/// label, 0 for the empty list, its weight is at most that of the list times (m + k)^k. The weight
+/// of a list is max(1, D·A)·D, with D its least common denominator and A the sum of the absolute
+/// values of its coefficients. Returns `Large` only if the weight of the list is 2^127 or more.
 pub fn times_family<R: Ring>(
     alloc: Global,
     list: &Lin<Partition, R>,
@@ -88,8 +93,9 @@ pub fn times_family<R: Ring>(
 /// label has at most 4,096 - k cells and at most 512 - k rows.
 ///
 /// The labels of the product have at most k cells and k rows more. If m is the greatest size of a
-/// label, 0 for the empty list, its weight is at most that of the list times (m + k)^k. Returns
-/// `Large` only if the weight of the list is 2^127 or more.
+/// label, 0 for the empty list, its weight is at most that of the list times (m + k)^k. The weight
+/// of a list is max(1, D·A)·D, with D its least common denominator and A the sum of the absolute
+/// values of its coefficients. Returns `Large` only if the weight of the list is 2^127 or more.
 pub fn add_row<R: Ring>(
     alloc: Global,
     list: Lin<Partition, R>,
@@ -108,8 +114,13 @@ pub fn add_row<R: Ring>(
 }
 
 /// The product of an expansion in s and e_k, in every number of variables, by Pieri's rule: s_λ
-/// becomes the sum of the s_ν for which ν/λ is a vertical strip of k cells (Macdonald, I.5).
-/// Conditions, sizes, weight and refusal are those of `add_row`.
+/// becomes the sum of the s_ν for which ν/λ is a vertical strip of k cells (Macdonald, I.5). Each
+/// label has at most 4,096 - k cells and at most 512 - k rows.
+///
+/// The labels of the product have at most k cells and k rows more. If m is the greatest size of a
+/// label, 0 for the empty list, its weight is at most that of the list times (m + k)^k. The weight
+/// of a list is max(1, D·A)·D, with D its least common denominator and A the sum of the absolute
+/// values of its coefficients. Returns `Large` only if the weight of the list is 2^127 or more.
 pub fn add_column<R: Ring>(
     alloc: Global,
     list: Lin<Partition, R>,
@@ -130,7 +141,12 @@ pub fn add_column<R: Ring>(
 /// The product of an expansion in s and p_k, for k at least 1, in every number of variables, by the
 /// rule of Murnaghan and Nakayama: s_λ becomes the sum of (-1)^(height - 1)·s_ν over the ν for
 /// which ν/λ is a rim hook of k cells (Macdonald, I.3; the height is the number of rows of the rim
-/// hook). Conditions, sizes, weight and refusal are those of `add_row`.
+/// hook). Each label has at most 4,096 - k cells and at most 512 - k rows.
+///
+/// The labels of the product have at most k cells and k rows more. If m is the greatest size of a
+/// label, 0 for the empty list, its weight is at most that of the list times (m + k)^k. The weight
+/// of a list is max(1, D·A)·D, with D its least common denominator and A the sum of the absolute
+/// values of its coefficients. Returns `Large` only if the weight of the list is 2^127 or more.
 pub fn add_hook<R: Ring>(
     alloc: Global,
     list: Lin<Partition, R>,

@@ -43,7 +43,7 @@ pub(crate) fn add_shapes<R: Ring>(
     Ok(())
 }
 
-/// The coefficient with the sign of a rim hook of a height: it is negated if the height is even.
+/// The coefficient times the sign (-1)^(height - 1) of a rim hook.
 fn signed<R: Ring>(c: R, height: u16) -> Result<R, Large>
     requires height { 1 ≤ height }
     requires lowest { InLowestTerms (R.value c) }
@@ -62,7 +62,8 @@ fn signed<R: Ring>(c: R, height: u16) -> Result<R, Large>
     Ok(negated)
 }
 
-/// Adds a coefficient with its sign at each partition that the lister has not returned yet.
+/// Adds a coefficient, times the sign of the rim hook that was added, at each partition that the
+/// lister `hooks` has not returned yet.
 pub(crate) fn add_signed_shapes<R: Ring>(
     alloc: Global,
     sum: &mut Lin<Partition, R>,

@@ -1,4 +1,4 @@
--- Lists of terms in strict order, and tests of each term: from adjacent terms to all pairs, and along `++`.
+-- Lists of terms in strict order: if adjacent terms are in order, so are all pairs; and tests of each term of a list, also of lists appended by `++`.
 use Rattle.std.proofs.Common.{◌≡◌, Bool, true, [], ◌∷◌, map, refl, sym, ap, ◌∙◌, subst, inl, inr}
 use Rattle.std.specs.Ordering.{is_lt}
 use Rattle.std.specs.declared.cmp.Ordering.{Ordering}

@@ -1,4 +1,4 @@
--- The columns of a partition: the number of parts that reach a bound, and the partition of these counts.
+-- The conjugate of a partition: it is the partition whose entries are, for each j, the number of parts that are at least j.
 use Rattle.std.proofs.Common.{◌≡◌, ◌⊎◌, leb, eqb, sym, ap, ap₂, refl, ℕ, zero, suc, ◌+◌, ◌-◌, ◌<◌, ◌≤◌, nat_le, Bool, true, false, cond, List, [], ◌∷◌, map, length, get_or, ◌∙◌, inl, inr, arith}
 use Rattle.std.proofs.lemmas.Bool.{cases_lt, cases_eq, le-leb, lt-leb, eq-eqb, ne_eqb}
 use Rattle.sym_model.specs.Sum.{Among}
@@ -10,7 +10,7 @@ use Rattle.sym_model.proofs.SortedParts.{Falls_tail}
 use Rattle.sym_model.proofs.AfterLists.{length_after}
 use Rattle.sym_model.proofs.Parts.{size-map_add, size-map_none}
 
--- no number of a decreasing list is greater than the first
+-- no entry of the weakly decreasing list a, parts is greater than its first entry a
 pub under_first : (a : ℕ) (parts : List ℕ) (r : ℕ) → Falls (a ∷ parts) → get_or parts r 0 ≤ a
 under_first a [] r f = omega arith
 under_first a (b ∷ parts) zero f = f.0

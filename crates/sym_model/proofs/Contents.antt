@@ -43,7 +43,7 @@ times_in-most j (a ∷ v) = by (a == j) (times_in-most j v)
     by true h = omega arith
     by false h = omega arith
 
--- 1 if the letter is j, and 0 otherwise
+-- 1 if the letter a is j, and 0 otherwise
 one_at : ℕ → ℕ → ℕ
 one_at a j = cond (eqb a j) 1 0
 

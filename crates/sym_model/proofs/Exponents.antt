@@ -12,7 +12,7 @@ tests_agree true y f g = sym (f refl)
 tests_agree false true f g = g refl
 tests_agree false false f g = refl
 
--- ---- the test `same` for equal lists
+-- ---- the test `same`: it passes for two lists if and only if they are equal
 
 pub same_refl : (α : List ℕ) → same α α ≡ true
 same_refl [] = refl
@@ -65,7 +65,7 @@ length-join (a ∷ α) (b ∷ β) = let e = length-join α β in omega arith
 pub length-join_same : (n : ℕ) (α β : List ℕ) → length α ≡ n → length β ≡ n → length (join α β) ≡ n
 length-join_same n α β d e = omega (arith, length-join α β)
 
--- adding n ≤ length α zeros does not change the exponents α
+-- if n ≤ length α, the sum of a list of n zeros and α is α
 pub join_zeros : (n : ℕ) (α : List ℕ) → n ≤ length α → join (replicate n 0) α ≡ α
 join_zeros zero α h = refl
 join_zeros (suc n) [] h = absurd (omega arith)

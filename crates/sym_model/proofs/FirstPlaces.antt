@@ -35,7 +35,7 @@ next-resize (suc zero) (b ∷ c ∷ xs) a f (inr m) = absurd m
 next-resize (suc (suc n)) (b ∷ c ∷ xs) a f (inl e) = omega (arith, e, f.0, next-resize (suc n) (c ∷ xs) c f.1 (inl refl))
 next-resize (suc (suc n)) (b ∷ c ∷ xs) a f (inr m) = next-resize (suc n) (c ∷ xs) a f.1 m
 
--- the entry at place n, counted from 0, is not greater than any of the first n + 1 entries
+-- in a weakly decreasing list, the entry at place n, counted from 0, is not greater than any of the first n + 1 entries
 pub last-resize : (n : ℕ) (xs : List ℕ) (a : ℕ) → Falls xs → Among a (resize (suc n) xs) → get_or xs n 0 ≤ a
 last-resize n xs a f m =
     by (Among_from_append a (resize n xs) (get_or xs n 0 ∷ []) (subst (Among a) (resize-next n xs) m))

@@ -1,4 +1,4 @@
--- Euclid's rule gives the greatest common divisor, and its next step gives the same.
+-- Euclid's rule computes the greatest common divisor, with any number of steps greater than the second number.
 use Rattle.std.proofs.Common.{◌≡◌, ℕ, zero, suc, ◌+◌, ◌*◌, ◌/◌, ◌%◌, ◌<◌, ◌≤◌, refl, sym, subst, ap, ◌∙◌, arith, add-one}
 use Rattle.std.specs.Int.{IsGcd, ◌∣◌}
 use Rattle.std.proofs.lemmas.Nat.Gcd.{IsGcd-from_zero, IsGcd-from_mod, same_from_IsGcd, le_from_IsGcd, dvd_refl, dvd-zero}
@@ -51,7 +51,7 @@ gcd-positive a b h = by (gcd a b) refl
     by zero e = absurd (omega (arith, div-mul_cancel (gcd a b) (IsGcd-gcd a b).0, e, h, mul-zero_at (a / gcd a b) (gcd a b) e))
     by (suc g) e = omega arith
 
--- no common divisor is greater, if one of the two numbers is not 0
+-- if a and b are not both 0, each common divisor d of a and b is at most gcd(a, b)
 pub gcd-greatest : (a b d : ℕ) → 0 < a + b → d ∣ a → d ∣ b → d ≤ gcd a b
 gcd-greatest zero b d h p q =
     le_from_IsGcd zero b (gcd zero b) d (IsGcd-gcd zero b) (subst (λ g. 0 < g) (sym (gcd-only zero b b (dvd-zero b, dvd_refl b, λ c x y. y))) (omega arith)) p q

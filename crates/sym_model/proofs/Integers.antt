@@ -49,7 +49,7 @@ pub cond-nonnegative : (b : Bool) (z : ℤ) → pos 0 ≤ℤ z → pos 0 ≤ℤ 
 cond-nonnegative true z h = h
 cond-nonnegative false z h = omega (arith, ints)
 
--- the sign of a number
+-- the sign of an integer: -1 if it is negative, and 1 otherwise
 abbrev pub sign_of : ℤ → ℤ
 sign_of (pos n) = pos 1
 sign_of (negsuc n) = negsuc 0
@@ -69,7 +69,7 @@ pub sign_size : (n : ℕ) → nat_abs (minus_one_to n) ≡ 1
 sign_size zero = refl
 sign_size (suc n) = let h = sign_size n in omega (arith, ints)
 
--- a multiple of a number is at least as large, if the factor is not 0
+-- if c is not 0 and most ≤ n, then most ≤ |c·n|
 pub nat_abs-multiple : (c : ℤ) (n most : ℕ) → (c ≡ pos 0 → ⊥) → most ≤ n → most ≤ nat_abs (c *ℤ pos n)
 nat_abs-multiple c n most some h = by c some (nat_abs-product c (pos n))
   where

@@ -1,5 +1,5 @@
--- The lexicographic order of exponent lists, and leading monomials of products: at the sum of two
--- leading monomials a product has the product of their coefficients, so a factor that leads with 1 or -1 cancels.
+-- The lexicographic order of exponent lists, and leading monomials x^α of f and x^β of g: at α + β the product f·g has the
+-- product of their coefficients, so a factor that leads with 1 or -1 cancels.
 use Rattle.std.proofs.Common.{◌≡◌, ℕ, zero, suc, ◌+◌, ◌≤◌, ◌<◌, ◌⊎◌, Bool, true, false, cond, not, List, [], ◌∷◌, length, sym, ◌∙◌, ap, ap₂, subst, refl, inl, inr, arith, ℤ, pos, ◌*ℤ◌, neg_ℤ}
 use Rattle.std.proofs.lemmas.Bool.{cases_eq, cases_Bool, cases_order}
 use Rattle.std.proofs.lemmas.Int.{ints}
@@ -45,7 +45,7 @@ Above_total (a ∷ α) (b ∷ β) =
       | inr (inr h) ↦ inr (inl (inl h))
     ]
 
--- a sum above another has a summand above that of the other
+-- for α, δ, τ, β of one length: if α + δ is above τ + β, then α is above τ or δ is above β
 pub Above_from_join : (α δ τ β : List ℕ) → length α ≡ length τ → length δ ≡ length β → length α ≡ length δ → Above (join α δ) (join τ β) → Above α τ ⊎ Above δ β
 Above_from_join [] [] τ β k l m h = absurd h
 Above_from_join [] (d ∷ δ) τ β k l m h = absurd (omega arith)
@@ -68,7 +68,7 @@ Above_from_join (a ∷ α) (d ∷ δ) (t ∷ τ) (b ∷ β) k l m h =
     by (inr (inl p)) (inr (inl q)) (inl h) rest = absurd (omega arith)
     by (inr (inl p)) (inr (inl q)) (inr h) rest = let e = h.0 in absurd (omega arith)
 
--- if α is above τ, then α + δ is above τ + δ
+-- for α, τ, δ of one length: if α is above τ, then α + δ is above τ + δ
 pub Above-join : (α τ δ : List ℕ) → length α ≡ length τ → length δ ≡ length α → Above α τ → Above (join α δ) (join τ δ)
 Above-join [] τ δ k l h = absurd h
 Above-join (a ∷ α) [] δ k l h = absurd (omega arith)
@@ -76,7 +76,7 @@ Above-join (a ∷ α) (t ∷ τ) [] k l h = absurd (omega arith)
 Above-join (a ∷ α) (t ∷ τ) (d ∷ δ) k l (inl h) = inl (omega arith)
 Above-join (a ∷ α) (t ∷ τ) (d ∷ δ) k l (inr h) = inr (ap (λ x. x + d) h.0, Above-join α τ δ (omega arith) (omega arith) h.1)
 
--- if α + δ = τ + β and τ is above α, then δ is above β
+-- for α, δ, τ, β of one length: if α + δ = τ + β and τ is above α, then δ is above β
 pub Above_rest : (α δ τ β : List ℕ) → length α ≡ length τ → length δ ≡ length β → length α ≡ length δ → Above τ α → join α δ ≡ join τ β → Above δ β
 Above_rest α δ τ β k l m h e =
     elim (Above_from_join τ δ τ β refl l (sym k ∙ m) (subst (λ γ. Above (join τ δ) γ) e (Above-join τ α δ (sym k) (sym m ∙ k) h))) [
@@ -99,7 +99,7 @@ asks_nothing g α γ h =
     ])
     ∙ pair_zero g
 
--- a list is of n places, or the polynomial in n variables has no coefficient there
+-- for a polynomial f in n variables: f has the coefficient 0 at α, or α has n places
 places_or_none : (n : ℕ) (f : Poly) (α : List ℕ) → In n f → (coefficient f α ≡ pos 0) ⊎ (length α ≡ n)
 places_or_none n f α i = elim (cases_eq (length α) n) [ inl e ↦ inr e | inr d ↦ inl (coefficient_outside n f α i d) ]
 
@@ -281,11 +281,11 @@ nothing_by_length (suc k) n f (t ∷ d) τ h i j l z =
         same_others s.0 (t ∷ d) (unit_times (coefficient f τ) (coefficient (t ∷ d) s.0) l.unit_at_top
         (sym (coefficient_at_top n f (t ∷ d) τ s.0 i j (length_top n f τ i l) (j s r.1) l.none_above (none_above_terms (t ∷ d) s.0 r.2)) ∙ z (join τ s.0)))
 
--- if f leads with 1 or -1, f·g is 0 only if g is 0
+-- for f and g in n variables: if f leads with 1 or -1, f·g is 0 only if g is 0
 pub leading_nothing : (n : ℕ) (f g : Poly) (top : List ℕ) → In n f → In n g → Leads f top → Same (times f g) nothing → Same g nothing
 leading_nothing n f g top i j l z = nothing_by_length (length g) n f g top (omega arith) i j l z
 
--- if f leads with 1 or -1 and f·g = f·h, then g = h
+-- for f, g and h in n variables: if f leads with 1 or -1 and f·g = f·h, then g = h
 pub leading_cancel : (n : ℕ) (f g h : Poly) (top : List ℕ) → In n f → In n g → In n h → Leads f top → Same (times f g) (times f h) → Same g h
 leading_cancel n f g h top i j k l z α =
     let d = leading_nothing n f (plus g (negate h)) top i (In_plus n g (negate h) j (In_negate n h k)) l difference α in

@@ -86,7 +86,7 @@ smaller-within a (b ∷ w) = by (nat_lt b a) (smaller-within a w)
     by true h = omega arith
     by false h = omega arith
 
--- ---- an element that was read at a place
+-- ---- a list joined again from its first i elements, the element x at place i, counted from 0, and the elements after it
 
 pub take-read : {A : Type 0} (xs : List A) (i : ℕ) (x : A) → i < length xs → x ≡ get_or xs i x → take i xs ++ x ∷ [] ≡ take (i + 1) xs
 take-read xs i x h e = ap (λ y. take i xs ++ y ∷ []) e ∙ sym (take_more xs i x h)

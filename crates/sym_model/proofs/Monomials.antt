@@ -12,7 +12,7 @@ use Rattle.sym_model.proofs.Polynomials.{pair_monomials}
 use Rattle.sym_model.proofs.SortedParts.{size-sorted_parts, has_here, has_past}
 use lib.IntN.{+ℤ_idl, +ℤ_idr}
 
--- ---- sums in which one term counts
+-- ---- sums in which only one term is not 0
 
 pub total_down_from-only : (g : ℕ → ℤ) (c d : ℕ) → total (λ (a : ℕ). cond (eqb a c) (g a) (pos 0)) (down_from d) ≡ cond (leb c d) (g c) (pos 0)
 total_down_from-only g c zero = by (cases_eq 0 c)
@@ -41,7 +41,7 @@ total_down_from-only g c (suc d) = by (cases_eq (suc d) c) (cases_lt d c) (total
 abbrev pub is_exponent_list : ℕ → ℕ → List ℕ → Bool
 is_exponent_list n d γ = eqb (length γ) n && eqb (size γ) d
 
--- the sum of φ over the exponent lists equal to γ is φ(γ) if γ has n places and the sum d, and otherwise 0
+-- the sum of φ over the members of `exponent_lists n d` equal to γ is φ(γ) if γ has n places and the sum d, and otherwise 0
 pub total_exponent_lists-only : (φ : List ℕ → ℤ) (γ : List ℕ) (n d : ℕ) → total (λ (α : List ℕ). cond (same α γ) (φ α) (pos 0)) (exponent_lists n d) ≡ cond (is_exponent_list n d γ) (φ γ) (pos 0)
 total_exponent_lists-only φ [] zero d = by (cases_eq d 0)
   where
@@ -124,7 +124,7 @@ coefficient-monomials test n d γ =
     turn false true = refl
     turn false false = refl
 
--- the coefficient of x^α in m_λ is 1 if α sorts to λ, and 0 otherwise
+-- the coefficient of x^γ in m_λ in n variables is 1 if γ has n places and sorts to λ, and 0 otherwise
 pub coefficient-monomial : (parts : List ℕ) (n : ℕ) (γ : List ℕ) → coefficient (monomial parts n) γ ≡ cond (eqb (length γ) n) (cond (same (sorted_parts γ) parts) (pos 1) (pos 0)) (pos 0)
 coefficient-monomial parts n γ =
     coefficient-monomials (λ α. same (sorted_parts α) parts) n (size parts) γ ∙ by (eqb (length γ) n) (eqb (size γ) (size parts)) refl (same (sorted_parts γ) parts) refl
@@ -192,7 +192,7 @@ total_down_from-last g (suc d) z =
     ap (λ n. n +ℤ total g (down_from d)) (z (suc d) (omega arith) (omega arith)) ∙ +ℤ_idl (total g (down_from d))
     ∙ total_down_from-last g d (λ c l h. z c l (omega arith))
 
--- a number greater than the sum is not in the list
+-- if a is greater than the sum of α, it is not an entry of α
 pub has_above_size : (a : ℕ) (α : List ℕ) → size α < a → has a α ≡ false
 has_above_size a [] h = refl
 has_above_size a (c ∷ α) h = rw (ne_eqb c a (λ e. omega arith)) (has_above_size a α (omega arith))
@@ -232,7 +232,7 @@ total_power_sum a (suc n) φ =
         ∙ h
         ∙ sym (total_map φ (λ (α : List ℕ). 0 ∷ α) (one_place (suc a) n))
 
--- p_a is the sum of the x_i^a
+-- for a > 0, the pairing of p_a in n variables with φ is the sum of φ over the exponent lists of x_1^a, .., x_n^a
 pub pair-power_sum_of : (a n : ℕ) (φ : List ℕ → ℤ) → 0 < a → pair (power_sum_of a n) φ ≡ total φ (one_place a n)
 pair-power_sum_of zero n φ h = absurd (omega arith)
 pair-power_sum_of (suc a) n φ h =

@@ -1,7 +1,7 @@
 -- Sums of natural numbers over lists: `sum_by` of specs/Sum.
---     sum_by-ext, -among, -within       two functions
---     sum_by-append .. sum_by-each      a sum over a list that is made of others
---     sum_by-at, -insert, -set, -without, -part     one element, and a part of a list
+--     sum_by-ext, -among, -within       the sums of two functions, compared
+--     sum_by-append .. sum_by-each      sums over lists that are made of other lists
+--     sum_by-at, -insert, -set, -without, -part     the sum over a list, and one element or a part of the list
 --     sum_by-none, -zeros, -most        sums that are 0, and a bound
 --     sum_by-total                      the sum as an integer
 use Rattle.std.proofs.Common.{◌≡◌, sym, ℕ, zero, suc, ◌+◌, ◌*◌, ◌<◌, ◌≤◌, Bool, true, false, cond, List, [], ◌∷◌, ◌++◌, map, flat_map, length, get_or, set, take, drop, refl, sym, ap, ap₂, ◌∙◌, inl, inr, arith, pos}
@@ -11,7 +11,7 @@ use Rattle.std.proofs.lemmas.List.{take-append-drop}
 use Rattle.sym_model.specs.Sum.{total, sum_by, Among, Once, Within}
 use Rattle.sym_model.proofs.Sums.{without, Within-without, Within_tail}
 
--- ---- sums of two functions
+-- ---- the sums of two functions over one list
 
 pub sum_by-ext : {A : Type 0} (f g : A → ℕ) → ((x : A) → f x ≡ g x) → (xs : List A) → sum_by f xs ≡ sum_by g xs
 sum_by-ext f g e [] = refl
@@ -29,7 +29,7 @@ sum_by-within f g (x ∷ xs) h =
     let b = sum_by-within f g xs (λ y m. h y (inr m)) in
     omega arith
 
--- ---- sums over lists that are made of others
+-- ---- sums over lists that are made of other lists
 
 pub sum_by-append : {A : Type 0} (f : A → ℕ) (xs ys : List A) → sum_by f (xs ++ ys) ≡ sum_by f xs + sum_by f ys
 sum_by-append f [] ys = omega arith
@@ -43,7 +43,7 @@ pub sum_by-each : {A B : Type 0} (f : B → ℕ) (g : A → List B) (xs : List A
 sum_by-each f g [] = refl
 sum_by-each f g (x ∷ xs) = sum_by-append f (g x) (flat_map g xs) ∙ ap (λ s. sum_by f (g x) + s) (sum_by-each f g xs)
 
--- ---- sums with one element of a list
+-- ---- a sum over a list, and one of its elements
 
 pub sum_by-at : {A : Type 0} (f : A → ℕ) (xs : List A) (i : ℕ) (x : A) → i < length xs → x ≡ get_or xs i x → f x ≤ sum_by f xs
 sum_by-at f [] i x h e = absurd (omega arith)
@@ -67,7 +67,7 @@ sum_by-without f x [] m = absurd m
 sum_by-without f x (y ∷ xs) (inl e) = ap (λ z. f z + sum_by f xs) (sym e)
 sum_by-without f x (y ∷ xs) (inr m) = let r = sum_by-without f x xs m in omega arith
 
--- a list without repeats within another one has no greater sum
+-- if ys is without repeats and within xs, the sum of f over ys is at most that over xs
 pub sum_by-part : {A : Type 0} (f : A → ℕ) (ys xs : List A) → Once ys → Within ys xs → sum_by f ys ≤ sum_by f xs
 sum_by-part f [] xs o w = omega arith
 sum_by-part f (y ∷ ys) xs o w =

@@ -48,7 +48,7 @@ pub below_more : (k l : ℕ) (w : List ℕ) → k ≤ l → AreBelow k w → Are
 below_more k l [] le h = tt
 below_more k l (a ∷ w) le h = (omega (arith, h.0), below_more k l w le h.1)
 
--- of two equal products the one with the smaller factor has the greater other factor
+-- if a·b = c·d and 0 < b ≤ d, then c ≤ a
 pub other_factor : (a b c d : ℕ) → a * b ≡ c * d → 0 < b → b ≤ d → c ≤ a
 other_factor a b c d e some h = le_of_mul-le-mul_right (let l = mul-le-mul_left c h in omega arith) some
 

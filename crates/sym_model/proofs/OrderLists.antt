@@ -1,5 +1,5 @@
--- The orders of the places: each list that has every place, and no other entry, once.
---     orders_once         each of them once
+-- The orders of the places 1, .., n: the lists that have each place exactly once and no other entry.
+--     orders_once         `orders` lists each order once
 use Rattle.std.proofs.Common.{◌≡◌, ℕ, suc, ◌⊎◌, ◌==◌, true, false, cond, List, [], ◌∷◌, map, length, sym, ◌∙◌, ap, subst, refl, inl, inr, arith}
 use Rattle.std.proofs.lemmas.Bool.Decides.{nat_tests}
 use Rattle.sym_model.specs.Sum.{Among, Once, Within}
@@ -19,7 +19,7 @@ insertion_of x (y ∷ w) (inl e) = at_front w
     at_front (z ∷ v) = inl (ap (λ a. a ∷ z ∷ v) (sym e))
 insertion_of x (y ∷ w) (inr m) = inr (Among-map (λ (zs : List ℕ). y ∷ zs) w (insertions x (without x w m)) (insertion_of x w m))
 
--- the list w without x still has each element of a list that x is not in
+-- if each element of xs is in w and x is not in xs, each element of xs is still in w once x is left out
 within_rest : (x : ℕ) (w xs : List ℕ) (m : Among x w) → (Among x xs → ⊥) → Within xs w → Within xs (without x w m)
 within_rest x w xs m d h z n = elim (Among-without z x w m (h z n)) [ inl e ↦ absurd (d (subst (λ u. Among u xs) e n)) | inr r ↦ r ]
 

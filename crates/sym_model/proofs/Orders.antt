@@ -1,5 +1,5 @@
--- The printed order and the tests of a canonical list, as facts: the order is total and ties only equal
--- partitions, and the tests decide what they are named for.
+-- The printed order and the tests of a canonical list: the order is total, only equal partitions compare as equal, and each test decides the property
+-- that it is named after.
 use Rattle.std.proofs.Common.{◌≡◌, ℕ, zero, suc, ◌+◌, ◌<◌, ◌≤◌, true, ◌&&◌, List, [], ◌∷◌, length, eqb, leb, ltb, nat_abs, refl, sym, ap, ◌∙◌, subst, arith}
 use Rattle.std.specs.Int.{IsGcd}
 use Rattle.std.specs.Cmp.{IsTotalOrder}
@@ -81,12 +81,12 @@ falling_lexicographic-equal (a ∷ x) (b ∷ y) h k e =
     let p = then-equal (nat_cmp b a) (falling_lexicographic x y) e in
     ap (λ c. c ∷ x) (sym (nat_cmp-equal b a p.0)) ∙ ap (λ z. b ∷ z) (falling_lexicographic-equal x y h.1 k.1 p.1)
 
--- if two partitions compare as equal in the printed order, they are equal
+-- if two lists of positive numbers compare as equal in the printed order, they are equal
 pub printed_order-equal : (x y : List ℕ) → ArePositive x → ArePositive y → printed_order x y ≡ Equal → x ≡ y
 printed_order-equal x y h k e =
     falling_lexicographic-equal x y h k (then-equal (nat_cmp (size y) (size x)) _ e).1
 
--- the test of a partition decides it
+-- if the test `is_partition` passes, the list is a partition
 pub is_partition-tells : (parts : List ℕ) → is_partition parts ≡ true → IsPartition parts
 is_partition-tells [] h = record { falls = tt; positive = tt }
 is_partition-tells (a ∷ []) h = record { falls = tt; positive = (ltb-true 0 a h, tt) }

@@ -1,4 +1,4 @@
--- The list of the partitions of a number: it has exactly these, each once, in decreasing lexicographic order.
+-- The list of the partitions of a number has each of them exactly once and nothing else, in decreasing lexicographic order.
 use Rattle.std.proofs.Common.{◌≡◌, ℕ, zero, suc, ◌-◌, ◌<◌, ◌≤◌, min, List, [], ◌∷◌, ◌++◌, map, length, sym, ◌∙◌, ap, ap₂, subst, refl, inl, inr, ⊎_elim, arith, flat_map}
 use Rattle.std.proofs.Math.Nat.{eq-or-lt_of_le, min-le_left, min-le_right, le-min}
 use Rattle.std.proofs.lemmas.Cmp.{nat_cmp_total, tied_itself}
@@ -27,7 +27,7 @@ Among-down_to_one (suc k) a p h =
 
 -- ---- the list has exactly the partitions of d
 
--- the parts are decreasing and positive, their sum is d, and none is greater than most
+-- the parts are weakly decreasing and positive, their sum is d, and none is greater than `most`
 pub record IsWithin (d most : ℕ) (parts : List ℕ) : Type 0 where
   pub falls : Falls parts
   pub positive : ArePositive parts
@@ -109,7 +109,7 @@ Among-partitions_of d parts p s =
     } in
     Among-partitions_within d d d parts w (omega (arith, rows_within_size parts p.positive))
 
--- ---- the list is in decreasing order
+-- ---- the list is in strictly decreasing lexicographic order, so it has no partition twice
 
 pub FallsLexicographically-append :
     (xs ys : List (List ℕ)) → FallsLexicographically xs → FallsLexicographically ys

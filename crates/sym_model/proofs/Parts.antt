@@ -1,5 +1,5 @@
--- Lists of parts by their places, sizes and ends: `in_front`, `without_last_zeros`, `part`, `Falls`, `size` of
--- specs/Partition, and a part made smaller by one (specs/Slide).
+-- Lists of parts: their entries, sizes, and zeros at their ends (`in_front`, `without_last_zeros`, `part`, `Falls`, `size`
+-- of specs/Partition), and lists with one part made smaller by one (specs/Slide).
 use Rattle.std.proofs.Common.{◌+◌, List, [], arith, map, refl, ℕ, ◌∷◌, ◌≡◌, ◌++◌, ap, ◌<◌, suc, zero, ◌∙◌, length, ◌≤◌, get_or, ◌-◌, drop, take, take_all, subst, replicate, inl, inr}
 use Rattle.sym_model.specs.Sum.{Among}
 use Rattle.sym_model.specs.Partition.{size, in_front, without_last_zeros, ArePositive, part, Falls}
@@ -10,7 +10,7 @@ pub size-map_add : (f g : ℕ → ℕ) (xs : List ℕ) → size (map (λ j. f j 
 size-map_add f g [] = refl
 size-map_add f g (x ∷ xs) = omega (arith, size-map_add f g xs)
 
--- removing the zeros at the end of xs followed by a zero gives the same as for xs
+-- a zero appended to xs does not change xs without the zeros at its end
 pub without_last_zeros-zero : (xs : List ℕ) → without_last_zeros (xs ++ 0 ∷ []) ≡ without_last_zeros xs
 without_last_zeros-zero [] = refl
 without_last_zeros-zero (x ∷ xs) = ap (in_front x) (without_last_zeros-zero xs)
@@ -46,12 +46,12 @@ positive-at [] k h l = absurd (omega arith)
 positive-at (a ∷ parts) zero h l = h.0
 positive-at (a ∷ parts) (suc k) h l = positive-at parts k h.1 (omega arith)
 
--- a list with at least one part is its first part followed by the slice of the others
+-- a list with at least one part is its first part followed by the slice of the parts after it
 pub split_first : (parts : List ℕ) → 1 ≤ length parts → get_or parts 0 0 ∷ take (length parts - 1) (drop 1 parts) ≡ parts
 split_first [] h = absurd (omega arith)
 split_first (k ∷ parts) h = ap (λ r. k ∷ r) (take_all (length (k ∷ parts) - 1) parts (omega arith))
 
--- leaving out zeros at the end of a list does not change its numbers
+-- `in_front a l` and a ∷ l have the same number at each place n, read as 0 after the end
 pub get_or-in_front : (a n : ℕ) (l : List ℕ) → get_or (in_front a l) n 0 ≡ get_or (a ∷ l) n 0
 get_or-in_front zero zero [] = refl
 get_or-in_front zero (suc n) [] = refl
@@ -139,12 +139,6 @@ pub in_front-more : (a b : ℕ) (xs : List ℕ) → in_front a (b ∷ xs) ≡ a 
 in_front-more zero b xs = refl
 in_front-more (suc a) b xs = refl
 
-pub in_front-get_or : (a : ℕ) (numbers : List ℕ) (i : ℕ) → get_or (in_front a numbers) i 0 ≡ get_or (a ∷ numbers) i 0
-in_front-get_or zero [] zero = refl
-in_front-get_or zero [] (suc i) = refl
-in_front-get_or zero (b ∷ numbers) i = refl
-in_front-get_or (suc a) numbers i = refl
-
 pub part-drop : (inner : List ℕ) → part (drop 1 inner) 1 ≡ part inner 2
 part-drop [] = refl
 part-drop (b ∷ inner) = refl
@@ -154,13 +148,13 @@ part-in_front zero [] = refl
 part-in_front zero (b ∷ parts) = refl
 part-in_front (suc a) parts = refl
 
--- a decreasing list without its last entry is decreasing
+-- a weakly decreasing list without its last entry is weakly decreasing
 pub falls_front : (front : List ℕ) (last : ℕ) → Falls (front ++ last ∷ []) → Falls front
 falls_front [] last f = tt
 falls_front (a ∷ []) last f = tt
 falls_front (a ∷ b ∷ front) last f = (f.0, falls_front (b ∷ front) last f.1)
 
--- a decreasing list without its first entry is decreasing
+-- a weakly decreasing list without its first entry is weakly decreasing
 pub falls_after : (parts : List ℕ) → Falls parts → Falls (drop 1 parts)
 falls_after [] f = tt
 falls_after (a ∷ []) f = tt

@@ -78,7 +78,7 @@ times-negate f g =
 
 -- ---- restriction to fewer variables
 
--- the test function whose pairing with f is the pairing of φ with f restricted to n variables
+-- the test function whose pairing with any polynomial f is the pairing of φ with f restricted to n variables
 abbrev pub restricted_test : ℕ → (List ℕ → ℤ) → List ℕ → ℤ
 restricted_test n φ α = cond (fits_in n α) (φ (resize n α)) (pos 0)
 

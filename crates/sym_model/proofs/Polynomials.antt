@@ -1,6 +1,6 @@
--- Polynomials through their pairings with test functions. Two polynomials are the same if and only if all
--- pairings agree (`pair_determined`, `same_from_pair`); the pairing of a sum, product or restriction is
--- a pairing of its parts, so that a law of polynomials is a law of finite sums.
+-- The pairing of a polynomial with a test function φ is the sum of c·φ(α) over its terms c·x^α. Two polynomials are the
+-- same if and only if all their pairings agree (`pair_determined`, `same_from_pair`); the pairing of a sum, product or
+-- restriction is given by pairings of its parts, so that a law of polynomials is a law of finite sums.
 use Rattle.std.proofs.Common.{◌≡◌, ℕ, zero, suc, ◌+◌, ◌≤◌, ◌⊎◌, Bool, true, false, cond, not, List, [], ◌∷◌, ◌++◌, map, length, length-append, sym, ◌∙◌, ap, ap₂, subst, refl, inl, inr, arith, ℤ, pos, ◌+ℤ◌, ◌*ℤ◌, neg_ℤ, filter, flat_map}
 use Rattle.std.proofs.lemmas.Int.{ints}
 use Rattle.std.proofs.lemmas.Bool.{cases_eq}
@@ -78,7 +78,7 @@ pair_monomials αs φ =
     total_map (λ (t : Term). t.1 *ℤ φ t.0) (λ (α : List ℕ). (α, pos 1)) αs
     ∙ total_ext (λ (α : List ℕ). pos 1 *ℤ φ α) φ (λ α. one-product (φ α)) αs
 
--- a product with one term is paired by adding its exponents and multiplying by its coefficient
+-- for a term s = c·x^α, the pairing of s·g with φ is c times the pairing of g with the function β ↦ φ(α + β)
 pub pair_shift : (s : Term) (g : Poly) (φ : List ℕ → ℤ) → pair (map (λ (t : Term). (join s.0 t.0, s.1 *ℤ t.1)) g) φ ≡ s.1 *ℤ pair g (λ β. φ (join s.0 β))
 pair_shift s g φ =
     total_map (λ (t : Term). t.1 *ℤ φ t.0) (λ (t : Term). (join s.0 t.0, s.1 *ℤ t.1)) g
@@ -110,8 +110,8 @@ pair_restrict n f φ =
     inside true c x = refl
     inside false c x = sym (*ℤ-zero c)
 
--- a product with one term in other variables is paired by adding its exponents in front and multiplying by its
--- coefficient
+-- for a term s = c·x^α in variables in front of those of g, the pairing of s·g with φ is c times the pairing of g with the
+-- function that takes β to φ at α followed by β
 pair_behind : (s : Term) (g : Poly) (φ : List ℕ → ℤ) → pair (map (λ (t : Term). (s.0 ++ t.0, s.1 *ℤ t.1)) g) φ ≡ s.1 *ℤ pair g (λ β. φ (s.0 ++ β))
 pair_behind s g φ =
     total_map (λ (t : Term). t.1 *ℤ φ t.0) (λ (t : Term). (s.0 ++ t.0, s.1 *ℤ t.1)) g
@@ -291,7 +291,7 @@ In_one n t (inr m) = absurd m
 pub In_plus : (n : ℕ) (f g : Poly) → In n f → In n g → In n (plus f g)
 In_plus n f g i j t m = elim (Among_from_append t f g m) [ inl l ↦ i t l | inr r ↦ j t r ]
 
--- a list of terms that have n places each is a polynomial in n variables
+-- if h(x) has n exponents for each x in xs, the list of the terms h(x) is a polynomial in n variables
 pub In_map : {A : Type 0} (n : ℕ) (h : A → Term) (xs : List A) → ((x : A) → Among x xs → length (h x).0 ≡ n) → In n (map h xs)
 In_map n h xs i t m = let r = Among_from_map h t xs m in ap (λ (s : Term). length s.0) r.2 ∙ i r.0 r.1
 
@@ -343,7 +343,8 @@ coefficient_scale c f α = coefficient_pair (scale c f) α ∙ pair_scale c f (a
 pub coefficient_negate : (f : Poly) (α : List ℕ) → coefficient (negate f) α ≡ neg_ℤ (coefficient f α)
 coefficient_negate f α = coefficient_pair (negate f) α ∙ pair_negate f (at_only α) ∙ ap neg_ℤ (sym (coefficient_pair f α))
 
--- the coefficients of a restriction are those of the polynomial, at lists padded with zeros
+-- the coefficient at α of f restricted to n variables is the sum of the coefficients of f at the lists β that have no exponent after place n and
+-- are α once resized to n places
 pub coefficient_restrict : (n : ℕ) (f : Poly) (α : List ℕ) → coefficient (restrict n f) α ≡ pair f (λ β. cond (fits_in n β) (at_only α (resize n β)) (pos 0))
 coefficient_restrict n f α = coefficient_pair (restrict n f) α ∙ pair_restrict n f (at_only α)
 

@@ -1,7 +1,7 @@
 -- Restricting the polynomials of specs/Bases to fewer variables.
 --     coefficient_restrict_padded    a coefficient of the restriction is that at the exponents padded with zeros
---     restrict-monomials             a sum of monomials whose test does not see zeros at the end
---     restrict-product_over          products over parts
+--     restrict-monomials             sums of monomials that pass a test which zeros at the end do not change
+--     restrict-product_over          products of polynomials over a list of parts
 use Rattle.std.proofs.Common.{◌≡◌, ℕ, zero, suc, ◌+◌, ◌-◌, ◌<◌, ◌≤◌, Bool, true, false, ◌&&◌, ◌||◌, cond, eqb, leb, List, [], ◌∷◌, ◌++◌, length, replicate, sym, ◌∙◌, ap, subst, refl, inl, inr, arith, pos, length-append}
 use Rattle.std.proofs.lemmas.List.{length-replicate}
 use Rattle.std.proofs.lemmas.Bool.{eq-eqb, ne_eqb, eqb-true}
@@ -49,7 +49,7 @@ restricts_to (suc k) m (b ∷ β) (c ∷ γ) l =
     ∙ and_middle (eqb b c) (eqb (length γ) k) (same β (γ ++ replicate m 0))
     ∙ ap (λ t. t && (eqb b c && same β (γ ++ replicate m 0))) (sym (eqb-suc (length γ) k))
 
--- the coefficient of a restriction is that at the exponents padded with zeros
+-- if f is in k + m variables, the coefficient at γ of its restriction to k variables is that of f at γ followed by m zeros, if γ has k places, else 0
 pub coefficient_restrict_padded : (k m : ℕ) (f : Poly) (γ : List ℕ) → In (k + m) f → coefficient (restrict k f) γ ≡ cond (eqb (length γ) k) (coefficient f (γ ++ replicate m 0)) (pos 0)
 coefficient_restrict_padded k m f γ i =
     coefficient_restrict k f γ
@@ -140,7 +140,7 @@ restrict-complete parts k n h = restrict-product_over complete_of parts k n (λ 
 pub restrict-power_sum : (parts : List ℕ) (k n : ℕ) → ArePositive parts → k ≤ n → Same (restrict k (power_sum parts n)) (power_sum parts k)
 restrict-power_sum parts k n p h = restrict-product_over power_sum_of parts k n (λ d m. restrict-power_sum_of d k n (positive_among d parts p m) h)
 
--- if there are fewer variables than parts, no exponents sort to λ, so m_λ is 0
+-- if there are fewer variables than parts, no exponents sort to the partition `parts`, so its monomial polynomial is 0
 pub monomial_few_variables : (parts : List ℕ) (n : ℕ) → n < rows parts → Same (monomial parts n) nothing
 monomial_few_variables parts n h γ = coefficient-monomial parts n γ ∙ by (eqb (length γ) n) refl (same (sorted_parts γ) parts) refl
   where

@@ -1,4 +1,4 @@
--- The integers are a commutative ring: what std's laws of the sum lack about products and negations.
+-- Laws of the commutative ring of integers, on products and negations, that the standard library does not have.
 --     ring      the set for `simp`: a polynomial identity over the integers is `simp ring (omega (arith, ints))`
 use Rattle.std.proofs.Common.{◌≡◌, ℕ, ◌+◌, ◌*◌, Bool, true, false, cond, sym, ◌∙◌, ap, arith, ℤ, pos, ◌+ℤ◌, ◌*ℤ◌, neg_ℤ}
 use Rattle.std.proofs.lemmas.Int.{ints}
@@ -43,12 +43,12 @@ product-one a = omega (arith, ints)
 pub one-product : (a : ℤ) → pos 1 *ℤ a ≡ a
 one-product a = *ℤ_comm (pos 1) a ∙ product-one a
 
--- if b is true, (1 + n)·z is z plus n·z, and otherwise the product is n·z
+-- with [b] for 1 if b is true and 0 otherwise: ([b] + n)·z = [b]·z + n·z
 pub counted-product : (b : Bool) (n : ℕ) (z : ℤ)
     → pos (cond b 1 0 + n) *ℤ z ≡ cond b z (pos 0) +ℤ pos n *ℤ z
 counted-product true n z =
     distributes_right (pos 1) (pos n) z ∙ ap (λ y. y +ℤ pos n *ℤ z) (one-product z)
 counted-product false n z = omega (arith, ints)
 
--- the laws by which products are written out over sums and negations, with their factors in one order
+-- the rules that expand products of sums and of negations and bring the factors into one order
 pub ruleset ring = (distributes_left, distributes_right, product_assoc, product-negation, negation-product, product_left_comm, *ℤ_comm, zero-*ℤ, *ℤ-zero, product-one, one-product)

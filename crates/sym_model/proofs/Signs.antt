@@ -1,4 +1,4 @@
--- Signs as powers of -1, by the exponent.
+-- Signs as powers of -1: if signs are multiplied, the exponents are added.
 use Rattle.std.proofs.Common.{◌≡◌, ℕ, zero, suc, ◌+◌, sym, ◌∙◌, ap, arith, ◌*ℤ◌, neg_ℤ}
 use Rattle.sym_model.specs.PlaceOrders.{minus_one_to}
 use Rattle.sym_model.proofs.Ring.{one-product, negation-product}

@@ -1,9 +1,9 @@
 -- Finite sums over lists, and membership in the lists that they range over.
---     total_ext, total_among      two functions that agree (on the members) have one sum
---     total_append .. total_each  a sum over a list that is made of others
---     total_exchange              two sums in either order
---     total_within                a list without repeats within another of its length has its sums
---     total_same_members, total_part, total_reindex, total_bijection, total_cancel      what follows from that
+--     total_ext, total_among      two functions that agree (on the members) have the same sum
+--     total_append .. total_each  sums over lists that are made of other lists
+--     total_exchange              a double sum is the same in either order
+--     total_within                a list without repeats whose members all occur in another list of its length has the same sums
+--     total_same_members, total_part, total_reindex, total_bijection, total_cancel      consequences of total_within
 use Rattle.std.proofs.Common.{◌≡◌, suc, ◌≤◌, ◌⊎◌, Bool, true, false, cond, not, List, [], ◌∷◌, ◌++◌, map, length, sym, ◌∙◌, ap, ap₂, subst, refl, inl, inr, arith, ℤ, pos, ◌+ℤ◌, ◌*ℤ◌, neg_ℤ, ◌<◌, get_or, zero, ℕ, filter, flat_map, reverse, nat_le}
 use Rattle.std.proofs.lemmas.Int.{ints}
 use Rattle.sym_model.specs.Sum.{total, Among, Once, Within}
@@ -219,9 +219,9 @@ Once_without x [] m o = tt
 Once_without x (y ∷ xs) (inl e) o = o.1
 Once_without x (y ∷ xs) (inr m) o = (λ n. o.0 (Among_from_without y x xs m n), Once_without x xs m o.1)
 
--- ---- lists with the same members have the same sums
+-- ---- lists without repeats that have the same members have the same sums
 
--- the list without x still has each member of a list that x is not in
+-- if each member of ys is in xs and x is not in ys, each member of ys is still in xs once x is left out
 pub Within-without : {A : Type 0} (x : A) (xs ys : List A) (m : Among x xs) → (Among x ys → ⊥) → Within ys xs → Within ys (without x xs m)
 Within-without x xs ys m d w z n = elim (Among-without z x xs m (w z n)) [ inl e ↦ absurd (d (subst (λ u. Among u ys) e n)) | inr r ↦ r ]
 
@@ -265,7 +265,7 @@ total_part {A} f (x ∷ xs) ys o p w none =
     other y n d (inl e) = Once-without x ys (w x (inl refl)) p (subst (λ u. Among u (without x ys (w x (inl refl)))) e n)
     other y n d (inr k) = d k
 
--- a one-to-one map of a list into itself does not change the sum
+-- if xs is without repeats and h maps its members one-to-one to members of xs, Σ f(h(x)) = Σ f(x) over xs
 pub total_reindex : {A : Type 0} (f : A → ℤ) (h : A → A) (xs : List A) → Once xs → ((x : A) → Among x xs → Among (h x) xs)
     → ((x y : A) → Among x xs → Among y xs → h x ≡ h y → x ≡ y) → total (λ (x : A). f (h x)) xs ≡ total f xs
 total_reindex {A} f h xs o into inj = sym (total_map f h xs) ∙ total_within f xs (map h xs) (Once-map h xs inj o) within (length-map xs h)
@@ -273,7 +273,7 @@ total_reindex {A} f h xs o into inj = sym (total_map f h xs) ∙ total_within f 
     within : Within (map h xs) xs
     within z m = let r = Among_from_map h z xs m in subst (λ u. Among u xs) (sym r.2) (into r.0 r.1)
 
--- a bijection between two lists does not change the sum
+-- if h and k are inverse bijections between xs and ys, lists without repeats, Σ f(h(x)) over xs = Σ f(y) over ys
 pub total_bijection : {A B : Type 0} (f : B → ℤ) (h : A → B) (k : B → A) (xs : List A) (ys : List B) → Once xs → Once ys
     → ((x : A) → Among x xs → Among (h x) ys) → ((y : B) → Among y ys → Among (k y) xs)
     → ((x : A) → Among x xs → k (h x) ≡ x) → ((y : B) → Among y ys → h (k y) ≡ y) → total (λ (x : A). f (h x)) xs ≡ total f ys
@@ -289,7 +289,7 @@ total_bijection {A} {B} f h k xs ys o p into back kh hk =
     reach : Within ys (map h xs)
     reach z m = subst (λ u. Among u (map h xs)) (hk z m) (Among-map h (k z) xs (back z m))
 
--- a sum whose terms an involution turns into their negatives is 0
+-- if xs is without repeats and h is an involution of its members with f(h(x)) = -f(x), the sum of f over xs is 0
 pub total_cancel : {A : Type 0} (f : A → ℤ) (h : A → A) (xs : List A) → Once xs → ((x : A) → Among x xs → Among (h x) xs)
     → ((x : A) → Among x xs → h (h x) ≡ x) → ((x : A) → Among x xs → f (h x) ≡ neg_ℤ (f x)) → total f xs ≡ pos 0
 total_cancel {A} f h xs o into twice turn =
@@ -298,7 +298,7 @@ total_cancel {A} f h xs o into twice turn =
     let c = total_neg f xs in
     omega (arith, ints)
 
--- a sum whose terms are 0 at all members but a is its term at a
+-- if a is in xs, xs is without repeats, and f is 0 at its other members, the sum of f over xs is f(a)
 pub total_only : {A : Type 0} (f : A → ℤ) (a : A) (xs : List A) → Once xs → Among a xs → ((x : A) → Among x xs → (x ≡ a → ⊥) → f x ≡ pos 0) → total f xs ≡ f a
 total_only {A} f a xs o m zero_at =
     let e = total-without f a xs m in

@@ -1,5 +1,5 @@
 -- Lists of terms with whole coefficients (specs/WholeTerms): the value of a list depends only on the summed coefficient
--- of each label. Labels of any type are distinguished by a key, a list of numbers that determines the label.
+-- of each label.
 use Rattle.std.proofs.Common.{◌≡◌, ℕ, List, [], ◌∷◌, ◌++◌, ◌+◌, map, sym, ◌∙◌, ap, ap₂, subst, refl, inl, inr, arith, ℤ, pos, ◌*ℤ◌}
 use Rattle.sym_model.specs.Sum.{total, Among}
 use Rattle.sym_model.specs.Polynomial.{Poly, coefficient, Same, pair, plus, scale}
@@ -9,7 +9,7 @@ use Rattle.sym_model.proofs.Ring.{product-one}
 use Rattle.sym_model.proofs.Sums.{total_ext}
 use Rattle.sym_model.proofs.Polynomials.{at_only, coefficient_pair, pair_each, pair_scale, pair_determined, scale_respects}
 
--- the pairing of a combination is the sum of the pairings of its polynomials
+-- the pairing of the sum of c·p(label) over the terms (label, c) with φ is the sum of c times the pairing of p(label) with φ
 pub pair_of_combined : {Label : Type 0} (polynomial : Label → Poly) (terms : WholeTermsOf Label) (φ : List ℕ → ℤ) → pair (combined polynomial terms) φ ≡ total (λ (t : Label × ℤ). t.1 *ℤ pair (polynomial t.0) φ) terms
 pair_of_combined {Label = Label} polynomial terms φ =
     pair_each (λ (t : Label × ℤ). scale t.1 (polynomial t.0)) terms φ
@@ -45,7 +45,7 @@ module _ {Label : Type 0} (P : Label → Type 0) where
 
 -- ---- collecting terms does not change the polynomial
 
--- if two lists have the same summed coefficients, their combinations are the same polynomial
+-- if two lists have the same summed coefficient at each label, their sums of c·p(label) are the same polynomial
 pub combined_respects : (polynomial : List ℕ → Poly) (terms others : WholeTerms) → Same terms others → Same (combined polynomial terms) (combined polynomial others)
 combined_respects polynomial terms others e α =
     coefficient-combined polynomial terms α ∙ pair_determined terms others (λ label. coefficient (polynomial label) α) e ∙ sym (coefficient-combined polynomial others α)
@@ -60,7 +60,7 @@ cleared-as_fractions : {Label : Type 0} (polynomial : Label → Poly) (terms : W
 cleared-as_fractions polynomial [] = refl
 cleared-as_fractions polynomial (t ∷ terms) = ap₂ plus (ap (λ c. scale c (polynomial t.0)) (product-one t.1)) (cleared-as_fractions polynomial terms)
 
--- the value of a list of whole terms is the combination itself
+-- the value of a list of terms c/1 is the sum of c·p(label) over its terms
 pub value_by-as_fractions : {Label : Type 0} (polynomial : Label → Poly) (terms : WholeTermsOf Label) → value_by polynomial (as_fractions terms) ≡ combined polynomial terms
 value_by-as_fractions polynomial terms =
     ap (λ q. cleared polynomial q (as_fractions terms)) (denominators-as_fractions terms) ∙ cleared-as_fractions polynomial terms
@@ -78,7 +78,7 @@ value_by-whole polynomial terms w = ap (λ l. value_by polynomial l) (sym (as_fr
 pub value_of_whole : (basis : Basis) (terms : Terms (List ℕ)) (n : ℕ) → AreWhole terms → value basis terms n ≡ combined (λ label. basis_polynomial basis label n) (numerators terms)
 value_of_whole basis terms n w = value_by-whole (λ label. basis_polynomial basis label n) terms w
 
--- if a list has only denominators 1, it represents each polynomial that is its combination
+-- if all denominators are 1, the list represents each polynomial that is the sum of c·p(label) over its terms c/1
 pub represents-whole : {Label : Type 0} (polynomial : Label → Poly) (terms : Terms Label) (f : Poly) → AreWhole terms → Same (combined polynomial (numerators terms)) f → Represents polynomial terms f 1
 represents-whole polynomial terms f w e = record {
   positive = omega (arith, denominators_of_whole terms w);

@@ -6,7 +6,7 @@ use Rattle.sym_model.specs.Partition.{part, rows}
 use Rattle.sym_model.specs.BetaList.{beta, from_beta, has_equal_entries, sorted_falling}
 use Rattle.sym_model.specs.BetaList.{sorting_sign}
 
--- the difference of the first entry and the last
+-- the first entry of b minus its last one
 abbrev pub spread : List ℕ → ℕ
 spread b = part b 1 - part b (length b)
 
@@ -26,15 +26,15 @@ abbrev pub reflected : ℕ → List ℕ → List ℕ
 reflected n [] = []
 reflected n (a ∷ b) = (a - n) ∷ last_raised n b
 
--- a result with its sign multiplied by t; None stays None
+-- a list with a sign, the sign multiplied by t; None for None
 abbrev pub with_sign : ℤ → Option (List ℕ × ℤ) → Option (List ℕ × ℤ)
 with_sign t None = None
 with_sign t (Some answer) = Some (answer.0, t *ℤ answer.1)
 
--- the result of reflecting a strictly decreasing list in at most the given number of steps. A list
--- with a spread below n is unchanged, with the sign 1; one with the spread n gives nothing. Any
--- other list is reflected: if two entries are then equal it gives nothing; otherwise it is sorted,
--- its sign is multiplied by the sign of sorting, and the rule is applied again.
+-- the strictly decreasing list b with its sign, after at most `steps` steps. If its first entry minus its last is
+-- less than n, it stays, with the sign 1; if that difference is n, the result is None. Otherwise b is reflected: two
+-- equal entries then give None, and a list of different entries is sorted, its sign multiplied by the sign of
+-- sorting, and the next step is taken on it. If no step is left, the result is None.
 abbrev pub reflected_within : ℕ → ℕ → List ℕ → Option (List ℕ × ℤ)
 reflected_within zero n b = None
 reflected_within (suc steps) n b =
@@ -43,18 +43,18 @@ reflected_within (suc steps) n b =
     cond (nat_lt (spread b) n) (Some (b, pos 1))
     (cond ((spread b == n) || has_equal_entries next) None later)
 
--- reflecting without a bound on the steps: each reflection lowers the sum of the squares, so one step more than that
--- sum is enough
+-- the list b reflected as often as it is needed: for n ≥ 1 a reflection of a list whose first entry minus its last
+-- exceeds n lowers the sum of the squares, so one step more than that sum is enough
 abbrev pub reflected_into_alcove : ℕ → List ℕ → Option (List ℕ × ℤ)
 reflected_into_alcove n b = reflected_within (suc (squares b)) n b
 
--- a result whose list, a beta list, is replaced by its partition
+-- the partition of a beta list, with the same sign; None for None
 abbrev pub as_partition : Option (List ℕ × ℤ) → Option (List ℕ × ℤ)
 as_partition None = None
 as_partition (Some answer) = Some (from_beta answer.0, answer.1)
 
--- the reduction of a partition with at most k rows: a partition with a sign, or nothing if it is 0;
--- nothing for a partition with more rows
+-- the reduction of a partition into the alcove of k rows and level n - k: a partition with a sign, or None if the
+-- reduction is 0 or the partition has more than k rows
 abbrev pub alcove_reduction : ℕ → ℕ → List ℕ → Option (List ℕ × ℤ)
 alcove_reduction k n shape =
     cond (nat_le (rows shape) k) (as_partition (reflected_into_alcove n (beta k shape))) None

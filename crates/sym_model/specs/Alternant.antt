@@ -4,11 +4,11 @@ use Rattle.sym_model.specs.Polynomial.{Poly, Term, coefficient, join, scale, tim
 use Rattle.sym_model.specs.Partition.{part}
 use Rattle.sym_model.specs.PlaceOrders.{orders, places, sign}
 
--- w(β): entry w_1 of β, then entry w_2, and so on
+-- w(β) = (β_(w_1), β_(w_2), ..)
 abbrev pub rearranged : List ℕ → List ℕ → List ℕ
 rearranged w β = map (part β) w
 
--- a_β: the sum over all orders w of the places of the sign of w times x^w(β)
+-- a_β: the sum of sign(w)·x^w(β) over all orders w of the places of β
 abbrev pub alternant : List ℕ → Poly
 alternant β = map (λ w. (rearranged w β, sign w)) (orders (places (length β)))
 
@@ -22,6 +22,6 @@ staircase (suc n) = n ∷ staircase n
 abbrev pub schur_coefficient : ℕ → List ℕ → Poly → ℤ
 schur_coefficient n ν f = coefficient (times (alternant (staircase n)) f) (join ν (staircase n))
 
--- the sum over the terms of f, of exponents α, of the coefficient times a_(β + α)
+-- the sum of c·a_(β + α) over the terms c·x^α of f
 abbrev pub alternants_over : List ℕ → Poly → Poly
 alternants_over β f = flat_map (λ (t : Term). scale t.1 (alternant (join β t.0))) f

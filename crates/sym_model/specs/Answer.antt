@@ -9,7 +9,7 @@ use Rattle.sym_model.specs.PrintedBlock.{block_by}
 pub data Answer : Type 0 where
   answer : (kind : Kind) → Terms (Label kind) → Answer
 
--- the number that a list of the kind number is: its one coefficient, or 0 if there is no term
+-- the number that a list of the kind `number` is: the numerator of its first coefficient, or 0 if there is no term
 abbrev pub number_in : Terms (Label number) → ℤ
 number_in [] = pos 0
 number_in (t ∷ terms) = t.1.0
@@ -18,7 +18,7 @@ number_in (t ∷ terms) = t.1.0
 abbrev pub answer_text : Answer → List ℕ
 answer_text (answer kind terms) = block_by (label_rules kind) terms
 
--- the answer is a canonical list of its kind, with numbers of 128 bits
+-- the answer is a canonical list of its kind, with numerators and denominators of 128 bits with a sign
 abbrev pub IsPrintable : Answer → Type 0
 IsPrintable (answer kind terms) =
     IsCanonicalBy (label_rules kind) terms × IsTrue (is_printable terms)

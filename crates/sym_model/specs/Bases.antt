@@ -45,7 +45,7 @@ complete_of k n = monomials (λ α. true) n k
 abbrev pub power_sum_of : ℕ → ℕ → Poly
 power_sum_of k n = monomials (has k) n k
 
--- the product of the polynomials of the parts; 1 if there is no part
+-- the product of the polynomials f(k) over the parts k; 1 if there is no part
 abbrev pub product_over : (ℕ → ℕ → Poly) → List ℕ → ℕ → Poly
 product_over f [] n = one n
 product_over f (k ∷ parts) n = times (f k n) (product_over f parts n)

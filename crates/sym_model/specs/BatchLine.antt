@@ -45,7 +45,8 @@ line_of_words ([] ∷ words) = spoken ([] ∷ words)
 line_of_words ((byte ∷ text) ∷ words) =
     cond (byte == 35) passed_over (spoken ((byte ∷ text) ∷ words))
 
--- a line before its line feed; its bytes are counted with the carriage return
+-- the line of a batch with these bytes before its line feed; a carriage return at its end counts as one of its
+-- bytes, but is no part of its words
 abbrev pub batch_line : List ℕ → BatchLine
 batch_line line =
     cond (nat_lt most_bytes (length line)) too_long

@@ -1,5 +1,5 @@
--- The outcomes of the commands that run others: `batch`, which runs the lines of its input, and
--- `work`, which runs lines that it makes. With them, the outcomes of any words.
+-- The outcomes of the commands that run other ones: `batch`, which runs the lines of its input, and `work`, which runs
+-- lines that it makes. With these, `IsOutcomeOf` defines the outcomes of any words.
 use Rattle.std.specs.Prelude.{◌≡◌, ℕ, Bool, true, false, ◌&&◌, cond, List, [], ◌∷◌, map, codes}
 use Rattle.sym_model.specs.TableauText.{separated}
 use Rattle.sym_model.specs.Workload.{work_lines, summary_text}
@@ -15,7 +15,7 @@ use Rattle.sym_model.specs.Outcome.{ending_of, Answers, ComesOf, IsLineOutcome}
 abbrev pub Block : Type 0
 Block = List ℕ × Ending
 
--- these are the blocks of the lines: one for each line that is not skipped
+-- the blocks are, in this order, the outcomes of the lines that are not skipped
 abbrev pub AreBlocks : List Entry → List BatchLine → List Block → Type 0
 AreBlocks entries [] [] = Unit {0}
 AreBlocks entries (passed_over ∷ lines) blocks = AreBlocks entries lines blocks
@@ -30,43 +30,43 @@ AreBlocks entries _ _ = ⊥
 abbrev pub batch_text : List Block → List ℕ
 batch_text blocks = separated (codes "--\n") (map (λ (b : Block). b.0) blocks)
 
--- whether a line was answered and not refused
+-- whether the ending is `done`
 abbrev pub is_done : Ending → Bool
 is_done done = true
 is_done _ = false
 
--- whether all lines were answered
+-- whether each block has the ending `done`
 abbrev pub are_done : List Block → Bool
 are_done [] = true
 are_done (b ∷ blocks) = is_done b.1 && are_done blocks
 
--- the ending of a batch
+-- the ending of a batch: `done` if each block has this ending, otherwise `some_refused`
 abbrev pub batch_ending : List Block → Ending
 batch_ending blocks = cond (are_done blocks) done some_refused
 
--- the text is the output of a batch over this input, and the batch ends like this
+-- the text is the output of a batch over the input, and `ending` is its ending
 pub record RunsInput (entries : List Entry) (input text : List ℕ) (ending : Ending) : Type 0 where
   pub blocks : List Block
   pub are_blocks : AreBlocks entries (map batch_line (lines_of input)) blocks
   pub joined : text ≡ batch_text blocks
   pub ends : ending ≡ batch_ending blocks
 
--- the text is the summary of the blocks of the lines that are made from the seed
+-- the text is the summary of the blocks of the `lines` lines that are made from the seed
 pub record RunsWorkload (entries : List Entry) (lines seed : ℕ) (text : List ℕ) : Type 0 where
   pub blocks : List Block
   pub are_blocks : AreBlocks entries (map batch_line (work_lines lines seed)) blocks
   pub summed : text ≡ summary_text (map (λ (b : Block). b.0) blocks)
 
--- the outcome of a command whose words have no error. The entries are those of the commands that a line of a batch or
--- of the workload may be.
+-- the text and the ending are the outcome of a command whose words have no error, over the input; `entries` are the
+-- commands that a line of `batch` or `work` may be
 abbrev pub AnswersWith : List Entry → List ℕ → Command → List ℕ → Ending → Type 0
 AnswersWith entries input batch text ending = RunsInput entries input text ending
 AnswersWith entries input (work lines seed) text ending =
     RunsWorkload entries lines seed text × (ending ≡ done)
 AnswersWith entries input command text ending = Answers command text ending
 
--- the outcome of words over an input: `entries` are the commands of the command line, and `line_entries` those of a
--- line of a batch
+-- the text and the ending are the outcome of the words over the input; `entries` are the commands of the command
+-- line, and `line_entries` those of a line of a batch
 abbrev pub IsOutcomeOf : List Entry → List Entry → List (List ℕ) → List ℕ → List ℕ → Ending → Type 0
 IsOutcomeOf entries line_entries words input text ending =
     ComesOf (AnswersWith line_entries input) entries words text ending

@@ -1,5 +1,5 @@
--- Canonical lists of terms: each label once, in the printed order, with a coefficient
--- that is not 0 and in lowest terms.
+-- Canonical lists of terms: the labels are in the printed order, each of them once and within its limits, with a
+-- coefficient that is not 0 and is in lowest terms.
 use Rattle.std.specs.Prelude.{ℕ, zero, suc, ◌+◌, ◌^◌, ◌%◌, ◌==◌, nat_lt, Bool, true, ◌&&◌, ◌||◌, ℤ}
 use Rattle.std.specs.Prelude.{pos, negsuc, nat_abs, [], ◌∷◌, IsTrue}
 use Rattle.std.specs.Ordering.{is_lt}
@@ -38,17 +38,18 @@ each_term test (t ∷ terms) = test t && each_term test terms
 abbrev pub is_coefficient : Bool → Fraction → Bool
 is_coefficient has_fractions c = (has_fractions || (c.1 == 1)) && is_reduced c
 
--- whether a list of terms is canonical by the rules of its labels
+-- whether a list of terms is canonical: its labels are within the limits of `rules`, each before the next one in the
+-- order of `rules`, and its coefficients are in lowest terms and not 0, and whole unless `rules` allows fractions
 abbrev pub is_canonical_by : {Label : Type 0} → LabelRules Label → Terms Label → Bool
 is_canonical_by rules terms =
     is_ordered rules.order terms
     && each_term (λ t. is_coefficient rules.has_fractions t.1 && rules.is_within_limits t.0) terms
 
--- the list is canonical by the rules of its labels
+-- the list of terms is canonical by `rules`, as `is_canonical_by` decides
 abbrev pub IsCanonicalBy : {Label : Type 0} → LabelRules Label → Terms Label → Type 0
 IsCanonicalBy rules terms = IsTrue (is_canonical_by rules terms)
 
--- whether a whole number is one of 128 bits with a sign
+-- whether -2^127 ≤ n < 2^127
 abbrev pub fits_128_bits : ℤ → Bool
 fits_128_bits (pos n) = nat_lt n (2 ^ 127)
 fits_128_bits (negsuc n) = nat_lt n (2 ^ 127)

@@ -37,13 +37,12 @@ abbrev pub first_offence : List Offence → Option Offence
 first_offence [] = None
 first_offence (o ∷ os) = earlier_of o (first_offence os)
 
--- the errors of a list relative to an earlier list count only if the earlier list has none of its
--- own
+-- `found`, the errors of a list relative to an earlier list; none if the earlier list has errors of its own
 abbrev pub judged_against : List Offence → List Offence → List Offence
 judged_against [] found = found
 judged_against (o ∷ earlier) found = []
 
--- the kind as a list of one error, if the test is true
+-- if the test is true, the list of this one kind; otherwise the empty list
 abbrev pub when : Bool → OffenceKind → List OffenceKind
 when test kind = cond test (kind ∷ []) []
 
@@ -71,11 +70,11 @@ abbrev pub stands_in : ℕ → List ℕ → Bool
 stands_in a [] = false
 stands_in a (b ∷ numbers) = (a == b) || stands_in a numbers
 
--- the most numbers of a partition that is written
+-- the greatest number of parts that a written partition may have
 abbrev pub most_parts : ℕ
 most_parts = 64
 
--- the most cells of a partition that is written
+-- the greatest number of cells that a written partition may have
 abbrev pub most_cells : ℕ
 most_cells = 512
 
@@ -83,7 +82,7 @@ most_cells = 512
 abbrev pub most_factors : ℕ
 most_factors = 8
 
--- the most letters of a permutation that is written, and the greatest of them
+-- the greatest number of letters of a written permutation, and the greatest letter allowed in it
 abbrev pub most_permuted : ℕ
 most_permuted = 16
 
@@ -116,20 +115,20 @@ greatest_seed = 65536
 abbrev pub is_outside : ℕ → ℕ → Bool
 is_outside limit a = (a == 0) || nat_lt limit a
 
--- the errors of a number of rows or columns, or of a level: 0, a number over 64
+-- the errors of a number of rows or columns, or of a level: over 2^127 - 1 (literal); 0 or over 64 (range)
 abbrev pub rows_rule : Rule
 rows_rule before a = when (is_wide a) literal ++ when (is_outside most_rows a) range
 
--- the errors of a number of lines: 0, a number over 10,000
+-- the errors of a number of lines: over 2^127 - 1 (literal); 0 or over 10,000 (range)
 abbrev pub lines_rule : Rule
 lines_rule before a = when (is_wide a) literal ++ when (is_outside most_lines a) range
 
--- the error of a seed: a number over 65,536
+-- the errors of a seed: over 2^127 - 1 (literal); over 65,536 (range)
 abbrev pub seed_rule : Rule
 seed_rule before a = when (is_wide a) literal ++ when (nat_lt greatest_seed a) range
 
--- the errors of a number of a partition: it is the 65th number, the sum of the numbers up to it is the first to exceed
--- 512, or it is greater than the number before it
+-- the errors of a number of a partition: over 2^127 - 1 (literal); the 65th number, or the first up to which the sum
+-- exceeds 512 (range); greater than the number before it (shape)
 abbrev pub part_rule : Rule
 part_rule before a =
     when (is_wide a) literal
@@ -139,21 +138,21 @@ part_rule before a =
     range
     ++ when (rises (left_of before) a) shape
 
--- the errors of a number of a permutation of `count` letters. It is out of range if it is over `most`, or if it is the
--- first number after `most` others. It is invalid if it is 0, is over the number of letters, or occurs before it.
+-- the errors of a number of a permutation of `count` letters: over 2^127 - 1 (literal); over `most`, or the first
+-- after `most` others (range); 0, over `count`, or equal to a number before it (shape)
 abbrev pub permutation_rule_within : ℕ → ℕ → Rule
 permutation_rule_within most count before a =
     when (is_wide a) literal
     ++ when (nat_lt most a || (length before == most)) range
     ++ when (is_outside count a || stands_in a before) shape
 
--- the errors of a letter of a word: it is 0, is over 65,535, or is the 257th letter
+-- the errors of a letter of a word: over 2^127 - 1 (literal); 0, over 65,535, or the 257th letter (range)
 abbrev pub letter_rule : Rule
 letter_rule before a =
     when (is_wide a) literal ++ when
     (is_outside greatest_letter a || (length before == most_letters)) range
 
--- the errors of an entry of a tableau: it is 0 or over 65,535
+-- the errors of an entry of a tableau: over 2^127 - 1 (literal); 0 or over 65,535 (range)
 abbrev pub entry_rule : Rule
 entry_rule before a = when (is_wide a) literal ++ when (is_outside greatest_letter a) range
 
@@ -165,8 +164,9 @@ inside_rule outer before a = when (nat_lt (part outer (length before + 1)) a) sh
 abbrev pub part_offences : ℕ → List ℕ → List Offence
 part_offences k numbers = offences_by part_rule k numbers
 
--- the errors of the factors of a product after `count` others: the errors of each factor, and the word in front of the
--- ninth factor. The first of them begins at word k, and there is one word between each two.
+-- the errors of the factors of a product after `count` other factors: the errors of each factor, and an error at the
+-- word in front of the ninth factor. The first of these factors begins at word k, and there is one word between any
+-- two.
 abbrev pub factor_offences : ℕ → ℕ → List (List ℕ) → List Offence
 factor_offences count k [] = []
 factor_offences count k (numbers ∷ factors) =
@@ -198,12 +198,12 @@ count_offences count (row ∷ rows) =
     offences_by (λ before a. when (count + length before == most_letters) range) row.0 row.1
     ++ count_offences (count + length row.1) rows
 
--- whether a number is smaller than the previous one
+-- whether a is smaller than the previous number, if there is one
 abbrev pub falls : Option ℕ → ℕ → Bool
 falls None a = false
 falls (Some b) a = nat_lt a b
 
--- whether a number is not greater than another one
+-- whether a is at most b, if the number b is given
 abbrev pub stays : Option ℕ → ℕ → Bool
 stays None a = false
 stays (Some b) a = nat_le a b
@@ -259,12 +259,13 @@ standard_offences count earlier upper (row ∷ rows) =
 abbrev pub entries : List PlacedRow → List (List ℕ)
 entries rows = map (λ (row : PlacedRow). row.1) rows
 
--- the rows of a tableau of the shape outer/inner: if the shape has no rows, a single `.` is the tableau without rows
+-- the rows of a tableau of the shape outer/inner, given as written: if outer has no parts, a single row without
+-- entries is read as no row
 abbrev pub rows_in : List ℕ → List (List ℕ) → List (List ℕ)
 rows_in [] ([] ∷ []) = []
 rows_in outer rows = rows
 
--- the errors in word k of the command, of which each has its byte and kind
+-- the errors found in word k, each with its byte and kind, as errors of the command
 abbrev pub offences_in_word : ℕ → List WordOffence → List Offence
 offences_in_word k found = map (λ o. (k, o.0, o.1)) found
 

@@ -26,17 +26,19 @@ variable_in i n = restrict n (variable i)
 abbrev pub raised : ℕ → List ℕ → List ℕ
 raised r exponents = join exponents (replicate (r - 1) 0 ++ (1 ∷ []))
 
--- s_i f: the polynomial with x_i and x_(i+1) exchanged
+-- s_i f: f with x_i and x_(i+1) exchanged
 abbrev pub with_exchanged : ℕ → Poly → Poly
 with_exchanged i f = map (λ (t : Term). (exchanged i t.0, t.1)) f
 
--- sign times the sum of x^c·y^(a+b-1-c) for c from b to a - 1, times x^rest; nothing if a ≤ b
+-- sign times the sum of x^c·y^(a+b-1-c) for c from b to a - 1, times the monomial with the exponents `rest` in the
+-- variables after x and y; nothing if a ≤ b
 abbrev pub powers_between : ℤ → ℕ → ℕ → List ℕ → Poly
 powers_between sign a b rest =
     map (λ c. (c ∷ (a + b - 1 - c) ∷ rest, sign)) (range_with_len b (a - b))
 
--- ∂ of the monomial x^exponents in the two variables after the first k: with their exponents a and
--- b, for a > b the sum of the powers between, for a < b minus that sum, for a = b nothing
+-- ∂_(k+1) of the monomial with these exponents: if x_(k+1) and x_(k+2) have the exponents a and b, the sum of
+-- x_(k+1)^c·x_(k+2)^(a+b-1-c) over b ≤ c < a, minus that over a ≤ c < b, times the powers of the other variables; 0
+-- if there are fewer than k + 2 exponents
 abbrev pub difference_after : ℕ → List ℕ → Poly
 difference_after zero [] = []
 difference_after zero (a ∷ []) = []
@@ -45,11 +47,11 @@ difference_after zero (a ∷ b ∷ rest) =
 difference_after (suc k) [] = []
 difference_after (suc k) (a ∷ rest) = map (λ (t : Term). (a ∷ t.0, t.1)) (difference_after k rest)
 
--- ∂ of a polynomial in the two variables after the first k: the sum over its terms
+-- ∂_(k+1) f: the sum of c·∂_(k+1) x^α over the terms c·x^α of f
 abbrev pub differences_after : ℕ → Poly → Poly
 differences_after k f = flat_map (λ (t : Term). scale t.1 (difference_after k t.0)) f
 
--- ∂_i f, the divided difference of f in x_i and x_(i+1); i counts from 1
+-- ∂_i f, the divided difference of f in x_i and x_(i+1); i counts from 1, and ∂_0 f is 0
 abbrev pub divided_difference : ℕ → Poly → Poly
 divided_difference zero f = []
 divided_difference (suc k) f = differences_after k f

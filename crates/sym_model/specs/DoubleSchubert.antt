@@ -19,31 +19,32 @@ abbrev pub difference_in : ℕ → ℕ → ℕ → Poly
 difference_in i j m =
     plus (beside (variable_in i m) (one m)) (negate (beside (one m) (variable_in j m)))
 
--- the product of all x_i - y_j with i + j at most n, in m variables of each
+-- the product of all x_i - y_j with i + j at most n, in m variables x and m variables y
 abbrev pub difference_product : ℕ → ℕ → Poly
 difference_product n m =
     product_of (m + m) (flat_map (λ i. map (λ j. difference_in i j m) (after 0 (n - i)))
     (after 0 n))
 
--- S(w; x, y), the double Schubert polynomial of a list w of n letters, in m variables x and m
--- variables y, m at least n: divided differences in the x_i of the product of the x_i - y_j
+-- S(w; x, y), the double Schubert polynomial of a list w of n letters, in m variables x and m variables y, m at
+-- least n: divided differences in the x_i of the product of the x_i - y_j with i + j ≤ n
 abbrev pub double_schubert : List ℕ → ℕ → Poly
 double_schubert w m = schubert_over (difference_product (length w) m) w
 
--- a polynomial in m variables of each, restricted to n of each: the later ones are set to 0
+-- a polynomial in m variables x and m variables y, restricted to the first n of each kind: the later ones are set to
+-- 0
 abbrev pub restrict_both : ℕ → ℕ → Poly → Poly
 restrict_both m n f =
     map (λ (t : Term). (resize n (take m t.0) ++ resize n (drop m t.0), t.1))
     (filter (λ (t : Term). fits_in n (take m t.0) && fits_in n (drop m t.0)) f)
 
--- the double Schubert polynomial of a permutation, in n variables of each
+-- the double Schubert polynomial of a permutation, in n variables x and n variables y
 abbrev pub double_schubert_in : List ℕ → ℕ → Poly
 double_schubert_in w n = restrict_both (length w) n (double_schubert w (length w))
 
--- the sum of the double Schubert polynomials of permutations, in n variables of each
+-- the sum of the double Schubert polynomials of permutations, in n variables x and n variables y
 abbrev pub double_schuberts_in : List (List ℕ) → ℕ → Poly
 double_schuberts_in ws n = flat_map (λ w. double_schubert_in w n) ws
 
--- y^exponents times the double Schubert polynomial of a permutation, in n variables of each
+-- y^exponents times the double Schubert polynomial of a permutation, in n variables x and n variables y
 abbrev pub shifted_in : List ℕ × List ℕ → ℕ → Poly
 shifted_in label n = times (beside (one n) (x_to_in label.1 n)) (double_schubert_in label.0 n)

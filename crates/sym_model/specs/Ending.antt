@@ -1,8 +1,8 @@
 -- The ending of a command.
 
--- the ending of a command: all of its text was written; a line of a batch was refused; or the words or
--- the answer were refused, because the words are no command, exceed a limit or have a wrong shape,
--- or because a number exceeds 128 bits
+-- the ending of a command: `done` if all of its text was written; `some_refused` if a line of a batch was refused;
+-- `syntax` if its words are no command; `range` if they exceed a limit or have a wrong shape; `past` if a number of
+-- the words or of the answer exceeds 128 bits
 pub data Ending : Type 0 where
   done : Ending
   some_refused : Ending

@@ -1,5 +1,5 @@
--- Commands given by the forms of their words, for any list of commands: the command that a list of
--- words spells, what a list of words can begin, and its first error.
+-- Commands given by the forms of their words, for any list of commands: the command that a list of words spells, the
+-- lists of words that begin a command, and the first error of a list of words.
 use Rattle.std.specs.Prelude.{◌≡◌, ℕ, List, Option, None}
 use Rattle.sym_model.specs.Form.{Form, Written, SomeOf, Has, Begins, Awaits}
 use Rattle.sym_model.specs.Command.{Command}
@@ -45,6 +45,6 @@ SpellsWithoutOffence entries words command = SomeOf (λ e. SpellsFreely e words 
 abbrev pub BeginsCommand : List Entry → List (List ℕ) → Type 0
 BeginsCommand entries words = SomeOf (λ e. Begins e.form words) entries
 
--- an expression is awaited after the words
+-- after these words, the words of a command can go on with an expression
 abbrev pub AwaitsExpression : List Entry → List (List ℕ) → Type 0
 AwaitsExpression entries words = SomeOf (λ e. Awaits e.form words) entries

@@ -33,7 +33,7 @@ abbrev pub denominators : {Label : Type 0} → Terms Label → ℕ
 denominators [] = 1
 denominators (t ∷ terms) = t.1.1 * denominators terms
 
--- the sum of num·(q/den) times the polynomial of the label, over the terms
+-- the sum, over the terms with the coefficients num/den, of num·(q/den) times the polynomial of the label
 abbrev pub cleared : {Label : Type 0} → (Label → Poly) → ℕ → Terms Label → Poly
 cleared polynomial q [] = nothing
 cleared polynomial q (t ∷ terms) =
@@ -59,7 +59,7 @@ value basis terms n = value_by (λ label. basis_polynomial basis label n) terms
 abbrev pub IsExpansionOf : Basis → Terms (List ℕ) → ℕ → Poly → ℕ → Type 0
 IsExpansionOf basis terms n f d = Represents (λ label. basis_polynomial basis label n) terms f d
 
--- the product of two polynomials in variables of their own: those of g come after those of f
+-- the product of two polynomials in separate variables: those of g come after those of f
 abbrev pub beside : Poly → Poly → Poly
 beside f g = flat_map (λ (s : Term). map (λ (t : Term). (s.0 ++ t.0, s.1 *ℤ t.1)) g) f
 

@@ -6,8 +6,8 @@ use Rattle.sym_model.specs.Partition.{size}
 use Rattle.sym_model.specs.Expansion.{Basis, basis_polynomial}
 use Rattle.sym_model.specs.Canonical.{gcd}
 
--- an expression: a number, a fraction that need not be in lowest terms, a partition in a basis, or
--- a sum, a difference or a product of expressions
+-- an expression: a number, a fraction that need not be in lowest terms, a partition in a basis, or a negation, a
+-- sum, a difference or a product of expressions
 pub data Tree : Type 0 where
   number : ℕ → Tree
   fraction : ℕ → ℕ → Tree
@@ -42,8 +42,8 @@ nesting (product e f) = max (nesting e) (nesting f) + 1
 abbrev pub lcm : ℕ → ℕ → ℕ
 lcm a b = a / gcd a b * b
 
--- D, a common denominator of all coefficients: the least common multiple of the two for a sum or a difference, and
--- their product for a product
+-- D, a common denominator of all coefficients: 1 for a number or an atom, b for a fraction a/b, D of the operand for
+-- a negation, the least common multiple of the two for a sum or a difference, and their product for a product
 abbrev pub denominator : Tree → ℕ
 denominator (number a) = 1
 denominator (fraction a b) = b
@@ -53,7 +53,7 @@ denominator (sum e f) = lcm (denominator e) (denominator f)
 denominator (difference e f) = lcm (denominator e) (denominator f)
 denominator (product e f) = denominator e * denominator f
 
--- V, the polynomial in n variables that is D times the value of the expression
+-- V, the polynomial in n variables that is the value of the expression times its common denominator `denominator e`
 abbrev pub cleared_value : Tree → ℕ → Poly
 cleared_value (number a) n = scale (pos a) (one n)
 cleared_value (fraction a b) n = scale (pos a) (one n)

@@ -13,9 +13,9 @@ pub data OffenceKind : Type 0 where
   range : OffenceKind
   shape : OffenceKind
 
--- the meaning of a byte of an expression at which something begins: a number or a numerator; a denominator; a number in the
--- list of an atom, with the count of numbers before it in that list and the last of these; or an
--- opening parenthesis, with the number of parentheses that are then open
+-- the meaning of a byte of an expression at which something begins: a number or a numerator, with its value; a
+-- denominator, with its value; a number in the list of an atom, with the count of numbers before it in that list,
+-- the last of these, and its value; or an opening parenthesis, with the number of parentheses that are then open
 pub data Mark : Type 0 where
   value : ℕ → Mark
   denominator : ℕ → Mark
@@ -31,9 +31,8 @@ abbrev pub rises : Option ℕ → ℕ → Bool
 rises None n = false
 rises (Some before) n = nat_lt before n
 
--- whether a mark is an error of the kind: a number over 2^127 - 1; the 65th number of an atom, or a
--- parenthesis that opens depth 65; a number of an atom that is greater than the one before it, or
--- the denominator 0
+-- whether a mark is an error of the given kind: a number over 2^127 - 1; the 65th number of an atom, or a parenthesis
+-- that opens depth 65; a number of an atom that is greater than the one before it, or the denominator 0
 abbrev pub is_offence : Mark → OffenceKind → Bool
 is_offence (value n) literal = is_wide n
 is_offence (denominator n) literal = is_wide n
@@ -44,7 +43,8 @@ is_offence (entry count before n) shape = rises before n
 is_offence (denominator n) shape = n == 0
 is_offence _ _ = false
 
--- the marks of number words with commas between them, the first of which begins at the byte
+-- the marks of number words with commas between them, the first of which begins at the byte, after `count` numbers
+-- of the same list, the last of which is `before`
 abbrev pub entry_marks : ℕ → ℕ → Option ℕ → List (List ℕ) → List (ℕ × Mark)
 entry_marks byte count before [] = []
 entry_marks byte count before (word ∷ words) =
@@ -67,7 +67,7 @@ marks depth byte (operation operator left right) =
 abbrev pub WordOffence : Type 0
 WordOffence = ℕ × OffenceKind
 
--- the error of the kind at a mark, or no error
+-- the error of the given kind at a mark, or no error
 abbrev pub offence_at : OffenceKind → ℕ × Mark → List WordOffence
 offence_at kind m = cond (is_offence m.1 kind) ((m.0, kind) ∷ []) []
 
@@ -81,8 +81,7 @@ degree_limit monomials = 20
 degree_limit schurs = 20
 degree_limit _ = 15
 
--- the greatest degree of each expression of a plethysm, and of the two together, which is the
--- product of their degrees
+-- the greatest degree of each expression of a plethysm, and the greatest product of the two degrees
 abbrev pub plethysm_degree_limit : ℕ
 plethysm_degree_limit = 10
 
@@ -98,7 +97,7 @@ abbrev pub offences_within : ℕ → Phrase → List WordOffence
 offences_within limit phrase =
     flat_map offences_at (marks 0 0 phrase) ++ offences_of_whole_within limit phrase
 
--- the errors of a whole expression that is expanded into the target
+-- the errors, as a whole, of an expression that is expanded into the target
 abbrev pub offences_of_whole : Basis → Phrase → List WordOffence
 offences_of_whole target phrase = offences_of_whole_within (degree_limit target) phrase
 
@@ -128,7 +127,7 @@ sign_offences byte (operation operator left right) =
 abbrev pub inner_offences : Phrase → List WordOffence
 inner_offences phrase = offences_within plethysm_degree_limit phrase ++ sign_offences 0 phrase
 
--- the kinds in their order at one place
+-- the rank of a kind: errors at one place are ordered by the ranks of their kinds
 abbrev pub rank : OffenceKind → ℕ
 rank literal = 0
 rank range = 1

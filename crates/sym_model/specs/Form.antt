@@ -16,8 +16,8 @@ pub data Class : Type 0 where
   target : List Basis → Class
   formula : Class
 
--- a form of lists of words: no word, one word of a class, one form and then another, one of two,
--- any number of one (Kleene's regular expressions)
+-- a form of lists of words: no word, one word of a class, one form and then another, one of two forms, or a form any
+-- number of times (Kleene's regular expressions)
 pub data Form : Type 0 where
   empty : Form
   word : Class → Form
@@ -140,8 +140,8 @@ is_skippable (sequence f g) = is_skippable f && is_skippable g
 is_skippable (either f g) = is_skippable f || is_skippable g
 is_skippable (many f) = true
 
--- the forms of the words that can follow the word, if the word and they together have the form: the partial derivatives
--- (Antimirov)
+-- the partial derivatives of a form by a word (Antimirov): the forms of the words that can follow the word, if the
+-- word and they together have the form; `reads` decides which words are expressions
 abbrev pub derivatives : (List ℕ → Bool) → Form → List ℕ → List Form
 derivatives reads empty text = []
 derivatives reads (word c) text = cond (fits reads c text) (empty ∷ []) []
@@ -176,7 +176,7 @@ abbrev pub after_words : (List ℕ → Bool) → List Form → List (List ℕ) �
 after_words reads forms [] = forms
 after_words reads forms (text ∷ words) = after_words reads (after_word reads forms text) words
 
--- whether the words have the form
+-- whether the words have the form, if `reads` decides which words are expressions
 abbrev pub are_words_of : (List ℕ → Bool) → Form → List (List ℕ) → Bool
 are_words_of reads f words = has_skippable (after_words reads (f ∷ []) words)
 
@@ -203,7 +203,7 @@ abbrev pub has_words : Class → Bool
 has_words (target []) = false
 has_words c = true
 
--- whether some words have the form, and some words have each form in it
+-- whether some words have the form, and each form of which it is made
 abbrev pub can_be : Form → Bool
 can_be empty = true
 can_be (word c) = has_words c

@@ -11,7 +11,7 @@ use Rattle.sym_model.specs.Schur.{words, content, tableaux}
 abbrev pub letter_in : ℕ → List ℕ → ℕ → List ℕ
 letter_in c row j = cond (nat_lt c j) (take 1 (drop (j - (c + 1)) row)) []
 
--- column j of a filling of a shape with that inner partition, from top to bottom
+-- column j of a filling of a shape with the inner partition `inner`, from top to bottom
 abbrev pub column : List ℕ → List (List ℕ) → ℕ → List ℕ
 column inner [] j = []
 column inner (row ∷ rest) j = letter_in (part inner 1) row j ++ column (drop 1 inner) rest j
@@ -26,7 +26,7 @@ reading_right_of j outer inner filling =
 abbrev pub column_reading : List ℕ → List ℕ → List (List ℕ) → List ℕ
 column_reading outer inner filling = reading_right_of 0 outer inner filling
 
--- whether no number is greater than the one before it, as of a partition with zeros at its end
+-- whether no number is greater than the one before it, as in a partition followed by zeros
 abbrev pub is_falling : List ℕ → Bool
 is_falling [] = true
 is_falling (a ∷ []) = true
@@ -50,12 +50,14 @@ is_good k start outer inner filling =
     every (λ j. is_falling (join start (content k (reading_right_of j outer inner filling))))
     (0 ∷ after 0 (columns outer))
 
--- the good tableaux of outer/inner with entries from 1 to k; none if start has more than k rows
+-- the tableaux of outer/inner with entries from 1 to k that are good for start: start plus the content of the
+-- columns right of column j is a partition for every j; none if start has more than k rows
 abbrev pub good_tableaux : ℕ → List ℕ → List ℕ → List ℕ → List (List (List ℕ))
 good_tableaux k start outer inner =
     cond (nat_le (rows start) k) (filter (is_good k start outer inner) (tableaux k outer inner)) []
 
--- the column readings of the good tableaux of outer/inner with entries from 1 to k, in increasing lexicographic order
+-- the column readings of the tableaux of outer/inner with entries from 1 to k that are good for start, in increasing
+-- lexicographic order
 abbrev pub good_readings : ℕ → List ℕ → List ℕ → List ℕ → List (List ℕ)
 good_readings k start outer inner =
     let readings = map (column_reading outer inner) (good_tableaux k start outer inner) in
@@ -68,8 +70,8 @@ product_count k λ' μ ν =
     length (filter (λ w. same (without_last_zeros (join λ' (content k w))) ν)
     (good_readings k λ' μ []))
 
--- the column readings of the lattice tableaux of outer/inner: the good tableaux with an empty start
--- and entries up to the number of rows of outer
+-- the column readings of the lattice tableaux of outer/inner, in increasing lexicographic order: the tableaux that
+-- are good for the empty start, with entries up to the number of rows of outer
 abbrev pub lattice_readings : List ℕ → List ℕ → List (List ℕ)
 lattice_readings outer inner = good_readings (rows outer) [] outer inner
 

@@ -1,5 +1,6 @@
 -- The grammar of commands: for each command the form of its words, the command that they spell, and
--- their errors.
+-- their errors. The parts PART, PERM, ROWS, FORM, FROM and TABLEAU of forms are defined in WordForms; NUM is
+-- a number, BASIS the letter of a basis, and EXPR an expression.
 use Rattle.std.specs.Prelude.{ℕ, ◌+◌, cond, List, [], ◌∷◌, ◌++◌, map, length, codes, Option, Some}
 use Rattle.std.specs.Prelude.{None}
 use Rattle.std.proofs.Common.{inl, inr}
@@ -32,7 +33,7 @@ use Rattle.sym_model.specs.WordForms.{is_one_line, letters, row_limit, row_limit
 use Rattle.sym_model.specs.WordForms.{placed_rows, tableau_rows, shape_offences}
 use Rattle.sym_model.specs.Entry.{Entry}
 
--- the errors of two partitions with a word between them, the first of which begins at the word
+-- the errors of two partitions with one word between them, of which the first begins at word k
 abbrev pub two_partitions : ℕ → List (List ℕ) → List (List ℕ) → List Offence
 two_partitions k left right =
     part_offences k (numbers left) ++ part_offences (k + length left + 1) (numbers right)
@@ -42,7 +43,7 @@ abbrev pub option_words : Written (optional rows_words) → Written (optional fo
 option_words limit form =
     length (words_of (optional rows_words) limit) + length (words_of (optional form_words) form)
 
--- 'mult' ROWS? FORM? PART ('-' PART)+
+-- the form 'mult' ROWS? FORM? PART ('-' PART)+
 abbrev pub mult_words : Form
 mult_words =
     in_turn (the (codes "mult") ∷ optional rows_words ∷ optional form_words ∷ factors_words ∷ [])
@@ -56,12 +57,12 @@ abbrev pub mult_offends : Written mult_words → List Offence
 mult_offends (name, (limit, (form, x))) =
     row_limit_offences 1 limit ++ factor_offences 0 (1 + option_words limit form) (factor_numbers x)
 
--- the command `mult`
+-- the entry of the command `mult`
 abbrev pub mult_entry : Entry
 mult_entry =
     record { name = codes "mult"; form = mult_words; says = mult_says; offends = mult_offends }
 
--- 'skew' ROWS? FORM? PART '/' PART
+-- the form 'skew' ROWS? FORM? PART '/' PART
 abbrev pub skew_words : Form
 skew_words =
     in_turn
@@ -79,12 +80,12 @@ abbrev pub skew_offends : Written skew_words → List Offence
 skew_offends (name, (limit, (form, (outer, (slash, inner))))) =
     row_limit_offences 1 limit ++ two_partitions (1 + option_words limit form) outer inner
 
--- the command `skew`
+-- the entry of the command `skew`
 abbrev pub skew_entry : Entry
 skew_entry =
     record { name = codes "skew"; form = skew_words; says = skew_says; offends = skew_offends }
 
--- 'coef' PART '-' PART '-' PART
+-- the form 'coef' PART '-' PART '-' PART
 abbrev pub coef_words : Form
 coef_words =
     in_turn
@@ -101,12 +102,12 @@ abbrev pub coef_offends : Written coef_words → List Offence
 coef_offends (name, (outer, (minus, (left, (again, right))))) =
     part_offences 1 (numbers outer) ++ two_partitions (2 + length outer) left right
 
--- the command `coef`
+-- the entry of the command `coef`
 abbrev pub coef_entry : Entry
 coef_entry =
     record { name = codes "coef"; form = coef_words; says = coef_says; offends = coef_offends }
 
--- 'coprod' PART
+-- the form 'coprod' PART
 abbrev pub coprod_words : Form
 coprod_words = in_turn (the (codes "coprod") ∷ partition_words ∷ [])
 
@@ -118,7 +119,7 @@ coprod_says (name, parts) = coprod (partition parts)
 abbrev pub coprod_offends : Written coprod_words → List Offence
 coprod_offends (name, parts) = part_offences 1 (numbers parts)
 
--- the command `coprod`
+-- the entry of the command `coprod`
 abbrev pub coprod_entry : Entry
 coprod_entry =
     record {
@@ -128,7 +129,7 @@ coprod_entry =
       offends = coprod_offends;
     }
 
--- 'tab' PART '/' PART FROM?
+-- the form 'tab' PART '/' PART FROM?
 abbrev pub tab_words : Form
 tab_words =
     in_turn (the (codes "tab") ∷ partition_words ∷ the (codes "/") ∷ partition_words
@@ -140,7 +141,7 @@ last_reading outer inner (inl nothing) = None
 last_reading outer inner (inr (name, tableau)) =
     Some (column_reading outer inner (rows_in outer (tableau_rows tableau)))
 
--- the error at the word `-from`: the tableau after it is not in the list
+-- the error at the word `-from`, word k: the tableau after it is no lattice tableau of outer/inner
 abbrev pub not_listed : ℕ → List ℕ → List ℕ → Written (optional from_words) → List Offence
 not_listed k outer inner (inl nothing) = []
 not_listed k outer inner (inr (name, tableau)) =
@@ -165,11 +166,11 @@ tab_offends (name, (outer, (slash, (inner, after)))) =
     lists ++ judged_against lists (not_listed k (partition outer) (partition inner) after)
     ++ from_entries k after
 
--- the command `tab`
+-- the entry of the command `tab`
 abbrev pub tab_entry : Entry
 tab_entry = record { name = codes "tab"; form = tab_words; says = tab_says; offends = tab_offends }
 
--- the name, NUM NUM PART ('-' PART)+
+-- the form of the words of `quantum` and `fusion`: the name, and then NUM NUM PART ('-' PART)+
 abbrev pub reduction_words : List ℕ → Form
 reduction_words name = in_turn (the name ∷ word number ∷ word number ∷ factors_words ∷ [])
 
@@ -185,7 +186,7 @@ abbrev pub quantum_says : Written (reduction_words (codes "quantum")) → Comman
 quantum_says (name, (rows, (columns, x))) =
     quantum (decimal_value rows) (decimal_value columns) (factors x)
 
--- the command `quantum`
+-- the entry of the command `quantum`
 abbrev pub quantum_entry : Entry
 quantum_entry = record {
   name = codes "quantum";
@@ -199,7 +200,7 @@ abbrev pub fusion_says : Written (reduction_words (codes "fusion")) → Command
 fusion_says (name, (rows, (level, x))) =
     fusion (decimal_value rows) (decimal_value level) (factors x)
 
--- the command `fusion`
+-- the entry of the command `fusion`
 abbrev pub fusion_entry : Entry
 fusion_entry = record {
   name = codes "fusion";
@@ -208,7 +209,7 @@ fusion_entry = record {
   offends = reduction_offends (codes "fusion");
 }
 
--- 'schubert' PERM
+-- the form 'schubert' PERM
 abbrev pub schubert_words : Form
 schubert_words = in_turn (the (codes "schubert") ∷ permutation_words ∷ [])
 
@@ -220,7 +221,7 @@ schubert_says (name, w) = schubert (kept (letters w))
 abbrev pub schubert_offends : Written schubert_words → List Offence
 schubert_offends (name, w) = permutation_offences 1 (letters w)
 
--- the command `schubert`
+-- the entry of the command `schubert`
 abbrev pub schubert_entry : Entry
 schubert_entry = record {
   name = codes "schubert";
@@ -229,7 +230,7 @@ schubert_entry = record {
   offends = schubert_offends;
 }
 
--- 'schubmult' PERM '-' PERM
+-- the form 'schubmult' PERM '-' PERM
 abbrev pub schubmult_words : Form
 schubmult_words =
     in_turn (the (codes "schubmult") ∷ permutation_words ∷ the (codes "-") ∷ permutation_words ∷ [])
@@ -245,7 +246,7 @@ schubmult_offends (name, (left, (minus, right))) =
     permutation_offences 1 (letters left)
     ++ permutation_offences (2 + length (letters left)) (letters right)
 
--- the command `schubmult`
+-- the entry of the command `schubmult`
 abbrev pub schubmult_entry : Entry
 schubmult_entry = record {
   name = codes "schubmult";
@@ -254,7 +255,7 @@ schubmult_entry = record {
   offends = schubmult_offends;
 }
 
--- 'expand' FORM? BASIS EXPR, with these bases
+-- the form 'expand' FORM? BASIS EXPR, for these bases
 abbrev pub expand_words : List Basis → Form
 expand_words bases =
     in_turn (the (codes "expand") ∷ optional form_words ∷ word (target bases) ∷ word formula ∷ [])
@@ -268,7 +269,7 @@ abbrev pub expand_offends : (bases : List Basis) → Written (expand_words bases
 expand_offends bases (name, (form, (basis, phrase))) =
     expression_offences (2 + length (words_of (optional form_words) form)) basis phrase
 
--- the command `expand`
+-- the entry of the command `expand`
 abbrev pub expand_entry : List Basis → Entry
 expand_entry bases = record {
   name = codes "expand";
@@ -277,7 +278,7 @@ expand_entry bases = record {
   offends = expand_offends bases;
 }
 
--- 'rsk' NUM*
+-- the form 'rsk' NUM*
 abbrev pub rsk_words : Form
 rsk_words = in_turn (the (codes "rsk") ∷ many (word number) ∷ [])
 
@@ -289,15 +290,15 @@ rsk_says (name, w) = rsk (numbers w)
 abbrev pub rsk_offends : Written rsk_words → List Offence
 rsk_offends (name, w) = offences_by letter_rule 1 (numbers w)
 
--- the command `rsk`
+-- the entry of the command `rsk`
 abbrev pub rsk_entry : Entry
 rsk_entry = record { name = codes "rsk"; form = rsk_words; says = rsk_says; offends = rsk_offends }
 
--- 'unrsk' TABLEAU '-' TABLEAU
+-- the form 'unrsk' TABLEAU '-' TABLEAU
 abbrev pub unrsk_words : Form
 unrsk_words = in_turn (the (codes "unrsk") ∷ tableau_words ∷ the (codes "-") ∷ tableau_words ∷ [])
 
--- the errors of the numbers of a tableau, each by itself
+-- the errors of the numbers of a tableau: those of each number by itself, and the 257th number
 abbrev pub filled_offences : List PlacedRow → List Offence
 filled_offences rows = row_offences entry_rule rows ++ count_offences 0 rows
 
@@ -329,12 +330,12 @@ unrsk_offends (name, (first, (minus, second))) =
     (shape_offences k lengths (words_of tableau_words second)
     ++ standard_offences (size lengths) [] [] recording)
 
--- the command `unrsk`
+-- the entry of the command `unrsk`
 abbrev pub unrsk_entry : Entry
 unrsk_entry =
     record { name = codes "unrsk"; form = unrsk_words; says = unrsk_says; offends = unrsk_offends }
 
--- 'rect' PART '/' PART '-' TABLEAU
+-- the form 'rect' PART '/' PART '-' TABLEAU
 abbrev pub rect_words : Form
 rect_words =
     in_turn
@@ -346,8 +347,8 @@ abbrev pub rect_says : Written rect_words → Command
 rect_says (name, (outer, (slash, (inner, (minus, tableau))))) =
     rect (partition outer) (partition inner) (rows_in (partition outer) (tableau_rows tableau))
 
--- the errors of an inner partition that begins at the word; it is compared with the outer partition
--- only if that has no error
+-- the errors of an inner partition that begins at word k; it is compared with the outer partition only if `earlier`,
+-- the errors of the outer partition, is empty
 abbrev pub inner_offences : ℕ → List Offence → List ℕ → List ℕ → List Offence
 inner_offences k earlier outer inner =
     part_offences k inner ++ judged_against earlier (offences_by (inside_rule outer) k inner)
@@ -369,12 +370,12 @@ rect_offends (name, (outer, (slash, (inner, (minus, tableau))))) =
     (words_of tableau_words tableau)
     ++ order_offences 0 [] (numbers inner) rows)
 
--- the command `rect`
+-- the entry of the command `rect`
 abbrev pub rect_entry : Entry
 rect_entry =
     record { name = codes "rect"; form = rect_words; says = rect_says; offends = rect_offends }
 
--- 'growth' PERM
+-- the form 'growth' PERM
 abbrev pub growth_words : Form
 growth_words = in_turn (the (codes "growth") ∷ permutation_words ∷ [])
 
@@ -386,7 +387,7 @@ growth_says (name, w) = growth (kept (letters w))
 abbrev pub growth_offends : Written growth_words → List Offence
 growth_offends (name, w) = permutation_offences 1 (letters w)
 
--- the command `growth`
+-- the entry of the command `growth`
 abbrev pub growth_entry : Entry
 growth_entry =
     record {
@@ -396,7 +397,7 @@ growth_entry =
       offends = growth_offends;
     }
 
--- 'plethysm' BASIS EXPR EXPR, with these bases
+-- the form 'plethysm' BASIS EXPR EXPR, for these bases
 abbrev pub plethysm_words : List Basis → Form
 plethysm_words bases =
     in_turn (the (codes "plethysm") ∷ word (target bases) ∷ word formula ∷ word formula ∷ [])
@@ -409,7 +410,7 @@ plethysm_says bases (name, (basis, (outer, inner))) = plethysm basis (tree outer
 abbrev pub plethysm_offends : (bases : List Basis) → Written (plethysm_words bases) → List Offence
 plethysm_offends bases (name, (basis, (outer, inner))) = plethysm_offences 2 outer inner
 
--- the command `plethysm`
+-- the entry of the command `plethysm`
 abbrev pub plethysm_entry : List Basis → Entry
 plethysm_entry bases = record {
   name = codes "plethysm";
@@ -418,7 +419,7 @@ plethysm_entry bases = record {
   offends = plethysm_offends bases;
 }
 
--- 'dschubmult' PERM '-' PERM
+-- the form 'dschubmult' PERM '-' PERM
 abbrev pub dschubmult_words : Form
 dschubmult_words =
     in_turn (the (codes "dschubmult") ∷ permutation_words ∷ the (codes "-") ∷ permutation_words
@@ -435,7 +436,7 @@ dschubmult_offends (name, (left, (minus, right))) =
     permutation_offences_within most_doubled 1 (letters left)
     ++ permutation_offences_within most_doubled (2 + length (letters left)) (letters right)
 
--- the command `dschubmult`
+-- the entry of the command `dschubmult`
 abbrev pub dschubmult_entry : Entry
 dschubmult_entry = record {
   name = codes "dschubmult";
@@ -444,7 +445,7 @@ dschubmult_entry = record {
   offends = dschubmult_offends;
 }
 
--- 'stanley' ROWS PERM
+-- the form 'stanley' ROWS PERM
 abbrev pub stanley_words : Form
 stanley_words = in_turn (the (codes "stanley") ∷ rows_words ∷ permutation_words ∷ [])
 
@@ -457,7 +458,7 @@ abbrev pub stanley_offends : Written stanley_words → List Offence
 stanley_offends (name, (limit, w)) =
     offences_by rows_rule 2 (decimal_value limit.1 ∷ []) ++ permutation_offences 3 (letters w)
 
--- the command `stanley`
+-- the entry of the command `stanley`
 abbrev pub stanley_entry : Entry
 stanley_entry = record {
   name = codes "stanley";
@@ -466,7 +467,7 @@ stanley_entry = record {
   offends = stanley_offends;
 }
 
--- the command `batch`: 'batch'
+-- the entry of the command `batch`, which is the one word `batch`
 abbrev pub batch_entry : Entry
 batch_entry = record {
   name = codes "batch";
@@ -475,7 +476,7 @@ batch_entry = record {
   offends = λ x. [];
 }
 
--- 'work' NUM NUM
+-- the form 'work' NUM NUM
 abbrev pub work_words : Form
 work_words = in_turn (the (codes "work") ∷ word number ∷ word number ∷ [])
 
@@ -489,12 +490,12 @@ work_offends (name, (lines, seed)) =
     offences_by lines_rule 1 (decimal_value lines ∷ [])
     ++ offences_by seed_rule 2 (decimal_value seed ∷ [])
 
--- the command `work`
+-- the entry of the command `work`
 abbrev pub work_entry : Entry
 work_entry =
     record { name = codes "work"; form = work_words; says = work_says; offends = work_offends }
 
--- the commands of a batch line
+-- the entries of the commands that a line of a batch may be, for these bases of expansions
 abbrev pub line_entries : List Basis → List Entry
 line_entries bases =
     mult_entry ∷ skew_entry ∷ coef_entry ∷ coprod_entry ∷ tab_entry ∷ quantum_entry ∷ fusion_entry
@@ -503,10 +504,10 @@ line_entries bases =
     ∷ plethysm_entry bases
     ∷ dschubmult_entry ∷ stanley_entry ∷ []
 
--- the entries of all commands
+-- the entries of all commands, for these bases of expansions
 abbrev pub entries_of : List Basis → List Entry
 entries_of bases = line_entries bases ++ (batch_entry ∷ work_entry ∷ [])
 
--- the bases
+-- the five bases
 abbrev pub all_bases : List Basis
 all_bases = monomials ∷ elementaries ∷ completes ∷ power_sums ∷ schurs ∷ []

@@ -13,7 +13,7 @@ union [] shape = shape
 union (a ∷ shape) [] = a ∷ shape
 union (a ∷ shape) (b ∷ other) = max a b ∷ union shape other
 
--- the first row, counted from 0, that is longer than in the second shape
+-- the first row, counted from 0, that is longer in the first shape than in the second, which lies inside it
 abbrev pub grown : List ℕ → List ℕ → ℕ
 grown [] small = 0
 grown (a ∷ large) [] = 0

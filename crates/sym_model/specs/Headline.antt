@@ -1,4 +1,4 @@
--- The headline of a command: its text, read back, is the list of terms that the command asks for.
+-- The meaning of the text of a command: read back, it is the list of terms that the command asks for.
 use Rattle.std.specs.Prelude.{◌≡◌, ℕ, List, Some}
 use Rattle.sym_model.specs.Expansion.{Terms}
 use Rattle.sym_model.specs.Kind.{Kind, Label, label_rules}

@@ -10,7 +10,7 @@ abbrev pub row_with : ℕ → List ℕ → List ℕ
 row_with a [] = a ∷ []
 row_with a (b ∷ row) = cond (nat_lt a b) (a ∷ row) (b ∷ row_with a row)
 
--- the letter that a takes the place of in the row: the first one greater than it
+-- the letter of the row that a replaces: the first one greater than a
 abbrev pub bumped : ℕ → List ℕ → Option ℕ
 bumped a [] = None
 bumped a (b ∷ row) = cond (nat_lt a b) (Some b) (bumped a row)

@@ -19,9 +19,8 @@ pub record LabelRules (Label : Type 0) : Type 0 where
   pub is_within_limits : Label → Bool
   pub has_fractions : Bool
 
--- the kinds of answers: one number; partitions with fractions and with whole coefficients; pairs of
--- partitions; partitions with a power of q; permutations; monomials;
--- permutations with a monomial beside them
+-- the kinds of answers: one number; partitions with fractions and with whole coefficients; pairs of partitions;
+-- partitions with a power of q; permutations; monomials; permutations with a monomial as a factor
 pub data Kind : Type 0 where
   number : Kind
   expansion : Kind
@@ -75,13 +74,13 @@ pair_of text =
 abbrev pub power_text : ℕ × List ℕ → List ℕ
 power_text label = codes "  q^" ++ (decimal label.0 ++ list_text label.1)
 
--- the number after `q^` and the list after the next space
+-- the number after `q^` and the list after the next two spaces, as 1 and (2,1) in `  q^1  (2,1)`
 abbrev pub power_of : List ℕ → ℕ × List ℕ
 power_of text =
     let cut = cut_at 32 (after_two (after_two text)) in
     (decimal_value cut.0, list_of cut.1)
 
--- the rules of lists of numbers in an order and within limits
+-- the rules of labels that are lists of numbers, with this order and these limits, and with fractions or without
 abbrev pub list_rules : (List ℕ → List ℕ → Ordering) → (List ℕ → Bool) → Bool → LabelRules (List ℕ)
 list_rules in_order in_limits with_fractions = record {
   text = list_text;
@@ -131,8 +130,8 @@ abbrev pub BeginsWithSpace : List ℕ → Type 0
 BeginsWithSpace [] = Unit {0}
 BeginsWithSpace (byte ∷ text) = byte ≡ 32
 
--- Labels within the limits can be read back: their text is on one line (LF is the byte 10), the
--- coefficient in front of it ends where it begins, and it spells the label.
+-- Labels within the limits can be read back: their text has no LF (the byte 10), is empty or begins with a space, so
+-- that the coefficient in front of it ends there, and spells the label.
 pub record IsLegible {Label : Type 0} (rules : LabelRules Label) : Type 0 where
   pub one_line : (label : Label) → rules.is_within_limits label ≡ true → Lacks 10 (rules.text label)
   pub apart : (label : Label) → rules.is_within_limits label ≡ true

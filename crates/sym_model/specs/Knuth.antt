@@ -1,5 +1,5 @@
--- Knuth steps between words, their chains, which join a Knuth class, and the straight tableau of a
--- class (Knuth; Fulton, 2.1).
+-- Knuth steps between words, chains of them, which join the words of a Knuth class, and the tableau of straight
+-- shape of a class (Knuth; Fulton, 2.1).
 use Rattle.std.specs.Prelude.{◌≡◌, ℕ, ◌<◌, ◌≤◌, ◌⊎◌, List, [], ◌∷◌, ◌++◌}
 use Rattle.sym_model.specs.Insertion.{reading_word}
 use Rattle.sym_model.specs.Tableau.{IsStraightTableau}
@@ -24,13 +24,12 @@ pub record IsSecondExchange (v w : List ℕ) : Type 0 where
   pub before : v ≡ x ∷ z ∷ y ∷ []
   pub after : w ≡ z ∷ x ∷ y ∷ []
 
--- one of the two exchanges, read in this direction or in the other
+-- v and w are the two sides of a Knuth relation: y z x and y x z for x < y ≤ z, or x z y and z x y for x ≤ y < z
 abbrev pub AreKnuthRelated : List ℕ → List ℕ → Type 0
 AreKnuthRelated v w =
     (IsFirstExchange v w ⊎ IsFirstExchange w v) ⊎ (IsSecondExchange v w ⊎ IsSecondExchange w v)
 
--- the words are one Knuth step apart: one relation changes three neighbouring letters of v into
--- those of w
+-- the words are one Knuth step apart: a Knuth relation changes three neighbouring letters of v into those of w
 pub record IsKnuthStep (v w : List ℕ) : Type 0 where
   pub front : List ℕ
   pub three : List ℕ
@@ -50,7 +49,7 @@ pub record AreKnuthEquivalent (v w : List ℕ) : Type 0 where
   pub chain : List (List ℕ)
   pub steps : IsKnuthChain v chain w
 
--- these are the rows of the only straight tableau whose reading word is in the Knuth class of w
+-- `rows` is the only tableau of straight shape whose reading word is in the Knuth class of w
 pub record IsOnlyTableauOf (w : List ℕ) (rows : List (List ℕ)) : Type 0 where
   pub straight : IsStraightTableau rows
   pub class : AreKnuthEquivalent w (reading_word rows)

@@ -16,11 +16,11 @@ is_partition (a ∷ b ∷ parts) = nat_le b a && is_partition (b ∷ parts)
 abbrev pub is_label : List ℕ → Bool
 is_label parts = is_partition parts && nat_le (rows parts) 512 && nat_le (size parts) 4096
 
--- whether both partitions of a pair are within the limits
+-- whether both lists of a pair are partitions of at most 512 rows and 4096 cells
 abbrev pub is_pair_label : List ℕ × List ℕ → Bool
 is_pair_label pair = is_label pair.0 && is_label pair.1
 
--- whether a power of q is below 2^32 and the partition beside it within the limits
+-- whether the power of q is below 2^32 and the list a partition of at most 512 rows and 4096 cells
 abbrev pub is_power_label : ℕ × List ℕ → Bool
 is_power_label label = nat_lt label.0 (2 ^ 32) && is_label label.1
 
@@ -43,6 +43,6 @@ is_monomial_label exponents =
     same (without_last_zeros exponents) exponents && nat_le (length exponents) 255
     && nat_le (size exponents) 32385
 
--- whether a permutation and the monomial beside it are within the limits
+-- whether the first list is a permutation label and the second a monomial label
 abbrev pub is_shifted_label : List ℕ × List ℕ → Bool
 is_shifted_label label = is_permutation_label label.0 && is_monomial_label label.1

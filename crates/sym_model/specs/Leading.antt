@@ -9,7 +9,7 @@ Above [] β = ⊥
 Above (a ∷ α) [] = Unit {0}
 Above (a ∷ α) (b ∷ β) = (b < a) ⊎ ((a ≡ b) × Above α β)
 
--- the polynomial has no monomial above this one
+-- f has no monomial x^α with α above `top`
 abbrev pub IsNoneAbove : Poly → List ℕ → Type 0
 IsNoneAbove f top = (α : List ℕ) → Above α top → coefficient f α ≡ pos 0
 

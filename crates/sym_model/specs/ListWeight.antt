@@ -1,4 +1,4 @@
--- The weight of a list of terms, and when two numbers bound it.
+-- The weight of a list of terms, and lists that are bounded by two numbers.
 use Rattle.std.specs.Prelude.{◌≡◌, ℕ, ◌*◌, ◌/◌, ◌%◌, ◌≤◌, max, nat_abs, List, [], ◌∷◌, map}
 use Rattle.sym_model.specs.Sum.{Among}
 use Rattle.sym_model.specs.Partition.{size}
@@ -11,13 +11,13 @@ abbrev pub common_denominator : {Label : Type 0} → Terms Label → ℕ
 common_denominator [] = 1
 common_denominator (t ∷ terms) = lcm t.1.1 (common_denominator terms)
 
--- the sum of the absolute values of the coefficients times a number that their denominators divide
+-- d times the sum of the absolute values of the coefficients, for a number d that all their denominators divide
 abbrev pub absolute_sum : {Label : Type 0} → ℕ → Terms Label → ℕ
 absolute_sum {Label = Label} d terms =
     size (map (λ (t : Label × Fraction). nat_abs t.1.0 * (d / t.1.1)) terms)
 
--- the weight of a list, max(1, D·A)·D: D is its least common denominator,
--- A the sum of its absolute values
+-- the weight of a list, max(1, D·A)·D: D is its least common denominator, A the sum of the absolute values of its
+-- coefficients
 abbrev pub list_weight : {Label : Type 0} → Terms Label → ℕ
 list_weight terms =
     let d = common_denominator terms in

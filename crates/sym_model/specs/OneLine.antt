@@ -93,21 +93,20 @@ term_of_piece (byte ∷ text) =
     (negated (unsigned_term text))
     (cond (byte == 43) (unsigned_term text) (unsigned_term (byte ∷ text)))
 
--- the terms that a text without its LF spells; no term for 0
+-- the terms that a line with LF at its end spells; none for the line 0
 abbrev pub terms_on_line : List ℕ → Terms (List ℕ)
 terms_on_line text =
     cond (same text (codes "0\n")) []
     (map {B = List ℕ × Fraction} term_of_piece (pieces_of (without_last text)))
 
--- the list of terms, if it is canonical with numbers of 128 bits and the text is its one-line form;
--- otherwise nothing
+-- the list of terms, if it is canonical with numbers of 128 bits and the text is its one-line form; otherwise None
 abbrev pub accepted_line : Basis → LabelRules (List ℕ) → List ℕ → Terms (List ℕ)
     → Option (Terms (List ℕ))
 accepted_line basis rules text terms =
     cond (is_canonical_by rules terms && is_printable terms && same (one_line basis terms) text)
     (Some terms) None
 
--- a text read back: the canonical list with numbers of 128 bits whose one-line form it is; nothing
--- if there is no such list
+-- a text read back: the canonical list with numbers of 128 bits whose one-line form it is; None if there is no such
+-- list
 abbrev pub read_one_line : Basis → LabelRules (List ℕ) → List ℕ → Option (Terms (List ℕ))
 read_one_line basis rules text = accepted_line basis rules text (terms_on_line text)

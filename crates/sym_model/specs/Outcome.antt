@@ -55,8 +55,8 @@ pub record PrintsAnswer (command : Command) (text : List ℕ) : Type 0 where
 abbrev pub MustBeLarge : Command → Type 0
 MustBeLarge command = HasPastCoefficient command
 
--- the answer may be refused as too large: a coefficient of its definition exceeds 2^127 - 1, or a weight of the command
--- does
+-- the answer may be refused as too large: a coefficient of its definition exceeds 2^127 - 1, or a weight that is
+-- defined for the command does
 abbrev pub MayBeLarge : Command → Type 0
 MayBeLarge command = HasPastCoefficient command ⊎ IsHeavy command
 
@@ -67,20 +67,20 @@ Expands command text ending =
     ((MustBeLarge command → ⊥) × PrintsAnswer command text × (ending ≡ done))
     ⊎ (MayBeLarge command × (text ≡ large_line) × (ending ≡ past))
 
--- ---- the other commands
+-- ---- commands that print tableaux or words
 
 -- the column readings of the lattice tableaux of a skew shape; if one is given, only those after it
 abbrev pub readings_after : List ℕ → List ℕ → Option (List ℕ) → List (List ℕ)
 readings_after outer inner None = lattice_readings outer inner
 readings_after outer inner (Some last) = later_than last (lattice_readings outer inner)
 
--- the text is the line of a word whose pair of tableaux is p and q
+-- the text is the line of a word whose insertion tableau is p and whose recording tableau is q
 pub record PrintsWord (p q : List (List ℕ)) (text : List ℕ) : Type 0 where
   pub word : List ℕ
   pub inserts : insertion_pair word ≡ (p, q)
   pub printed : text ≡ word_line word
 
--- the text is the line of a straight tableau that slides reach from the filling
+-- the text is the line of a tableau of straight shape that jeu de taquin slides reach from the filling
 pub record PrintsRectified (filling : SkewFilling) (text : List ℕ) : Type 0 where
   pub straight : SkewFilling
   pub reached : IsReached filling straight
@@ -88,7 +88,8 @@ pub record PrintsRectified (filling : SkewFilling) (text : List ℕ) : Type 0 wh
 
 -- ---- the outcomes of commands and of words
 
--- the outcome of a command whose words have no error; false for the commands that run other commands
+-- the text and the ending are the outcome of a command whose words have no error; false for `batch` and `work`,
+-- which run other commands
 abbrev pub Answers : Command → List ℕ → Ending → Type 0
 Answers (tab outer inner last) text ending =
     (text ≡ readings_text outer inner (readings_after outer inner last)) × (ending ≡ done)
@@ -102,8 +103,8 @@ Answers batch text ending = ⊥
 Answers (work lines seed) text ending = ⊥
 Answers command text ending = Expands command text ending
 
--- the outcome of the words, given the outcome of each command: the refusal of the words, or the outcome of the command
--- that they spell without an error
+-- the text and the ending are the outcome of the words, given the outcomes of each command: the refusal of the
+-- words, or an outcome of the command that they spell without an error
 abbrev pub ComesOf : (Command → List ℕ → Ending → Type 0) → List Entry → List (List ℕ) → List ℕ
     → Ending → Type 0
 ComesOf answers entries words text ending =
@@ -112,6 +113,7 @@ ComesOf answers entries words text ending =
     ⊎ ((command : Command) × SpellsWithoutOffence entries words command
     × answers command text ending)
 
--- the outcome of words that run no other commands, as the words of a line of a batch
+-- the text and the ending are the outcome of the words of a line of a batch; no command of a line runs other
+-- commands
 abbrev pub IsLineOutcome : List Entry → List (List ℕ) → List ℕ → Ending → Type 0
 IsLineOutcome entries words text ending = ComesOf Answers entries words text ending

@@ -47,9 +47,7 @@ part parts i = slice_index parts (i - 1)
 abbrev pub columns : List ℕ → ℕ
 columns parts = part parts 1
 
--- the shape of inner lies inside that of outer:
--- no part of inner is greater than the part of outer in the same row; by
--- `containment_law`, each cell of inner is a cell of outer
+-- the shape of inner lies inside that of outer: inner_i ≤ outer_i in each row i
 abbrev pub Holds : List ℕ → List ℕ → Type 0
 Holds outer inner = (i : ℕ) → part inner i ≤ part outer i
 
@@ -85,7 +83,7 @@ abbrev pub sorted_parts : List ℕ → List ℕ
 sorted_parts [] = []
 sorted_parts (a ∷ α) = insert_part a (sorted_parts α)
 
--- a number in front of a list; a zero in front of nothing is dropped
+-- a number in front of a list; a zero in front of the empty list is dropped
 abbrev pub in_front : ℕ → List ℕ → List ℕ
 in_front zero [] = []
 in_front zero (b ∷ numbers) = 0 ∷ b ∷ numbers

@@ -37,13 +37,15 @@ abbrev pub variables_or : Option ℕ → ℕ → ℕ
 variables_or None enough = enough
 variables_or (Some k) enough = k
 
--- c is a coefficient of the product of the Schur polynomials of the factors
+-- c is a Schur coefficient of the product of the Schur polynomials of the factors in n variables; n is the given
+-- number, or else the number of rows of all factors together
 abbrev pub IsCoefficientOfProduct : Option ℕ → List (List ℕ) → ℤ → Type 0
 IsCoefficientOfProduct variables factors c =
     let n = variables_or variables (size (map rows factors)) in
     IsSchurCoefficientOf (schur_product factors n) n c
 
--- c is a coefficient of the skew Schur polynomial s_(outer/inner)
+-- c is a Schur coefficient of the skew Schur polynomial s_(outer/inner) in n variables; n is the given number, or
+-- else the number of rows of outer
 abbrev pub IsCoefficientOfSkew : Option ℕ → List ℕ → List ℕ → ℤ → Type 0
 IsCoefficientOfSkew variables outer inner c =
     let n = variables_or variables (rows outer) in
@@ -79,16 +81,17 @@ value_at_ones f = total (λ (t : Term). t.1) f
 abbrev pub shorter : List ℕ → List ℕ → List ℕ
 shorter u v = cond (nat_le (inversions u) (inversions v)) u v
 
--- the weight of a pair of permutations, S_u(1, .., 1)·(n + ℓ)^ℓ: u is the one with fewer
--- inversions, ℓ their number, and n the greater number of letters
+-- the weight of a pair of permutations, S_u(1, .., 1)·(n + ℓ)^ℓ: u is the one with fewer inversions, S_u its
+-- Schubert polynomial, ℓ the number of its inversions, and n the greater number of letters
 abbrev pub pair_weight : List ℕ → List ℕ → ℕ
 pair_weight u v =
     let w = shorter u v in
     nat_abs (value_at_ones (polynomials.schubert w))
     * (max (length u) (length v) + inversions w) ^ inversions w
 
--- the weight of a pair of permutations for the product of their double Schubert polynomials,
--- S_u(1, .., 1)·(n + ℓ + 2)^ℓ, with u, n and ℓ as above; S_u is the single Schubert polynomial
+-- the weight of a pair of permutations for the product of their double Schubert polynomials, S_u(1, .., 1)·(n + ℓ +
+-- 2)^ℓ: u is the one with fewer inversions, S_u its ordinary Schubert polynomial, ℓ the number of its inversions,
+-- and n the greater number of letters
 abbrev pub double_weight : List ℕ → List ℕ → ℕ
 double_weight u v =
     let w = shorter u v in

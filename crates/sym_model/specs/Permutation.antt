@@ -22,7 +22,7 @@ letter w i = slice_index_or w (i - 1) i
 abbrev pub with_fixed : ℕ → List ℕ → List ℕ
 with_fixed n w = w ++ after (length w) (n - length w)
 
--- the letter a at place i in front of a list; a fixed letter in front of nothing is dropped
+-- the letter a at place i in front of a list; a fixed letter in front of the empty list is dropped
 abbrev pub in_front_unless_fixed : ℕ → ℕ → List ℕ → List ℕ
 in_front_unless_fixed i a [] = cond (a == i) [] (a ∷ [])
 in_front_unless_fixed i a (b ∷ w) = a ∷ b ∷ w
@@ -32,7 +32,7 @@ abbrev pub without_fixed_from : ℕ → List ℕ → List ℕ
 without_fixed_from i [] = []
 without_fixed_from i (a ∷ w) = in_front_unless_fixed i a (without_fixed_from (i + 1) w)
 
--- the letters that are kept: those without the fixed ones at the end, but always the first
+-- the letters without the fixed ones at the end, but always with the first letter
 abbrev pub kept : List ℕ → List ℕ
 kept [] = []
 kept (a ∷ w) = a ∷ without_fixed_from 2 w
@@ -89,11 +89,11 @@ letters_by_code (c ∷ cs) left = slice_index left c ∷ letters_by_code cs (rem
 abbrev pub from_code : List ℕ → List ℕ
 from_code cs = kept (letters_by_code cs (places (length cs)))
 
--- w·t_ij in the letters of w: those at places i and j in each other's place
+-- w·t_ij: the list w with the letters at places i and j exchanged
 abbrev pub swapped : ℕ → ℕ → List ℕ → List ℕ
 swapped i j w = swap w (i - 1) (j - 1)
 
--- w·s_i in the letters of w: the neighbours at places i and i + 1 exchanged
+-- w·s_i: the list w with the letters at places i and i + 1 exchanged
 abbrev pub exchanged : ℕ → List ℕ → List ℕ
 exchanged i w = swapped i (i + 1) w
 

@@ -8,8 +8,7 @@ abbrev pub insertions : ℕ → List ℕ → List (List ℕ)
 insertions x [] = (x ∷ []) ∷ []
 insertions x (y ∷ ys) = (x ∷ y ∷ ys) ∷ map (λ zs. y ∷ zs) (insertions x ys)
 
--- all orders of the entries of a list: the first entry inserted at each place into each order of
--- the others
+-- all orders of the entries of a list: the first entry inserted at each place into each order of the other entries
 abbrev pub orders : List ℕ → List (List ℕ)
 orders [] = [] ∷ []
 orders (x ∷ xs) = flat_map (insertions x) (orders xs)

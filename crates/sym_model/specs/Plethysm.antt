@@ -7,7 +7,7 @@ use Rattle.sym_model.specs.Bases.{down_from}
 use Rattle.sym_model.specs.Expansion.{power_sums}
 use Rattle.sym_model.specs.Weight.{factorial, growth}
 
--- each number k times: the exponents of the k-th power of a monomial
+-- the list with each number multiplied by k: the exponents of the k-th power of x^α
 abbrev pub multiplied : ℕ → List ℕ → List ℕ
 multiplied k α = map (λ a. k * a) α
 
@@ -42,9 +42,10 @@ plethysm f d n g =
     let γs = repeated_monomials d n g in
     substitute n γs (f (length γs))
 
--- the weight of a plethysm, which bounds every number that the computation meets:
--- N·D·(a+1)·(K·(b+1))^a·C, with C the greater of B(a)·(ab)! and B(ab); N and D bound the outer
--- list, of degree a, and K bounds the inner one, of degree b
+-- the weight of a plethysm, which bounds every number that the computation meets: N·D·(a+1)·(K·(b+1))^a·C, with C
+-- the greater of B(a)·(ab)! and B(ab), and B(d) = d!·(2d)^d; the outer expression has the degree a and the
+-- denominator D, and N bounds its coefficients times D; the inner one has the degree b, and K bounds its
+-- coefficients
 abbrev pub plethysm_weight : ℕ → ℕ → ℕ → ℕ → ℕ → ℕ
 plethysm_weight N D a K b =
     N * D * (a + 1) * (K * (b + 1)) ^ a

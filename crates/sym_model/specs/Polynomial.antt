@@ -59,7 +59,7 @@ plus f g = f ++ g
 abbrev pub scale : {Label : Type 0} → ℤ → List (Label × ℤ) → List (Label × ℤ)
 scale {Label = Label} c f = map (λ (t : Label × ℤ). (t.0, c *ℤ t.1)) f
 
--- the polynomial with the sign of each coefficient turned
+-- the polynomial with the sign of each coefficient changed
 abbrev pub negate : Poly → Poly
 negate f = map (λ (t : Term). (t.0, neg_ℤ t.1)) f
 
@@ -67,7 +67,7 @@ negate f = map (λ (t : Term). (t.0, neg_ℤ t.1)) f
 abbrev pub times : Poly → Poly → Poly
 times f g = flat_map (λ (s : Term). map (λ (t : Term). (join s.0 t.0, s.1 *ℤ t.1)) g) f
 
--- the sum over the terms of coefficient times the value of a test function at the label
+-- the sum of c·φ(label) over the terms (label, c) of f
 abbrev pub pair : {Label : Type 0} → List (Label × ℤ) → (Label → ℤ) → ℤ
 pair {Label = Label} f φ = total (λ (t : Label × ℤ). t.1 *ℤ φ t.0) f
 

@@ -31,7 +31,7 @@ term_of_parts rules c text = cond (nat_lt 0 (nat_abs c.0)) ((rules.spelled text,
 abbrev pub term_of_line : {Label : Type 0} → LabelRules Label → List ℕ × List ℕ → Terms Label
 term_of_line rules cut = term_of_parts rules (fraction_of cut.0) cut.1
 
--- the terms of the lines
+-- the terms that the lines spell, one after another
 abbrev pub terms_of_lines : {Label : Type 0} → LabelRules Label → List (List ℕ) → Terms Label
 terms_of_lines rules [] = []
 terms_of_lines rules (line ∷ lines) =
@@ -41,16 +41,14 @@ terms_of_lines rules (line ∷ lines) =
 abbrev pub terms_of : {Label : Type 0} → LabelRules Label → List ℕ → Terms Label
 terms_of rules text = terms_of_lines rules (split_at 10 text)
 
--- the list of terms, if it is canonical with numbers of 128 bits and the text is its block;
--- otherwise the empty list
+-- the list of terms, if it is canonical with numbers of 128 bits and the text is its block; otherwise None
 abbrev pub accepted : {Label : Type 0} → LabelRules Label → List ℕ → Terms Label
     → Option (Terms Label)
 accepted rules text terms =
     cond (is_canonical_by rules terms && is_printable terms && same (block_by rules terms) text)
     (Some terms) None
 
--- a text read back: the canonical list with numbers of 128 bits whose block it is; nothing if there
--- is no such list
+-- a text read back: the canonical list with numbers of 128 bits whose block it is; None if there is no such list
 abbrev pub read_by : {Label : Type 0} → LabelRules Label → List ℕ → Option (Terms Label)
 read_by rules text = accepted rules text (terms_of rules text)
 
@@ -68,6 +66,6 @@ lines_text terms = lines_by (label_rules expansion) terms
 abbrev pub block : Terms (List ℕ) → List ℕ
 block terms = block_by (label_rules expansion) terms
 
--- the expansion whose block a text is
+-- the expansion whose printed block is this text; None if there is none
 abbrev pub read : List ℕ → Option (Terms (List ℕ))
 read text = read_by (label_rules expansion) text

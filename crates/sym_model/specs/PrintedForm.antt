@@ -25,7 +25,7 @@ text_in (as_line basis) expansion terms = one_line basis terms
 text_in (as_line basis) product terms = one_line basis terms
 text_in _ kind terms = block_by (label_rules kind) terms
 
--- the list of terms of a kind that a text in a form spells
+-- the list of terms of a kind that a text in a form spells; None if there is none
 abbrev pub read_in : PrintedForm → (kind : Kind) → List ℕ → Option (Terms (Label kind))
 read_in (as_line basis) expansion text = read_one_line basis (label_rules expansion) text
 read_in (as_line basis) product text = read_one_line basis (label_rules product) text

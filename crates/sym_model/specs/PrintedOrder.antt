@@ -44,8 +44,7 @@ abbrev pub permutation_order : List ℕ → List ℕ → Ordering
 permutation_order first second =
     ordering_then (nat_cmp (inversions first) (inversions second)) (rising_letters 0 first second)
 
--- the printed order of permutations with a monomial beside them: by the permutation,
--- then by the monomial
+-- the printed order of pairs of a permutation and a monomial: by the permutation, then by the monomial
 abbrev pub shifted_order : List ℕ × List ℕ → List ℕ × List ℕ → Ordering
 shifted_order first second =
     ordering_then (permutation_order first.0 second.0) (printed_order first.1 second.1)

@@ -1,5 +1,5 @@
--- Lists that are products, skew polynomials and coproducts in Schur polynomials,
--- and products of Schubert polynomials; and the classical list of a product in k variables.
+-- Lists of terms in Schur polynomials that are products, skew Schur polynomials or coproducts, and lists of terms
+-- that are products of Schubert polynomials; and the classical product in k variables as a list.
 use Rattle.std.specs.Prelude.{◌≡◌, ℕ, ◌+◌, ◌≤◌, nat_le, nat_lt, nat_abs, ℤ, List, [], ◌∷◌}
 use Rattle.std.specs.Prelude.{map, Option, Some, None, filter}
 use Rattle.sym_model.specs.Sum.{Among}
@@ -55,7 +55,7 @@ classical_product k factors =
 
 -- ---- products of Schubert polynomials
 
--- the list of exponents is the Schubert polynomial of w, in every number of variables
+-- the list of terms, whose labels are exponent lists, is the Schubert polynomial of w, in every number of variables
 abbrev pub IsSchubertPolynomialOf : List ℕ → Terms (List ℕ) → Type 0
 IsSchubertPolynomialOf w terms =
     (n : ℕ) → Represents (λ exponents. x_to_in exponents n) terms (schubert_in w n) 1

@@ -19,8 +19,8 @@ AreCollected {Label = Label} test (t ∷ terms) =
 
 -- ---- reductions of products with one more factor
 
--- for each of the terms, a list of reductions: the reductions of the classical product of the term's partition with the
--- factor
+-- for each term, `reductions` has the list of the reductions, by rim hooks of n cells, of the partitions of the
+-- classical product, in k variables, of the term's partition and the factor
 abbrev pub ReduceEach : ℕ → ℕ → List ℕ → WholeTermsOf (ℕ × List ℕ) → List (List Reduction) → Type 0
 ReduceEach k n factor [] [] = Unit {0}
 ReduceEach k n factor (t ∷ terms) (r ∷ reductions) =
@@ -70,7 +70,7 @@ StepsLead step terms [] last = terms ≡ last
 StepsLead {Label = Label} step terms (factor ∷ factors) last =
     (next : WholeTermsOf Label) × step factor terms next × StepsLead step next factors last
 
--- steps lead from the label of the first factor, once, through the other factors to the list
+-- steps lead from the label of the first factor, with the coefficient 1, through the other factors to the list
 abbrev pub LeadsTo : {Label : Type 0}
     → (List ℕ → WholeTermsOf Label → WholeTermsOf Label → Type 0)
     → (List ℕ → Label)
@@ -80,18 +80,18 @@ abbrev pub LeadsTo : {Label : Type 0}
 LeadsTo step start [] last = ⊥
 LeadsTo step start (first ∷ factors) last = StepsLead step ((start first, pos 1) ∷ []) factors last
 
--- the list is the quantum product of the factors, reduced by rim hooks of n cells after each factor
+-- the list is the quantum product of the factors for k rows, reduced by rim hooks of n cells after each factor
 abbrev pub IsReducedInSteps : ℕ → ℕ → List (List ℕ) → WholeTermsOf (ℕ × List ℕ) → Type 0
 IsReducedInSteps k n factors last = LeadsTo (IsQuantumStep k n) (λ first. (0, first)) factors last
 
--- the list is the fusion product of the factors,
--- reflected into the alcove of level n - k after each factor
+-- the list is the fusion product of the factors for k rows, reflected into the alcove of level n - k after each
+-- factor
 abbrev pub IsReflectedInSteps : ℕ → ℕ → List (List ℕ) → WholeTerms → Type 0
 IsReflectedInSteps k n factors last = LeadsTo (IsFusionStep k n) (λ first. first) factors last
 
 -- ---- weights of the steps
 
--- the weight of the classical product in k variables: the sum of its coefficients
+-- the weight of the classical product in k variables: the sum of the absolute values of its coefficients
 abbrev pub classical_weight : ℕ → List (List ℕ) → ℕ
 classical_weight k factors = absolute_total (classical_product k factors)
 
@@ -116,7 +116,7 @@ IsStepWeight {Label = Label} shape step k terms (factor ∷ factors) weight =
     ⊎ ((next : WholeTermsOf Label) × step factor terms next
     × IsStepWeight shape step k next factors weight)
 
--- the number is the weight of one of the steps that lead from the label of the first factor, once,
+-- the number is the weight of one of the steps that lead from the label of the first factor, with the coefficient 1,
 -- through the other factors
 abbrev pub IsWeightFrom : {Label : Type 0}
     → (Label → List ℕ)
@@ -134,12 +134,12 @@ IsWeightFrom shape step start k (first ∷ factors) weight =
 abbrev pub shape_of : ℕ × List ℕ → List ℕ
 shape_of label = label.1
 
--- the number is a step weight of the quantum product of the factors
+-- the number is the weight of a step of the quantum product of the factors, one step for each factor after the first
 abbrev pub IsQuantumWeight : ℕ → ℕ → List (List ℕ) → ℕ → Type 0
 IsQuantumWeight k n factors weight =
     IsWeightFrom shape_of (IsQuantumStep k n) (λ first. (0, first)) k factors weight
 
--- the number is a step weight of the fusion product of the factors
+-- the number is the weight of a step of the fusion product of the factors, one step for each factor after the first
 abbrev pub IsFusionWeight : ℕ → ℕ → List (List ℕ) → ℕ → Type 0
 IsFusionWeight k n factors weight =
     IsWeightFrom (λ shape. shape) (IsFusionStep k n) (λ first. first) k factors weight

@@ -37,12 +37,13 @@ pub record IsRimHookReduction (k n : ℕ) (classical : WholeTerms)
       → coefficient_by same_power (numerators terms) label
       ≡ coefficient_by same_power (reduced_terms classical reductions) label
 
--- c times the reduction of a label into the alcove; nothing if there is none
+-- c times the given reduction of a label into the alcove; the empty list for None
 abbrev pub reflected_term : ℤ → Option (List ℕ × ℤ) → WholeTerms
 reflected_term c None = []
 reflected_term c (Some reduced) = (reduced.0, c *ℤ reduced.1) ∷ []
 
--- the terms with each label replaced by its reduction into the alcove
+-- the terms with each label replaced by its reduction into the alcove of k rows and level n - k; a term whose label
+-- reduces to nothing is left out
 abbrev pub reflected_terms : ℕ → ℕ → WholeTerms → WholeTerms
 reflected_terms k n terms =
     flat_map (λ (t : List ℕ × ℤ). reflected_term t.1 (alcove_reduction k n t.0)) terms

@@ -15,7 +15,7 @@ refusal_line name word byte =
     codes "! " ++ (name ++ (codes " "
     ++ (decimal word ++ (codes ":" ++ (decimal byte ++ codes "\n")))))
 
--- the line of an error
+-- the line by which words with this error are refused
 abbrev pub offence_line : Offence → List ℕ
 offence_line offence = refusal_line (offence_name offence.2) offence.0 offence.1
 

@@ -16,10 +16,10 @@ pub record IsRemoval (n : ℕ) (shape left : List ℕ) : Type 0 where
 abbrev pub HasNoRemoval : ℕ → List ℕ → Type 0
 HasNoRemoval n shape = (left : List ℕ) → IsRemoval n shape left → ⊥
 
--- a shape with at most k rows goes to `end` with a sign and a power. If nothing can be removed from
--- the shape, it goes to itself with the sign 1 and the power 0. If removing a rim hook of height h
--- leaves a partition that goes to `end` with the sign t and the power p, then the shape goes to
--- `end` with the sign (-1)^(k - h)·t and the power p + 1.
+-- a shape with at most k rows goes to `end` with a sign and a power. If no rim hook of n cells can be removed from
+-- it, it goes to itself with the sign 1 and the power 0. If removing one of height h leaves a partition that goes to
+-- `end` with the sign t and the power p, then the shape goes to `end` with the sign (-1)^(k - h)·t and the power p +
+-- 1.
 abbrev pub GoesTo : ℕ → ℕ → List ℕ → List ℕ → ℤ → ℕ → Type 0
 GoesTo k n shape end sign zero =
     (rows shape ≤ k) × HasNoRemoval n shape × (shape ≡ end) × (sign ≡ pos 1)

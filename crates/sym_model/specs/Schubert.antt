@@ -7,8 +7,8 @@ use Rattle.sym_model.specs.BetaList.{rising_pairs}
 use Rattle.sym_model.specs.Permutation.{first_ascent, exchanged}
 use Rattle.sym_model.specs.DividedDifference.{x_to, divided_difference}
 
--- divided differences of g along first ascents: if i is the first ascent of w, it is ∂_i of the same polynomial of
--- w·s_i; if w has no ascent, it is g. At most `fuel` divided differences are taken.
+-- the divided differences of g along first ascents, at most `fuel` of them: g itself if w has no ascent or `fuel` is
+-- 0; otherwise, with i the first ascent of w, ∂_i of the result for w·s_i with one divided difference less
 abbrev pub descended : Poly → ℕ → List ℕ → Poly
 descended g zero w = g
 descended g (suc fuel) w =
@@ -18,7 +18,7 @@ descended g (suc fuel) w =
 abbrev pub schubert_over : Poly → List ℕ → Poly
 schubert_over g w = descended g (rising_pairs w) w
 
--- S(w), the Schubert polynomial of a list w of n letters, in n variables: over the monomial of the
+-- S(w), the Schubert polynomial of a list w of n letters, in n variables: `schubert_over` of the monomial of the
 -- staircase, x_1^(n-1)·x_2^(n-2)·..·x_(n-1)
 abbrev pub schubert : List ℕ → Poly
 schubert w = schubert_over (x_to (staircase (length w))) w

@@ -62,7 +62,7 @@ abbrev pub times_in : ℕ → List ℕ → ℕ
 times_in k [] = 0
 times_in k (a ∷ w) = cond (a == k) 1 0 + times_in k w
 
--- the letters of a filling
+-- the letters of a filling, row by row
 abbrev pub letters_of : List (List ℕ) → List ℕ
 letters_of filling = flat_map (λ row. row) filling
 

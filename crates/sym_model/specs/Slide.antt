@@ -40,7 +40,7 @@ lowered_at zero (a ∷ numbers) = a ∷ numbers
 lowered_at (suc zero) (a ∷ numbers) = (a - 1) ∷ numbers
 lowered_at (suc (suc i)) (a ∷ numbers) = a ∷ lowered_at (suc i) numbers
 
--- the outer parts of rows with these inner parts
+-- the outer part of each row, which is its inner part plus the number of its letters
 abbrev pub outer_parts : List ℕ → List (List ℕ) → List ℕ
 outer_parts inner [] = []
 outer_parts inner (row ∷ rows) = (part inner 1 + length row) ∷ outer_parts (drop 1 inner) rows
@@ -68,7 +68,7 @@ abbrev pub SlidesTo : SkewFilling → List ℕ → SkewFilling → Type 0
 SlidesTo t [] s = t ≡ s
 SlidesTo t (row ∷ chosen) s = HasInnerCorner row t.inner × SlidesTo (slide row t) chosen s
 
--- s is a straight tableau that slides reach from t
+-- slides from inner corners lead from t to s, and the inner partition of s is empty
 pub record IsReached (t s : SkewFilling) : Type 0 where
   pub chosen : List ℕ
   pub slides : SlidesTo t chosen s

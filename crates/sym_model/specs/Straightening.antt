@@ -16,6 +16,6 @@ straight entries =
     cond (has_equal_entries entries) None
     (Some (sorting_sign entries, from_beta (sorted_falling entries)))
 
--- the sign and the partition of α, or None
+-- the sign of sorting α + ρ, and the partition sorted(α + ρ) - ρ; None if α + ρ has two equal entries
 abbrev pub straightened : List ℕ → Option (ℤ × List ℕ)
 straightened α = straight (shifted α)

@@ -1,4 +1,4 @@
--- Tableaux of skew shapes with entries of any size, and straight ones (Fulton, 1 and 5.1).
+-- Tableaux of skew shapes, with entries of any size, and tableaux of straight shapes (Fulton, 1 and 5.1).
 use Rattle.std.specs.Prelude.{◌≡◌, ℕ, nat_le, Bool, true, List, [], map, length}
 use Rattle.sym_model.specs.Partition.{IsPartition}
 use Rattle.sym_model.specs.Schur.{row_lengths, semistandard, contains, letters_of}
@@ -10,7 +10,7 @@ pub record SkewFilling : Type 0 where
   pub inner : List ℕ
   pub rows : List (List ℕ)
 
--- the letters are positive
+-- whether all letters are positive
 abbrev pub are_letters : List ℕ → Bool
 are_letters w = every (λ a. nat_le 1 a) w
 

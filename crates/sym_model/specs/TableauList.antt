@@ -14,8 +14,8 @@ tableau_readings n outer inner =
     let readings = map (column_reading outer inner) (tableaux n outer inner) in
     filter (λ w. is_among w readings) (words n (length (cells outer inner)))
 
--- the column readings of the semistandard tableaux with this content, with entries up to the length
--- of the content
+-- the column readings of the semistandard tableaux of outer/inner whose content is `counts`, so that their entries
+-- are at most its length
 abbrev pub readings_with_content : List ℕ → List ℕ → List ℕ → List (List ℕ)
 readings_with_content counts outer inner =
     filter (λ w. same (content (length counts) w) counts)
@@ -36,8 +36,8 @@ column_cells outer inner j =
 abbrev pub reading_cells : List ℕ → List ℕ → List (ℕ × ℕ)
 reading_cells outer inner = flat_map (column_cells outer inner) (reverse (after 0 (columns outer)))
 
--- the letter of the cell (row, column), if the letters of a word are written into these cells one
--- by one
+-- the letter of the cell (row, column), if the letters of a word are written into the given cells one by one; 0 if
+-- it gets none
 abbrev pub letter_of_cell : ℕ → ℕ → List (ℕ × ℕ) → List ℕ → ℕ
 letter_of_cell row column [] w = 0
 letter_of_cell row column (c ∷ cells) [] = 0

@@ -1,6 +1,5 @@
--- The answer to each command, defined by polynomials.
--- When the answer to a command is too large for numbers of 128 bits: by the coefficients that its
--- definition gives, or by a weight that bounds all that is computed.
+-- The answer to each command, defined by polynomials. An answer is too large for numbers of 128 bits if a coefficient
+-- that its definition gives exceeds 2^127 - 1, or if a weight that bounds all that is computed is 2^127 or more.
 use Rattle.std.specs.Prelude.{ℕ, ◌+◌, Some}
 use Rattle.sym_model.specs.Schur.{skew_schur}
 use Rattle.sym_model.specs.Stanley.{stanley_in}
@@ -24,7 +23,7 @@ use Rattle.sym_model.specs.PastLimit.{IsCoproductCoefficient, IsCoefficientOfSch
 use Rattle.sym_model.specs.PastLimit.{IsCoefficientOfStanley, pair_weight, double_weight}
 use Rattle.sym_model.specs.ReductionSteps.{IsQuantumWeight, IsFusionWeight}
 
--- the answer is the answer to the command; false for a command that asks for no expansion
+-- the given answer is the one that the command asks for; false for a command that asks for no expansion
 abbrev pub Meets : Command → Answer → Type 0
 Meets (mult variables one_line factors) (answer product terms) =
     ExpandsInSchurs variables (schur_product factors) terms
@@ -54,7 +53,8 @@ Meets (stanley variables w) (answer product terms) =
     ExpandsInSchurs (Some variables) (stanley_in w) terms
 Meets _ _ = ⊥
 
--- c is a coefficient of the answer to the command, if the command has coefficients by definition
+-- c is a coefficient that the definition of the answer to `mult`, `skew`, `coef`, `coprod`, `schubert` or `stanley`
+-- gives; false for the other commands
 abbrev pub IsDefinedCoefficient : Command → ℤ → Type 0
 IsDefinedCoefficient (mult variables one_line factors) c =
     IsCoefficientOfProduct variables factors c
@@ -66,12 +66,13 @@ IsDefinedCoefficient (schubert w) c = IsCoefficientOfSchubert w c
 IsDefinedCoefficient (stanley variables w) c = IsCoefficientOfStanley variables w c
 IsDefinedCoefficient _ c = ⊥
 
--- some coefficient of the answer to the command exceeds 2^127 - 1
+-- a coefficient that the definition of the answer to the command gives exceeds 2^127 - 1
 abbrev pub HasPastCoefficient : Command → Type 0
 HasPastCoefficient command = HasPast (IsDefinedCoefficient command)
 
--- a weight of a command, if it has one. Each step weight of a quantum or fusion product is a weight, and the greatest
--- of them is called the weight of the command.
+-- the number is a weight of the command: for `quantum` and `fusion`, the weight of one of their steps, of which
+-- there is one for each factor after the first; for `schubmult`, `expand`, `plethysm` and `dschubmult`, the one
+-- weight defined here; no other command has a weight
 abbrev pub HasWeight : Command → ℕ → Type 0
 HasWeight (quantum k columns factors) weight = IsQuantumWeight k (k + columns) factors weight
 HasWeight (fusion k level factors) weight = IsFusionWeight k (k + level) factors weight

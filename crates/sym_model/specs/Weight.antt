@@ -4,7 +4,8 @@ use Rattle.sym_model.specs.Expansion.{Basis, monomials, schurs}
 use Rattle.sym_model.specs.Expression.{Tree, number, fraction, atom, negation, sum, difference}
 use Rattle.sym_model.specs.Expression.{product, degree, denominator, lcm}
 
--- N, which bounds the sum of the absolute values of the coefficients times D, an atom counting as 1
+-- N, a bound of D times the sum of the absolute values of the coefficients, with D the denominator of the expression and each
+-- atom counted as 1
 abbrev pub numerator : Tree → ℕ
 numerator (number a) = max 1 a
 numerator (fraction a b) = max 1 a
@@ -31,6 +32,7 @@ growth monomials (suc d) = suc d ^ suc d
 growth schurs (suc d) = suc d ^ suc d
 growth target (suc d) = factorial (suc d) * (2 * suc d) ^ suc d
 
--- the weight of an expression that is to be converted into the target: N·D·B(degree)
+-- the weight of an expression that is to be converted into the target: N·D·B, with N its bound `numerator`, D its
+-- denominator, and B the growth at its degree
 abbrev pub weight : Basis → Tree → ℕ
 weight target e = numerator e * denominator e * growth target (degree e)

@@ -43,7 +43,7 @@ abbrev pub AreWhole : {Label : Type 0} → Terms Label → Type 0
 AreWhole [] = Unit {0}
 AreWhole (t ∷ terms) = (t.1.1 ≡ 1) × AreWhole terms
 
--- the labels with their numerators
+-- the list with the numerators of its coefficients as integer coefficients
 abbrev pub numerators : {Label : Type 0} → Terms Label → WholeTermsOf Label
 numerators {Label = Label} terms = map (λ (t : Label × Fraction). (t.0, t.1.0)) terms
 
@@ -52,7 +52,7 @@ abbrev pub absolute_total : {Label : Type 0} → WholeTermsOf Label → ℕ
 absolute_total [] = 0
 absolute_total (t ∷ terms) = nat_abs t.1 + absolute_total terms
 
--- the sum of the absolute values of all coefficients, each times the weight of its label
+-- the sum of |c|·weight(label) over the terms (label, c)
 abbrev pub weighed : {Label : Type 0} → (Label → ℕ) → WholeTermsOf Label → ℕ
 weighed {Label = Label} weight terms = sum_by (λ (t : Label × ℤ). nat_abs t.1 * weight t.0) terms
 

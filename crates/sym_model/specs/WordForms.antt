@@ -23,19 +23,19 @@ in_turn (f ∷ g ∷ forms) = sequence f (in_turn (g ∷ forms))
 abbrev pub optional : Form → Form
 optional f = either empty f
 
--- PART := NUM*
+-- the form PART := NUM*
 abbrev pub partition_words : Form
 partition_words = many (word number)
 
--- PERM := NUM+
+-- the form PERM := NUM+
 abbrev pub permutation_words : Form
 permutation_words = sequence (word number) partition_words
 
--- ROWS := '-r' NUM
+-- the form ROWS := '-r' NUM
 abbrev pub rows_words : Form
 rows_words = sequence (the (codes "-r")) (word number)
 
--- FORM := '-m'
+-- the form FORM := '-m'
 abbrev pub form_words : Form
 form_words = the (codes "-m")
 
@@ -43,19 +43,19 @@ form_words = the (codes "-m")
 abbrev pub next_words : Form
 next_words = sequence (the (codes "-")) partition_words
 
--- PART ('-' PART)+
+-- the form PART ('-' PART)+ of the factors of a product
 abbrev pub factors_words : Form
 factors_words = in_turn (partition_words ∷ next_words ∷ many next_words ∷ [])
 
--- ROW := '.' | NUM+
+-- the form ROW := '.' | NUM+
 abbrev pub row_words : Form
 row_words = either (the (codes ".")) permutation_words
 
--- TABLEAU := ROW ('/' ROW)*
+-- the form TABLEAU := ROW ('/' ROW)*
 abbrev pub tableau_words : Form
 tableau_words = sequence row_words (many (sequence (the (codes "/")) row_words))
 
--- FROM := '-from' TABLEAU
+-- the form FROM := '-from' TABLEAU
 abbrev pub from_words : Form
 from_words = sequence (the (codes "-from")) tableau_words
 
@@ -109,7 +109,7 @@ placed k (x ∷ xs) = (k, row_entries x) ∷ placed (k + length (words_of row_wo
 abbrev pub placed_rows : ℕ → Written tableau_words → List PlacedRow
 placed_rows k x = placed k (x.0 ∷ map (λ (y : Unit {0} × Written row_words). y.1) x.1)
 
--- the rows of a tableau, without their words
+-- the rows of a tableau, without the words at which they begin
 abbrev pub tableau_rows : Written tableau_words → List (List ℕ)
 tableau_rows x = entries (placed_rows 0 x)
 

@@ -22,7 +22,7 @@ after_draws (suc k) x = after_draws k (draw x)
 abbrev pub drawn : ℕ → ℕ → ℕ → ℕ
 drawn k t x = after_draws k x % t
 
--- the partition of three draws a, b, c modulo t: the parts a + b + c, b + c and c, without zeros
+-- the partition of three draws a, b, c modulo t from the state x on: the parts a + b + c, b + c and c, without zeros
 abbrev pub partition_drawn : ℕ → ℕ → List ℕ
 partition_drawn t x =
     let a = drawn 1 t x in
@@ -30,7 +30,7 @@ partition_drawn t x =
     let c = drawn 3 t x in
     without_last_zeros ((a + b + c) ∷ (b + c) ∷ c ∷ [])
 
--- a code of four letters: three draws modulo 4, 3 and 2, and 0
+-- a code of four letters, drawn from the state x on: three draws modulo 4, 3 and 2, and 0
 abbrev pub code_drawn : ℕ → List ℕ
 code_drawn x = drawn 1 4 x ∷ drawn 2 3 x ∷ drawn 3 2 x ∷ 0 ∷ []
 
@@ -52,7 +52,7 @@ words_drawn kind x =
     codes "expand" ∷ codes "p" ∷ (codes "m[" ++ (numbers_text (partition_drawn 3 x) ++ codes "]"))
     ∷ []
 
--- the number of draws that a line of the kind makes after its first draw
+-- the number of draws that a line of the given kind makes after its first draw
 abbrev pub draws_of : ℕ → ℕ
 draws_of zero = 6
 draws_of (suc zero) = 6

@@ -41,7 +41,7 @@ board k outer inner near start sums word n l small fits few count =
       few = omega arith;
     }
 
--- a letter that is written raises its sum by 1
+-- if the letter a is appended to the word v, the entry for a in start plus content is raised by 1
 pub sums-put :
     (start sums v : List ℕ) (k a : ℕ) → rows start ≤ k → 1 ≤ a → a ≤ k → sums ≡ join start (content k v)
     → set sums (a - 1) (get_or sums (a - 1) 0 + 1) ≡ join start (content k (v ++ a ∷ []))
@@ -73,7 +73,7 @@ sums-put start sums v k a few low high e =
           )
     ])
 
--- a letter that is removed lowers its sum by 1
+-- if the letter a at the end of a word is removed, the entry for a in start plus content is lowered by 1
 pub sums-take :
     (start sums v : List ℕ) (k a : ℕ) → rows start ≤ k → 1 ≤ a → a ≤ k → sums ≡ join start (content k (v ++ a ∷ []))
     → (1 ≤ get_or sums (a - 1) 0) × (set sums (a - 1) (get_or sums (a - 1) 0 - 1) ≡ join start (content k v))
@@ -214,7 +214,8 @@ take-tells rule counts start near sums word place b h r =
 
 -- ---- letters written and removed, in the form in which the code reads and writes a place
 
--- if the letter a fits and is written at the place, and the sum at its number is increased by 1, the board is ready at the next place
+-- if the letter a fits and is written at the place, and the entry of `sums` for a is raised by 1, this entry is at most 4,097, and the board is ready at
+-- the next place
 pub put-read :
     (rule : Rule) (counts start : List ℕ) (near : Neighbours) (sums word : List ℕ) (place a n v : ℕ) (p : Position)
     → position_of rule counts start near sums word ≡ p → IsBoard near start sums word → place < length p.word
@@ -235,7 +236,7 @@ put-read rule counts start near sums word place a n v p is b h r e same read =
           (subst (λ m. IsReady (place + 1) (position_of rule counts start near (set sums (a - 1) (m + 1)) (set word place a))) (sym value) told.3),
     )
 
--- if the letter at the place is removed, and the sum at its number is lowered by 1, the board is ready at the place
+-- if the letter at the place is removed, and the entry of `sums` for this letter is lowered by 1, the board is ready at the place
 pub take-read :
     (rule : Rule) (counts start : List ℕ) (near : Neighbours) (sums word : List ℕ) (place a n : ℕ) (p : Position)
     → position_of rule counts start near sums word ≡ p → IsBoard near start sums word → place < length p.word

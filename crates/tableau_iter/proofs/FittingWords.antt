@@ -1,6 +1,6 @@
--- The lists of readings are the words whose letters fit, one after the other.
-use Rattle.std.proofs.Common.{◌≡◌, ℕ, zero, suc, ◌-◌, ◌<◌, ◌≤◌, min, Bool, true, false, ◌&&◌, ◌==◌, cond, nat_le, nat_lt, List, [], ◌∷◌, ◌++◌, map, length, take, get_or, ◌∙◌, ap, ap₂, sym, refl, arith, append-nil, append_assoc, filter}
-use Rattle.std.proofs.lemmas.Bool.{and_parts, le-leb, leb-true, lt-ltb, ltb-true}
+-- The lists of column readings of tableaux are lists of the words in which each letter fits after those before it.
+use Rattle.std.proofs.Common.{◌≡◌, ℕ, zero, suc, ◌-◌, ◌<◌, ◌≤◌, min, Bool, true, ◌&&◌, ◌==◌, cond, nat_le, nat_lt, List, [], ◌∷◌, ◌++◌, map, length, take, get_or, ◌∙◌, ap, ap₂, sym, refl, arith, append-nil, append_assoc, filter}
+use Rattle.std.proofs.lemmas.Bool.{and_parts, le-leb, leb-true, lt-ltb, ltb-true, false_from_ne_true}
 use Rattle.std.proofs.lemmas.List.{length-take, get_or-take}
 use Rattle.sym_model.specs.Sum.{Among}
 use Rattle.sym_model.specs.Partition.{Falls, after, cells, columns, size}
@@ -27,6 +27,7 @@ use Rattle.tableau_iter.proofs.LetterCounts.{content-allows, content-from}
 use Rattle.sym_model.specs.Bounded.{AreLetters}
 use Rattle.sym_model.proofs.Contents.{size-content}
 use Rattle.sym_model.proofs.Tableaux.{word_tells}
+use Rattle.std.proofs.Math.Bool.{and-false}
 
 -- ---- words whose letters fit, place by place
 
@@ -92,9 +93,9 @@ front-stands near w p h a r e =
     let high = leb-true (get_or w p 0) (ceiling_at near.right near.most (take p w) (length (take p w))) parts.1 in
     (omega (arith, low, floor-front near.above w p h a), omega (arith, high, ceiling-front near.right near.most w p h r))
 
--- ---- the three tests of words
+-- ---- the readings of tableaux whose letters a rule allows: the words in which each letter fits
 
--- outer/inner is a skew shape with these neighbours, and lines and ranks are the rows and columns of its cells in reading order
+-- outer/inner is a skew shape with the neighbours `near`, and lines and ranks are the rows and columns of its cells in reading order
 pub record Around (k : ℕ) (outer inner lines ranks : List ℕ) (near : Neighbours) : Type 0 where
   pub outside : Falls outer
   pub inside : Falls inner
@@ -199,7 +200,7 @@ content-fits counts k outer inner lines ranks near w a few all m =
     let letter = within-at k w p word.1 h in
     (letter.0, letter.1, told.1 p h))))
 
--- ---- the lists of readings
+-- ---- lists of the readings of good tableaux, of all tableaux, and of tableaux with one content
 
 pub good_readings-fits :
     (counts start : List ℕ) (k : ℕ) (outer inner lines ranks : List ℕ) (near : Neighbours) → Around k outer inner lines ranks near
@@ -251,14 +252,6 @@ no_content counts outer inner n =
     (λ w m.
     let word = word_tells k (length (cells outer inner)) w m in
     ap (λ b. is_among w (map (column_reading outer inner) (tableaux (length counts) outer inner)) && b)
-    (never (same (content (length counts) w) counts)
+    (false_from_ne_true (same (content (length counts) w) counts)
     (λ e. n (sym (ap size (same_true (content (length counts) w) counts e)) ∙ size-content k w word.1 ∙ word.0)))
-    ∙ nothing (is_among w (map (column_reading outer inner) (tableaux (length counts) outer inner))))
-  where
-    never : (b : Bool) → (b ≡ true → ⊥) → b ≡ false
-    never true f = absurd (f refl)
-    never false f = refl
-
-    nothing : (b : Bool) → (b && false) ≡ false
-    nothing true = refl
-    nothing false = refl
+    ∙ and-false (is_among w (map (column_reading outer inner) (tableaux (length counts) outer inner))))

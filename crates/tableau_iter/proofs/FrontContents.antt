@@ -1,5 +1,5 @@
--- Start plus the content of the prefixes of a word, letter by letter: the conditions to be decreasing, and to be within
--- limits.
+-- Start plus the contents of the prefixes of a word, letter by letter: when each of these sums is weakly decreasing, and
+-- when it is within limits.
 use Rattle.std.proofs.Common.{◌≡◌, ℕ, zero, suc, ◌+◌, ◌-◌, ◌<◌, ◌≤◌, true, false, ◌&&◌, ◌||◌, ◌==◌, cond, nat_le, nat_lt, List, [], ◌∷◌, ◌++◌, map, length, take, get_or, reverse, ◌∙◌, ap, ap₂, sym, refl, subst, inl, inr, arith, length-append, filter, flat_map}
 use Rattle.std.proofs.lemmas.Bool.{cases_eq, eq-eqb, ne_eqb, and_parts, le-leb, leb-true, lt-ltb, ltb-true}
 use Rattle.std.proofs.lemmas.List.{length-map, map-append, take_more}
@@ -85,7 +85,8 @@ one_more k start v a few within falls allowed i h = elim (cases_eq a (suc i + 1)
       )
 ]
 
--- if each letter is allowed, start plus the content of each prefix is weakly decreasing
+-- if `start` is weakly decreasing, and the rule `Falling` allows each letter of w after those before it, start plus the content of each prefix of w is
+-- weakly decreasing
 fronts_fall :
     (k : ℕ) (start w : List ℕ) (e : ℕ) → length start ≤ k → ((i : ℕ) → get_or start (suc i) 0 ≤ get_or start i 0)
     → ((p : ℕ) → p < length w → (get_or w p 0 ≤ k) × (allows Falling [] (join start (content k (take p w))) (get_or w p 0) ≡ true)) → e ≤ length w

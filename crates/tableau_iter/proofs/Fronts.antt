@@ -1,13 +1,14 @@
 -- Steps of a walk over the words of a shape: the letters before a place stay, and the later ones change.
 use Rattle.std.proofs.Common.{◌≡◌, ℕ, suc, ◌+◌, ◌-◌, ◌<◌, ◌≤◌, Bool, true, false, List, [], ◌∷◌, ◌++◌, length, take, drop, get_or, ◌∙◌, ap, ap₂, sym, refl, subst, inl, inr, arith}
 use Rattle.std.proofs.lemmas.Bool.{cases_lt}
-use Rattle.std.proofs.lemmas.List.{length-drop, length-take, take_more, take-take, take_all, get_or-take}
+use Rattle.std.proofs.lemmas.List.{length-drop, length-take, take_more, take-take, take_all, get_or-take, nil_from_length}
 use Rattle.std.specs.Bool.{OnTrue, OnFalse}
 use Rattle.sym_model.proofs.Lists.{drop-next}
 use Rattle.tableau_iter.specs.Walks.{completions, continued, later}
 use Rattle.tableau_iter.specs.Fits.{all_fit}
 use Rattle.tableau_iter.specs.Positions.{Position, Setting, fits_in, passes, IsSameUpTo, Begins}
 use Rattle.tableau_iter.proofs.Walking.{completions-first, continued-found, continued-none, continued-passed, continued-skip, misfit, later-same, later-greater, later-none, completions-end}
+use Rattle.std.proofs.Math.Seq.{get_or-append_seam}
 
 pub IsSameUpTo-then : (place : ℕ) (p q r : Position) → IsSameUpTo place p q → IsSameUpTo place q r → IsSameUpTo place p r
 IsSameUpTo-then place p q r a b = record {
@@ -47,7 +48,8 @@ later-equal :
 later-equal t u k m f g v w a b c d =
     ap (λ t. later t k f v) a ∙ ap (λ k. later u k f v) b ∙ ap₂ (λ f v. later u m f v) c d
 
--- if a list begins at position q, and p has the same setting and the same letters, it begins at p
+-- if `Begins` holds of a list at q, whose word is `front` followed by w, and p has the same test and the same greatest
+-- letter as q, the list is w followed by the words after it that `later` gives for p
 begins-as :
     (place : ℕ) (p q : Position) (list : List (List ℕ)) (front w : List ℕ) → Begins place q list
     → passes q ≡ passes p → q.setting.letters ≡ p.setting.letters → take place q.word ≡ front → drop place q.word ≡ w
@@ -66,15 +68,12 @@ letter_at : (word front : List ℕ) (place a : ℕ) → place < length word → 
 letter_at word front place a h l e =
     let next : place < place + 1 = omega arith in
     sym (get_or-take (place + 1) word place 0 next) ∙ ap (λ xs. get_or xs place 0) e
-    ∙ ap (λ n. get_or (front ++ a ∷ []) n 0) (sym l) ∙ seam front a
-  where
-    seam : (xs : List ℕ) (y : ℕ) → get_or (xs ++ y ∷ []) (length xs) 0 ≡ y
-    seam [] y = refl
-    seam (x ∷ xs) y = seam xs y
+    ∙ ap (λ n. get_or (front ++ a ∷ []) n 0) (sym l) ∙ get_or-append_seam front a [] 0
 
 -- ---- a letter tried at a place
 
--- no letter b with tried < b < letter fits at the place
+-- if no letter b with tried < b < letter fits at the place, the words with a letter greater than `tried` there are those with a letter of at least
+-- `letter`
 skipped :
     (old : Position) (place tried letter : ℕ) (list : List (List ℕ)) → tried < letter → letter ≤ old.setting.letters
     → ((b : ℕ) → tried < b → b < letter → (fits_in old.setting) (take place old.word) b ≡ false)
@@ -152,7 +151,7 @@ tried-all old place tried list skip is = elim (cases_lt tried old.setting.letter
       ∙ continued-none (passes old) old.setting.letters (length old.word - (place + 1)) (take place old.word) old.setting.letters (omega arith)
 ]
 
--- ---- the end of a word
+-- ---- words that are complete, and words to which a letter is still to be added
 
 pub end-found :
     (old new : Position) (place : ℕ) → place ≡ length old.word → new ≡ old → passes old old.word ≡ true
@@ -160,16 +159,12 @@ pub end-found :
 end-found old new place e n t =
     let none : length old.word - place ≡ 0 = omega arith in
     let whole : take place old.word ≡ old.word = take_all place old.word (omega arith) in
-    let over : drop place old.word ≡ [] = no_more (drop place old.word) (omega (arith, length-drop place old.word)) in
+    let over : drop place old.word ≡ [] = nil_from_length (drop place old.word) (omega (arith, length-drop place old.word)) in
     subst (λ (q : Position). Begins place q (completions (passes old) old.setting.letters (length old.word - place) (take place old.word))) (sym n)
     (begins-from place old old _ old.word []
     (ap₂ (λ n f. completions (passes old) old.setting.letters n f) none whole ∙ completions-end (passes old) old.setting.letters old.word t
     ∙ ap (λ l. [] ∷ l) (sym (later-none (passes old) old.setting.letters old.word)))
     refl refl whole over)
-  where
-    no_more : (xs : List ℕ) → length xs ≡ 0 → xs ≡ []
-    no_more [] e = refl
-    no_more (x ∷ xs) e = absurd (omega arith)
 
 pub more-letters :
     (old : Position) (place : ℕ) → place < length old.word
@@ -185,16 +180,8 @@ more-letters old place h =
 pub next-end :
     (old : Position) (place : ℕ) → place ≡ length old.word → later (passes old) old.setting.letters (take place old.word) (drop place old.word) ≡ []
 next-end old place e =
-    ap (later (passes old) old.setting.letters (take place old.word)) (no_more (drop place old.word) (omega (arith, length-drop place old.word)))
+    ap (later (passes old) old.setting.letters (take place old.word)) (nil_from_length (drop place old.word) (omega (arith, length-drop place old.word)))
     ∙ later-none (passes old) old.setting.letters (take place old.word)
-  where
-    no_more : (xs : List ℕ) → length xs ≡ 0 → xs ≡ []
-    no_more [] e = refl
-    no_more (x ∷ xs) e = absurd (omega arith)
-
--- the first letters up to a place, with the letter there, are the first letters up to the next place
-longer_front : (word : List ℕ) (place : ℕ) → place < length word → take (place + 1) word ≡ take place word ++ get_or word place 0 ∷ []
-longer_front word place h = take_more word place 0 h
 
 pub next-inside :
     (old new : Position) (place : ℕ) → place < length old.word → IsSameUpTo (place + 1) old new
@@ -208,12 +195,12 @@ next-inside old new place h s found =
     let less = IsSameUpTo-less place (place + 1) old new (omega arith) s in
     let within : place < length new.word = omega (arith, s.length) in
     let same = passes-same (place + 1) old new s in
-    let new_front : take (place + 1) new.word ≡ take place old.word ++ get_or old.word place 0 ∷ [] = s.front ∙ longer_front old.word place h in
+    let new_front : take (place + 1) new.word ≡ take place old.word ++ get_or old.word place 0 ∷ [] = s.front ∙ take_more old.word place 0 h in
     let count : length (take place old.word) ≡ place = omega (arith, length-take place old.word) in
     let letter = letter_at new.word front place a within count new_front in
     let long : length v ≡ length w = omega (arith, length-drop (place + 1) old.word, length-drop (place + 1) new.word, s.length) in
     let inner =
-    ap (λ f. later (passes old) old.setting.letters f v) (sym (longer_front old.word place h))
+    ap (λ f. later (passes old) old.setting.letters f v) (sym (take_more old.word place 0 h))
     ∙ begins-as (place + 1) old new _ (front ++ a ∷ []) w found same (letters-same (place + 1) old new s) new_front refl in
     begins-from place old new _ front (a ∷ w)
     (ap (later (passes old) old.setting.letters front) (drop-next old.word place h) ∙ later-same (passes old) old.setting.letters front v w a long inner)
@@ -232,11 +219,11 @@ next-outside old b place h s none =
     let less = IsSameUpTo-less place (place + 1) old b (omega arith) s in
     let long : length v ≡ length b.word - (place + 1) = omega (arith, length-drop (place + 1) old.word, s.length) in
     ap (later (passes old) old.setting.letters front) (drop-next old.word place h)
-    ∙ later-greater (passes old) old.setting.letters front v a (ap (λ f. later (passes old) old.setting.letters f v) (sym (longer_front old.word place h)) ∙ none)
+    ∙ later-greater (passes old) old.setting.letters front v a (ap (λ f. later (passes old) old.setting.letters f v) (sym (take_more old.word place 0 h)) ∙ none)
     ∙ sym (continued-same (passes b) (passes old) b.setting.letters old.setting.letters (length b.word - (place + 1)) (length v) a (take place b.word) front
     (passes-same (place + 1) old b s) (letters-same (place + 1) old b s) (sym long) less.front)
 
--- if the letter at a place is removed, the words after it that have the same letters before the place are unchanged
+-- if no later word has the same letters up to the place, then, with the letter at the place removed, the later words are those with a greater letter there
 pub next-taken :
     (old b taken : Position) (place letter : ℕ) → place < length old.word → IsSameUpTo (place + 1) old b → IsSameUpTo (place + 1) b taken
     → letter ≡ get_or b.word place 0
@@ -250,7 +237,7 @@ next-taken old b taken place letter h s u is none =
     next-outside old taken place h (IsSameUpTo-then (place + 1) old b taken s u) none
     ∙ ap (continued (passes taken) taken.setting.letters (length taken.word - (place + 1)) (take place taken.word)) (sym same)
 
--- ---- facts from the result of one call
+-- ---- the statement P of a clause `OnTrue b P` or `OnFalse b P`, if the value of b is known
 
 pub from_true : (b : Bool) (P : Type 0) → OnTrue b P → b ≡ true → P
 from_true true P h e = h

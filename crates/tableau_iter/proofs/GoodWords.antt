@@ -1,4 +1,4 @@
--- The words that are the column readings of good tableaux: by a test of the filling of the word.
+-- A word is the column reading of a good tableau if and only if its filling passes a test.
 use Rattle.std.proofs.Common.{◌≡◌, ◌⊎◌, ℕ, zero, suc, ◌+◌, ◌-◌, ◌<◌, ◌≤◌, Bool, true, false, ◌&&◌, ◌==◌, cond, List, [], ◌∷◌, map, length, get_or, ◌∙◌, ap, ap₂, sym, refl, subst, inl, inr, arith, filter}
 use Rattle.std.proofs.lemmas.Bool.{and_parts, le-leb, eq-eqb, true≢false}
 use Rattle.std.proofs.lemmas.List.{length-map}
@@ -18,6 +18,7 @@ use Rattle.skew_shapes.proofs.CellRows.{lengths-rows_by, map_after-at}
 use Rattle.tableau_laws.proofs.GoodReadings.{is_among-from, is_among-tells}
 use Rattle.tableau_iter.proofs.Orders.{Among-reading, length-reading, reading-whole, filling_of-reading}
 use Rattle.sym_model.specs.Bounded.{AreLetters}
+use Rattle.std.proofs.Math.Bool.{and-true}
 
 -- ---- rows whose letters are from 1 to n
 
@@ -193,12 +194,8 @@ pub tableau-listed :
     → is_among w (map (column_reading outer inner) (tableaux k outer inner)) ≡ is_tableau (filled_with outer inner w)
 tableau-listed k outer inner w f holds m =
     ap (λ l. is_among w (map (column_reading outer inner) l)) (sym (all (tableaux k outer inner)))
-    ∙ selected-listed k (λ T. true) outer inner w f holds m ∙ and_true (is_tableau (filled_with outer inner w))
+    ∙ selected-listed k (λ T. true) outer inner w f holds m ∙ and-true (is_tableau (filled_with outer inner w))
   where
     all : (xs : List (List (List ℕ))) → filter (λ T. true) xs ≡ xs
     all [] = refl
     all (x ∷ xs) = ap (λ l. x ∷ l) (all xs)
-
-    and_true : (b : Bool) → (b && true) ≡ b
-    and_true true = refl
-    and_true false = refl

@@ -94,7 +94,8 @@ fitting_letter s word sums place least most b p e =
     let high = leb-true b most parts.1 in
     (low, omega arith)
 
--- if `found` is the first letter from `from` on that the rule allows, at most `most`, it is the next letter that fits
+-- if `found` is the least letter greater than from = max(tried, least) and at most `most` that the rule allows, or None if there is no such letter, it is
+-- the least letter greater than `tried` that fits, or None
 pub next-letter :
     (p : Position) (sums : List ℕ) (place least most tried from : ℕ) (found : Option ℕ) (rule : Rule) (counts : List ℕ) → IsPlace p.setting p.word sums place least most
     → p.setting.rule ≡ rule → p.setting.counts ≡ counts → from ≡ max tried least

@@ -1,7 +1,7 @@
 -- Words in which no letter occurs more often than its limit, letter by letter.
 use Rattle.std.proofs.Common.{◌≡◌, ℕ, zero, suc, ◌+◌, ◌-◌, ◌<◌, ◌≤◌, true, ◌==◌, cond, List, [], ◌∷◌, ◌++◌, length, take, drop, get_or, ◌∙◌, ap, ap₂, sym, refl, inl, inr, arith}
 use Rattle.std.proofs.lemmas.Bool.{cases_eq, eq-eqb, ne_eqb, lt-ltb, ltb-true}
-use Rattle.std.proofs.lemmas.List.{length-map, take_more, take_all, take-append-drop}
+use Rattle.std.proofs.lemmas.List.{length-map, take_more, take_all, take-append-drop, get_or_past}
 use Rattle.sym_model.specs.Partition.{after, size}
 use Rattle.sym_model.specs.Polynomial.{join, same}
 use Rattle.sym_model.specs.Schur.{content, times_in}
@@ -41,10 +41,6 @@ content-at k i w h =
     let letter : 0 + i + 1 ≡ i + 1 = omega arith in
     map_after-at (λ j. times_in j w) 0 k i 0 h ∙ ap (λ j. times_in j w) letter
 
-nothing : (i : ℕ) → get_or {A = ℕ} [] i 0 ≡ 0
-nothing zero = refl
-nothing (suc i) = refl
-
 pub content-allows :
     (k : ℕ) (counts w : List ℕ) (p : ℕ) → length counts ≡ k → same (content k w) counts ≡ true → p < length w → 1 ≤ get_or w p 0 → get_or w p 0 ≤ k
     → allows Limited counts (join [] (content k (take p w))) (get_or w p 0) ≡ true
@@ -62,7 +58,7 @@ content-allows k counts w p l e h low high =
       ap (λ xs. get_or xs (get_or w p 0 - 1) 0) (same_true (content k w) counts e),
       content-at k (get_or w p 0 - 1) w (omega arith),
       sum-at [] (take p w) k (get_or w p 0 - 1) (omega arith) (omega arith),
-      nothing (get_or w p 0 - 1),
+      get_or_past {X = ℕ} [] (get_or w p 0 - 1) 0 (omega arith),
       times_in-one (get_or w p 0 - 1 + 1) (get_or w p 0) (take p w),
       one,
       all,

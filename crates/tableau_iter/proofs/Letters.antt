@@ -1,9 +1,8 @@
 -- The letters of a word, counted one after another.
-use Rattle.std.proofs.Common.{◌≡◌, ℕ, zero, suc, ◌+◌, ◌-◌, ◌<◌, ◌≤◌, ◌==◌, nat_le, nat_lt, Bool, true, false, ◌&&◌, ◌||◌, List, [], ◌∷◌, map, length, take, set, get_or, replicate, refl, sym, ap, ◌∙◌, arith}
-use Rattle.std.proofs.lemmas.Bool.{and_parts, leb-true, true≢false}
+use Rattle.std.proofs.Common.{◌≡◌, ℕ, ◌+◌, ◌-◌, ◌<◌, ◌≤◌, ◌==◌, nat_le, nat_lt, true, false, ◌&&◌, ◌||◌, List, [], length, take, set, get_or, sym, ap, ◌∙◌, arith}
+use Rattle.std.proofs.lemmas.Bool.{and_parts, leb-true, true≢false, false_from_ne_true}
 use Rattle.std.proofs.lemmas.List.{length-take, take_more}
-use Rattle.sym_model.specs.Partition.{after}
-use Rattle.sym_model.specs.Schur.{content, times_in}
+use Rattle.sym_model.specs.Schur.{content}
 use Rattle.sym_model.proofs.Contents.{times_in-most}
 use Rattle.tableau_iter.specs.Fits.{all_fit}
 use Rattle.tableau_iter.proofs.Boards.{sums-put}
@@ -12,30 +11,19 @@ use Rattle.tableau_iter.proofs.FrontContents.{length-sums, sum-at}
 use Rattle.tableau_iter.proofs.Walking.{all_fit-one}
 use Rattle.tableau_iter.specs.LatticeWords.{is_allowed, may_follow, is_lattice_word}
 
--- the counts of all letters in the empty word are 0
-zeros : (a k : ℕ) → map (λ j. times_in j []) (after a k) ≡ replicate k 0
-zeros a zero = refl
-zeros a (suc k) = ap (λ xs. 0 ∷ xs) (zeros (a + 1) k)
-
-pub content_nothing : (k : ℕ) → replicate k 0 ≡ content k []
-content_nothing k = sym (zeros 0 k)
-
--- the counts decide whether a letter may follow
+-- whether the letter a may follow the word v is decided by the number of times that each letter occurs in v
 counts_say : (k : ℕ) (counts now v : List ℕ) (a : ℕ) → now ≡ counts → counts ≡ content k v → is_allowed (length now) now a ≡ may_follow k v a
 counts_say k counts now v a n e =
     ap (λ xs. is_allowed (length xs) xs a) (n ∙ e) ∙ ap (λ m. is_allowed m (content k v) a) (length-sums [] v k (omega arith))
 
-pub never : (b : Bool) → (b ≡ true → ⊥) → false ≡ b
-never true f = absurd (f refl)
-never false f = refl
-
 pub refused : (k : ℕ) (w counts now : List ℕ) (p : ℕ) → p < length w → now ≡ counts → counts ≡ content k (take p w)
     → is_allowed (length now) now (get_or w p 0) ≡ false → false ≡ is_lattice_word k w
 refused k w counts now p h n e f =
-    never (is_lattice_word k w)
-    (λ t. true≢false (sym (all_fit-at (may_follow k) [] w p t h) ∙ sym (counts_say k counts now (take p w) (get_or w p 0) n e) ∙ f))
+    sym (false_from_ne_true (is_lattice_word k w)
+    (λ t. true≢false (sym (all_fit-at (may_follow k) [] w p t h) ∙ sym (counts_say k counts now (take p w) (get_or w p 0) n e) ∙ f)))
 
--- the letter at place p of w is one from 1 to k, its count is below the length of w, and the counts are those of the letters before it
+-- the letter at place p of w is one from 1 to k, its count is below the length of w, the counts are those of the letters before it, and each letter up to
+-- place p may follow those before it
 pub record IsNext (k : ℕ) (w counts : List ℕ) (p : ℕ) : Type 0 where
   pub low : 1 ≤ get_or w p 0
   pub high : get_or w p 0 ≤ k

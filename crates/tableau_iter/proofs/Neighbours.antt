@@ -1,7 +1,7 @@
 -- Neighbours in a tableau, and their letters in its column reading.
 use Rattle.std.proofs.Common.{◌≡◌, ℕ, zero, suc, ◌+◌, ◌-◌, ◌<◌, ◌≤◌, Bool, true, ◌&&◌, cond, leb, ltb, nat_lt, List, [], ◌∷◌, ◌++◌, map, length, drop, get_or, ◌∙◌, ap, ap₂, sym, refl, subst, arith, append-nil, inl, inr}
 use Rattle.std.proofs.lemmas.Bool.{and_parts, leb-true, ltb-true, lt-ltb}
-use Rattle.std.proofs.lemmas.List.{get_or-drop, length-drop, length-map, take_all}
+use Rattle.std.proofs.lemmas.List.{get_or-drop, length-drop, length-map, take_all, get_or-map}
 use Rattle.sym_model.specs.Sum.{Among, Once}
 use Rattle.sym_model.specs.Partition.{IsCell, Falls, part, after}
 use Rattle.sym_model.specs.Schur.{row_rises, columns_rise, semistandard, letters_of}
@@ -122,11 +122,6 @@ right-at_least f outer inner i j e c d =
 
 -- ---- the letters of a word by the places of their cells
 
-pub get-map : (g : ℕ × ℕ → ℕ) (xs : List (ℕ × ℕ)) (q : ℕ) (d : ℕ × ℕ) → q < length xs → get_or (map g xs) q 0 ≡ g (get_or xs q d)
-get-map g [] q d h = absurd (omega arith)
-get-map g (x ∷ xs) zero d h = refl
-get-map g (x ∷ xs) (suc q) d h = get-map g xs q d (omega arith)
-
 pub letter-at :
     (outer inner w : List ℕ) (q i j : ℕ) → length w ≡ length (reading_cells outer inner) → q < length w
     → get_or (reading_cells outer inner) q (i, j) ≡ (i, j) → get_or w q 0 ≡ letter_of_cell i j (reading_cells outer inner) w
@@ -139,7 +134,7 @@ letter-at outer inner w q i j l h e =
     ∙ letters-front cells [] w (subst (λ (cells : List (ℕ × ℕ)). Once cells) (sym all) (Once-reading outer inner)) few
     ∙ take_all (length cells) w (omega arith) in
     ap (λ xs. get_or xs q 0) (sym whole)
-    ∙ get-map (λ (c : ℕ × ℕ). letter_of_cell c.0 c.1 (reading_cells outer inner) w) cells q (i, j) (omega arith)
+    ∙ get_or-map (λ (c : ℕ × ℕ). letter_of_cell c.0 c.1 (reading_cells outer inner) w) cells q (i, j) 0 (omega arith)
     ∙ ap (λ (c : ℕ × ℕ). letter_of_cell c.0 c.1 (reading_cells outer inner) w) e
 
 pub Among-get : (cells : List (ℕ × ℕ)) (q : ℕ) (d : ℕ × ℕ) → q < length cells → Among (get_or cells q d) cells
@@ -155,8 +150,8 @@ pub cell-at :
     → q < length cells → get_or lines q 0 ≡ i → get_or ranks q 0 ≡ j → get_or cells q (i, j) ≡ (i, j)
 cell-at cells lines ranks q i j el er h a b =
     sym (same_pair i j (get_or cells q (i, j))
-    (sym a ∙ ap (λ xs. get_or xs q 0) el ∙ get-map (λ (c : ℕ × ℕ). c.0) cells q (i, j) h)
-    (sym b ∙ ap (λ xs. get_or xs q 0) er ∙ get-map (λ (c : ℕ × ℕ). c.1) cells q (i, j) h))
+    (sym a ∙ ap (λ xs. get_or xs q 0) el ∙ get_or-map (λ (c : ℕ × ℕ). c.0) cells q (i, j) 0 h)
+    (sym b ∙ ap (λ xs. get_or xs q 0) er ∙ get_or-map (λ (c : ℕ × ℕ). c.1) cells q (i, j) 0 h))
 
 pub is_cell :
     (outer inner : List ℕ) (q i j : ℕ) → q < length (reading_cells outer inner) → get_or (reading_cells outer inner) q (i, j) ≡ (i, j) → IsCell outer inner i j
@@ -164,7 +159,7 @@ is_cell outer inner q i j h e =
     reading_cell outer inner (i, j)
     (subst (λ (c : ℕ × ℕ). Among c (reading_cells outer inner)) e (Among-get (reading_cells outer inner) q (i, j) h))
 
--- ---- letters that cannot be neighbours
+-- ---- words that are not readings of a tableau: a letter at most that above it, or greater than that on its right
 
 pub no_above :
     (outer inner w : List ℕ) (q p i j : ℕ) → Falls inner → length w ≡ length (reading_cells outer inner) → q < length w → p < length w

@@ -6,9 +6,9 @@ use Rattle.sym_model.specs.Sum.{Among, Once}
 use Rattle.sym_model.specs.Partition.{IsCell, Falls, part, rows, columns, after, cells, row_cells}
 use Rattle.sym_model.specs.GoodTableau.{reading_right_of, column_reading}
 use Rattle.sym_model.specs.TableauList.{column_cells, reading_cells, letter_of_cell, filling_of}
-use Rattle.sym_model.proofs.Sums.{Among-map, Among_from_map, Among-each, Among_from_each, Among-select, Among_from_select, Once-map, Once-select, Once-append, Once-each, length_within, among_reverse}
+use Rattle.sym_model.proofs.Sums.{Among-map, Among_from_map, Among-each, Among_from_each, Among-select, Among_from_select, Once-map, Once-select, Once-append, Once-each, length_within, among_reverse, Among-append_left}
 use Rattle.sym_model.proofs.AfterLists.{after_among, among_after, once_after, after-append}
-use Rattle.sym_model.proofs.Lists.{each-append}
+use Rattle.sym_model.proofs.Lists.{each-append, map-among}
 use Rattle.strip_laws.proofs.Strips.{falls_far}
 use Rattle.skew_shapes.specs.Rows.{reaches, cells_right_of, rows_by}
 use Rattle.skew_shapes.proofs.CellReadings.{each-cells, reading-rows_by}
@@ -145,15 +145,6 @@ other_cell c d n = elim (cases_eq c.0 d.0) [
 same_cell : (c : ℕ × ℕ) → ((c.0 == c.0) && (c.1 == c.1)) ≡ true
 same_cell c = ap₂ (λ a b. a && b) (eq-eqb c.0 c.0 refl) (eq-eqb c.1 c.1 refl)
 
-map-among : (f g : ℕ × ℕ → ℕ) (xs : List (ℕ × ℕ)) → ((x : ℕ × ℕ) → Among x xs → f x ≡ g x) → map f xs ≡ map g xs
-map-among f g [] h = refl
-map-among f g (x ∷ xs) h = ap₂ ◌∷◌ (h x (inl refl)) (map-among f g xs (λ y m. h y (inr m)))
-
-Among-front : (x : ℕ × ℕ) (xs ys : List (ℕ × ℕ)) → Among x xs → Among x (xs ++ ys)
-Among-front x [] ys m = elim m [ ]
-Among-front x (y ∷ xs) ys (inl e) = inl e
-Among-front x (y ∷ xs) ys (inr m) = inr (Among-front x xs ys m)
-
 -- if the letters of w are written into the listed cells, the letters of the first cells are the first letters of w
 pub letters-front :
     (front back : List (ℕ × ℕ)) (w : List ℕ) → Once (front ++ back) → length front ≤ length w
@@ -165,7 +156,7 @@ letters-front (c ∷ front) back (a ∷ w) o h =
     (map-among (λ (d : ℕ × ℕ). letter_of_cell d.0 d.1 (c ∷ (front ++ back)) (a ∷ w)) (λ (d : ℕ × ℕ). letter_of_cell d.0 d.1 (front ++ back) w) front
     (λ d m.
     ap (λ b. cond b a (letter_of_cell d.0 d.1 (front ++ back) w))
-    (other_cell c d (λ e. o.0 (subst (λ x. Among x (front ++ back)) e (Among-front d front back m)))))
+    (other_cell c d (λ e. o.0 (subst (λ x. Among x (front ++ back)) e (Among-append_left d front back m)))))
     ∙ letters-front front back w o.1 (omega arith))
 
 -- if the word has f(i, j) for each listed cell (i, j), the letter of the cell c is f of c

@@ -13,6 +13,7 @@ use Rattle.skew_shapes.proofs.CellReadings.{above-reached, right-more}
 use Rattle.skew_shapes.proofs.CellRows.{cell_row}
 use Rattle.tableau_iter.proofs.Orders.{Among-reversed, Once-reading, columns_far, reading_split}
 use Rattle.tableau_iter.proofs.Neighbours.{Among-get}
+use Rattle.std.proofs.Math.Seq.{get_or-append_seam}
 
 -- ---- the place of a cell in a list without repeats
 
@@ -44,11 +45,7 @@ place_behind :
     → p ≡ length front
 place_behind front rest p c o h e =
     let longer : length front < length (front ++ c ∷ rest) = omega (arith, length-append front (c ∷ rest)) in
-    sym (place_unique (front ++ c ∷ rest) (length front) p c o longer h (seam front) e)
-  where
-    seam : (xs : List (ℕ × ℕ)) → get_or (xs ++ c ∷ rest) (length xs) c ≡ c
-    seam [] = refl
-    seam (x ∷ xs) = seam xs
+    sym (place_unique (front ++ c ∷ rest) (length front) p c o longer h (get_or-append_seam front c rest c) e)
 
 -- ---- the cells read before and after a cell
 

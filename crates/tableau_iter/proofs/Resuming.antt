@@ -1,6 +1,6 @@
 -- The words after a given word in the list of the words that pass a test.
 use Rattle.std.proofs.Common.{◌≡◌, ◌⊎◌, ℕ, zero, suc, ◌+◌, ◌-◌, ◌<◌, ◌≤◌, Bool, true, false, ◌&&◌, cond, List, [], ◌∷◌, ◌++◌, map, length, ◌∙◌, ap, ap₂, sym, refl, inl, inr, arith, append_assoc}
-use Rattle.std.proofs.lemmas.Bool.{eq-eqb, ne_eqb}
+use Rattle.std.proofs.lemmas.Bool.{eq-eqb, ne_eqb, false_from_ne_true}
 use Rattle.sym_model.specs.Sum.{Among}
 use Rattle.sym_model.specs.Polynomial.{same}
 use Rattle.sym_model.specs.Schur.{words}
@@ -20,12 +20,8 @@ use Rattle.sym_model.proofs.Tableaux.{word_tells}
 pub not_among-completions :
     (test : List ℕ → Bool) (k n : ℕ) (w : List ℕ) → ((length w ≡ n) × AreLetters k w → ⊥) → is_among w (completions test k n []) ≡ false
 not_among-completions test k n w h =
-    never (is_among w (completions test k n []))
+    false_from_ne_true (is_among w (completions test k n []))
     (λ e. h (word_tells k n w (Among_from_select (λ v. test ([] ++ v)) w (words k n) (is_among-tells w (completions test k n []) e)).0))
-  where
-    never : (b : Bool) → (b ≡ true → ⊥) → b ≡ false
-    never true f = absurd (f refl)
-    never false f = refl
 
 -- ---- the words after a given word in a list
 
@@ -81,7 +77,7 @@ later_than-continued test k n front a (suc gap) b v e h m =
     ∙ later_than-other (a + 1) b v (completions test k n (front ++ (a + 1) ∷ [])) (continued test k n front (a + 1)) apart
     ∙ later_than-continued test k n front (a + 1) gap b v (omega arith) h m
 
--- the words of the list after w, one of them, are those that `later` gives
+-- if w is among the words that complete the prefix `front`, those after w in the list are those that `later` gives
 pub later_than-completions :
     (test : List ℕ → Bool) (k n : ℕ) (front w : List ℕ) → Among w (completions test k n front)
     → later_than w (completions test k n front) ≡ later test k front w

@@ -1,6 +1,6 @@
 -- Rows with the lengths of the rows of a skew shape.
 use Rattle.std.proofs.Common.{◌≡◌, ℕ, zero, suc, ◌+◌, ◌-◌, ◌<◌, true, false, List, [], ◌∷◌, map, length, get_or, refl, sym, ap, ap₂, subst, ◌∙◌, arith, inl, inr}
-use Rattle.std.proofs.lemmas.Bool.{cases_eq}
+use Rattle.std.proofs.lemmas.Bool.{cases_eq, false_from_ne_true}
 use Rattle.std.proofs.lemmas.List.{length-map}
 use Rattle.sym_model.specs.GoodTableau.{column_reading}
 use Rattle.sym_model.specs.Polynomial.{same}
@@ -11,7 +11,6 @@ use Rattle.sym_model.proofs.Tableaux.{length-row_lengths, get_or-row_lengths}
 use Rattle.skew_shapes.proofs.CellReadings.{reading-rows_by}
 use Rattle.tableau_iter.proofs.GoodWords.{rows-by_cells}
 use Rattle.tableau_iter.specs.ReadRows.{letter_in_rows}
-use Rattle.tableau_iter.proofs.Letters.{never}
 
 pub rows_count : {A : Type 0} (f : A → List ℕ) (outer inner : List ℕ) (xs : List A) → map length (map f xs) ≡ row_lengths outer inner → length xs ≡ length outer
 rows_count f outer inner xs l =
@@ -34,15 +33,15 @@ alike (x ∷ xs) (y ∷ ys) l h = ap₂ ◌∷◌ (h 0 (omega arith)) (alike xs 
 pub other_count : {A : Type 0} (f : A → List ℕ) (outer inner : List ℕ) (xs : List A) → (length xs ≡ length outer → ⊥)
     → false ≡ same (map length (map f xs)) (row_lengths outer inner)
 other_count f outer inner xs n =
-    never (same (map length (map f xs)) (row_lengths outer inner))
-    (λ e. n (rows_count f outer inner xs (same_true (map length (map f xs)) (row_lengths outer inner) e)))
+    sym (false_from_ne_true (same (map length (map f xs)) (row_lengths outer inner))
+    (λ e. n (rows_count f outer inner xs (same_true (map length (map f xs)) (row_lengths outer inner) e))))
 
 -- if one row does not have the length of its row of outer/inner, the lengths of the rows are not those of outer/inner
 pub other_length : {A : Type 0} (f : A → List ℕ) (outer inner : List ℕ) (xs : List A) (i : ℕ)
     → (get_or (map length (map f xs)) i 0 ≡ get_or outer i 0 - get_or inner i 0 → ⊥) → false ≡ same (map length (map f xs)) (row_lengths outer inner)
 other_length f outer inner xs i n =
-    never (same (map length (map f xs)) (row_lengths outer inner))
-    (λ e. n (ap (λ ls. get_or ls i 0) (same_true (map length (map f xs)) (row_lengths outer inner) e) ∙ get_or-row_lengths outer inner i))
+    sym (false_from_ne_true (same (map length (map f xs)) (row_lengths outer inner))
+    (λ e. n (ap (λ ls. get_or ls i 0) (same_true (map length (map f xs)) (row_lengths outer inner) e) ∙ get_or-row_lengths outer inner i)))
 
 -- if the number of rows is that of the parts of outer, and each has the length of its row of outer/inner, `row_lengths` lists the lengths
 pub all_lengths : {A : Type 0} (f : A → List ℕ) (outer inner : List ℕ) (xs : List A) → length xs ≡ length outer

@@ -1,6 +1,6 @@
--- The list of a new board, and the words after one of the list.
-use Rattle.std.proofs.Common.{◌≡◌, ℕ, ◌≤◌, Bool, true, false, List, [], ◌++◌, map, length, take, get_or, ◌∙◌, ap, ap₂, sym, refl, arith}
-use Rattle.std.proofs.lemmas.Bool.{and_parts, true≢false}
+-- The words that a new board lists, and those of them after a given word.
+use Rattle.std.proofs.Common.{◌≡◌, ℕ, ◌≤◌, true, false, List, [], ◌++◌, map, length, take, get_or, ◌∙◌, ap, ap₂, sym, arith}
+use Rattle.std.proofs.lemmas.Bool.{and_parts, true≢false, false_from_ne_true}
 use Rattle.sym_model.specs.Sum.{Among}
 use Rattle.sym_model.specs.Partition.{Falls, cells, rows, size}
 use Rattle.sym_model.specs.Polynomial.{join}
@@ -34,7 +34,7 @@ around k outer inner near s n = record {
   near_cells = n.near_cells;
 }
 
--- the words that pass in a new board are the readings of the tableaux of its rule
+-- the words that pass in a new board are those whose letters fit by its rule
 new-list :
     (rule : Rule) (counts start : List ℕ) (k : ℕ) (outer inner : List ℕ) (p : Position) → IsNewBoard rule counts start k outer inner p
     → completions (passes p) p.setting.letters (length p.word) []
@@ -115,16 +115,12 @@ pub resumed-fails :
     → passes p w ≡ false → is_among w (good_readings k start outer inner) ≡ false
 resumed-fails counts start k outer inner w p b falls few e =
     ap (is_among w) (sym (good-list counts start k outer inner p b falls few))
-    ∙ never (is_among w (completions (passes p) p.setting.letters (length p.word) []))
+    ∙ false_from_ne_true (is_among w (completions (passes p) p.setting.letters (length p.word) []))
     (λ t.
     true≢false
     (sym (Among_from_select (λ v. passes p ([] ++ v)) w (words p.setting.letters (length p.word))
     (is_among-tells w (completions (passes p) p.setting.letters (length p.word) []) t)).1
     ∙ e))
-  where
-    never : (b : Bool) → (b ≡ true → ⊥) → b ≡ false
-    never true f = absurd (f refl)
-    never false f = refl
 
 -- if w is not as long as the shape has cells, w is not in the list
 pub wrong-length :

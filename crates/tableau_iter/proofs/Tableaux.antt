@@ -2,7 +2,7 @@
 use Rattle.std.proofs.Common.{◌≡◌, ℕ, zero, suc, ◌+◌, ◌-◌, ◌<◌, ◌≤◌, min, Bool, true, false, ◌&&◌, ◌==◌, cond, nat_lt, List, [], ◌∷◌, map, length, drop, get_or, ◌∙◌, ap, ap₂, sym, refl, subst, inl, inr, arith}
 use Rattle.std.proofs.Math.Dec.{eqb-suc-zero}
 use Rattle.std.proofs.lemmas.Bool.{cases_lt, le-leb, lt-ltb, ltb-true}
-use Rattle.std.proofs.lemmas.List.{length-map}
+use Rattle.std.proofs.lemmas.List.{length-map, get_or-map}
 use Rattle.sym_model.specs.Partition.{IsCell, Falls, part, after}
 use Rattle.sym_model.specs.Schur.{row_rises, columns_rise, semistandard, letters_of}
 use Rattle.sym_model.specs.GoodTableau.{every}
@@ -18,7 +18,7 @@ use Rattle.skew_shapes.proofs.CellRows.{row_of-rows_by}
 use Rattle.skew_shapes.proofs.RowOrder.{tests-rows}
 use Rattle.tableau_iter.specs.Fits.{Neighbours, floor_at, ceiling_at, IsNeighbour, AreCells, AreNear}
 use Rattle.tableau_iter.proofs.Orders.{Among-reading}
-use Rattle.tableau_iter.proofs.Neighbours.{get-map, cell-at, letter-at, no_above, no_right}
+use Rattle.tableau_iter.proofs.Neighbours.{cell-at, letter-at, no_above, no_right}
 use Rattle.tableau_iter.proofs.Orders.{Once-reading}
 use Rattle.tableau_iter.proofs.Places.{place_among, place_unique, above_before, right_before}
 use Rattle.sym_model.specs.Bounded.{AreLetters}
@@ -247,8 +247,8 @@ line-of :
     (outer inner lines ranks : List ℕ) (q i j : ℕ) → AreCells outer inner lines ranks → q < length (reading_cells outer inner)
     → get_or (reading_cells outer inner) q (i, j) ≡ (i, j) → (get_or lines q 0 ≡ i) × (get_or ranks q 0 ≡ j)
 line-of outer inner lines ranks q i j c h e = (
-  ap (λ xs. get_or xs q 0) c.lines_are ∙ get-map (λ (c : ℕ × ℕ). c.0) (reading_cells outer inner) q (i, j) h ∙ ap (λ (c : ℕ × ℕ). c.0) e,
-  ap (λ xs. get_or xs q 0) c.ranks_are ∙ get-map (λ (c : ℕ × ℕ). c.1) (reading_cells outer inner) q (i, j) h ∙ ap (λ (c : ℕ × ℕ). c.1) e,
+  ap (λ xs. get_or xs q 0) c.lines_are ∙ get_or-map (λ (c : ℕ × ℕ). c.0) (reading_cells outer inner) q (i, j) 0 h ∙ ap (λ (c : ℕ × ℕ). c.0) e,
+  ap (λ xs. get_or xs q 0) c.ranks_are ∙ get_or-map (λ (c : ℕ × ℕ). c.1) (reading_cells outer inner) q (i, j) 0 h ∙ ap (λ (c : ℕ × ℕ). c.1) e,
 )
 
 same_place :

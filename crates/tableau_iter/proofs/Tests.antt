@@ -1,5 +1,5 @@
 -- The tests of the rows of a tableau.
-use Rattle.std.proofs.Common.{◌≡◌, ℕ, Bool, true, false, ◌&&◌, List, map, length, refl, sym, ap, ap₂, ◌∙◌}
+use Rattle.std.proofs.Common.{◌≡◌, ℕ, Bool, true, false, ◌&&◌, List, map, length, sym, ap, ap₂, ◌∙◌}
 use Rattle.std.proofs.lemmas.List.{length-map}
 use Rattle.std.proofs.lemmas.Bool.{false_from_ne_true}
 use Rattle.strip_laws.proofs.Containment.{contains-tells}
@@ -14,6 +14,7 @@ use Rattle.tableau_iter.proofs.Orders.{length-reading}
 use Rattle.tableau_iter.specs.ReadRows.{letter_in_rows}
 use Rattle.tableau_iter.proofs.Membership.{none_outside}
 use Rattle.tableau_iter.proofs.RowLengths.{reading_in}
+use Rattle.std.proofs.Math.Bool.{and-false}
 
 pub lengths_told : (b : Bool) (lengths : List ℕ) (o i outer inner : List ℕ) → b ≡ same lengths (row_lengths o i) → b ≡ true → o ≡ outer → i ≡ inner
     → lengths ≡ row_lengths outer inner
@@ -30,11 +31,7 @@ pub not_contained : (outer inner : List ℕ) (rows : List (List ℕ)) → (Holds
 not_contained outer inner rows n =
     ap (λ x. same (map length rows) (row_lengths outer inner) && x)
     (none_outside outer inner (column_reading outer inner rows) (false_from_ne_true (contains outer inner) (λ e. n (contains-tells outer inner e))))
-    ∙ by (same (map length rows) (row_lengths outer inner))
-  where
-    by : (b : Bool) → (b && false) ≡ false
-    by true = refl
-    by false = refl
+    ∙ and-false (same (map length rows) (row_lengths outer inner))
 
 pub reading_count : (outer inner : List ℕ) (rows : List (List ℕ)) → Falls outer → map length rows ≡ row_lengths outer inner
     → length (column_reading outer inner rows) ≡ length (cells outer inner)

@@ -5,6 +5,7 @@ use Rattle.sym_model.specs.Schur.{words}
 use Rattle.sym_model.proofs.Lists.{select-each, select-map, select-ext, each-ext}
 use Rattle.tableau_iter.specs.Fits.{all_fit}
 use Rattle.tableau_iter.specs.Walks.{completions, continued, later}
+use Rattle.std.proofs.Math.Bool.{and-false, and_assoc}
 
 pub select-select : {A : Type 0} (f g : A → Bool) (xs : List A) → filter g (filter f xs) ≡ filter (λ (x : A). f x && g x) xs
 select-select f g [] = refl
@@ -15,7 +16,7 @@ select-select f g (x ∷ xs) = by (f x) (select-select f g xs)
     by true e = ap (λ l. cond (g x) (x ∷ l) l) e
     by false e = e
 
--- the words of n + 1 letters with which the prefix passes are those with a first letter greater than 0
+-- the words of n + 1 letters that, after the prefix, pass the test are those with a first letter greater than 0
 pub completions-first :
     (test : List ℕ → Bool) (k n : ℕ) (front : List ℕ) → completions test k (suc n) front ≡ continued test k n front 0
 completions-first test k n front =
@@ -81,7 +82,7 @@ pub later-none : (test : List ℕ → Bool) (k : ℕ) (front : List ℕ) → lat
 unfolding later
 later-none test k front = refl
 
--- the empty word is the only one of no letters, so it is the only completion of a prefix that passes
+-- the empty word is the only one of no letters, so it is the only completion of a prefix that passes the test
 pub completions-end :
     (test : List ℕ → Bool) (k : ℕ) (front : List ℕ) → test front ≡ true → completions test k 0 front ≡ [] ∷ []
 completions-end test k front e = ap (λ b. cond b ([] ∷ []) []) (ap test (append-nil front) ∙ e)
@@ -93,12 +94,8 @@ pub all_fit-append :
 all_fit-append fits front [] w = ap (λ f. all_fit fits f w) (sym (append-nil front))
 all_fit-append fits front (a ∷ v) w =
     ap (λ b. fits front a && b) (all_fit-append fits (front ++ a ∷ []) v w)
-    ∙ regroup (fits front a) (all_fit fits (front ++ a ∷ []) v) (all_fit fits ((front ++ a ∷ []) ++ v) w)
+    ∙ sym (and_assoc (fits front a) (all_fit fits (front ++ a ∷ []) v) (all_fit fits ((front ++ a ∷ []) ++ v) w))
     ∙ ap (λ f. (fits front a && all_fit fits (front ++ a ∷ []) v) && all_fit fits f w) (append_assoc front (a ∷ []) v)
-  where
-    regroup : (a b c : Bool) → (a && (b && c)) ≡ ((a && b) && c)
-    regroup true b c = refl
-    regroup false b c = refl
 
 pub all_fit-one :
     (fits : List ℕ → ℕ → Bool) (front : List ℕ) (a : ℕ) → all_fit fits [] front ≡ true → fits front a ≡ true → all_fit fits [] (front ++ a ∷ []) ≡ true
@@ -111,15 +108,11 @@ misfit fits k n front b e =
     (λ w.
     all_fit-append fits [] (front ++ b ∷ []) w
     ∙ ap (λ x. x && all_fit fits (front ++ b ∷ []) w)
-    (all_fit-append fits [] front (b ∷ []) ∙ ap (λ y. all_fit fits [] front && (y && true)) e ∙ never (all_fit fits [] front)))
+    (all_fit-append fits [] front (b ∷ []) ∙ ap (λ y. all_fit fits [] front && (y && true)) e ∙ and-false (all_fit fits [] front)))
   where
     none : (test : List ℕ → Bool) (xs : List (List ℕ)) → ((w : List ℕ) → test w ≡ false) → filter test xs ≡ []
     none test [] h = refl
     none test (x ∷ xs) h = ap (λ b. cond b (x ∷ filter test xs) (filter test xs)) (h x) ∙ none test xs h
-
-    never : (b : Bool) → (b && false) ≡ false
-    never true = refl
-    never false = refl
 
 pub continued-skip :
     (test : List ℕ → Bool) (k n : ℕ) (front : List ℕ) (a gap c : ℕ) → a + gap ≡ c → c ≤ k

@@ -1,5 +1,5 @@
--- The letters that can follow a prefix of a column reading: by the neighbours of the cell above, on the right and
--- below, and by the content of the prefix.
+-- The letters that can follow a prefix of a column reading: they depend on the cells above, on the right and below, and
+-- on the content of the prefix.
 use Rattle.std.specs.Prelude.{◌≡◌, ℕ, ◌+◌, ◌-◌, ◌<◌, ◌≤◌, ◌==◌, nat_lt, nat_le, min, Bool, true}
 use Rattle.std.specs.Prelude.{◌&&◌, ◌||◌, cond, slice_index, List, [], ◌∷◌, ◌++◌, map, length}
 use Rattle.sym_model.specs.Polynomial.{join}
@@ -14,7 +14,7 @@ all_fit fits front [] = true
 all_fit fits front (a ∷ w) = fits front a && all_fit fits (front ++ a ∷ []) w
 
 -- for each place of the reading: one more than the place of the cell above, and of the cell on the right, 0 if there is
--- none; and the greatest letter that leaves letters for the cells below
+-- none; and the greatest letter that leaves greater letters for all cells below it in its column
 pub record Neighbours : Type 0 where
   pub above : List ℕ
   pub right : List ℕ
@@ -31,13 +31,15 @@ ceiling_at right most word p =
     cond (slice_index right p == 0) (slice_index most p)
     (min (slice_index most p) (slice_index word (slice_index right p - 1)))
 
--- whether the letter after a prefix is within these two bounds
+-- whether the letter a after a prefix is greater than the letter above it, and at most the letter on its right and
+-- the greatest letter for its place
 abbrev pub stands_right : Neighbours → List ℕ → ℕ → Bool
 stands_right near front a =
     nat_lt (floor_at near.above front (length front)) a
     && nat_le a (ceiling_at near.right near.most front (length front))
 
--- whether the rule allows one more letter a, given the number of each letter in `sums`
+-- whether the rule allows one more letter a, if `sums` has the number of each letter so far: always by `Free`, for a
+-- = 1 or sums_a < sums_(a-1) by `Falling`, for sums_a < counts_a by `Limited`
 abbrev pub allows : Rule → List ℕ → List ℕ → ℕ → Bool
 allows Free counts sums a = true
 allows Falling counts sums a =
@@ -69,20 +71,22 @@ IsRun above place count =
     (d : ℕ) → d < count → (place + d + 1 < length above)
     × (slice_index above (place + d + 1) ≡ place + d + 1)
 
--- `most` is k less the number of places after `place` whose cells are each below the one before, so that letters are left for these cells
+-- `most` is k minus the number of places after `place` whose cells are each below the one before, so that greater
+-- letters are left for these cells
 pub record IsGreatest (k : ℕ) (above : List ℕ) (place most : ℕ) : Type 0 where
   pub count : ℕ
   pub value : most ≡ k - count
   pub run : IsRun above place count
 
--- `near` has the neighbours of the cells whose rows are `lines` and whose columns are `ranks`
+-- `near` has the neighbours of the cells whose rows are `lines` and whose columns are `ranks`, and the greatest
+-- letters up to k
 pub record AreNear (k : ℕ) (lines ranks : List ℕ) (near : Neighbours) : Type 0 where
   pub above : AreNeighbours lines ranks 1 0 near.above
   pub right : AreNeighbours lines ranks 0 1 near.right
   pub places : length near.most ≡ length lines
   pub most : (p : ℕ) → p < length lines → IsGreatest k near.above p (slice_index near.most p)
 
--- the rows and the columns of the cells of a shape, in the order of the reading
+-- `lines` are the rows and `ranks` the columns of the cells of outer/inner, in the order of the column reading
 pub record AreCells (outer inner lines ranks : List ℕ) : Type 0 where
   pub lines_are : lines ≡ map (λ (c : ℕ × ℕ). c.0) (reading_cells outer inner)
   pub ranks_are : ranks ≡ map (λ (c : ℕ × ℕ). c.1) (reading_cells outer inner)

@@ -10,7 +10,7 @@ is_allowed k counts a =
     (nat_le 1 a && nat_le a k) && ((a == 1)
     || nat_lt (slice_index counts (a - 1)) (slice_index counts (a - 2)))
 
--- whether a can follow a prefix of a lattice word
+-- whether the letter a can follow the prefix `front` of a lattice word in letters from 1 to k
 abbrev pub may_follow : ℕ → List ℕ → ℕ → Bool
 may_follow k front a = is_allowed k (content k front) a
 

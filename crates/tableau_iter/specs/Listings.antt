@@ -5,7 +5,8 @@ use Rattle.tableau_iter.specs.declared.stage.Stage.TheVariants.{New, Listing, Pa
 use Rattle.tableau_iter.specs.Positions.{Position, IsReady, passes}
 use Rattle.tableau_iter.specs.Walks.{completions, later}
 
--- the words not listed yet, the current one, the start and the number of letters
+-- the state of a lister: the words not listed yet, the current one, the start, and the number k of letters from 1 to
+-- k
 pub record Listed : Type 0 where
   pub rest : List (List ℕ)
   pub item : Option (List ℕ)

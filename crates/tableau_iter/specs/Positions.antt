@@ -50,7 +50,8 @@ Begins place p list =
     list ≡ drop place p.word ∷ later (passes p) p.setting.letters (take place p.word)
     (drop place p.word)
 
--- the parts of a board have the sizes that its word asks for, and each neighbour is at an earlier place
+-- `above`, `right` and `most` of `near` have an entry for each letter of the word, each neighbour is at an earlier
+-- place, and the numbers are within the limits
 pub record IsBoard (near : Neighbours) (start sums word : List ℕ) : Type 0 where
   pub above : length near.above ≡ length word
   pub right : length near.right ≡ length word
@@ -80,7 +81,8 @@ pub record IsNearIn (k : ℕ) (outer inner : List ℕ) (near : Neighbours) : Typ
   pub cells : AreCells outer inner lines ranks
   pub near_cells : AreNear k lines ranks near
 
--- the position is a board for outer/inner whose word has no letter yet
+-- the position is that of a lister of tableaux of outer/inner with letters from 1 to k, before the first letter of
+-- its word is found
 pub record IsNewBoard (rule : Rule) (counts start : List ℕ) (k : ℕ) (outer inner : List ℕ)
     (p : Position) : Type 0 where
   pub shape : IsSkew outer inner

@@ -4,17 +4,18 @@ use Rattle.std.specs.Prelude.{ℕ, ◌-◌, Bool, List, [], ◌∷◌, ◌++◌,
 use Rattle.sym_model.specs.Partition.{after}
 use Rattle.sym_model.specs.Schur.{words}
 
--- the words of n letters from 1 to k with which the prefix passes the test
+-- the words w of n letters from 1 to k such that `front` followed by w passes the test
 abbrev pub completions : (List ℕ → Bool) → ℕ → ℕ → List ℕ → List (List ℕ)
 completions test k n front = filter (λ w. test (front ++ w)) (words k n)
 
--- the words of n + 1 letters with which the prefix passes, with a first letter greater than a
+-- the words w of n + 1 letters from 1 to k, with a first letter greater than a, such that `front` followed by w passes
+-- the test
 abbrev pub continued : (List ℕ → Bool) → ℕ → ℕ → List ℕ → ℕ → List (List ℕ)
 continued test k n front a =
     flat_map (λ b. map (λ w. b ∷ w) (completions test k n (front ++ b ∷ []))) (after a (k - a))
 
--- the words of the same length after the given one: first those with the same first letter, then those with a greater
--- one
+-- the words v of the same length after the given one such that `front` followed by v passes the test: first those with
+-- the same first letter, then those with a greater one
 unfoldable pub later : (List ℕ → Bool) → ℕ → List ℕ → List ℕ → List (List ℕ)
 later test k front [] = []
 later test k front (a ∷ w) =

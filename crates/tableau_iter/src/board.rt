@@ -17,8 +17,8 @@ use std::alloc::{AllocError, Global};
 use std::marker::Model;
 
 /// For each place of the column reading, one more than the place of the cell above and of the cell
-/// on the right, 0 if there is none; and the greatest letter that leaves letters for the cells
-/// below.
+/// on the right, 0 if there is none; and the greatest letter that leaves greater letters for all
+/// cells below it in its column.
 #[derive(Drop)]
 struct Near {
     above: Vec<u16>,
@@ -26,8 +26,8 @@ struct Near {
     most: Vec<u16>,
 }
 
-/// A word with a letter for each cell of a skew shape, in the order of the column reading, that is
-/// changed letter by letter; and start plus the content of a prefix of it.
+/// A word with a letter for each cell of a skew shape, in the order of the column reading, which is
+/// changed letter by letter; and the sums: start plus the content of a prefix of the word.
 #[derive(Drop)]
 pub(crate) struct Board {
     rule: Rule,
@@ -120,7 +120,8 @@ impl Board {
         next_allowed(self.rule, &self.counts, &self.sums, tried.max(least), most)
     }
 
-    /// Whether a letter fits at a place.
+    /// Whether a letter fits at a place: it is greater than the letter above, at most the letter on
+    /// the right, and leaves greater letters for the cells below, and the rule allows it.
     pub(crate) fn admits(&self, place: usize, letter: u16) -> bool
         requires place { place < length self.now.word }
         requires ready { IsReady place self.now }
@@ -174,7 +175,7 @@ fn near_cells(alloc: Global, shape: &Skew, letters: u16) -> Result<Near, AllocEr
     Ok(Near { above, right, most })
 }
 
-/// The start, with zeros up to one number for each letter.
+/// The parts of the start, with zeros appended so that there is one number for each letter.
 fn start_sums(alloc: Global, start: &[u16], letters: u16) -> Result<Vec<u16>, AllocError>
     requires { rows start.now ≤ letters }
     ensures { IfOk result (λ sums. sums.items ≡ join start.now (content letters [])) }

@@ -63,10 +63,11 @@ impl Lattice {
         })
     }
 
-    /// The good tableaux after the one with this column reading, none of them current; the
-    /// conditions are those of `new`. Fails with `NotInList` if no tableau of the list has that
-    /// reading, and with `NoMemory` only if memory runs out. The tableaux before it are not walked
-    /// through.
+    /// The good tableaux of `shape` for `start` with entries from 1 to `rows`, after the one with
+    /// the column reading `last`, none of them current. `start` has at most `rows` rows, `rows` is
+    /// at most 512, and `start` and the shape have at most 4,096 cells together. Fails with
+    /// `NotInList` if no tableau of the list has that reading, and with `NoMemory` only if memory
+    /// runs out. The tableaux before it are not walked through.
     pub fn resume(
         alloc: Global,
         shape: &Skew,

@@ -6,8 +6,9 @@ ghost use Rattle.tableau_iter.specs.Fits.{ceiling_at, floor_at};
 
 use std::alloc::{AllocError, Global};
 
-/// For each place one more than the earlier place whose cell is `down` rows above and `left`
-/// columns right; 0 if there is none.
+/// For each place of the column reading, one more than the earlier place whose cell is `down` rows
+/// above and `left` columns right; 0 if there is none. `lines` and `ranks` are the rows and the
+/// columns of the cells.
 pub(crate) fn earlier_places(
     alloc: Global,
     lines: &[u16],
@@ -26,8 +27,9 @@ pub(crate) fn earlier_places(
     Ok(found)
 }
 
-/// One more than the earlier place whose cell is `down` rows above and `left` columns right; 0 if
-/// there is none.
+/// One more than the earlier place whose cell is `down` rows above that at `place` and `left`
+/// columns right; 0 if there is none. `lines` and `ranks` are the rows and the columns of the
+/// cells.
 fn earlier_place(lines: &[u16], ranks: &[u16], place: usize, down: u16, left: u16) -> u16
     requires place { place < length lines.now }
     requires few { length lines.now ≤ 4096 }
@@ -44,7 +46,8 @@ fn earlier_place(lines: &[u16], ranks: &[u16], place: usize, down: u16, left: u1
     0
 }
 
-/// Whether the cell at another place is `down` rows above and `left` columns right.
+/// Whether the cell at the place `at` is `down` rows above that at `place` and `left` columns
+/// right; `lines` and `ranks` are the rows and the columns of the cells.
 fn is_there(lines: &[u16], ranks: &[u16], place: usize, at: usize, down: u16, left: u16) -> bool
     requires place { place < length lines.now }
     requires at { at < length lines.now }
@@ -56,7 +59,8 @@ fn is_there(lines: &[u16], ranks: &[u16], place: usize, at: usize, down: u16, le
         && usize::from(ranks[at]) == usize::from(ranks[place]) + usize::from(left)
 }
 
-/// For each place the greatest letter that leaves letters for the cells below.
+/// For each place of the column reading, the greatest letter up to `letters` that leaves greater
+/// letters for all cells below it in its column.
 pub(crate) fn greatest_letters(
     alloc: Global,
     above: &[u16],
@@ -74,7 +78,7 @@ pub(crate) fn greatest_letters(
     Ok(most)
 }
 
-/// The number of places that follow one after another with cells each below the one before.
+/// The number of places directly after this one whose cells are each below the cell before.
 fn cells_below(above: &[u16], place: usize) -> u16
     requires place { place < length above.now }
     requires few { length above.now ≤ 4096 }

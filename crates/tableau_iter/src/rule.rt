@@ -3,8 +3,8 @@ ghost use Rattle.std.specs.Prelude.{◌≡◌, ℕ, ◌<◌, ◌≤◌, false, l
 ghost use Rattle.tableau_iter.specs.Fits.{allows};
 ghost use Rattle.tableau_iter.specs.NextLetters.{IsNextLetter};
 
-/// A letter may occur anywhere; or start plus content must be a partition with it; or each letter
-/// has a greatest number of occurrences.
+/// `Free`: a letter may occur anywhere. `Falling`: start plus the content must still be a partition
+/// with the new letter. `Limited`: each letter has a greatest number of occurrences.
 #[derive(Clone, Copy)]
 pub(crate) enum Rule {
     Free,
@@ -12,8 +12,8 @@ pub(crate) enum Rule {
     Limited,
 }
 
-/// Whether the rule allows one more `letter`: `sums` has the number of each letter, and `counts`
-/// the greatest number for the rule `Limited`.
+/// Whether the rule allows one more `letter`: `sums` is start plus the number of each letter so
+/// far, and `counts` has the greatest number of each letter for the rule `Limited`.
 pub(crate) fn allows(rule: Rule, counts: &[u16], sums: &[u16], letter: u16) -> bool
     requires low { 1 ≤ letter }
     requires high { letter ≤ length sums.now }

@@ -1,7 +1,7 @@
 //! The stage of a lister of words.
 
-/// Whether no word has been listed, one is current, one was passed before the first step, or the
-/// last one was passed.
+/// The stage: no word listed yet (`New`), a word is current (`Listing`), the word after which the
+/// list continues has been set but is not listed (`Passed`), or all words were listed (`Ended`).
 #[derive(Clone, Copy)]
 pub(crate) enum Stage {
     New,

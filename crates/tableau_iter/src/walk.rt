@@ -6,7 +6,8 @@ ghost use Rattle.tableau_iter.specs.Walks.{completions, continued, later};
 
 use crate::board::Board;
 
-/// Finds the first word with the current letters before the place; false if there is none.
+/// Finds the first word whose letters all fit, with the current letters before the place; false if
+/// there is none.
 #[cycle(walk)]
 pub(crate) fn first(board: &mut Board, place: usize) -> bool
     requires place { place ≤ length board.old.word }
@@ -27,8 +28,8 @@ pub(crate) fn first(board: &mut Board, place: usize) -> bool
     first_after(board, place, 0)
 }
 
-/// Finds the first word with the current letters before the place and a letter greater than `least`
-/// there; false if there is none.
+/// Finds the first word whose letters all fit, with the current letters before the place and a
+/// letter greater than `least` there; false if there is none.
 #[cycle(walk)]
 fn first_after(board: &mut Board, place: usize, least: u16) -> bool
     requires few { length board.old.word ≤ 4096 }
@@ -56,7 +57,8 @@ fn first_after(board: &mut Board, place: usize, least: u16) -> bool
     false
 }
 
-/// Finds the next word with the current letters before the place; false if this is the last one.
+/// Finds the next word whose letters all fit, with the current letters before the place; false if
+/// this is the last one.
 pub(crate) fn next(board: &mut Board, place: usize) -> bool
     requires place { place ≤ length board.old.word }
     requires ready { IsReady (length board.old.word) board.old }

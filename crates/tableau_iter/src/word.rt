@@ -5,7 +5,8 @@ ghost use Rattle.tableau_iter.specs.LatticeWords.{is_allowed, is_lattice_word};
 use calc_base::NoMemory;
 use std::alloc::Global;
 
-/// Whether a letter has a count, and is 1 or is counted less often than the letter one smaller.
+/// Whether a letter is one of those counted, and is 1 or has occurred less often than the letter
+/// one smaller.
 fn may_follow(counts: &[u16], letter: u16) -> bool
     ensures { result ≡ is_allowed (length counts.now) counts.now letter }
 {

@@ -1,7 +1,7 @@
 -- The columns of a filling and its column reading, by the padded columns.
-use Rattle.std.proofs.Common.{◌≡◌, ℕ, zero, suc, ◌+◌, ◌-◌, ◌<◌, ◌≤◌, ◌⊎◌, ◌==◌, Bool, true, false, cond, ◌&&◌, List, [], ◌∷◌, ◌++◌, append_assoc, length, replicate, reverse, take, drop, get_or, nat_lt, sym, ◌∙◌, ap, ap₂, refl, inl, inr, arith, append-nil, flat_map}
+use Rattle.std.proofs.Common.{◌≡◌, ℕ, zero, suc, ◌+◌, ◌-◌, ◌<◌, ◌≤◌, ◌⊎◌, ◌==◌, Bool, true, false, cond, ◌&&◌, List, [], ◌∷◌, ◌++◌, length, replicate, reverse, take, drop, get_or, nat_lt, sym, ◌∙◌, ap, ap₂, refl, inl, inr, arith, append-nil, flat_map}
 use Rattle.std.proofs.lemmas.Bool.{lt-ltb, le-ltb, ne_eqb, cases_Bool, ltb-true, ltb-false}
-use Rattle.std.proofs.lemmas.List.{reverse-append}
+use Rattle.std.proofs.lemmas.List.{reverse-append, drop_all}
 use Rattle.std.proofs.Math.Seq.{drop-cons}
 use Rattle.sym_model.specs.Sum.{Among}
 use Rattle.sym_model.specs.Partition.{ArePositive, part, columns, after}
@@ -14,6 +14,8 @@ use Rattle.tableau_laws.proofs.PaddedTableaux.{ArePositiveRows}
 use Rattle.tableau_laws.proofs.Contents.{content_same}
 use Rattle.sym_model.proofs.AfterLists.{after_among}
 use Rattle.sym_model.proofs.Contents.{times_in-append}
+use Rattle.std.proofs.lemmas.Grind.{flat_map-append}
+use Rattle.std.proofs.Math.Bool.{and-true}
 
 -- ---- letters other than zeros
 
@@ -81,25 +83,15 @@ column-padded inner (row ∷ rows) i h =
 
 -- ---- the columns right of a given one
 
-each_append : (f : ℕ → List ℕ) (xs ys : List ℕ) → flat_map f (xs ++ ys) ≡ flat_map f xs ++ flat_map f ys
-each_append f [] ys = refl
-each_append f (x ∷ xs) ys = ap (λ l. f x ++ l) (each_append f xs ys) ∙ sym (append_assoc (f x) (flat_map f xs) (flat_map f ys))
-
 -- if f(i + 1) are the letters of line i, counted from 0, the columns j + k, .., j + 1, read one after another, are the reading of the lines after the
 -- first j
 columns_between : (f : ℕ → List ℕ) (lines : List (List ℕ)) (j k : ℕ) → ((i : ℕ) → f (suc i) ≡ filled (line_at i lines)) → j + k ≡ length lines
     → flat_map f (reverse (after j k)) ≡ reading_of (drop j lines)
-columns_between f lines j zero e l = ap reading_of (sym (past j lines (omega arith)))
-  where
-    past : (i : ℕ) (xs : List (List ℕ)) → length xs ≤ i → drop i xs ≡ []
-    past zero [] h = refl
-    past (suc i) [] h = refl
-    past zero (x ∷ xs) h = absurd (omega arith)
-    past (suc i) (x ∷ xs) h = past i xs (omega arith)
+columns_between f lines j zero e l = ap reading_of (sym (drop_all j lines (omega arith)))
 columns_between f lines j (suc k) e l =
     let n : j + 1 ≡ suc j = omega arith in
     ap (flat_map f) (reverse-append ((j + 1) ∷ []) (after (j + 1) k))
-    ∙ each_append f (reverse (after (j + 1) k)) ((j + 1) ∷ [])
+    ∙ flat_map-append f (reverse (after (j + 1) k)) ((j + 1) ∷ [])
     ∙ ap₂ ◌++◌ (columns_between f lines (j + 1) k e (omega arith)) (append-nil (f (j + 1)) ∙ ap f n ∙ e j)
     ∙ ap (λ i. reading_of (drop i lines) ++ filled (line_at j lines)) n
     ∙ ap reading_of (sym (drop-cons lines j [] (omega arith)))
@@ -146,14 +138,10 @@ every_later f a (suc k) =
     let e : suc a + 1 ≡ suc (a + 1) = omega arith in
     ap (λ i. f i && every f (after i k)) e ∙ ap (λ p. f (suc (a + 1)) && p) (every_later f (a + 1) k)
 
--- the sums reached are weakly decreasing for each number j of columns left out at the left, if and only if `is_good_by_columns` is true
+-- start plus the content of the lines after the first j is weakly decreasing for each j, if and only if `is_good_by_columns` is true
 good_drops : (n : ℕ) (start : List ℕ) (lines : List (List ℕ))
     → every (λ j. is_falling (sum_reached n start (drop j lines))) (0 ∷ after 0 (length lines)) ≡ is_good_by_columns n start lines
-good_drops n start [] = by (is_falling (sum_reached n start []))
-  where
-    by : (p : Bool) → (p && true) ≡ p
-    by true = refl
-    by false = refl
+good_drops n start [] = and-true (is_falling (sum_reached n start []))
 good_drops n start (c ∷ lines) =
     ap (λ p. is_falling (sum_reached n start (c ∷ lines)) && (is_falling (sum_reached n start lines) && p))
     (every_later (λ j. is_falling (sum_reached n start (drop j (c ∷ lines)))) 0 (length lines))

@@ -33,7 +33,7 @@ times_in-padded k inner (row ∷ rows) h =
 pub content-padded : (n : ℕ) (inner : List ℕ) (rows : List (List ℕ)) → content n (letters_of (padded inner rows)) ≡ content n (letters_of rows)
 content-padded n inner rows = content_same n (letters_of (padded inner rows)) (letters_of rows) (λ k h. times_in-padded k inner rows h)
 
-times_in-put : (k : ℕ) (row : List ℕ) (columns : List (List ℕ)) → times_in k (letters_of (put_row row columns)) ≡ times_in k row + times_in k (letters_of columns)
+pub times_in-put : (k : ℕ) (row : List ℕ) (columns : List (List ℕ)) → times_in k (letters_of (put_row row columns)) ≡ times_in k row + times_in k (letters_of columns)
 times_in-put k [] columns = omega arith
 times_in-put k (x ∷ row) [] = let e = times_in-put k row [] in omega arith
 times_in-put k (x ∷ row) (c ∷ columns) =

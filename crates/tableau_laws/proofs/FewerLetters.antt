@@ -20,6 +20,7 @@ use Rattle.tableau_laws.proofs.RowSums.{of_tableaux, total_tableaux}
 use Rattle.tableau_laws.proofs.Contents.{content-padded}
 use Rattle.tableau_laws.proofs.ColumnSums.{total_under}
 use Rattle.sym_model.specs.Bounded.{AreAtMost}
+use Rattle.std.proofs.Math.Bool.{and_assoc}
 
 -- whether no letter is greater than k
 abbrev pub are_up_to : ℕ → List ℕ → Bool
@@ -27,11 +28,7 @@ are_up_to k w = every (λ a. nat_le a k) w
 
 up_to-append : (k : ℕ) (v w : List ℕ) → are_up_to k (v ++ w) ≡ (are_up_to k v && are_up_to k w)
 up_to-append k [] w = refl
-up_to-append k (a ∷ v) w = ap (λ b. nat_le a k && b) (up_to-append k v w) ∙ regroup (nat_le a k) (are_up_to k v) (are_up_to k w)
-  where
-    regroup : (p q r : Bool) → (p && (q && r)) ≡ ((p && q) && r)
-    regroup true q r = refl
-    regroup false q r = refl
+up_to-append k (a ∷ v) w = ap (λ b. nat_le a k && b) (up_to-append k v w) ∙ sym (and_assoc (nat_le a k) (are_up_to k v) (are_up_to k w))
 
 -- ---- letters, words and fillings with letters up to k
 

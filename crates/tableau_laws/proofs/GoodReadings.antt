@@ -21,7 +21,7 @@ use Rattle.tableau_laws.proofs.Contents.{content-padded, content-transposed}
 use Rattle.tableau_laws.proofs.PatternFillings.{Once-fronts, Fits, AllFit, MayStand, word_from, words_once, filling_tells, filling_lengths}
 use Rattle.sym_model.proofs.AfterLists.{length_after}
 
--- ---- membership in a list, by the test
+-- ---- the test `is_among` of membership in a list
 
 pub is_among-tells : (w : List ℕ) (ws : List (List ℕ)) → is_among w ws ≡ true → Among w ws
 is_among-tells w [] e = absurd (cc)
@@ -271,7 +271,7 @@ filling_gives n outer inner T falls holds m =
 
 -- ---- good tableaux by their padded columns
 
-both_tests : (a b : Bool) (x : ℤ) → cond a (cond b x (pos 0)) (pos 0) ≡ cond (a && b) x (pos 0)
+pub both_tests : (a b : Bool) (x : ℤ) → cond a (cond b x (pos 0)) (pos 0) ≡ cond (a && b) x (pos 0)
 both_tests true b x = refl
 both_tests false b x = refl
 
@@ -369,7 +369,7 @@ total_good_readings n start outer inner g falls inner_falls holds =
     ∙ total_good_tableaux n start outer inner (λ (T : List (List ℕ)). g (column_reading outer inner T)) (λ (cs : List (List ℕ)). g (reading_of cs)) falls inner_falls holds
     (λ T m. let t = filling_gives n outer inner T falls holds m in ap g (column_reading-padded outer inner T t.positive t.columns))
 
--- ---- the sum reached with a good tableau is decreasing
+-- start plus the content of a good tableau is weakly decreasing
 
 content_of_reading : (n : ℕ) (outer inner : List ℕ) (T : List (List ℕ)) → IsFillingOf n outer inner T → content n (column_reading outer inner T) ≡ content n (letters_of T)
 content_of_reading n outer inner T t =

@@ -1,4 +1,5 @@
--- If no row is longer than the one above, the rows are a grid if and only if the columns are, with both tests exchanged.
+-- Rows are a grid for two tests if the first holds of neighbours in a row and the second of neighbours in a column. If no row is longer than the one
+-- above, the rows are a grid if and only if the columns are one for the two tests exchanged.
 use Rattle.std.proofs.Common.{◌≡◌, ℕ, ◌≤◌, Bool, true, ◌&&◌, List, [], ◌∷◌, map, length, sym, ◌∙◌, ap, ap₂, refl, arith}
 use Rattle.sym_model.specs.Partition.{Falls}
 use Rattle.tableau_laws.specs.PaddedRows.{put_row, transposed}
@@ -48,7 +49,8 @@ pub pass-nothing : (test : ℕ → ℕ → Bool) (w : List ℕ) → pass_by_plac
 pass-nothing test [] = refl
 pass-nothing test (a ∷ w) = refl
 
--- a row on top of columns passes the test at the first two columns if its first letters and the first columns do
+-- with x ∷ row on top of the column c and of `columns`, the first two columns pass the test if and only if x may precede `row`, and c passes it with
+-- the first of `columns`
 pass-first : (test : ℕ → ℕ → Bool) (x : ℕ) (c row : List ℕ) (columns : List (List ℕ)) → length columns ≤ length row
     → pass_by_place test (x ∷ c) (first_line (put_row row columns)) ≡ (may_precede test x row && pass_by_place test c (first_line columns))
 pass-first test x c [] [] h = sym (pass-nothing test c)
@@ -98,7 +100,7 @@ unfolding AreNonempty
 nonempty-transposed [] f = tt
 nonempty-transposed (row ∷ rows) f = nonempty-put row (transposed rows) (length-transposed rows (falls_below row rows f) row f)
 
--- a grid by its rows, none of which is longer than the one above, is a grid by its columns
+-- if no row is longer than the one above, the rows are a grid if and only if their columns are one for the two tests exchanged
 pub grid-transposed : (along between : ℕ → ℕ → Bool) (rows : List (List ℕ)) → Falls (map length rows) → is_grid along between rows ≡ is_grid between along (transposed rows)
 grid-transposed along between [] f = refl
 grid-transposed along between (row ∷ rows) f =

@@ -7,7 +7,7 @@ use Rattle.sym_model.specs.Schur.{row_rises, columns_rise, semistandard}
 use Rattle.tableau_laws.specs.PaddedRows.{padded}
 use Rattle.tableau_laws.proofs.Grids.{pass-nothing}
 use Rattle.tableau_laws.specs.Grid.{is_chain, pass_by_place, may_stand_above, is_padded_tableau}
-use Rattle.sym_model.proofs.Parts.{falls_after}
+use Rattle.sym_model.proofs.Parts.{falls_after, part-drop}
 
 -- ---- the test of a padded row
 
@@ -32,7 +32,8 @@ above_zero b = lt-ltb 0 (b + 1) (omega arith)
 above_letter : (a b : ℕ) → 0 < a → may_stand_above a b ≡ nat_lt a b
 above_letter a b h = let e : b + (1 - a) ≡ b = omega arith in ap (nat_lt a) e
 
--- for two rows that begin in the same column, the test place by place is the test of their columns
+-- for rows that begin in the same column, the upper one with positive letters, `may_stand_above` holds place by place if and only if the columns
+-- strictly increase
 pass_rows : (upper lower : List ℕ) → ArePositive upper → pass_by_place may_stand_above upper lower ≡ columns_rise upper lower
 pass_rows [] lower h = refl
 pass_rows (a ∷ upper) [] h = refl
@@ -42,8 +43,8 @@ pub columns_rise-nothing : (upper : List ℕ) → columns_rise upper [] ≡ true
 columns_rise-nothing [] = refl
 columns_rise-nothing (a ∷ upper) = refl
 
--- if the upper row begins d places further right, its padded row passes the test with the lower row if and only if it has strictly increasing columns
--- with the lower row without its first d letters
+-- if the upper row has positive letters and begins d places further right, its padded row passes the test with the lower row if and only if it has
+-- strictly increasing columns with the lower row without its first d letters
 pass_shifted : (d : ℕ) (upper lower : List ℕ) → ArePositive upper → pass_by_place may_stand_above (replicate d 0 ++ upper) lower ≡ columns_rise upper (drop d lower)
 pass_shifted zero upper lower h = pass_rows upper lower h
 pass_shifted (suc d) upper [] h = sym (columns_rise-nothing upper)
@@ -72,10 +73,6 @@ abbrev pub ArePositiveRows : List (List ℕ) → Type 0
 ArePositiveRows [] = Unit {0}
 ArePositiveRows (row ∷ rows) = ArePositive row × ArePositiveRows rows
 
-second_part : (inner : List ℕ) → part inner 2 ≡ part (drop 1 inner) 1
-second_part [] = refl
-second_part (b ∷ inner) = refl
-
 falls_first : (inner : List ℕ) → Falls inner → part inner 2 ≤ part inner 1
 falls_first [] f = omega arith
 falls_first (b ∷ []) f = omega arith
@@ -89,7 +86,7 @@ padded-semistandard inner (row ∷ []) f p =
 padded-semistandard inner (row ∷ lower ∷ rows) f p =
     ap₂ (λ (a b : Bool). a && b) (zeros_first (part inner 1) row ∙ chain_row row)
     (ap₂ (λ (a b : Bool). a && b)
-    (pass_padded (part inner 1) (part (drop 1 inner) 1) row lower (subst (λ k. k ≤ part inner 1) (second_part inner) (falls_first inner f)) p.0
-    ∙ ap (λ k. columns_rise row (drop (part inner 1 - k) lower)) (sym (second_part inner)))
+    (pass_padded (part inner 1) (part (drop 1 inner) 1) row lower (subst (λ k. k ≤ part inner 1) (sym (part-drop inner)) (falls_first inner f)) p.0
+    ∙ ap (λ k. columns_rise row (drop (part inner 1 - k) lower)) (part-drop inner))
     (padded-semistandard (drop 1 inner) (lower ∷ rows) (falls_after inner f) p.1))
     ∙ sym (and_assoc (row_rises row) (columns_rise row (drop (part inner 1 - part inner 2) lower)) (semistandard (drop 1 inner) (lower ∷ rows)))

@@ -1,6 +1,6 @@
 -- The fillings of a skew shape, padded with zeros, are the fillings of its pattern.
 use Rattle.std.proofs.Common.{◌≡◌, ℕ, zero, suc, ◌-◌, Bool, true, false, List, [], ◌∷◌, ◌++◌, map, drop, replicate, sym, ◌∙◌, ap, refl, arith, append-nil, flat_map}
-use Rattle.std.proofs.lemmas.List.{map-append}
+use Rattle.std.proofs.lemmas.List.{map-append, map-id}
 use Rattle.sym_model.specs.Partition.{part, after}
 use Rattle.sym_model.specs.Schur.{words, row_lengths, fillings_of}
 use Rattle.sym_model.proofs.Lists.{map-map}
@@ -20,10 +20,6 @@ pub map_each : {A B C : Type 0} (h : B → C) (f : A → List B) (xs : List A) �
 map_each h f [] = refl
 map_each h f (x ∷ xs) = map-append h (f x) (flat_map f xs) ∙ ap (λ l. map h (f x) ++ l) (map_each h f xs)
 
-map_same : {A : Type 0} (xs : List A) → xs ≡ map (λ (x : A). x) xs
-map_same [] = refl
-map_same (x ∷ xs) = ap (λ l. x ∷ l) (map_same xs)
-
 -- ---- the words over a line of cells
 
 pub words_over-cells : (n k : ℕ) → words_over n (replicate k true) ≡ words n k
@@ -31,7 +27,7 @@ words_over-cells n zero = refl
 words_over-cells n (suc k) = ap (λ (ws : List (List ℕ)). flat_map (λ (a : ℕ). map (λ (w : List ℕ). a ∷ w) ws) (after 0 n)) (words_over-cells n k)
 
 words_over-outside : (n b : ℕ) (line : List Bool) → words_over n (replicate b false ++ line) ≡ map (λ (w : List ℕ). replicate b 0 ++ w) (words_over n line)
-words_over-outside n zero line = map_same (words_over n line)
+words_over-outside n zero line = sym (map-id (words_over n line))
 words_over-outside n (suc b) line =
     append-nil (map (λ (w : List ℕ). 0 ∷ w) (words_over n (replicate b false ++ line)))
     ∙ ap (map (λ (w : List ℕ). 0 ∷ w)) (words_over-outside n b line)

@@ -5,7 +5,7 @@ use Rattle.sym_model.specs.Sum.{total}
 use Rattle.sym_model.proofs.Sums.{total_ext, total_map, total_each, total_exchange}
 use Rattle.tableau_laws.specs.PaddedRows.{put_row, transposed, letters_at, words_over, fillings_over}
 
--- the sum over the words is a sum over the first letter, and then over the others
+-- the sum over the words is a sum over the first letter, and then over the letters after it
 pub words_sum : (n : ℕ) (p : Bool) (line : List Bool) (g : List ℕ → ℤ)
     → total g (words_over n (p ∷ line)) ≡ total (λ (a : ℕ). total (λ (w : List ℕ). g (a ∷ w)) (words_over n line)) (letters_at n p)
 words_sum n p line g =
@@ -13,7 +13,7 @@ words_sum n p line g =
     ∙ total_ext (λ (a : ℕ). total g (map (λ (w : List ℕ). a ∷ w) (words_over n line))) (λ (a : ℕ). total (λ (w : List ℕ). g (a ∷ w)) (words_over n line))
     (λ a. total_map g (λ (w : List ℕ). a ∷ w) (words_over n line)) (letters_at n p)
 
--- the sum over the fillings is a sum over the first line, and then over the others
+-- the sum over the fillings is a sum over the first line, and then over the lines after it
 pub fillings_sum : (n : ℕ) (line : List Bool) (pattern : List (List Bool)) (f : List (List ℕ) → ℤ)
     → total f (fillings_over n (line ∷ pattern)) ≡ total (λ (w : List ℕ). total (λ (rest : List (List ℕ)). f (w ∷ rest)) (fillings_over n pattern)) (words_over n line)
 fillings_sum n line pattern f =

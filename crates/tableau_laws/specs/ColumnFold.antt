@@ -19,31 +19,32 @@ abbrev pub reading_of : List (List ℕ) → List ℕ
 reading_of [] = []
 reading_of (c ∷ columns) = reading_of columns ++ filled c
 
--- start plus the content of these columns
+-- start plus the content of the columns, in letters from 1 to n
 abbrev pub sum_reached : ℕ → List ℕ → List (List ℕ) → List ℕ
 sum_reached n start columns = join start (content n (letters_of columns))
 
--- whether start, and start plus the content of the columns from each one on, are weakly decreasing
+-- whether start, and start plus the content of the columns from each column to the last, are weakly decreasing
 abbrev pub is_good_by_columns : ℕ → List ℕ → List (List ℕ) → Bool
 is_good_by_columns n start [] = is_falling (sum_reached n start [])
 is_good_by_columns n start (c ∷ columns) =
     is_falling (sum_reached n start (c ∷ columns)) && is_good_by_columns n start columns
 
--- whether c can be the column left of `right`, with ν the sum reached: its letters are strictly increasing, none is
--- greater than its right neighbour, and ν plus its content is weakly decreasing
+-- whether c can be the column left of `right`, with ν the sum reached: below its zeros its letters are strictly
+-- increasing, none is greater than its right neighbour, and ν plus its content is weakly decreasing
 abbrev pub may_be_next : ℕ → List ℕ → List ℕ → List ℕ → Bool
 may_be_next n ν right c =
     is_chain may_stand_above c
     && (pass_by_place nat_le c right && is_falling (join ν (content n c)))
 
--- the sum, over the columns of a line that can be next, of f of the sum then reached and the column
+-- the sum of f(ν + content(c), c) over the columns c that can be left of `right`, with ν the sum reached; c has a
+-- letter from 1 to n in each cell of the line and 0 outside
 abbrev pub next_columns : ℕ → List Bool → (List ℕ → List ℕ → ℤ) → List ℕ → List ℕ → ℤ
 next_columns n line f ν right =
     total (λ c. cond (may_be_next n ν right c) (f (join ν (content n c)) c) (pos 0))
     (words_over n line)
 
--- the sum, over all ways to add columns of these lines, of f of the last sum reached and the last column; the lines are
--- listed from the leftmost one on, and columns are added from the rightmost one on
+-- the sum of f(ν', c) over all ways to choose columns left of `right`, one for each line, the rightmost first; c is
+-- the last of these columns and ν' the sum then reached. The lines are listed from the leftmost one on.
 abbrev pub over_columns : ℕ → List (List Bool) → (List ℕ → List ℕ → ℤ) → List ℕ → List ℕ → ℤ
 over_columns n [] f ν right = f ν right
 over_columns n (line ∷ lines) f ν right = over_columns n lines (next_columns n line f) ν right

@@ -36,10 +36,10 @@ is_grid along between (line ∷ lines) =
 abbrev pub may_stand_above : ℕ → ℕ → Bool
 may_stand_above a b = nat_lt a (b + (1 - a))
 
--- whether padded rows are a semistandard tableau
+-- whether the rows, with zeros at the cells of the inner shape, are a semistandard tableau
 abbrev pub is_padded_tableau : List (List ℕ) → Bool
 is_padded_tableau rows = is_grid nat_le may_stand_above rows
 
--- whether padded columns are a semistandard tableau
+-- whether the columns, with zeros at the cells of the inner shape, are those of a semistandard tableau
 abbrev pub are_tableau_columns : List (List ℕ) → Bool
 are_tableau_columns columns = is_grid may_stand_above nat_le columns

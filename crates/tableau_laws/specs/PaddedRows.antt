@@ -20,7 +20,7 @@ abbrev pub letters_at : ℕ → Bool → List ℕ
 letters_at n true = after 0 n
 letters_at n false = 0 ∷ []
 
--- the words with a letter for each place of a line
+-- the words with a letter from 1 to n at each cell of a line, and 0 at the places outside
 abbrev pub words_over : ℕ → List Bool → List (List ℕ)
 words_over n [] = [] ∷ []
 words_over n (p ∷ line) = flat_map (λ a. map (λ w. a ∷ w) (words_over n line)) (letters_at n p)
@@ -31,11 +31,11 @@ fillings_over n [] = [] ∷ []
 fillings_over n (line ∷ pattern) =
     flat_map (λ w. map (λ rest. w ∷ rest) (fillings_over n pattern)) (words_over n line)
 
--- the line of a row: b places outside and k cells
+-- the line of a row: false at b places outside, and true at k cells after them
 abbrev pub line_of : ℕ → ℕ → List Bool
 line_of b k = replicate b false ++ replicate k true
 
--- the pattern of the rows of outer/inner
+-- the pattern of outer/inner: for each row, false at the cells of inner and true at the cells of outer/inner
 abbrev pub pattern_of : List ℕ → List ℕ → List (List Bool)
 pattern_of [] inner = []
 pattern_of (a ∷ outer) inner =

@@ -1,4 +1,4 @@
--- Rows of tableaux.
+-- Weakly increasing rows of tableaux.
 use Rattle.std.specs.Prelude.{ℕ, ◌≤◌, List, [], ◌∷◌}
 
 -- the row is weakly increasing, and its first letter is at least c

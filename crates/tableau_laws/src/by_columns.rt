@@ -8,10 +8,12 @@ ghost use Rattle.sym_model.specs.Schur.{contains, content};
 ghost use Rattle.sym_model.specs.GoodTableau.{good_readings, product_count, skew_count};
 ghost use Rattle.tableau_laws.specs.ColumnFold.{next_columns, over_columns, column_lines, is_sum};
 
-/// The good tableaux of a skew shape are counted column by column from the rightmost one on; the
-/// condition on a further column depends only on the sum reached and on its right neighbours. The
-/// law is about sums, over the good readings, of a function of start plus the content, and so about
-/// the counts of products and of skew shapes.
+/// The good tableaux of a skew shape for a start, those for which start plus the content of each
+/// column and of the columns right of it is a partition, are counted column by column, from the
+/// rightmost column on; whether a further column may be added depends only on the sum reached,
+/// which is start plus the content so far, and on the column to its right. The law is about the
+/// sum, over the good tableaux, of a function of start plus the content, and so about the counts of
+/// products and skew shapes.
 ///
 /// Example: two of the good tableaux of the shape (2,1) for the start (2,1) reach the sum (3,2,1).
 pub fn column_counting_law()

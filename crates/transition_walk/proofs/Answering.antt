@@ -24,7 +24,7 @@ represents_as polynomial terms f g e h = record {
 pub sums_as : {L : Type 0} (f g : L → ℤ) → ((x : L) → f x ≡ g x) → (list : WholeTermsOf L) → over f list ≡ over g list
 sums_as {L} f g e list = total_ext (λ (t : L × ℤ). t.1 *ℤ f t.0) (λ (t : L × ℤ). t.1 *ℤ g t.0) (λ t. ap (λ z. t.1 *ℤ z) (e t.0)) list
 
--- if a list represents f, the sum of a linear map over its terms is the value of the map at f
+-- if a list represents f, the sum of its pairings with a test function φ is the pairing of f with φ
 pub sums_represented : {L : Type 0} (polynomial : L → Poly) (terms : WholeTermsOf L) (f : Poly) → Represents polynomial (as_fractions terms) f 1
     → (φ : List ℕ → ℤ) → over (λ x. pair (polynomial x) φ) terms ≡ pair f φ
 sums_represented polynomial terms f h φ =

@@ -177,7 +177,7 @@ module _ {L : Type 0} where
   each_append list [] ys = refl
   each_append list (x ∷ xs) ys = ap (λ (l : List (WithList L)). (record { perm = x; factor = list }) ∷ l) (each_append list xs ys)
 
-  -- if xs is `rest` followed by x, the entries of xs are those of `rest` followed by that of x
+  -- if xs is `rest` followed by x, the permutations of xs, each with `list`, are those of `rest`, each with `list`, followed by x with `list`
   pub each_popped : (list : WholeTermsOf L) (xs rest : List (List ℕ)) (x : List ℕ) → xs ≡ rest ++ x ∷ []
       → each_waits list rest ++ (record { perm = x; factor = list }) ∷ [] ≡ each_waits list xs
   each_popped list xs rest x e = sym (each_append list rest (x ∷ [])) ∙ ap (each_waits list) (sym e)

@@ -20,7 +20,7 @@ pow_more (suc k) a =
 pub pow_below : (a b : ℕ) → a < b → 256 ^ a ≤ 256 ^ (b - 1)
 pow_below a b h = let m = pow_more (b - 1 - a) a in let e : a + (b - 1 - a) ≡ b - 1 = omega arith in let p = ap (λ n. 256 ^ n) e in omega arith
 
--- r times 256^(b - 1) is less than 256^b, for r from 1 to 255
+-- r·256^(b - 1) < 256^b for b > 0 and r from 1 to 255
 pub weights_less : (b r : ℕ) → 0 < b → 1 ≤ r → r ≤ 255 → (r - 1) * 256 ^ (b - 1) + 256 ^ (b - 1) < 256 ^ b
 weights_less b r h first last =
     let m : ℕ = 256 ^ (b - 1) in

@@ -1,8 +1,8 @@
--- The value of a Schubert polynomial with each variable 1, by the transition rule (specs/Growth).
---     ones_positive, ones_step    it is positive, and the sum of the values of the lower permutations
---     share_step                  so the shares of the waiting lists increase by no step of the rule
---     ones_limit                  it does not depend on the number of variables
---     limit_share                 the sum of the waiting coefficients is at most its share of a bound
+-- The value of a Schubert polynomial with each variable 1, by the transition rule, and bounds that no step of the rule raises (specs/Growth).
+--     ones_positive, ones_step    the value at w is positive, and is the sum of the values at w·t_rs and its covers
+--     share_step                  no step of the rule raises a multiple of S_w(1, .., 1)·base^l, if w·t_rs counts at most `base` times
+--     ones_limit                  with one variable for each letter of w the value is that of the whole polynomial
+--     limit_share                 S_w(1, .., 1)·base^l, for l inversions of w, is a bound that no step raises
 use Rattle.std.proofs.Common.{◌≡◌, ℕ, suc, zero, ◌+◌, ◌-◌, ◌*◌, ◌^◌, ◌≤◌, true, cond, List, [], ◌∷◌, length, refl, sym, ap, ◌∙◌, inl, inr, arith, ℤ, pos, negsuc, ◌*ℤ◌, ◌≤ℤ◌}
 use Rattle.std.specs.Prelude.{nat_abs}
 use Rattle.std.proofs.lemmas.Int.{ints}
@@ -32,7 +32,7 @@ use Rattle.std.proofs.Math.Nat.{pow-zero}
 abbrev pub ones : ℕ → List ℕ → ℕ
 ones n w = nat_abs (value_at_ones (schubert_in w n))
 
--- a bound for the terms that arise from one at w, if each inversion makes at most `base` terms of one
+-- a bound for the number of terms made from one term at w, if each inversion turns a term into at most `base` terms
 abbrev pub share : ℕ → ℕ → List ℕ → ℕ
 share n base w = ones n w * base ^ inversions w
 
@@ -47,7 +47,7 @@ pub natural : (z : ℤ) → pos 0 ≤ℤ z → z ≡ pos (nat_abs z)
 natural (pos n) h = refl
 natural (negsuc n) h = absurd (omega (arith, ints))
 
--- the value of a Schubert polynomial with each variable 1 is a positive integer
+-- if w has at most n letters, the value of its Schubert polynomial with each of n variables 1 is a positive integer
 at_least_one : (n : ℕ) (w : List ℕ) → IsShort n w → pos 1 ≤ℤ pair (schubert_in w n) (λ α. pos 1)
 at_least_one n w short =
     let m = schubert_monomials n w short in
@@ -92,7 +92,7 @@ ones_limit w =
     ∙ restrict_pair (length w) (polynomials.schubert w) (λ α. pos 1) (In_schubert w)
     ∙ pair_one_value (polynomials.schubert w))
 
--- ---- the shares of permutations
+-- ---- the shares S_w(1, .., 1)·base^l of permutations w
 
 pub power_positive : (base k : ℕ) → 1 ≤ base → 1 ≤ base ^ k
 power_positive base zero h = let e = pow-zero base in omega arith
@@ -113,7 +113,7 @@ share_positive n base w short some = by (ones n w) (base ^ inversions w) (ones_p
     power zero (a ∷ w) h k = absurd (omega arith)
     power (suc n) w h k = power_positive base (inversions w) (omega arith)
 
--- if all permutations of xs have k inversions, their shares add up to the sum of their values at 1, times base^k
+-- if all permutations x of xs have k inversions, the sum of S_x(1, .., 1)·base^k over them is the sum of S_x(1, .., 1), times base^k
 share_sum : (n base k : ℕ) (xs : List (List ℕ)) → ((x : List ℕ) → Among x xs → inversions x ≡ k) → sum_by (share n base) xs ≡ sum_by (ones n) xs * base ^ k
 share_sum n base k [] h = omega arith
 share_sum n base k (x ∷ xs) h =
@@ -144,7 +144,8 @@ share_step n r s base few m w short t h =
         let s : m * ((a + b) * y) ≡ m * (a * y) + m * (b * y) = omega arith in
         omega arith
 
--- S_w(1, .., 1)·base^l is a share: no step of the transition rule increases it
+-- if an image of a label of extent at most k has at most k + extra terms, S_w(1, .., 1)·(top + extra)^l, for l inversions of w, is a share: no step of the
+-- transition rule increases it
 pub limit_share : {L : Type 0} (images : ℕ → List ℕ → L → WholeTermsOf L) (extent : L → ℕ) (takes : ℕ → List ℕ → L → Type 0) (most extra n top : ℕ) → top ≤ most + 1
     → ((k r : ℕ) (v : List ℕ) (label : L) → IsShort k v → 1 ≤ r → r ≤ k → r ≤ 255 → k ≤ most → extent label ≤ k → GrowsBy extent (takes r v) (images r v) k extra label)
     → IsShare images extent n top (λ w label. share n (top + extra) w)

@@ -11,7 +11,7 @@ use Rattle.std.proofs.lemmas.Bool.{cases_lt}
 use Rattle.std.proofs.lemmas.Map.Keys.{sorted_head, sorted_tail}
 use Rattle.sym_model.specs.Sum.{Among}
 
--- ---- changes that need no order
+-- ---- the keys of a list with one element replaced, and of a prefix of a list
 
 -- if an element is replaced by one with the same key, the list of keys is unchanged
 pub keys_set : {X K : Type 0} (key : X → K) (xs : List X) (i : ℕ) (x y : X) → i < length xs → x ≡ get_or xs i x → key y ≡ key x → map key (set xs i y) ≡ map key xs
@@ -32,7 +32,7 @@ keys_append : {X K : Type 0} (key : X → K) (xs ys : List X) → map key (xs ++
 keys_append key [] ys = refl
 keys_append key (x ∷ xs) ys = ap (λ l. key x ∷ l) (keys_append key xs ys)
 
--- the first elements of a sorted list are sorted
+-- if the keys of a list are strictly sorted, so are those of its first elements
 pub sorted_rest : {X K : Type 0} (key : X → K) (R : K → K → Ordering) (all xs ys : List X) → all ≡ xs ++ ys → IsStrictlySortedBy R (map key all) → IsStrictlySortedBy R (map key xs)
 sorted_rest key R all xs ys e s = sorted_front R (map key xs) (map key ys) (subst (IsStrictlySortedBy R) (ap (map key) e ∙ keys_append key xs ys) s)
 
@@ -67,7 +67,7 @@ module _ {X K : Type 0} (key : X → K) (R : K → K → Ordering) (o : IsTotalO
       by Equal e = let p = ap ordering_index (sym (alike_right o b k a e) ∙ h) in omega arith
       by Greater e = let p = ap ordering_index e in let q = index_most (R a k) in omega arith
 
-  -- the comparisons with a key are non-decreasing along the list, as a binary search requires
+  -- along a list with strictly sorted keys the comparisons with a key are non-decreasing, as a binary search requires
   pub comparisons_rise : (xs : List X) (k : K) → IsStrictlySortedBy R (map key xs) → IsNonDecreasingBy (λ x. ordering_index (R (key x) k)) xs
   comparisons_rise xs k s i j d h l = elim (cases_lt i j) [
     | inl f ↦ index_rises (key (get_or xs i d)) (key (get_or xs j d)) k (below xs i j d s f l)
@@ -93,7 +93,7 @@ module _ {X K : Type 0} (key : X → K) (R : K → K → Ordering) (o : IsTotalO
   all_insert k (y ∷ xs) zero x a h = (h, a)
   all_insert k (y ∷ xs) (suc at) x a h = (a.0, all_insert k xs at x a.1 h)
 
-  -- an element inserted into the gap for its key leaves the list sorted
+  -- an element inserted into the gap for its key leaves the keys of the list strictly sorted
   pub sorted_insert : (xs : List X) (at : ℕ) (x : X) → at ≤ length xs → IsPartitionPoint (λ y. R (key y) (key x) ≡ Less) (λ y. R (key y) (key x) ≡ Greater) xs at
       → IsStrictlySortedBy R (map key xs) → IsStrictlySortedBy R (map key (insert xs at x))
   unfolding IsStrictlySortedBy

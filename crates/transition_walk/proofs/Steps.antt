@@ -1,8 +1,8 @@
 -- The lists by which the transition rule replaces a waiting permutation w (specs/Waiting).
---     step_value        their products add up to that of w
---     step_growth       their shares add up to at most the share of w
---     step_waiting      they keep the bounds
---     step_load         their loads add up to less than that of w
+--     step_value        the products of these lists add up to that of w
+--     step_growth       the shares of these lists add up to at most the share of w
+--     step_waiting      these lists keep the bounds
+--     step_load         the loads of these lists add up to less than the load of w
 use Rattle.std.proofs.Common.{◌≡◌, ℕ, ◌+◌, ◌-◌, ◌*◌, ◌^◌, ◌<◌, ◌≤◌, Bool, true, List, [], ◌∷◌, ◌++◌, length, sym, ap, ◌∙◌, subst, inl, inr, arith, ℤ, ◌+ℤ◌, ◌*ℤ◌}
 use Rattle.std.proofs.lemmas.Int.{ints}
 use Rattle.std.proofs.lemmas.Bool.{and_parts}
@@ -43,7 +43,7 @@ are_labels {L} {eq} {is_label} list is t m = (and_parts _ (is_label t.0) (term-a
 pub no_labels : {L : Type 0} (P : L → Type 0) (list : WholeTermsOf L) → list ≡ [] → HaveLabels P list
 no_labels {L} P list empty = subst (λ (l : WholeTermsOf L). HaveLabels P l) (sym empty) (λ t m. absurd m)
 
--- the sum over a table of f + Σ g x is the sum for f and the sums for the g x
+-- the sum of f + Σ g(x) over a table is the sum of f plus the sums of the g(x), for x in a list xs
 over_sum : {L : Type 0} (f : L → ℤ) (g : List ℕ → L → ℤ) (xs : List (List ℕ)) (terms : WholeTermsOf L)
     → over (λ e. f e +ℤ total (λ (x : List ℕ). g x e) xs) terms ≡ over f terms +ℤ total (λ (x : List ℕ). over (g x) terms) xs
 over_sum {L} f g xs terms =
@@ -171,7 +171,7 @@ module _ {L : Type 0} (image : List ℕ → L → WholeTermsOf L) (r s : ℕ) (w
         ]
       ]
 
--- the permutations that replace w together weigh less than w does
+-- if w has at most n ≤ 255 letters, the permutations that replace it in the transition rule together weigh less than w does
 pub covers_weigh_less : (n r s : ℕ) (w : List ℕ) → n ≤ 255 → IsShort n w → IsTransition w r s → sum_by weight (covers_down r (times_swap r s w)) + weight (times_swap r s w) < weight w
 covers_weigh_less n r s w small short t =
     let o = short.one_line in
@@ -205,7 +205,8 @@ step_load {L} image r s w short t =
     let c = covers_weigh_less 255 r s w.perm (omega arith) short t in
     omega arith
 
--- if the arguments are the covers and the factor that the code computes, the lists that replace w are these
+-- if `lower` is w·t_rs, `down` has its covers that exchange the letter at r with an earlier one, and `factor` is made of `lower`, the entries made of
+-- them are those that replace w
 pub stepped_as : {L T : Type 0} (image : T → L → WholeTermsOf L) (made : List ℕ → T) (r s : ℕ) (w : WithList L) (down : List (List ℕ)) (lower : List ℕ) (factor : T)
     → lower ≡ times_swap r s w.perm → down ≡ covers_down r lower → factor ≡ made lower
     → each_waits w.factor down ++ (record { perm = lower; factor = replaced (image factor) w.factor }) ∷ [] ≡ stepped (λ v. image (made v)) r s w

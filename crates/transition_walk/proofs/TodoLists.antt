@@ -51,7 +51,7 @@ length_insert [] (suc i) w h = absurd (omega arith)
 length_insert (y ∷ todo) zero w h = omega arith
 length_insert (y ∷ todo) (suc i) w h = let r = length_insert todo i w (omega arith) in omega arith
 
--- if f(w) is 0, a list that may have gained w has the same sum of f
+-- if f(w) is 0, a list that is `old` or `old` with w inserted has the same sum of f as `old`
 
 pub total_gain : {A : Type 0} (f : A → ℤ) (old new : List A) (w : A) → MayGain old w new → f w ≡ pos 0 → total f new ≡ total f old
 total_gain f old new w (inl e) z = ap (total f) e

@@ -17,7 +17,8 @@ use Rattle.linear_combinations.specs.Gains.{weighed}
 use lib.IntN.{+ℤ_idr, +ℤ_idl}
 
 module _ {L : Type 0} (product : ℕ → (List ℕ → ℤ) → List ℕ → L → ℤ) (images : ℕ → List ℕ → L → WholeTermsOf L) (extent : L → ℕ) (most : ℕ) (w : List ℕ) (label : L) where
-  -- the sum and the waiting lists add up to the product, and no permutation waits twice
+  -- the sum and the waiting lists add up to the product, with no greater share than w and its label; the waiting lists keep their bounds, and the waiting
+  -- permutations are in order, each once
   pub record IsUnderWay (todo : List (WithList L)) (sum : WholeTermsOf L) : Type 0 where
     pub value : (n : ℕ) (φ : List ℕ → ℤ) → over (product n φ (1 ∷ [])) sum +ℤ value_of (product n φ) todo ≡ product n φ w label
     pub grows : (share : List ℕ → L → ℕ) → IsShare images extent (length w) (top_of w (extent label)) share → weighed (share (1 ∷ [])) sum + growth share todo ≤ share w label
@@ -101,7 +102,7 @@ module _ {L : Type 0} (product : ℕ → (List ℕ → ℤ) → List ℕ → L �
             large = λ share falls some. let a = popped_growth share falls in let b = p.large share falls some in omega arith;
           }
 
-  -- if nothing waits any more, the sum is the product
+  -- if nothing waits any more, the sum is the product for w and `label`
   module _ (todo rest : List (WithList L)) (sum : WholeTermsOf L) (is : IsUnderWay todo sum) (popped : todo ≡ rest ++ []) (none : rest ≡ []) where
     nothing : todo ≡ []
     nothing = popped ∙ ap (λ (l : List (WithList L)). l ++ []) none
@@ -115,7 +116,7 @@ module _ {L : Type 0} (product : ℕ → (List ℕ → ℤ) → List ℕ → L �
     pub shared : (share : List ℕ → L → ℕ) → IsShare images extent (length w) (top_of w (extent label)) share → weighed (share (1 ∷ [])) sum ≤ share w label
     shared share falls = let a = is.grows share falls in omega arith
 
-  -- an overflow at a label shows that the bound `limit_of` for w and the label is at least 2^127
+  -- an overflow while the transition rule replaces w shows that the bound `limit_of` for w and the label is at least 2^127
   pub limited : (takes : ℕ → List ℕ → L → Type 0) (extra : ℕ) → top_of w (extent label) ≤ most + 1
       → ((k r : ℕ) (v : List ℕ) (label : L) → IsShort k v → 1 ≤ r → r ≤ k → r ≤ 255 → k ≤ most → extent label ≤ k → GrowsBy extent (takes r v) (images r v) k extra label)
       → SharesOverflow images extent (length w) (top_of w (extent label)) (λ share. share w label) → 2 ^ 127 ≤ limit_of w (extent label) extra

@@ -24,7 +24,7 @@ waiting_order-equal v w e =
     let t = then-equal (nat_cmp (inversions v) (inversions w)) (slice_cmp nat_cmp w v) e in
     sym (same_partition w v (texts_ties w v ∙ ap is_eq t.1))
 
--- if a binary search by this order finds the place r, it is that of the permutation if the result is `Ok`, and a gap for it if `Err`
+-- a binary search by this order returns the place of the permutation as `Ok`, or a gap for it as `Err`
 
 pub found_place : {F : Type 0} (todo : List (Waiting F)) (perm : List ℕ) (r : Result ℕ ℕ) → IsSearchInRange r (length todo)
     → IsBinarySearchResult (λ (w : Waiting F). waiting_order w.perm perm) todo r

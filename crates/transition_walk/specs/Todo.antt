@@ -31,7 +31,7 @@ waiting_order v w = ordering_then (nat_cmp (inversions v) (inversions w)) (slice
 abbrev pub permutations : {F : Type 0} → List (Waiting F) → List (List ℕ)
 permutations {F} todo = map (λ (w : Waiting F). w.perm) todo
 
--- the permutations are strictly increasing in this order, so no two are the same
+-- the permutations are strictly increasing in `waiting_order`, so no two are the same
 abbrev pub AreInOrder : {F : Type 0} → List (Waiting F) → Type 0
 AreInOrder todo = IsStrictlySortedBy waiting_order (permutations todo)
 

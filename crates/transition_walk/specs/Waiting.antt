@@ -15,12 +15,11 @@ use Rattle.transition_walk.specs.Todo.{load, AreInOrder}
 abbrev pub WithList : Type 0 → Type 0
 WithList L = Waiting (WholeTermsOf L)
 
--- the sum over all terms that wait of coefficient times the value of a test function at the
--- permutation and the label
+-- the sum of c·φ(w, label) over the terms (label, c) in the list of each waiting permutation w
 abbrev pub value_of : {L : Type 0} → (List ℕ → L → ℤ) → List (WithList L) → ℤ
 value_of {L} φ todo = total (λ (w : WithList L). over (φ w.perm) w.factor) todo
 
--- the sum over all terms that wait of |coefficient| · share of the label at its permutation
+-- the sum of |c|·share(w, label) over the terms (label, c) in the list of each waiting permutation w
 abbrev pub growth : {L : Type 0} → (List ℕ → L → ℕ) → List (WithList L) → ℕ
 growth {L} share todo = sum_by (λ (w : WithList L). weighed (share w.perm) w.factor) todo
 
@@ -39,8 +38,8 @@ abbrev pub each_waits : {L : Type 0} → WholeTermsOf L → List (List ℕ) → 
 each_waits list [] = []
 each_waits list (x ∷ xs) = (record { perm = x; factor = list }) ∷ each_waits list xs
 
--- the lists that replace w: the covers v·t_ir with its list, and v = w·t_rs with the image of its list under the
--- factor
+-- the lists that replace w: each cover v·t_ir of v = w·t_rs with the list of w, and v with the image of the list of w
+-- under the factor
 abbrev pub stepped : {L : Type 0} → (List ℕ → L → WholeTermsOf L) → ℕ → ℕ → WithList L
     → List (WithList L)
 stepped image r s w = each_waits w.factor (covers_down r (times_swap r s w.perm))
@@ -59,8 +58,8 @@ pub record Joins {L : Type 0} (old more new : List (WithList L)) : Type 0 where
   pub ordered : AreInOrder old → AreInOrder new
   pub loaded : load new ≤ load old + load more
 
--- OVERFLOW: at a label of some permutation in more, old and more together are at least 2^127: it is so for every
--- share that is at least 1 at this label
+-- OVERFLOW: for a label of some permutation in `more`, and every share that is at least 1 at this label, the shares
+-- of old and more add up to at least 2^127
 pub record WaitingOverflows {L : Type 0} (old more : List (WithList L)) : Type 0 where
   pub entry : WithList L
   pub added : Among entry more

@@ -10,8 +10,9 @@ ghost use Rattle.transition_walk.specs.Growth.{GrowsBy};
 use linear_combinations::{Label, Rule};
 use perm_codes::Perm;
 
-/// The factor in the transition rule: for a transition (r, s) of w and v = w·t_rs, S_w is the
-/// factor times S_v, plus the sum of the S of the covers v·t_ir with i < r.
+/// The factor in the transition rule: for the last descent r of w, the last place s after it with a
+/// smaller letter, and v = w·t_rs, S_w is the factor times S_v, plus the sum of the S_u over the
+/// covers u = v·t_ir with i < r.
 pub trait Factor<L: Label>: Rule<L, L> + Drop {
     // The factor of the place r for the permutation v.
     ghost made: { ℕ → List ℕ → Self };

@@ -10,8 +10,9 @@
 //! power that depends on its inversions, is 2^127 or more. A weight on labels that no step of the
 //! rule increases (`IsShare`) bounds the list; if the result is `Large`, its total is at least
 //! 2^127. So for a list without negative coefficients, `Large` is returned if and only if a
-//! coefficient is too large. One relation (`Joins`) says what each step adds to the waiting lists,
-//! and no permutation waits twice (`AreInOrder`).
+//! coefficient is too large. Permutations wait, each with a list by which its Schubert polynomial
+//! is multiplied: one relation (`Joins`) says what each step adds to these lists, and no
+//! permutation waits twice (`AreInOrder`).
 #![tactic(auto)]
 
 mod factor;
@@ -23,3 +24,5 @@ mod waiting;
 pub use factor::Factor;
 pub use places::transition_places;
 pub use product::product_of;
+pub use todo::Waiting;
+pub use waiting::add_waiting_by;

@@ -21,10 +21,10 @@ use std::alloc::Global;
 /// The product of the Schubert polynomial of a permutation w and a label, as a list of labels.
 ///
 /// With m the greater of the number of letters of w and the extent of the label, and l the number
-/// of inversions of w, m + l is at most `most` + 1. Returns `Large` only if the value of the
-/// Schubert polynomial at 1 in each variable, times the power l of m + l + `extra`, is 2^127 or
-/// more; and only if the terms at some label, of all that waits with some permutation, add up to
-/// 2^127 or more (`SharesOverflow`).
+/// of inversions of w, m + l must be at most `most` + 1; `most` and `extra` are those of the
+/// `Factor`. Returns `Large` only if the value of the Schubert polynomial at 1 in each variable,
+/// times (m + l + `extra`)^l, is 2^127 or more; and only if, for some permutation and some label,
+/// the terms that wait there add up to 2^127 or more (`SharesOverflow`).
 ///
 /// The waiting lists are permutations, each with a list by which its Schubert polynomial is
 /// multiplied. The transition rule replaces the greatest permutation by lower ones, until only the

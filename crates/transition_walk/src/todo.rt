@@ -14,7 +14,7 @@ use std::cmp::Ordering;
 pub struct Waiting<F> {
     /// The permutation.
     pub perm: Perm,
-    /// The factor by which its Schubert polynomial is multiplied.
+    /// The factor by which the Schubert polynomial of `perm` is multiplied.
     pub factor: F,
 }
 

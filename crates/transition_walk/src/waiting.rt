@@ -1,4 +1,5 @@
-//! The transition rule on the waiting lists.
+//! The transition rule on permutations that wait, each with the list by which its Schubert
+//! polynomial is multiplied.
 ghost use Rattle.std.specs.Prelude.{ℕ, ◌<◌, ◌≤◌, ◌∷◌, ◌++◌, [], pos, FitsSigned, List, length};
 ghost use Rattle.std.specs.Prelude.{OnOk, IsErrOf};
 ghost use Rattle.std.specs.Int.{w128};
@@ -35,7 +36,8 @@ fn add_given<L: Label>(sum: &mut Lin<L, Int>, list: Lin<L, Int>) -> Result<(), S
     sum.add_terms(&shorter)
 }
 
-/// Adds a list to the one that waits with a permutation.
+/// Adds a list to the factor of a permutation in `todo`; if the permutation is not there, it is
+/// inserted with the list as its factor.
 fn add_waiting<L: Label>(
     alloc: Global,
     todo: &mut Vec<Waiting<Lin<L, Int>>>,
@@ -53,7 +55,8 @@ fn add_waiting<L: Label>(
     waiting.factor.add_terms(list)
 }
 
-/// Adds a list that is not needed afterwards to the one that waits with a permutation.
+/// Adds a list that is not needed afterwards to the factor of a permutation in `todo`; if the
+/// permutation is not there, it is inserted with the list as its factor.
 fn give_waiting<L: Label>(
     alloc: Global,
     todo: &mut Vec<Waiting<Lin<L, Int>>>,
@@ -71,8 +74,14 @@ fn give_waiting<L: Label>(
     add_given(&mut waiting.factor, list)
 }
 
-/// Adds the product of a list and a factor to the list that waits with a permutation.
-fn add_waiting_by<L: Label, F: Rule<L, L>>(
+/// Adds the image of a list under a rule, which must take each label of the list, to the factor of
+/// a permutation in `todo`; if the permutation is not there, it is inserted with the image as its
+/// factor.
+///
+/// Returns `Large` only if at some label the absolute values of the coefficient in this factor and
+/// of the coefficients of the image add up to 2^127 or more. On an error a part of the image may
+/// have been added.
+pub fn add_waiting_by<L: Label, F: Rule<L, L>>(
     alloc: Global,
     todo: &mut Vec<Waiting<Lin<L, Int>>>,
     perm: Perm,
@@ -93,7 +102,8 @@ fn add_waiting_by<L: Label, F: Rule<L, L>>(
     waiting.factor.add_by(factor, list)
 }
 
-/// Adds a list to the one that waits with each of `covers`.
+/// Adds a list to the factor in `todo` of each permutation of `covers`; those that are not there
+/// are inserted with the list as their factor.
 fn add_to_each<L: Label>(
     alloc: Global,
     todo: &mut Vec<Waiting<Lin<L, Int>>>,
@@ -111,7 +121,8 @@ fn add_to_each<L: Label>(
     Ok(())
 }
 
-/// Adds a list to the one that waits with each of `covers` and with `last`, which takes it over.
+/// Adds a list that is not needed afterwards to the factors in `todo` of the permutations of
+/// `covers` and of `last`; those that are not there are inserted with the list as their factor.
 fn give_to_last<L: Label>(
     alloc: Global,
     todo: &mut Vec<Waiting<Lin<L, Int>>>,
@@ -129,7 +140,8 @@ fn give_to_last<L: Label>(
     give_waiting(alloc, todo, last, list)
 }
 
-/// Adds a list that is not needed afterwards to the one that waits with each of `covers`.
+/// Adds a list that is not needed afterwards to the factor in `todo` of each permutation of
+/// `covers`; those that are not there are inserted with the list as their factor.
 fn add_covers<L: Label>(
     alloc: Global,
     todo: &mut Vec<Waiting<Lin<L, Int>>>,

@@ -1,10 +1,10 @@
--- The places in words of a form at which an expression can be next, by the derivatives.
+-- The places in the words of a form where an expression can be next, found with the derivatives of the form.
 use Rattle.std.proofs.Common.{◌≡◌, ℕ, Bool, true, false, ◌&&◌, cond, List, [], ◌∷◌, ◌++◌, map, append_assoc, refl, sym, ap, ◌∙◌, subst, ◌⊎◌, inl, inr}
 use Rattle.std.proofs.lemmas.Bool.{and_parts, and_from, or_cases, or_left, or_right}
 use Rattle.sym_model.specs.Sum.{Among}
 use Rattle.sym_model.proofs.Sums.{Among-append_left, Among-append_right, Among_from_append, Among-map, Among_from_map, Among-each, Among_from_each}
 use Rattle.sym_model.specs.Form.{exact, number, target, formula, Form, empty, word, sequence, either, many, SomeOf, Has, Awaits, fits, is_skippable, derivatives, after_word, after_words, awaits_next, some_awaits_next, TellsExpressions}
-use Rattle.word_laws.proofs.Derivatives.{sequence_parts, has_more, has_none, skipped, skippable, derivative_sound, derivative_complete, Splits, inside, behind, splits, among_cond_true, among_cond as from_cond}
+use Rattle.word_laws.proofs.Derivatives.{sequence_parts, has_more, has_none, skipped, skippable, derivative_sound, derivative_complete, Splits, inside, behind, splits, among_cond_true, among_cond as from_cond, no_append}
 use Rattle.word_laws.proofs.LongestPrefixes.{some_in, some_out}
 use Rattle.word_laws.specs.Words.{Words}
 
@@ -33,10 +33,6 @@ next_sound (either f g) h =
     by (inr e) l r = inr (r e)
 next_sound (many f) h = ([], [], refl, has_none f, next_sound f h)
 
-no_append : (us vs : Words) → [] ≡ us ++ vs → (us ≡ []) × (vs ≡ [])
-no_append [] vs h = (refl, sym h)
-no_append (u ∷ us) vs h = cc
-
 pub next_complete : (f : Form) → Awaits f [] → awaits_next f ≡ true
 next_complete empty h = absurd h
 next_complete (word (exact text)) h = absurd h
@@ -45,18 +41,18 @@ next_complete (word (target bases)) h = absurd h
 next_complete (word formula) h = refl
 next_complete (sequence f g) (inl h) = or_left (awaits_next f) (is_skippable f && awaits_next g) (next_complete f h)
 next_complete (sequence f g) (inr h) =
-    let p = no_append h.0 h.1 h.2 in
+    let p = no_append h.0 h.1 (sym h.2) in
     or_right (awaits_next f) (is_skippable f && awaits_next g)
     (and_from (is_skippable f) (awaits_next g)
     (skippable f h.3.written (sym h.3.spelled ∙ p.0))
     (next_complete g (subst (Awaits g) p.1 h.4)))
 next_complete (either f g) (inl h) = or_left (awaits_next f) (awaits_next g) (next_complete f h)
 next_complete (either f g) (inr h) = or_right (awaits_next f) (awaits_next g) (next_complete g h)
-next_complete (many f) h = let p = no_append h.0 h.1 h.2 in next_complete f (subst (Awaits f) p.1 h.4)
+next_complete (many f) h = let p = no_append h.0 h.1 (sym h.2) in next_complete f (subst (Awaits f) p.1 h.4)
 
 -- ---- an expression after one word of a form
 
--- a derivative by the word `text` for which an expression can follow the words ws
+-- a derivative of f by the word `text` in which an expression can follow the words ws
 pub record AwaitsAfter (reads : List ℕ → Bool) (f : Form) (text : List ℕ) (ws : Words) : Type 0 where
   pub next : Form
   pub among : Among next (derivatives reads f text)

@@ -1,4 +1,4 @@
--- Words of a class: the test decides membership, and each class that has words has one.
+-- Words of a class: the test of a class passes for exactly its words, and some word is of the class if `has_words` passes.
 use Rattle.std.proofs.Common.{◌≡◌, ℕ, ◌<◌, nat_le, Bool, true, List, [], ◌∷◌, refl, sym, subst, arith, ◌⊎◌, inl, inr}
 use Rattle.std.specs.Prelude.{codes}
 use Rattle.std.proofs.lemmas.Bool.{leb-true, le-leb, and_parts, and_from, or_cases, or_left, or_right}
@@ -51,7 +51,7 @@ letter_complete (b ∷ bases) basis (inl e) =
 letter_complete (b ∷ bases) basis (inr h) =
     or_right (same (letter b) (letter basis)) (is_letter_of bases (letter basis)) (letter_complete bases basis h)
 
--- if the test passes for `text`, it is a word of the class
+-- if `fits` passes for a class and `text`, then `text` is a word of the class
 pub fits_sound : (reads : List ℕ → Bool) → TellsExpressions reads → (c : Class) (text : List ℕ) → fits reads c text ≡ true
     → (x : WrittenWord c) × MayBe c x × (text ≡ word_of c x)
 fits_sound reads tells (exact w) text h = (tt, tt, sym (same_true w text h))
@@ -59,7 +59,7 @@ fits_sound reads tells number text h = (text, number_sound text h, refl)
 fits_sound reads tells (target bases) text h = letter_sound bases text h
 fits_sound reads tells formula text h = let p = tells.sound text h in (p.0, p.1.allowed, p.1.spelled)
 
--- if x may be a word of the class, the test passes for this word
+-- if x denotes a word of the class, `fits` passes for this word
 pub fits_complete : (reads : List ℕ → Bool) → TellsExpressions reads → (c : Class) (x : WrittenWord c) → MayBe c x
     → fits reads c (word_of c x) ≡ true
 fits_complete reads tells (exact w) x h = same_refl w
@@ -67,7 +67,7 @@ fits_complete reads tells number x h = number_complete x h
 fits_complete reads tells (target bases) x h = letter_complete bases x h
 fits_complete reads tells formula x h = tells.complete (spelling x) x (record { allowed = h; spelled = refl })
 
--- if a class has words by the test `has_words`, there is one
+-- if the test `has_words` passes for a class, some word is of the class
 pub some_word : (c : Class) → has_words c ≡ true → (x : WrittenWord c) × MayBe c x
 some_word (exact w) h = (tt, tt)
 some_word number h = (codes "1", one_is_number)

@@ -1,4 +1,4 @@
--- Each command has words, and the expression of an `expand` without error is within its target's degree.
+-- Each command has words, and the expression of an `expand` without error has at most the greatest degree for its target.
 use Rattle.std.proofs.Common.{◌≡◌, arith, None, ◌+◌, ◌≤◌, Bool, List, [], ◌∷◌, length, sym, subst, inl, inr}
 use Rattle.sym_model.specs.Expansion.{Basis, monomials}
 use Rattle.sym_model.specs.Expression.{Tree, number, degree}

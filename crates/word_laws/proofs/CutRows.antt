@@ -1,4 +1,4 @@
--- The rows of a tableau at the front of words, and the places where other words first fail.
+-- Words that begin with the rows of a tableau, and the places where words that do not begin so first fail.
 use Rattle.std.proofs.Common.{◌≡◌, ℕ, true, ◌<◌, List, [], ◌∷◌, ◌++◌, append_assoc, length, length-append, refl, sym, ap, ◌∙◌, subst, arith, inl, inr}
 use Rattle.std.specs.Prelude.{codes}
 use Rattle.sym_model.specs.Sum.{Among}
@@ -12,7 +12,7 @@ use Rattle.word_laws.proofs.Readings.{OfOne, Unlike, unlike}
 use Rattle.word_laws.proofs.Cuts.{StartsAs, EndsAt, IsTaken, StopsIn, unlike_second, unlike_last, ends_unlike, stops_first, stops_left, stops_right, optional_taken, optional_absent, optional_stops}
 use Rattle.word_laws.proofs.CutParts.{is_exact, is_number, unlike_kind, unlike_text, the_taken, letters_taken}
 
--- ---- words of one form followed by others
+-- ---- words of one form followed by other words
 
 starts_behind : (q r rest : Words) → StartsAs r rest → StartsAs (q ++ r) (q ++ rest)
 starts_behind [] r rest s = s
@@ -36,7 +36,7 @@ sequence_taken f g p q behind rest ws a k l = record {
 
 -- ---- the words of one row
 
--- words that continue a row are numbers, and there is none after a `.`
+-- a word that can be the first of a row and is not `.` is a number
 of_row : (t : List ℕ) → OfOne (firsts row_words) t → (t ≡ codes "." → ⊥) → IsNumber t
 of_row t o n = elim (o.among) as (λ m. IsNumber t) [
   | inl e ↦ absurd (n (o.spelled ∙ is_exact o.class o.written (codes ".") e))
@@ -149,7 +149,8 @@ further_taken p q more behind rest ws e k l =
     (optional_taken more_rows ((codes "/" ∷ p) ++ q) rest ws refl
     (sequence_taken next_row further_rows (codes "/" ∷ p) q behind rest ws refl (next_taken p more behind ws e k) l))
 
--- if words first fail in the form of one more row after a `/`, they first fail in the form of all further rows
+-- if words first fail after their first word and inside the form of one more row after a `/`, they first fail at the same
+-- place inside the form of all further rows
 stops_more : (ws : Words) (left : ℕ) → left < length ws → StopsIn more_rows ws left → StopsIn further_rows ws left
 stops_more ws left l w =
     let o = optional_stops more_rows ws left l w in (
@@ -171,7 +172,7 @@ stops_more ws left l w =
     has_more : (us : Words) → Has further_rows us → Has (optional more_rows) us
     has_more us h = record { written = as_more h.written; allowed = may_more h.written h.allowed; spelled = h.spelled ∙ sym (words_more h.written) }
 
--- if words first fail after their first word, fewer words are left than there are
+-- if ws is a word followed by us, and us first fail with `left` words left, `left` is less than the number of words of ws
 fewer_left : (f : Form) (us ws : Words) (t : List ℕ) (left : ℕ) → ws ≡ t ∷ us → StopsIn f us left → left < length ws
 fewer_left f us ws t left e w =
     let a = ap length e in
@@ -201,7 +202,7 @@ further_stops p more behind ws left e k w =
         let i = w.0.left_is in
         omega (arith, a, b, c, d, i)
 
--- ---- the rows passed so far, and the words after them
+-- ---- the rows that have been taken so far, and the words after them
 
 pub record RowsPassed (rest words : Words) : Type 0 where
   pub front : Words

@@ -1,4 +1,4 @@
--- Words of one form after another at the front of words, and the places where words that are not of a form first fail.
+-- Words that begin with words of one form and then of another, and the places where words that are not of a form first fail.
 use Rattle.std.proofs.Common.{◌≡◌, ℕ, zero, suc, ◌+◌, ◌-◌, ◌<◌, ◌≤◌, Bool, true, false, ◌&&◌, cond, List, [], ◌∷◌, ◌++◌, append_assoc, length, length-append, take, refl, sym, ap, ◌∙◌, subst, arith, ◌⊎◌, inl, inr}
 use Rattle.std.proofs.lemmas.Bool.{and_parts}
 use Rattle.std.proofs.lemmas.List.{append-nil}
@@ -45,8 +45,8 @@ pub record GoesWrong (f : Form) (words : Words) (left : ℕ) : Type 0 where
   pub stops : (t : List ℕ) (rest : Words) → after ≡ t ∷ rest → Begins f (before ++ t ∷ []) → ⊥
   pub is_none : Has f words → ⊥
 
--- the words first fail inside the form: if some first words before the failure are of the form, the next word continues
--- it
+-- the words first fail inside the form: if the words before the failure are us and vs, and us has the form, then vs begins with a word that can continue
+-- words of the form
 abbrev pub StopsIn : Form → Words → ℕ → Type 0
 StopsIn f words left =
     (w : GoesWrong f words left) × ((us vs : Words) → w.before ≡ us ++ vs → Has f us → Unlike (continuing f) vs → ⊥)
@@ -69,7 +69,7 @@ starts_itself : (us : Words) → StartsAs us us
 starts_itself [] = tt
 starts_itself (u ∷ us) = (us, refl)
 
--- either us begins with `first`, or `first` begins with us and the word t
+-- either the words us begin with `first`, or `first` begins with us and the word t
 data Seam (us : Words) (t : List ℕ) (first : Words) : Type 0 where
   short : (v : Words) → us ≡ first ++ v → Seam us t first
   long : (v : Words) → first ≡ (us ++ t ∷ []) ++ v → Seam us t first
@@ -86,7 +86,7 @@ seam (u ∷ us) t vs (x ∷ first) second e = by (seam us t vs first second cc)
     by (short v h) = short v (ap (λ ws. u ∷ ws) h ∙ ap (λ y. y ∷ (first ++ v)) (sym same))
     by (long v h) = long v (ap (λ ws. x ∷ ws) h ∙ ap (λ y. y ∷ ((us ++ t ∷ []) ++ v)) same)
 
--- if us is `first` and v, the words us, t, vs are `first` followed by v, t, vs
+-- if the words us are `first` followed by v, and us, t, vs are `first` followed by `second`, then `second` is v, t, vs
 seam_rest : (us : Words) (t : List ℕ) (vs first second v : Words) → us ≡ first ++ v → (us ++ t ∷ []) ++ vs ≡ first ++ second → second ≡ v ++ t ∷ vs
 seam_rest us t vs first second v i e = same first (sym e ∙ append_assoc us (t ∷ []) vs ∙ ap (λ ws. ws ++ t ∷ vs) i ∙ append_assoc first v (t ∷ vs))
   where
@@ -94,18 +94,19 @@ seam_rest us t vs first second v i e = same first (sym e ∙ append_assoc us (t 
     same [] h = h
     same (x ∷ first) h = same first cc
 
--- if no first word of g can continue words of f, words of g do not continue words of f
+-- if no first word of g can continue words of f, words of g do not begin with a word that can continue words of f
 unlike_words : (f g : Form) (ws : Words) → are_apart (continuing f) (firsts g) ≡ true → Has g ws → Unlike (continuing f) ws
 unlike_words f g ws a h =
     subst (Unlike (continuing f)) (append-nil (words_of g h.written) ∙ sym h.spelled) (unlike_front (continuing f) g h.written h.allowed [] a (λ e. tt))
 
--- ---- words that a form takes
+-- ---- words that a form takes, as in `IsTaken`
 
 pub ends_unlike : (f : Form) → is_unambiguous f ≡ true → (x : Written f) → May f x → (rest : Words) → Unlike (continuing f) rest → EndsAt f x rest
 ends_unlike f h x a rest u =
     λ y r s b st e v. (reads_once one_phrase f h x y a b r s e (starts_unlike r rest st f u) v).1
 
--- if p is taken by f, and words p followed by q are of f and then g, then q is of g
+-- let no first word of g continue words of f, and let q be empty or begin with the word after p: if p is taken by f (`IsTaken`), and p followed by q is
+-- of f and then g, then q is of g
 has_right : (f g : Form) (p rest ws q : Words) → are_apart (continuing f) (firsts g) ≡ true → IsTaken f p rest ws → StartsAs q rest
     → Has (sequence f g) (p ++ q) → Has g q
 has_right f g p rest ws q a k s h = record {
@@ -142,7 +143,8 @@ wrong_right f g p rest ws left a k w = record {
   is_none = λ h. w.is_none (has_right f g p rest ws rest a k (starts_itself rest) (subst (Has (sequence f g)) k.words_are h));
 }
 
--- after words of f and then g, a word that does not continue these does not continue words of f either
+-- if no first word of g can continue words of f, and vs begins with no word that can continue words of f and then g, then the words of z followed by vs
+-- begin with no word that can continue words of f
 pub unlike_second : (f g : Form) (z : Written g) → May g z → (vs : Words) → are_apart (continuing f) (firsts g) ≡ true
     → Unlike (continuing (sequence f g)) vs → Unlike (continuing f) (words_of g z ++ vs)
 unlike_second f g z m vs a u =
@@ -168,7 +170,8 @@ stops_right f g p rest ws left a k w = (
 
 -- ---- words that first fail inside a form
 
--- if words first fail inside f, their words up to the failing one, with this one, do not begin words of f followed by words of g
+-- if no first word of g can continue words of f, and words first fail inside f at the word t, then no words of f followed by words of g begin with the
+-- words up to t
 none_within : (f g : Form) (words : Words) (left : ℕ) → are_apart (continuing f) (firsts g) ≡ true → (w : StopsIn f words left) (t : List ℕ) (more tail : Words)
     → w.0.after ≡ t ∷ more → Parts f g ((w.0.before ++ t ∷ []) ++ tail) → ⊥
 none_within f g words left a w t more tail k p = next (seam w.0.before t tail p.before p.after p.are)
@@ -214,7 +217,7 @@ stops_left f g words left a c w =
         (sequence_parts f g ((w.0.before ++ t ∷ []) ++ more)
         (subst (Has (sequence f g)) (ap (λ us. w.0.before ++ us) k ∙ sym (append_assoc w.0.before (t ∷ []) more)) h))
 
--- if the first of the words is not a first word of the form, the words first fail there
+-- if some lists of words, but not the empty list, are of the form f, and ws does not begin with a first word of f, then ws first fails at its start
 pub stops_first : (f : Form) (ws : Words) → can_be f ≡ true → is_skippable f ≡ false → Unlike (firsts f) ws → StopsIn f ws (length ws)
 stops_first f ws c n b =
     let some = some_words f c in (
@@ -341,7 +344,7 @@ end_wrong ws l = record {
   is_none = λ h. let k = ap length h.spelled in absurd (omega (arith, k, l));
 }
 
--- if words are left after those of the form, the words first fail at the first of these
+-- if the form takes p and words are left after p, the words first fail at the first word after p
 pub left_over : (f : Form) (p rest ws : Words) (left : ℕ) → IsTaken f p rest ws → GoesWrong empty rest left → GoesWrong f ws left
 left_over f p rest ws left k w = record {
   before = p;
@@ -392,12 +395,12 @@ none_awaited (many f) ws h a = none_awaited f a.1 h a.4
 
 -- ---- the byte at which the failing word is invalid
 
--- a word follows those before, and an expression can be next there
+-- a word follows the words `before`, and an expression can be next there
 abbrev pub IsAwaited : Form → Words → Words → Type 0
 IsAwaited f before after = (t : List ℕ) × (rest : Words) × (after ≡ t ∷ rest) × Awaits f before
 
--- the byte at which the word after those before fails: after its longest prefix that begins an expression, if one can
--- be next there; otherwise 0
+-- the byte at which the word after the words `before` fails: after its longest prefix that begins an expression, if an expression can be next there;
+-- otherwise 0
 abbrev pub IsByte : Form → Words → Words → ℕ → Type 0
 IsByte f before after byte =
     ((a : IsAwaited f before after) × IsLongestPrefix BeginsExpression a.0 byte) ⊎ ((IsAwaited f before after → ⊥) × (byte ≡ 0))

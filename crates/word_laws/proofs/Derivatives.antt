@@ -1,5 +1,5 @@
--- Derivatives of forms: the words after a word are words of the form's derivatives by it, so that the words taken are
--- the longest prefix that begins words of a form.
+-- Derivatives of forms: the words after a word are words of the form's derivatives by it, so `taken` is the length of the
+-- longest prefix that begins words of a form.
 use Rattle.std.proofs.Common.{◌≡◌, ℕ, Bool, true, false, cond, List, [], ◌∷◌, ◌++◌, map, refl, sym, ap, ◌∙◌, subst, ◌⊎◌, inl, inr, flat_map}
 use Rattle.std.proofs.lemmas.Bool.{and_parts, and_from, or_cases, or_left, or_right}
 use Rattle.sym_model.specs.Sum.{Among}
@@ -8,7 +8,7 @@ use Rattle.sym_model.specs.Form.{Form, empty, word, sequence, either, many, Writ
 use Rattle.word_laws.proofs.Classes.{fits_sound, fits_complete}
 use Rattle.word_laws.specs.Words.{Words}
 
--- if us has the form f and vs the form g, us followed by vs has the form of f and then g; if vs has the form `many f`, so has us followed by vs
+-- if the words us have the form f and the words vs the form g, us followed by vs has the form `sequence f g`
 pub has_sequence : (f g : Form) (us vs : Words) → Has f us → Has g vs → Has (sequence f g) (us ++ vs)
 has_sequence f g us vs h k = record {
   written = (h.written, k.written);
@@ -63,7 +63,7 @@ skipped (either f g) h = by (or_cases (is_skippable f) (is_skippable g) h) (skip
     by (inr e) l r = has_right f g [] (r e)
 skipped (many f) h = has_none f
 
-no_append : (us vs : Words) → us ++ vs ≡ [] → (us ≡ []) × (vs ≡ [])
+pub no_append : (us vs : Words) → us ++ vs ≡ [] → (us ≡ []) × (vs ≡ [])
 no_append [] vs h = (refl, h)
 no_append (u ∷ us) vs h = cc
 
@@ -85,7 +85,7 @@ pub among_cond_true : {A : Type 0} (b : Bool) (x : A) (xs : List A) → b ≡ tr
 among_cond_true true x xs h m = m
 among_cond_true false x xs h m = cc
 
--- words of a derivative, with the word in front, are words of the form
+-- if ws has a derivative of f by `text` as its form, `text` followed by ws has the form f
 pub derivative_sound : (reads : List ℕ → Bool) → TellsExpressions reads → (f h : Form) (text : List ℕ) (ws : Words)
     → Among h (derivatives reads f text) → Has h ws → Has f (text ∷ ws)
 derivative_sound reads tells empty h text ws m k = absurd m
@@ -143,7 +143,7 @@ pub record Follows (reads : List ℕ → Bool) (f : Form) (text : List ℕ) (ws 
 abbrev pub CompleteAt : (List ℕ → Bool) → Form → Type 0
 CompleteAt reads f = (x : Written f) → May f x → (text : List ℕ) (ws : Words) → words_of f x ≡ text ∷ ws → Follows reads f text ws
 
--- if us and then vs are the word `text` and then ws, either us begins with `text`, or us is empty and vs begins with it
+-- if the words us followed by the words vs are the word `text` followed by ws, either us begins with `text`, or us is empty and vs begins with it
 pub data Splits (us vs : Words) (text : List ℕ) (ws : Words) : Type 0 where
   inside : (rest : Words) → us ≡ text ∷ rest → ws ≡ rest ++ vs → Splits us vs text ws
   behind : us ≡ [] → vs ≡ text ∷ ws → Splits us vs text ws
@@ -191,7 +191,7 @@ many_complete reads f l (x ∷ xs) a text ws h =
         }
     by (behind e k) again = again k
 
--- the words after the first word are words of a derivative by it
+-- if a word followed by ws has the form f, then ws has a derivative of f by this word as its form
 pub derivative_complete : (reads : List ℕ → Bool) → TellsExpressions reads → (f : Form) → CompleteAt reads f
 derivative_complete reads tells empty x a text ws h = cc
 derivative_complete reads tells (word c) x a text ws h =

@@ -1,4 +1,4 @@
--- The first error of two lists, and of lists with the same number of each error.
+-- The first error of two lists together, and the first error of a list, which depends only on the number of each error in it.
 use Rattle.std.proofs.Common.{◌≡◌, ℕ, ◌+◌, ◌<◌, ◌==◌, nat_le, nat_lt, Bool, true, false, not, ◌&&◌, ◌||◌, cond, List, [], ◌∷◌, ◌++◌, refl, sym, ap, ◌∙◌, subst, arith, Option, Some, None, inl, inr}
 use Rattle.std.proofs.lemmas.Bool.Decides.{nat_tests}
 use Rattle.std.proofs.lemmas.Bool.{and_parts}
@@ -154,7 +154,7 @@ first_is_least os o m h = by (first_offence os) refl
     by None e = absurd (subst (Among o) (first_none os e) m)
     by (Some q) e = ap Some (one_place q o (first_least os q o e m) (h q (first-among os q e)))
 
--- the number of times that an error occurs in a list, and the number of errors before it
+-- 1 if the test b is true, and otherwise 0
 abbrev pub one_if : Bool → ℕ
 one_if b = cond b 1 0
 

@@ -1,7 +1,7 @@
--- Statements about forms for lists of commands: the place where words first fail, and words spell one command.
+-- Statements about lists of commands, from those about forms: the place where words first fail, and the one command that words spell.
 use Rattle.std.proofs.Common.{◌≡◌, ℕ, ◌<◌, nat_lt, Bool, true, false, not, ◌&&◌, cond, List, [], ◌∷◌, ◌++◌, length, take, refl, sym, ap, ◌∙◌, subst, arith, inl, inr, Option, Some, None}
 use Rattle.std.specs.Prelude.{slice_index_or}
-use Rattle.std.proofs.lemmas.Bool.{ltb-true, lt-ltb, and_parts}
+use Rattle.std.proofs.lemmas.Bool.{ltb-true, lt-ltb, and_parts, both_ways}
 use Rattle.sym_model.specs.LongestPrefix.{IsLongestPrefix}
 use Rattle.sym_model.specs.Phrase.{BeginsExpression}
 use Rattle.expression_laws.specs.LeftToRight.{start}
@@ -17,6 +17,7 @@ use Rattle.word_laws.proofs.AwaitedExpressions.{awaits_sound, awaits_complete}
 use Rattle.word_laws.proofs.Readings.{OnePhrase, told_apart, one_written}
 use Rattle.word_laws.proofs.ExpressionWords.{tells_expressions, bytes_longest}
 use Rattle.word_laws.specs.Words.{Words}
+use Rattle.std.proofs.lemmas.Option.{some_pair_parts}
 
 -- ---- the forms of a list of commands
 
@@ -46,9 +47,6 @@ has_spells (e ∷ entries) words (inr h) = let r = has_spells entries words h in
 
 -- ---- the place where words first fail
 
-pub not_true : (b : Bool) → b ≡ false → b ≡ true → ⊥
-not_true b h k = cc
-
 begins_entry : (entries : List Entry) (ws : Words) → BeginsOne (forms_of entries) ws → BeginsCommand entries ws
 begins_entry entries ws h = of_forms (λ f. Begins f ws) entries h
 
@@ -60,7 +58,7 @@ prefix_entry entries words k h = record {
   longest = λ j l b. h.longest j l (to_forms (λ f. Begins f (take j words)) entries b);
 }
 
--- the words taken are the longest prefix that begins a command
+-- `syntax_word` is the length of the longest prefix of the words that begins a command
 pub word_longest : (entries : List Entry) → CanBe (forms_of entries) → 0 < length entries → (words : Words)
     → IsLongestPrefix (BeginsCommand entries) words (syntax_word entries words)
 word_longest entries c n words =
@@ -83,26 +81,15 @@ byte_is entries words word = by (nat_lt word (length words)) (some_awaits_next (
           bytes_longest (slice_index_or words word []),
         )
     by false y e k =
-        inr ((λ h. not_true (nat_lt word (length words)) e (lt-ltb word (length words) h.is_there)), refl)
+        inr ((λ h. both_ways (nat_lt word (length words)) e (lt-ltb word (length words) h.is_there)), refl)
     by true false e k =
         inr (
           (λ h.
-              not_true (some_awaits_next (after_words is_expression (forms_of entries) (take word words))) k
+              both_ways (some_awaits_next (after_words is_expression (forms_of entries) (take word words))) k
               (awaits_complete is_expression tells_expressions (forms_of entries) (take word words)
               (to_forms (λ f. Awaits f (take word words)) entries h.awaited))),
           refl,
         )
-
-same_place : (a b c d : ℕ) → ◌≡◌ {A = Option (ℕ × ℕ)} (Some (a, b)) (Some (c, d)) → (a ≡ c) × (b ≡ d)
-same_place a b c d h = (ap first h, ap second h)
-  where
-    first : Option (ℕ × ℕ) → ℕ
-    first None = 0
-    first (Some p) = p.0
-
-    second : Option (ℕ × ℕ) → ℕ
-    second None = 0
-    second (Some p) = p.1
 
 -- if `syntax_place` gives a word and a byte, the words are no command and first fail there
 pub syntax_sound : (entries : List Entry) → CanBe (forms_of entries) → 0 < length entries → (words : Words) (word byte : ℕ)
@@ -114,12 +101,12 @@ syntax_sound entries c n words word byte h = by (is_command entries words) refl 
         → IsSyntaxPlace entries words word byte
     by true e h = cc
     by false e h =
-        let same = same_place (syntax_word entries words) (syntax_byte entries words (syntax_word entries words)) word byte h in
+        let same = some_pair_parts (syntax_word entries words) word (syntax_byte entries words (syntax_word entries words)) byte h in
         let w = same.0 in
         let k = same.1 in
         record {
           no_command = λ command s.
-              not_true (is_command entries words) e
+              both_ways (is_command entries words) e
               (whole_complete is_expression tells_expressions (forms_of entries) words (spells_has entries words command s));
           word_is = subst (IsLongestPrefix (BeginsCommand entries) words) w (word_longest entries c n words);
           byte_is =
@@ -127,7 +114,7 @@ syntax_sound entries c n words word byte h = by (is_command entries words) refl 
               (subst (IsSyntaxByte entries words (syntax_word entries words)) k (byte_is entries words (syntax_word entries words)));
         }
 
--- words without a place of failure spell a command
+-- if `syntax_place` gives no place, the words spell a command
 pub command_sound : (entries : List Entry) (words : Words) → syntax_place entries words ≡ None
     → (command : Command) × SpellsCommand entries words command
 command_sound entries words h = by (is_command entries words) refl h
@@ -139,7 +126,7 @@ command_sound entries words h = by (is_command entries words) refl h
     by true e h =
         has_spells entries words (whole_sound is_expression tells_expressions (forms_of entries) words e)
 
--- ---- words spell one command
+-- ---- words spell at most one command
 
 not_skippable : (p q : Bool) → not q ≡ true → not (p && q) ≡ true
 not_skippable true q h = h
@@ -174,7 +161,14 @@ told e entries h =
     let r = and_parts (is_told_from e.form (forms_of entries)) (are_unambiguous (forms_of entries)) q.1 in
     record { clear = p.0; apart = r.0; others = r.1 }
 
--- a function of the written words of an entry has one value for given words
+only_has : {B : Type 0} (f : (e : Entry) → Written e.form → B) (words : Words) (b : B) (entries : List Entry)
+    → SomeOf (λ (e : Entry). (h : Has e.form words) × (b ≡ f e h.written)) entries → HasOne (forms_of entries) words
+only_has f words b [] k = k
+only_has f words b (g ∷ entries) (inl k) = inl k.0
+only_has f words b (g ∷ entries) (inr k) = inr (only_has f words b entries k)
+
+-- if each word spells at most one phrase, and the entries are unambiguous, a function f of an entry and of what the words denote in it has only one
+-- value for given words
 pub said_once : {B : Type 0} → OnePhrase → (f : (e : Entry) → Written e.form → B) (entries : List Entry) → are_unambiguous (forms_of entries) ≡ true
     → (words : Words) (b d : B)
     → SomeOf (λ (e : Entry). (h : Has e.form words) × (b ≡ f e h.written)) entries
@@ -183,19 +177,9 @@ said_once one f [] u words b d h k = absurd h
 said_once one f (e ∷ entries) u words b d (inl h) (inl k) =
     h.1 ∙ ap (f e) (one_written one e.form (told e entries u).clear words h.0 k.0) ∙ sym k.1
 said_once one f (e ∷ entries) u words b d (inl h) (inr k) =
-    absurd (told_one e.form entries words (told e entries u).apart h.0 (only_has entries k))
-  where
-    only_has : (entries : List Entry) → SomeOf (λ (e : Entry). (h : Has e.form words) × (d ≡ f e h.written)) entries → HasOne (forms_of entries) words
-    only_has [] k = k
-    only_has (g ∷ entries) (inl k) = inl k.0
-    only_has (g ∷ entries) (inr k) = inr (only_has entries k)
+    absurd (told_one e.form entries words (told e entries u).apart h.0 (only_has f words d entries k))
 said_once one f (e ∷ entries) u words b d (inr h) (inl k) =
-    absurd (told_one e.form entries words (told e entries u).apart k.0 (only_has entries h))
-  where
-    only_has : (entries : List Entry) → SomeOf (λ (e : Entry). (h : Has e.form words) × (b ≡ f e h.written)) entries → HasOne (forms_of entries) words
-    only_has [] k = k
-    only_has (g ∷ entries) (inl k) = inl k.0
-    only_has (g ∷ entries) (inr k) = inr (only_has entries k)
+    absurd (told_one e.form entries words (told e entries u).apart k.0 (only_has f words b entries h))
 said_once one f (e ∷ entries) u words b d (inr h) (inr k) =
     said_once one f entries (told e entries u).others words b d h k
 

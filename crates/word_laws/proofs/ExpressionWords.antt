@@ -6,7 +6,7 @@ use Rattle.sym_model.specs.LongestPrefix.{IsLongestPrefix}
 use Rattle.sym_model.specs.Phrase.{Phrase, SpellsPhrase, BeginsExpression}
 use Rattle.expression_laws.specs.LeftToRight.{State, dead, at, step, symbol, run, start, phrases, is_live, found}
 use Rattle.expression_laws.proofs.PhraseRuns.{found-spelled}
-use Rattle.expression_laws.proofs.PhrasePrefixes.{begins-from_live, live-from_begins, spells-from_found}
+use Rattle.expression_laws.proofs.PhrasePrefixes.{begins-from_live, live-from_begins, spells-from_found, read-dead}
 use Rattle.sym_model.specs.Form.{TellsExpressions}
 use Rattle.word_laws.specs.Reading.{is_expression, bytes_taken}
 
@@ -25,16 +25,12 @@ tells_expressions = record {
 abbrev Live : State Phrase (List ℕ) → List ℕ → Type 0
 Live state text = is_live (run phrases text state) ≡ true
 
-dead_run : (text : List ℕ) → run phrases text dead ≡ dead
-dead_run [] = refl
-dead_run (byte ∷ text) = dead_run text
-
 -- if the state after reading a text is not dead, neither is the state before it
 live_before : (text : List ℕ) (state : State Phrase (List ℕ)) → Live state text → is_live state ≡ true
-live_before text dead h = sym (ap is_live (dead_run text)) ∙ h
+live_before text dead h = sym (ap is_live (read-dead text)) ∙ h
 live_before text (at p t f o) h = refl
 
--- the bytes taken are the longest prefix that is read without a fault
+-- from a live state, `bytes_taken` is the length of the longest prefix of the text after which the state is still live
 live_longest : (text : List ℕ) (state : State Phrase (List ℕ)) → is_live state ≡ true
     → IsLongestPrefix (Live state) text (bytes_taken state text)
 live_longest [] state h = record { within = omega arith; begins = h; longest = λ j k b. k }
@@ -67,7 +63,7 @@ live_longest (byte ∷ text) state h =
         longest a zero k b = omega arith
         longest a (suc j) k b = let q = a.longest j (omega arith) b in omega arith
 
--- the bytes taken of a word are its longest prefix that begins an expression
+-- `bytes_taken` from the start is the length of the longest prefix of the text that begins an expression
 pub bytes_longest : (text : List ℕ) → IsLongestPrefix BeginsExpression text (bytes_taken start text)
 bytes_longest text =
     let l = live_longest text start refl in

@@ -4,6 +4,7 @@ use Rattle.std.proofs.lemmas.Bool.Decides.{nat_tests}
 use Rattle.sym_model.specs.Sum.{Among}
 use Rattle.sym_model.specs.CommandOffence.{Offence, is_no_later, ComesBefore, earlier_of, first_offence}
 use Rattle.sym_model.specs.ExpressionOffence.{rank}
+use Rattle.expression_laws.proofs.FirstOffences.{one_of}
 
 -- an error does not come before itself
 never_itself : (o : Offence) → ComesBefore o o → ⊥
@@ -14,7 +15,7 @@ never_itself o (inr h) = by h.1
     by (inl k) = omega arith
     by (inr k) = let l = k.1 in omega arith
 
--- the order of errors, by numbers for their words, places and kinds
+-- the triple (a, b, c) comes before (d, e, f): the order of errors, by their words, then their bytes, then the ranks of their kinds
 abbrev Before : ℕ → ℕ → ℕ → ℕ → ℕ → ℕ → Type 0
 Before a b c d e f = (a < d) ⊎ ((a ≡ d) × ((b < e) ⊎ ((b ≡ e) × (c < f))))
 
@@ -31,7 +32,7 @@ first_before a b c d e f (inl x) = grind (arith, nat_tests)
 first_before a b c d e f (inr (x, inl y)) = grind (arith, nat_tests)
 first_before a b c d e f (inr (x, inr y)) = grind (arith, nat_tests)
 
--- an error before x is before y too, if x is not after y
+-- if p is before x, and x is not after y, p is before y
 before-first : (p x y : Offence) → ComesBefore p x → is_no_later x y ≡ true → ComesBefore p y
 before-first p x y h k = before_first p.0 p.1 (rank p.2) x.0 x.1 (rank x.2) y.0 y.1 (rank y.2) h k
 
@@ -53,11 +54,7 @@ first_none (x ∷ os) h = absurd (by (first_offence os) h)
 pub none-empty : (os : List Offence) → os ≡ [] → first_offence os ≡ None
 none-empty os h = ap first_offence h
 
--- if the first of x and y, as the test c decides, is o, then o is x or y
-one_of : (x y o : Offence) (c : Bool) → cond c (Some x) (Some y) ≡ Some o → ((c ≡ true) × (o ≡ x)) ⊎ ((c ≡ false) × (o ≡ y))
-one_of x y o true h = inl (refl, cc)
-one_of x y o false h = inr (refl, cc)
-
+-- the first error of a list, if there is one, is in the list
 pub first-among : (os : List Offence) (o : Offence) → first_offence os ≡ Some o → Among o os
 first-among [] o h = cc
 first-among (x ∷ os) o h = by (first_offence os) refl h (first-among os)

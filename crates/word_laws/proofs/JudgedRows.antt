@@ -19,7 +19,7 @@ kinds_of_both : (f : Weight) (k : ℕ) (xs ys : List OffenceKind)
 kinds_of_both f k [] ys = omega arith
 kinds_of_both f k (x ∷ xs) ys = let e = kinds_of_both f k xs ys in omega (arith, e)
 
--- a tally of the errors by two rules together is the sum of the tallies by each of them
+-- the sum of f over the errors found by the rules r and s together is the sum over those found by r plus the sum over those found by s
 both_rules : (f : Weight) (r s : Rule) (b : List ℕ) (k : ℕ) (ns : List ℕ)
     → tally f (offences_after (λ before a. r before a ++ s before a) b k ns) ≡ tally f (offences_after r b k ns) + tally f (offences_after s b k ns)
 both_rules f r s b k [] = refl

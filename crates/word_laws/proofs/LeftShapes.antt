@@ -1,4 +1,4 @@
--- The place where words of rows leave a tableau with rows of given lengths, word by word.
+-- The place where words of rows first fail to be a tableau with rows of given lengths, word by word.
 use Rattle.std.proofs.Common.{◌≡◌, ℕ, zero, suc, ◌+◌, ◌==◌, min, Bool, true, false, ◌&&◌, ◌||◌, cond, List, [], ◌∷◌, ◌++◌, map, length, refl, sym, ap, ◌∙◌, arith, Option, Some, None}
 use Rattle.std.specs.Prelude.{codes}
 use Rattle.std.proofs.lemmas.Bool.{eqb-true, eqb-false}
@@ -15,7 +15,7 @@ use Rattle.word_laws.specs.Words.{Words}
 abbrev never : List ℕ → Bool
 never text = false
 
--- ---- the number of words after which a form is left, if it is left
+-- ---- the number of words after which the words no longer begin words of a form, if they are not of the form
 
 abbrev left_if : Bool → ℕ → Option ℕ
 left_if b n = cond b None (Some n)
@@ -74,7 +74,7 @@ stop_found : (h : Form) (text : List ℕ) (rest : Words) → derivatives never h
 stop_found h text rest e =
     ap (λ ds. found_by ds rest) e ∙ ap (λ fs. left_if (has_skippable fs) 0) (nothing_left rest)
 
--- ---- a row and the rows after it
+-- ---- the form of a row and the rows after it
 
 abbrev then : List ℕ → Form → Form
 then [] f = f
@@ -128,7 +128,7 @@ not_text text w n h = by (same text w) refl
     by true e = let z : true ≡ false = sym h ∙ sym (ap is_number_word (same_true text w e)) ∙ n in cc
     by false e = refl
 
--- the words of a row of the right length are all taken
+-- if a row has the right length n, the words first fail where the words `more` after it do, read as the rows after it
 row_fits : (lengths : List ℕ) (n : ℕ) (row more : Words) → EachOf IsNumber row → length row ≡ n
     → found (then lengths (row_of n)) (row_text row ++ more) ≡ shift (length (row_text row)) (found (then lengths empty) more)
 row_fits lengths zero [] more a e =
@@ -148,7 +148,7 @@ row_fits lengths (suc (suc n)) (w ∷ v ∷ row) more a e =
     ∙ row_fits lengths (suc n) (v ∷ row) more a.1 (omega (arith, e)))
     ∙ shift_more 1 (length (v ∷ row)) (length (w ∷ v ∷ row)) (found (then lengths empty) more) (omega arith)
 
--- if a row must have one more number and a `/` or no word follows, the words leave the form at once
+-- if a row must have one more number, but a `/` or no word follows, the words first fail there
 further_stops : (lengths : List ℕ) (n : ℕ) (rows : List Words) → found (then lengths (row_of (suc n))) (further_text rows) ≡ Some 0
 further_stops lengths n [] =
     ap (λ b. left_if (b || false) 0) (no_skip lengths (row_of (suc n)) (row_no_skip (suc n)))
@@ -201,9 +201,9 @@ row_misses lengths (suc (suc n)) (w ∷ v ∷ row) rows m a e k =
     ∙ row_misses lengths (suc n) (v ∷ row) rows (min (suc n) (length (v ∷ row))) a.1 (λ h. e (omega (arith, h))) refl)
     ∙ (let z : 1 + min (suc n) (length (v ∷ row)) ≡ m = omega (arith, k) in ap Some z)
 
--- ---- all rows of a tableau
+-- ---- the place where the words of all rows first fail
 
--- if a row fits and ends at word e, and no further row is asked for, there is an error at e if and only if rows are left
+-- if a row fits and ends at word e, and no further row must follow, there is an error at e if and only if rows are left
 no_rows_asked : (e : ℕ) (rows : List Words) (later : List Offence)
     → offence_at e (found (then [] empty) (further_text rows)) ≡ left_behind e [] rows later
 no_rows_asked e [] later = refl

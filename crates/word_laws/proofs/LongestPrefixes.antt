@@ -1,4 +1,4 @@
--- The words taken are the longest prefix that begins words of one of the forms; the places at which an expression can
+-- `taken` is the length of the longest prefix that begins words of one of the forms; the places at which an expression can
 -- be next.
 use Rattle.std.proofs.Common.{◌≡◌, ℕ, zero, suc, ◌+◌, ◌<◌, ◌≤◌, Bool, true, false, cond, List, [], ◌∷◌, ◌++◌, map, length, take, refl, sym, ap, ◌∙◌, subst, arith, ◌⊎◌, inl, inr}
 use Rattle.std.proofs.lemmas.Bool.{and_parts, and_from, or_cases, or_left, or_right}
@@ -100,7 +100,7 @@ after_can_be reads forms text c =
     let b = Among_from_each (λ f. derivatives reads f text) h forms m in
     derivative_can_be reads b.0 h text (each_in (λ f. can_be f ≡ true) b.0 forms c b.1) b.2)
 
--- the words of the forms that begin with a word are words of their derivatives after it
+-- if `text` followed by ws has one of the forms, ws has one of their derivatives by `text` as its form
 pub has_after : (reads : List ℕ → Bool) → TellsExpressions reads → (forms : List Form) (text : List ℕ) (ws : Words)
     → HasOne forms (text ∷ ws) → HasOne (after_word reads forms text) ws
 has_after reads tells forms text ws h =
@@ -135,7 +135,8 @@ more_than_none reads tells forms text ws e h =
     let b = begins_has forms (text ∷ ws) h in
     subst (λ fs. HasOne fs (ws ++ b.0)) e (has_after reads tells forms text (ws ++ b.0) b.1)
 
--- `taken` is the length of the longest prefix of the words with which words of one of the forms begin
+-- if there are forms and each has words, `taken` is the length of the longest prefix of ws with which words of one of the
+-- forms begin
 pub taken_longest : (reads : List ℕ → Bool) → TellsExpressions reads → (forms : List Form) → CanBe forms → 0 < length forms
     → (ws : Words) → IsLongestPrefix (BeginsOne forms) ws (taken reads forms ws)
 taken_longest reads tells forms c n [] =
@@ -177,7 +178,7 @@ taken_longest reads tells forms c n (text ∷ ws) =
             (has_begins (after_word reads forms text) (take j ws) p.0 (has_after reads tells forms text (take j ws ++ p.0) p.1)) in
             omega arith
 
--- ---- all words of a list taken
+-- ---- lists of words all of which `taken` counts
 
 skippable_some : (forms : List Form) → has_skippable forms ≡ true → HasOne forms []
 skippable_some [] h = cc

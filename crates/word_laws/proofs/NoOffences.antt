@@ -26,7 +26,7 @@ pub none_first : (xs ys : List Offence) → first_offence (xs ++ ys) ≡ None �
 none_first xs ys h =
     let p = none_append xs ys (first_none (xs ++ ys) h) in (ap first_offence p.0, ap first_offence p.1)
 
--- if a list of numbers has no error, then its first number has none, and the others have none
+-- if a list of numbers has no error, then its first number has none, and the numbers after it have none
 pub none_next : (rule : Rule) (before : List ℕ) (k a : ℕ) (ns : List ℕ) → offences_after rule before k (a ∷ ns) ≡ []
     → (rule before a ≡ []) × (offences_after rule (a ∷ before) (k + 1) ns ≡ [])
 none_next rule before k a ns h =
@@ -51,7 +51,7 @@ within_limit limit phrase h =
     let whole = (none_append (flat_map offences_at (marks 0 0 phrase)) (offences_of_whole_within limit phrase) h).1 in
     not_past limit (degree (tree phrase)) (length (spelling phrase), range) (none_append long past whole).1
 
--- if there are no errors with the number of a word in the command, the word has no error
+-- if the errors of a word, listed as errors of word k of a command, have no first one, the word has no error
 pub none_in_word : (k : ℕ) (found : List WordOffence) → first_offence (offences_in_word k found) ≡ None → found ≡ []
 none_in_word k found h = none_map (λ (o : WordOffence). (k, o.0, o.1)) found (first_none (offences_in_word k found) h)
 

@@ -1,7 +1,7 @@
 -- Words of an unambiguous form are read in one way.
 use Rattle.std.proofs.Common.{◌≡◌, ℕ, Bool, true, false, not, ◌&&◌, cond, List, [], ◌∷◌, ◌++◌, append_assoc, refl, sym, ap, ◌∙◌, subst, inl, inr, flat_map}
 use Rattle.std.specs.Prelude.{codes}
-use Rattle.std.proofs.lemmas.Bool.{and_parts}
+use Rattle.std.proofs.lemmas.Bool.{and_parts, and_from}
 use Rattle.sym_model.specs.Sum.{Among}
 use Rattle.sym_model.specs.Polynomial.{same}
 use Rattle.sym_model.proofs.Exponents.{same_from}
@@ -105,7 +105,7 @@ pub unlike_word : (cs : List Class) (text : List ℕ) (ws vs : Words) → Unlike
 unlike_word cs text [] vs u e o = cc
 unlike_word cs text (t ∷ ws) vs u e o = let k : text ≡ t = cc in u (subst (OfOne cs) k o)
 
--- a list of words is empty, or it is a first word followed by others
+-- a list of words is empty, or it is a first word followed by further words
 pub data View (ws : Words) : Type 0 where
   none : ws ≡ [] → View ws
   some : (text : List ℕ) (rest : Words) → ws ≡ text ∷ rest → View ws
@@ -173,7 +173,7 @@ basis_of-letter schurs = refl
 pub letter_once : (b c : Basis) → letter b ≡ letter c → b ≡ c
 letter_once b c h = sym (basis_of-letter b) ∙ ap basis_of h ∙ basis_of-letter c
 
--- if two values of a class have the same word, they are equal
+-- if two values that denote words of a class denote the same word, they are equal
 one_word : OnePhrase → (c : Class) (x y : WrittenWord c) → MayBe c x → MayBe c y → word_of c x ≡ word_of c y → x ≡ y
 one_word one (exact w) x y a b h = refl
 one_word one number x y a b h = h
@@ -183,7 +183,7 @@ one_word one formula x y a b h =
 
 -- ---- one reading of the words of a form
 
--- the words of an unambiguous form in front of others determine its value and the rest
+-- if words begin with words of an unambiguous form, they determine the value of the form and the words after it
 abbrev pub ReadsOnce : Form → Type 0
 ReadsOnce f =
     (x y : Written f) → May f x → May f y → (r s : Words) → words_of f x ++ r ≡ words_of f y ++ s
@@ -212,7 +212,8 @@ sequence_once f g l k d x y a b r s h u v =
     same_pair : (p q : Written f) (m n : Written g) → p ≡ q → m ≡ n → ◌≡◌ {A = Written f × Written g} (p, m) (q, n)
     same_pair p q m n e k = ap (λ (z : Written f). (z, m)) e ∙ ap (λ (z : Written g). (q, z)) k
 
--- words of two forms whose first words differ cannot be equal
+-- let f and g have no first word in common and not both be skippable; if f is skippable, let r begin with no first word of
+-- g, and if g is, s with none of f: then words of f followed by r are not words of g followed by s
 pub told_apart : (f g : Form) (x : Written f) (y : Written g) → May f x → May g y → (r s : Words)
     → words_of f x ++ r ≡ words_of g y ++ s → are_apart (firsts f) (firsts g) ≡ true → not (is_skippable f && is_skippable g) ≡ true
     → (is_skippable f ≡ true → Unlike (firsts g) r) → (is_skippable g ≡ true → Unlike (firsts f) s) → ⊥
@@ -220,11 +221,7 @@ told_apart f g x y a b r s h d n u v = by (view (words_of f x)) (view (words_of 
   where
     by : View (words_of f x) → View (words_of g y) → ⊥
     by (none e) (none k) =
-        not_both (is_skippable f && is_skippable g) n (both (is_skippable f) (is_skippable g) (skippable f x e) (skippable g y k))
-      where
-        both : (p q : Bool) → p ≡ true → q ≡ true → (p && q) ≡ true
-        both true q i j = j
-        both false q i j = cc
+        not_both (is_skippable f && is_skippable g) n (and_from (is_skippable f) (is_skippable g) (skippable f x e) (skippable g y k))
     by (none e) (some t ts k) =
         let i : r ≡ t ∷ (ts ++ s) =
         ap (λ us. us ++ r) (sym e) ∙ h ∙ ap (λ us. us ++ s) k in
@@ -246,6 +243,18 @@ either_once f g l k d n = once
     all : List Class
     all = continuing f ++ (continuing g ++ (cond (is_skippable f) (firsts g) [] ++ cond (is_skippable g) (firsts f) []))
 
+    into_g : is_skippable f ≡ true → (ws : Words) → Unlike (continuing (either f g)) ws → Unlike (firsts g) ws
+    into_g e ws w =
+        unlike (firsts g) (continuing (either f g)) ws
+        (λ text o. of_right (continuing f) _ text (of_right (continuing g) _ text
+        (of_left (cond (is_skippable f) (firsts g) []) _ text (of_cond (is_skippable f) (firsts g) text e o)))) w
+
+    into_f : is_skippable g ≡ true → (ws : Words) → Unlike (continuing (either f g)) ws → Unlike (firsts f) ws
+    into_f e ws w =
+        unlike (firsts f) (continuing (either f g)) ws
+        (λ text o. of_right (continuing f) _ text (of_right (continuing g) _ text
+        (of_right (cond (is_skippable f) (firsts g) []) _ text (of_cond (is_skippable g) (firsts f) text e o)))) w
+
     once : ReadsOnce (either f g)
     once (inl x) (inl y) a b r s h u v =
         let p = l x y a b r s h (left r u) (left s v) in (ap inl p.0, p.1)
@@ -261,32 +270,8 @@ either_once f g l k d n = once
             (λ text o. of_right (continuing f) _ text (of_left (continuing g) _ text o)) w
     once (inl x) (inr y) a b r s h u v =
         absurd (told_apart f g x y a b r s h d n (λ e. into_g e r u) (λ e. into_f e s v))
-      where
-        into_g : is_skippable f ≡ true → (ws : Words) → Unlike (continuing (either f g)) ws → Unlike (firsts g) ws
-        into_g e ws w =
-            unlike (firsts g) (continuing (either f g)) ws
-            (λ text o. of_right (continuing f) _ text (of_right (continuing g) _ text
-            (of_left (cond (is_skippable f) (firsts g) []) _ text (of_cond (is_skippable f) (firsts g) text e o)))) w
-
-        into_f : is_skippable g ≡ true → (ws : Words) → Unlike (continuing (either f g)) ws → Unlike (firsts f) ws
-        into_f e ws w =
-            unlike (firsts f) (continuing (either f g)) ws
-            (λ text o. of_right (continuing f) _ text (of_right (continuing g) _ text
-            (of_right (cond (is_skippable f) (firsts g) []) _ text (of_cond (is_skippable g) (firsts f) text e o)))) w
     once (inr x) (inl y) a b r s h u v =
         absurd (told_apart f g y x b a s r (sym h) d n (λ e. into_g e s v) (λ e. into_f e r u))
-      where
-        into_g : is_skippable f ≡ true → (ws : Words) → Unlike (continuing (either f g)) ws → Unlike (firsts g) ws
-        into_g e ws w =
-            unlike (firsts g) (continuing (either f g)) ws
-            (λ text o. of_right (continuing f) _ text (of_right (continuing g) _ text
-            (of_left (cond (is_skippable f) (firsts g) []) _ text (of_cond (is_skippable f) (firsts g) text e o)))) w
-
-        into_f : is_skippable g ≡ true → (ws : Words) → Unlike (continuing (either f g)) ws → Unlike (firsts f) ws
-        into_f e ws w =
-            unlike (firsts f) (continuing (either f g)) ws
-            (λ text o. of_right (continuing f) _ text (of_right (continuing g) _ text
-            (of_right (cond (is_skippable f) (firsts g) []) _ text (of_cond (is_skippable g) (firsts f) text e o)))) w
 
 many_once : (f : Form) → ReadsOnce f → not (is_skippable f) ≡ true → are_apart (continuing f) (firsts f) ≡ true → ReadsOnce (many f)
 many_once f l n d = once
@@ -352,7 +337,7 @@ reads_once one (many f) h =
     let q = and_parts (not (is_skippable f)) (are_apart (continuing f) (firsts f)) p.1 in
     many_once f (reads_once one f p.0) q.0 q.1
 
--- if words have an unambiguous form, they denote one value of it
+-- if each word spells at most one phrase, words of an unambiguous form denote one value of it
 pub one_written : OnePhrase → (f : Form) → is_unambiguous f ≡ true → (ws : Words) (h k : Has f ws) → h.written ≡ k.written
 one_written one f u ws h k =
     (reads_once one f u h.written k.written h.allowed k.allowed [] []

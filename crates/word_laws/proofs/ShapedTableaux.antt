@@ -18,7 +18,7 @@ use Rattle.word_laws.proofs.Readings.{one_written}
 use Rattle.word_laws.proofs.ExpressionWords.{tells_expressions}
 use Rattle.word_laws.specs.Words.{Words}
 
--- ---- forms without expressions do not ask which words are expressions
+-- ---- for forms without expressions it does not matter which words are expressions
 
 abbrev is_plain_class : Class → Bool
 is_plain_class formula = false
@@ -145,7 +145,7 @@ only P f (inr h) = absurd h
 abbrev never : Reads
 never text = false
 
--- the words taken are the longest prefix that begins a tableau with rows of these lengths
+-- `taken` is the length of the longest prefix of the words that begins a tableau with rows of these lengths
 pub shape_longest : (lengths : List ℕ) (words : Words)
     → IsLongestPrefix (Begins (tableau_of lengths)) words (taken never (tableau_of lengths ∷ []) words)
 shape_longest lengths words =
@@ -187,7 +187,7 @@ the_one true o p m = absurd m
 the_one false o p (inl e) = e
 the_one false o p (inr m) = absurd m
 
--- an error is at the word after the longest prefix that begins such a tableau
+-- an error is at the word after the longest prefix that begins a tableau with rows of these lengths
 pub shape_place : (k : ℕ) (lengths : List ℕ) (words : Words) (o : Offence) → Among o (shape_offences k lengths words)
     → (n : ℕ) × (o ≡ (k + n, 0, shape)) × IsLongestPrefix (Begins (tableau_of lengths)) words n
 shape_place k lengths words o m = (

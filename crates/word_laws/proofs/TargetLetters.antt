@@ -1,4 +1,4 @@
--- No letter of a target is the word for the one-line form, so the first word shows whether `expand` has that word.
+-- The word `-m`, which asks for the one-line form, is not the letter of a basis; so the first word after `expand` shows whether `-m` is given.
 use Rattle.std.proofs.Common.{◌≡◌, Bool, true, false, not, ◌&&◌, List, [], ◌∷◌, refl, ap}
 use Rattle.std.specs.Prelude.{codes}
 use Rattle.sym_model.specs.Expansion.{Basis, monomials, elementaries, completes, power_sums, schurs}

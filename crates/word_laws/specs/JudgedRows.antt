@@ -12,18 +12,18 @@ abbrev pub earlier : Option Offence → Option Offence → Option Offence
 earlier None p = p
 earlier (Some o) p = earlier_of o p
 
--- whether the number after j entries of its row is the 257th, if `count` entries are counted before the row
+-- whether the number after j entries of its row is the 257th, if `count` entries are in the rows before; false if no count is given
 abbrev pub is_too_much : Option ℕ → ℕ → Bool
 is_too_much None j = false
 is_too_much (Some count) j = count + j == most_letters
 
--- whether the number after j entries of its row exceeds the length that the row may have
+-- whether the number after j entries of its row exceeds the length that the row may have; false if no length is given
 abbrev pub is_too_long : Option ℕ → ℕ → Bool
 is_too_long None j = false
 is_too_long (Some most) j = nat_le most j
 
--- the errors of an entry of a tableau: it is no entry, it is the 257th, it makes its row too long, or it is out of
--- order
+-- the errors of an entry of a tableau: over 2^127 - 1 (literal); 0, over 65,535, or the 257th entry (range); after
+-- the `most` entries of its row, or out of order by `is_wrong` (shape)
 abbrev pub cell_rule : Option ℕ → Option ℕ → (List ℕ → ℕ → Bool) → Rule
 cell_rule count most is_wrong before a =
     entry_rule before a
@@ -44,21 +44,24 @@ is_no_record cells earlier upper before a =
     || stands_in a before
     || stands_in a earlier
 
--- the errors of the rows of an insertion tableau, of which no row is longer than the one above
+-- the errors of the rows of an insertion tableau below the row `upper` and after `count` entries: no row may be
+-- longer than the one above, and the first of them not longer than `most`
 abbrev pub inserted : ℕ → Option ℕ → List ℕ → List PlacedRow → List Offence
 inserted count most upper [] = []
 inserted count most upper (row ∷ rows) =
     offences_by (cell_rule (Some count) most (is_disordered 0 upper 0)) row.0 row.1
     ++ inserted (count + length row.1) (Some (length row.1)) row.1 rows
 
--- the errors of the rows of a recording tableau
+-- the errors of the rows of a recording tableau with `cells` cells, below the row `upper` and after the `count`
+-- entries `earlier`
 abbrev pub recorded : ℕ → ℕ → List ℕ → List ℕ → List PlacedRow → List Offence
 recorded cells count earlier upper [] = []
 recorded cells count earlier upper (row ∷ rows) =
     offences_by (cell_rule (Some count) None (is_no_record cells earlier upper)) row.0 row.1
     ++ recorded cells (count + length row.1) (row.1 ++ earlier) row.1 rows
 
--- the errors of the rows of a skew tableau with this inner partition, below a row that begins at column c
+-- the errors of the rows of a skew tableau with this inner partition, below the row `upper`, which begins at column
+-- c
 abbrev pub skewed : ℕ → List ℕ → List ℕ → List PlacedRow → List Offence
 skewed c upper inner [] = []
 skewed c upper inner (row ∷ rows) =

@@ -5,7 +5,8 @@ use Rattle.sym_model.specs.Polynomial.{same}
 use Rattle.sym_model.specs.Form.{Class, exact, number, target, Form, empty, word, sequence, either}
 use Rattle.sym_model.specs.Form.{many, is_number_word, is_letter_of, is_skippable}
 
--- whether the test shows that no word is of both classes
+-- true only if no word is of both classes; decided for two fixed texts, and for a fixed text and a number or the
+-- letter of a basis, and false for any other two classes
 abbrev pub is_apart : Class → Class → Bool
 is_apart (exact a) (exact b) = not (same a b)
 is_apart (exact a) number = not (is_number_word a)
@@ -14,12 +15,12 @@ is_apart number (exact b) = not (is_number_word b)
 is_apart (target bases) (exact b) = not (is_letter_of bases b)
 is_apart c d = false
 
--- whether the class is apart from each class of the list
+-- whether `is_apart` is true for the class c and each class of the list, so that no word is of c and of one of them
 abbrev pub is_apart_from : Class → List Class → Bool
 is_apart_from c [] = true
 is_apart_from c (d ∷ classes) = is_apart c d && is_apart_from c classes
 
--- whether each class of the one list is apart from each of the other
+-- whether `is_apart` is true for each class of the first list and each class of the second
 abbrev pub are_apart : List Class → List Class → Bool
 are_apart [] ds = true
 are_apart (c ∷ cs) ds = is_apart_from c ds && are_apart cs ds
@@ -55,7 +56,7 @@ is_unambiguous (either f g) =
 is_unambiguous (many f) =
     is_unambiguous f && (not (is_skippable f) && are_apart (continuing f) (firsts f))
 
--- whether words of f are distinguished from words of each of the others by their first word
+-- whether words of f are distinguished from words of each of the other forms by their first word
 abbrev pub is_told_from : Form → List Form → Bool
 is_told_from f [] = true
 is_told_from f (g ∷ forms) =

@@ -1,5 +1,5 @@
--- The place at which words first fail, computed: the words taken from the left, and in an
--- expression's word the bytes.
+-- The place at which words first fail, computed by reading the words from the left, and the bytes of a word at which an
+-- expression is expected.
 use Rattle.std.specs.Prelude.{ℕ, ◌+◌, nat_lt, Bool, ◌&&◌, cond, List, [], ◌∷◌, map, length, take}
 use Rattle.std.specs.Prelude.{Option, Some, None, is_some, slice_index_or}
 use Rattle.sym_model.specs.Phrase.{Phrase}
@@ -12,7 +12,7 @@ use Rattle.sym_model.specs.Entry.{Entry}
 abbrev pub is_expression : List ℕ → Bool
 is_expression text = is_some (found phrases (run phrases text start))
 
--- the number of bytes that are read from the state before the first one at fault
+-- the number of bytes that can be read from the state on before a byte makes it dead
 abbrev pub bytes_taken : State Phrase (List ℕ) → List ℕ → ℕ
 bytes_taken state [] = 0
 bytes_taken state (byte ∷ text) =
@@ -27,11 +27,12 @@ forms_of entries = map (λ (e : Entry). e.form) entries
 abbrev pub is_command : List Entry → List (List ℕ) → Bool
 is_command entries words = has_skippable (after_words is_expression (forms_of entries) words)
 
--- the word at which words first fail that are no command
+-- the word at which words that are no command first fail
 abbrev pub syntax_word : List Entry → List (List ℕ) → ℕ
 syntax_word entries words = taken is_expression (forms_of entries) words
 
--- the byte at which the word after `word` others first fails
+-- the byte at which the word after the first `word` words first fails, if an expression is expected there; otherwise
+-- 0
 abbrev pub syntax_byte : List Entry → List (List ℕ) → ℕ → ℕ
 syntax_byte entries words word =
     cond

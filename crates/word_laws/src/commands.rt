@@ -20,11 +20,11 @@ ghost use Rattle.sym_model.specs.SyntaxPlace.{IsSyntaxPlace};
 ghost use Rattle.word_laws.specs.OneReading.{are_unambiguous};
 ghost use Rattle.word_laws.specs.Reading.{bytes_taken, forms_of, syntax_place};
 
-/// Words are taken one by one as long as they begin words of one of the forms: the number of words
-/// taken is the length of their longest prefix that begins such words, for any forms each of which
-/// has words. The same holds for the bytes of a word that begin an expression. Words that are no
-/// command first fail at the place computed in this way and at no other, and other words spell a
-/// command.
+/// For a list of one or more forms, each of which has words, `taken` is the length of the longest
+/// prefix of the words that begins words of one of the forms; `bytes_taken` is the length of the
+/// longest prefix of a text that begins an expression. If `syntax_place` gives a place, the words
+/// spell no command and first fail there, and at no other place; if it gives none, the words spell
+/// a command.
 pub fn syntax_place_law()
     ensures longest_prefix { (reads : List ℕ → Bool) → TellsExpressions reads → (forms : List Form)
         → EachOf (λ f. can_be f ≡ true) forms → 0 < length forms → (words : List (List ℕ))
@@ -60,8 +60,8 @@ pub fn one_command_law()
         → a ≡ b }
 {}
 
-/// The first error is one of the errors, and none of them is before it; there is no first error if
-/// and only if there is no error.
+/// The first error of a list of errors is one of them, and none of them is before it; there is no
+/// first error if and only if the list is empty.
 pub fn command_offence_law()
     ensures is_one { (offences : List Offence) (first : Offence)
         → first_offence offences ≡ Some first

@@ -1,4 +1,4 @@
-//! The place where written rows leave a shape.
+//! The place where written rows first fail to have given lengths.
 
 ghost use Rattle.std.specs.Prelude.{◌≡◌, ◌<◌, ℕ, List, ◌∷◌, length};
 ghost use Rattle.sym_model.specs.Form.{EachOf, is_number_word};

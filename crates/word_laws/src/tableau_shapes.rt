@@ -9,9 +9,10 @@ ghost use Rattle.sym_model.specs.CommandOffence.{Offence};
 ghost use Rattle.sym_model.specs.WordForms.{tableau_words, tableau_rows, tableau_of};
 ghost use Rattle.sym_model.specs.WordForms.{shape_offences};
 
-/// A tableau that must have rows of given lengths is judged only by these: its words have no error
-/// if and only if its rows have these lengths, and otherwise the error is at the word after the
-/// longest prefix that begins such a tableau. A row without cells is written like no row.
+/// The words of a tableau that must have rows of given lengths are judged only by these lengths:
+/// they have no error if and only if the rows have these lengths, and otherwise the error is at the
+/// word after the longest prefix that begins such a tableau. A tableau without rows and one with a
+/// single row without cells are both written `.`.
 pub fn tableau_shape_law()
     ensures none { (k : ℕ) (lengths : List ℕ) (words : List (List ℕ))
         → (shape_offences k lengths words ≡ []) ↔ Has (tableau_of lengths) words }

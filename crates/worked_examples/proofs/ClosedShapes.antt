@@ -86,7 +86,8 @@ hook_closed outer inner first last h = hook_from_rows outer inner first last h.f
 pub removal_closed : (n : ℕ) (shape left : List ℕ) (first last : ℕ) → AreHookRows shape left first last → Falls left → ArePositive left → size shape ≡ size left + n → IsRemoval n shape left
 removal_closed n shape left first last h f p e = record { partition = record { falls = f; positive = p }; hook = hook_closed shape left first last h; cells = e }
 
--- if the first two rows of a shape have at least two cells, it is not a rim hook, since it has a 2 by 2 square
+-- if each of the first two rows of a shape has at least two cells, the shape is not a rim hook, since it has a 2 by 2
+-- square
 pub no_hook : (shape : List ℕ) → 2 ≤ part shape 1 → 2 ≤ part shape 2 → IsRimHook shape [] → ⊥
 no_hook shape a b h =
     h.thin 1 1
@@ -95,7 +96,7 @@ no_hook shape a b h =
     (cell shape [] 2 1 (omega arith) (omega arith) (omega arith))
     (cell shape [] 2 2 (omega arith) (omega arith) b)
 
--- if the first two rows of a shape of n cells have at least two cells, no rim hook of n cells can be removed
+-- if each of the first two rows of a shape of n cells has at least two cells, no rim hook of n cells can be removed
 pub no_removal_of_all : (n : ℕ) (shape : List ℕ) → size shape ≡ n → 2 ≤ part shape 1 → 2 ≤ part shape 2 → HasNoRemoval n shape
 no_removal_of_all n shape e a b left r =
     let c = r.cells in
@@ -105,7 +106,7 @@ no_removal_of_all n shape e a b left r =
 pub no_removal_from_less : (n : ℕ) (shape : List ℕ) → size shape < n → HasNoRemoval n shape
 no_removal_from_less n shape h left r = let c = r.cells in omega arith
 
--- (2,1)/(1) is not connected
+-- (2,1)/(1) is not a rim hook, since it is not connected
 pub not_connected : IsRimHook (2 ∷ 1 ∷ []) (1 ∷ []) → ⊥
 not_connected h =
     let outer : List ℕ = 2 ∷ 1 ∷ [] in

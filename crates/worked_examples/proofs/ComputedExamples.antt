@@ -1,4 +1,4 @@
--- Worked examples of words, proved by what is computed from their forms.
+-- Proofs of the worked examples of words: the readings of words are computed from the forms of the commands.
 use Rattle.std.proofs.Common.{◌≡◌, ℕ, ◌<◌, List, [], ◌∷◌, length, refl, sym, subst, arith, inl, Some}
 use Rattle.sym_model.specs.Sum.{Among}
 use Rattle.sym_model.specs.Command.{Command}

@@ -20,7 +20,7 @@ abbrev of_option : {A : Type 0} → Option A → List A
 of_option None = []
 of_option (Some x) = x ∷ []
 
--- the readings of a word as a word of the class
+-- the ways to read a word as a word of the class c
 abbrev pub word_readings : (c : Class) → List ℕ → List (WrittenWord c)
 word_readings (exact w) text = cond (same w text) (tt ∷ []) []
 word_readings number text = cond (is_number_word text) (text ∷ []) []
@@ -149,7 +149,7 @@ whole_readings_sound f words x m =
       sym a.2,
     )
 
--- the first errors that the words have, one for each way to read them as words of an entry
+-- the first error of the words, or `None`, for each way to read them as words of an entry
 abbrev pub offences_found : List Entry → Words → List (Option Offence)
 offences_found entries words =
     flat_map (λ (e : Entry). map (λ (x : Written e.form). first_offence (e.offends x)) (whole_readings e.form words)) entries
@@ -170,7 +170,7 @@ offends_sound (e ∷ entries) words o m =
         inl (record { has = s.0; first_is = a.2 ∙ ap (λ x. first_offence (e.offends x)) (sym s.1) })
     by (inr m) again = inr (again m)
 
--- the command, if there is no error
+-- the list of the command if there is no error, otherwise the empty list
 abbrev freely : Option Offence → Command → List Command
 freely None c = c ∷ []
 freely (Some o) c = []

@@ -66,7 +66,7 @@ pub fn target_examples_law()
     // the list with the coefficient 1/0 at (1) represents no polynomial, not even 0
     ensures denominator_zero { Represents (λ parts. schur parts 1)
         ((1 ∷ [], (pos 1, 0)) ∷ []) nothing 1 → ⊥ }
-    // S_(1,3,2) = x_1 + x_2 has one inversion, and three letters
+    // (1,3,2) has one inversion and three letters, and S_(1,3,2) = x_1 + x_2
     ensures pair_weight { pair_weight (1 ∷ 3 ∷ 2 ∷ []) (1 ∷ 3 ∷ 2 ∷ []) ≡ 8 }
     ensures pair_with_identity { pair_weight (2 ∷ 3 ∷ 1 ∷ []) (1 ∷ []) ≡ 1 }
     ensures weight_of_fractions { list_weight {Label = List ℕ}

@@ -4,8 +4,8 @@ ghost use Rattle.std.specs.Prelude.{◌≡◌, ℕ, List, [], ◌∷◌, ◌++�
 ghost use Rattle.sym_model.specs.BatchLine.{lines_of, batch_line, too_long, passed_over, spoken};
 
 /// A text is cut at its line feeds, a carriage return at the end of a line is dropped, and words
-/// are separated by spaces and tabs. Comments, blank lines and lines of more than 4,096 bytes, with
-/// that carriage return, have no words.
+/// are separated by spaces and tabs. Comments, blank lines and lines of more than 4,096 bytes, the
+/// carriage return included, have no words.
 pub fn batch_lines_law()
     ensures lines { lines_of (codes "a" ++ (10 ∷ 10 ∷ codes "b"))
         ≡ codes "a" ∷ [] ∷ codes "b" ∷ [] }

@@ -13,9 +13,9 @@ ghost use Rattle.sym_model.specs.Expansion.{value, value_by, pair_polynomial, el
 ghost use Rattle.sym_model.specs.Expansion.{completes, power_sums, schurs};
 
 /// Changes of basis, at the monomials with the exponents (3,0,0), (2,1,0) and (1,1,1): s_(2,1) in
-/// p, h and e, m_(2,1) and p_3 in s. And some coefficients, of degree 9, of m_(5,3,1) in p.
+/// p, h and e, m_(2,1) and p_3 in s; and some coefficients, of degree 9, of m_(5,3,1) in p.
 pub fn change_of_basis_examples_law()
-    // 0, 1 and 2, each multiplied by the denominators 3 and 3
+    // the coefficients 0, 1 and 2, each multiplied by the denominators 3 and 3
     ensures power_sums { map
         (coefficient (value power_sums
         (((3 ∷ []), (negsuc 0, 3)) ∷ ((1 ∷ 1 ∷ 1 ∷ []), (pos 1, 3)) ∷ []) 3))
@@ -98,8 +98,8 @@ pub fn expansion_examples_law()
 /// Products with h_2 and e_2 in s, h_2 - s_2,
 /// and products reduced by rim hooks and into the alcove.
 pub fn reduced_product_examples_law()
-    // h_2 p_1 = s_3 + s_(2,1) and e_2 m_1 = s_(2,1) + s_(1,1,1),
-    // at the monomials of degree 3 as above
+    // h_2 p_1 = s_3 + s_(2,1) and e_2 m_1 = s_(2,1) + s_(1,1,1), at the exponents (3,0,0), (2,1,0)
+    // and (1,1,1)
     ensures row_added { map
         (coefficient (value schurs (((3 ∷ []), (pos 1, 1)) ∷ ((2 ∷ 1 ∷ []), (pos 1, 1)) ∷ []) 3))
         ((3 ∷ 0 ∷ 0 ∷ []) ∷ (2 ∷ 1 ∷ 0 ∷ []) ∷ (1 ∷ 1 ∷ 1 ∷ []) ∷ [])

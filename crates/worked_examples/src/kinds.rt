@@ -26,7 +26,7 @@ pub fn kind_examples_law()
         ≡ Some (((2 ∷ [], 1 ∷ []), (pos 1, 1)) ∷ (([], 2 ∷ 1 ∷ []), (negsuc 1, 1)) ∷ []) }
     ensures one_label_of_two { read_by (label_rules pairs) (codes "1  (2)\n") ≡ None }
     ensures two_spaces_between { read_by (label_rules pairs) (codes "1  (2)  (1)\n") ≡ None }
-    // the quantum product of (2,1) and (2,1) with two rows and two columns
+    // the quantum product of (1) and (2,1) with two rows and two columns
     ensures powers { block_by (label_rules powers)
         (((0, 2 ∷ 2 ∷ []), (pos 1, 1)) ∷ ((1, []), (pos 1, 1)) ∷ [])
         ≡ codes "1  q^0  (2,2)\n1  q^1  ()\n" }
@@ -82,7 +82,7 @@ pub fn kind_examples_law()
     ensures number_with_label { read_by (label_rules number) (codes "1  (2)\n") ≡ None }
 {}
 
-/// The orders of the lines, and labels at their limits and just over them.
+/// The orders of the labels of each kind, and labels at their limits and just over them.
 pub fn label_examples_law()
     ensures first_partition { pair_order (2 ∷ [], []) (1 ∷ [], 3 ∷ []) ≡ Less }
     ensures second_partition { pair_order (1 ∷ [], 1 ∷ 1 ∷ []) (1 ∷ [], 2 ∷ []) ≡ Greater }

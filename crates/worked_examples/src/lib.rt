@@ -6,9 +6,9 @@
 //!
 //! What is proved:
 //!
-//! Values of the definitions that the check computes, from other sources or by hand: among them all
-//! Schubert polynomials of four letters, 83 refusals of words, 31 words at the limits that are not
-//! refused, and the texts of answers of every kind.
+//! The check computes values of the definitions and compares them with values from other sources or
+//! worked out by hand: among them all Schubert polynomials of four letters, 83 refusals of words,
+//! 31 words at the limits that are not refused, and the texts of answers of every kind.
 #![tactic(auto)]
 
 mod answers;

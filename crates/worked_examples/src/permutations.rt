@@ -1,6 +1,6 @@
 //! Worked examples of permutations, divided differences, Schubert polynomials and straightening.
 //! The Schubert polynomials were computed from quotients (f - s_i f)/(x_i - x_(i+1)) and agree with
-//! Symmetrica; the others are worked out by hand.
+//! Symmetrica; the other examples are worked out by hand.
 
 ghost use Rattle.std.specs.Prelude.{◌≡◌, pos, negsuc, [], ◌∷◌};
 ghost use Rattle.sym_model.specs.Polynomial.{coefficient, nothing, one};
@@ -49,8 +49,8 @@ pub fn permutation_examples_law()
     ensures three_more { covers_down 3 (1 ∷ 2 ∷ 4 ∷ 3 ∷ []) ≡ (1 ∷ 4 ∷ 2 ∷ 3 ∷ []) ∷ [] }
 {}
 
-/// Divided differences of monomials: for a greater, a smaller and an equal first exponent, and of a
-/// number.
+/// Divided differences of monomials, whose first exponent is greater than, less than or equal to
+/// the second, and of a number; polynomials in more and in fewer variables.
 pub fn divided_difference_examples_law()
     // (x^3 y - x y^3)/(x - y) = x y^2 + x^2 y
     ensures falling { divided_difference 1 (x_to (3 ∷ 1 ∷ []))

@@ -11,9 +11,9 @@ ghost use Rattle.sym_model.specs.PrintedOrder.{printed_order};
 ghost use Rattle.sym_model.specs.Canonical.{gcd, is_label, fits_128_bits};
 ghost use Rattle.sym_model.specs.PrintedBlock.{block, read, decimal_value};
 
-/// The polynomials of the bases in few variables: what their definitions say, multiplied out by
-/// hand. With fewer variables than parts m and e are 0; every basis has 1 for the empty partition.
-/// The last clause is a Kostka number, the coefficient of `x_1^2 x_2^2 x_3 x_4` in `s_(3,2,1)`.
+/// The polynomials of the bases in few variables, multiplied out by hand. With fewer variables than
+/// parts m and e are 0; every basis has 1 for the empty partition. The clause `schur` is a Kostka
+/// number, the coefficient of `x_1^2 x_2^2 x_3 x_4` in `s_(3,2,1)`.
 pub fn worked_examples_law()
     // x^2 y + x^2 z + x y^2 + x z^2 + y^2 z + y z^2
     ensures monomial_three { monomial (2 ∷ 1 ∷ []) 3
@@ -50,7 +50,7 @@ pub fn worked_examples_law()
     ensures power_sum_one { power_sum (2 ∷ 1 ∷ []) 1 ≡ ((3 ∷ []), pos 1) ∷ [] }
     ensures power_sum_none { power_sum (1 ∷ []) 0 ≡ nothing }
     ensures schur { coefficient (schur (3 ∷ 2 ∷ 1 ∷ []) 4) (2 ∷ 2 ∷ 1 ∷ 1 ∷ []) ≡ pos 4 }
-    // s_(2,1) = (p_1^3 - p_3)/3, and the denominators 3 and 3 make 9 times its coefficient 1
+    // s_(2,1) = (p_1^3 - p_3)/3; its coefficient 1 is multiplied by the denominators 3 and 3
     ensures value { coefficient
         (value power_sums
         (((3 ∷ []), (negsuc 0, 3)) ∷ ((1 ∷ 1 ∷ 1 ∷ []), (pos 1, 3)) ∷ []) 2) (2 ∷ 1 ∷ [])

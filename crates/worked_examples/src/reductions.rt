@@ -43,8 +43,9 @@ pub fn tableaux_examples_law()
     ensures empty_skew { skew_count (2 ∷ []) (3 ∷ []) [] ≡ 0 }
 {}
 
-/// Alternants: the six orders of three places with their signs, the Vandermonde determinant, and
-/// Schur coefficients of known expansions.
+/// Alternants: the number of orders of four places, inversions and signs of orders, the Vandermonde
+/// determinant in two variables, and coefficients of alternants and Schur coefficients of known
+/// expansions.
 pub fn alternant_examples_law()
     ensures orders { length (orders (places 4)) ≡ 24 }
     ensures no_places { orders (places 0) ≡ [] ∷ [] }
@@ -61,8 +62,8 @@ pub fn alternant_examples_law()
         (3 ∷ 1 ∷ 0 ∷ []) ≡ pos 1 }
 {}
 
-/// Beta lists and reflections: the products of (1) and (1) at level 1 with two rows, and of (2,1)
-/// and (2,1) at level 2 with three rows.
+/// Beta lists, and reductions into the alcove of partitions that occur in the products of (1) and
+/// (1) at level 1 with two rows, and of (2,1) and (2,1) at level 2 with three rows.
 pub fn reflection_examples_law()
     ensures beta { beta 3 (2 ∷ 1 ∷ []) ≡ 4 ∷ 2 ∷ 0 ∷ [] }
     ensures from_beta { from_beta (4 ∷ 2 ∷ 0 ∷ []) ≡ 2 ∷ 1 ∷ [] }

@@ -26,8 +26,8 @@ pub fn strip_examples_law()
     ensures no_cell { IsRimHook (1 ∷ []) (1 ∷ []) → ⊥ }
 {}
 
-/// Removals of rim hooks: the products of (1) and (2,1) and of (2,2) and (2,2) in two rows and two
-/// columns, and partitions of 6 in three rows and three columns.
+/// Removals of rim hooks from partitions that occur in the products of (1) and (2,1) and of (2,2)
+/// and (2,2) in two rows and two columns, and from partitions of 6 in three rows and three columns.
 pub fn removal_examples_law()
     ensures one_hook { GoesTo 2 4 (3 ∷ 1 ∷ []) [] (pos 1) 1 }
     ensures stays { GoesTo 2 4 (2 ∷ 2 ∷ []) (2 ∷ 2 ∷ []) (pos 1) 0 }

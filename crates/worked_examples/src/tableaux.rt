@@ -92,9 +92,9 @@ pub fn knuth_examples_law()
     ensures itself { (w : List ℕ) → AreKnuthEquivalent w w }
 {}
 
-/// Slides: of two equal neighbours the lower one moves; slides from the inner corners of
-/// (3,2,1)/(2,1) reach a straight tableau of one row, whichever corner is first; a slide does not
-/// change rows to the left of the corner.
+/// Slides: of two equal neighbours the lower one moves; a corner without neighbours is removed;
+/// slides from the inner corners of (3,2,1)/(2,1) reach a straight tableau of one row, whichever
+/// corner is first.
 pub fn slide_examples_law()
     ensures tie { slide 1 (record {
       outer = 2 ∷ 2 ∷ [];

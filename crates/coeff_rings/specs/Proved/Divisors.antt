@@ -20,7 +20,7 @@ euclid_step a b q r g e h =
           (subst (λ (n : ℕ). d ∣ n) e p)),
     )
 
--- a greatest common divisor that is multiplied by c if both numbers are
+-- a greatest common divisor g of a and b such that, for each c, g·c is a greatest common divisor of a·c and b·c
 pub record Scales (a b : ℕ) : Type 0 where
   pub g : ℕ
   pub is : IsGcd a b g

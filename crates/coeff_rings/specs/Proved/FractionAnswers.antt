@@ -1,4 +1,4 @@
--- The laws of `Frac`: the results of its operations, when there are results, and that these are held.
+-- The laws of `Frac`: the results of its operations, when there are results, and that `Frac` can hold them.
 use Rattle.std.proofs.Common.{◌≡◌, ◌≢◌, ℕ, ◌+◌, ◌*◌, ◌/◌, ◌<◌, ◌≤◌, ◌^◌, sym, refl, ap, ◌∙◌, subst}
 use Rattle.std.proofs.Common.{arith, ℤ, pos, ◌+ℤ◌, ◌-ℤ◌, ◌*ℤ◌, neg_ℤ, unsigned_abs, Bool, true}
 use Rattle.std.proofs.Common.{false, cond, ◌&&◌, FitsSigned, Option, Some, None, IsSome, IfSome}
@@ -49,7 +49,7 @@ pub fitted_product : (a b p : Fraction) → checked_fraction_product a b ≡ Som
     → p ≡ fraction_product a b
 fitted_product a b p = fitted (fits_fraction (fraction_product a b)) (fraction_product a b) p
 
--- ---- a fraction in lowest terms whose numbers fit is held
+-- ---- `Frac` can hold a fraction in lowest terms whose numbers fit
 
 pub IsFraction-lowest_terms : (n : ℤ) (d : ℕ) → 0 < d → FitsSigned w128 n → d < 2 ^ 127
     → IsFraction (lowest_terms n d)
@@ -227,7 +227,8 @@ FourNumbersFit-from a b total t =
       den = ltb-true (common_denominator a b) (2 ^ 127) last.1;
     }
 
--- if a sum has room, its four numbers fit
+-- if a sum has room, the absolute values of both numerators add up to less than 2^127, and the common denominator is
+-- below 2^127
 numbers_with_room : (d : ℕ) (a b : Fraction) → InLowestTerms a → InLowestTerms b
     → HasRoomForSum d a b
     → (unsigned_abs (numerator_over_common a b) + unsigned_abs (numerator_over_common b a)
@@ -272,7 +273,8 @@ greatest_common_divisor-of_one : (x : ℕ) → 0 < x → greatest_common_divisor
 greatest_common_divisor-of_one x some =
     greatest_common_divisor-is 1 x 1 (IsGcd-swap x 1 1 (coprime-one x))
 
--- over the denominator of b, the fraction 0 is 0 and b is itself
+-- over the least common denominator of the fractions 0 and b, the numerator of 0 is 0 (`zero_numerator`), that of b is
+-- unchanged (`same_numerator`), and this denominator is that of b
 zero_numerator : (b : Fraction) → numerator_over_common (whole (pos 0)) b ≡ pos 0
 zero_numerator b = ap pos (zero-mul (b.1 / greatest_common_divisor 1 b.1))
 

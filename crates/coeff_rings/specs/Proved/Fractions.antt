@@ -92,7 +92,7 @@ Stands-lowest_terms n d some =
           (div-mul_cancel g is.1);
     }
 
--- if n/d = m/e, the numbers equal to these quotients are equal over the product of all denominators
+-- if x/r = n/d and y/s = m/e, and n/d = m/e, then x·s and y·r, both times d·e, are equal
 cross : (x s y r n m d e : ℤ) → x *ℤ d ≡ n *ℤ r → y *ℤ e ≡ m *ℤ s → n *ℤ e ≡ m *ℤ d
     → (x *ℤ s) *ℤ (d *ℤ e) ≡ (y *ℤ r) *ℤ (d *ℤ e)
 cross x s y r n m d e p q c =

@@ -1,88 +1,106 @@
-use Rattle.std.proofs.Common.{◌*◌, ℕ, sym, subst, Result, Ok, Err}
-use Rattle.std.specs.Prelude.{IfOk}
-use Rattle.sym_model.specs.Polynomial.{Poly}
-use Rattle.sym_model.specs.Expansion.{monomials, IsExpansionOf}
+use Rattle.std.proofs.Common.{◌≡◌, ◌*◌, ◌^◌, ◌<◌, ap, ◌∙◌, subst, Err, arith, mul-pos}
+use Rattle.std.proofs.lemmas.Nat.{mul-le}
 use Rattle.sym_model.specs.Weight.{factorial, growth}
-use Rattle.expression_reading.specs.Trees.{basis_of}
+use Rattle.monomial_laws.proofs.Growths.{factorial-positive}
+use Rattle.sparse_polys.proofs.Steps.{error_is}
 use Rattle.sparse_polys.proofs.WholeLists.{if_ok_both}
-use Rattle.sparse_polys.specs.MonomialProducts.{greatest_size}
-use Rattle.basis_change.specs.ClearedAnswer.{IsClearedBy, IsMultiplied}
+use Rattle.sparse_polys.proofs.Quotients.{Quotients}
+use Rattle.expression_reading.specs.Trees.{basis_of}
+use Rattle.basis_change.specs.ClearedAnswer.{IsClearedBy}
+use Rattle.basis_change.specs.Clearing.{clearing_factor}
+use Rattle.basis_change.proofs.Bounds.{large-higher, large-least, wide}
+use Rattle.basis_change.proofs.ChangedLists.{factor-positive, factor-multiplied, large-factor}
+use Rattle.basis_change.proofs.ChangedLists.{limit-most}
+use Rattle.basis_change.proofs.ClearedAnswers.{greatest_is, cleared-answer, large-term}
+use Rattle.basis_change.proofs.ClearedAnswers.{whole-bounded, whole-within}
+use Rattle.basis_change.proofs.Ends.{expansion-by}
 use Rattle.basis_change.proofs.change.to_basis.Goals as goal
 
-pub returns-in-M-clause-value : goal.returns-in-M-clause-value
-returns-in-M-clause-value c =
-    subst (λ t. IfOk c.copy_of.result (λ answer. (n : ℕ) (f : Poly) (q : ℕ) →
-    IsExpansionOf monomials c.args.list.now n f q → IsExpansionOf (basis_of t) answer n f q))
-    (sym c.in-M.is) c.copy_of.ensures.value
+pub clearing_factor-requires : goal.clearing_factor-requires
+clearing_factor-requires c =
+    let l = c.greatest_size-size.ensures.least _ c.requires.sizes in
+    let m = limit-most (basis_of c.args.target) in
+    omega arith
 
-pub returns-in-E-clause-value : goal.returns-in-E-clause-value
-returns-in-E-clause-value c =
-    subst (λ t. IfOk c.by_augmented.result (λ answer. (n : ℕ) (f : Poly) (q : ℕ) →
-    IsExpansionOf monomials c.args.list.now n f q → IsExpansionOf (basis_of t) answer n f q))
-    (sym c.in-E.is) c.by_augmented.ensures.value
+pub returns-in_err-den-clause-large : goal.returns-in_err-den-clause-large
+returns-in_err-den-clause-large c err d w =
+    large-higher (basis_of c.args.target) c.args.bound.num c.args.bound.den
+    c.greatest_size-size.result d (c.greatest_size-size.ensures.least d w)
+    (large-factor (basis_of c.args.target) c.args.bound.num c.args.bound.den
+    c.greatest_size-size.result c.requires.positive.0
+    (let not_below : c.args.bound.den * c.clearing_factor.result < 2 ^ 127 → ⊥ = c.in_err-den.ensures
+    in let e = ap (λ q. c.args.bound.den * q) c.clearing_factor.ensures in omega arith))
 
-pub returns-in-H-clause-value : goal.returns-in-H-clause-value
-returns-in-H-clause-value c =
-    subst (λ t. IfOk c.by_augmented-in-H.result (λ answer. (n : ℕ) (f : Poly) (q : ℕ) →
-    IsExpansionOf monomials c.args.list.now n f q → IsExpansionOf (basis_of t) answer n f q))
-    (sym c.in-H.is) c.by_augmented-in-H.ensures.value
+pub whole_terms-requires : goal.whole_terms-requires
+whole_terms-requires c =
+    let p = factor-positive (basis_of c.args.target) c.greatest_size-size.result in
+    let m = mul-le c.args.bound.den 1 c.args.bound.den (clearing_factor (basis_of c.args.target)
+    c.greatest_size-size.result) (omega arith) p in
+    let e = ap (λ q. c.args.bound.den * q) c.clearing_factor.ensures in
+    omega (arith, c.in_ok-den.ensures.0)
 
-pub returns-in-P-clause-value : goal.returns-in-P-clause-value
-returns-in-P-clause-value c =
-    subst (λ t. IfOk c.by_augmented-in-P.result (λ answer. (n : ℕ) (f : Poly) (q : ℕ) →
-    IsExpansionOf monomials c.args.list.now n f q → IsExpansionOf (basis_of t) answer n f q))
-    (sym c.in-P.is) c.by_augmented-in-P.ensures.value
+pub returns-in_err-terms-clause-large : goal.returns-in_err-terms-clause-large
+returns-in_err-terms-clause-large c err d w =
+    large-least (basis_of c.args.target) c.args.bound.num c.args.bound.den d c.requires.positive.1
+    (large-term c.args.bound.num c.args.bound.den d c.args.list.now c.requires.bounded w
+    (c.in_err-terms.ensures.large (ap Err (error_is _ _ _ c.from_residual-in_err-terms.ensures.1 err))))
 
-pub returns-in-S-clause-value : goal.returns-in-S-clause-value
-returns-in-S-clause-value c =
-    subst (λ t. IfOk c.by_arrangements.result (λ answer. (n : ℕ) (f : Poly) (q : ℕ) →
-    IsExpansionOf monomials c.args.list.now n f q → IsExpansionOf (basis_of t) answer n f q))
-    (sym c.in-S.is) c.by_arrangements.ensures.value
+pub quotients_in-requires-clause-low : goal.quotients_in-requires-clause-low
+quotients_in-requires-clause-low c = c.greatest_size-size.ensures.least _ c.requires.sizes
 
--- a statement about the answer that assumes a contradiction holds: for these targets nothing is claimed
-nothing : {A E : Type 0} (Q : A → Type 0) (r : Result A E) → IfOk r (λ answer. ⊥ → Q answer)
-nothing Q (Ok answer) = λ p. absurd p
-nothing Q (Err e) = tt
+pub quotients_in-requires-clause-sizes : goal.quotients_in-requires-clause-sizes
+quotients_in-requires-clause-sizes c =
+    whole-within c.args.bound.den c.args.list.now c.in_ok-terms.terms
+    c.greatest_size-size.ensures.table c.in_ok-terms.ensures.table c.in_ok-terms.ensures.value
+    c.greatest_size-size.result c.greatest_size-size.ensures.within
 
-pub returns-in-M-clause-cleared : goal.returns-in-M-clause-cleared
-returns-in-M-clause-cleared c =
-    subst (λ t. IfOk c.copy_of.result (λ answer. IsMultiplied (basis_of t) → IsClearedBy
-    (c.args.bound.den * factorial (greatest_size c.args.list.now)) (c.args.bound.num * growth
-    (basis_of t) (greatest_size c.args.list.now)) (greatest_size c.args.list.now) answer))
-    (sym c.in-M.is)
-    (nothing _ c.copy_of.result)
+pub quotients_in-requires-clause-den : goal.quotients_in-requires-clause-den
+quotients_in-requires-clause-den c =
+    let p = mul-pos c.requires.positive.1
+    (factor-positive (basis_of c.args.target) c.greatest_size-size.result) in
+    let e = c.in_ok-den.ensures.1 ∙ ap (λ q. c.args.bound.den * q) c.clearing_factor.ensures in
+    (omega arith, omega (arith, c.in_ok-den.ensures.0))
 
-pub returns-in-E-clause-cleared : goal.returns-in-E-clause-cleared
-returns-in-E-clause-cleared c =
-    subst (λ t. IfOk c.by_augmented.result (λ answer. IsMultiplied (basis_of t) → IsClearedBy
-    (c.args.bound.den * factorial (greatest_size c.args.list.now)) (c.args.bound.num * growth
-    (basis_of t) (greatest_size c.args.list.now)) (greatest_size c.args.list.now) answer))
-    (sym c.in-E.is)
-    (if_ok_both c.by_augmented.result c.by_augmented.ensures.cleared c.by_augmented.ensures.cleared
-    (λ answer h k m. h))
+pub returns-clause-value : goal.returns-clause-value
+returns-clause-value c =
+    let den = c.in_ok-den.ensures.1 ∙ ap (λ q. c.args.bound.den * q) c.clearing_factor.ensures in
+    if_ok_both c.quotients_in.result c.quotients_in.ensures.value c.quotients_in.ensures.table
+    (λ answer quotients table.
+    expansion-by (basis_of c.args.target) c.args.bound.num c.args.bound.den _ c.args.list.now answer
+    c.in_ok-terms.terms quotients.whole c.requires.positive.1
+    (factor-positive (basis_of c.args.target) c.greatest_size-size.result)
+    c.greatest_size-size.ensures.table c.requires.bounded c.in_ok-terms.ensures.value
+    quotients.value table
+    (subst (λ d. Quotients d answer quotients.whole) den quotients.quotients))
 
-pub returns-in-H-clause-cleared : goal.returns-in-H-clause-cleared
-returns-in-H-clause-cleared c =
-    subst (λ t. IfOk c.by_augmented-in-H.result (λ answer. IsMultiplied (basis_of t) → IsClearedBy
-    (c.args.bound.den * factorial (greatest_size c.args.list.now)) (c.args.bound.num * growth
-    (basis_of t) (greatest_size c.args.list.now)) (greatest_size c.args.list.now) answer))
-    (sym c.in-H.is)
-    (if_ok_both c.by_augmented-in-H.result c.by_augmented-in-H.ensures.cleared
-    c.by_augmented-in-H.ensures.cleared (λ answer h k m. h))
+pub returns-clause-cleared : goal.returns-clause-cleared
+returns-clause-cleared c =
+    let size = greatest_is c.greatest_size-size.result c.args.list.now
+    c.greatest_size-size.ensures.within c.greatest_size-size.ensures.least in
+    let b = whole-bounded c.args.bound.den c.args.list.now c.in_ok-terms.terms
+    c.greatest_size-size.ensures.table c.in_ok-terms.ensures.table c.in_ok-terms.ensures.value
+    c.args.bound.num c.requires.bounded in
+    if_ok_both c.quotients_in.result c.quotients_in.ensures.value c.quotients_in.ensures.table
+    (λ answer quotients table m.
+    let den : c.in_ok-den.den ≡ c.args.bound.den * factorial c.greatest_size-size.result =
+    c.in_ok-den.ensures.1 ∙ ap (λ q. c.args.bound.den * q) (c.clearing_factor.ensures
+    ∙ factor-multiplied (basis_of c.args.target) c.greatest_size-size.result m) in
+    subst (λ k. IsClearedBy (c.args.bound.den * factorial k) (c.args.bound.num * growth
+    (basis_of c.args.target) k) k answer) size
+    (cleared-answer (c.args.bound.den * factorial c.greatest_size-size.result)
+    c.greatest_size-size.result quotients.whole answer
+    (mul-pos c.requires.positive.1 (factorial-positive c.greatest_size-size.result)) table
+    (subst (λ d. Quotients d answer quotients.whole) den quotients.quotients)
+    (c.args.bound.num * growth (basis_of c.args.target) c.greatest_size-size.result)
+    (quotients.few m c.args.bound.num b) (quotients.within m)))
 
-pub returns-in-P-clause-cleared : goal.returns-in-P-clause-cleared
-returns-in-P-clause-cleared c =
-    subst (λ t. IfOk c.by_augmented-in-P.result (λ answer. IsMultiplied (basis_of t) → IsClearedBy
-    (c.args.bound.den * factorial (greatest_size c.args.list.now)) (c.args.bound.num * growth
-    (basis_of t) (greatest_size c.args.list.now)) (greatest_size c.args.list.now) answer))
-    (sym c.in-P.is)
-    (if_ok_both c.by_augmented-in-P.result c.by_augmented-in-P.ensures.cleared
-    c.by_augmented-in-P.ensures.cleared (λ answer h k m. h))
-
-pub returns-in-S-clause-cleared : goal.returns-in-S-clause-cleared
-returns-in-S-clause-cleared c =
-    subst (λ t. IfOk c.by_arrangements.result (λ answer. IsMultiplied (basis_of t) → IsClearedBy
-    (c.args.bound.den * factorial (greatest_size c.args.list.now)) (c.args.bound.num * growth
-    (basis_of t) (greatest_size c.args.list.now)) (greatest_size c.args.list.now) answer))
-    (sym c.in-S.is)
-    (nothing _ c.by_arrangements.result)
+pub returns-clause-large : goal.returns-clause-large
+returns-clause-large c err d w =
+    let g = growth (basis_of c.args.target) c.greatest_size-size.result in
+    large-higher (basis_of c.args.target) c.args.bound.num c.args.bound.den
+    c.greatest_size-size.result d (c.greatest_size-size.ensures.least d w)
+    (wide (2 ^ 127) c.args.bound.num c.args.bound.den g g c.requires.positive.1
+    (c.quotients_in.ensures.large err c.args.bound.num
+    (whole-bounded c.args.bound.den c.args.list.now c.in_ok-terms.terms
+    c.greatest_size-size.ensures.table c.in_ok-terms.ensures.table c.in_ok-terms.ensures.value
+    c.args.bound.num c.requires.bounded)) (omega arith))

@@ -1,33 +1,37 @@
-use Rattle.std.proofs.Common.{◌≡◌, ◌++◌, ◌∷◌, [], ◌/◌, ◌≤◌, ◌^◌, ◌*ℤ◌, ℕ, ℤ, List, pos, map, refl}
-use Rattle.std.proofs.Common.{sym, ◌∙◌, ap, subst, arith, Err}
-use Rattle.std.specs.Cmp.Lexicographic.{nat_list_eq_equiv}
+use Rattle.std.proofs.Common.{◌≡◌, ◌++◌, ◌∷◌, [], ◌/◌, ◌*ℤ◌, ℕ, ℤ, List, pos, map, refl, sym, ◌∙◌, ap}
+use Rattle.std.proofs.Common.{subst, Err}
 use Rattle.std.specs.Map.Iter.{deref_pair}
 use Rattle.std.proofs.lemmas.List.{map-append}
-use Rattle.coeff_rings.specs.Fractions.{scaled, whole}
+use Rattle.coeff_rings.specs.Fractions.{whole}
+use Rattle.sym_model.specs.Sum.{Among, Once}
 use Rattle.sym_model.specs.Expansion.{Fraction, Terms}
-use Rattle.sym_model.specs.ListWeight.{absolute_sum}
-use Rattle.sym_model.specs.Polynomial.{Same}
+use Rattle.sym_model.specs.Polynomial.{Same, coefficient}
 use Rattle.sym_model.specs.LabelLimits.{is_label}
 use Rattle.monomial_laws.specs.ExpressionTerms.{over}
-use Rattle.linear_combinations.specs.Gains.{Gains, Overflows}
-use Rattle.linear_combinations.specs.Labels.{same_partition}
-use Rattle.linear_combinations.proofs.Found.{gains_same}
-use Rattle.linear_combinations.proofs.Gains.{all_pairs, gains_none, overflows_alone, pairs_gain}
-use Rattle.linear_combinations.proofs.Gains.{pairs_overflow, so_far_next}
-use Rattle.linear_combinations.proofs.Masses.{overflow_mass}
+use Rattle.monomial_laws.proofs.DividedTerms.{labels_of, over-missing}
+use Rattle.linear_combinations.specs.Gains.{Gains}
+use Rattle.linear_combinations.proofs.Found.{coefficient_found, gains_same}
+use Rattle.linear_combinations.proofs.Gains.{all_pairs, gains_none, next_among, pairs_gain}
+use Rattle.linear_combinations.proofs.Gains.{so_far_next}
 use Rattle.linear_combinations.proofs.Steps.{all_done, error_is, IsCombination-empty}
-use Rattle.sparse_polys.specs.Tables.{equal, IsWholeTable}
-use Rattle.family_lists.proofs.Totals.{absolute-over}
+use Rattle.sparse_polys.specs.Tables.{equal, IsFractionTable, IsWholeTable}
+use Rattle.sparse_polys.proofs.PartitionTerms.{once_before}
+use Rattle.sparse_polys.proofs.WholeLists.{Once-keys, not_refused}
 use Rattle.basis_change.proofs.clearing.whole_terms.Goals as goal
 
 over-append : (m : ℕ) (xs ys : Terms (List ℕ)) → over m (xs ++ ys) ≡ over m xs ++ over m ys
 over-append m xs ys = map-append (λ (t : List ℕ × Fraction). let term : List ℕ × ℤ =
     (t.0, t.1.0 *ℤ pos (m / t.1.1)) in term) xs ys
 
-past : (m : ℕ) (all : Terms (List ℕ)) → Overflows equal [] (over m all) → 2 ^ 127 ≤ absolute_sum m
-    all
-past m all o = let h = overflow_mass equal [] (over m all) o in let e = absolute-over m all in
-    omega arith
+-- a label has the coefficient 0 in the terms before it
+missing : (den : ℕ) (all done rest : Terms (List ℕ)) (x : List ℕ × Fraction) → IsFractionTable all
+    → done ++ x ∷ rest ≡ all → coefficient (over den done) x.0 ≡ pos 0
+missing den all done rest x is e =
+    over-missing den done x.0
+    (once_before (labels_of done) (labels_of rest) x.0
+    (subst (λ (ls : List (List ℕ)). Once ls)
+    (ap labels_of (sym e) ∙ map-append (λ (t : List ℕ × Fraction). t.0) done (x ∷ rest))
+    (Once-keys all is)))
 
 pub loop-label-init : goal.loop-label-init
 loop-label-init c = record {
@@ -38,19 +42,14 @@ loop-label-init c = record {
 
 pub returns-in_default-clause-large : goal.returns-in_default-clause-large
 returns-in_default-clause-large c err =
-    let inv = c.loop-label.invariant in
-    let den = c.args.den in
     let done = map deref_pair c.loop-label.yielded in
     let rest = c.next.new.self in
     let x : List ℕ × Fraction = (c.in-Some.label.now, c.in-Some.c.now) in
     let list =
     all_pairs done rest c.loop-label.label-iterator _ _ c.args.list.now x c.in-Some.ensures.steps
-    inv.so_far c.into_iter-label-iterator.ensures.into_iter_gives c.iter-label-items.ensures.rest in
-    past den c.args.list.now
-    (pairs_overflow (over den) (over-append den) done x [] c.loop-label.terms inv.gains equal rest
-    c.args.list.now list
-    (overflows_alone nat_list_eq_equiv same_partition c.loop-label.terms c.in-Some.label.now
-    (scaled den c.in-Some.c.now) c.in_default.ensures))
+    c.loop-label.invariant.so_far c.into_iter-label-iterator.ensures.into_iter_gives
+    c.iter-label-items.ensures.rest in
+    (x, subst (λ (es : Terms (List ℕ)). Among x es) list (next_among done x rest), c.in_default.ensures)
 
 pub loop-label-preserved : goal.loop-label-preserved
 loop-label-preserved c =
@@ -77,19 +76,18 @@ loop-label-preserved c =
 pub returns-in_err-add_at_label-clause-large : goal.returns-in_err-add_at_label-clause-large
 returns-in_err-add_at_label-clause-large c err =
     let inv = c.loop-label.invariant in
-    let den = c.args.den in
     let done = map deref_pair c.loop-label.yielded in
     let rest = c.next.new.self in
     let x : List ℕ × Fraction = (c.in-Some.label.now, c.in-Some.c.now) in
     let list =
     all_pairs done rest c.loop-label.label-iterator _ _ c.args.list.now x c.in-Some.ensures.steps
     inv.so_far c.into_iter-label-iterator.ensures.into_iter_gives c.iter-label-items.ensures.rest in
-    past den c.args.list.now
-    (pairs_overflow (over den) (over-append den) done x [] c.loop-label.terms inv.gains equal rest
-    c.args.list.now list
-    (subst (λ z. Overflows equal c.loop-label.terms ((c.in-Some.label.now, z) ∷ []))
-    c.in-Some-scaled_number.ensures
-    (c.in_err-add_at_label.ensures.large (ap Err (error_is _ _ _ c.from_residual.ensures.1 err)))))
+    absurd
+    (not_refused _ c.in-Some-scaled_number.number
+    (sym (coefficient_found c.loop-label.terms inv.table.distinct x.0)
+    ∙ gains_same [] (over c.args.den done) c.loop-label.terms inv.gains x.0
+    ∙ missing c.args.den c.args.list.now done rest x c.iter-label-items.ensures.combination list)
+    (c.in_err-add_at_label.ensures.refused.0 (ap Err (error_is _ _ _ c.from_residual.ensures.1 err))))
 
 pub returns-clause-value : goal.returns-clause-value
 returns-clause-value c =

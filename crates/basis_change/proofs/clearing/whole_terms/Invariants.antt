@@ -5,7 +5,7 @@ use Rattle.linear_combinations.specs.Gains.{Gains}
 use Rattle.sparse_polys.specs.Tables.{IsWholeTable}
 use Rattle.basis_change.proofs.clearing.whole_terms.Given as goal
 
--- the table has gained the number times the terms so far, and the terms so far and those still to come are all terms of the list
+-- the table has gained den times the terms visited so far; they and those still to come are all terms of the list
 abbrev pub invariant-loop-label : goal.invariant-loop-label
 invariant-loop-label l = record {
   gains : Gains [] (over l.den (map deref_pair l.yielded)) l.terms;

@@ -2,7 +2,7 @@ use Rattle.std.proofs.Common.{◌≡◌, ◌++◌, ◌-◌, ◌≤◌, take, dro
 use Rattle.sym_model.specs.Partition.{insert_part}
 use Rattle.basis_change.proofs.parts.place_of.Given as goal
 
--- each part before `at` is greater than the number
+-- the number is inserted after the first `at` parts
 abbrev pub invariant-loop-at : goal.invariant-loop-at
 invariant-loop-at l = (insert_part l.part l.parts ≡ take l.at l.parts ++ insert_part l.part (drop l.at l.parts)) × (l.at ≤ length l.parts)
 

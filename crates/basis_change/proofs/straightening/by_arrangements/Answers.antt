@@ -1,32 +1,33 @@
-use Rattle.std.proofs.Common.{ap, Err, arith}
-use Rattle.sparse_polys.proofs.Steps.{error_is}
-use Rattle.sparse_polys.proofs.WholeLists.{if_ok_both}
-use Rattle.basis_change.proofs.StraightBounds.{large-start, large-schur}
-use Rattle.basis_change.proofs.StraightBounds.{large-denominator_schur}
-use Rattle.basis_change.proofs.StraightValues.{expansion-straightened}
+use Rattle.std.proofs.Common.{ap, Err}
+use Rattle.sym_model.specs.Expansion.{schurs}
+use Rattle.linear_combinations.proofs.Steps.{if_answered}
+use Rattle.beta_sets.specs.BetaSets.{shapes}
+use Rattle.beta_sets.proofs.SetNumbers.{rows_limits}
+use Rattle.basis_change.proofs.ChangedLists.{failed}
+use Rattle.basis_change.proofs.StraightBounds.{large-straight}
+use Rattle.basis_change.proofs.StraightValues.{multiple-straightened, straightened-again, straightened-large}
 use Rattle.basis_change.proofs.straightening.by_arrangements.Goals as goal
 
-pub returns-then-bound-ge-LIMIT-clause-large : goal.returns-then-bound-ge-LIMIT-clause-large
-returns-then-bound-ge-LIMIT-clause-large c err d w =
-    large-denominator_schur c.args.bound.num c.args.bound.den d c.requires.positive.0
-    (let h = c.if-bound-ge-LIMIT.true in omega arith)
+pub returns-in_err-sum : goal.returns-in_err-sum
+returns-in_err-sum c =
+    failed schurs c.args.size c.args.list.now _ _ c.from_residual.ensures.0 c.from_residual.ensures.1
+    (λ large N b. large-straight N c.args.size c.args.list.now c.straightened.ensures.list c.requires.sizes b
+    (c.in_err-sum.ensures.large (ap Err large)))
 
-pub returns-in_err-sum-clause-large : goal.returns-in_err-sum-clause-large
-returns-in_err-sum-clause-large c err d w =
-    let places = c.greatest_size-places.result in
-    let past = c.in_err-sum.ensures.large (ap Err (error_is _ _ _ c.from_residual.ensures.1 err)) in
-    large-schur c.args.bound.num c.args.bound.den places d c.requires.positive.1
-    (c.greatest_size-places.ensures.least d w)
-    (large-start c.args.bound.num c.args.bound.den places c.args.list.now
-    c.greatest_size-places.ensures.table c.greatest_size-places.ensures.within
-    c.requires.bounded past)
+pub returns : goal.returns
+returns c = record {
+  value = if_answered c.partitions_of.result c.partitions_of.ensures.gains
+      (λ end gains. multiple-straightened c.args.size c.args.list.now end c.straightened.ensures.list
+      c.requires.sizes (straightened-again c.args.size c.args.list.now (shapes c.in_ok-sum.sum) end
+      c.in_ok-sum.ensures.gains gains));
+  few = if_answered c.partitions_of.result c.partitions_of.ensures.gains (λ end gains m. absurd m);
+  within = if_answered c.partitions_of.result c.partitions_of.ensures.gains (λ end gains m. absurd m);
+  table = c.partitions_of.ensures.table;
+  large = λ err N b. large-straight N c.args.size c.args.list.now c.straightened.ensures.list
+      c.requires.sizes b
+      (straightened-large c.args.size c.args.list.now c.in_ok-sum.sum c.in_ok-sum.ensures.table
+      c.in_ok-sum.ensures.within c.in_ok-sum.ensures.gains (c.partitions_of.ensures.large err));
+}
 
-pub returns-clause-value : goal.returns-clause-value
-returns-clause-value c =
-    if_ok_both c.divided.result c.divided.ensures.value c.divided.ensures.table
-    (λ answer quotients table n f q h.
-    expansion-straightened c.args.bound.num c.args.bound.den c.greatest_size-places.result
-    c.args.list.now answer c.in_ok-sum.sum c.requires.positive.1
-    c.greatest_size-places.ensures.table
-    c.greatest_size-places.ensures.within c.requires.bounded c.in_ok-sum.ensures.gains table
-    quotients n f q h)
+pub partitions_of-requires : goal.partitions_of-requires
+partitions_of-requires c t m = rows_limits t.0 (c.in_ok-sum.ensures.within t m)

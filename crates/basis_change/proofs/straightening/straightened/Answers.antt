@@ -1,53 +1,43 @@
-use Rattle.std.proofs.Common.{◌≡◌, ◌++◌, ◌∷◌, [], ℕ, List, map, refl, sym, ap, subst, arith}
-use Rattle.std.proofs.Common.{Err, inl, inr}
+use Rattle.std.proofs.Common.{◌≡◌, ◌++◌, ◌∷◌, [], ℕ, ℤ, List, map, refl, sym, ◌∙◌, ap, subst, arith, Err, true}
+use Rattle.std.specs.Prelude.{nat_eq}
 use Rattle.std.specs.Map.Iter.{deref_pair}
 use Rattle.std.proofs.lemmas.List.{map-append, append-nil}
+use Rattle.coeff_rings.specs.Fractions.{whole}
 use Rattle.sym_model.specs.Partition.{size}
-use Rattle.sym_model.specs.Expansion.{Fraction, Terms}
 use Rattle.sym_model.specs.Sum.{Among}
-use Rattle.coeff_rings.specs.Fractions.{scaled}
-use Rattle.linear_combinations.specs.Gains.{Gains, Overflows}
+use Rattle.sym_model.specs.WholeTerms.{WholeTerms}
+use Rattle.linear_combinations.specs.Gains.{Gains, Overflows, HaveLabels}
 use Rattle.linear_combinations.proofs.Gains.{all_pairs, gains_none, next_among, pairs_gain}
 use Rattle.linear_combinations.proofs.Gains.{pairs_overflow, so_far_next}
-use Rattle.linear_combinations.proofs.Steps.{error_is}
+use Rattle.linear_combinations.proofs.Steps.{all_done, error_is, IsCombination-empty}
 use Rattle.sparse_polys.specs.Tables.{equal}
+use Rattle.beta_sets.specs.BetaSets.{shapes, IsInRows, IsShapeTable}
 use Rattle.basis_change.specs.Arranging.{straight_terms}
 use Rattle.basis_change.specs.Straightening.{straightened_list}
-use Rattle.basis_change.specs.KeptLists.{IsStraightened, AreKept}
-use Rattle.basis_change.proofs.KeptLists.{gains-multiple, overflows-multiple}
+use Rattle.basis_change.specs.KeptLists.{AreKept}
 use Rattle.basis_change.proofs.StraightTerms.{straightened_list-append}
 use Rattle.basis_change.proofs.straightening.straightened.Goals as goal
 
 pub loop-label-init : goal.loop-label-init
 loop-label-init c = record {
   kept = subst AreKept (sym c.new-lists.ensures.empty) (λ l m. absurd m);
-  gains = subst (Gains [] []) (sym c.new-sum.ensures) (gains_none []);
+  gains = subst (λ l. Gains [] [] (shapes l)) (sym c.new-sum.ensures) (gains_none []);
+  table = subst IsShapeTable (sym c.new-sum.ensures) (IsCombination-empty nat_eq (λ s. true) whole);
+  within = subst (HaveLabels (IsInRows 20 20)) (sym c.new-sum.ensures) (λ t m. absurd m);
   so_far = refl;
 }
 
-pub returns-in_default-clause-large : goal.returns-in_default-clause-large
-returns-in_default-clause-large c err =
+pub add_straightened-requires-clause-low : goal.add_straightened-requires-clause-low
+add_straightened-requires-clause-low c =
     let done = map deref_pair c.loop-label.yielded in
     let rest = c.next.new.self in
-    let x : List ℕ × Fraction = (c.in-Some.label.now, c.in-Some.c.now) in
-    let whole =
-    all_pairs done rest c.loop-label.label-iterator _ _ c.args.list.now x c.in-Some.ensures.steps
-    c.loop-label.invariant.so_far c.into_iter-label-iterator.ensures.into_iter_gives
-    c.iter-label-items.ensures.rest in
-    let here = subst (λ (es : Terms (List ℕ)). Among x es) whole (next_among done x rest) in
-    inl (x, here, c.in_default.ensures)
-
-pub straightened_parts-requires-clause-low : goal.straightened_parts-requires-clause-low
-straightened_parts-requires-clause-low c =
-    let done = map deref_pair c.loop-label.yielded in
-    let rest = c.next.new.self in
-    let x : List ℕ × Fraction = (c.in-Some.label.now, c.in-Some.c.now) in
-    let whole =
+    let x : List ℕ × ℤ = (c.in-Some.label.now, c.in-Some.c.now) in
+    let all =
     all_pairs done rest c.loop-label.label-iterator _ _ c.args.list.now x c.in-Some.ensures.steps
     c.loop-label.invariant.so_far c.into_iter-label-iterator.ensures.into_iter_gives
     c.iter-label-items.ensures.rest in
     let s = c.requires.sizes x
-    (subst (λ (es : Terms (List ℕ)). Among x es) whole (next_among done x rest)) in
+    (subst (λ (es : WholeTerms). Among x es) all (next_among done x rest)) in
     let v = ap size c.parts.ensures.value in
     let p = c.requires.low in
     omega arith
@@ -58,61 +48,64 @@ loop-label-preserved c =
     let done = map deref_pair c.loop-label.yielded in
     let rest = c.next.new.self in
     let k = c.in-Some.label.now in
-    let x : List ℕ × Fraction = (c.in-Some.label.now, c.in-Some.c.now) in
+    let x : List ℕ × ℤ = (c.in-Some.label.now, c.in-Some.c.now) in
     let pushed : done ++ (c.in-Some.label.now, c.in-Some.c.now) ∷ [] ≡ map deref_pair
     (c.loop-label.yielded ++ (c.in-Some.label, c.in-Some.c) ∷ []) =
     sym (map-append deref_pair c.loop-label.yielded ((c.in-Some.label, c.in-Some.c) ∷ [])) in
-    let whole =
+    let all =
     all_pairs done rest c.loop-label.label-iterator _ _ c.args.list.now x c.in-Some.ensures.steps
     inv.so_far c.into_iter-label-iterator.ensures.into_iter_gives c.iter-label-items.ensures.rest in
     let low = c.requires.sizes x
-    (subst (λ (es : Terms (List ℕ)). Among x es) whole (next_among done x rest)) in
-    let kept = subst (λ (x : List ℕ). IsStraightened x c.in_ok-straight.straight)
-    c.parts.ensures.value c.in_ok-straight.ensures.list in
-    let here : Gains c.loop-label.sum (straightened_list c.args.den c.args.places
-    ((c.in-Some.label.now, c.in-Some.c.now) ∷ [])) c.add_multiple.new.self =
-    subst (λ l. Gains c.loop-label.sum l c.add_multiple.new.self)
-    (sym (append-nil (straight_terms (scaled c.args.den c.in-Some.c.now) c.in-Some.label.now
-    c.args.places)))
-    (subst (λ z. Gains c.loop-label.sum (straight_terms z c.in-Some.label.now c.args.places)
-    c.add_multiple.new.self) c.in-Some-scaled_number.ensures
-    (gains-multiple c.in-Some-scaled_number.number k c.args.places c.in_ok-straight.straight kept
-    c.in_ok-add_multiple.ensures.other low c.loop-label.sum c.add_multiple.new.self
-    c.in_ok-add_multiple.ensures.gains)) in
+    (subst (λ (es : WholeTerms). Among x es) all (next_among done x rest)) in
+    let here : Gains (shapes c.loop-label.sum) (straightened_list c.args.size
+    ((c.in-Some.label.now, c.in-Some.c.now) ∷ [])) (shapes c.add_straightened.new.sum) =
+    subst (λ l. Gains (shapes c.loop-label.sum) l (shapes c.add_straightened.new.sum))
+    (sym (append-nil (straight_terms x.1 k c.args.size)))
+    (subst (λ (p : List ℕ). Gains (shapes c.loop-label.sum) (straight_terms x.1 p c.args.size)
+    (shapes c.add_straightened.new.sum)) c.parts.ensures.value
+    (c.in_ok-add_straightened.ensures.gains c.args.size
+    (let v = ap size c.parts.ensures.value in omega arith))) in
     record {
-      kept = c.in_ok-straight.ensures.kept;
-      gains = pairs_gain (straightened_list c.args.den c.args.places)
-          (straightened_list-append c.args.den c.args.places) done x [] c.loop-label.sum inv.gains _
-          c.add_multiple.new.self pushed here;
+      kept = c.in_ok-add_straightened.ensures.kept;
+      gains = pairs_gain (straightened_list c.args.size)
+          (straightened_list-append c.args.size) done x [] (shapes c.loop-label.sum) inv.gains _
+          (shapes c.add_straightened.new.sum) pushed here;
+      table = c.in_ok-add_straightened.ensures.table;
+      within = c.in_ok-add_straightened.ensures.within;
       so_far = so_far_next done rest c.loop-label.label-iterator _ _ x pushed
           c.in-Some.ensures.steps inv.so_far;
     }
 
-pub returns-in_err-add_multiple-clause-large : goal.returns-in_err-add_multiple-clause-large
-returns-in_err-add_multiple-clause-large c err =
+pub returns-in_err-add_straightened-clause-large : goal.returns-in_err-add_straightened-clause-large
+returns-in_err-add_straightened-clause-large c err =
     let inv = c.loop-label.invariant in
     let done = map deref_pair c.loop-label.yielded in
     let rest = c.next.new.self in
     let k = c.in-Some.label.now in
-    let x : List ℕ × Fraction = (c.in-Some.label.now, c.in-Some.c.now) in
-    let whole =
+    let x : List ℕ × ℤ = (c.in-Some.label.now, c.in-Some.c.now) in
+    let all =
     all_pairs done rest c.loop-label.label-iterator _ _ c.args.list.now x c.in-Some.ensures.steps
     inv.so_far c.into_iter-label-iterator.ensures.into_iter_gives c.iter-label-items.ensures.rest in
     let low = c.requires.sizes x
-    (subst (λ (es : Terms (List ℕ)). Among x es) whole (next_among done x rest)) in
-    let kept = subst (λ (x : List ℕ). IsStraightened x c.in_ok-straight.straight)
-    c.parts.ensures.value c.in_ok-straight.ensures.list in
-    let here : Overflows equal c.loop-label.sum (straightened_list c.args.den c.args.places
-    ((c.in-Some.label.now, c.in-Some.c.now) ∷ [])) =
-    subst (Overflows equal c.loop-label.sum)
-    (sym (append-nil (straight_terms (scaled c.args.den c.in-Some.c.now) c.in-Some.label.now
-    c.args.places)))
-    (subst (λ z. Overflows equal c.loop-label.sum
-    (straight_terms z c.in-Some.label.now c.args.places)) c.in-Some-scaled_number.ensures
-    (overflows-multiple c.in-Some-scaled_number.number k c.args.places c.in_ok-straight.straight
-    kept c.in_err-add_multiple.ensures.other low c.loop-label.sum
-    (c.in_err-add_multiple.ensures.large
-    (ap Err (error_is _ _ _ c.from_residual-in_err-add_multiple.ensures.1 err))))) in
-    inr (pairs_overflow (straightened_list c.args.den c.args.places)
-    (straightened_list-append c.args.den c.args.places) done x [] c.loop-label.sum inv.gains
-    equal rest c.args.list.now whole here)
+    (subst (λ (es : WholeTerms). Among x es) all (next_among done x rest)) in
+    let here : Overflows equal (shapes c.loop-label.sum) (straightened_list c.args.size (x ∷ [])) =
+    subst (Overflows equal (shapes c.loop-label.sum))
+    (sym (append-nil (straight_terms x.1 k c.args.size)))
+    (subst (λ (p : List ℕ). Overflows equal (shapes c.loop-label.sum) (straight_terms x.1 p c.args.size))
+    c.parts.ensures.value
+    (c.in_err-add_straightened.ensures.large
+    (ap Err (error_is _ _ _ c.from_residual.ensures.1 err)) c.args.size
+    (let v = ap size c.parts.ensures.value in omega arith))) in
+    pairs_overflow (straightened_list c.args.size)
+    (straightened_list-append c.args.size) done x [] (shapes c.loop-label.sum) inv.gains
+    equal rest c.args.list.now all here
+
+pub returns-clause-gains : goal.returns-clause-gains
+returns-clause-gains c =
+    let is : map deref_pair c.loop-label.yielded ≡ c.args.list.now =
+    all_done (map deref_pair c.loop-label.yielded)
+    c.loop-label.label-iterator _ _ c.in-None.ensures.steps.0 c.loop-label.invariant.so_far
+    c.into_iter-label-iterator.ensures.into_iter_gives
+    ∙ c.iter-label-items.ensures.rest in
+    subst (λ (es : WholeTerms). Gains [] (straightened_list c.args.size es) (shapes c.loop-label.sum))
+    is c.loop-label.invariant.gains

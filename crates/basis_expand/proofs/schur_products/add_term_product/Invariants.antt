@@ -10,7 +10,7 @@ use Rattle.linear_combinations.specs.Cleared.{GainsCleared}
 use Rattle.basis_expand.specs.SchurLists.{ComeTo, row_at}
 use Rattle.basis_expand.proofs.schur_products.add_term_product.Given as goal
 
--- the products with the terms so far are added, and the terms so far and those still to come are all terms of the list
+-- the products with the terms visited so far have been added; these terms and those still to come are all terms of the list
 abbrev pub invariant-loop-other : goal.invariant-loop-other
 invariant-loop-other l = record {
   sums :

@@ -8,7 +8,7 @@ use Rattle.basis_expand.specs.SchurLists.{ComeTo, products_at}
 use Rattle.linear_combinations.specs.Cleared.{IsCommonDenominator, GainsCleared}
 use Rattle.basis_expand.proofs.schur_products.product.Given as goal
 
--- the products of the terms so far are added, and the terms so far and those still to come are all terms of the left list
+-- the products of the terms visited so far have been added; these terms and those still to come are all terms of the left list
 abbrev pub invariant-loop-label : goal.invariant-loop-label
 invariant-loop-label l = record {
   sums :

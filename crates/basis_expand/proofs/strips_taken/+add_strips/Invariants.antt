@@ -6,7 +6,7 @@ use Rattle.basis_expand.proofs.strips_taken.+add_strips.Given as goal
 abbrev pub decreases-add_strips : goal.decreases-add_strips
 decreases-add_strips l = length l.rows.now
 
--- the strips with fewer cells in the first row are listed
+-- the strips with fewer than `cells` cells in the first row have been listed
 abbrev pub invariant-loop-cells : goal.invariant-loop-cells
 invariant-loop-cells l = record {
   same : l.above.items ≡ l.fn.above.items;

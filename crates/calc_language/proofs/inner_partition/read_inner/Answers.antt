@@ -6,9 +6,10 @@ use Rattle.word_laws.specs.JudgedRows.{earlier}
 use Rattle.word_laws.proofs.EarlierOffences.{first_of_both}
 use Rattle.calc_language.specs.FoundOffences.{found_of}
 use Rattle.calc_words.specs.Reading.{IsFirst}
+use Rattle.expression_reading.specs.declared.offence.Kind.TheVariants.{Shape}
 use Rattle.sym_model.specs.Schur.{contains}
 use Rattle.calc_language.proofs.SkewTableaux.{inside_contains}
-use Rattle.calc_language.proofs.PairJudging.{found_judged}
+use Rattle.calc_language.proofs.CellJudging.{kind_refused}
 use Rattle.calc_language.proofs.inner_partition.read_inner.Goals as goal
 
 pub returns-in-Err-clause-judged : goal.returns-in-Err-clause-judged
@@ -26,7 +27,8 @@ returns-in-Some-clause-judged c =
     let ns = numbers (map string_bytes c.args.words.now) in
     let parts = part_offences c.args.at ns in
     let inside = offences_by (inside_rule c.args.outer.now) c.args.at ns in
-    found_judged (first_offence (parts ++ inside)) c.in-Some.found c.offence.result
+    kind_refused (first_offence (parts ++ inside)) c.in-Some.word Shape
+    c.offence.result
     (first_of_both parts inside ∙ ap (λ o. earlier o (first_offence inside)) c.in-Ok.ensures.1
     ∙ sym c.outside_offence-outside.ensures ∙ ap found_of c.in-Some.is)
     c.offence.ensures

@@ -1,4 +1,4 @@
--- The words are those of the command that the first of them names, if that is a command of a line.
+-- Words are read as those of the command of a line that their first word names.
 use Rattle.std.proofs.Common.{map, Err, ap, subst, ◌≡◌, ◌∙◌, ◌⊎◌}
 use Rattle.std.specs.Prelude.{string_bytes, codes}
 use Rattle.calc_language.specs.BuiltCommands.{command_entries, batch_entries}

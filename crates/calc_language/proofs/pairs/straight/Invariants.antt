@@ -1,4 +1,4 @@
--- The lengths of the rows so far have been pushed.
+-- The lengths of the rows visited so far have been appended.
 use Rattle.std.proofs.Common.{◌≡◌, map, length, take}
 use Rattle.calc_language.proofs.pairs.straight.Given as goal
 

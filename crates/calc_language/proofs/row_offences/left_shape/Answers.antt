@@ -1,20 +1,20 @@
 use Rattle.std.proofs.Common.{◌≡◌, ◌+◌, ◌-◌, map, length, take, drop, get_or, ◌∷◌, sym, ap, ◌∙◌}
-use Rattle.std.proofs.Common.{arith, Some, None}
+use Rattle.std.proofs.Common.{arith, Some, min, ◌==◌, not}
 use Rattle.std.specs.Prelude.{string_bytes}
 use Rattle.std.proofs.lemmas.List.{length-map}
 use Rattle.sym_model.specs.CommandOffence.{first_offence}
 use Rattle.word_laws.specs.WrittenRows.{row_text, left_at}
 use Rattle.calc_language.proofs.RowJudging.{rows_next, no_rows, room_next, row_width}
-use Rattle.std.proofs.Common.{min}
-use Rattle.std.proofs.Common.{cond, ◌==◌}
+use Rattle.std.specs.Bool.{then_some}
 use Rattle.std.proofs.lemmas.Bool.{eqb-true, eqb-false}
 use Rattle.sym_model.specs.ExpressionOffence.{shape}
 use Rattle.calc_language.proofs.RowJudging.{left_last, rows_left, left_misses, left_fewer, left_on}
 use Rattle.calc_language.proofs.RowJudging.{left_none, split_first}
+use Rattle.calc_language.specs.FoundOffences.{found_of}
 use Rattle.calc_language.proofs.row_offences.left_shape.Goals as goal
 
-pub overflow_add-place : goal.overflow_add-place
-overflow_add-place c =
+pub overflow_add-result : goal.overflow_add-result
+overflow_add-result c =
     let rows = c.args.rows.now in
     let i = c.loop-i.i in
     let row = c.index-rows-i.result.now in
@@ -24,13 +24,7 @@ overflow_add-place c =
     c.loop-i-test.true c.index-rows-i.is in
     let place = c.loop-i.place in
     let w = map string_bytes row in
-    let left = c.loop-i.left.now in
-    let n = get_or left 0 0 in
-    let later = take (length left - 1) (drop 1 left) in
-    let cut = split_first left c.in-len1-up.len_at_least in
     let room = room_next place (drop i ws) rest w next c.loop-i.invariant.1 in
-    let here = c.loop-i.invariant.0 ∙ ap (λ ds. first_offence (left_at place left ds)) next
-    ∙ ap (λ ls. first_offence (left_at place ls (w ∷ rest))) cut in
     let l = length-map row string_bytes in
     let long = row_width w in
     let least = c.min.ensures in
@@ -51,20 +45,18 @@ returns-then-row-length c =
     let n = get_or left 0 0 in
     let later = take (length left - 1) (drop 1 left) in
     let cut = split_first left c.in-len1-up.len_at_least in
-    let room = room_next place (drop i ws) rest w next c.loop-i.invariant.1 in
     let here = c.loop-i.invariant.0 ∙ ap (λ ds. first_offence (left_at place left ds)) next
     ∙ ap (λ ls. first_offence (left_at place ls (w ∷ rest))) cut in
     let l = length-map row string_bytes in
     let least = c.min.ensures in
     let other = c.if-row-length.true in
-    c.shape_unless.ensures
-    ∙ sym
+    sym
     (here ∙ left_misses place n later w rest (λ e. other (omega (arith, e, l)))
     ∙ (let z : place + min n (length w) ≡ place + c.min.result = omega (arith, least, l) in
     ap (λ p. Some (p, 0, shape)) z))
 
-pub overflow_add-place-in-loop-i : goal.overflow_add-place-in-loop-i
-overflow_add-place-in-loop-i c =
+pub overflow_add-place : goal.overflow_add-place
+overflow_add-place c =
     let rows = c.args.rows.now in
     let i = c.loop-i.i in
     let row = c.index-rows-i.result.now in
@@ -74,14 +66,7 @@ overflow_add-place-in-loop-i c =
     c.loop-i-test.true c.index-rows-i.is in
     let place = c.loop-i.place in
     let w = map string_bytes row in
-    let left = c.loop-i.left.now in
-    let n = get_or left 0 0 in
-    let later = take (length left - 1) (drop 1 left) in
-    let cut = split_first left c.in-len1-up.len_at_least in
     let room = room_next place (drop i ws) rest w next c.loop-i.invariant.1 in
-    let here = c.loop-i.invariant.0 ∙ ap (λ ds. first_offence (left_at place left ds)) next
-    ∙ ap (λ ls. first_offence (left_at place ls (w ∷ rest))) cut in
-    let l = length-map row string_bytes in
     omega (arith, room, c.width-place.ensures)
 
 pub returns-then-is_empty : goal.returns-then-is_empty
@@ -99,7 +84,6 @@ returns-then-is_empty c =
     let n = get_or left 0 0 in
     let later = take (length left - 1) (drop 1 left) in
     let cut = split_first left c.in-len1-up.len_at_least in
-    let room = room_next place (drop i ws) rest w next c.loop-i.invariant.1 in
     let here = c.loop-i.invariant.0 ∙ ap (λ ds. first_offence (left_at place left ds)) next
     ∙ ap (λ ls. first_offence (left_at place ls (w ∷ rest))) cut in
     let l = length-map row string_bytes in
@@ -107,7 +91,7 @@ returns-then-is_empty c =
     let none = eqb-true (length later) 0 (sym c.is_empty.ensures ∙ c.if-is_empty.true) in
     let more = rows_left (λ r. map string_bytes r.now) rows i in
     let wide = c.width-place.ensures in
-    c.shape_unless-then-is_empty.ensures
+    ap found_of c.then_some.ensures
     ∙ sym
     (here
     ∙ left_last place n later w rest (i + 1 == length rows) (omega (arith, same, l)) none
@@ -115,7 +99,7 @@ returns-then-is_empty c =
     (λ e. let z = eqb-false (i + 1) (length rows) e in let y = c.loop-i-test.true in
     omega (arith, z, more, y))
     ∙ (let z : place + length (row_text w) ≡ place + c.width-place.result = omega (arith, wide) in
-    ap (λ p. cond (i + 1 == length rows) None (Some (p, 0, shape))) z))
+    ap (λ p. found_of (then_some (not (i + 1 == length rows)) p)) z))
 
 pub returns-then-is_last_row : goal.returns-then-is_last_row
 returns-then-is_last_row c =
@@ -132,7 +116,6 @@ returns-then-is_last_row c =
     let n = get_or left 0 0 in
     let later = take (length left - 1) (drop 1 left) in
     let cut = split_first left c.in-len1-up.len_at_least in
-    let room = room_next place (drop i ws) rest w next c.loop-i.invariant.1 in
     let here = c.loop-i.invariant.0 ∙ ap (λ ds. first_offence (left_at place left ds)) next
     ∙ ap (λ ls. first_offence (left_at place ls (w ∷ rest))) cut in
     let l = length-map row string_bytes in
@@ -141,16 +124,15 @@ returns-then-is_last_row c =
     let more = rows_left (λ r. map string_bytes r.now) rows i in
     let wide = c.width-place.ensures in
     let last = c.if-is_last_row.true in
-    c.shape_unless-then-is_last_row.ensures
-    ∙ sym
+    sym
     (here
     ∙ left_fewer place n later w rest (omega (arith, same, l)) (omega (arith, some))
     (omega (arith, last, more))
     ∙ (let z : place + length (row_text w) ≡ place + c.width-place.result = omega (arith, wide) in
     ap (λ p. Some (p, 0, shape)) z))
 
-pub overflow_add-place-in-loop-i-2 : goal.overflow_add-place-in-loop-i-2
-overflow_add-place-in-loop-i-2 c =
+pub overflow_add-place-in-loop-i : goal.overflow_add-place-in-loop-i
+overflow_add-place-in-loop-i c =
     let rows = c.args.rows.now in
     let i = c.loop-i.i in
     let row = c.index-rows-i.result.now in
@@ -160,14 +142,7 @@ overflow_add-place-in-loop-i-2 c =
     c.loop-i-test.true c.index-rows-i.is in
     let place = c.loop-i.place in
     let w = map string_bytes row in
-    let left = c.loop-i.left.now in
-    let n = get_or left 0 0 in
-    let later = take (length left - 1) (drop 1 left) in
-    let cut = split_first left c.in-len1-up.len_at_least in
     let room = room_next place (drop i ws) rest w next c.loop-i.invariant.1 in
-    let here = c.loop-i.invariant.0 ∙ ap (λ ds. first_offence (left_at place left ds)) next
-    ∙ ap (λ ls. first_offence (left_at place ls (w ∷ rest))) cut in
-    let l = length-map row string_bytes in
     omega (arith, room, c.width-place.ensures)
 
 pub loop-i-preserved : goal.loop-i-preserved

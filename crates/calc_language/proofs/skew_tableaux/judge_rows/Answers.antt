@@ -1,107 +1,96 @@
-use Rattle.std.proofs.Common.{◌<◌, [], length, map, refl, sym, ap, ◌∙◌, subst, arith}
+use Rattle.std.proofs.Common.{◌<◌, [], length, map, sym, ap, ◌∙◌, subst, arith, false, None}
 use Rattle.std.specs.Prelude.{string_bytes}
 use Rattle.std.proofs.lemmas.List.{length-map}
+use Rattle.std.proofs.lemmas.Result.{err_from_is_err_and}
 use Rattle.sym_model.specs.CommandOffence.{first_offence, rows_in}
 use Rattle.sym_model.specs.WordForms.{numbers}
 use Rattle.word_laws.specs.WrittenRows.{rows_at, left_at}
-use Rattle.word_laws.specs.JudgedRows.{earlier, skewed}
+use Rattle.word_laws.specs.JudgedRows.{earlier}
+use Rattle.calc_words.specs.Reading.{IsFirst}
 use Rattle.calc_language.specs.AskedLengths.{asked_lengths}
-use Rattle.calc_language.specs.FoundOffences.{found_of, at_most_entry}
-use Rattle.calc_language.specs.SkewWords.{skew_offences}
-use Rattle.calc_language.proofs.PairJudging.{found_judged, small_rows, map_twice}
+use Rattle.calc_language.specs.FoundOffences.{judged}
+use Rattle.calc_language.proofs.PairJudging.{map_twice}
 use Rattle.sym_model.specs.Tableau.{IsTableau}
+use Rattle.calc_language.proofs.OnceJudged.{skewed_judged}
 use Rattle.calc_language.proofs.SkewTableaux.{skew_tableau}
-use Rattle.calc_language.proofs.SkewJudging.{rows_first_offence, no_entry_skew}
+use Rattle.calc_language.proofs.SkewJudging.{rows_first_offence}
 use Rattle.calc_language.proofs.skew_tableaux.judge_rows.Goals as goal
 
-pub returns-in-Some-clause-judged : goal.returns-in-Some-clause-judged
-returns-in-Some-clause-judged c =
-    let rows = c.args.rows.now in
-    let ws = map (λ r. map string_bytes r.now) rows in
+pub returns-in_err-read-clause-judged : goal.returns-in_err-read-clause-judged
+returns-in_err-read-clause-judged c =
+    let ws = map (λ r. map string_bytes r.now) c.args.rows.now in
     let at = c.args.at in
-    let l = length-map rows (λ r. map string_bytes r.now) in
+    let l = length-map c.args.rows.now (λ r. map string_bytes r.now) in
     let some : 0 < length ws = omega (arith, l, c.requires.some.0) in
     let lengths = c.as_slice.ensures.value ∙ c.in_ok-lengths.ensures
     ∙ ap (λ o. asked_lengths o c.parts-2.result.now) c.parts.ensures.value
-    ∙ ap (asked_lengths c.args.outer) c.parts-2.ensures.value in
+    ∙ ap (asked_lengths c.args.outer.now) c.parts-2.ensures.value in
     let all =
-    rows_first_offence at c.args.outer c.args.inner ws some c.requires.some.1
-    ∙ ap (λ xs. earlier (first_offence (skewed 0 [] xs (rows_at at ws)))
-    (first_offence (left_at at (asked_lengths c.args.outer c.args.inner) ws)))
+    rows_first_offence at c.args.outer.now c.args.inner.now ws some c.requires.some.1
+    ∙ ap (λ os. earlier (first_offence os)
+    (first_offence (left_at at (asked_lengths c.args.outer.now c.args.inner.now) ws)))
+    (sym (skewed_judged 0 [] c.args.inner.now (rows_at at ws)))
+    ∙ ap (λ xs. earlier (first_offence (judged false None None 0 [] xs [] (rows_at at ws)))
+    (first_offence (left_at at (asked_lengths c.args.outer.now c.args.inner.now) ws)))
     (sym c.parts-3.ensures.value)
-    ∙ ap (λ xs. earlier (first_offence (skewed 0 [] c.parts-3.result.now (rows_at at ws)))
-    (first_offence (left_at at xs ws))) (sym lengths)
-    ∙ ap (λ o. earlier o (first_offence (left_at at c.as_slice.result.now ws)))
-    (sym c.skewed_number.ensures)
-    ∙ ap (earlier (found_of c.skewed_number.result)) (sym c.left_shape.ensures)
-    ∙ sym c.earlier-found.ensures in
-    found_judged
-    (first_offence (skew_offences at c.args.outer c.args.inner ws)) c.in-Some.found c.offence.result
-    (all ∙ ap found_of c.in-Some.is) c.offence.ensures
+    ∙ ap (earlier (first_offence (judged false None None 0 [] c.parts-3.result.now []
+    (rows_at at ws)))) (ap (λ xs. first_offence (left_at at xs ws)) (sym lengths)
+    ∙ sym c.left_shape-left.ensures) in
+    let p = err_from_is_err_and c.from_residual-in_err-read.result
+    c.from_residual-in_err-read.ensures.1 in
+    rw (p.1, p.2) (subst (λ o. IsFirst o c.in_err-read.field-0.0) (sym all) c.in_err-read.ensures)
 
 pub returns-clause-judged : goal.returns-clause-judged
 returns-clause-judged c =
-    let rows = c.args.rows.now in
-    let ws = map (λ r. map string_bytes r.now) rows in
+    let ws = map (λ r. map string_bytes r.now) c.args.rows.now in
     let at = c.args.at in
-    let l = length-map rows (λ r. map string_bytes r.now) in
+    let l = length-map c.args.rows.now (λ r. map string_bytes r.now) in
     let some : 0 < length ws = omega (arith, l, c.requires.some.0) in
     let lengths = c.as_slice.ensures.value ∙ c.in_ok-lengths.ensures
     ∙ ap (λ o. asked_lengths o c.parts-2.result.now) c.parts.ensures.value
-    ∙ ap (asked_lengths c.args.outer) c.parts-2.ensures.value in
+    ∙ ap (asked_lengths c.args.outer.now) c.parts-2.ensures.value in
     let all =
-    rows_first_offence at c.args.outer c.args.inner ws some c.requires.some.1
-    ∙ ap (λ xs. earlier (first_offence (skewed 0 [] xs (rows_at at ws)))
-    (first_offence (left_at at (asked_lengths c.args.outer c.args.inner) ws)))
+    rows_first_offence at c.args.outer.now c.args.inner.now ws some c.requires.some.1
+    ∙ ap (λ os. earlier (first_offence os)
+    (first_offence (left_at at (asked_lengths c.args.outer.now c.args.inner.now) ws)))
+    (sym (skewed_judged 0 [] c.args.inner.now (rows_at at ws)))
+    ∙ ap (λ xs. earlier (first_offence (judged false None None 0 [] xs [] (rows_at at ws)))
+    (first_offence (left_at at (asked_lengths c.args.outer.now c.args.inner.now) ws)))
     (sym c.parts-3.ensures.value)
-    ∙ ap (λ xs. earlier (first_offence (skewed 0 [] c.parts-3.result.now (rows_at at ws)))
-    (first_offence (left_at at xs ws))) (sym lengths)
-    ∙ ap (λ o. earlier o (first_offence (left_at at c.as_slice.result.now ws)))
-    (sym c.skewed_number.ensures)
-    ∙ ap (earlier (found_of c.skewed_number.result)) (sym c.left_shape.ensures)
-    ∙ sym c.earlier-found.ensures in
-    let none = all ∙ ap found_of c.in_default.is in (
-      (
-        refl,
-        refl,
-        c.in_ok-filled.ensures
-            ∙ ap (λ o. rows_in o (map (λ r. map at_most_entry (numbers (map string_bytes r.now)))
-            rows)) c.parts-4.ensures.value
-            ∙ ap (rows_in c.args.outer) (small_rows (λ r. map string_bytes r.now) at rows
-            (no_entry_skew at c.args.outer c.args.inner ws none)),
-      ),
-      none,
+    ∙ ap (earlier (first_offence (judged false None None 0 [] c.parts-3.result.now []
+    (rows_at at ws)))) (ap (λ xs. first_offence (left_at at xs ws)) (sym lengths)
+    ∙ sym c.left_shape-left.ensures) in (
+      c.rows_of_shape.ensures ∙ ap (λ o. rows_in o (map (λ r. r.items) c.in_ok-read.read.items))
+          c.parts-4.ensures.value ∙ ap (rows_in c.args.outer.now) c.in_ok-read.ensures.0,
+      all ∙ c.in_ok-read.ensures.1,
     )
 
 pub returns-clause-tableau : goal.returns-clause-tableau
 returns-clause-tableau c =
-    let rows = c.args.rows.now in
-    let ws = map (λ r. map string_bytes r.now) rows in
+    let ws = map (λ r. map string_bytes r.now) c.args.rows.now in
     let at = c.args.at in
-    let l = length-map rows (λ r. map string_bytes r.now) in
+    let l = length-map c.args.rows.now (λ r. map string_bytes r.now) in
     let some : 0 < length ws = omega (arith, l, c.requires.some.0) in
     let lengths = c.as_slice.ensures.value ∙ c.in_ok-lengths.ensures
     ∙ ap (λ o. asked_lengths o c.parts-2.result.now) c.parts.ensures.value
-    ∙ ap (asked_lengths c.args.outer) c.parts-2.ensures.value in
+    ∙ ap (asked_lengths c.args.outer.now) c.parts-2.ensures.value in
     let all =
-    rows_first_offence at c.args.outer c.args.inner ws some c.requires.some.1
-    ∙ ap (λ xs. earlier (first_offence (skewed 0 [] xs (rows_at at ws)))
-    (first_offence (left_at at (asked_lengths c.args.outer c.args.inner) ws)))
+    rows_first_offence at c.args.outer.now c.args.inner.now ws some c.requires.some.1
+    ∙ ap (λ os. earlier (first_offence os)
+    (first_offence (left_at at (asked_lengths c.args.outer.now c.args.inner.now) ws)))
+    (sym (skewed_judged 0 [] c.args.inner.now (rows_at at ws)))
+    ∙ ap (λ xs. earlier (first_offence (judged false None None 0 [] xs [] (rows_at at ws)))
+    (first_offence (left_at at (asked_lengths c.args.outer.now c.args.inner.now) ws)))
     (sym c.parts-3.ensures.value)
-    ∙ ap (λ xs. earlier (first_offence (skewed 0 [] c.parts-3.result.now (rows_at at ws)))
-    (first_offence (left_at at xs ws))) (sym lengths)
-    ∙ ap (λ o. earlier o (first_offence (left_at at c.as_slice.result.now ws)))
-    (sym c.skewed_number.ensures)
-    ∙ ap (earlier (found_of c.skewed_number.result)) (sym c.left_shape.ensures)
-    ∙ sym c.earlier-found.ensures in
-    let none = all ∙ ap found_of c.in_default.is in
-    subst (IsTableau c.args.outer c.args.inner)
+    ∙ ap (earlier (first_offence (judged false None None 0 [] c.parts-3.result.now []
+    (rows_at at ws)))) (ap (λ xs. first_offence (left_at at xs ws)) (sym lengths)
+    ∙ sym c.left_shape-left.ensures) in
+    subst (IsTableau c.args.outer.now c.args.inner.now)
     (sym
-    (c.in_ok-filled.ensures
-    ∙ ap (λ o. rows_in o (map (λ r. map at_most_entry (numbers (map string_bytes r.now))) rows))
+    (c.rows_of_shape.ensures ∙ ap (λ o. rows_in o (map (λ r. r.items) c.in_ok-read.read.items))
     c.parts-4.ensures.value
-    ∙ ap (rows_in c.args.outer) (small_rows (λ r. map string_bytes r.now) at rows
-    (no_entry_skew at c.args.outer c.args.inner ws none)
-    ∙ sym (map_twice (λ r. map string_bytes r.now) numbers rows))))
-    (skew_tableau at c.args.outer c.args.inner ws c.parts.ensures.limits.partition
-    c.parts-2.ensures.limits.partition c.requires.holds some c.requires.some.1 none)
+    ∙ ap (rows_in c.args.outer.now) (c.in_ok-read.ensures.0 ∙ sym (map_twice
+    (λ r. map string_bytes r.now) numbers c.args.rows.now))))
+    (skew_tableau at c.args.outer.now c.args.inner.now ws c.parts.ensures.limits.partition
+    c.parts-2.ensures.limits.partition c.requires.holds some c.requires.some.1
+    (all ∙ c.in_ok-read.ensures.1))

@@ -16,7 +16,8 @@ returns-in-None c =
     let rows = c.args.rows.now in
     let limits = c.parts.ensures.limits in
     let read = map (λ r. r.items) c.as_slice.result.now in
-    let is = ap (map (λ r. r.items)) c.as_slice.ensures.value ∙ c.in_ok-filled.ensures
+    let is = ap (map (λ r. r.items)) c.as_slice.ensures.value ∙ c.rows_of_shape-filled.ensures
+    ∙ ap (rows_in c.parts.result.now) c.in_ok-read.ensures
     ∙ ap (λ o. rows_in o (map (λ r. map at_most_entry (numbers (map string_bytes r.now))) rows))
     c.parts.ensures.value in
     let unlisted = rw c.in-None.is at c.in_ok-lattice_reading.ensures in
@@ -34,7 +35,8 @@ returns-in-Some c =
     let rows = c.args.rows.now in
     let limits = c.parts.ensures.limits in
     let read = map (λ r. r.items) c.as_slice.result.now in
-    let is = ap (map (λ r. r.items)) c.as_slice.ensures.value ∙ c.in_ok-filled.ensures
+    let is = ap (map (λ r. r.items)) c.as_slice.ensures.value ∙ c.rows_of_shape-filled.ensures
+    ∙ ap (rows_in c.parts.result.now) c.in_ok-read.ensures
     ∙ ap (λ o. rows_in o (map (λ r. map at_most_entry (numbers (map string_bytes r.now))) rows))
     c.parts.ensures.value in
     let told = rw c.in-Some.is at c.in_ok-lattice_reading.ensures in

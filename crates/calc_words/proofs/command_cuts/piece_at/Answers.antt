@@ -1,24 +1,15 @@
-use Rattle.std.proofs.Common.{refl, arith}
+use Rattle.std.proofs.Common.{◌≡◌, ◌+◌, ◌-◌, map, take, drop, slice_index_or, ap₂, refl, ◌∙◌, arith}
 use Rattle.std.specs.Prelude.{string_bytes}
 use Rattle.calc_words.proofs.CutWords.{piece_is}
-use Rattle.calc_words.proofs.command_cuts.piece_at.Goals.{then-at-end-via-then-at-end}
-use Rattle.calc_words.proofs.command_cuts.piece_at.Goals.{then-at-end-via-else-at-end+then-end-words}
 use Rattle.calc_words.proofs.command_cuts.piece_at.Goals as goal
-
-pub returns-then-at-end-clause-is : goal.returns-then-at-end-clause-is
-returns-then-at-end-clause-is c =
-    λ k us p.
-    let q = piece_is string_bytes c.args.words.now c.args.places.now c.args.i k _ _ us p refl refl
-    in
-    elim c.then-at-end.branch [
-      | then-at-end-via-then-at-end w ↦ absurd (omega (arith, q.0, w.if-at-end.true))
-      | then-at-end-via-else-at-end+then-end-words w ↦ absurd (omega
-          (arith, q.1, w.if-end-words.true))
-    ]
 
 pub returns-clause-is : goal.returns-clause-is
 returns-clause-is c =
     λ k us p.
-    let q = piece_is string_bytes c.args.words.now c.args.places.now c.args.i k _ _ us p refl refl
-    in
-    (q.2, q.3)
+    let ws = c.args.words.now in
+    let q = piece_is string_bytes ws c.args.places.now c.args.i k _ _ us p refl refl in
+    let z = c.min-end.ensures in
+    let a = c.min-at.ensures in
+    let end : c.min-end.result ≡ slice_index_or c.args.places.now (c.args.i + 1) 0 = omega (arith, z, q.1) in
+    let at : c.min-at.result ≡ slice_index_or c.args.places.now c.args.i 0 = omega (arith, a, end, q.0) in
+    (at ∙ q.2, ap₂ (λ n m. map string_bytes (take (m - n) (drop n ws))) at end ∙ q.3)

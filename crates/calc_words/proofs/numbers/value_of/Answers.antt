@@ -8,7 +8,8 @@ use Rattle.calc_words.specs.NumberRuns.{narrow}
 use Rattle.printing_laws.proofs.Decimals.{decimal_value_more}
 use Rattle.calc_words.proofs.numbers.value_of.Goals as goal
 
--- the value is kept if and only if it is below 2^127
+-- let v be n if n < 2^127, and otherwise a number of 2^127 or more: then the result of the test v < 2^127 is `Some n` if
+-- n < 2^127, and otherwise `None`
 kept_by : (n v : ℕ) (b d : Bool) → nat_lt v (2 ^ 127) ≡ d → nat_le (2 ^ 127) n ≡ b →
     (b ≡ true → d ≡ false) → (b ≡ false → (d ≡ true) × (v ≡ n))
     → then_some (nat_lt v (2 ^ 127)) v ≡ cond (nat_le (2 ^ 127) n) None (Some n)

@@ -15,7 +15,7 @@ decreases-list_of l = 2 * length l.shape.now
 abbrev pub decreases-index_of : goal.decreases-index_of
 decreases-index_of l = 2 * length l.shape + 1
 
--- the summands of the hooks so far are added, each within its bound
+-- the summands of the hooks visited so far have been added, each within its bound
 abbrev pub invariant-list_of-loop-row : goal.invariant-list_of-loop-row
 invariant-list_of-loop-row l = record {
   stands :

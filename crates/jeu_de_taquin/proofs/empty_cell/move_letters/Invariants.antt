@@ -14,6 +14,6 @@ invariant-loop-letter l = record {
   rows : slid_from l.fn.filled l.fn.row l.fn.column ≡ slid_from l.filled l.row l.column;
 }
 
--- a cell is in one of 512 rows and one of 4096 columns
+-- each move increases row + column, which is at most 512 + 4096
 abbrev pub decreases-loop-letter : goal.decreases-loop-letter
 decreases-loop-letter l = 5000 - (l.row + l.column)

@@ -1,5 +1,5 @@
--- Every tableau that slides reach from the current tableau is reached from the first one; each slide makes the inner
--- partition smaller.
+-- Each tableau that slides reach from the current one is reached from the first one, the reading words of these two are
+-- Knuth equivalent, and each slide makes the inner partition smaller.
 use Rattle.sym_model.specs.Partition.{size}
 use Rattle.sym_model.specs.Insertion.{reading_word}
 use Rattle.sym_model.specs.Knuth.{AreKnuthEquivalent}

@@ -1,4 +1,4 @@
-use Rattle.std.proofs.Common.{◌≡◌, ◌⊎◌, inl, inr, true, sym, ap, ap₂, ◌∙◌, subst, List, ℕ}
+use Rattle.std.proofs.Common.{◌≡◌, true, sym, ap, ap₂, ◌∙◌, subst, List, ℕ}
 use Rattle.std.specs.Prelude.{Option, Some, None, slice_get}
 use Rattle.std.specs.HashMap.{Updates}
 use Rattle.std.specs.Option.{unwrap_or}
@@ -6,15 +6,10 @@ use Rattle.indexmap.specs.Layout.{set_value_at}
 use Rattle.linear_combinations.specs.Entries.{coefficient, IsTable}
 use Rattle.std.proofs.lemmas.Bool.{and_parts}
 use Rattle.linear_combinations.proofs.Tables.{is_term-found}
-use Rattle.linear_combinations.proofs.Inserted.{inserted_at, restored, Settled, settled}
+use Rattle.linear_combinations.proofs.Inserted.{inserted_at, restored, Settled, settled, some_of}
 use Rattle.linear_combinations.proofs.lin.add_to.Goals as goal
 
--- if P and U hold or Q and V hold, U implies F, and V implies G, then P and F hold or Q and G hold
-some_of : {P Q U V F G : Type 0} → (U → F) → (V → G) → (P × U) ⊎ (Q × V) → (P × F) ⊎ (Q × G)
-some_of f g (inl (p, u)) = inl (p, f u)
-some_of f g (inr (q, v)) = inr (q, g v)
-
--- the conditions after the call, if the label is new in the table
+-- if the label is new in the table, the entries after the call are a table that has `c` more at the label (`Settled`)
 new_label : (g : _) (c : goal.After-set_at g) → Settled g.met.L.Eq.laws g.met.L.Label.same_label
     g.L.Label.is_label g.R.Scalar.zero g.R.Scalar.value g.R.Scalar.is_held g.R.Scalar.sum
     g.met.R.Scalar.zero_value.0 g.met.R.Scalar.zero_value.1 g.met.R.Scalar.same_value
@@ -71,7 +66,7 @@ returns-in_default-add-clause-table g c =
     subst (IsTable g.L.PartialEq.eq g.L.Label.is_label g.R.Scalar.zero g.R.Scalar.value
     g.R.Scalar.is_held) (sym (returns-in_default-add-clause-err g c)) c.requires
 
--- the conditions after the call, if the label was in the table
+-- if the label was in the table, the entries after the call are a table that has `c` more at the label (`Settled`)
 label_there : (g : _) (c : goal.After-set_at-2 g) → Settled g.met.L.Eq.laws g.met.L.Label.same_label
     g.L.Label.is_label g.R.Scalar.zero g.R.Scalar.value g.R.Scalar.is_held g.R.Scalar.sum
     g.met.R.Scalar.zero_value.0 g.met.R.Scalar.zero_value.1 g.met.R.Scalar.same_value

@@ -23,6 +23,6 @@ with_shape-requires-clause-reached c =
 pub returns-clause-ways : goal.returns-clause-ways
 returns-clause-ways c =
     if_answered c.with_shape.result c.with_shape.ensures.ways
-    (λ table ways f v. agree_then _ _ _ (ways f v)
+    (λ table ways f v b. agree_then _ _ _ (ways f v b)
     (c.in_ok-starts.ensures (over_states c.args.letters
     (column_lines c.args.outer.now c.args.inner.now) (λ ν right. f ν))))

@@ -3,7 +3,7 @@ use Rattle.lr_product.specs.Capped.{Agree}
 use Rattle.lr_product.specs.WeighedSum.{started, weighed}
 use Rattle.lr_product.proofs.next_factor.starts_of.Given as goal
 
--- the table has the labels so far
+-- the table counts the labels visited so far, each by its coefficient
 abbrev pub invariant-loop-label : goal.invariant-loop-label
 invariant-loop-label l = record {
   width : l.table.width ≡ l.letters;

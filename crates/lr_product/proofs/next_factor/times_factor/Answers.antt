@@ -7,6 +7,7 @@ use Rattle.linear_combinations.proofs.Steps.{if_answered}
 use Rattle.lr_product.specs.ProductOfFactors.{AllMayMeet}
 use Rattle.lr_product.specs.WeighedSum.{over_states, comes_to, unreached}
 use Rattle.lr_product.proofs.Agreeing.{agree_then}
+use Rattle.lr_product.proofs.RowPruning.{none_below}
 use Rattle.lr_product.proofs.GoodCounts.{no_bound}
 use Rattle.lr_product.proofs.ManyStarts.{starts_within, is_product, product_small, product_past}
 use Rattle.lr_product.proofs.Rounds.{agree_zero}
@@ -14,7 +15,7 @@ use Rattle.lr_product.proofs.RowRounds.{started-fresh}
 use Rattle.lr_product.specs.RowExtension.{begun}
 use Rattle.lr_product.proofs.next_factor.times_factor.Goals as goal
 
--- the letters are enough for each label
+-- n letters are enough for each label of the product, and for it together with the factor `next`
 enough : (n k : ℕ) (m : ℕ) (next : List ℕ) (product : List (List ℕ × ℤ)) → n ≡ min k (m + rows next)
     → AllMayMeet k next product
     → ((t : List ℕ × ℤ) → Among t product → rows t.0 ≤ m) → (t : List ℕ × ℤ) → Among t product →
@@ -70,7 +71,7 @@ returns-clause-product c =
     (omega arith)
     (enough n k c.most_rows.result next product is c.requires.terms c.most_rows.ensures.most)
     (λ ν. agree_then _ _ _ (c.in_ok-table.ensures.ways (λ μ. comes_to ν μ [])
-    (no_bound (comes_to ν))) (c.in_ok-starts.ensures (over_states n (column_lines next [])
+    (no_bound (comes_to ν)) (none_below n 0 (comes_to ν))) (c.in_ok-starts.ensures (over_states n (column_lines next [])
     (comes_to ν))))
     c.terms_of_table.result c.terms_of_table.ensures.fits c.terms_of_table.ensures.counts
 
@@ -93,7 +94,7 @@ returns-clause-small c =
     (omega arith)
     (enough n k c.most_rows.result next product is c.requires.terms c.most_rows.ensures.most)
     (λ ν. agree_then _ _ _ (c.in_ok-table.ensures.ways (λ μ. comes_to ν μ [])
-    (no_bound (comes_to ν))) (c.in_ok-starts.ensures (over_states n (column_lines next [])
+    (no_bound (comes_to ν)) (none_below n 0 (comes_to ν))) (c.in_ok-starts.ensures (over_states n (column_lines next [])
     (comes_to ν))))
     c.terms_of_table.result c.terms_of_table.ensures.fits
 
@@ -112,6 +113,6 @@ returns-clause-large c = λ e.
     (omega arith)
     (enough n k c.most_rows.result next product is c.requires.terms c.most_rows.ensures.most)
     (λ ν. agree_then _ _ _ (c.in_ok-table.ensures.ways (λ μ. comes_to ν μ [])
-    (no_bound (comes_to ν))) (c.in_ok-starts.ensures (over_states n (column_lines next [])
+    (no_bound (comes_to ν)) (none_below n 0 (comes_to ν))) (c.in_ok-starts.ensures (over_states n (column_lines next [])
     (comes_to ν))))
     (c.terms_of_table.ensures.large e)

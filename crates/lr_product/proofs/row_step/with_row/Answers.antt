@@ -1,4 +1,4 @@
-use Rattle.std.proofs.Common.{◌+◌, ◌-◌, ◌<◌, length, take, drop, ap, ◌∙◌, arith}
+use Rattle.std.proofs.Common.{◌+◌, ◌-◌, ◌<◌, take, drop, ap, ◌∙◌, arith}
 use Rattle.lr_product.specs.StateCounts.{StateCounts}
 use Rattle.lr_product.specs.WeighedSum.{at_state, weighed, unreached}
 use Rattle.lr_product.specs.RowExtension.{next_row}
@@ -52,15 +52,15 @@ loop-at-preserved c =
     record {
       end = c.loop-at.invariant.end;
       width = c.in_ok-add_rows.ensures.width ∙ c.loop-at.invariant.width;
-      counts = λ f v.
+      counts = λ f v b.
           let g = next_row n c.args.is_kept c.args.outside c.args.end f in
           agree_entry (weighed n f c.loop-at.next.entries)
           (weighed n f c.add_rows.new.next.entries) (weighed n g (drop c.loop-at.at es))
           (weighed n g es) (weighed n g (drop (c.loop-at.at + 1) es)) c.entry-ways.result.1
           c.capped.result (at_state n g key)
-          (c.loop-at.invariant.counts f v) (weighed-drop n g es c.loop-at.at
+          (c.loop-at.invariant.counts f v b) (weighed-drop n g es c.loop-at.at
           (key, c.entry-ways.result.1) c.entry-ways.ensures) c.capped.ensures.capped
-          (c.in_ok-add_rows.ensures.adds f v);
+          (c.in_ok-add_rows.ensures.adds f v b);
       reached = λ m z.
           c.in_ok-add_rows.ensures.reached (m + (c.args.end - c.args.outside))
           (λ h.
@@ -75,7 +75,7 @@ loop-at-preserved c =
     }
 
 pub returns-clause-counts : goal.returns-clause-counts
-returns-clause-counts c f v =
+returns-clause-counts c f v b =
     let n = c.args.letters in
     let g = next_row n c.args.is_kept c.args.outside c.args.end f in
     agree_then _ _ _ (agree_same _ _ (ap (λ (t : StateCounts). weighed n f t.entries)
@@ -84,7 +84,7 @@ returns-clause-counts c f v =
     (weighed n g (drop c.loop-at.at c.args.table.now.entries))
     (weighed n g c.args.table.now.entries)
     (weighed-past n g c.args.table.now.entries c.loop-at.at
-    (omega (arith, c.loop-at.invariant.end))) (c.loop-at.invariant.counts f v))
+    (omega (arith, c.loop-at.invariant.end))) (c.loop-at.invariant.counts f v b))
 
 pub returns-clause-reached : goal.returns-clause-reached
 returns-clause-reached c m z =

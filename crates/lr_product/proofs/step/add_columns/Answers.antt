@@ -19,7 +19,7 @@ returns-clause-adds c =
     let long : length (take n s) ≡ n =
     ap length (sym (c.split_at.ensures.front ∙ ap (λ k. take k s) c.from.ensures))
     ∙ c.split_at.ensures.front_len ∙ c.from.ensures in
-    on_ok c.extend.result c.extend.ensures.adds (λ adds f v. agree_then _ _ _ (adds f v)
+    on_ok c.extend_first.result c.extend_first.ensures.adds (λ adds f v. agree_then _ _ _ (adds f v)
     (agree_same _ _ (ap (λ x. weighed n f c.args.next.now.entries + c.args.column.ways * x)
     (ap₂ (λ (r t : List ℕ). extended kept n c.args.line.now r 0 f t) back front ∙ extended-seen kept
     n c.args.line.now (drop n s) f (take n s) long))))

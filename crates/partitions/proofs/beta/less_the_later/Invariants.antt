@@ -1,4 +1,5 @@
--- The list has the first of the numbers, each less the number of entries after it, and `later` is the number of entries left.
+-- The list has the first of the numbers, each minus the number of entries after it, and `later` is the number of
+-- entries left.
 use Rattle.std.proofs.Common.{◌≡◌, ◌-◌, ◌++◌, length, drop}
 use Rattle.sym_model.specs.BetaList.{less_the_rest}
 use Rattle.partitions.proofs.beta.less_the_later.Given as goal

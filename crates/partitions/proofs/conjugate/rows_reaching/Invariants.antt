@@ -1,4 +1,4 @@
--- No part after the first `rows` is at least the bound.
+-- At most `rows` parts are at least `least`.
 use Rattle.std.proofs.Common.{◌≤◌, length}
 use Rattle.sym_model.specs.Conjugate.{count_from}
 use Rattle.partitions.proofs.conjugate.rows_reaching.Given as goal

@@ -8,7 +8,7 @@ use Rattle.partitions.proofs.Steps.{all_written}
 use Rattle.partitions.proofs.LoweredParts.{lowered_kept, lowered_dropped, length-lowered}
 use Rattle.partitions.proofs.corners.lower_last.Goals as goal
 
--- if the parts are replaced by those with one lowered by 1, the list is `parts` with this part lowered
+-- refilling the list `parts` with its numbers, of which the one at `place` is lowered by 1, gives `parts` with this number lowered
 written :
     (parts given new : List ℕ) (place : ℕ) → given ≡ parts → new ≡ lowered_at (place + 1) given
     → refill (length parts) parts new ≡ lowered_at (suc place) parts

@@ -1,4 +1,4 @@
--- The parts written so far, followed by the first partition of what is left, are the first partition of the whole.
+-- The parts written so far, followed by the first partition of the number that is left, are the first partition of the whole number.
 use Rattle.std.proofs.Common.{◌≡◌, ◌+◌, ◌-◌, ◌<◌, ◌≤◌, ◌++◌, length, take}
 use Rattle.partitions.specs.Listing.{greatest_within}
 use Rattle.partitions.proofs.listing.fill.Given as goal

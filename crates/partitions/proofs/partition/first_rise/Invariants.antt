@@ -1,4 +1,4 @@
--- No number before this place is greater than the one before it.
+-- No number before the current place is greater than the one before it.
 use Rattle.std.proofs.Common.{ℕ, suc, ◌<◌, ◌≤◌, get_or}
 use Rattle.partitions.proofs.partition.first_rise.Given as goal
 

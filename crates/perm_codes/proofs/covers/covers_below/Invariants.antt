@@ -1,4 +1,4 @@
--- The list has the covers with the other place up to this one.
+-- The list has the covers that exchange the letter at `place` with one of the earlier letters tried so far.
 use Rattle.std.proofs.Common.{◌≡◌, ◌+◌, map}
 use Rattle.sym_model.specs.Partition.{after}
 use Rattle.sym_model.specs.Permutation.{covers_among, times_swap}

@@ -1,4 +1,4 @@
--- The first `len` letters without fixed ones at the end are those of all letters.
+-- The first `len` letters and all letters are the same list once the fixed letters at the end are removed.
 use Rattle.std.proofs.Common.{◌≡◌, ◌≤◌, length, take}
 use Rattle.sym_model.specs.Permutation.{kept}
 use Rattle.perm_codes.proofs.letters.count_kept.Given as goal

@@ -1,4 +1,4 @@
--- No letter from this place on is greater than the next.
+-- No letter from the current place on is greater than the next.
 use Rattle.std.proofs.Common.{◌<◌, length}
 use Rattle.perm_codes.proofs.Descents.{RisesAfter}
 use Rattle.perm_codes.proofs.letters.find_last_descent.Given as goal

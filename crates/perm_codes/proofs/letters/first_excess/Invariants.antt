@@ -1,4 +1,4 @@
--- No entry before this place is greater than the number of entries after it.
+-- No entry before the current place is greater than the number of entries after it.
 use Rattle.std.proofs.Common.{ℕ, ◌+◌, ◌<◌, ◌≤◌, length, slice_index}
 use Rattle.perm_codes.proofs.letters.first_excess.Given as goal
 

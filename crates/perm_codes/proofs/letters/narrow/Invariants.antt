@@ -1,4 +1,4 @@
--- The list has the letters so far, and there is room for the others.
+-- The list has the letters so far, and there is room for the letters still to come.
 use Rattle.std.proofs.Common.{◌≡◌, ◌-◌, length, take}
 use Rattle.smallvec.specs.SmallVec.{HasRoomFor}
 use Rattle.perm_codes.proofs.letters.narrow.Given as goal

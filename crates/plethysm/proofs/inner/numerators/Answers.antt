@@ -3,7 +3,7 @@ use Rattle.std.specs.Map.Iter.{deref_pair}
 use Rattle.std.proofs.lemmas.List.{map-append}
 use Rattle.coeff_rings.specs.Fractions.{whole}
 use Rattle.sym_model.specs.LabelLimits.{is_label}
-use Rattle.sym_model.specs.Expansion.{Terms}
+use Rattle.sym_model.specs.Expansion.{Fraction, Terms}
 use Rattle.sym_model.specs.Polynomial.{Same}
 use Rattle.sym_model.specs.WholeTerms.{numerators}
 use Rattle.linear_combinations.specs.Entries.{coefficient}
@@ -11,8 +11,8 @@ use Rattle.linear_combinations.proofs.Gains.{all_pairs, so_far_next}
 use Rattle.linear_combinations.proofs.Steps.{all_done, error_is, IsCombination-empty}
 use Rattle.sparse_polys.specs.Tables.{equal, IsWholeTable}
 use Rattle.sparse_polys.proofs.WholeLists.{Finds, Finds-next, more_as, not_refused}
-use Rattle.sparse_polys.proofs.WholeLists.{Same-from_look_ups}
-use Rattle.plethysm.proofs.NumeratorLists.{numerators-push, none_before}
+use Rattle.sparse_polys.proofs.WholeLists.{Once-keys, Same-from_look_ups}
+use Rattle.plethysm.proofs.NumeratorLists.{mapped-push, none_before}
 use Rattle.plethysm.proofs.inner.numerators.Goals as goal
 
 pub loop-label-init : goal.loop-label-init
@@ -39,7 +39,7 @@ loop-label-preserved c =
     record {
       finds =
           subst (λ (es : Terms (List ℕ)). Finds new (numerators es)) pushed
-          (subst (Finds new) (sym (numerators-push done (k, v)))
+          (subst (Finds new) (sym (mapped-push (λ (c : Fraction). c.0) done (k, v)))
           (Finds-next old new (numerators done) k v.0 c.loop-label.invariant.finds more));
       table = c.in_ok-add_term.ensures.tables.after.combination;
       so_far = so_far_next done c.next.new.self c.loop-label.label-iterator _ _ (k, v) pushed
@@ -59,7 +59,8 @@ returns-in_err-add_term-clause-small c = λ large.
     not_refused _ c.numerator_of.result
     (ap (coefficient equal (pos 0) c.loop-label.whole) c.in_ok-copy.ensures.ok
     ∙ c.loop-label.invariant.finds k
-    ∙ none_before c.args.list.now done rest (k, v) c.iter-label-items.ensures.combination all)
+    ∙ none_before (λ (c : Fraction). c.0) c.args.list.now done rest (k, v)
+    (Once-keys c.args.list.now c.iter-label-items.ensures.combination) all)
     (c.in_err-add_term.ensures.large.0
     (ap Err (error_is _ _ _ c.from_residual-in_err-add_term.ensures.1 large)))
 

@@ -2,14 +2,15 @@ use Rattle.std.proofs.Common.{◌≡◌, ℕ, true, false, ◌+◌, ◌-◌, ◌
 use Rattle.std.proofs.Common.{get_or, ap, sym, subst, ◌∙◌, arith, refl, Some, None}
 use Rattle.std.specs.List.{slice_get}
 use Rattle.std.proofs.Math.ListN.{set}
-use Rattle.std.proofs.lemmas.List.{drop-drop, length-drop, length-append, get_or-drop}
+use Rattle.std.proofs.lemmas.List.{drop-drop, length-drop, length-append, get_or-drop, nil_from_length}
 use Rattle.sym_model.specs.Partition.{columns}
 use Rattle.skew_shapes.specs.Rows.{HasPlaces, HoldsLetters, cells_above, cells_right_of, reaches}
 use Rattle.skew_shapes.proofs.CellReadings.{above-reached, above-passed, letters-put, letters-spent}
 use Rattle.skew_shapes.proofs.CellReadings.{letters-passed, right-more}
 use Rattle.skew_shapes.proofs.places.put_column.Goals as goal
+use Rattle.std.proofs.lemmas.Option.{get_or_from_slice_get}
 
--- if row k + 1 has a cell in column j, one cell more has its letter after this row
+-- if row k + 1 has a cell in column j, the cells right of column j and those of column j in the first k + 1 rows are one more than those with k rows
 more_done :
     (outer inner : List ℕ) (j k : ℕ) → reaches outer inner j (k + 1) ≡ true
     → length (cells_right_of outer inner j ++ cells_above outer inner j (k + 1))
@@ -26,14 +27,10 @@ more_done outer inner j k r =
       length-append right above,
     )
 
-first_is : (xs : List ℕ) (x : ℕ) → slice_get xs 0 ≡ Some x → x ≡ get_or xs 0 0
-first_is [] x e = absurd (cc)
-first_is (a ∷ xs) x e = cc
-
 first_letter : (w : List ℕ) (n x : ℕ) → slice_get (drop n w) 0 ≡ Some x → x ≡ get_or w n 0
 first_letter w n x e =
     let same : n + 0 ≡ n = omega arith in
-    first_is (drop n w) x e ∙ get_or-drop n w 0 0 ∙ ap (λ i. get_or w i 0) same
+    sym (get_or_from_slice_get (drop n w) 0 x 0 e) ∙ get_or-drop n w 0 0 ∙ ap (λ i. get_or w i 0) same
 
 none_is : (xs : List ℕ) → slice_get xs 0 ≡ None → length xs ≡ 0
 none_is [] e = refl
@@ -42,14 +39,10 @@ none_is (a ∷ xs) e = absurd (cc)
 no_letter : (w : List ℕ) (n : ℕ) → slice_get (drop n w) 0 ≡ None → length w ≤ n
 no_letter w n e = omega (arith, none_is (drop n w) e, length-drop n w)
 
-empty : (xs : List ℕ) → length xs ≡ 0 → xs ≡ []
-empty [] e = refl
-empty (a ∷ xs) e = absurd (omega arith)
-
 drop_past : (w : List ℕ) (n m : ℕ) → length w ≤ n → n ≤ m → drop n w ≡ drop m w
 drop_past w n m h l =
-    empty (drop n w) (omega (arith, length-drop n w))
-    ∙ sym (empty (drop m w) (omega (arith, length-drop m w)))
+    nil_from_length (drop n w) (omega (arith, length-drop n w))
+    ∙ sym (nil_from_length (drop m w) (omega (arith, length-drop m w)))
 
 pub loop-row-preserved-then-not-has_cell : goal.loop-row-preserved-then-not-has_cell
 loop-row-preserved-then-not-has_cell c =

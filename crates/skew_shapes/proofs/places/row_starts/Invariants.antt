@@ -1,4 +1,4 @@
--- Each row visited so far begins after the ones before it.
+-- Each row visited so far begins at the sum of the lengths of the rows before it, and `start` is the sum of all these lengths.
 use Rattle.std.proofs.Common.{◌≡◌, ℕ, ◌<◌, length, take, get_or}
 use Rattle.sym_model.specs.Partition.{size}
 use Rattle.skew_shapes.proofs.places.row_starts.Given as goal

@@ -9,17 +9,13 @@ use Rattle.partitions.specs.Limits.{IsWithinLimits}
 use Rattle.skew_shapes.specs.HorizontalStrips.{counting_down}
 use Rattle.skew_shapes.proofs.StripLists.{each-next}
 use Rattle.skew_shapes.specs.VerticalStrips.{vertical_on}
-use Rattle.skew_shapes.proofs.ShapeLists.{widened_all, listed_further}
+use Rattle.skew_shapes.proofs.ShapeLists.{widened_all, listed_further, falls_more}
 use Rattle.skew_shapes.proofs.vertical_strips.+add_strips.Goals as goal
 
 falls_rows : (a b c : ℕ) (below inner : List ℕ) → b ∷ below ≡ inner → Falls (a ∷ inner) → b ≤ c →
     (b ≤ a) × Falls (c ∷ below)
 falls_rows a b c below inner e f l = let g : Falls (a ∷ b ∷ below) = subst (λ l. Falls (a ∷ l))
-    (sym e) f in (g.0, more b c below l g.1)
-  where
-    more : (b c : ℕ) (below : List ℕ) → b ≤ c → Falls (b ∷ below) → Falls (c ∷ below)
-    more b c [] l f = tt
-    more b c (d ∷ below) l f = (let x = f.0 in omega arith, f.1)
+    (sym e) f in (g.0, falls_more b c below l g.1)
 
 pub loop-shorter-init : goal.loop-shorter-init
 loop-shorter-init t c = record { same = refl; listed = sym (append-nil c.args.shapes.now.items) }

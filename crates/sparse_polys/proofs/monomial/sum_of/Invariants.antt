@@ -1,4 +1,4 @@
--- The sum so far is the size of the numbers so far, each of which is below 2^16.
+-- `sum` is the sum of the numbers visited so far, and at most 65535 times their count.
 use Rattle.std.proofs.Common.{◌≡◌, ◌≤◌, ◌*◌, take}
 use Rattle.sym_model.specs.Partition.{size}
 use Rattle.sparse_polys.proofs.monomial.sum_of.Given as goal

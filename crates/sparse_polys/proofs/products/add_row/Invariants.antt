@@ -11,7 +11,7 @@ use Rattle.linear_combinations.specs.Cleared.{IsDenominator, IsCommonDenominator
 use Rattle.linear_combinations.specs.Cleared.{GainsCleared}
 use Rattle.sparse_polys.proofs.products.add_row.Given as goal
 
--- the products with the terms visited so far are added
+-- `sum` has gained the products of the term of `a` and `left` with the terms of `right` visited so far
 abbrev pub invariant-loop-monomial : goal.invariant-loop-monomial
 invariant-loop-monomial g l = record {
   gains :

@@ -1,4 +1,4 @@
--- All rows before this one are at least v.
+-- At least as many rows as have been visited are of length v or more.
 use Rattle.std.proofs.Common.{◌-◌, ◌≤◌, length}
 use Rattle.sym_model.specs.Conjugate.{count_from}
 use Rattle.strip_rules.proofs.complete.rows_from.Given as goal

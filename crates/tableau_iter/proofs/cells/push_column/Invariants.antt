@@ -1,4 +1,4 @@
--- The numbers of the cells in the rows visited so far were appended.
+-- The row numbers, or the column numbers, of the cells of the column in the rows visited so far were appended.
 use Rattle.std.proofs.Common.{◌≡◌, ℕ, ◌++◌, cond, map}
 use Rattle.skew_shapes.specs.Rows.{cells_above}
 use Rattle.tableau_iter.proofs.cells.push_column.Given as goal

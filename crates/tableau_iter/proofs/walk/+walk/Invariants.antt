@@ -1,4 +1,4 @@
--- The letters before the place are unchanged, and no word has one of the letters tried so far at the place.
+-- The letters before the place are unchanged, and no word that passes continues them with one of the letters tried so far.
 use Rattle.std.proofs.Common.{◌≡◌, ◌+◌, ◌-◌, ◌*◌, length, take}
 use Rattle.tableau_iter.specs.Positions.{IsReady, IsSameUpTo, passes}
 use Rattle.tableau_iter.specs.Walks.{continued}

@@ -1,4 +1,4 @@
--- The letters before this place were written, and fit.
+-- The letters before the current place were written, and fit.
 use Rattle.std.proofs.Common.{◌≡◌, take}
 use Rattle.tableau_iter.specs.Positions.{IsReady, IsSameUpTo}
 use Rattle.tableau_iter.proofs.walk.put_all.Given as goal

@@ -1,4 +1,4 @@
--- Each letter before this place can follow those before it, and was counted.
+-- Each letter before the current place can follow those before it, and was counted.
 use Rattle.std.proofs.Common.{◌≡◌, true, [], take}
 use Rattle.sym_model.specs.Schur.{content}
 use Rattle.tableau_iter.specs.Fits.{all_fit}

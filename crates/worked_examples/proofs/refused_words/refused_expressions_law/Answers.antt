@@ -1,4 +1,4 @@
--- Each example of the law is computed.
+-- Proofs of the examples of `refused_expressions_law`, each of which is computed.
 use Rattle.std.proofs.Common.{true, false, [], ◌∷◌, ◌++◌, refl, flat_map}
 use Rattle.std.specs.Prelude.{codes, replicate}
 use Rattle.sym_model.specs.Expansion.{monomials, power_sums, schurs}

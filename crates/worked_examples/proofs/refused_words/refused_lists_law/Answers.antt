@@ -1,4 +1,4 @@
--- Each example of the law is computed.
+-- Proofs of the examples of `refused_lists_law`, each of which is computed.
 use Rattle.std.proofs.Common.{true, false, [], ◌∷◌, ◌++◌, refl, Some, None}
 use Rattle.std.specs.Prelude.{codes, replicate}
 use Rattle.sym_model.specs.ExpressionOffence.{literal, range, shape}

@@ -1,4 +1,4 @@
--- Each example of the law is computed.
+-- Proofs of the examples of `refused_plethysms_law`, each of which is computed.
 use Rattle.std.proofs.Common.{[], ◌∷◌, refl}
 use Rattle.std.specs.Prelude.{codes}
 use Rattle.sym_model.specs.Expansion.{elementaries, completes, power_sums, schurs}

@@ -1,4 +1,4 @@
--- Each example of the law is computed.
+-- Proofs of the examples of `refused_tableaux_law`, each of which is computed.
 use Rattle.std.proofs.Common.{[], ◌∷◌, ◌++◌, refl, Some, None}
 use Rattle.std.specs.Prelude.{codes}
 use Rattle.sym_model.specs.ExpressionOffence.{literal, range, shape}

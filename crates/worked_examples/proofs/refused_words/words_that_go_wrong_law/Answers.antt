@@ -1,4 +1,4 @@
--- Each example of the law is computed.
+-- Proofs of the examples of `words_that_go_wrong_law`, each of which is computed.
 use Rattle.std.proofs.Common.{[], ◌∷◌, ◌++◌, refl, arith}
 use Rattle.std.specs.Prelude.{codes}
 use Rattle.sym_model.specs.Grammar.{line_entries, all_bases}

@@ -21,7 +21,8 @@ first_part : (parts : List ℕ) (a : ℕ) → Some a ≡ slice_get parts 0 →
 first_part [] a e = cc
 first_part (b ∷ parts) a e = (parts, ap (λ x. x ∷ parts) (let h : b ≡ a = cc in h))
 
--- if a label is ready and its augmented monomial has the first part a, then a is positive and the index of one of the lists
+-- if a label is ready and the first part of its augmented monomial is a, then a is positive, and a and the cells of the
+-- other partition add up to at most d
 has-list : (d : ℕ) (label : MixedLabel) (a : ℕ) (rest : List ℕ) → IsReady d 1 label →
     label.1 ≡ a ∷ rest → (0 < a) × (size label.0 + a < d + 1)
 has-list d label a rest r e =

@@ -7,7 +7,7 @@ use Rattle.basis_expand.specs.Strips.{strips}
 use Rattle.basis_expand.proofs.StripTables.{scaled-strips}
 use Rattle.basis_expand.proofs.strips_taken.HorizontalStripRulePartitionPartition.add_image.Goals as goal
 
--- the added terms are the shapes that remain after a strip is removed
+-- the shapes left when a strip of k cells is removed, each with the coefficient c, are c times the list `strips k shape`
 left_of : (c : ℤ) (k : ℕ) (shape rows : List ℕ) (left : List (List ℕ)) → rows ≡ shape →
     left ≡ strips_off k rows
     → each_with c left ≡ scaled c (strips k shape)

@@ -24,7 +24,7 @@ returns-in_err-c-clause-large c err =
     c.len.ensures.combination
     (λ e. c.if-len-eq0.false (c.len.ensures.len ∙ e)) c.in_err-c.ensures
 
--- if z = x·c, the row of k with z is x times the row with c
+-- if z = x·c, then z times the products of k and the terms of V (`row k z V`) is x times those with c
 image : (k : List ℕ) (x c z : ℤ) (V : WholeTerms) → z ≡ x *ℤ c → row k z V ≡ scaled x (row k c V)
 image k x c z V e = ap (λ y. row k y V) e ∙ row-gained k x c V
 

@@ -3,7 +3,8 @@ use Rattle.std.specs.Map.Iter.{deref_pair}
 use Rattle.linear_combinations.specs.Entries.{coefficient, IsCombination, IsSumOf, IsRefused}
 use Rattle.linear_combinations.proofs.lin.Lin.add_all.Given as goal
 
--- the list is the sum of the first and of the pairs so far, and no such sum is refused
+-- the list is the sum of the map at the start and the pairs so far, and the ring refuses no sum of coefficients of
+-- these two at one label
 abbrev pub invariant-loop-label : goal.invariant-loop-label
 invariant-loop-label g l = record {
   was : IsCombination g.L.PartialEq.eq g.L.Label.is_label g.R.Scalar.value l.fn.self;

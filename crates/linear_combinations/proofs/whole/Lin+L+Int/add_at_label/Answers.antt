@@ -1,16 +1,16 @@
-use Rattle.std.proofs.Common.{◌∷◌, [], subst}
-use Rattle.std.proofs.lemmas.Result.{on_ok_weaker}
-use Rattle.linear_combinations.specs.Gains.{Gains, Overflows}
+use Rattle.linear_combinations.proofs.Steps.{on_ok}
+use Rattle.linear_combinations.proofs.Gains.{gains_term, overflows_term}
 use Rattle.linear_combinations.proofs.whole.Lin+L+Int.add_at_label.Goals as goal
 
 pub returns-clause-gains : goal.returns-clause-gains
 returns-clause-gains g c =
-    on_ok_weaker c.add_owned.result
-    (subst (λ (l : g.row.L.Denot). Gains c.args.self.now ((l, c.args.c) ∷ []) c.add_owned.new.self)
-    c.in_ok-copy.ensures.ok)
-    c.add_owned.ensures.gains
+    on_ok c.add_copied.result c.add_copied.ensures.ok
+    (λ more. gains_term g.met.L.Eq.laws g.met.L.Label.same_label c.args.self.now c.add_copied.new.self
+    c.add_copied.ensures.tables.before.combination c.add_copied.ensures.tables.after.combination
+    c.args.label.now c.args.c more)
 
 pub returns-clause-large : goal.returns-clause-large
 returns-clause-large g c err =
-    subst (λ (l : g.row.L.Denot). Overflows g.L.PartialEq.eq c.args.self.now ((l, c.args.c) ∷ []))
-    c.in_ok-copy.ensures.ok (c.add_owned.ensures.large err)
+    overflows_term g.met.L.Eq.laws g.met.L.Label.same_label c.args.self.now
+    c.add_copied.ensures.tables.before.combination.distinct c.args.label.now c.args.c
+    (c.add_copied.ensures.large.0 err).refused

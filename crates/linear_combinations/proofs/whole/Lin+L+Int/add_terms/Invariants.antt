@@ -3,7 +3,7 @@ use Rattle.std.specs.Map.Iter.{deref_pair}
 use Rattle.linear_combinations.specs.Gains.{Gains}
 use Rattle.linear_combinations.proofs.whole.Lin+L+Int.add_terms.Given as goal
 
--- the terms so far are added
+-- the table has gained the terms so far
 abbrev pub invariant-loop-label : goal.invariant-loop-label
 invariant-loop-label g l = record {
   gains : Gains l.fn.self ((map deref_pair l.yielded)) l.self;

@@ -1,4 +1,4 @@
--- Each row of the inner partition before this one is at most that of the outer one.
+-- Each row of the inner partition before the current one is at most the same row of the outer partition.
 use Rattle.std.proofs.Common.{ℕ, ◌<◌, ◌≤◌, slice_index}
 use Rattle.partitions.proofs.partition.Partition.contains.Given as goal
 

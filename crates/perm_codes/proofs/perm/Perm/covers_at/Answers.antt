@@ -10,7 +10,7 @@ use Rattle.perm_codes.proofs.InversionCounts.{few_inversions}
 use Rattle.perm_codes.proofs.WithinLimits.{length-with_fixed, short_fixed}
 use Rattle.perm_codes.proofs.perm.Perm.covers_at.Goals as goal
 
--- the slice that the code passes is w with fixed letters added up to the first new place
+-- `slice` is w with fixed letters added up to the first place after w and r
 letters_are :
     (slice list letters w : List ℕ) (last greater len r : ℕ) → slice ≡ list → list ≡ with_fixed last
     letters → letters ≡ w

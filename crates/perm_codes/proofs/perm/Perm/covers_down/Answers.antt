@@ -9,7 +9,7 @@ use Rattle.perm_codes.proofs.InversionCounts.{few_inversions}
 use Rattle.perm_codes.proofs.WithinLimits.{length-with_fixed, short_fixed}
 use Rattle.perm_codes.proofs.perm.Perm.covers_down.Goals as goal
 
--- the slice that the code passes is w with fixed letters added up to the place r
+-- `slice` is w with fixed letters added up to the place r
 letters_are : (slice list letters w : List ℕ) (last r : ℕ) → slice ≡ list → list ≡ with_fixed last
     letters → letters ≡ w
     → last ≡ r → slice ≡ with_fixed r w

@@ -11,7 +11,7 @@ use Rattle.linear_combinations.proofs.Steps.{on_ok}
 use Rattle.schubert_transition.specs.Acted.{raised_terms}
 use Rattle.schubert_transition.proofs.polynomial.TimesVarRuleMonomialMonomial.add_image.Goals as goal
 
--- the list with the one term k·x_r·x^e, in the form in which it is added
+-- the list with the one term k·x_r·x^e is k times the list with the one term x_r·x^e
 one_term : (r : ℕ) (e x : List ℕ) (k : ℤ) → x ≡ raised r e → (x, k) ∷ [] ≡ scaled k
     (raised_terms r e)
 one_term r e x k is = ap (λ y. (y, k) ∷ []) is ∙ ap (λ z. (raised r e, z) ∷ [])

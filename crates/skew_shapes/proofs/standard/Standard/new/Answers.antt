@@ -1,11 +1,8 @@
-use Rattle.std.proofs.Common.{◌≡◌, ℕ, List, [], ◌∷◌, length, refl, ap, sym, ◌∙◌, arith}
+use Rattle.std.proofs.Common.{ℕ, List, length, refl, ap, sym, ◌∙◌}
 use Rattle.std.proofs.lemmas.Bool.{true≢false}
 use Rattle.skew_shapes.proofs.StandardNumbers.{IsStandard-from, IsStandard-tells}
 use Rattle.skew_shapes.proofs.standard.Standard.new.Goals as goal
-
-no_rows : (xs : List ℕ) → length xs ≡ 0 → xs ≡ []
-no_rows [] e = refl
-no_rows (a ∷ xs) e = absurd (omega arith)
+use Rattle.std.proofs.lemmas.List.{nil_from_length}
 
 pub returns-then-rows-ne0-clause-standard : goal.returns-then-rows-ne0-clause-standard
 returns-then-rows-ne0-clause-standard c = (
@@ -18,7 +15,7 @@ returns-then-rows-ne0-clause-standard c = (
 pub has_each_once-requires : goal.has_each_once-requires
 has_each_once-requires c =
     let inner = c.inner.ensures.value ∙ ap (λ (v : List ℕ × List ℕ). v.1) c.shape.ensures.value in
-    no_rows c.args.t.inner (sym (c.rows.ensures.value ∙ ap length inner) ∙ c.if-rows-ne0.false)
+    nil_from_length c.args.t.inner (sym (c.rows.ensures.value ∙ ap length inner) ∙ c.if-rows-ne0.false)
 
 pub returns-then-not-has_each_once-clause-standard
     : goal.returns-then-not-has_each_once-clause-standard
@@ -32,7 +29,7 @@ returns-then-not-has_each_once-clause-standard c = (
 pub invariant_of-result : goal.invariant_of-result
 invariant_of-result c =
     let inner = c.inner.ensures.value ∙ ap (λ (v : List ℕ × List ℕ). v.1) c.shape.ensures.value in
-    let none = no_rows c.args.t.inner (sym (c.rows.ensures.value ∙ ap length inner)
+    let none = nil_from_length c.args.t.inner (sym (c.rows.ensures.value ∙ ap length inner)
     ∙ c.if-rows-ne0.false) in (
       none,
       IsStandard-from c.args.t c.shape.ensures.tableau none (sym c.has_each_once.ensures
@@ -42,7 +39,7 @@ invariant_of-result c =
 pub returns-clause-standard : goal.returns-clause-standard
 returns-clause-standard c =
     let inner = c.inner.ensures.value ∙ ap (λ (v : List ℕ × List ℕ). v.1) c.shape.ensures.value in
-    let none = no_rows c.args.t.inner (sym (c.rows.ensures.value ∙ ap length inner)
+    let none = nil_from_length c.args.t.inner (sym (c.rows.ensures.value ∙ ap length inner)
     ∙ c.if-rows-ne0.false) in (
       λ e. (
         none,

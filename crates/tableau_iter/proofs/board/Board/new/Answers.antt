@@ -9,7 +9,7 @@ use Rattle.tableau_iter.proofs.FrontContents.{length-sums}
 use Rattle.tableau_iter.proofs.Orders.{length-reading}
 use Rattle.tableau_iter.proofs.board.Board.new.Goals as goal
 
--- if a shape has at most 4096 cells, and a start that is not empty at most 4096 together with it, they have at most 4096 together
+-- if cells ≤ 4096, and n + cells ≤ 4096 for positive n, then n + cells ≤ 4096 for every n
 with_start : (n cells : ℕ) → cells ≤ 4096 → (0 < n → n + cells ≤ 4096) → n + cells ≤ 4096
 with_start zero cells l h = omega (arith, l)
 with_start (suc n) cells l h = h (omega arith)

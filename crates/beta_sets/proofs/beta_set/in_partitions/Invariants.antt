@@ -1,0 +1,15 @@
+use Rattle.std.proofs.Common.{◌≡◌, ◌++◌}
+use Rattle.std.specs.Vec.Iter.{into_iter_items}
+use Rattle.sparse_polys.specs.Tables.{IsFractionTable}
+use Rattle.sparse_polys.proofs.Quotients.{Quotients}
+use Rattle.beta_sets.specs.BetaSets.{shapes}
+use Rattle.beta_sets.proofs.beta_set.in_partitions.Given as goal
+
+-- the table has the coefficients of the terms so far, divided by `den`, at their partitions, and these terms followed
+-- by those still to come are all terms
+abbrev pub invariant-loop-set : goal.invariant-loop-set
+invariant-loop-set l = record {
+  quotients : Quotients l.den l.answer (shapes l.yielded);
+  table : IsFractionTable l.answer;
+  so_far : l.yielded ++ into_iter_items l.set-iterator ≡ into_iter_items l.initial.set-iterator;
+}

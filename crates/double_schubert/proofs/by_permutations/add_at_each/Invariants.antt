@@ -1,0 +1,9 @@
+-- The image of the polynomial is added at the permutations so far.
+use Rattle.std.proofs.Common.{take}
+use Rattle.linear_combinations.specs.Gains.{replaced}
+use Rattle.transition_walk.specs.Waiting.{Joins, each_waits}
+use Rattle.double_schubert.proofs.by_permutations.add_at_each.Given as goal
+
+abbrev pub invariant-loop-perm : goal.invariant-loop-perm
+invariant-loop-perm g l = Joins l.fn.sum.items
+    (each_waits (replaced (g.T.Rule.image l.rule) l.poly) (take l.perm-index l.perms)) l.sum.items

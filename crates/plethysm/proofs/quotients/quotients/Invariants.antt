@@ -1,0 +1,15 @@
+use Rattle.std.proofs.Common.{◌≡◌, ◌++◌, map}
+use Rattle.std.specs.Map.Iter.{deref_pair}
+use Rattle.sparse_polys.specs.Tables.{IsWholeTable}
+use Rattle.sparse_polys.proofs.WholeLists.{Finds}
+use Rattle.plethysm.proofs.NumeratorLists.{mapped}
+use Rattle.plethysm.proofs.QuotientLists.{divided_by}
+use Rattle.plethysm.proofs.quotients.quotients.Given as goal
+
+-- the table has the quotients of the terms visited so far, and these terms followed by those still to come are all terms
+abbrev pub invariant-loop-label : goal.invariant-loop-label
+invariant-loop-label l = record {
+  finds : Finds l.quotients (mapped (divided_by l.k) (map deref_pair l.yielded));
+  table : IsWholeTable l.quotients;
+  so_far : map deref_pair l.yielded ++ l.label-iterator ≡ l.initial.label-iterator;
+}

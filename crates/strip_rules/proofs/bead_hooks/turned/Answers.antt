@@ -1,0 +1,9 @@
+use Rattle.strip_rules.proofs.HookMoves.{even_times, negated_times}
+use Rattle.strip_rules.proofs.bead_hooks.turned.Goals as goal
+
+pub returns-then-times-eq0 : goal.returns-then-times-eq0
+returns-then-times-eq0 c = even_times c.args.times c.args.c c.if-times-eq0.true
+
+pub returns-else-times-eq0 : goal.returns-else-times-eq0
+returns-else-times-eq0 c = negated_times c.args.times c.args.c c.neg.result c.neg.ensures.negation
+    c.if-times-eq0.false

@@ -1,0 +1,24 @@
+use Rattle.std.proofs.Common.{List, ℕ, ap, subst, arith}
+use Rattle.sym_model.specs.Bases.{power_sum_of, product_over}
+use Rattle.sym_model.specs.Expansion.{schurs, IsExpansionOf}
+use Rattle.sym_model.specs.Partition.{size}
+use Rattle.sparse_polys.proofs.WholeLists.{if_ok_both}
+use Rattle.strip_rules.proofs.BeadSums.{in_twenty, shapes_expansion}
+use Rattle.strip_rules.proofs.family_products.hooks_product.Goals as goal
+
+pub in_partitions-requires-clause-within : goal.in_partitions-requires-clause-within
+in_partitions-requires-clause-within c =
+    let s = ap size c.parts.ensures.value in
+    let low = c.requires in
+    in_twenty (size c.parts.result.now) c.in_ok-shapes.shapes (omega arith)
+    c.in_ok-shapes.ensures.value.within
+
+pub returns-clause-value : goal.returns-clause-value
+returns-clause-value c =
+    if_ok_both c.in_partitions.result c.in_partitions.ensures.value c.in_partitions.ensures.table
+    (λ list quotients table n.
+    subst (λ (l : List ℕ). IsExpansionOf schurs list n
+    (product_over power_sum_of l n) 1) c.parts.ensures.value
+    (shapes_expansion (product_over power_sum_of c.parts.result.now)
+    (size c.parts.result.now) c.in_ok-shapes.shapes list
+    c.in_ok-shapes.ensures.value table quotients n))

@@ -1,0 +1,63 @@
+//! Adds rim hooks to partitions by moving the beads of beta sets.
+ghost use Rattle.std.specs.Prelude.{◌≡◌, ◌+◌, ◌-◌, ◌*ℤ◌, ◌^◌, ◌<◌, ◌≤◌, [], ◌∷◌, nat_abs, nat_eq};
+ghost use Rattle.std.specs.Prelude.{OnOk, IsErrOf, MatchOption};
+ghost use Rattle.sym_model.specs.PlaceOrders.{minus_one_to};
+ghost use Rattle.linear_combinations.specs.Gains.{Gains, Overflows, scaled};
+ghost use Rattle.strip_rules.specs.HookMoves.{hook_from};
+
+use beta_sets::{BetaSet, Shapes};
+use calc_base::SumFault;
+use coeff_rings::{Int, Ring};
+use linear_combinations::Rule;
+
+/// The number times (-1)^`times`; `None` if it is too large.
+fn turned(c: Int, times: u32) -> Option<Int>
+    ensures { MatchOption result (2 ^ 127 ≤ nat_abs c) (λ z. z ≡ minus_one_to times *ℤ c) }
+{
+    if times % 2 == 0 { Some(c) } else { c.neg() }
+}
+
+/// Adds c times the set after the bead at `place` has moved up by `cells` places, with the sign of
+/// its rim hook. Returns `Large` only if, at that set, the absolute values of the old coefficient
+/// and of c add up to 2^127 or more.
+fn add_hook(sum: &mut Shapes, set: BetaSet, place: u16, cells: u16, c: Int) -> Result<(), SumFault>
+    requires low { place + cells < 63 }
+    requires there { (2 ^ place ≤ set) × (set < 2 ^ 63) }
+    ensures gains { OnOk result (Gains sum.old (scaled c (hook_from cells set place ∷ []))
+        sum.new) }
+    ensures large { IsErrOf result SumFault.Large
+        → Overflows nat_eq sum.old (scaled c (hook_from cells set place ∷ [])) }
+{
+    let to = place + cells;
+    let Some(number) = turned(c, set.greater(place) - set.greater(to)) else {
+        return Err(SumFault::Large);
+    };
+    sum.add_owned(set.moved(place, to), number)
+}
+
+/// The rule that replaces a partition by all partitions made by adding a rim hook of `cells` cells,
+/// with their signs.
+#[derive(Drop)]
+pub(crate) struct HookAdded {
+    pub cells: u16,
+}
+
+impl Rule<BetaSet, BetaSet> for HookAdded {
+    ghost use Rattle.std.specs.Prelude.{◌-◌, ◌≤◌};
+    ghost use Rattle.beta_sets.specs.BetaSets.{IsInRows};
+    ghost use Rattle.strip_rules.specs.HookMoves.{hooks};
+
+    ghost takes = { λ rule set. (1 ≤ rule.cells) × (rule.cells ≤ 20)
+        × IsInRows 20 (20 - rule.cells) set };
+
+    ghost image = { λ rule set. hooks rule.cells set };
+
+    fn add_image(&self, label: &BetaSet, c: Int, sum: &mut Shapes) -> Result<(), SumFault> {
+        let mut places = label.free(self.cells);
+        while let Some(place) = places.greatest() {
+            places = places.without(place);
+            add_hook(sum, *label, place, self.cells, c)?;
+        }
+        Ok(())
+    }
+}
