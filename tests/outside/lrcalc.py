@@ -55,6 +55,24 @@ def products(calc, rng):
             yield f"coef {outer} - {left} - {right}", ours, f"{theirs[outer]}\n"
 
 
+def rows_and_columns(calc, rng):
+    """Products, skews and coefficients of shapes with about three times as many columns as rows, and of five and six rows: those with fewer
+    rows or more columns are counted by rows, the others by columns."""
+    for i in range(60):
+        rows = rng.randint(1, 4)
+        left, right = (tuple([rng.randint(rows, 2 * rows + 1)] * rng.randint(1, rows)) for _ in range(2))
+        ours = terms(printed(calc, "mult", *left, "-", *right))
+        theirs = terms(printed("lrcalc", "mult", *written_there(left), "-", *written_there(right)))
+        yield f"mult {left} - {right}", ours, theirs
+        outer = tuple(sorted((rng.randint(1, 3 * rows + 2) for _ in range(rows)), reverse=True))
+        inner = inside(rng, outer)
+        ours = terms(printed(calc, "skew", *outer, "/", *inner))
+        yield f"skew {outer} / {inner}", ours, terms(printed("lrcalc", "skew", *written_there(outer), "/", *written_there(inner)))
+        tall = [shape for shape in sorted(theirs) if len(shape) in (5, 6)] or sorted(theirs)
+        outer = rng.choice(tall)
+        yield f"coef {outer} - {left} - {right}", printed(calc, "coef", *outer, "-", *left, "-", *right), f"{theirs[outer]}\n"
+
+
 def skews(calc, rng):
     for i in range(100):
         outer = random_partition(rng, rng.randint(1, 24)) if i % 3 else staircase(rng.randint(3, 6))
@@ -142,8 +160,8 @@ def several_factors(calc, rng):
         yield f"{name} {factors}", terms(printed(calc, *name, *words), label), found
 
 
-KINDS = {"products": products, "skews": skews, "coproducts": coproducts, "tableaux": tableaux, "reductions": reductions,
-         "permutations": permutations, "several_factors": several_factors}
+KINDS = {"products": products, "rows_and_columns": rows_and_columns, "skews": skews, "coproducts": coproducts, "tableaux": tableaux,
+         "reductions": reductions, "permutations": permutations, "several_factors": several_factors}
 
 
 def main():
