@@ -11,7 +11,7 @@ use Rattle.sym_model.proofs.Polynomials.{pair_ext, pair_in, pair_factor, pair_to
 use Rattle.alternant_laws.proofs.OrderSums.{pair_orders, rearranged-join}
 use Rattle.alternant_laws.proofs.Symmetry.{pair_rearranged}
 
--- if f is symmetric, the pairing of a_β·f with φ is the sum, over the orders w of 1, .., n and the terms c·x^α of f, of sign(w)·c times φ at β + α
+-- if f is symmetric, the pairing of a_β·f with φ is the sum, over the orders w of 1, .., n and the terms c·x^α of f, of sign(w)·c·φ(γ); γ is β + α
 -- rearranged by w
 pub pair_alternant_times : (n : ℕ) (β : List ℕ) (f : Poly) (φ : List ℕ → ℤ) → length β ≡ n → In n f → Symmetric f
     → pair (times (alternant β) f) φ ≡ total (λ (w : List ℕ). sign w *ℤ pair f (λ α. φ (rearranged w (join β α)))) (orders (places n))

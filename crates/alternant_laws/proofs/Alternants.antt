@@ -1,4 +1,4 @@
--- The laws of alternants: an exchange of two exponents changes the sign, and equal exponents give 0.
+-- The laws of alternants: an exchange of two exponents changes the sign of an alternant, and an alternant with two equal exponents is 0.
 use Rattle.std.proofs.Common.{◌≡◌, ℕ, List, [], ◌∷◌, ◌++◌, length, sym, ◌∙◌, ap, refl, arith, ℤ, pos, neg_ℤ}
 use Rattle.std.proofs.lemmas.Int.{ints}
 use Rattle.std.proofs.lemmas.List.{length-map}
@@ -32,9 +32,9 @@ alternant_equal left middle right a =
     let β = left ++ (a ∷ (middle ++ (a ∷ right))) in
     same_from_pair (alternant β) nothing (λ φ. pair_alternant β φ ∙ opposite_is_zero (alternating β φ) (alternating_exchange left middle right a a φ))
 
--- ---- an alternant of n exponents is a polynomial in n variables
+-- ---- an alternant of n exponents is a polynomial in n variables, and is 0 if two exponents are equal
 
--- exchanging two neighbours keeps the length of a list
+-- exchanging two neighbouring entries of a list of length n gives a list of length n
 length_kept : (n : ℕ) → KeptByExchanges (λ w. length w ≡ n)
 length_kept n [] a b r h = h
 length_kept n (c ∷ l) a b r h = omega (arith, length_kept (length (l ++ (a ∷ b ∷ r))) l a b r refl)

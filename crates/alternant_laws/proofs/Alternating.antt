@@ -1,7 +1,7 @@
--- Alternating sums by insertion: the form of an alternant that proofs use.
---     inserting x φ l         the sum over the places of l of ± φ of l with x inserted there, the sign changing with each step
---     alternating β φ         the sum over the orders of β of sign times φ, with the entries inserted one at a time
---     alternating_exchange    exchanging two entries of β changes the sign
+-- Alternating sums, in which the entries of a list are inserted one by one: the form of an alternant that proofs use.
+--     inserting x φ l         the sum of (-1)^i·φ(l with x inserted after i entries) over i = 0, .., length of l
+--     alternating β φ         the sum of sign(w)·φ(β rearranged by w) over the orders w of the places of β, by inserting the entries one by one
+--     alternating_exchange    exchanging two entries of β changes the sign of the sum
 use Rattle.std.proofs.Common.{◌≡◌, ℕ, List, [], ◌∷◌, ◌++◌, map, ◌∙◌, ap, ap₂, refl, arith, ℤ, ◌-ℤ◌, neg_ℤ}
 use Rattle.std.proofs.lemmas.Int.{ints}
 
@@ -13,7 +13,7 @@ abbrev pub alternating : List ℕ → (List ℕ → ℤ) → ℤ
 alternating [] φ = φ []
 alternating (x ∷ xs) φ = alternating xs (inserting x φ)
 
--- ---- sums over the orders of a list, for test functions
+-- ---- alternating sums: of two functions with equal values, of a difference, of a negative, and over a list to whose entries a function is applied
 
 pub inserting_ext : (x : ℕ) (φ ψ : List ℕ → ℤ) → ((l : List ℕ) → φ l ≡ ψ l) → (l : List ℕ) → inserting x φ l ≡ inserting x ψ l
 inserting_ext x φ ψ e [] = e (x ∷ [])
@@ -40,7 +40,7 @@ pub inserting_map : (f : ℕ → ℕ) (x : ℕ) (φ : List ℕ → ℤ) (l : Lis
 inserting_map f x φ [] = refl
 inserting_map f x φ (y ∷ ys) = ap (λ z. φ (f x ∷ f y ∷ map f ys) -ℤ z) (inserting_map f x (λ l. φ (f y ∷ l)) ys)
 
--- the alternating sum over the values of f at the entries of xs is that over xs, with φ taken at the values of f
+-- the alternating sum of φ over the list of the f(x) for x in xs is the alternating sum of φ(map f w) over xs
 pub alternating_map : (f : ℕ → ℕ) (xs : List ℕ) (φ : List ℕ → ℤ) → alternating (map f xs) φ ≡ alternating xs (λ w. φ (map f w))
 alternating_map f [] φ = refl
 alternating_map f (x ∷ xs) φ =

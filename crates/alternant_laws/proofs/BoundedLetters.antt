@@ -1,8 +1,8 @@
--- In a good tableau no letter of row i is greater than i plus the number of rows of the start. So start plus the content has
--- no more rows than the start and the shape together.
+-- Let T be a tableau of outer/inner that is good for the partition `start` (`good_tableaux`). No letter of row i of T is greater than i plus the
+-- number of rows of `start`. So start + content(T) has at most as many rows as `start` and outer have together.
 use Rattle.std.proofs.Common.{◌≡◌, ℕ, zero, suc, ◌+◌, ◌-◌, ◌<◌, ◌≤◌, ◌⊎◌, Bool, true, false, cond, ◌&&◌, List, [], ◌∷◌, ◌++◌, map, length, reverse, drop, get_or, nat_le, sym, ◌∙◌, ap, subst, refl, inl, inr, arith, ℤ, pos}
 use Rattle.std.proofs.lemmas.Bool.{cases_lt, cases_Bool, and_parts, leb-true}
-use Rattle.std.proofs.lemmas.List.{reverse-append, reverse-reverse}
+use Rattle.std.proofs.lemmas.List.{reverse-append, reverse-reverse, get_or_past}
 use Rattle.sym_model.specs.Partition.{Falls, rows, in_front, without_last_zeros}
 use Rattle.sym_model.specs.Polynomial.{same, join, resize}
 use Rattle.sym_model.specs.Schur.{times_in, content}
@@ -10,7 +10,6 @@ use Rattle.sym_model.specs.GoodTableau.{is_falling}
 use Rattle.sym_model.proofs.Sums.{total_none}
 use Rattle.sym_model.proofs.Exponents.{same_apart, length-resize, get_or-join}
 use Rattle.sym_model.proofs.Contents.{times_in-here, times_in-other}
-use Rattle.sym_model.proofs.Parts.{past_end}
 use Rattle.tableau_laws.specs.PaddedRows.{put_row, transposed, words_over, pattern_of}
 use Rattle.tableau_laws.specs.Grid.{may_precede, is_chain, pass_by_place, may_stand_above}
 use Rattle.tableau_laws.specs.ColumnFold.{may_be_next, over_columns, column_lines, is_sum}
@@ -20,9 +19,9 @@ use Rattle.alternant_laws.proofs.LeftColumns.{AreLong, falls_last, falls-transpo
 use Rattle.alternant_laws.proofs.FailingColumns.{none_below}
 use Rattle.alternant_laws.proofs.StraightShapes.{falls_places, EndsAt, at_content, past_content, at_resize, long_last, long_anyway}
 
--- ---- the letters of one column of a good tableau are bounded
+-- ---- upper bounds for the letters of one column of a good tableau
 
--- the first letter of the column is at most d + 1, its second at most d + 2, and so on
+-- `AreBounded d c`: the first letter of the column c is at most d + 1, the second at most d + 2, and so on
 AreBounded : ℕ → List ℕ → Type 0
 AreBounded d [] = Unit {0}
 AreBounded d (v ∷ w) = (v ≤ d + 1) × AreBounded (d + 1) w
@@ -98,9 +97,9 @@ next_ends_at n b ν right c ends l bound i g =
     none (inl h) = at_content n i c h ∙ bounded_none b (suc i) c bound (omega arith)
     none (inr h) = past_content n i c h
 
--- ---- the letters of all columns of a good tableau are bounded
+-- ---- upper bounds for the letters of all columns of a good tableau
 
--- the lengths of the lines, from the rightmost line on, are weakly increasing; the first is at least m and the last at most k
+-- `AreGrowing k m lines`: for the lengths a, b, .., z of the lines, which are listed from the rightmost line on, m ≤ a ≤ b ≤ .. ≤ z ≤ k
 AreGrowing : ℕ → ℕ → List (List Bool) → Type 0
 AreGrowing k m [] = m ≤ k
 AreGrowing k m (line ∷ back) = (m ≤ length line) × AreGrowing k (length line) back
@@ -176,7 +175,8 @@ over_shape n b g outer inner ν z ends =
     (subst (λ (ls : List (List Bool)). AreShort (length outer) ls) (sym (reverse-reverse (column_lines outer inner)))
     (subst (λ i. AreShort i (column_lines outer inner)) (length_pattern outer inner) (short_transposed (pattern_of outer inner)))))
 
--- ---- no good tableau T leads to a start + content(T) with more rows than start and outer together
+-- ---- a list that is 0 at all places from m on, counted from 0, has at most m entries once the zeros at its end are removed; for a good tableau T,
+-- start + content(T) has at most as many rows as start and outer together
 
 rows_at : (m : ℕ) (s : List ℕ) → EndsAt m s → rows (without_last_zeros s) ≤ m
 rows_at m [] e = omega arith
@@ -201,8 +201,8 @@ start_ends : (n : ℕ) (start : List ℕ) → EndsAt (length start) (resize n st
 start_ends n start i h = by (cases_lt i n)
   where
     by : (i < n) ⊎ (n ≤ i) → get_or (resize n start) i 0 ≡ 0
-    by (inl l) = at_resize n i start l ∙ past_end start i h
-    by (inr l) = past_end (resize n start) i (omega (arith, length-resize n start))
+    by (inl l) = at_resize n i start l ∙ get_or_past start i 0 h
+    by (inr l) = get_or_past (resize n start) i 0 (omega (arith, length-resize n start))
 
 pub too_many_rows : (n : ℕ) (start outer inner ν : List ℕ) → rows start + rows outer < rows ν → over_columns n (column_lines outer inner) (is_sum ν) (resize n start) [] ≡ pos 0
 too_many_rows n start outer inner ν h =

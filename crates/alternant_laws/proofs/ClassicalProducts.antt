@@ -1,4 +1,5 @@
--- The classical product has the Schur coefficients of the product of its factors, at all partitions with at most k rows.
+-- The coefficient of the classical product of partitions (`classical_product k factors`) at a partition with at most k rows is the Schur coefficient,
+-- at that partition, of the product of their Schur polynomials in k variables.
 use Rattle.std.proofs.Common.{◌≡◌, ℕ, ◌+◌, ◌≤◌, Bool, true, false, cond, ltb, leb, eqb, List, [], ◌∷◌, map, ℤ, pos, negsuc, nat_abs, ◌+ℤ◌, refl, sym, ap, ◌∙◌, subst, arith, filter}
 use Rattle.std.proofs.lemmas.Bool.{cond-true, cond-false, ltb-false, leb-true, le-leb, eq-eqb, eqb-true}
 use Rattle.sym_model.specs.Sum.{total, Among, Once}
@@ -14,7 +15,7 @@ use Rattle.sym_model.proofs.PartitionLists.{partitions_of-tells, Among-partition
 use Rattle.alternant_laws.proofs.Degrees.{OfDegree, coefficient-other_degree, times-of_degree, alternant-of_degree, schur_product-of_degree}
 use lib.IntN.{+ℤ_idl}
 
--- leaving out the terms with the coefficient 0 changes no coefficient
+-- leaving out the terms with the coefficient 0 changes no coefficient of a list of terms
 coefficient-nonzero : (terms : WholeTerms) (α : List ℕ) → coefficient (nonzero terms) α ≡ coefficient terms α
 coefficient-nonzero [] α = refl
 coefficient-nonzero (t ∷ terms) α = by (ltb 0 (nat_abs t.1)) refl (coefficient-nonzero terms α)
@@ -41,14 +42,15 @@ candidates-once k factors =
     let d = size (map size factors) in
     Once-select (λ parts. leb (rows parts) k) (partitions_of d) (Once-FallsLexicographically _ (FallsLexicographically-partitions_within d d d))
 
--- a homogeneous polynomial of degree d has the Schur coefficient 0 at partitions of another size than d
+-- if f is homogeneous of degree d, its Schur coefficient is 0 at each partition whose size is not d
 schur_coefficient-other : (k d : ℕ) (parts : List ℕ) (f : Poly) → OfDegree d f → (size parts ≡ d → ⊥) → schur_coefficient k parts f ≡ pos 0
 schur_coefficient-other k d parts f h other =
     coefficient-other_degree (size (staircase k) + d) (times (alternant (staircase k)) f) (join parts (staircase k))
     (times-of_degree (size (staircase k)) d (alternant (staircase k)) f (alternant-of_degree (staircase k)) h)
     (λ e. other (let s = size-join parts (staircase k) in omega arith))
 
--- at a partition with at most k rows, the classical product has the Schur coefficient of the product
+-- at a partition with at most k rows, the coefficient of the classical product is the Schur coefficient of the product of the Schur polynomials of
+-- the factors in k variables
 pub classical_product-coefficient : (k : ℕ) (factors : List (List ℕ)) (parts : List ℕ) → IsPartition parts → rows parts ≤ k → coefficient (classical_product k factors) parts ≡ schur_coefficient k parts (schur_product factors k)
 classical_product-coefficient k factors parts p few =
     coefficient-nonzero (map (λ (shape : List ℕ). (shape, c shape)) (candidates k factors)) parts
@@ -74,17 +76,19 @@ classical_product-coefficient k factors parts p few =
         (λ shape m. cond-false (same shape parts) (c shape) (pos 0) (same_apart shape parts (differs shape m)))
         ∙ sym (schur_coefficient-other k d parts (schur_product factors k) (schur_product-of_degree factors k) other)
 
--- the label of a term is a partition with at most k rows, and its coefficient is not 0
+-- the label of the term t is a partition with at most k rows, and the coefficient of t is not 0
 pub record IsClassicalTerm (k : ℕ) (t : List ℕ × ℤ) : Type 0 where
   pub partition : IsPartition t.0
   pub few : rows t.0 ≤ k
   pub counts : t.1 ≡ pos 0 → ⊥
 
--- the term of the classical product with the label `shape`
+-- the term with the label `shape` whose coefficient is the Schur coefficient of `shape` in the product of the Schur polynomials of the factors in k
+-- variables
 abbrev term_of : ℕ → List (List ℕ) → List ℕ → List ℕ × ℤ
 term_of k factors shape = (shape, schur_coefficient k shape (schur_product factors k))
 
--- each term of the classical product is the term of some candidate
+-- each term of the classical product is `term_of` one of the candidates, the partitions with at most k rows whose size is the sum of the sizes of the
+-- factors
 member : (k : ℕ) (factors : List (List ℕ)) (t : List ℕ × ℤ) → Among t (classical_product k factors)
     → (shape : List ℕ) × Among shape (candidates k factors) × (t ≡ term_of k factors shape)
 member k factors t m =

@@ -1,5 +1,5 @@
--- The Schur coefficients of products and of skew Schur polynomials are counts of good tableaux, in every number of variables; so a list of labels
--- with these counts as its coefficients is the polynomial in every number of variables.
+-- The Schur coefficients of products and of skew Schur polynomials are counts of good tableaux, in every number of variables; so a list of terms in s
+-- that has these counts as its coefficients is equal to the product, or to the skew Schur polynomial, in every number of variables.
 use Rattle.std.proofs.Common.{ℤ, ◌≡◌, ℕ, ◌+◌, ◌<◌, ◌≤◌, ◌⊎◌, Bool, true, false, cond, List, [], ◌∷◌, map, length, nat_le, sym, ◌∙◌, ap, subst, inl, inr, arith, pos, ◌*ℤ◌, Option, Some, None, filter, flat_map}
 use Rattle.std.proofs.lemmas.Int.{ints}
 use Rattle.std.proofs.lemmas.Bool.{cases_lt, cases_Bool, both_ways, lt-leb}
@@ -33,7 +33,7 @@ use Rattle.alternant_laws.proofs.GoodAlternants.{good_sums}
 use Rattle.alternant_laws.proofs.BoundedLetters.{too_many_rows}
 use Rattle.alternant_laws.proofs.SchurProducts.{bialternant, schur_few_variables, product-good_schurs, skew-good_schurs}
 
--- ---- the Schur coefficients of a Schur polynomial
+-- ---- products with 0, and the Schur coefficients of a Schur polynomial
 
 coefficient_times_nothing : (f : Poly) (α : List ℕ) → coefficient (times f nothing) α ≡ pos 0
 coefficient_times_nothing f α = coefficient_pair (times f nothing) α ∙ pair_times f nothing (at_only α) ∙ pair_zero f
@@ -52,9 +52,9 @@ schur_coefficient_of_schur k parts ν p q h = by (cases_lt k (rows parts))
         ∙ coefficient_at_partition k (resize k parts) ν (length-resize k parts) (falling-resize k parts p.falls) q h (falling-resize k ν q.falls)
         ∙ ap (λ κ. cond (same κ ν) (pos 1) (pos 0)) (without_last_zeros-resize k parts p.positive l)
 
--- ---- the good tableaux as a list of labels
+-- ---- the list of the labels start + content(T) of the good tableaux T
 
--- for each good tableau T of outer/inner with entries up to n the label start + content(T), with the coefficient 1
+-- for each good tableau T of outer/inner with entries up to n, the label start + content(T) with the coefficient 1
 abbrev pub good_terms : ℕ → List ℕ → List ℕ → List ℕ → WholeTerms
 good_terms n start outer inner = map (λ (T : List (List ℕ)). (start_plus_content n start T, pos 1)) (good_tableaux n start outer inner)
 
@@ -64,7 +64,7 @@ good_is_partition n start outer inner T f m = IsPartition-without_last_zeros (jo
 coefficient_good_terms : (n : ℕ) (start outer inner ν : List ℕ) → coefficient (good_terms n start outer inner) ν ≡ total (λ (T : List (List ℕ)). cond (same (start_plus_content n start T) ν) (pos 1) (pos 0)) (good_tableaux n start outer inner)
 coefficient_good_terms n start outer inner ν = total_map (λ (t : Term). cond (same t.0 ν) t.1 (pos 0)) (λ (T : List (List ℕ)). (start_plus_content n start T, pos 1)) (good_tableaux n start outer inner)
 
--- restricting a sum of polynomials to n variables restricts each summand
+-- if restricting h(x) to n variables gives g(x) for each x, restricting the sum of the h(x) to n variables gives the sum of the g(x)
 restrict_each : {A : Type 0} (n : ℕ) (h g : A → Poly) (xs : List A) → ((x : A) → Same (restrict n (h x)) (g x)) → Same (restrict n (flat_map h xs)) (flat_map g xs)
 restrict_each {A} n h g xs e =
     same_from_pair (restrict n (flat_map h xs)) (flat_map g xs) (λ φ.
@@ -99,8 +99,8 @@ combined_good_terms n m start outer inner h p o i =
     ∙ sym (pair_each (λ (T : List (List ℕ)). schur (start_plus_content m start T) n) (good_tableaux m start outer inner) φ)))
     (product_of_labels n m start outer inner h p o i)
 
--- if ν has at most n ≤ m rows, the Schur coefficient at ν of s_start·s_(outer/inner) in n variables is the number of good tableaux T with entries up
--- to m and start + content(T) = ν
+-- if ν has at most n rows, and n ≤ m, the Schur coefficient at ν of s_start·s_(outer/inner) in n variables is the number of good tableaux T with
+-- entries up to m for which start + content(T) = ν
 pub coefficient_counts : (n m : ℕ) (start outer inner ν : List ℕ) → n ≤ m → IsPartition start → IsPartition outer → IsPartition inner → IsPartition ν → rows ν ≤ n
     → schur_coefficient n ν (times (schur start n) (skew_schur outer inner n)) ≡ coefficient (good_terms m start outer inner) ν
 coefficient_counts n m start outer inner ν h p o i q l =
@@ -113,13 +113,14 @@ coefficient_counts n m start outer inner ν h p o i q l =
     ∙ schur_coefficient_of_schur n (start_plus_content m start T) ν (good_is_partition m start outer inner T o.falls k) q l)
     ∙ sym (coefficient_good_terms m start outer inner ν)
 
--- if ν has at most n ≤ m rows, the number of good tableaux T with start + content(T) = ν is the same with entries up to m as with entries up to n
+-- if ν has at most n rows, and n ≤ m, the number of good tableaux T with start + content(T) = ν is the same for entries up to m and for entries up to
+-- n
 pub stable_counts : (n m : ℕ) (start outer inner ν : List ℕ) → n ≤ m → IsPartition start → IsPartition outer → IsPartition inner → IsPartition ν → rows ν ≤ n
     → coefficient (good_terms m start outer inner) ν ≡ coefficient (good_terms n start outer inner) ν
 stable_counts n m start outer inner ν h p o i q l =
     sym (coefficient_counts n m start outer inner ν h p o i q l) ∙ coefficient_counts n n start outer inner ν (omega arith) p o i q l
 
--- if ν has more rows than start and outer together, and start has at most m, no good tableau T with entries up to m has start + content(T) = ν
+-- if ν has more rows than start and outer together, and start has at most m rows, no good tableau T with entries up to m has start + content(T) = ν
 pub no_long_labels : (m : ℕ) (start outer inner ν : List ℕ) → IsPartition start → IsPartition outer → IsPartition inner → contains outer inner ≡ true → rows start ≤ m → rows start + rows outer < rows ν
     → coefficient (good_terms m start outer inner) ν ≡ pos 0
 no_long_labels m start outer inner ν p o i holds h l =
@@ -127,7 +128,7 @@ no_long_labels m start outer inner ν p o i holds h l =
     ∙ good_sums m (λ κ. cond (same (without_last_zeros κ) ν) (pos 1) (pos 0)) start outer inner p h o.falls i.falls holds
     ∙ too_many_rows m start outer inner ν l
 
--- ---- `product_count` and `skew_count` are coefficients of the list of the labels of good tableaux
+-- ---- `product_count` and `skew_count` at ν are the coefficients of ν in the list of the labels of the good tableaux (`good_terms`)
 
 product_count-terms : (n : ℕ) (left right ν : List ℕ) → IsPartition right → pos (product_count n left right ν) ≡ coefficient (good_terms n left right []) ν
 product_count-terms n left right ν q =
@@ -146,20 +147,21 @@ pub product_coefficients : (n : ℕ) (left right ν : List ℕ) → IsPartition 
 product_coefficients n left right ν p q r l =
     coefficient_counts n n left right [] ν (omega arith) p q IsPartition-none r l ∙ sym (product_count-terms n left right ν q)
 
--- if ν has at most n ≤ m rows, `product_count` at ν is the same with m letters as with n
+-- if ν has at most n rows, and n ≤ m, `product_count` at ν is the same for m letters and for n letters
 pub product_counts_stable : (n m : ℕ) (left right ν : List ℕ) → n ≤ m → IsPartition left → IsPartition right → IsPartition ν → rows ν ≤ n
     → product_count m left right ν ≡ product_count n left right ν
 product_counts_stable n m left right ν h p q r l =
     let e = product_count-terms m left right ν q ∙ stable_counts n m left right [] ν h p q IsPartition-none r l ∙ sym (product_count-terms n left right ν q) in
     omega (arith, ints)
 
--- the product of s_() and a skew Schur polynomial is the skew Schur polynomial, as s_() is 1
+-- s_() is 1, so its product with a skew Schur polynomial is that skew Schur polynomial
 pub nothing_times : (n : ℕ) (outer inner : List ℕ) → IsPartition outer → IsPartition inner → Same (times (schur [] n) (skew_schur outer inner n)) (skew_schur outer inner n)
 nothing_times n outer inner o i =
     Same_trans (times (schur [] n) (skew_schur outer inner n)) (good_schurs n [] outer inner) (skew_schur outer inner n) (product-good_schurs n [] outer inner IsPartition-none o i)
     (Same_sym (skew_schur outer inner n) (good_schurs n [] outer inner) (skew-good_schurs n outer inner o i))
 
--- if κ has at most n rows, its coefficient in the list of the good tableaux of outer/inner with entries up to n is `skew_count outer inner κ`
+-- if κ has at most n rows, its coefficient in the list of the contents of the good tableaux of outer/inner with entries up to n is
+-- `skew_count outer inner κ`
 skew_terms : (n : ℕ) (outer inner κ : List ℕ) → IsPartition outer → IsPartition inner → contains outer inner ≡ true → IsPartition κ → rows κ ≤ n
     → coefficient (good_terms n [] outer inner) κ ≡ pos (skew_count outer inner κ)
 skew_terms n outer inner κ o i holds p l =
@@ -181,16 +183,17 @@ skew_coefficients n outer inner κ o i holds p l =
     ∙ coefficient_counts n n [] outer inner κ (omega arith) IsPartition-none o i p l
     ∙ skew_terms n outer inner κ o i holds p l
 
--- ---- lists that have the counts of good tableaux as their coefficients
+-- ---- lists of terms that have counts of good tableaux as their coefficients
 
--- the list has the coefficient 0 at ν if no term has the label ν
+-- if no term has the label ν, the coefficient of ν in the list of terms is 0
 pub no_label : (terms : Terms (List ℕ)) (ν : List ℕ) → ((t : List ℕ × Fraction) → Among t terms → t.0 ≡ ν → ⊥) → coefficient (numerators terms) ν ≡ pos 0
 no_label terms ν h =
     total_map (λ (t : Term). cond (same t.0 ν) t.1 (pos 0)) (λ (t : List ℕ × Fraction). (t.0, t.1.0)) terms
     ∙ total_none (λ (t : List ℕ × Fraction). cond (same t.0 ν) t.1.0 (pos 0)) terms (λ t m. ap (λ (b : Bool). cond b t.1.0 (pos 0)) (same_apart t.0 ν (h t m)))
 
--- a list of labels with at most k rows, with the numbers of good tableaux as its coefficients, is the same formal sum as the list of all labels
--- start + content(T), if none of these has more than k rows
+-- let the labels of `terms` be partitions ν with at most k rows, each with the number of good tableaux T with start + content(T) = ν as its
+-- coefficient. If no good tableau T has a label start + content(T) with more than k rows, `terms` has the same coefficients as the list of the labels
+-- start + content(T) (`good_terms`)
 pub terms_same : (k m : ℕ) (count : List ℕ → ℕ) (terms : Terms (List ℕ)) (start outer inner : List ℕ) → Falls outer → ListsCounts k count terms
     → ((ν : List ℕ) → IsPartition ν → rows ν ≤ k → coefficient (good_terms m start outer inner) ν ≡ pos (count ν))
     → ((ν : List ℕ) → IsPartition ν → k < rows ν → coefficient (good_terms m start outer inner) ν ≡ pos 0)
@@ -208,7 +211,9 @@ terms_same k m count terms start outer inner f c few many α = by (cases_Bool (i
         (λ T n. ap (λ (b : Bool). cond b (pos 1) (pos 0)) (same_apart (start_plus_content m start T) α
         (λ d. both_ways (is_partition α) e (is_partition-from α (subst IsPartition d (good_is_partition m start outer inner T f n)))))))
 
--- a list with the numbers of good tableaux as its coefficients is s_start·s_(outer/inner) in every number n of variables
+-- let k be the number of rows of start and outer together. If the labels of `terms` are partitions ν with at most k rows, and the coefficient at each
+-- such ν is the number of good tableaux T with start + content(T) = ν, then the value of `terms` in s is s_start·s_(outer/inner), in every number n
+-- of variables
 combined_always : (n : ℕ) (count : List ℕ → ℕ) (terms : Terms (List ℕ)) (start outer inner : List ℕ) → IsPartition start → IsPartition outer → IsPartition inner → contains outer inner ≡ true
     → ListsCounts (rows start + rows outer) count terms
     → ((ν : List ℕ) → IsPartition ν → rows ν ≤ rows start + rows outer → coefficient (good_terms (rows start + rows outer) start outer inner) ν ≡ pos (count ν))
@@ -222,7 +227,7 @@ combined_always n count terms start outer inner p o i holds c e =
     (λ ν q l. no_long_labels (n + k) start outer inner ν p o i holds (omega arith) l)))
     (combined_good_terms n (n + k) start outer inner (omega arith) p o i)
 
--- for a good tableau T with entries up to n, start + content(T) has at most n rows
+-- for each good tableau T with entries up to n, start + content(T) has at most n rows
 few_rows : (n : ℕ) (start outer inner : List ℕ) (T : List (List ℕ)) → Among T (good_tableaux n start outer inner) → rows (start_plus_content n start T) ≤ n
 few_rows n start outer inner T m = by (cases_lt n (rows start))
   where
@@ -238,7 +243,8 @@ few_rows n start outer inner T m = by (cases_lt n (rows start))
         let c = length_content n (letters_of T) in
         omega arith
 
--- a list of labels with at most n rows, with the numbers of good tableaux as its coefficients, is s_start·s_(outer/inner) in n variables
+-- if the labels of `terms` are partitions ν with at most n rows, and the coefficient at each such ν is the number of good tableaux T with start +
+-- content(T) = ν, then the value of `terms` in s, in n variables, is s_start·s_(outer/inner)
 combined_once : (n : ℕ) (count : List ℕ → ℕ) (terms : Terms (List ℕ)) (start outer inner : List ℕ) → IsPartition start → IsPartition outer → IsPartition inner
     → ListsCounts n count terms → ((ν : List ℕ) → IsPartition ν → rows ν ≤ n → coefficient (good_terms n start outer inner) ν ≡ pos (count ν))
     → Same (combined (λ label. schur label n) (numerators terms)) (times (schur start n) (skew_schur outer inner n))
@@ -251,7 +257,8 @@ combined_once n count terms start outer inner p o i c e =
     (λ T m. ap (λ (b : Bool). cond b (pos 1) (pos 0)) (same_apart (start_plus_content n start T) ν (λ d. let r = few_rows n start outer inner T m in let g = ap length d in absurd (omega arith)))))))
     (combined_good_terms n n start outer inner (omega arith) p o i)
 
--- lists with the numbers of good tableaux as coefficients meet the definitions of the commands
+-- if the coefficients of a list are `product_count` (`skew_count`), the list is an expansion in Schur polynomials of the product s_left·s_right (of
+-- the skew Schur polynomial), as the commands `mult` and `skew` require (`ExpandsInSchurs`)
 
 pub mult_meets : (variables : Option ℕ) (left right : List ℕ) (terms : Terms (List ℕ)) → IsPartition left → IsPartition right
     → ListsCounts (variables_or variables (rows left + rows right)) (product_count (variables_or variables (rows left + rows right)) left right) terms

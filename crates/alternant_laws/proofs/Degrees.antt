@@ -1,4 +1,4 @@
--- Homogeneous polynomials: their products, alternants and Schur polynomials.
+-- Homogeneous polynomials: the degrees of products, alternants and Schur polynomials.
 use Rattle.std.proofs.Common.{◌≡◌, ℕ, ◌+◌, cond, List, [], ◌∷◌, ◌++◌, map, length, length-append, pos, ◌*ℤ◌, refl, sym, ap, ◌∙◌, subst, inl, inr, arith}
 use Rattle.std.proofs.lemmas.Bool.{cond-false}
 use Rattle.sym_model.specs.Sum.{Among}
@@ -16,17 +16,17 @@ use Rattle.sym_model.proofs.Contents.{size-content}
 use Rattle.sym_model.proofs.Tableaux.{word_tells}
 use Rattle.sym_model.proofs.Parts.{size-zeros}
 
--- every term of f has degree d
+-- `OfDegree d f`: every term of f has degree d
 abbrev pub OfDegree : ℕ → Poly → Type 0
 OfDegree d f = (t : Term) → Among t f → size t.0 ≡ d
 
--- if every term of f has degree d, the coefficient of f is 0 at exponents of another degree
+-- if every term of f has degree d, and the sum of α is not d, the coefficient of x^α in f is 0
 pub coefficient-other_degree : (d : ℕ) (f : Poly) (α : List ℕ) → OfDegree d f → (size α ≡ d → ⊥) → coefficient f α ≡ pos 0
 coefficient-other_degree d f α h other =
     total_none (λ (t : Term). cond (same t.0 α) t.1 (pos 0)) f
     (λ t m. cond-false (same t.0 α) t.1 (pos 0) (same_apart t.0 α (λ e. other (ap size (sym e) ∙ h t m))))
 
--- the product of a polynomial of degree d and one of degree e has degree d + e
+-- if every term of f has degree d, and every term of g degree e, then every term of f·g has degree d + e
 pub times-of_degree : (d e : ℕ) (f g : Poly) → OfDegree d f → OfDegree e g → OfDegree (d + e) (times f g)
 times-of_degree d e f g h k t m =
     let s = Among_from_each (λ (s : Term). map (λ (t : Term). (join s.0 t.0, s.1 *ℤ t.1)) g) t f m in
@@ -42,7 +42,7 @@ one-of_degree n t (inr m) = absurd m
 
 -- ---- the degree of an alternant is the sum of its exponents
 
--- if w is `ys` with x inserted, the sum of f over w is f(x) plus the sum of f over `ys`
+-- if w is the list `ys` with x inserted, the sum of the f(a) over the entries a of w is f(x) plus that over `ys`
 insertions-size : (f : ℕ → ℕ) (x : ℕ) (ys w : List ℕ) → Among w (insertions x ys) → size (map f w) ≡ f x + size (map f ys)
 insertions-size f x [] w (inl e) = ap (λ v. size (map f v)) e
 insertions-size f x [] w (inr m) = absurd m
@@ -53,7 +53,7 @@ insertions-size f x (y ∷ ys) w (inr m) =
     let first : size (map f w) ≡ f y + size (map f z.0) = ap (λ v. size (map f v)) z.2 in
     omega arith
 
--- if w is an order of `xs`, the sums of f over w and over `xs` are equal
+-- if w is an order of the list `xs`, the sum of the f(a) over the entries a of w is that over `xs`
 orders-size : (f : ℕ → ℕ) (xs w : List ℕ) → Among w (orders xs) → size (map f w) ≡ size (map f xs)
 orders-size f [] w (inl e) = ap (λ v. size (map f v)) e
 orders-size f [] w (inr m) = absurd m
@@ -68,7 +68,7 @@ alternant-of_degree β t m =
     let w = Among_from_map (λ (w : List ℕ). (rearranged w β, sign w)) t (orders (places (length β))) m in
     ap (λ (v : Term). size v.0) w.2 ∙ (orders-size (part β) (places (length β)) w.0 w.1 ∙ ap size (rearranged_places (length β) β refl))
 
--- ---- the degree of a Schur polynomial is the size of its partition
+-- ---- words with letters from 1 to n, joined; the degree of a Schur polynomial is the size of its partition
 
 are_letters-append : (n : ℕ) (v w : List ℕ) → AreLetters n v → AreLetters n w → AreLetters n (v ++ w)
 are_letters-append n [] w h k = k

@@ -1,5 +1,5 @@
--- One more place than there are cells, or than there are variables, adds nothing: the arrangements with a part in the
--- last place straighten to 0, or to a Schur polynomial that is 0.
+-- Arrangements of λ in k + 1 places, compared with k places: if k is at least the size of λ, or at least the number of variables, the arrangements
+-- with a part in the last place straighten to 0, or to a Schur polynomial that is 0.
 use Rattle.std.proofs.Common.{◌≡◌, ◌⊎◌, ℕ, zero, suc, ◌+◌, ◌-◌, ◌<◌, ◌≤◌, Bool, true, false, ◌||◌, ◌==◌, cond, nat_le, nat_lt, List, [], ◌∷◌, ◌++◌, map, length, refl, sym, ◌∙◌, ap, ap₂, inl, inr, arith, ℤ, pos, ◌+ℤ◌, ◌*ℤ◌}
 use Rattle.std.specs.Prelude.{Some, None}
 use Rattle.std.proofs.lemmas.Bool.{cases_lt}
@@ -15,13 +15,12 @@ use Rattle.sym_model.specs.Straightening.{shifted, straightened}
 use Rattle.sym_model.specs.BetaList.{has_equal_entries, put_falling, sorted_falling, greater, rising_pairs, sorting_sign, less_the_rest, from_beta}
 use Rattle.sym_model.specs.PlaceOrders.{minus_one_to}
 use Rattle.sym_model.specs.WholeTerms.{combined}
-use Rattle.sym_model.proofs.Sums.{total_ext, total_among, total_map, total_each, total_select, total_none}
+use Rattle.sym_model.proofs.Sums.{total_ext, total_among, total_map, total_each, total_select, total_none, down_from-below}
 use Rattle.sym_model.proofs.SortedParts.{sorted_parts-padded, rows_within_size}
 use Rattle.sym_model.proofs.Exponents.{length-join_same, size-join}
 use Rattle.sym_model.proofs.Polynomials.{pair_determined, same_from_pair, Same_trans}
 use Rattle.sym_model.proofs.Monomials.{members_of-exponent_lists}
 use Rattle.sym_model.proofs.WholeTerms.{pair_of_combined}
-use Rattle.sym_model.proofs.Numbers.{nat_le-suc}
 use Rattle.sym_model.proofs.Parts.{without_last_zeros-zero, without_last_zeros-positive, length-staircase}
 use Rattle.beta_list_laws.specs.StrictFall.{FallsStrictly}
 use Rattle.beta_list_laws.proofs.NeighbourExchanges.{length-sorted, size-sorted, has-sorted}
@@ -29,16 +28,17 @@ use Rattle.beta_list_laws.proofs.SortedLists.{sorted_strict}
 use Rattle.beta_list_laws.proofs.BetaLists.{strict_tail, from_beta_partition, size-from_beta, length-less}
 use Rattle.alternant_laws.proofs.SchurProducts.{schur_few_variables}
 use lib.IntN.{*ℤ-zero}
-use Rattle.monomial_laws.proofs.Arrangements.{down_from-below}
 use Rattle.alternant_laws.specs.StraightenedTerms.{straightened_term, straightened_terms}
 use Rattle.alternant_laws.proofs.StraightenedMonomials.{straightens}
+use Rattle.std.proofs.Math.Dec.{leb-suc-suc, eqb-suc-suc}
+use Rattle.sym_model.proofs.Numbers.{positive-test, nat_lt-suc}
 
--- ---- a list in one more place: each entry is increased by 1, and 0 is appended
+-- ---- appending 0 to α changes the list α + ρ to `raised (α + ρ)`: each entry is increased by 1, and 0 is appended
 
-abbrev raised : List ℕ → List ℕ
+abbrev pub raised : List ℕ → List ℕ
 raised s = map suc s ++ 0 ∷ []
 
-staircase-raised : (k : ℕ) → staircase (suc k) ≡ raised (staircase k)
+pub staircase-raised : (k : ℕ) → staircase (suc k) ≡ raised (staircase k)
 staircase-raised zero = refl
 staircase-raised (suc k) = ap (λ l. suc k ∷ l) (staircase-raised k)
 
@@ -58,24 +58,15 @@ shifted-pushed α =
     ∙ ap (join (α ++ 0 ∷ [])) (staircase-raised (length α))
     ∙ join-raised α (staircase (length α)) (sym (length-staircase (length α)))
 
-suc_test : (a b : ℕ) → (suc a == suc b) ≡ (a == b)
-suc_test a b = grind (arith, nat_tests)
-
-suc_lt : (a b : ℕ) → nat_lt (suc a) (suc b) ≡ nat_lt a b
-suc_lt a b = grind (arith, nat_tests)
-
 zero_apart : (a : ℕ) → (0 == suc a) ≡ false
 zero_apart a = grind (arith, nat_tests)
-
-apart_zero : (a : ℕ) → (suc a == 0) ≡ false
-apart_zero a = grind (arith, nat_tests)
 
 not_below : (a : ℕ) → nat_lt (suc a) 0 ≡ false
 not_below a = grind (arith, nat_tests)
 
 has-raised : (a : ℕ) (s : List ℕ) → has (suc a) (raised s) ≡ has a s
 has-raised a [] = ap (λ b. b || false) (zero_apart a)
-has-raised a (b ∷ s) = ap₂ (λ x y. x || y) (suc_test b a) (has-raised a s)
+has-raised a (b ∷ s) = ap₂ (λ x y. x || y) (eqb-suc-suc b a) (has-raised a s)
 
 equal-raised : (s : List ℕ) → has_equal_entries (raised s) ≡ has_equal_entries s
 equal-raised [] = refl
@@ -83,7 +74,7 @@ equal-raised (a ∷ s) = ap₂ (λ x y. x || y) (has-raised a s) (equal-raised s
 
 greater-raised : (a : ℕ) (s : List ℕ) → greater (suc a) (raised s) ≡ greater a s
 greater-raised a [] = ap (λ b. cond {A = ℕ} b 1 0 + 0) (not_below a)
-greater-raised a (b ∷ s) = ap₂ (λ x k. cond {A = ℕ} x 1 0 + k) (suc_lt a b) (greater-raised a s)
+greater-raised a (b ∷ s) = ap₂ (λ x k. cond {A = ℕ} x 1 0 + k) (nat_lt-suc a b) (greater-raised a s)
 
 rising-raised : (s : List ℕ) → rising_pairs (raised s) ≡ rising_pairs s
 rising-raised [] = refl
@@ -98,7 +89,7 @@ put-raised a [] = by (nat_le 0 (suc a)) (zero_le a)
     by : (t : Bool) → t ≡ true → cond t (suc a ∷ 0 ∷ []) (0 ∷ put_falling (suc a) []) ≡ suc a ∷ 0 ∷ []
     by true e = refl
     by false e = cc
-put-raised a (b ∷ s) = ap (λ t. cond t (suc a ∷ suc b ∷ raised s) (suc b ∷ put_falling (suc a) (raised s))) (nat_le-suc b a) ∙ by (nat_le b a) (put-raised a s)
+put-raised a (b ∷ s) = ap (λ t. cond t (suc a ∷ suc b ∷ raised s) (suc b ∷ put_falling (suc a) (raised s))) (leb-suc-suc b a) ∙ by (nat_le b a) (put-raised a s)
   where
     by : (t : Bool) → put_falling (suc a) (raised s) ≡ raised (put_falling a s) → cond t (suc a ∷ suc b ∷ raised s) (suc b ∷ put_falling (suc a) (raised s)) ≡ raised (cond t (a ∷ b ∷ s) (b ∷ put_falling a s))
     by true r = refl
@@ -112,7 +103,7 @@ length-raised : (s : List ℕ) → length (raised s) ≡ suc (length s)
 length-raised [] = refl
 length-raised (a ∷ s) = ap suc (length-raised s)
 
-less-raised : (s : List ℕ) → less_the_rest (raised s) ≡ less_the_rest s ++ 0 ∷ []
+pub less-raised : (s : List ℕ) → less_the_rest (raised s) ≡ less_the_rest s ++ 0 ∷ []
 less-raised [] = refl
 less-raised (a ∷ s) = ap₂ (λ x l. x ∷ l) (let e = length-raised s in let d : suc a - length (raised s) ≡ a - length s = omega arith in d) (less-raised s)
 
@@ -125,15 +116,15 @@ straightened-pushed α =
     ∙ ap₂ (λ t o. cond t None o) (equal-raised (shifted α))
     (ap₂ (λ k l. Some (minus_one_to k, l)) (rising-raised (shifted α)) (ap from_beta (sorted-raised (shifted α)) ∙ from_beta-raised (sorted_falling (shifted α))))
 
--- ---- a list of exponents with a part in the last place straightens to 0, or to a partition with a row for each place
+-- ---- a list of n exponents whose last one is positive straightens to 0, or to a partition with n rows
 
--- if 0 is not among the entries, all of them are positive
+-- if 0 is not an entry of the list, all entries are positive
 positive_entries : (b : List ℕ) → has 0 b ≡ false → ArePositive b
 positive_entries [] h = tt
 positive_entries (zero ∷ b) h = absurd (cc)
-positive_entries (suc a ∷ b) h = (omega arith, positive_entries b (sym (ap (λ t. t || has 0 b) (apart_zero a)) ∙ h))
+positive_entries (suc a ∷ b) h = (omega arith, positive_entries b (sym (ap (λ t. t || has 0 b) (positive-test (suc a) (omega arith))) ∙ h))
 
--- a strictly decreasing list of n positive numbers is ρ plus a partition with n rows
+-- if a strictly decreasing list has n entries, all positive, subtracting ρ from it leaves n positive numbers
 full_rows : (b : List ℕ) → FallsStrictly b → ArePositive b → ArePositive (less_the_rest b)
 full_rows [] f p = tt
 full_rows (a ∷ b) f p = (let h = above a b f p in omega arith, full_rows b (strict_tail a b f) p.1)
@@ -145,12 +136,12 @@ full_rows (a ∷ b) f p = (let h = above a b f p in omega arith, full_rows b (st
 pub rows-full : (b : List ℕ) → FallsStrictly b → ArePositive b → rows (from_beta b) ≡ length b
 rows-full b f p = ap length (without_last_zeros-positive (less_the_rest b) (full_rows b f p)) ∙ length-less b
 
--- if the last entry of a list is positive, the list plus ρ has no entry 0
+-- if the last entry of a list of exponents is positive, the list plus ρ has no entry 0
 no_zero : (α : List ℕ) (x : ℕ) → has 0 (shifted (α ++ suc x ∷ [])) ≡ false
 no_zero [] x = ap (λ b. b || false) (alone x)
   where
     alone : (x : ℕ) → (suc x + 0 == 0) ≡ false
-    alone x = let e : suc x + 0 ≡ suc x = omega arith in ap (λ k. k == 0) e ∙ apart_zero x
+    alone x = let e : suc x + 0 ≡ suc x = omega arith in ap (λ k. k == 0) e ∙ positive-test (suc x) (omega arith)
 no_zero (a ∷ α) x = ap (λ b. b || has 0 (shifted (α ++ suc x ∷ []))) (first a (length (α ++ suc x ∷ [])) (long α)) ∙ no_zero α x
   where
     long : (α : List ℕ) → 0 < length (α ++ suc x ∷ [])
@@ -160,7 +151,7 @@ no_zero (a ∷ α) x = ap (λ b. b || has 0 (shifted (α ++ suc x ∷ []))) (fir
     first : (a k : ℕ) → 0 < k → (a + k == 0) ≡ false
     first a k h = grind (arith, nat_tests)
 
--- the pairing of φ with the Schur polynomial in n variables, with its sign, to which α straightens
+-- 0 if α straightens to 0; otherwise the pairing with φ of the Schur polynomial to which α straightens, in n variables, times its sign
 abbrev straight_value : ℕ → (List ℕ → ℤ) → List ℕ → ℤ
 straight_value n φ α = pair (combined (λ label. schur label n) (straightened_term (straightened α))) φ
 
@@ -197,14 +188,14 @@ last_part n k φ β e zero_free few = by (has_equal_entries (shifted β)) refl
             let v = ap (λ j. size (staircase j)) u in
             omega arith)
 
--- ---- sums over the arrangements in n + 1 places, by the number in the last place
+-- ---- a sum over the arrangements in k + 1 places is the sum over the arrangements in k places, if the terms with a positive last entry are 0
 
 last_zero : (F : List ℕ → ℤ) (k s : ℕ) → ((α : List ℕ) (x : ℕ) → length α ≡ k → size (α ++ suc x ∷ []) ≡ s → F (α ++ suc x ∷ []) ≡ pos 0)
     → total F (exponent_lists (suc k) s) ≡ total (λ α. F (α ++ 0 ∷ [])) (exponent_lists k s)
 last_zero F zero zero h = refl
 last_zero F zero (suc s) h =
     total_none F (exponent_lists 1 (suc s)) (λ α m. let t = members_of-exponent_lists α 1 (suc s) m in alone α t.0 t.1)
-    ∙ sym (ap (λ b. total (λ α. F (α ++ 0 ∷ [])) (cond b ([] ∷ []) [])) (apart_zero s))
+    ∙ sym (ap (λ b. total (λ α. F (α ++ 0 ∷ [])) (cond b ([] ∷ []) [])) (positive-test (suc s) (omega arith)))
   where
     alone : (α : List ℕ) → length α ≡ 1 → size α ≡ suc s → F α ≡ pos 0
     alone [] e f = absurd (omega arith)
@@ -235,7 +226,8 @@ arrangements-more parts k g h =
     by true e = e
     by false e = refl
 
--- ---- one more place than needed adds nothing to the straightened terms
+-- ---- the pairing of a list of straightened terms as a sum over the exponent lists; the sum over the arrangements in k + 1 places is that in k
+-- places, if k is at least the size of λ or the number of variables
 
 terms-value : (n : ℕ) (φ : List ℕ → ℤ) (lists : List (List ℕ)) → pair (combined (λ label. schur label n) (straightened_terms lists)) φ ≡ total (straight_value n φ) lists
 terms-value n φ lists =

@@ -1,4 +1,4 @@
--- Two neighbouring entries of a list exchanged, and contents in which two letters have exchanged their numbers.
+-- Lists with two neighbouring entries exchanged, and contents of words in which two neighbouring letters have exchanged their multiplicities.
 use Rattle.std.proofs.Common.{◌≡◌, ℕ, zero, suc, ◌+◌, ◌<◌, ◌==◌, false, ◌&&◌, List, [], ◌∷◌, ◌++◌, map, length, sym, ◌∙◌, ap, ap₂, refl, arith}
 use Rattle.sym_model.specs.Partition.{after}
 use Rattle.sym_model.specs.Polynomial.{same, join}
@@ -9,14 +9,14 @@ use Rattle.sym_model.proofs.Restrictions.{and_middle}
 use Rattle.sym_model.proofs.Lists.{map-among}
 use Rattle.std.proofs.lemmas.Bool.{and_right}
 
--- the list with the entries at the places k and k + 1, counted from 0, exchanged; a list without a place k + 1 does not change
+-- the list with the entries at the places k and k + 1, counted from 0, exchanged; a list without a place k + 1 is not changed
 abbrev pub exchanged : ℕ → List ℕ → List ℕ
 exchanged k [] = []
 exchanged zero (a ∷ []) = a ∷ []
 exchanged zero (a ∷ b ∷ α) = b ∷ a ∷ α
 exchanged (suc k) (a ∷ α) = a ∷ exchanged k α
 
--- α with the entries at places k and k + 1 exchanged is β if and only if β with these exchanged is α
+-- α with the entries at the places k and k + 1 exchanged is β if and only if β with these entries exchanged is α
 pub same_exchanged : (k : ℕ) (α β : List ℕ) → same (exchanged k α) β ≡ same α (exchanged k β)
 same_exchanged k [] [] = refl
 same_exchanged zero [] (b ∷ []) = refl
@@ -45,7 +45,8 @@ exchanged-join zero (a ∷ c ∷ α) (b ∷ []) e = absurd (omega arith)
 exchanged-join zero (a ∷ c ∷ α) (b ∷ d ∷ β) e = refl
 exchanged-join (suc k) (a ∷ α) (b ∷ β) e = ap (λ γ. (a + b) ∷ γ) (exchanged-join k α β (omega arith))
 
--- if g is f with the values at k and k + 1 exchanged, the list of the values of f is that of g with these exchanged
+-- let k and k + 1 be among a + 1, .., a + n. If f(k) = g(k + 1), f(k + 1) = g(k), and f and g agree at all other numbers, then the list of the values
+-- of f at a + 1, .., a + n is that of g with the values at k and k + 1 exchanged
 
 map_exchanged : (f g : ℕ → ℕ) (a n i k : ℕ) → k ≡ a + suc i → suc i < n → f k ≡ g (suc k) → f (suc k) ≡ g k
     → ((j : ℕ) → (j ≡ k → ⊥) → (j ≡ suc k → ⊥) → f j ≡ g j) → map f (after a n) ≡ exchanged i (map g (after a n))
@@ -59,8 +60,8 @@ map_exchanged f g a (suc (suc n)) zero k e h p q o =
 map_exchanged f g a (suc (suc n)) (suc i) k e h p q o =
     ap₂ ◌∷◌ (o (a + 1) (λ d. omega arith) (λ d. omega arith)) (map_exchanged f g (a + 1) (suc n) i k (omega arith) (omega arith) p q o)
 
--- if two words differ by exchanging the numbers of two neighbouring letters, their contents differ by exchanging these
--- places
+-- let i + 1 occur in v as often as i + 2 in w, let i + 2 occur in v as often as i + 1 in w, and let each other letter occur equally often in v and w:
+-- then the content of v is that of w with the entries at i and i + 1, counted from 0, exchanged
 pub content_exchanged : (n i : ℕ) (v w : List ℕ) → suc i < n → times_in (suc i) v ≡ times_in (suc (suc i)) w → times_in (suc (suc i)) v ≡ times_in (suc i) w
     → ((j : ℕ) → (j ≡ suc i → ⊥) → (j ≡ suc (suc i) → ⊥) → times_in j v ≡ times_in j w) → content n v ≡ exchanged i (content n w)
 content_exchanged n i v w h p q o =

@@ -1,5 +1,5 @@
--- A column c after which ν + content(c) is no longer weakly decreasing: two neighbouring entries of this sum are x and x + 1, and c does not have the
--- letter of the first of them. Then the sum of the alternants over all tableaux left of c is 0.
+-- A column c for which ν is weakly decreasing and ν + content(c) is not: for some place i, counted from 0, the entry of this sum at i + 1 is 1 more
+-- than the entry at i, and the letter i + 1 is not in c. Then the sum of the alternants over all tableaux left of c is 0.
 use Rattle.std.proofs.Common.{◌≡◌, ℕ, zero, suc, ◌+◌, ◌-◌, ◌<◌, ◌≤◌, ◌⊎◌, ◌==◌, Bool, true, false, cond, List, [], ◌∷◌, map, length, get_or, nat_le, nat_lt, sym, ◌∙◌, ap, ap₂, subst, refl, inl, inr, arith, ℤ, pos, neg_ℤ}
 use Rattle.std.proofs.lemmas.Bool.{and_parts, and_cases, leb-true, leb-false, ltb-true, eq-eqb, ne_eqb, cases_eq}
 use Rattle.sym_model.specs.Sum.{total}
@@ -22,7 +22,7 @@ use Rattle.alternant_laws.proofs.OrderSums.{pair_alternant}
 use Rattle.alternant_laws.proofs.LeftColumns.{over_all, AreLong, over_all-rows, falls-transposed}
 use Rattle.sym_model.specs.Bounded.{Lacks}
 
--- ---- a column holds each letter at most once
+-- ---- letters k ≤ a do not occur below a letter a of a column; so a strictly increasing column has each letter at most once
 
 pub none_below : (k a : ℕ) (w : List ℕ) → 0 < a → k ≤ a → is_chain may_stand_above (a ∷ w) ≡ true → times_in k w ≡ 0
 none_below k a [] p h e = refl
@@ -67,7 +67,7 @@ at_most_ones f a (suc n) zero h = h 0
 at_most_ones f a (suc n) (suc i) h =
     at_most_ones f (a + 1) n i (λ j. let e : a + suc (suc j) ≡ a + 1 + suc j = omega arith in subst (λ k. f k ≤ 1) e (h (suc j)))
 
--- ---- a place i at which the sum ν + κ increases by 1, and κ is 0
+-- ---- a place i such that the entry of ν + κ at i + 1 is 1 more than the entry at i, and κ is 0 at i
 
 pub record FailsAt (ν κ : List ℕ) : Type 0 where
   pub place : ℕ
@@ -99,8 +99,8 @@ fails (a ∷ b ∷ ν) (x ∷ y ∷ κ) l o f e =
         let w = r.within in
         record { place = suc r.place; within = omega arith; rises = r.rises; lacks = r.lacks }
 
--- if ν is decreasing and ν plus the content of the column c is not, then at some place i the next entry of this sum is 1 more than the entry at i, and
--- c does not have the letter of place i
+-- if ν is weakly decreasing and ν plus the content of the column c is not, then for some place i, counted from 0, the entry of this sum at i + 1 is 1
+-- more than that at i, and c does not have the letter i + 1
 pub column_fails : (n : ℕ) (ν c : List ℕ) → length ν ≡ n → is_chain may_stand_above c ≡ true → is_falling ν ≡ true → is_falling (join ν (content n c)) ≡ false
     → FailsAt ν (content n c)
 column_fails n ν c l e f g =
@@ -111,7 +111,7 @@ column_misses n i c h e =
     let k : 0 + suc i ≡ suc i = omega arith in
     misses (suc i) c (ap (λ j. times_in j c) (sym k) ∙ sym (at_letter (λ j. times_in j c) 0 n i h) ∙ e)
 
--- ---- alternants with two neighbouring exponents exchanged
+-- ---- lists and alternants with two neighbouring exponents exchanged
 
 exchanged_same : (i : ℕ) (β : List ℕ) → get_or β i 0 ≡ get_or β (suc i) 0 → exchanged i β ≡ β
 exchanged_same i [] e = refl
@@ -138,7 +138,8 @@ at_sum n φ ν = pair (alternant (join ν (staircase n))) φ
 pub join_right_comm : (α β γ : List ℕ) → join (join α β) γ ≡ join (join α γ) β
 join_right_comm α β γ = join_assoc α β γ ∙ ap (join α) (join_comm β γ) ∙ sym (join_assoc α γ β)
 
--- if ν at place i + 1 is 1 more than ν at place i, exchanging the entries of κ at these places changes the sign of the alternant of ν + κ + ρ
+-- if the entry of ν at i + 1 is 1 more than the entry at i, exchanging the entries of κ at i and i + 1 changes the sign of the alternant a_(ν + κ +
+-- ρ)
 turned : (n i : ℕ) (ν κ : List ℕ) (φ : List ℕ → ℤ) → length ν ≡ n → length κ ≡ n → suc i < n → get_or ν (suc i) 0 ≡ suc (get_or ν i 0)
     → at_sum n φ (join ν (exchanged i κ)) ≡ neg_ℤ (at_sum n φ (join ν κ))
 turned n i ν κ φ l m h r =
@@ -165,8 +166,8 @@ turned n i ν κ φ l m h r =
         ∙ sym (exchanged-join i (join ν (staircase n)) κ (length-join_same n ν (staircase n) l (length-staircase n) ∙ sym m))
         ∙ ap (exchanged i) (join_right_comm ν (staircase n) κ)
 
--- if the entry of ν at i + 1 is 1 more than the entry at i, and the column `right` does not have the letter i + 1, the sum of the alternants over all
--- tableaux left of this column is 0
+-- if the entry of ν at place i + 1 (counted from 0) is 1 more than the entry at i, and the column `right` does not have the letter i + 1, then the
+-- sum of the alternants a_(ν + content + ρ) over all tableaux left of this column is 0
 pub vanishes : (n i : ℕ) (lines : List (List Bool)) (right ν : List ℕ) (φ : List ℕ → ℤ) → Falls (map length lines) → AreLong (length right) lines
     → length ν ≡ n → suc i < n → get_or ν (suc i) 0 ≡ suc (get_or ν i 0) → Lacks (suc i) right
     → over_all n lines (λ s c. at_sum n φ s) ν right ≡ pos 0

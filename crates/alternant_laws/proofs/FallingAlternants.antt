@@ -1,5 +1,5 @@
--- An alternant of strictly decreasing exponents has exactly one coefficient other than 0 at a strictly decreasing list,
--- at its own exponents; and decreasing lists compared with partitions, without zeros at the end.
+-- An alternant with strictly decreasing exponents β has the coefficient 0 at each strictly decreasing list other than β. And weakly decreasing lists
+-- without the zeros at their ends, compared with partitions.
 use Rattle.std.proofs.Common.{◌≡◌, ℕ, zero, suc, ◌+◌, ◌<◌, ◌≤◌, true, cond, List, [], ◌∷◌, length, nat_le, sym, ◌∙◌, ap, ap₂, subst, refl, inl, inr, arith, ℤ, pos, ◌-ℤ◌}
 use Rattle.std.proofs.lemmas.Int.{ints}
 use Rattle.std.proofs.lemmas.Bool.{and_parts, leb-true}
@@ -16,7 +16,7 @@ use Rattle.alternant_laws.proofs.OrderSums.{pair_alternant}
 use Rattle.alternant_laws.proofs.Staircase.{alternating_below, below_weaken}
 use Rattle.sym_model.specs.Bounded.{AreAtMost, AreBelow}
 
--- ---- lists of strictly decreasing exponents, and test functions that are 0 at all others
+-- ---- strictly decreasing lists of exponents, and functions that are 0 at all lists that are not strictly decreasing
 
 abbrev pub Descends : List ℕ → Type 0
 Descends [] = Unit {0}
@@ -31,7 +31,7 @@ is_below a x [] b m = absurd m
 is_below a x (y ∷ l) b (inl e) = let h = b.0 in omega arith
 is_below a x (y ∷ l) b (inr m) = is_below a x l b.1 m
 
--- the test function is 0 at lists that are not strictly decreasing
+-- the function φ is 0 at each list that is not strictly decreasing
 abbrev OnlyDescending : (List ℕ → ℤ) → Type 0
 OnlyDescending φ = (l : List ℕ) → (Descends l → ⊥) → φ l ≡ pos 0
 
@@ -53,7 +53,7 @@ coefficient_descending α β d e =
     ∙ pair_alternant β (at_only α)
     ∙ alternating_descending β (at_only α) e (λ l n. ap (λ b. cond b (pos 1) (pos 0)) (same_apart l α (λ i. n (subst Descends (sym i) d))))
 
--- ---- decreasing numbers plus the staircase
+-- ---- no entry of a weakly decreasing list is greater than the first one; such a list plus the staircase is strictly decreasing
 
 up_to_first : (a : ℕ) (α : List ℕ) → is_falling (a ∷ α) ≡ true → AreAtMost a α
 up_to_first a [] e = tt
@@ -85,13 +85,13 @@ descends_sum zero (a ∷ α) l e = absurd (omega arith)
 descends_sum (suc n) [] l e = absurd (omega arith)
 descends_sum (suc n) (a ∷ α) l e = (below_sum a n α (omega arith) (up_to_first a α e), descends_sum n α (omega arith) (falling_rest a α e))
 
--- padding a partition with zeros does not change its sum with the staircase
+-- padding a partition with zeros to n entries does not change its sum with the staircase
 pub join_padded : (n : ℕ) (parts : List ℕ) → length parts ≤ n → join (resize n parts) (staircase n) ≡ join parts (staircase n)
 join_padded n [] h = ap (λ z. join z (staircase n)) (resize-nil n) ∙ join_zeros n (staircase n) (omega (arith, length-staircase n))
 join_padded zero (a ∷ parts) h = absurd (omega arith)
 join_padded (suc n) (a ∷ parts) h = ap (λ l. (a + n) ∷ l) (join_padded n parts (omega arith))
 
--- ---- lists with zeros appended up to n entries
+-- ---- lists padded with zeros to n entries
 
 resize-in_front : (n a : ℕ) (l : List ℕ) → resize (suc n) (in_front a l) ≡ a ∷ resize n l
 resize-in_front n zero [] = refl
@@ -116,7 +116,8 @@ falls_from_test [] e = tt
 falls_from_test (a ∷ []) e = tt
 falls_from_test (a ∷ b ∷ α) e = let p = and_parts (nat_le b a) (is_falling (b ∷ α)) e in (leb-true b a p.0, falls_from_test (b ∷ α) p.1)
 
--- α and the partition are equal up to zeros at the end if and only if their sums with the staircase are equal
+-- for a list α of n entries and a partition `parts` of at most n parts: α with the zeros at its end removed is `parts` if and only if α + ρ is
+-- `parts` + ρ
 same_sums : (n : ℕ) (α parts : List ℕ) → length α ≡ n → IsPartition parts → length parts ≤ n
     → same (join α (staircase n)) (join parts (staircase n)) ≡ same (without_last_zeros α) parts
 same_sums n α parts l p h =
@@ -129,8 +130,8 @@ same_sums n α parts l p h =
     ap (λ β. join β (staircase n)) (sym (resize-without_last_zeros n α l) ∙ ap (resize n) (same_true (without_last_zeros α) parts e))
     ∙ join_padded n parts h))
 
--- for a decreasing list α and the partition ν = `parts`, the coefficient of a_(α + ρ) at x^(ν + ρ) is 1 if ν is α without zeros at its end, and 0
--- otherwise
+-- if α is weakly decreasing and has n entries, and ν (`parts`) is a partition of at most n parts, the coefficient of x^(ν + ρ) in a_(α + ρ) is 1 if ν
+-- is α without the zeros at its end, and 0 otherwise
 pub coefficient_at_partition : (n : ℕ) (α parts : List ℕ) → length α ≡ n → is_falling α ≡ true → IsPartition parts → length parts ≤ n → is_falling (resize n parts) ≡ true
     → coefficient (alternant (join α (staircase n))) (join parts (staircase n)) ≡ cond (same (without_last_zeros α) parts) (pos 1) (pos 0)
 coefficient_at_partition n α parts l f p h g =

@@ -1,4 +1,5 @@
--- Stembridge's identity: an alternant times a skew Schur polynomial is a sum of alternants, one for each good tableau.
+-- Stembridge's identity: the alternant a_(start + ρ) times a skew Schur polynomial is the sum of the alternants a_(start + content(T) + ρ) over the
+-- tableaux T of the skew shape that are good for start.
 use Rattle.std.proofs.Common.{◌≡◌, ℕ, suc, ◌<◌, ◌≤◌, ◌⊎◌, Bool, true, false, cond, ◌&&◌, List, [], ◌∷◌, ◌++◌, map, length, reverse, nat_le, sym, ◌∙◌, ap, subst, refl, inl, inr, arith, ℤ, pos, filter}
 use Rattle.std.proofs.lemmas.Bool.{le-leb, cases_Bool}
 use Rattle.std.proofs.lemmas.List.{reverse-append, reverse-reverse}
@@ -29,10 +30,11 @@ use Rattle.alternant_laws.proofs.AlternantProducts.{alternant_times, pair_altern
 use Rattle.alternant_laws.proofs.LeftColumns.{over_all, over_all-last, fit_left, total_fit_left, fit_left-nothing, AreLong, falls-transposed, falls_last}
 use Rattle.alternant_laws.proofs.FailingColumns.{join_right_comm, at_sum, column_fails, column_misses, vanishes}
 
--- the condition that start plus the contents of the columns is weakly decreasing after each column can be dropped
+-- dropping the condition that start plus the content of the columns chosen so far is weakly decreasing does not change the sum of the alternants
 
--- for one more column c: if ν + content(c) is weakly decreasing, the conditions on the later sums can be dropped by the last hypothesis; if it is
--- not, the sum over all tableaux left of c is 0
+-- the step for one more column c, left of `right`: if ν + content(c) is not weakly decreasing, the sum of the alternants over all ways to choose the
+-- columns left of c (`over_all`) is 0; otherwise it is, by the last hypothesis, the sum over those ways in which ν plus the contents of the columns
+-- chosen so far is always weakly decreasing (`over_columns`)
 one_column : (n : ℕ) (φ : List ℕ → ℤ) (lines : List (List Bool)) (line : List Bool) (ν right c : List ℕ) → length ν ≡ n → is_falling ν ≡ true
     → Falls (map length lines) → AreLong (length line) lines → length c ≡ length line
     → (is_falling (join ν (content n c)) ≡ true
@@ -75,9 +77,9 @@ folds_equal n φ (line ∷ back) ν right l f falls =
     ∙ sym (over_columns-last n (reverse back) line (λ s d. at_sum n φ s) ν right)
     ∙ ap (λ (ls : List (List Bool)). over_columns n ls (λ s d. at_sum n φ s) ν right) (sym e)
 
--- ---- sums over all tableaux, and over the good ones
+-- ---- sums of alternants over all tableaux and over the good tableaux
 
--- the pairing of the alternant of start plus the content of the filling T plus ρ with φ
+-- the pairing of a_(start + content(T) + ρ) with φ, for a filling T with letters up to n
 abbrev pub at_filling : ℕ → (List ℕ → ℤ) → List ℕ → List (List ℕ) → ℤ
 at_filling n φ start T = at_sum n φ (join start (content n (letters_of T)))
 
@@ -93,7 +95,8 @@ all_tableaux n φ start outer inner h falls inner_falls holds =
     ∙ total_fit_left n [] (column_lines outer inner) (λ s d. at_sum n φ s) start
     ∙ ap (λ s. over_all n (column_lines outer inner) (λ s' d. at_sum n φ s') s []) (sum_at_start n start h)
 
--- the sum over the good tableaux of a function of start plus the content is the sum over all ways to add columns
+-- the sum of g(start + content(T)) over the good tableaux T is the sum of g over the ways to choose the columns one by one from the right
+-- (`over_columns`)
 pub good_sums : (n : ℕ) (g : List ℕ → ℤ) (start outer inner : List ℕ) → IsPartition start → rows start ≤ n → Falls outer → Falls inner → contains outer inner ≡ true
     → total (λ (T : List (List ℕ)). g (join start (content n (letters_of T)))) (good_tableaux n start outer inner) ≡ over_columns n (column_lines outer inner) (λ s d. g s) (resize n start) []
 good_sums n g start outer inner s h falls inner_falls holds =
@@ -128,7 +131,7 @@ good_enough n φ start outer inner s h falls inner_falls = by (cases_Bool (conta
     by (inl e) = all_tableaux n φ start outer inner h falls inner_falls e ∙ equal ∙ sym (good_sums n (at_sum n φ) start outer inner s h falls inner_falls e)
     by (inr e) = no_tableaux n start outer inner (at_filling n φ start) e
 
--- ---- Stembridge's identity, with its two sides paired with a test function
+-- ---- skew Schur polynomials are in n variables; Stembridge's identity, as an equality of the pairings of both sides with a function φ
 
 pub In-skew_schur : (n : ℕ) (outer inner : List ℕ) → In n (skew_schur outer inner n)
 In-skew_schur n outer inner =

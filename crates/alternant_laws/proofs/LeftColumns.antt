@@ -1,4 +1,4 @@
--- Sums over all ways to add columns left of a column, whether or not start plus their contents is weakly decreasing, as sums over padded rows.
+-- Sums over all ways to choose columns left of a given column, also if start plus their contents is not weakly decreasing: as sums over padded rows.
 use Rattle.std.proofs.Common.{◌≡◌, ℕ, ◌≤◌, Bool, true, cond, ◌&&◌, List, [], ◌∷◌, ◌++◌, map, length, nat_le, sym, ◌∙◌, ap, ap₂, subst, refl, arith, ℤ, pos}
 use Rattle.std.proofs.lemmas.Bool.{and_parts, and_from, leb-true, le-leb}
 use Rattle.sym_model.specs.Sum.{total, Among}
@@ -18,9 +18,10 @@ use Rattle.tableau_laws.proofs.Contents.{content-append, content-transposed}
 use Rattle.tableau_laws.proofs.ColumnSums.{total_under}
 use Rattle.alternant_laws.proofs.SymmetricSums.{is_left_of, stands_left, left_tableaux}
 
--- ---- the sums over the ways to add columns
+-- ---- the sums over the ways to choose columns left of `right` (`over_all`)
 
--- the sum of f(ν + content(c), c) over the columns c of a line that are strictly increasing and nowhere greater than the column `right`
+-- the sum of f(ν + content(c), c) over the columns c of a line that have strictly increasing letters, none greater than the letter of the column
+-- `right` in the same row
 abbrev pub next_all : ℕ → List Bool → (List ℕ → List ℕ → ℤ) → List ℕ → List ℕ → ℤ
 next_all n line f ν right =
     total (λ c. cond (is_chain may_stand_above c && pass_by_place nat_le c right) (f (join ν (content n c)) c) (pos 0)) (words_over n line)
@@ -34,19 +35,19 @@ pub over_all-last : (n : ℕ) (lines : List (List Bool)) (line : List Bool) (f :
 over_all-last n [] line f ν right = refl
 over_all-last n (first ∷ lines) line f ν right = over_all-last n lines line (next_all n first f) ν right
 
--- ---- the sums over the ways to add columns, as sums over fillings by columns
+-- ---- the sums over the ways to choose columns, as sums over fillings that are given by columns
 
--- the leftmost of the columns; `right` if there is none
+-- the leftmost column of a list of columns; `right` if the list is empty
 abbrev pub leftmost : List ℕ → List (List ℕ) → List ℕ
 leftmost right [] = right
 leftmost right (c ∷ cs) = c
 
--- whether the columns are those of a tableau left of a given column
+-- whether the columns are those of a tableau, and the last of them can be left of the column `right`
 abbrev pub fit_left : List ℕ → List (List ℕ) → Bool
 fit_left right [] = true
 fit_left right (c ∷ cs) = is_chain may_stand_above c && (pass_by_place nat_le c (leftmost right cs) && fit_left right cs)
 
--- f of ν plus the content of the columns, and of the leftmost column, if the columns fit left of `right`; otherwise 0
+-- f(ν + content of the columns, leftmost column) if the columns are those of a tableau that fits left of `right`; otherwise 0
 abbrev of_left : ℕ → List ℕ → (List ℕ → List ℕ → ℤ) → List ℕ → List (List ℕ) → ℤ
 of_left n right f ν cs = cond (fit_left right cs) (f (join ν (content n (letters_of cs))) (leftmost right cs)) (pos 0)
 
@@ -72,7 +73,7 @@ total_fit_left n right (line ∷ lines) f ν =
     (fillings_over n lines)
     ∙ total_fit_left n right lines (next_all n line f) ν
 
--- every tableau fits left of the empty column
+-- the columns fit left of the empty column if and only if they are the columns of a tableau
 pub fit_left-nothing : (cs : List (List ℕ)) → fit_left [] cs ≡ are_tableau_columns cs
 fit_left-nothing [] = refl
 fit_left-nothing (c ∷ cs) =
@@ -82,14 +83,15 @@ fit_left-nothing (c ∷ cs) =
     same_first [] = refl
     same_first (d ∷ ds) = refl
 
--- ---- the sums over the ways to add columns, as sums over padded rows
+-- ---- the sums over the ways to choose columns, as sums over padded rows
 
 -- each line has at least m places
 abbrev pub AreLong : {A : Type 0} → ℕ → List (List A) → Type 0
 AreLong m [] = Unit {0}
 AreLong m (l ∷ ls) = (m ≤ length l) × AreLong m ls
 
--- if c is nowhere greater than d, and d, which is at least as long as `right`, nowhere greater than `right`, then c is nowhere greater than `right`
+-- let d be at least as long as `right`: if no letter of c is greater than the letter of d in the same row, and no letter of d is greater than that of
+-- `right`, then no letter of c is greater than that of `right`
 pass_trans : (c d right : List ℕ) → length right ≤ length d → pass_by_place nat_le c d ≡ true → pass_by_place nat_le d right ≡ true → pass_by_place nat_le c right ≡ true
 pass_trans [] d right l p q = refl
 pass_trans (a ∷ c) d [] l p q = refl
@@ -101,7 +103,7 @@ pass_trans (a ∷ c) (b ∷ d) (x ∷ right) l p q =
     let u = leb-true b x s.0 in
     and_from (nat_le a x) (pass_by_place nat_le c right) (le-leb a x (omega arith)) (pass_trans c d right (omega arith) r.1 s.1)
 
--- none of the columns has, in any place, an entry greater than that of `right`
+-- whether no column of the list has, in any row, a letter greater than that of `right`
 abbrev pub all_beside : List ℕ → List (List ℕ) → Bool
 all_beside right [] = true
 all_beside right (c ∷ cs) = pass_by_place nat_le c right && all_beside right cs
@@ -184,7 +186,7 @@ over_all-rows n lines right g ν f l =
         ∙ ap₂ (λ (a b : Bool). a && b) (grid-transposed may_stand_above nat_le cs (subst Falls (sym e) f)) (sym (left_of_transposed right cs)))
         (sym (content-transposed n cs))
 
--- ---- the lengths of transposed lines are decreasing
+-- ---- the lengths of the lines of a transposed pattern are weakly decreasing
 
 falls-put : {A : Type 0} (row : List A) (rows : List (List A)) → Falls (map length rows) → Falls (map length (put_row row rows))
 falls-put [] rows f = f
@@ -199,7 +201,7 @@ pub falls-transposed : {A : Type 0} (lines : List (List A)) → Falls (map lengt
 falls-transposed [] = tt
 falls-transposed (line ∷ lines) = falls-put line (transposed lines) (falls-transposed lines)
 
--- without its last line, a list of lines of decreasing lengths still has decreasing lengths
+-- if the lines of a list have weakly decreasing lengths, so have the lines before the last one, and none of these is shorter than the last line
 pub falls_last : {A : Type 0} (lines : List (List A)) (line : List A) → Falls (map length (lines ++ (line ∷ []))) → Falls (map length lines) × AreLong (length line) lines
 falls_last [] line f = (tt, tt)
 falls_last (first ∷ []) line f = (tt, (f.0, tt))

@@ -1,7 +1,7 @@
 -- Sums over all orders of the places, with signs.
---     orders_reach        if exchanges of neighbours keep a property, and a list has it, each order of the list has it
---     orders_sum          the signed sum over the orders of an increasing list is its alternating sum
---     pair_alternant      pairing an alternant with a test function, as a sum over orders and as an alternating sum
+--     orders_reach        a property of a list that exchanges of neighbours keep is a property of each order of the list
+--     orders_sum          the sum of sign(w)·φ(w) over the orders w of an increasing list is the sum `alternating` of φ over the list
+--     pair_alternant      the pairing of an alternant with a function, as a sum over orders and as an alternating sum
 use Rattle.std.proofs.Common.{◌≡◌, ℕ, zero, suc, ◌+◌, ◌-◌, ◌<◌, ◌≤◌, cond, nat_lt, List, [], ◌∷◌, ◌++◌, map, length, get_or, sym, ◌∙◌, ap, ap₂, subst, refl, inl, inr, arith, ℤ, ◌+ℤ◌, ◌*ℤ◌, neg_ℤ, append_assoc}
 use Rattle.std.proofs.lemmas.Int.{ints}
 use Rattle.std.proofs.lemmas.Bool.Decides.{nat_tests}
@@ -43,7 +43,7 @@ orders_reach P k xs w p m = orders_reach_after P k [] xs w p m
 
 -- ---- lists that are strictly increasing
 
--- x is smaller than each entry
+-- x is smaller than each entry of the list
 abbrev pub AreAbove : ℕ → List ℕ → Type 0
 AreAbove x [] = Unit {0}
 AreAbove x (y ∷ v) = (x < y) × AreAbove x v
@@ -68,7 +68,7 @@ pub after_rises : (a k : ℕ) → Rises (after a k)
 after_rises a zero = tt
 after_rises a (suc k) = (after_above (a + 1) (a + 1) k (omega arith), after_rises (a + 1) k)
 
--- ---- the sign of a list with a smallest number inserted
+-- ---- the sign of a list into which a number smaller than its entries is inserted
 
 smaller_above : (x : ℕ) (v : List ℕ) → AreAbove x v → smaller x v ≡ 0
 smaller_above x [] h = refl
@@ -83,7 +83,7 @@ smaller_put x y (z ∷ v) w h (inr m) =
     let e = smaller_put x y v r.0 h r.1 in
     ap (smaller y) r.2 ∙ ap (λ n. cond (nat_lt z y) 1 0 + n) e ∙ omega arith
 
--- ---- signed sums over orders are alternating sums
+-- ---- the sum of sign(w)·φ(w) over the orders w of an increasing list is the sum `alternating` of φ over the list
 
 insertions_sum : (x : ℕ) (v : List ℕ) (φ : List ℕ → ℤ) → AreAbove x v → total (λ (w : List ℕ). sign w *ℤ φ w) (insertions x v) ≡ sign v *ℤ inserting x φ v
 insertions_sum x [] φ h = omega (arith, ints)
@@ -131,7 +131,7 @@ rearranged_after γ (b ∷ β) a h =
     let e : a + 1 - 1 ≡ a + 0 = omega arith in
     ap₂ ◌∷◌ (ap (λ k. get_or γ k 0) e ∙ h 0) (rearranged_after γ β (a + 1) (λ i. let d : a + 1 + i ≡ a + suc i = omega arith in ap (λ k. get_or γ k 0) d ∙ h (suc i)))
 
--- arranged by the places 1, .., n in this order, a list of n numbers is unchanged
+-- a list of n numbers, rearranged by the order 1, .., n of its places, is unchanged
 pub rearranged_places : (n : ℕ) (β : List ℕ) → length β ≡ n → rearranged (places n) β ≡ β
 rearranged_places n β e =
     ap (λ k. rearranged (places k) β) (sym e) ∙ rearranged_after β β 0 (λ i. let d : 0 + i ≡ i = omega arith in ap (λ k. get_or β k 0) d)
@@ -140,7 +140,7 @@ pub rearranged-join : (w α β : List ℕ) → rearranged w (join α β) ≡ joi
 rearranged-join [] α β = refl
 rearranged-join (i ∷ w) α β = ap₂ ◌∷◌ (get_or-join α β (i - 1)) (rearranged-join w α β)
 
--- ---- the pairing of an alternant is a signed sum over orders
+-- ---- the pairing of an alternant with a function, as a sum over the orders of the places with signs
 
 pub pair_orders : (n : ℕ) (β : List ℕ) (φ : List ℕ → ℤ) → length β ≡ n
     → pair (alternant β) φ ≡ total (λ (w : List ℕ). sign w *ℤ φ (rearranged w β)) (orders (places n))

@@ -1,16 +1,16 @@
--- One row of the Bender–Knuth involution: of its letters k and k + 1, those in the first s places become k, the others
+-- One row in the Bender–Knuth involution: those of its letters k and k + 1 that are in the first s places become k, and those in later places become
 -- k + 1.
 use Rattle.std.proofs.Common.{◌≡◌, ℕ, suc, ◌+◌, ◌-◌, ◌<◌, ◌≤◌, ◌⊎◌, ◌==◌, Bool, true, false, cond, List, [], ◌∷◌, length, nat_le, nat_lt, sym, ◌∙◌, ap, ap₂, refl, inl, inr, arith}
-use Rattle.std.proofs.lemmas.Bool.{cases_lt, and_parts, and_from, leb-true, le-leb, lt-ltb, le-ltb, eq-eqb, ne_eqb, cases_eq}
+use Rattle.std.proofs.lemmas.Bool.{cases_lt, and_parts, and_from, leb-true, le-leb, lt-ltb, le-ltb, eq-eqb, ne_eqb, cases_eq, cond_below}
 use Rattle.sym_model.specs.PlaceOrders.{smaller}
 use Rattle.sym_model.specs.Schur.{times_in}
 use Rattle.tableau_laws.specs.Grid.{is_chain}
 use Rattle.tableau_laws.proofs.PatternFillings.{MayStand, Fits}
 use Rattle.sym_model.specs.Bounded.{AreAtMost}
 use Rattle.tableau_laws.specs.Rows.{RisesFrom}
-use Rattle.sym_model.proofs.Numbers.{counts-less, counts-not_less}
+use Rattle.sym_model.proofs.Numbers.{counts-not_less}
 
--- ---- weakly increasing rows, as `RisesFrom` and as chains
+-- ---- weakly increasing rows, as defined by `RisesFrom` and as tested by `is_chain`
 
 chain_from : (a : ℕ) (w : List ℕ) → is_chain nat_le (a ∷ w) ≡ true → RisesFrom a w
 chain_from a [] e = tt
@@ -28,9 +28,9 @@ pub rises_chain : (w : List ℕ) → RisesFrom 0 w → is_chain nat_le w ≡ tru
 rises_chain [] r = refl
 rises_chain (a ∷ w) r = chain_back a w r.1
 
--- ---- the number of letters of a row that are smaller than j
+-- ---- the number of letters of a row that are smaller than j (`smaller j`)
 
--- 1 if the letter a is smaller than j, otherwise 0
+-- 1 if the letter a is smaller than j, and 0 otherwise
 abbrev pub is_smaller : ℕ → ℕ → ℕ
 is_smaller j a = cond (nat_lt a j) 1 0
 
@@ -54,13 +54,13 @@ smaller_next j (a ∷ w) = let e = smaller_next j w in let o = by (cases_lt a j)
 
     by : (a < j) ⊎ (j ≤ a) → (a ≡ j) ⊎ (a ≡ j → ⊥) → is_smaller (suc j) a ≡ is_smaller j a + cond {A = ℕ} (a == j) 1 0
     by (inl h) (inl e) = absurd (omega arith)
-    by (inl h) (inr d) = omega (arith, counts-less a (suc j) (omega arith), counts-less a j h, differs d)
-    by (inr h) (inl e) = omega (arith, counts-less a (suc j) (omega arith), counts-not_less a j h, equals e)
+    by (inl h) (inr d) = omega (arith, sym (cond_below {X = ℕ} a (suc j) 1 0 (omega arith)), sym (cond_below {X = ℕ} a j 1 0 h), differs d)
+    by (inr h) (inl e) = omega (arith, sym (cond_below {X = ℕ} a (suc j) 1 0 (omega arith)), counts-not_less a j h, equals e)
     by (inr h) (inr d) = omega (arith, counts-not_less a (suc j) (omega arith), counts-not_less a j h, differs d)
 
--- ---- one letter, recut into k or k + 1
+-- ---- one letter, in which k and k + 1 are replaced (`cut`)
 
--- a letter k or k + 1 becomes k if s > 0, and k + 1 if s is 0; other letters do not change
+-- `cut k s a`: the letter a if it is neither k nor k + 1; otherwise k if s > 0, and k + 1 if s = 0
 abbrev pub cut : ℕ → ℕ → ℕ → ℕ
 cut k s a = cond (nat_lt a k) a (cond (nat_lt (suc k) a) a (cond (s == 0) (suc k) k))
 
@@ -87,7 +87,7 @@ cut-first k s a h g l = cut-between k s a h g ∙ ap (λ (b : Bool). cond b (suc
 cut-second : (k s a : ℕ) → k ≤ a → a ≤ suc k → s ≡ 0 → cut k s a ≡ suc k
 cut-second k s a h g e = cut-between k s a h g ∙ ap (λ (b : Bool). cond b (suc k) k) (eq-eqb s 0 e)
 
--- the letter c that a letter a becomes by `cut`, in four cases
+-- the possible values c of `cut k s a`: a, if a < k; k, if a is k or k + 1 and s > 0; k + 1, if a is k or k + 1 and s = 0; a, if a > k + 1
 pub data Cut (k s a c : ℕ) : Type 0 where
   low : a < k → c ≡ a → Cut k s a c
   first : k ≤ a → a ≤ suc k → 0 < s → c ≡ k → Cut k s a c
@@ -127,7 +127,7 @@ cut_rises k s lo a h = by (cut k s lo) (cut k (s - 1) a) (cases_cut k s lo) (cas
     by x y (high p e) (second q u v d) = omega arith
     by x y (high p e) (high q d) = omega arith
 
--- a row with each of its letters k and k + 1 replaced: by k in its first s places, by k + 1 after them
+-- `recut k s w`: the row w with its letters k and k + 1 replaced by k in the first s places, and by k + 1 in the later places
 
 pub length-recut : (k s : ℕ) (w : List ℕ) → length (recut k s w) ≡ length w
 length-recut k s [] = refl
@@ -141,7 +141,7 @@ pub recut_rises : (k s : ℕ) (w : List ℕ) → RisesFrom 0 w → RisesFrom 0 (
 recut_rises k s [] r = tt
 recut_rises k s (a ∷ w) r = (omega arith, recut_from k s a w r.1)
 
--- replacing a by `cut k s a` does not change whether it is smaller than j, for j other than k + 1
+-- if j is not k + 1, `cut k s a` is smaller than j if and only if a is
 smaller-cut : (j k s a : ℕ) → (j ≤ k) ⊎ (suc k < j) → is_smaller j (cut k s a) ≡ is_smaller j a
 smaller-cut j k s a h = by (cut k s a) (cases_cut k s a) h
   where
@@ -149,16 +149,16 @@ smaller-cut j k s a h = by (cut k s a) (cases_cut k s a) h
     by c (low p e) g = ap (is_smaller j) e
     by c (high p e) g = ap (is_smaller j) e
     by c (first p q t e) (inl g) = ap (is_smaller j) e ∙ counts-not_less k j g ∙ sym (counts-not_less a j (omega arith))
-    by c (first p q t e) (inr g) = ap (is_smaller j) e ∙ counts-less k j (omega arith) ∙ sym (counts-less a j (omega arith))
+    by c (first p q t e) (inr g) = ap (is_smaller j) e ∙ sym (cond_below {X = ℕ} k j 1 0 (omega arith)) ∙ sym (sym (cond_below {X = ℕ} a j 1 0 (omega arith)))
     by c (second p q t e) (inl g) = ap (is_smaller j) e ∙ counts-not_less (suc k) j (omega arith) ∙ sym (counts-not_less a j (omega arith))
-    by c (second p q t e) (inr g) = ap (is_smaller j) e ∙ counts-less (suc k) j g ∙ sym (counts-less a j (omega arith))
+    by c (second p q t e) (inr g) = ap (is_smaller j) e ∙ sym (cond_below {X = ℕ} (suc k) j 1 0 g) ∙ sym (sym (cond_below {X = ℕ} a j 1 0 (omega arith)))
 
 pub smaller-recut : (j k s : ℕ) (w : List ℕ) → (j ≤ k) ⊎ (suc k < j) → smaller j (recut k s w) ≡ smaller j w
 smaller-recut j k s [] h = refl
 smaller-recut j k s (a ∷ w) h = ap₂ ◌+◌ (smaller-cut j k s a h) (smaller-recut j k (s - 1) w h)
 
--- if a weakly increasing row has at most s letters smaller than k and at least s smaller than k + 2, `recut k s` gives it exactly s letters smaller
--- than k + 1
+-- if a weakly increasing row has at most s letters smaller than k, and at least s letters smaller than k + 2, then `recut k s` of the row has s
+-- letters smaller than k + 1
 pub smaller-recut_middle : (k s lo : ℕ) (w : List ℕ) → RisesFrom lo w → smaller k w ≤ s → s ≤ smaller (suc (suc k)) w → smaller (suc k) (recut k s w) ≡ s
 smaller-recut_middle k s lo [] r h g = omega arith
 smaller-recut_middle k s lo (a ∷ w) r h g = by (cut k s a) (cases_cut k s a) (smaller-recut_middle k (s - 1) a w r.1)
@@ -166,16 +166,16 @@ smaller-recut_middle k s lo (a ∷ w) r h g = by (cut k s a) (cases_cut k s a) (
     by : (c : ℕ) → Cut k s a c → (smaller k w ≤ s - 1 → s - 1 ≤ smaller (suc (suc k)) w → smaller (suc k) (recut k (s - 1) w) ≡ s - 1)
         → is_smaller (suc k) c + smaller (suc k) (recut k (s - 1) w) ≡ s
     by c (low p e) later =
-        let x = counts-less a k p in
-        let y = counts-less a (suc (suc k)) (omega arith) in
+        let x = sym (cond_below {X = ℕ} a k 1 0 p) in
+        let y = sym (cond_below {X = ℕ} a (suc (suc k)) 1 0 (omega arith)) in
         let z = later (omega arith) (omega arith) in
-        let t = counts-less c (suc k) (omega arith) in
+        let t = sym (cond_below {X = ℕ} c (suc k) 1 0 (omega arith)) in
         omega arith
     by c (first p q l e) later =
         let x = none_smaller k a w r.1 p in
-        let y = counts-less a (suc (suc k)) (omega arith) in
+        let y = sym (cond_below {X = ℕ} a (suc (suc k)) 1 0 (omega arith)) in
         let z = later (omega arith) (omega arith) in
-        let t = counts-less c (suc k) (omega arith) in
+        let t = sym (cond_below {X = ℕ} c (suc k) 1 0 (omega arith)) in
         omega arith
     by c (second p q l e) later =
         let x = none_smaller k a w r.1 p in
@@ -190,7 +190,7 @@ smaller-recut_middle k s lo (a ∷ w) r h g = by (cut k s a) (cases_cut k s a) (
         let t = counts-not_less c (suc k) (omega arith) in
         omega arith
 
--- if a weakly increasing row w is recut at any s and then at the number of letters of w smaller than k + 1, the result is w
+-- let the row w be weakly increasing, with t letters smaller than k + 1: `recut k t` of `recut k s w` is w, for any s
 pub recut_twice : (k s lo : ℕ) (w : List ℕ) → RisesFrom lo w → recut k (smaller (suc k) w) (recut k s w) ≡ w
 recut_twice k s lo [] r = refl
 recut_twice k s lo (a ∷ w) r =
@@ -199,11 +199,11 @@ recut_twice k s lo (a ∷ w) r =
   where
     one_less : (k < a) ⊎ (a ≤ k) → is_smaller (suc k) a + smaller (suc k) w - 1 ≡ smaller (suc k) w
     one_less (inl h) = let x = none_smaller (suc k) a w r.1 (omega arith) in let y = counts-not_less a (suc k) (omega arith) in omega arith
-    one_less (inr h) = let y = counts-less a (suc k) (omega arith) in omega arith
+    one_less (inr h) = let y = sym (cond_below {X = ℕ} a (suc k) 1 0 (omega arith)) in omega arith
 
     places : (k < a) ⊎ (a ≤ k) → ((k < a) × (is_smaller (suc k) a + smaller (suc k) w ≡ 0)) ⊎ ((a ≤ k) × (0 < is_smaller (suc k) a + smaller (suc k) w))
     places (inl h) = let x = none_smaller (suc k) a w r.1 (omega arith) in let y = counts-not_less a (suc k) (omega arith) in inl (h, omega arith)
-    places (inr h) = let y = counts-less a (suc k) (omega arith) in inr (h, omega arith)
+    places (inr h) = let y = sym (cond_below {X = ℕ} a (suc k) 1 0 (omega arith)) in inr (h, omega arith)
 
     twice : (S c d : ℕ) → Cut k s a c → Cut k S c d → ((k < a) × (S ≡ 0)) ⊎ ((a ≤ k) × (0 < S)) → d ≡ a
     twice S c d (low p e) (low q f) g = omega arith
@@ -230,7 +230,8 @@ recut_twice k s lo (a ∷ w) r =
     by : (c : ℕ) → Cut k s a c → (d : ℕ) → Cut k (is_smaller (suc k) a + smaller (suc k) w) c d → d ≡ a
     by c x d y = twice (is_smaller (suc k) a + smaller (suc k) w) c d x y (places (cases_lt k a))
 
--- ---- recutting a row keeps the cells empty that were empty, the letters from 1 to n, and all letters other than k and k + 1
+-- ---- for 0 < k < n, `recut` changes only letters k and k + 1 of a padded row: empty places stay empty, and letters from 1 to n become letters from
+-- 1 to n
 
 letter_fits : (n k s : ℕ) (p : Bool) (a : ℕ) → 0 < k → k < n → MayStand n p a → MayStand n p (cut k s a)
 letter_fits n k s false a h g m = cut-low k s a (omega arith) ∙ m

@@ -1,5 +1,5 @@
--- The Littlewood–Richardson rule: products of Schur polynomials and skew Schur polynomials as sums of Schur polynomials over
--- good tableaux, and their Schur coefficients as counts.
+-- The Littlewood–Richardson rule: the product of a Schur polynomial and a skew Schur polynomial as a sum of Schur polynomials over good tableaux, and
+-- its Schur coefficients as counts of good tableaux.
 use Rattle.std.proofs.Common.{◌≡◌, ℕ, ◌<◌, ◌≤◌, ◌⊎◌, Bool, true, false, cond, ◌&&◌, List, [], ◌∷◌, length, nat_le, sym, ◌∙◌, ap, inl, inr, arith, pos, filter, flat_map}
 use Rattle.std.proofs.lemmas.Bool.{cases_lt, and_left, lt-leb}
 use Rattle.sym_model.specs.Sum.{Among}
@@ -31,7 +31,7 @@ use Rattle.alternant_laws.proofs.FallingAlternants.{join_padded, resize-without_
 use Rattle.alternant_laws.proofs.StraightShapes.{OnlyCells, leftmost_line, straight_columns, too_few_letters, leftmost_line_cells, leftmost_line_length}
 use Rattle.alternant_laws.proofs.GoodAlternants.{at_filling, good_sums, In-skew_schur, stembridge}
 
--- ---- a_ρ times a Schur polynomial
+-- ---- a_ρ·s_λ is a_(λ + ρ), if λ has at most n rows
 
 pub bialternant : (n : ℕ) (parts : List ℕ) → IsPartition parts → rows parts ≤ n → Same (times (alternant (staircase n)) (schur parts n)) (alternant (join parts (staircase n)))
 bialternant n parts p h =
@@ -43,7 +43,7 @@ bialternant n parts p h =
     ∙ straight_columns n parts (at_sum n φ) p h
     ∙ ap (λ β. pair (alternant β) φ) (join_padded n parts h)))
 
--- ---- the Schur polynomial of a partition with more rows than variables is 0
+-- ---- no tableau with letters from 1 to n has a leftmost column of more than n cells; so s_λ is 0 if λ has more rows than there are variables
 
 no_columns : (n : ℕ) (lines : List (List Bool)) (cs : List (List ℕ)) → OnlyCells (leftmost_line lines) → n < length (leftmost_line lines) → AllFit n lines cs → are_tableau_columns cs ≡ false
 no_columns n [] cs o h f = absurd (omega arith)
@@ -63,7 +63,7 @@ schur_few_variables n parts p h =
 
 -- ---- sums of Schur polynomials over good tableaux
 
--- for a good tableau T, start + content(T) is a weakly decreasing list of n numbers, and without its last zeros a partition with at most n rows
+-- start + content(T) is a weakly decreasing list of n numbers; without the zeros at its end it is a partition
 record IsGoodSum (n : ℕ) (start : List ℕ) (T : List (List ℕ)) : Type 0 where
   falls : is_falling (join start (content n (letters_of T))) ≡ true
   length : length (join start (content n (letters_of T))) ≡ n
@@ -79,7 +79,8 @@ good_sum n start outer inner T h falls m =
     let s = length-without_last_zeros (join start (content n (letters_of T))) in
     record { falls = f; length = l; partition = IsPartition-without_last_zeros (join start (content n (letters_of T))) (falls_from_test (join start (content n (letters_of T))) f); few = omega arith }
 
--- a_ρ times the sum of s_(start + content(T)) over the good tableaux T is the sum of a_(start + content(T) + ρ)
+-- if start has at most n rows, a_ρ times the sum of s_(start + content(T)) over the good tableaux T is the sum of a_(start + content(T) + ρ) over the
+-- good tableaux T
 staircase_times_good : (n : ℕ) (start outer inner : List ℕ) → rows start ≤ n → Falls outer
     → Same (times (alternant (staircase n)) (good_schurs n start outer inner)) (good_alternants n start outer inner)
 staircase_times_good n start outer inner h falls =
@@ -103,7 +104,7 @@ skew-good_schurs n outer inner o i =
     (stembridge n [] outer inner IsPartition-none (omega arith) o i)
     (Same_sym (times (alternant (staircase n)) (good_schurs n [] outer inner)) (good_alternants n [] outer inner) (staircase_times_good n [] outer inner (omega arith) o.falls)))
 
--- a_ρ times the product of s_start and a skew Schur polynomial is the sum of a_(start + content(T) + ρ) over the good tableaux T
+-- if start has at most n rows, a_ρ·s_start·s_(outer/inner) is the sum of a_(start + content(T) + ρ) over the good tableaux T of outer/inner
 pub staircase_product : (n : ℕ) (start outer inner : List ℕ) → IsPartition start → IsPartition outer → IsPartition inner → rows start ≤ n
     → Same (times (alternant (staircase n)) (times (schur start n) (skew_schur outer inner n))) (good_alternants n start outer inner)
 staircase_product n start outer inner p o i h =

@@ -1,16 +1,15 @@
--- An alternant with two equal exponents is 0; any other is the sign of sorting its exponents times the alternant of the
+-- An alternant with two equal exponents is 0. If all exponents are different, it is the sign of sorting the exponents times the alternant of the
 -- sorted list.
-use Rattle.std.proofs.Common.{◌≡◌, ◌⊎◌, ℕ, ◌+◌, ◌-◌, Bool, true, false, ◌||◌, ◌==◌, cond, List, [], ◌∷◌, ◌++◌, length, refl, sym, ◌∙◌, ap, ap₂, subst, inl, inr, arith, ℤ, pos, neg_ℤ, ◌*ℤ◌}
-use Rattle.std.proofs.lemmas.Int.{ints}
-use Rattle.std.proofs.lemmas.Bool.{cases_eq, eqb-true, le-ltb}
+use Rattle.std.proofs.Common.{◌≡◌, ◌⊎◌, ℕ, ◌+◌, ◌-◌, Bool, true, false, ◌||◌, cond, List, [], ◌∷◌, ◌++◌, length, refl, sym, ◌∙◌, ap, ap₂, subst, inl, inr, arith, ℤ, pos, neg_ℤ, ◌*ℤ◌}
+use Rattle.std.proofs.lemmas.Bool.{cases_eq, le-ltb}
 use Rattle.sym_model.specs.Partition.{Falls}
 use Rattle.sym_model.specs.Polynomial.{join, pair, nothing, negate}
 use Rattle.sym_model.specs.Bases.{has}
 use Rattle.sym_model.specs.Alternant.{alternant, staircase}
 use Rattle.sym_model.specs.PlaceOrders.{minus_one_to}
 use Rattle.sym_model.specs.BetaList.{has_equal_entries, sorted_falling, greater, rising_pairs, sorting_sign, less_the_rest, from_beta}
-use Rattle.sym_model.proofs.Ring.{ring, one-product}
-use Rattle.sym_model.proofs.SortedParts.{Falls_tail}
+use Rattle.sym_model.proofs.Ring.{one-product, double_negation-product}
+use Rattle.sym_model.proofs.SortedParts.{Falls_tail, has_rest}
 use Rattle.sym_model.proofs.Polynomials.{pair_determined, pair_negate}
 use Rattle.sym_model.proofs.Parts.{length-without_last_zeros}
 use Rattle.beta_list_laws.specs.StrictFall.{FallsStrictly}
@@ -20,7 +19,7 @@ use Rattle.alternant_laws.proofs.Alternants.{alternant_exchange, alternant_equal
 use Rattle.alternant_laws.proofs.FallingAlternants.{join_padded, resize-without_last_zeros}
 use Rattle.std.proofs.Math.Seq.{append_snoc}
 
--- ---- the alternant is 0 if two exponents are equal
+-- ---- the place of an entry of a list; an alternant with two equal exponents is 0
 
 place_of : (a : ℕ) (b : List ℕ) → has a b ≡ true → (middle : List ℕ) × (right : List ℕ) × (b ≡ middle ++ (a ∷ right))
 place_of a [] h = absurd (cc)
@@ -28,11 +27,7 @@ place_of a (c ∷ b) h = by (cases_eq c a) (λ g. place_of a b g)
   where
     by : (c ≡ a) ⊎ (c ≡ a → ⊥) → (has a b ≡ true → (middle : List ℕ) × (right : List ℕ) × (b ≡ middle ++ (a ∷ right))) → (middle : List ℕ) × (right : List ℕ) × (c ∷ b ≡ middle ++ (a ∷ right))
     by (inl e) r = ([], b, ap (λ x. x ∷ b) e)
-    by (inr n) r = let p = r (later (c == a) refl h) in (c ∷ p.0, p.1, ap (λ l. c ∷ l) p.2)
-      where
-        later : (t : Bool) → (c == a) ≡ t → (t || has a b) ≡ true → has a b ≡ true
-        later true e g = absurd (n (eqb-true c a e))
-        later false e g = g
+    by (inr n) r = let p = r (has_rest a c b n h) in (c ∷ p.0, p.1, ap (λ l. c ∷ l) p.2)
 
 alternant-equal_under : (left β : List ℕ) (φ : List ℕ → ℤ) → has_equal_entries β ≡ true → pair (alternant (left ++ β)) φ ≡ pos 0
 alternant-equal_under left [] φ h = absurd (cc)
@@ -48,7 +43,7 @@ alternant-equal_under left (a ∷ b) φ h = by (has a b) refl h (λ g. subst (λ
 pub alternant-equal : (β : List ℕ) (φ : List ℕ → ℤ) → has_equal_entries β ≡ true → pair (alternant β) φ ≡ pos 0
 alternant-equal β φ h = alternant-equal_under [] β φ h
 
--- ---- sorting the exponents multiplies an alternant by the sign of sorting
+-- ---- no later entry of a decreasing list is greater than the first; sorting the exponents multiplies an alternant by the sign of sorting
 
 no_greater : (a : ℕ) (l : List ℕ) → Falls (a ∷ l) → greater a l ≡ 0
 no_greater a [] f = refl
@@ -77,9 +72,6 @@ alternant-sorted β φ = sort_back P β kept sorted
     kept : KeptByExchanges P
     kept left a b right p h = by (cases_eq a b)
       where
-        turned : (x y : ℤ) → neg_ℤ (neg_ℤ x *ℤ y) ≡ x *ℤ y
-        turned x y = simp ring (omega (arith, ints))
-
         by : (a ≡ b) ⊎ (a ≡ b → ⊥) → pair (alternant (left ++ (b ∷ a ∷ right))) φ ≡ sorting_sign (left ++ (b ∷ a ∷ right)) *ℤ pair (alternant (sorted_falling β)) φ
         by (inl e) =
             let same : left ++ (a ∷ b ∷ right) ≡ left ++ (b ∷ a ∷ right) = ap₂ (λ x y. left ++ (x ∷ y ∷ right)) e (sym e) in
@@ -88,9 +80,9 @@ alternant-sorted β φ = sort_back P β kept sorted
             pair_determined (alternant (left ++ (b ∷ a ∷ right))) (negate (alternant (left ++ (a ∷ b ∷ right)))) φ (alternant_exchange left [] right b a)
             ∙ pair_negate (alternant (left ++ (a ∷ b ∷ right))) φ
             ∙ ap neg_ℤ (p (equal-exchange left a b right ∙ h) ∙ ap (λ s. s *ℤ pair (alternant (sorted_falling β)) φ) (sorting_sign-exchange left a b right n))
-            ∙ turned (sorting_sign (left ++ (b ∷ a ∷ right))) (pair (alternant (sorted_falling β)) φ)
+            ∙ double_negation-product (sorting_sign (left ++ (b ∷ a ∷ right))) (pair (alternant (sorted_falling β)) φ)
 
--- ---- the sorted list as a partition plus ρ
+-- ---- the sorted list of different exponents is a partition plus ρ
 
 less-join : (b : List ℕ) → FallsStrictly b → join (less_the_rest b) (staircase (length b)) ≡ b
 less-join [] f = refl

@@ -1,7 +1,7 @@
--- The Bender–Knuth involution on padded rows: in each row, the number of letters smaller than k + 1 is reflected in the
--- range that the neighbouring rows allow.
+-- The Bender–Knuth involution on the padded rows of a tableau: if the neighbouring rows allow the number of letters smaller than k + 1 in a row to be
+-- any number from a to b, the involution replaces this number x by a + b - x.
 use Rattle.std.proofs.Common.{◌≡◌, ℕ, suc, ◌+◌, ◌-◌, ◌<◌, ◌≤◌, ◌⊎◌, min, max, Bool, true, ◌&&◌, List, [], ◌∷◌, map, length, nat_le, nat_lt, sym, ◌∙◌, ap, ap₂, subst, refl, inl, inr, arith}
-use Rattle.std.proofs.lemmas.Bool.{cases_lt, cases_eq, and_parts, and_from, ltb-true, lt-ltb}
+use Rattle.std.proofs.lemmas.Bool.{cases_lt, cases_eq, and_parts, and_from, ltb-true, lt-ltb, cond_below}
 use Rattle.sym_model.specs.Partition.{Falls}
 use Rattle.sym_model.specs.PlaceOrders.{smaller}
 use Rattle.sym_model.specs.Schur.{times_in, letters_of}
@@ -13,12 +13,13 @@ use Rattle.alternant_laws.proofs.Rows.{chain_tells, rises_chain, none_smaller, s
 use Rattle.sym_model.specs.Bounded.{AreAtMost, Lacks}
 use Rattle.tableau_laws.specs.Rows.{RisesFrom}
 use Rattle.sym_model.proofs.Lists.{smaller-within}
-use Rattle.sym_model.proofs.Numbers.{counts-less, counts-not_less}
+use Rattle.sym_model.proofs.Numbers.{counts-not_less}
 use Rattle.std.proofs.Math.Nat.{add-sub_cancel_left}
 
--- ---- two rows, one above the other
+-- ---- two rows, of which the upper one can be directly above the lower one
 
--- for each j > 0 the lower row has at most as many letters less than j + 1 as the upper row has letters less than j
+-- for each j > 0, the number of letters less than j + 1 in the lower row is at most the number of letters less than j in the upper row; for weakly
+-- increasing rows this says that the columns are strictly increasing
 abbrev pub StandsOver : List ℕ → List ℕ → Type 0
 StandsOver upper lower = (j : ℕ) → 0 < j → smaller (suc j) lower ≤ smaller j upper
 
@@ -38,8 +39,8 @@ stands_tells lo lo' (a ∷ upper) (b ∷ lower) r s l e j h =
         let y = none_smaller (suc j) b lower s.1 g in
         omega arith
     by q later (inr g) =
-        let x = counts-less b (suc j) (omega arith) in
-        let y = counts-less a j (omega arith) in
+        let x = sym (cond_below {X = ℕ} b (suc j) 1 0 (omega arith)) in
+        let y = sym (cond_below {X = ℕ} a j 1 0 (omega arith)) in
         omega arith
 
 stands_back : (lo lo' : ℕ) (upper lower : List ℕ) → RisesFrom lo upper → RisesFrom lo' lower → StandsOver upper lower → pass_by_place may_stand_above upper lower ≡ true
@@ -54,7 +55,7 @@ stands_back lo lo' (a ∷ upper) (b ∷ lower) r s o =
     first (inl h) = h
     first (inr h) =
         let g = o a (omega arith) in
-        let x = counts-less b (suc a) (omega arith) in
+        let x = sym (cond_below {X = ℕ} b (suc a) 1 0 (omega arith)) in
         let y = counts-not_less a a (omega arith) in
         let z = none_smaller a a upper r.1 (omega arith) in
         absurd (omega arith)
@@ -63,19 +64,19 @@ stands_back lo lo' (a ∷ upper) (b ∷ lower) r s o =
     later j h (inl g) c = let y = none_smaller (suc j) b lower s.1 g in omega arith
     later j h (inr g) (inl c) =
         let t = o j h in
-        let x = counts-less b (suc j) (omega arith) in
-        let y = counts-less a j c in
+        let x = sym (cond_below {X = ℕ} b (suc j) 1 0 (omega arith)) in
+        let y = sym (cond_below {X = ℕ} a j 1 0 c) in
         omega arith
     later j h (inr g) (inr c) =
         let t = o j h in
-        let x = counts-less b (suc j) (omega arith) in
+        let x = sym (cond_below {X = ℕ} b (suc j) 1 0 (omega arith)) in
         let y = counts-not_less a j c in
         let z = none_smaller j a upper r.1 c in
         absurd (omega arith)
 
--- ---- a stack: weakly increasing rows, each of which fits above the next
+-- ---- lists of weakly increasing rows, each of which can be directly above the next one (`IsStack`)
 
--- each row is weakly increasing, and fits above the next
+-- each row is weakly increasing, and can be directly above the next row (`StandsOver`)
 abbrev pub IsStack : List (List ℕ) → Type 0
 IsStack [] = Unit {0}
 IsStack (w ∷ ws) = RisesFrom 0 w × (StandsOver w (first_line ws) × IsStack ws)
@@ -102,10 +103,10 @@ stack_back (w ∷ ws) s =
     and_from (is_chain nat_le w) (pass_by_place may_stand_above w (first_line ws) && is_padded_tableau ws) (rises_chain w s.0)
     (and_from (pass_by_place may_stand_above w (first_line ws)) (is_padded_tableau ws) (stands_back 0 0 w (first_line ws) s.0 (first_rises ws s.1.1) s.1.0) (stack_back ws s.1.1))
 
--- ---- the involution on a stack of rows
+-- ---- the involution on a stack of rows (`toggled`)
 
--- the number of letters smaller than k + 1 that the involution gives the row w, if the row above has c letters smaller than k and the next row d
--- letters smaller than k + 2
+-- the number of letters smaller than k + 1 in the row to which the involution takes w, if the row above has c letters smaller than k, and the next
+-- row has d letters smaller than k + 2
 abbrev pub middle : ℕ → ℕ → List ℕ → ℕ → ℕ
 middle k c w d = (min c (smaller (suc (suc k)) w) + max (smaller k w) d) - smaller (suc k) w
 
@@ -113,7 +114,8 @@ abbrev pub toggled : ℕ → ℕ → List (List ℕ) → List (List ℕ)
 toggled k c [] = []
 toggled k c (w ∷ ws) = recut k (middle k c w (smaller (suc (suc k)) (first_line ws))) w ∷ toggled k (smaller k w) ws
 
--- `middle` is in the range that the row w and its two neighbours allow
+-- `middle k c w d` is at least the number of letters of w smaller than k and at least d, and at most the number of letters of w smaller than k + 2
+-- and at most c
 record HasRoom (k c d : ℕ) (w : List ℕ) : Type 0 where
   low : smaller k w ≤ middle k c w d
   high : middle k c w d ≤ smaller (suc (suc k)) w
@@ -133,11 +135,12 @@ has_room k c d w p q =
     let r = room_of c d (smaller k w) (smaller (suc k) w) (smaller (suc (suc k)) w) p q (omega arith) (omega arith) in
     record { low = r.0; high = r.1; above = r.2; below = r.3; sum = r.4 }
 
--- if w is weakly increasing and `middle` is in its range, w recut at `middle` has `middle` letters smaller than k + 1
+-- if w is weakly increasing and `middle` is within its bounds (`HasRoom`), the row `recut k (middle k c w d) w` has `middle k c w d` letters smaller
+-- than k + 1
 middle_smaller : (k c d : ℕ) (w : List ℕ) → RisesFrom 0 w → HasRoom k c d w → smaller (suc k) (recut k (middle k c w d) w) ≡ middle k c w d
 middle_smaller k c d w r h = smaller-recut_middle k (middle k c w d) 0 w r h.low h.high
 
--- if j is not k + 1, `toggled k` keeps the number of letters of the first row that are smaller than j
+-- if j is not k + 1, `toggled k c` does not change the number of letters of the first row that are smaller than j
 first_smaller : (j k c : ℕ) (ws : List (List ℕ)) → (j ≤ k) ⊎ (suc k < j) → smaller j (first_line (toggled k c ws)) ≡ smaller j (first_line ws)
 first_smaller j k c [] h = refl
 first_smaller j k c (w ∷ ws) h = smaller-recut j k (middle k c w (smaller (suc (suc k)) (first_line ws))) w h
@@ -150,7 +153,7 @@ row_room : (k c : ℕ) (w : List ℕ) (ws : List (List ℕ)) → StandsOver w (f
     → HasRoom k c (smaller (suc (suc k)) (first_line ws)) w
 row_room k c w ws o h = has_room k c (smaller (suc (suc k)) (first_line ws)) w h (o (suc k) (omega arith))
 
--- if the first row of a stack has at most c letters smaller than k + 1, it has at most c also after `toggled k c`
+-- if the first row of a stack has at most c letters smaller than k + 1, so has the first row after `toggled k c`
 first_within : (k c : ℕ) (ws : List (List ℕ)) → IsStack ws → smaller (suc k) (first_line ws) ≤ c → smaller (suc k) (first_line (toggled k c ws)) ≤ c
 first_within k c [] s h = h
 first_within k c (w ∷ ws) s h =
@@ -196,7 +199,7 @@ toggled_stack k c (w ∷ ws) p s h = (
   (toggled_over k c w ws p s h, toggled_stack k (smaller k w) ws p s.1.1 (s.1.0 k p)),
 )
 
--- `toggled`, done twice, changes nothing
+-- `toggled k c` is an involution on the stacks whose first row has at most c letters smaller than k + 1
 pub toggled_twice : (k c : ℕ) (rows : List (List ℕ)) → 0 < k → IsStack rows → smaller (suc k) (first_line rows) ≤ c → toggled k c (toggled k c rows) ≡ rows
 toggled_twice k c [] p s h = refl
 toggled_twice k c (w ∷ ws) p s h =
@@ -213,9 +216,9 @@ toggled_twice k c (w ∷ ws) p s h =
     ap₂ ◌∷◌ (ap (λ i. recut k i w') again ∙ recut_twice k (middle k c w d) 0 w s.0)
     (ap (λ i. toggled k i (toggled k (smaller k w) ws)) low ∙ toggled_twice k (smaller k w) ws p s.1.1 (s.1.0 k p))
 
--- `toggled` exchanges the numbers of letters k and k + 1 in the content
+-- `toggled` exchanges the number of letters k and the number of letters k + 1
 
--- the number of letters of all rows that are smaller than j
+-- the number of letters smaller than j in all rows together
 abbrev pub all_smaller : ℕ → List (List ℕ) → ℕ
 all_smaller j [] = 0
 all_smaller j (w ∷ ws) = smaller j w + all_smaller j ws
@@ -249,8 +252,8 @@ all_smaller_middle k c (w ∷ ws) p s h =
     ∙ add_up c d (smaller k w) (smaller (suc k) w) (smaller (suc (suc k)) w) (middle k c w d) (all_smaller (suc k) ws) (all_smaller (suc k) (toggled k (smaller k w) ws)) (all_smaller k ws) (all_smaller (suc (suc k)) ws)
     m.sum (all_smaller_middle k (smaller k w) ws p s.1.1 (s.1.0 k p))
 
--- the Bender–Knuth involution on all rows, which exchanges the numbers of letters k and k + 1; as no row is above the
--- first, the bound c of `toggled` is the length of the first row
+-- the Bender–Knuth involution on a stack of rows: it exchanges the number of letters k and the number of letters k + 1. As no row is above the first
+-- one, the bound c of `toggled` is the length of the first row
 abbrev pub toggle : ℕ → List (List ℕ) → List (List ℕ)
 toggle k rows = toggled k (length (first_line rows)) rows
 
@@ -269,7 +272,7 @@ all_smaller_toggle k rows p s =
     let b = smaller-within (suc (suc k)) (first_line rows) in
     omega arith
 
--- the number of letters k after the involution is the number of letters k + 1 before it
+-- the number of letters k after the Bender–Knuth involution is the number of letters k + 1 before it
 pub toggle_lower : (k : ℕ) (rows : List (List ℕ)) → 0 < k → IsStack rows → times_in k (letters_of (toggle k rows)) ≡ times_in (suc k) (letters_of rows)
 toggle_lower k rows p s =
     let a = all_smaller_next k (toggle k rows) in
@@ -302,7 +305,7 @@ toggle_others j k rows n m =
     next (inl l) = inl l
     next (inr l) = inr (omega arith)
 
--- the rows after `toggled` fill the same cells with letters from 1 to n
+-- if the rows fit a pattern, with letters from 1 to n, so do the rows after `toggled k c`
 
 pub toggled_fits : (n k c : ℕ) (pattern : List (List Bool)) (rows : List (List ℕ)) → 0 < k → k < n → AllFit n pattern rows → AllFit n pattern (toggled k c rows)
 toggled_fits n k c [] [] p q f = tt
@@ -311,7 +314,7 @@ toggled_fits n k c (line ∷ pattern) [] p q f = absurd f
 toggled_fits n k c (line ∷ pattern) (w ∷ ws) p q f =
     (recut_fits n k (middle k c w (smaller (suc (suc k)) (first_line ws))) line w p q f.0, toggled_fits n k (smaller k w) pattern ws p q f.1)
 
--- no letter of a row is greater than the letter of the column in that row, as far as both go
+-- for each i for which there is a row i and an i-th letter of the column, no letter of row i is greater than this letter
 abbrev pub AreLeftOf : List ℕ → List (List ℕ) → Type 0
 AreLeftOf column [] = Unit {0}
 AreLeftOf [] (w ∷ ws) = Unit {0}

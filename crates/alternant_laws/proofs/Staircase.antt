@@ -13,7 +13,7 @@ use Rattle.alternant_laws.proofs.OrderSums.{pair_alternant}
 use Rattle.alternant_laws.proofs.Alternants.{In_alternant}
 use Rattle.sym_model.specs.Bounded.{AreBelow}
 
--- ---- an alternating sum of entries below n depends only on the values of the test function at lists of entries below n
+-- ---- an alternating sum over a list with entries below n depends only on the values of the function at lists with entries below n
 
 inserting_below : (n x : ℕ) (φ ψ : List ℕ → ℤ) → x < n → ((l : List ℕ) → AreBelow n l → φ l ≡ ψ l) → (l : List ℕ) → AreBelow n l → inserting x φ l ≡ inserting x ψ l
 inserting_below n x φ ψ h e [] b = e (x ∷ []) (h, tt)
@@ -32,13 +32,13 @@ staircase_below : (n : ℕ) → AreBelow n (staircase n)
 staircase_below zero = tt
 staircase_below (suc n) = (omega arith, below_weaken n (staircase n) (staircase_below n))
 
--- ---- x^ρ is the leading term of a_ρ
+-- ---- the alternating sum of the function 0 is 0; x^ρ is the leading term of a_ρ
 
 inserting_zero : (x : ℕ) (φ : List ℕ → ℤ) → ((l : List ℕ) → φ l ≡ pos 0) → (l : List ℕ) → inserting x φ l ≡ pos 0
 inserting_zero x φ e [] = e (x ∷ [])
 inserting_zero x φ e (y ∷ ys) = ap₂ ◌-ℤ◌ (e (x ∷ y ∷ ys)) (inserting_zero x (λ l. φ (y ∷ l)) (λ l. e (y ∷ l)) ys)
 
--- the test function is 0 at the lists that are lexicographically smaller than `top`
+-- the function φ is 0 at each list that is lexicographically smaller than `top`
 abbrev VanishesBelow : (List ℕ → ℤ) → List ℕ → Type 0
 VanishesBelow φ top = (l : List ℕ) → Above top l → φ l ≡ pos 0
 
@@ -54,7 +54,7 @@ alternating_staircase (suc n) φ v =
     alternating_below n (staircase n) (inserting n φ) (λ l. φ (n ∷ l)) (staircase_below n) (inserting_greatest n φ v)
     ∙ alternating_staircase n (λ l. φ (n ∷ l)) (λ l h. v (n ∷ l) (inr (refl, h)))
 
--- at exponents that are not lexicographically smaller than ρ, a_ρ has the coefficients of x^ρ
+-- if α is not lexicographically smaller than ρ, the coefficient of x^α in a_ρ is 1 if α = ρ, and 0 otherwise
 coefficient_staircase : (n : ℕ) (α : List ℕ) → (Above (staircase n) α → ⊥) → coefficient (alternant (staircase n)) α ≡ at_only α (staircase n)
 coefficient_staircase n α h =
     coefficient_pair (alternant (staircase n)) α

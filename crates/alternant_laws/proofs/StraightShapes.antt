@@ -1,8 +1,8 @@
--- A straight shape has one good tableau for the empty start: each column has 1, 2, 3 and so on. So a_ρ times a Schur
+-- A straight shape has only one good tableau for the empty start: each of its columns has the letters 1, 2, 3, and so on. So a_ρ times a Schur
 -- polynomial is one alternant.
 use Rattle.std.proofs.Common.{◌≡◌, ℕ, zero, suc, ◌+◌, ◌-◌, ◌<◌, ◌≤◌, ◌⊎◌, Bool, true, false, cond, ◌&&◌, List, [], ◌∷◌, ◌++◌, map, length, replicate, reverse, get_or, nat_le, nat_lt, sym, ◌∙◌, ap, ap₂, subst, refl, inl, inr, arith, ℤ, pos}
 use Rattle.std.proofs.lemmas.Bool.{cases_lt, cases_eq, cases_Bool, and_parts, and_from, leb-true, le-leb, ltb-true, lt-ltb, le-ltb, false_from_ne_true}
-use Rattle.std.proofs.lemmas.List.{reverse-append, reverse-reverse}
+use Rattle.std.proofs.lemmas.List.{reverse-append, reverse-reverse, get_or_past}
 use Rattle.sym_model.specs.Sum.{Among}
 use Rattle.sym_model.specs.Partition.{Falls, ArePositive, IsPartition, rows, after}
 use Rattle.sym_model.specs.Polynomial.{join, resize}
@@ -11,7 +11,6 @@ use Rattle.sym_model.specs.GoodTableau.{is_falling}
 use Rattle.sym_model.proofs.Sums.{total_only}
 use Rattle.sym_model.proofs.Exponents.{length-join_same, length-resize, get_or-join}
 use Rattle.sym_model.proofs.Contents.{times_in-here, times_in-other}
-use Rattle.sym_model.proofs.Parts.{past_end}
 use Rattle.tableau_laws.specs.PaddedRows.{put_row, transposed, words_over, line_of, pattern_of}
 use Rattle.tableau_laws.specs.Grid.{is_chain, pass_by_place, may_stand_above}
 use Rattle.tableau_laws.specs.ColumnFold.{may_be_next, over_columns, column_lines}
@@ -24,7 +23,7 @@ use Rattle.alternant_laws.proofs.Exchanges.{length_content}
 use Rattle.alternant_laws.proofs.LeftColumns.{AreLong, falls_last, falls-transposed}
 use Rattle.alternant_laws.proofs.FailingColumns.{at_letter}
 
--- ---- decreasing lists, place by place
+-- ---- weakly decreasing lists, by their entries at neighbouring places (`Places`); lists compared place by place
 
 abbrev pub Places : List ℕ → Type 0
 Places α = (i : ℕ) → get_or α (suc i) 0 ≤ get_or α i 0
@@ -42,16 +41,16 @@ places_fall [] h = refl
 places_fall (a ∷ []) h = refl
 places_fall (a ∷ b ∷ α) h = and_from (nat_le b a) (is_falling (b ∷ α)) (le-leb b a (h 0)) (places_fall (b ∷ α) (λ i. h (suc i)))
 
--- two lists of one length with the same entries are equal
+-- two lists of the same length that have the same entry at each place are equal
 pub same_places : (α β : List ℕ) → length α ≡ length β → ((i : ℕ) → i < length α → get_or α i 0 ≡ get_or β i 0) → α ≡ β
 same_places [] [] l e = refl
 same_places [] (b ∷ β) l e = absurd (omega arith)
 same_places (a ∷ α) [] l e = absurd (omega arith)
 same_places (a ∷ α) (b ∷ β) l e = ap₂ ◌∷◌ (e 0 (omega arith)) (same_places α β (omega arith) (λ i h. e (suc i) (omega arith)))
 
--- ---- columns of letters that are strictly increasing
+-- ---- columns with strictly increasing letters
 
--- the letters are greater than a and are strictly increasing
+-- the letters of the column are greater than a and strictly increasing
 Ascends : ℕ → List ℕ → Type 0
 Ascends a [] = Unit {0}
 Ascends a (v ∷ w) = (a < v) × Ascends v w
@@ -96,7 +95,7 @@ after_beside a zero k = refl
 after_beside a (suc h) zero = refl
 after_beside a (suc h) (suc k) = and_from (nat_le (a + 1) (a + 1)) (pass_by_place nat_le (after (a + 1) h) (after (a + 1) k)) (le-leb (a + 1) (a + 1) (omega arith)) (after_beside (a + 1) h k)
 
--- ---- the number of times that a letter occurs in a column
+-- ---- the number of times that a letter occurs in a column with strictly increasing letters
 
 none_at : (k a : ℕ) (w : List ℕ) → Ascends a w → k ≤ a → times_in k w ≡ 0
 unfolding Ascends
@@ -127,10 +126,10 @@ after_past : (k a h : ℕ) → a + h < k → times_in k (after a h) ≡ 0
 after_past k a zero p = refl
 after_past k a (suc h) p = times_in-other k (a + 1) (after (a + 1) h) (λ e. absurd (omega arith)) ∙ after_past k (a + 1) h (omega arith)
 
--- ---- the only column that can be added left of the column 1, .., m
+-- ---- the column 1, .., h is the only one that can be added left of the column 1, .., m
 
--- if the letters of w are strictly increasing from a + 1 on, at most their right neighbours a + 1, .., a + m, and no later letter occurs without the
--- one before it, then w is a + 1, a + 2, ..
+-- let the letters of w be strictly increasing and greater than a; let none be greater than the letter at the same place of a + 1, .., a + m; and let
+-- no letter k + 1 > a + m + 1 occur in w unless k does. Then w is a + 1, a + 2, ..
 only_column : (a m : ℕ) (w : List ℕ) → Ascends a w → pass_by_place nat_le w (after a m) ≡ true → ((k : ℕ) → a + m < k → times_in (suc k) w ≤ times_in k w) → w ≡ after a (length w)
 unfolding Ascends
 only_column a m [] s p o = refl
@@ -159,9 +158,9 @@ only_column a (suc m) (v ∷ w) s p o =
     (only_column v m w s.1 (subst (λ b. pass_by_place nat_le w (after b m) ≡ true) (sym e) q.1)
     (λ k g. let t = o k (omega arith) in let x = times_in-other k v w (λ i. absurd (omega arith)) in let y = times_in-other (suc k) v w (λ i. absurd (omega arith)) in omega arith)))
 
--- the sums of ν and the contents of the columns 1, 2, .. added to it
+-- ---- ν plus the contents of columns that are added one after another, each with the letters 1, 2, 3, ..
 
--- ν has the entry 0 at each place from h on
+-- ν has the entry 0 at each place from h on, counted from 0
 abbrev pub EndsAt : ℕ → List ℕ → Type 0
 EndsAt h ν = (i : ℕ) → h ≤ i → get_or ν i 0 ≡ 0
 
@@ -169,9 +168,10 @@ pub at_content : (n i : ℕ) (w : List ℕ) → i < n → get_or (content n w) i
 at_content n i w h = let e : 0 + suc i ≡ suc i = omega arith in at_letter (λ k. times_in k w) 0 n i h ∙ ap (λ k. times_in k w) e
 
 pub past_content : (n i : ℕ) (w : List ℕ) → n ≤ i → get_or (content n w) i 0 ≡ 0
-past_content n i w h = past_end (content n w) i (omega (arith, length_content n w))
+past_content n i w h = get_or_past (content n w) i 0 (omega (arith, length_content n w))
 
--- if ν is 0 from place m on, a column without empty places that can be next left of the column 1, .., m is the column 1, 2, 3 and so on
+-- if ν is 0 from place m on, a column c without empty places that can be added left of the column 1, .., m (`may_be_next`) has the letters 1, 2, 3,
+-- and so on
 next_is : (n m : ℕ) (line : List Bool) (ν c : List ℕ) → OnlyCells line → Fits n line c → EndsAt m ν → may_be_next n ν (after 0 m) c ≡ true → c ≡ after 0 (length line)
 next_is n m line ν c o f ends e =
     let p = and_parts (is_chain may_stand_above c) (pass_by_place nat_le c (after 0 m) && is_falling (join ν (content n c))) e in
@@ -225,17 +225,18 @@ next_ends n m h ν ends l i g =
     none (inl b) = at_content n i (after 0 h) b ∙ after_past (suc i) 0 h (omega arith)
     none (inr b) = past_content n i (after 0 h) b
 
--- ν plus the contents of the columns 1, 2, .. of the lengths of these lines
+-- ν plus, for the length h of each line, the content of the column with the letters 1, .., h
 sum_along : ℕ → List ℕ → List (List Bool) → List ℕ
 sum_along n ν [] = ν
 sum_along n ν (line ∷ back) = sum_along n (join ν (content n (after 0 (length line)))) back
 
--- the lines, from the rightmost one on, have only cells, and their lengths are weakly increasing, at least m and at most n
+-- all places of the lines, which are listed from the rightmost one on, are cells; the lengths of the lines are weakly increasing, at least m and at
+-- most n
 AreStraight : ℕ → ℕ → List (List Bool) → Type 0
 AreStraight n m [] = Unit {0}
 AreStraight n m (line ∷ back) = OnlyCells line × ((m ≤ length line) × ((length line ≤ n) × AreStraight n (length line) back))
 
-single : (b : Bool) (x : ℤ) → b ≡ true → cond b x (pos 0) ≡ x
+pub single : (b : Bool) (x : ℤ) → b ≡ true → cond b x (pos 0) ≡ x
 single b x e = ap (λ (c : Bool). cond c x (pos 0)) e
 
 over_straight : (n m : ℕ) (g : List ℕ → ℤ) (back : List (List Bool)) (ν : List ℕ) → is_falling ν ≡ true → EndsAt m ν → AreStraight n m back
@@ -260,9 +261,9 @@ over_straight n m g (line ∷ back) ν f e s =
     other c a d (inl t) = absurd (d (next_is n m line ν c s.0 (word_tells n line c a) e t))
     other c a d (inr t) = ap (λ (b : Bool). cond b (over_columns n (reverse back) (λ s' r. g s') (join ν (content n c)) c) (pos 0)) t
 
--- ---- the sum of the contents of all columns is the shape
+-- ---- for a straight shape, the contents of the columns with the letters 1, .., h, for h the length of each column, add up to the shape
 
--- the number of lines with more than i places
+-- the number of lines that have more than i places
 longer : ℕ → List (List Bool) → ℕ
 longer i [] = 0
 longer i (line ∷ lines) = cond (nat_lt i (length line)) 1 0 + longer i lines
@@ -340,7 +341,7 @@ longer_transposed zero (line ∷ lines) f = longer_first line (transposed lines)
 longer_transposed (suc i) (line ∷ lines) f =
     longer_put i line (transposed lines) (length-transposed lines (falls_below line lines f) line f) ∙ longer_transposed i lines (falls_below line lines f)
 
--- ---- the column lines of a straight shape
+-- ---- the lines of the columns of a straight shape
 
 -- all places of the lines are cells, and no line has more than k places
 AllCells : ℕ → List (List Bool) → Type 0
@@ -421,7 +422,8 @@ sum_is_shape n parts p =
         let f = at_resize n i parts h in
         omega arith
 
--- for a partition with at most n rows and the empty start, the columns can be added in only one way: the sum of g over all ways is g at the partition
+-- for a partition with at most n rows and the empty start, the columns can be chosen in only one way: the sum of g(content) over all ways to choose
+-- them is g(the partition, padded with zeros to n entries)
 pub straight_columns : (n : ℕ) (parts : List ℕ) (g : List ℕ → ℤ) → IsPartition parts → rows parts ≤ n
     → over_columns n (column_lines parts []) (λ s d. g s) (resize n []) [] ≡ g (resize n parts)
 straight_columns n parts g p h =
@@ -433,7 +435,7 @@ straight_columns n parts g p h =
     (subst (λ (ls : List (List Bool)). AllCells n ls) (sym (reverse-reverse (column_lines parts []))) (all_cells_more (length parts) n (column_lines parts []) h (all_cells_straight parts))))
     ∙ ap g (sum_is_shape n parts p)
 
--- ---- no tableau of a straight shape has fewer letters than rows
+-- ---- the letters of a column are strictly increasing; so a straight shape with more than n rows has no tableau with letters from 1 to n
 
 ascends_length : (n a : ℕ) (line : List Bool) (w : List ℕ) → Ascends a w → OnlyCells line → Fits n line w → a ≤ n → a + length w ≤ n
 unfolding Ascends
@@ -453,12 +455,12 @@ too_few_letters n line c o f h =
     let l = fits_length n line c f in
     absurd (omega arith))
 
--- the line of the leftmost column; an empty one if there is none
+-- the line of the leftmost column; the empty line if there is no column
 abbrev pub leftmost_line : List (List Bool) → List Bool
 leftmost_line [] = []
 leftmost_line (line ∷ lines) = line
 
--- a row on top that begins with a cell adds one cell to the leftmost column
+-- if a row that begins with a cell is added on top of the columns, the line of the leftmost column is one cell longer
 first_put : (row : List Bool) (lines : List (List Bool)) → leftmost_line (put_row (true ∷ row) lines) ≡ true ∷ leftmost_line lines
 first_put row [] = refl
 first_put row (c ∷ lines) = refl

@@ -1,4 +1,4 @@
--- The involution on semistandard tableaux as they are defined, and the symmetry of skew Schur polynomials.
+-- The Bender–Knuth involution on the semistandard tableaux of a skew shape (`tableaux`), and the symmetry of skew Schur polynomials.
 use Rattle.std.proofs.Common.{◌≡◌, ℕ, zero, suc, ◌-◌, ◌<◌, ◌≤◌, ◌⊎◌, Bool, true, false, cond, ◌&&◌, List, [], ◌∷◌, ◌++◌, map, length, replicate, drop, sym, ◌∙◌, ap, ap₂, subst, refl, inl, inr, arith, ℤ, pos, filter}
 use Rattle.std.proofs.lemmas.Bool.{cases_Bool, cases_lt, cases_eq}
 use Rattle.std.proofs.lemmas.List.{length-append}
@@ -25,7 +25,7 @@ use Rattle.alternant_laws.proofs.Stacks.{IsStack, stack_tells, stack_back, toggl
 use Rattle.alternant_laws.proofs.SymmetricSums.{is_left_of, stands_left, left_tableaux, total_exchanged}
 use Rattle.sym_model.proofs.Polynomials.{at_only}
 
--- ---- the rows of a tableau from its padded rows
+-- ---- the rows of a filling of a skew shape, from its padded rows (`unpadded`)
 
 abbrev pub unpadded : List ℕ → List (List ℕ) → List (List ℕ)
 unpadded inner [] = []
@@ -40,7 +40,7 @@ unpadded-padded : (inner : List ℕ) (rows : List (List ℕ)) → unpadded inner
 unpadded-padded inner [] = refl
 unpadded-padded inner (row ∷ rows) = ap₂ ◌∷◌ (drop_zeros (part inner 1) row) (unpadded-padded (drop 1 inner) rows)
 
--- the involution does not change letters other than k and k + 1
+-- the Bender–Knuth involution changes only letters k and k + 1
 
 letters_agree : (k s a : ℕ) → AgreeBut k a (cut k s a)
 letters_agree k s a = by (cut k s a) (cases_cut k s a)
@@ -71,12 +71,13 @@ fillings_agree : (k c : ℕ) (inner : List ℕ) (rows : List (List ℕ)) → Fil
 fillings_agree k c inner [] = tt
 fillings_agree k c inner (w ∷ ws) = (drop_agree k (part inner 1) w _ (rows_agree k _ w), fillings_agree k (smaller k w) (drop 1 inner) ws)
 
--- ---- the involution `exchange`, and the properties of a tableau and of its image
+-- ---- the Bender–Knuth involution `exchange` on the rows of a tableau, and the properties of a tableau and of its image
 
 abbrev pub exchange : ℕ → List ℕ → List (List ℕ) → List (List ℕ)
 exchange k inner T = unpadded inner (toggle k (padded inner T))
 
--- the padded rows of T are a stack; `exchange` takes T to a tableau of the list, whose padded rows are those of T toggled
+-- the padded rows of T are a stack (`IsStack`); `exchange k inner T` is in the list of the tableaux, and its padded rows are those of T after
+-- `toggle k`
 record HasPartner (n k : ℕ) (outer inner : List ℕ) (T : List (List ℕ)) : Type 0 where
   stack : IsStack (padded inner T)
   listed : Among (exchange k inner T) (tableaux n outer inner)
@@ -124,13 +125,14 @@ bender_knuth n k outer inner p q o i =
       others = λ T m. subst (λ (U : List (List ℕ)). FillingsAgreeBut k U (exchange k inner T)) (unpadded-padded inner T) (fillings_agree k (length (first_line (padded inner T))) inner (padded inner T));
     }
 
--- ---- skew Schur polynomials are symmetric
+-- ---- every filling is left of the empty column; skew Schur polynomials are symmetric
 
 left_of_nothing : (rows : List (List ℕ)) → is_left_of [] rows ≡ true
 left_of_nothing [] = refl
 left_of_nothing (w ∷ ws) = refl
 
--- all padded tableaux fit left of the empty column
+-- every filling of the pattern that is a tableau fits left of the empty column, so sums over `left_tableaux n pattern []` are sums over all tableaux
+-- of the pattern
 pub total_left_of_nothing : (n : ℕ) (pattern : List (List Bool)) (g : List (List ℕ) → ℤ)
     → total (of_tableaux g) (fillings_over n pattern) ≡ total g (left_tableaux n pattern [])
 total_left_of_nothing n pattern g =
@@ -148,7 +150,7 @@ coefficient_rows n outer inner α i e =
     (λ T m. ap (at_only α) (sym (content-padded n inner T)))
     ∙ total_left_of_nothing n (pattern_of outer inner) (λ (rows : List (List ℕ)). at_only α (content n (letters_of rows)))
 
--- if α is longer than n, it is not the content of rows with letters up to n
+-- if α has more than n entries, it is not the content, in the letters 1, .., n, of any rows
 too_long : (n : ℕ) (α : List ℕ) (rows : List (List ℕ)) → n < length α → at_only α (content n (letters_of rows)) ≡ pos 0
 too_long n α rows h =
     ap (λ (b : Bool). cond b (pos 1) (pos 0)) (same_apart (content n (letters_of rows)) α (λ e. let l = length_content n (letters_of rows) in let d = ap length e in omega arith))

@@ -1,7 +1,7 @@
--- Lists of whole numbers written as fractions.
---     numerators-as_fractions   the numerators of the fractions are the list
+-- Lists of terms with integer coefficients, written with the coefficients as fractions over 1 (`as_fractions`).
+--     numerators-as_fractions   the list of the numerators of these fractions is the given list
 --     AreWhole-as_fractions     all denominators are 1
---     whole_counts              a list with given counts as its coefficients and labels of at most k rows is one as in `ListsCounts`
+--     whole_counts              if the labels are partitions of at most k rows, with the coefficients `count ν`, the list satisfies `ListsCounts`
 use Rattle.std.proofs.Common.{◌≡◌, ℕ, ◌≤◌, ℤ, pos, List, [], ◌∷◌, refl, sym, ◌∙◌, ap, subst}
 use Rattle.sym_model.specs.Sum.{Among}
 use Rattle.sym_model.specs.Polynomial.{coefficient}

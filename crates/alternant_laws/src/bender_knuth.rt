@@ -7,9 +7,9 @@ ghost use Rattle.sym_model.specs.Symmetric.{Symmetric};
 ghost use Rattle.alternant_laws.specs.BenderKnuth.{BenderKnuth};
 
 /// For each skew shape and each k from 1 to n - 1 there is an involution on the semistandard
-/// tableaux of that shape with entries from 1 to n. It exchanges the numbers of entries k and k+1,
-/// and every other entry stays in its cell. So the skew Schur polynomial in n variables is
-/// symmetric.
+/// tableaux of that shape with entries from 1 to n. It exchanges the number of entries k and the
+/// number of entries k+1 of a tableau, and leaves every other entry in its cell. So the skew Schur
+/// polynomial in n variables is symmetric.
 ///
 /// Example: the tableaux of the shape (2) with entries from 1 to 2 are 11, 12 and 22; the
 /// involution for k = 1 exchanges 11 and 22 and leaves 12.

@@ -6,15 +6,17 @@
 //!
 //! What is proved:
 //!
-//! `bender_knuth_law`: the involutions on semistandard tableaux, and the symmetry of skew Schur
-//! polynomials. `alternant_law`: exchanging two exponents changes the sign of an alternant, and the
-//! leading monomial of a_ρ is x^ρ. `stembridge_law`: in every number of variables a_(λ+ρ)·s_(μ/ν)
-//! is the sum of a_(λ+ω(T)+ρ) over the good tableaux T for the start λ, with ω(T) the content of T.
-//! `littlewood_richardson_law`: products of Schur polynomials and skew Schur polynomials are sums
-//! over good tableaux, and their Schur coefficients are the counts; the classical product of
-//! several factors has the Schur coefficients of their product. `straighten_law`: a monomial
-//! symmetric polynomial as the sum of Schur polynomials, with signs, over the arrangements of its
-//! label, in every number of variables.
+//! `bender_knuth_law`: the Bender–Knuth involutions on semistandard tableaux, and the symmetry of
+//! skew Schur polynomials. `alternant_law`: exchanging two exponents changes the sign of an
+//! alternant, and the leading monomial of a_ρ is x^ρ. `stembridge_law`: in every number of
+//! variables a_(λ+ρ)·s_(μ/ν) is the sum of a_(λ+ω(T)+ρ) over the good tableaux T of the shape μ/ν
+//! for the start λ; here ω(T) is the content of T, and T is good for λ if, for each column, λ plus
+//! the content of that column and of the columns to its right is a partition.
+//! `littlewood_richardson_law`: s_λ·s_(μ/ν) is the sum of s_(λ+ω(T)) over the same tableaux T, and
+//! so the Schur coefficients of products and of skew Schur polynomials are counts of good tableaux;
+//! the list of terms `classical_product` of several factors has the Schur coefficients of their
+//! product. `straighten_law`: m_λ is the sum of the Schur polynomials, with signs, to which the
+//! arrangements of λ straighten, in every number of variables.
 #![tactic(auto)]
 
 mod bender_knuth;

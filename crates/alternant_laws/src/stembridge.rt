@@ -11,10 +11,11 @@ ghost use Rattle.alternant_laws.specs.GoodSums.{good_alternants, good_schurs};
 
 /// In n variables, for each partition λ with at most n rows and each skew shape μ/ν: a_(λ+ρ) times
 /// s_(μ/ν) is the sum of a_(λ+ω(T)+ρ) over the good tableaux T of the shape μ/ν for the start λ,
-/// with entries from 1 to n, where ω(T) is the content of T (Stembridge). T is good if, for each
-/// column, λ plus the content of that column and of those right of it is a partition.
+/// with entries from 1 to n (Stembridge). Here ω(T) is the content of T, and T is good for λ if,
+/// for each column, λ plus the content of that column and of the columns to its right is a
+/// partition.
 ///
-/// So a_ρ·s_μ is a_(μ+ρ), and s_μ is 0 if μ has more rows than there are variables.
+/// So a_ρ·s_μ is a_(μ+ρ) if μ has at most n rows, and s_μ is 0 if it has more.
 pub fn stembridge_law()
     ensures identity { (n : ℕ) (start outer inner : List ℕ) → IsPartition start → rows start ≤ n
         → IsPartition outer → IsPartition inner
@@ -29,17 +30,20 @@ pub fn stembridge_law()
 
 /// The Littlewood–Richardson rule, in every number n of variables: s_λ·s_(μ/ν) is the sum of
 /// s_(λ+ω(T)) over the good tableaux T of the shape μ/ν for the start λ, with entries from 1 to n;
-/// so s_(μ/ν) is the sum of s_(ω(T)) over those for the empty start. T is good if, for each column,
-/// λ plus the content of that column and of those right of it is a partition; ω(T) is the content
-/// of T.
+/// so s_(μ/ν) is the sum of s_(ω(T)) over the good tableaux T of that shape for the empty start.
+/// Here ω(T) is the content of T, and T is good for λ if, for each column, λ plus the content of
+/// that column and of the columns to its right is a partition.
 ///
-/// So the Schur coefficients of a product and of a skew Schur polynomial are the counts of good
-/// tableaux: for a decreasing α, the alternant a_(α+ρ) has at x^(ν+ρ) the coefficient 1 if ν is α
-/// without the zeros at its end, and 0 for other partitions ν.
+/// So the Schur coefficients of s_λ·s_μ and of s_(μ/ν) are counts of good tableaux. This follows
+/// from the coefficients of alternants: for a decreasing α, the alternant a_(α+ρ) has at x^(ν+ρ)
+/// the coefficient 1 if the partition ν is α without the zeros at its end, and 0 for other
+/// partitions ν.
 ///
-/// The classical product of several factors lists partitions of one size only; at each partition κ
-/// with at most k rows, of whatever size, it has the Schur coefficient of κ in the product of the
-/// factors in k variables.
+/// The classical product of several factors in k variables (`classical_product`) is a list of
+/// terms. Its labels are partitions with at most k rows, and the size of each label is the sum of
+/// the sizes of the factors. For each partition κ with at most k rows, of whatever size, the
+/// coefficient of κ in this list is the Schur coefficient of κ in the product of the Schur
+/// polynomials of the factors in k variables.
 pub fn littlewood_richardson_law()
     ensures product { (n : ℕ) (start outer inner : List ℕ) → IsPartition start → IsPartition outer
         → IsPartition inner

@@ -1,4 +1,4 @@
-//! The straightening rule.
+//! The straightening rule: m_λ as a sum of Schur polynomials with signs.
 
 ghost use Rattle.std.specs.Prelude.{◌≡◌, ℕ, ◌≤◌, ◌∷◌, [], pos, negsuc, List, Some, None};
 ghost use Rattle.sym_model.specs.Polynomial.{Same};
@@ -10,10 +10,11 @@ ghost use Rattle.sym_model.specs.Straightening.{straightened};
 ghost use Rattle.sym_model.specs.WholeTerms.{combined};
 ghost use Rattle.alternant_laws.specs.StraightenedTerms.{straightened_terms};
 
-/// In every number n of variables m_λ is the sum, over the distinct arrangements α of λ in n
-/// places, of what α straightens to: 0 if two entries of α + ρ are equal, and otherwise the sign of
-/// sorting α + ρ times the Schur polynomial of the sorted list less ρ (Macdonald, I.3). Instead of
-/// n places any number of places that is at least the size of λ gives the same sum.
+/// Let α be an arrangement, in n places, of the parts of λ and of zeros. It straightens to 0 if two
+/// entries of α + ρ are equal, and otherwise to the sign of sorting α + ρ times the Schur
+/// polynomial of the sorted list less ρ (Macdonald, I.3). In every number n of variables, m_λ is
+/// the sum, over the distinct α, of the polynomials to which the α straighten. The arrangements in
+/// d places give the same sum, for each d that is at least the size of λ.
 ///
 /// Example: (0,2) straightens to -s_(1,1) in two variables, so m_(2) = s_(2) - s_(1,1) there.
 pub fn straighten_law()

@@ -1,4 +1,4 @@
--- Bounds for the numbers at the start and at the end of a conversion.
+-- Comparisons of the growths into different bases (`growth`), and bounds for the coefficients at the start and at the end of a change of basis.
 use Rattle.std.proofs.Common.{◌≡◌, ◌⊎◌, ℕ, zero, suc, ◌*◌, ◌^◌, ◌≤◌, List, [], ◌∷◌, ◌++◌, refl, ap, inl, inr, arith}
 use Rattle.std.proofs.lemmas.Nat.{mul-le}
 use Rattle.sym_model.specs.Sum.{Among}
@@ -25,7 +25,7 @@ AreWithin-push g h done k v w l s t m = by (Among_from_append t done ((k, v) ∷
         here (inl e) = let x = ap (λ (u : List ℕ × Fraction). size u.0) e in omega arith
         here (inr n) = absurd n
 
--- ---- the growths into e, h and p are equal
+-- ---- at each degree, the growths into e, h and p are equal
 
 pub same_growth : (family : Family) (d : ℕ) → growth (basis_in family) d ≡ growth Basis.completes d
 same_growth Elementary zero = refl
@@ -35,13 +35,13 @@ same_growth Complete (suc d) = refl
 same_growth PowerSum zero = refl
 same_growth PowerSum (suc d) = refl
 
--- ---- the growths into all bases
+-- ---- the growths into all bases, compared with the growth into m
 
 same_schurs : (d : ℕ) → growth schurs d ≡ growth Basis.monomials d
 same_schurs zero = refl
 same_schurs (suc d) = refl
 
--- no basis has a smaller growth than m
+-- at each degree, the growth into m is at most the growth into each other basis
 pub growth-least : (target : Basis) (d : ℕ) → growth Basis.monomials d ≤ growth target d
 growth-least target zero = omega arith
 growth-least Basis.monomials (suc d) = omega arith
@@ -57,16 +57,16 @@ growth-rises completes d e h = grown-mono d e h
 growth-rises power_sums d e h = omega (arith, same_growth PowerSum d, same_growth PowerSum e, grown-mono d e h)
 growth-rises schurs d e h = omega (arith, same_schurs d, same_schurs e, growth-mono d e h)
 
--- ---- comparing a number of 2^127 or more with N·D times a growth
+-- ---- numbers of 2^127 or more that are at most N times a growth
 
 -- if n ≤ N·g, g ≤ k and 1 ≤ D, then n ≤ N·D·k
 pub wide : (n N D g k : ℕ) → 1 ≤ D → n ≤ N * g → g ≤ k → n ≤ N * D * k
 wide n N D g k d h l = let m = mul-le N g (N * D) k (let t = mul-le N 1 N D (omega arith) d in omega arith) l in omega arith
 
--- if N·D times the growth at degree d is 2^127 or more, so is N·D times that at each degree e ≥ d
+-- if N·D·`growth`(target, d) is 2^127 or more and d ≤ e, then N·D·`growth`(target, e) is 2^127 or more
 pub large-higher : (target : Basis) (N D d e : ℕ) → d ≤ e → 2 ^ 127 ≤ N * D * growth target d → 2 ^ 127 ≤ N * D * growth target e
 large-higher target N D d e l h = let m = mul-le (N * D) (growth target d) (N * D) (growth target e) (omega arith) (growth-rises target d e l) in omega arith
 
--- if N times the growth into m is 2^127 or more, so is N·D times the growth into each basis, for D ≥ 1
+-- if N times the growth into m at d is 2^127 or more, and D ≥ 1, then N·D times the growth into each basis at d is 2^127 or more
 pub large-least : (target : Basis) (N D d : ℕ) → 1 ≤ D → 2 ^ 127 ≤ N * growth Basis.monomials d → 2 ^ 127 ≤ N * D * growth target d
 large-least target N D d p h = wide (2 ^ 127) N D (growth Basis.monomials d) (growth target d) p h (growth-least target d)

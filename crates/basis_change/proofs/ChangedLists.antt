@@ -1,4 +1,4 @@
--- The results of a change of basis of a list with integer coefficients.
+-- The result of changing a list with integer coefficients into another basis (`IsChanged`), and the clearing factor of the change.
 use Rattle.std.proofs.Common.{◌≡◌, ℕ, ◌*◌, ◌^◌, ◌≤◌, refl, sym, ◌∙◌, arith, pos, Ok, Err}
 use Rattle.std.specs.Prelude.{Result, IsErr, IsErrAnd}
 use Rattle.calc_base.specs.declared.faults.SumFault.{SumFault}
@@ -42,7 +42,7 @@ factor-positive completes d = factorial-positive d
 factor-positive power_sums d = factorial-positive d
 factor-positive schurs d = omega arith
 
--- the clearing factor is at most the growth
+-- the clearing factor of a target and a degree d is at most the growth into the target at d
 pub factor-within : (target : Basis) (d : ℕ) → clearing_factor target d ≤ growth target d
 factor-within Basis.monomials d = growth-positive d
 factor-within elementaries d = omega (arith, same_growth Elementary d, factorial-within d)
@@ -50,7 +50,7 @@ factor-within completes d = factorial-within d
 factor-within power_sums d = omega (arith, same_growth PowerSum d, factorial-within d)
 factor-within schurs d = omega (arith, growth-least schurs d, growth-positive d)
 
--- no target allows labels of more than 20 cells
+-- the greatest degree that is allowed for a target (`degree_limit`) is at most 20
 pub limit-most : (target : Basis) → degree_limit target ≤ 20
 limit-most Basis.monomials = omega arith
 limit-most elementaries = omega arith
@@ -76,7 +76,7 @@ failed target size list (Err x) fault h k l = record {
   large = λ i. l (let j : x ≡ fault = k in let m = i in cc);
 }
 
--- for the target m the list itself is a correct answer
+-- a list in m with integer coefficients, unchanged, is a result of changing the list into the target m (`IsChanged`)
 pub unchanged : (size : ℕ) (list : WholeTerms) → IsWholeTable list → IsChanged Basis.monomials size list (Ok list)
 unchanged size list is = record {
   value = λ n α. sym (coefficient_scale (pos 1) (in_monomials list n) α ∙ one-product (coefficient (in_monomials list n) α));

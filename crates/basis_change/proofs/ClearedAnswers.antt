@@ -1,6 +1,6 @@
--- Lists of fractions and the same lists over one denominator.
---     whole-bounded       the list times a number that clears its fractions is bounded as the list is
---     cleared-answer      the answer times its denominator has integer coefficients, bounded as the converted terms are
+-- Lists of fractions, and lists of integers that are multiples of them.
+--     whole-bounded       if N and D bound a list (`IsBounded`), N bounds the list of integers that is D times it (`IsBoundedBy`)
+--     cleared-answer      if the answer is W divided by m, m times the answer has integer coefficients, with the bounds of W
 use Rattle.std.proofs.Common.{length, ◌≡◌, ◌⊎◌, ℕ, ◌+◌, ◌/◌, ◌<◌, ◌≤◌, cond, List, [], ◌∷◌, map, sym, ◌∙◌, ap, ap₂, subst, refl, inl, inr, arith, pos, ◌*◌, ◌^◌, ◌*ℤ◌}
 use Rattle.std.specs.Prelude.{nat_abs}
 use Rattle.std.specs.Int.{◌∣◌}
@@ -41,7 +41,7 @@ use Rattle.basis_change.specs.Clearing.{IsBoundedBy}
 use Rattle.basis_change.specs.ClearedAnswer.{IsClearedBy}
 use native.Mathlib.Nat.{mul-le-mul_left}
 
--- in a list whose labels have at most d cells, a label with more than d cells has coefficient 0
+-- if the labels of W have at most d cells, each label of more than d cells has the coefficient 0 in W
 nothing_past : (d : ℕ) (W : WholeTerms) (label : List ℕ) → AreWithin d W → d < size label → coefficient W label ≡ pos 0
 nothing_past d W label w h =
     total_none (λ (t : Term). cond (same t.0 label) t.1 (pos 0)) W
@@ -53,10 +53,10 @@ greatest_is d terms within least =
     let below = least (greatest_size terms) (λ t m. greatest_size-among terms t m) in
     omega arith
 
--- ---- the list times a number that clears its fractions
+-- ---- a list of fractions times a common denominator D
 
--- let N and D bound a list with labels of at most d cells: if the absolute value of D times a coefficient is 2^127 or
--- more, so is N times the growth into m at d
+-- let N and D bound a list (`IsBounded`) with labels of at most d cells: if D times some coefficient has an absolute value of 2^127 or more, then N
+-- times the growth into m at d is 2^127 or more
 pub large-term : (N D d : ℕ) (terms : Terms (List ℕ)) → IsBounded N D terms → AreWithin d terms
     → (t : List ℕ × Fraction) × Among t terms × (2 ^ 127 ≤ nat_abs (scaled D t.1)) → 2 ^ 127 ≤ N * growth Basis.monomials d
 large-term N D d terms b w (t, m, h) =
@@ -67,7 +67,7 @@ large-term N D d terms b w (t, m, h) =
     let y = mul-le-mul_left N (let z : factorial (size t.0) ≤ growth Basis.monomials d = omega arith in z) in
     omega arith
 
--- W is D times the list
+-- W is D times the list `terms`
 module _ (D : ℕ) (terms : Terms (List ℕ)) (W : WholeTerms) (is : IsFractionTable terms) (also : IsWholeTable W) (same : Same W (over D terms)) where
   pub whole-within : (d : ℕ) → AreWithin d terms → AreWithin d W
   whole-within d w =
@@ -88,14 +88,14 @@ module _ (D : ℕ) (terms : Terms (List ℕ)) (W : WholeTerms) (is : IsFractionT
           subst (λ l. nat_abs t.1 * factorials l ≤ N * factorial (size l)) e (subst (λ k. k * factorials u.0 ≤ N * factorial (size u.0)) (sym c) (b u n).1)
       by (inr none) = absurd (not_zero W also t m (number ∙ over-missing D terms t.0 none))
 
--- if N bounds the polynomials f n, it bounds a list in m that has these polynomials
+-- if a list in m expands the polynomials f(n), and N bounds each f(n) (`majorant.IsBounded`), then N bounds the list (`IsBoundedBy`)
 pub bounded-terms : (N d : ℕ) (terms : WholeTerms) (f : ℕ → Poly) → IsWholeTable terms → IsList terms f → ((n : ℕ) → majorant.IsBounded N d n (f n)) → IsBoundedBy N terms
 bounded-terms N d terms f is h b t m =
     subst (λ z. nat_abs z * factorials t.0 ≤ N * factorial (size t.0))
     (sym (coefficient-list terms f h t.0 (label-partition terms is t m)) ∙ coefficient_of_term terms is.distinct t m)
     (coefficient_bound N d (length t.0) (f (length t.0)) (b (length t.0)) t.0 refl)
 
--- ---- the answer is the quotient of the list by m
+-- ---- the answer is the list W divided by m
 
 module _ (m d : ℕ) (W : WholeTerms) (answer : Terms (List ℕ)) (some : 0 < m) (is : IsFractionTable answer) (q : Quotients m answer W) where
   quotient : (t : List ℕ × Fraction) → Among t answer → t.1 ≡ lowest_terms (coefficient W t.0) m

@@ -1,6 +1,6 @@
--- The terms that replace a label.
---     conversion-cases                  the label is converted at its last part, or stays
---     converted_terms, target_terms     the terms that are added to a table
+-- The conversion of a label: the terms that replace the label, computed from its augmented monomial.
+--     conversion-cases                  the label is converted at the last part of its augmented monomial, or it replaces itself
+--     converted_terms, target_terms     the terms that the program adds are those of the conversion
 use Rattle.std.proofs.Common.{◌≡◌, ◌⊎◌, ℕ, ◌-◌, ◌<◌, ◌≤◌, cond, List, [], ◌∷◌, ◌++◌, length, refl, sym, ap, ap₂, ◌∙◌, inl, inr, arith, ℤ, pos, negsuc, neg_ℤ}
 use Rattle.std.proofs.lemmas.Bool.{cases_eq, cases_lt, eq-eqb, ne_eqb}
 use Rattle.sym_model.specs.Partition.{IsPartition}
@@ -16,17 +16,18 @@ use Rattle.family_lists.proofs.RowSteps.{row-gained}
 use Rattle.basis_change.specs.AugmentedProducts.{MixedLabel, Mixed, products, raised, conversion_of, conversion, in_target}
 use Rattle.basis_change.proofs.LastParts.{IsEnded, last_part, part-end, take-before}
 
--- the terms that replace a label converted at its last part a: the products with the terms of p_a, and the labels with a part of `rest` raised by a,
--- each with the coefficient -1
+-- let the augmented monomial of a label have the parts `rest` and then a. The terms that replace the label are: p_a times `converted`, with the
+-- augmented monomial of `rest`; and, with the coefficient -1 and for each part of `rest`, `converted` with the augmented monomial of `rest` in which
+-- this part is increased by a
 abbrev pub at_last : List WholeTerms → List ℕ → ℕ → List ℕ → Mixed
 at_last factors converted a rest = products (list_at factors (a - 1)) converted rest ++ each_with (negsuc 0) (raised converted a rest rest)
 
--- the label stays: the number of its parts is not the count, or the count is 0
+-- the label replaces itself, since its augmented monomial has no parts or a number of parts other than `count`
 pub record Stays (factors : List WholeTerms) (count : ℕ) (label : MixedLabel) : Type 0 where
   pub is : conversion factors count label ≡ (label, pos 1) ∷ []
   pub none : length label.1 ≡ count → count ≡ 0
 
--- the label is converted at its last part
+-- the label is replaced by its conversion at the last part a of its augmented monomial
 pub record Ends (factors : List WholeTerms) (count : ℕ) (label : MixedLabel) : Type 0 where
   pub a : ℕ
   pub rest : List ℕ
@@ -62,7 +63,7 @@ conversion-cases factors count label p = by (cases_eq (length label.1) count) (c
     by (inl e) (inr k) = inl (nothing_left factors count label e (omega arith))
     by (inl e) (inl k) = let s = last_part label.1 p k in inr (record { a = s.0; rest = s.1; ended = s.2; is = converts factors count label s.0 s.1 e s.2 })
 
--- ---- the terms that are added to a table
+-- ---- the terms that are added to a table, as terms of the conversion
 
 module _ (factors : List WholeTerms) (label : MixedLabel) (factor : WholeTerms) (a : ℕ) (is : list_at factors (a - 1) ≡ factor) (rest : List ℕ) (c : ℤ) where
   pub converted_terms : (count : ℕ) → length label.1 ≡ count → IsEnded a rest label.1

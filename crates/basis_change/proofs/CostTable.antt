@@ -1,6 +1,7 @@
--- The greatest cost of a bounded list in m: the costs of all partitions up to 15 cells are computed and added up.
---     cost-within          the cost of a bounded list
---     has-factors          the factorials of the multiplicities divide the factorial of the greatest size
+-- The cost of a list in m that N bounds (`IsBoundedBy`), with labels of at most 15 cells: the costs of all partitions of at most 15 cells are
+-- computed and added up.
+--     cost-within          the cost of d! times the list, in augmented monomials, is at most N times the growth into h at d
+--     has-factors          d! is at least the product of the factorials of the multiplicities of each label
 use Rattle.std.proofs.Common.{◌≡◌, ◌⊎◌, ℕ, zero, suc, ◌+◌, ◌*◌, ◌/◌, ◌<◌, ◌≤◌, Bool, true, List, [], ◌∷◌, length, refl, sym, ap, ◌∙◌, subst, inl, inr, arith, ℤ, pos, flat_map}
 use Rattle.std.specs.Prelude.{nat_abs, nat_le, ◌==◌, ◌&&◌}
 use Rattle.std.proofs.lemmas.Int.{unsigned_abs-mul}
@@ -13,7 +14,7 @@ use Rattle.sym_model.specs.Expansion.{Basis}
 use Rattle.sym_model.specs.ListWeight.{factorials}
 use Rattle.sym_model.specs.WholeTerms.{WholeTerms, labels}
 use Rattle.sym_model.specs.Weight.{factorial, growth}
-use Rattle.sym_model.proofs.Sums.{Among-each}
+use Rattle.sym_model.proofs.Sums.{Among-each, among_down_from}
 use Rattle.sym_model.proofs.PartitionLists.{Among-partitions_of}
 use Rattle.basis_change_laws.specs.AugmentedMonomial.{multiplicity_factorials}
 use Rattle.sparse_polys.specs.Tables.{IsWholeTable}
@@ -27,8 +28,9 @@ use Rattle.linear_combinations.specs.Gains.{weighed}
 use Rattle.sym_model.specs.Sum.{sum_by}
 use Rattle.sym_model.proofs.NumberSums.{sum_by-part}
 use Rattle.monomial_laws.proofs.Powers.{factorials-positive}
+use Rattle.std.proofs.Math.Nat.{mul_assoc, mul-add}
 
--- ---- the table of the costs of all labels
+-- ---- the sum of the costs of all labels of at most d cells, computed for each d up to 15
 
 abbrev pub all_pass : (List ℕ → Bool) → List (List ℕ) → Bool
 all_pass test [] = true
@@ -78,16 +80,8 @@ passes test [] x e m = absurd m
 passes test (y ∷ xs) x e (inl i) = ap test i ∙ (and_parts (test y) (all_pass test xs) e).0
 passes test (y ∷ xs) x e (inr m) = passes test xs x (and_parts (test y) (all_pass test xs) e).1 m
 
-down_from-among : (d e : ℕ) → e ≤ d → Among e (down_from d)
-down_from-among zero e h = inl (omega arith)
-down_from-among (suc d) e h = by (cases_lt e (suc d)) (λ l. down_from-among d e l)
-  where
-    by : (e < suc d) ⊎ (suc d ≤ e) → (e ≤ d → Among e (down_from d)) → Among e (down_from (suc d))
-    by (inl l) r = inr (r (omega arith))
-    by (inr l) r = inl (omega arith)
-
 among_to : (d : ℕ) (parts : List ℕ) → IsPartition parts → size parts ≤ d → Among parts (partitions_to d)
-among_to d parts p h = Among-each partitions_of (size parts) parts (down_from d) (down_from-among d (size parts) h) (Among-partitions_of (size parts) parts p refl)
+among_to d parts p h = Among-each partitions_of (size parts) parts (down_from d) (among_down_from (size parts) d h) (Among-partitions_of (size parts) parts p refl)
 
 pub record Divides (d : ℕ) (parts : List ℕ) : Type 0 where
   pub multiplicities : (factorial d / multiplicity_factorials parts) * multiplicity_factorials parts ≡ factorial d
@@ -99,7 +93,7 @@ divides-at d parts h p s =
     let q = and_parts ((factorial d / multiplicity_factorials parts) * multiplicity_factorials parts == factorial d) (multinomial parts * factorials parts == factorial (size parts)) t in
     record { multiplicities = eqb-true _ _ q.0; parts_are = eqb-true _ _ q.1 }
 
--- ---- the cost of a list
+-- ---- the cost of a list that N bounds (`IsBoundedBy`)
 
 pub cancel-le : (a b c : ℕ) → 0 < c → a * c ≤ b * c → a ≤ b
 cancel-le a b c p h = by (cases_lt b a)
@@ -118,14 +112,11 @@ module _ (N d : ℕ) (low : d ≤ 15) where
       let k = factorial d / multiplicity_factorials t.0 in
       let C = factorial (length t.0) * doubled (size t.0) in
       let div = divides-at d t.0 low p s in
-      let e : N * factorial (size t.0) ≡ (N * M) * F = ap (λ x. N * x) (sym div.parts_are) ∙ grouped N M F in
+      let e : N * factorial (size t.0) ≡ (N * M) * F = ap (λ x. N * x) (sym div.parts_are) ∙ sym (mul_assoc N M F) in
       let h : W ≤ N * M = cancel-le W (N * M) F (factorials-positive t.0) (subst (λ x. nat_abs t.1 * factorials t.0 ≤ x) e b) in
       let g : W * (k * C) ≤ (N * M) * (k * C) = mul-le-mul_right (k * C) h in
       closing (nat_abs (augmented_number (factorial d) t.0 t.1)) W k C N M (unsigned_abs-mul t.1 (pos k)) g
     where
-      grouped : (x y z : ℕ) → x * (y * z) ≡ (x * y) * z
-      grouped x y z = omega arith
-
       closing : (x W k C N M : ℕ) → x ≡ W * k → W * (k * C) ≤ (N * M) * (k * C) → x * C ≤ N * ((M * k) * C)
       closing x W k C N M u g =
           let a : x * C ≡ (W * k) * C = ap (λ y. y * C) u in
@@ -139,11 +130,8 @@ module _ (N d : ℕ) (low : d ≤ 15) where
   list-cost (t ∷ terms) p w b =
       let here = term-cost t (p t (inl refl)) (w t (inl refl)) (b t (inl refl)) in
       let later = list-cost terms (λ u m. p u (inr m)) (λ u m. w u (inr m)) (λ u m. b u (inr m)) in
-      let e : N * (label_cost d t.0 + sum_by (label_cost d) (labels terms)) ≡ N * label_cost d t.0 + N * sum_by (label_cost d) (labels terms) = spread N (label_cost d t.0) (sum_by (label_cost d) (labels terms)) in
+      let e : N * (label_cost d t.0 + sum_by (label_cost d) (labels terms)) ≡ N * label_cost d t.0 + N * sum_by (label_cost d) (labels terms) = mul-add N (label_cost d t.0) (sum_by (label_cost d) (labels terms)) in
       omega arith
-    where
-      spread : (x y z : ℕ) → x * (y + z) ≡ x * y + x * z
-      spread x y z = omega arith
 
   labels_among : (terms : WholeTerms) → ((t : List ℕ × ℤ) → Among t terms → IsPartition t.0) → AreWithin d terms → Within (labels terms) (partitions_to d)
   labels_among [] p w x m = absurd m

@@ -1,10 +1,9 @@
--- Bounds for the numbers of a conversion: the cost of a label is the factorial of the number of parts of its augmented
--- monomial times about 2 to the number of its cells, and converting does not increase the cost.
+-- Bounds for the coefficients while labels are converted. If the augmented monomial of a label has l parts and the size s, the cost of the label is
+-- l!·(2^s - 1), or 1 if s = 0; converting a label does not increase the cost.
 --     cost-conversion      the cost of the terms that replace a label
 --     ready-conversion     the conditions on the terms that replace a label
 --     mass-target, low-target    the absolute values and the sizes of the terms of the target at the end
-use Rattle.std.proofs.Common.{◌≡◌, ◌⊎◌, ℕ, zero, suc, ◌+◌, ◌-◌, ◌*◌, ◌^◌, ◌<◌, ◌≤◌, List, [], ◌∷◌, ◌++◌, length, refl, sym, ap, ap₂, ◌∙◌, subst, inl, inr, arith, ℤ, pos, negsuc, ◌*ℤ◌}
-use Rattle.std.proofs.lemmas.Int.{ints}
+use Rattle.std.proofs.Common.{◌≡◌, ◌⊎◌, ℕ, zero, suc, ◌+◌, ◌-◌, ◌*◌, ◌^◌, ◌<◌, ◌≤◌, List, [], ◌∷◌, ◌++◌, length, refl, sym, ap, ap₂, ◌∙◌, subst, inl, inr, arith, ℤ, pos, negsuc}
 use Rattle.std.specs.Prelude.{nat_abs}
 use Rattle.std.proofs.lemmas.Bool.{cases_eq}
 use Rattle.std.proofs.lemmas.Nat.{pow-add}
@@ -30,6 +29,8 @@ use Rattle.basis_change.proofs.Conversions.{Stays, Ends, conversion-cases}
 use Rattle.linear_combinations.specs.Gains.{weighed}
 use Rattle.linear_combinations.proofs.Weighed.{weighed_append}
 use native.Mathlib.Nat.{mul-pos, mul-le-mul_left, mul-le-mul_right}
+use Rattle.std.proofs.Math.Nat.{one-mul}
+use Rattle.sym_model.proofs.Ring.{one-product}
 
 doubled-positive : (s : ℕ) → 0 < doubled s
 doubled-positive zero = omega arith
@@ -69,11 +70,8 @@ cost-each converted a rest [] B h = omega arith
 cost-each converted a rest (b ∷ numbers) B h =
     let r = cost-each converted a rest numbers B (λ d m. h d (inr m)) in
     let m = h b (inl refl) in
-    let e : nat_abs (negsuc 0) * cost (converted, raise a b rest) ≡ cost (converted, raise a b rest) = single (cost (converted, raise a b rest)) in
+    let e : nat_abs (negsuc 0) * cost (converted, raise a b rest) ≡ cost (converted, raise a b rest) = one-mul (cost (converted, raise a b rest)) in
     omega arith
-  where
-    single : (n : ℕ) → 1 * n ≡ n
-    single n = omega arith
 
 rows-without : (b : ℕ) (l : List ℕ) → Among b l → length (without_one b l) + 1 ≡ length l
 rows-without b [] m = absurd m
@@ -118,7 +116,8 @@ cost-last factor converted a rest parts is p =
         let n : suc r * F * D ≡ F * D + r * (F * D) = omega arith in
         omega arith
 
--- if all lists are small, so is the list of p_a, for a from 1 to the number of lists
+-- if all lists of `factors` are small (`AreSmall`), then for each a from 1 to the number of lists the entry a - 1 of `factors`, which is the list of
+-- p_a, is small for a (`IsSmall a`)
 pub list_of : (factors : List WholeTerms) (a : ℕ) → AreSmall factors → 0 < a → a ≤ length factors → IsSmall a (list_at factors (a - 1))
 list_of factors a small p l =
     let i : a - 1 < length factors = omega arith in
@@ -141,7 +140,7 @@ cost-conversion most count factors l small ready = by (conversion-cases factors 
         subst (λ (x : Mixed). weighed cost x ≤ cost l) (sym e.is)
         (cost-last (list_at factors (e.a - 1)) l.0 e.a e.rest l.1 (list_of factors e.a small p.positive (omega arith)) p)
 
--- ---- the terms that replace a label keep the conditions on labels
+-- ---- the terms that replace a label satisfy the conditions on labels (`IsReady`)
 
 labels-products : (P : MixedLabel → Type 0) (factor : WholeTerms) (converted rest : List ℕ) → ((t : List ℕ × ℤ) → Among t factor → P (merged converted t.0, rest)) → HaveLabels P (products factor converted rest)
 labels-products P [] converted rest h t m = absurd m
@@ -191,7 +190,7 @@ ready-conversion most factors l small ready = by (conversion-cases factors (suc 
         let y = rows-raise e.a b e.rest m in
         record { converted = ready.converted; augmented = IsPartition-raise e.a b e.rest p.before; low = omega arith; few = omega arith }))))
 
--- ---- the cost of a label that needs no more steps
+-- ---- the terms of the target for a label whose augmented monomial has at most one part
 
 pub mass-target : (factors : List WholeTerms) (l : MixedLabel) → AreSmall factors → IsReady (length factors) 1 l → weighed (λ x. 1) (in_target factors l) ≤ cost l
 mass-target factors (converted, []) small ready = let p = cost-positive (converted, []) in (let one : 1 * 1 + 0 ≤ 1 = omega arith in omega arith)
@@ -204,22 +203,16 @@ mass-target factors (converted, (a ∷ rest)) small ready =
     let e : a + 0 ≡ a = omega arith in
     let g = ap (λ k. 2 ^ k) e in
     let few = is.few in
-    let f : factorial 1 * doubled (a + 0) ≡ doubled (a + 0) = single (doubled (a + 0)) in
+    let f : factorial 1 * doubled (a + 0) ≡ doubled (a + 0) = one-mul (doubled (a + 0)) in
     omega arith)
   where
-    single : (n : ℕ) → 1 * n ≡ n
-    single n = omega arith
-
     none : (rest : List ℕ) → suc (length rest) ≤ 1 → rest ≡ []
     none [] h = refl
     none (b ∷ rest) h = absurd (omega arith)
 
     mass-row : (V : WholeTerms) → weighed (λ x. 1) (row converted (pos 1) V) ≡ mass V
     mass-row [] = refl
-    mass-row (t ∷ V) = let r = mass-row V in let o = ap nat_abs (single_ℤ t.1) in omega arith
-      where
-        single_ℤ : (z : ℤ) → pos 1 *ℤ z ≡ z
-        single_ℤ z = omega (arith, ints)
+    mass-row (t ∷ V) = let r = mass-row V in let o = ap nat_abs (one-product t.1) in omega arith
 
 pub low-target : (d : ℕ) (factors : List WholeTerms) (l : MixedLabel) → AreSmall factors → length factors ≡ d → IsReady (length factors) 1 l → HaveLabels (λ label. size label ≤ d) (in_target factors l)
 low-target d factors (converted, []) small is ready t (inl e) =

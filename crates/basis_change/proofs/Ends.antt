@@ -1,6 +1,6 @@
--- The list in m and the answer expand the same polynomials.
---     multiple-changed      a list in m, changed into a family
---     expansion-by          from a list of fractions in m to a list of fractions in another basis
+-- A list in m and the answer of a change of basis expand the same polynomials.
+--     multiple-changed      a list in m with integer coefficients, changed into e, h or p
+--     expansion-by          a list of fractions in m, changed into another basis
 use Rattle.std.proofs.Common.{◌≡◌, ℕ, ◌*◌, ◌/◌, ◌<◌, ◌≤◌, List, [], ◌∷◌, refl, sym, ap, ap₂, ◌∙◌, inl, inr, arith, ℤ, pos, ◌+ℤ◌, ◌*ℤ◌}
 use Rattle.std.proofs.lemmas.Int.{ints}
 use Rattle.sym_model.specs.Sum.{Among, total}
@@ -10,7 +10,7 @@ use Rattle.sym_model.specs.Expansion.{Basis, basis_polynomial, Terms, denominato
 use Rattle.sym_model.specs.ListWeight.{IsBounded}
 use Rattle.sym_model.specs.Weight.{factorial}
 use Rattle.sym_model.specs.WholeTerms.{WholeTerms, combined}
-use Rattle.sym_model.proofs.Ring.{ring}
+use Rattle.sym_model.proofs.Ring.{ring, distributes_left, product_left_comm, product_turned, product_assoc}
 use Rattle.sym_model.proofs.Polynomials.{pair_scale, pair_determined, coefficient_scale, at_only, coefficient_pair}
 use Rattle.sym_model.proofs.PolynomialLaws.{one-times}
 use Rattle.sym_model.proofs.WholeTerms.{pair_of_combined, combined_respects}
@@ -33,7 +33,7 @@ use Rattle.sym_model.proofs.Integers.{product_cancel}
 use native.Mathlib.Nat.{mul-pos}
 use lib.IntN.{*ℤ-zero}
 
--- ---- the value at the start of the rewriting
+-- ---- the value of a list in m that is written in augmented monomials
 
 start-term : (family : Family) (n q : ℕ) (φ : List ℕ → ℤ) (t : List ℕ × ℤ) → (q / multiplicity_factorials t.0) * multiplicity_factorials t.0 ≡ q
     → augmented_number q t.0 t.1 *ℤ product_value family n φ ([], t.0) ≡ pos q *ℤ (t.1 *ℤ pair (monomial t.0 n) φ)
@@ -53,10 +53,7 @@ start-value : (family : Family) (n q : ℕ) (φ : List ℕ → ℤ) (terms : Who
 start-value family n q φ [] h = sym (*ℤ-zero (pos q))
 start-value family n q φ (t ∷ terms) h =
     ap₂ ◌+ℤ◌ (start-term family n q φ t (h t (inl refl))) (start-value family n q φ terms (λ u m. h u (inr m)))
-    ∙ spread (pos q) (t.1 *ℤ pair (monomial t.0 n) φ) (total (λ (t : List ℕ × ℤ). t.1 *ℤ pair (monomial t.0 n) φ) terms)
-  where
-    spread : (x y z : ℤ) → x *ℤ y +ℤ x *ℤ z ≡ x *ℤ (y +ℤ z)
-    spread x y z = simp ring (omega (arith, ints))
+    ∙ sym (distributes_left (pos q) (t.1 *ℤ pair (monomial t.0 n) φ) (total (λ (t : List ℕ × ℤ). t.1 *ℤ pair (monomial t.0 n) φ) terms))
 
 same_combined : (family : Family) (n : ℕ) (end : WholeTerms) → combined (λ label. basis_polynomial (basis_in family) label n) end ≡ combined (λ label. product_over (polynomial_of family) label n) end
 same_combined Elementary n end = refl
@@ -75,21 +72,12 @@ multiple-changed family d terms end low is w same_value n α =
     ∙ ap (λ z. pos (factorial d) *ℤ z) (sym (pair_of_combined (λ label. monomial label n) terms (at_only α)) ∙ sym (coefficient_pair (in_monomials terms n) α))
     ∙ sym (coefficient_scale (pos (factorial d)) (in_monomials terms n) α)
 
--- ---- a list of fractions, and the list times a number D
+-- ---- a list of fractions, and the list of integers that is D times it
 
 crossed : (q a b x y f : ℤ) → b *ℤ y ≡ a *ℤ x → q *ℤ x ≡ b *ℤ f → (q *ℤ y) *ℤ b ≡ (a *ℤ f) *ℤ b
-crossed q a b x y f h k = one q y b ∙ ap (λ z. q *ℤ z) h ∙ two q a x ∙ ap (λ z. a *ℤ z) k ∙ three a b f
-  where
-    one : (q y b : ℤ) → (q *ℤ y) *ℤ b ≡ q *ℤ (b *ℤ y)
-    one q y b = simp ring (omega (arith, ints))
+crossed q a b x y f h k = product_turned q y b ∙ ap (λ z. q *ℤ z) h ∙ product_left_comm q a x ∙ ap (λ z. a *ℤ z) k ∙ sym (product_turned a f b)
 
-    two : (q a x : ℤ) → q *ℤ (a *ℤ x) ≡ a *ℤ (q *ℤ x)
-    two q a x = simp ring (omega (arith, ints))
-
-    three : (a b f : ℤ) → a *ℤ (b *ℤ f) ≡ (a *ℤ f) *ℤ b
-    three a b f = simp ring (omega (arith, ints))
-
--- W is D times a list of fractions: q·W is D·f if the list expands f divided by q, and only then
+-- W is D times the list of fractions `terms`: then q·W is D·f if and only if `terms` represents f divided by q
 module _ (polynomial : List ℕ → Poly) (D q : ℕ) (W : WholeTerms) (terms : Terms (List ℕ)) (f : Poly) (d : IsDivided D W terms) where
   pub clears : Represents polynomial terms f q → Same (scale (pos q) (combined polynomial W)) (scale (pos D) f)
   clears h α =
@@ -116,8 +104,8 @@ module _ (polynomial : List ℕ → Poly) (D q : ℕ) (W : WholeTerms) (terms : 
         ∙ sym (coefficient_scale (pos Q) f α);
   }
 
--- W is D times a list of fractions in m, R is q times W in another basis, and the answer is R divided by D·q: then the
--- answer expands every polynomial that the list expands
+-- let W be D times the list of fractions `terms` in m, R the list q·W changed into another basis, and the answer R divided by D·q: then the answer
+-- expands each polynomial that `terms` expands
 pub expansion-by : (basis : Basis) (N D q : ℕ) (terms answer : Terms (List ℕ)) (W R : WholeTerms) → 0 < D → 0 < q → IsFractionTable terms → IsBounded N D terms → Same W (over D terms)
     → IsMultipleIn basis q W R → IsFractionTable answer → Quotients (D * q) answer R
     → (n : ℕ) (f : Poly) (p : ℕ) → IsExpansionOf Basis.monomials terms n f p → IsExpansionOf basis answer n f p
@@ -130,13 +118,7 @@ expansion-by basis N D q terms answer W R some positive is b same multiple js qu
     coefficient_scale (pos p) (combined P R) α
     ∙ ap (λ z. pos p *ℤ z)
     (multiple n α ∙ coefficient_scale (pos q) (in_monomials W n) α ∙ ap (λ z. pos q *ℤ z) (combined_respects (λ label. monomial label n) W (over D terms) same α))
-    ∙ turned (pos p) (pos q) (coefficient V α)
+    ∙ product_left_comm (pos p) (pos q) (coefficient V α)
     ∙ ap (λ z. pos q *ℤ z) (sym (coefficient_scale (pos p) V α) ∙ whole α ∙ coefficient_scale (pos D) f α)
-    ∙ regrouped (pos q) (pos D) (coefficient f α)
+    ∙ product_left_comm (pos q) (pos D) (coefficient f α) ∙ sym (product_assoc (pos D) (pos q) (coefficient f α))
     ∙ sym (coefficient_scale (pos (D * q)) f α))
-  where
-    turned : (p q v : ℤ) → p *ℤ (q *ℤ v) ≡ q *ℤ (p *ℤ v)
-    turned p q v = simp ring (omega (arith, ints))
-
-    regrouped : (q D f : ℤ) → q *ℤ (D *ℤ f) ≡ (D *ℤ q) *ℤ f
-    regrouped q D f = simp ring (omega (arith, ints))

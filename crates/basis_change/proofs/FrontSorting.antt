@@ -1,20 +1,19 @@
--- A list of entries straightened from the front on: all but the last entry first.
---     value-sorted       an alternating function by its value at the sorted list
---     value-equal        the value is 0 at equal entries
---     value-strict       the value at a strictly decreasing list
---     value-front        the entries before the last one straightened first
---     value-zero         a zero in a further place changes nothing
-use Rattle.std.proofs.Common.{◌≡◌, ◌⊎◌, ℕ, suc, ◌-◌, Bool, true, false, ◌||◌, ◌==◌, cond, List, [], ◌∷◌, ◌++◌, map, length, refl, sym, ap, ap₂, ◌∙◌, inl, inr, arith, append_assoc, length-append, ℤ, pos, neg_ℤ, ◌*ℤ◌}
+-- The straightening of a beta list in two turns: first all entries but the last one, then the result with the last one.
+--     value-sorted       an alternating function, by its value at the sorted list
+--     value-equal        the value of g at the straightening is 0 if two entries are equal
+--     value-strict       the value of g at the straightening of a strictly decreasing list
+--     value-front        all entries but the last one straightened first
+--     value-zero         the beta list in one more row, with the last entry 0, has the same value
+use Rattle.std.proofs.Common.{◌≡◌, ◌⊎◌, ℕ, suc, ◌-◌, Bool, true, false, ◌||◌, ◌==◌, cond, List, [], ◌∷◌, ◌++◌, map, length, refl, sym, ap, ap₂, ◌∙◌, inl, inr, arith, append_assoc, ℤ, pos, neg_ℤ, ◌*ℤ◌}
 use Rattle.std.proofs.lemmas.Int.{ints}
 use Rattle.std.proofs.lemmas.Bool.{cases_eq}
-use Rattle.std.proofs.lemmas.Bool.Decides.{nat_tests}
-use Rattle.std.proofs.lemmas.List.{map-append, length-map}
+use Rattle.std.proofs.lemmas.List.{map-append}
 use Rattle.sym_model.specs.Partition.{without_last_zeros}
 use Rattle.sym_model.specs.Bases.{has}
 use Rattle.sym_model.specs.BetaList.{beta, has_equal_entries, sorted_falling, sorting_sign, less_the_rest, from_beta}
 use Rattle.sym_model.specs.PlaceOrders.{minus_one_to}
 use Rattle.sym_model.proofs.Parts.{without_last_zeros-zero}
-use Rattle.sym_model.proofs.Ring.{ring, one-product}
+use Rattle.sym_model.proofs.Ring.{ring, one-product, double_negation-product}
 use Rattle.beta_list_laws.specs.StrictFall.{FallsStrictly}
 use Rattle.beta_list_laws.proofs.NeighbourExchanges.{sort_back, sorted-exchange, equal-exchange, sorted-falling, sorting_sign-exchange, length-sorted}
 use Rattle.beta_list_laws.proofs.SortedLists.{sorted_strict}
@@ -22,10 +21,13 @@ use Rattle.beta_list_laws.proofs.BetaLists.{beta-from_beta}
 use Rattle.beta_list_laws.proofs.Lowest.{strict_pairs, strict_falls}
 use Rattle.basis_change.specs.SpecialRimHooks.{straight_value}
 use Rattle.beta_list_laws.proofs.BetaLowerings.{strict_distinct}
+use Rattle.std.proofs.Math.Dec.{eqb-suc-suc}
+use Rattle.std.proofs.Math.Bool.{or-true}
+use Rattle.alternant_laws.proofs.EnoughPlaces.{less-raised}
 
--- ---- alternating functions of lists
+-- ---- functions of lists that alternate
 
--- exchanging two different neighbours negates the value
+-- exchanging two different neighbouring entries of a list negates the value of the function
 abbrev pub Alternates : (List ℕ → ℤ) → Type 0
 Alternates H = (left : List ℕ) (a b : ℕ) (right : List ℕ) → (a ≡ b → ⊥) → H (left ++ (a ∷ b ∷ right)) ≡ neg_ℤ (H (left ++ (b ∷ a ∷ right)))
 
@@ -37,10 +39,7 @@ value-sorted H t s h =
     turned : (x y p q h : ℤ) → x ≡ p *ℤ h → x ≡ neg_ℤ y → p ≡ neg_ℤ q → y ≡ q *ℤ h
     turned x y p q h e f g =
         let d : y ≡ neg_ℤ x = omega (arith, ints, f) in
-        d ∙ ap neg_ℤ (e ∙ ap (λ z. z *ℤ h) g) ∙ double q h
-      where
-        double : (q h : ℤ) → neg_ℤ (neg_ℤ q *ℤ h) ≡ q *ℤ h
-        double q h = simp ring (omega (arith, ints))
+        d ∙ ap neg_ℤ (e ∙ ap (λ z. z *ℤ h) g) ∙ double_negation-product q h
 
     by : (left : List ℕ) (a b : ℕ) (right : List ℕ) → H (left ++ (a ∷ b ∷ right)) ≡ sorting_sign (left ++ (a ∷ b ∷ right)) *ℤ H (sorted_falling s) → (a ≡ b) ⊎ (a ≡ b → ⊥)
         → H (left ++ (b ∷ a ∷ right)) ≡ sorting_sign (left ++ (b ∷ a ∷ right)) *ℤ H (sorted_falling s)
@@ -51,7 +50,7 @@ value-sorted H t s h =
         turned (H (left ++ (a ∷ b ∷ right))) (H (left ++ (b ∷ a ∷ right))) (sorting_sign (left ++ (a ∷ b ∷ right))) (sorting_sign (left ++ (b ∷ a ∷ right))) (H (sorted_falling s))
         e (t left a b right n) (sorting_sign-exchange left a b right n)
 
--- ---- the value of g at the straightened list, by cases
+-- ---- the value of g at the straightening of a beta list (`straight_value`), by cases
 
 pub value-equal : (g : List ℕ → ℤ) (s : List ℕ) → has_equal_entries s ≡ true → straight_value g s ≡ pos 0
 value-equal g s h = ap (λ t. cond t (pos 0) (sorting_sign s *ℤ g (from_beta (sorted_falling s)))) h
@@ -76,7 +75,7 @@ value-strict g s f =
     ∙ one-product (g (from_beta (sorted_falling s)))
     ∙ ap (λ l. g (from_beta l)) (sorted-falling s (strict_falls s f))
 
--- ---- straightening all entries but the last one first
+-- ---- a list s with one more entry a, straightened in two turns: s first, and then with a
 
 -- the list s with each entry increased by 1, and a appended: a beta list in one more row
 abbrev pub above : ℕ → List ℕ → List ℕ
@@ -93,11 +92,8 @@ above-alternates g x left a b right n =
 
 has-above : (x a : ℕ) (s : List ℕ) → has a s ≡ true → has (suc a) (above x s) ≡ true
 has-above x a [] h = absurd (cc)
-has-above x a (b ∷ s) h = ap (λ t. t || has (suc a) (above x s)) (next b a) ∙ by (b == a) h (has-above x a s)
+has-above x a (b ∷ s) h = ap (λ t. t || has (suc a) (above x s)) (eqb-suc-suc b a) ∙ by (b == a) h (has-above x a s)
   where
-    next : (b a : ℕ) → (suc b == suc a) ≡ (b == a)
-    next b a = grind (arith, nat_tests)
-
     by : (t : Bool) → (t || has a s) ≡ true → (has a s ≡ true → has (suc a) (above x s) ≡ true) → (t || has (suc a) (above x s)) ≡ true
     by true h r = refl
     by false h r = r h
@@ -108,14 +104,10 @@ equal-above x (a ∷ s) h = by (has a s) refl h (equal-above x s)
   where
     by : (t : Bool) → has a s ≡ t → (t || has_equal_entries s) ≡ true → (has_equal_entries s ≡ true → has_equal_entries (above x s) ≡ true) → (has (suc a) (above x s) || has_equal_entries (above x s)) ≡ true
     by true e h r = ap (λ t. t || has_equal_entries (above x s)) (has-above x a s e)
-    by false e h r = ap (λ t. has (suc a) (above x s) || t) (r h) ∙ either (has (suc a) (above x s))
-      where
-        either : (t : Bool) → (t || true) ≡ true
-        either true = refl
-        either false = refl
+    by false e h r = ap (λ t. has (suc a) (above x s) || t) (r h) ∙ or-true (has (suc a) (above x s))
 
--- if the list s is straightened first and a is inserted into the result, the value of g is that at the straightening of
--- `above a s`
+-- the value of g at the straightening of `above a s` is the value at the straightening of s of the function that maps ν to the value of g at the
+-- straightening of `above a (beta (length s) ν)`
 pub value-front : (g : List ℕ → ℤ) (a : ℕ) (s : List ℕ) → straight_value g (above a s) ≡ straight_value (λ ν. straight_value g (above a (beta (length s) ν))) s
 value-front g a s = by (has_equal_entries s) refl
   where
@@ -126,19 +118,12 @@ value-front g a s = by (has_equal_entries s) refl
         ∙ ap (λ l. sorting_sign s *ℤ straight_value g (above a l)) (sym (ap (λ k. beta k (from_beta (sorted_falling s))) (sym (length-sorted s)) ∙ beta-from_beta (sorted_falling s) (sorted_strict s h)))
         ∙ sym (value-different (λ ν. straight_value g (above a (beta (length s) ν))) s h)
 
--- ---- the entry 0 in one more row changes nothing
+-- ---- `above 0 s`, the beta list in one more row, an empty one
 
 strict-above : (s : List ℕ) → FallsStrictly s → FallsStrictly (above 0 s)
 strict-above [] f = tt
 strict-above (a ∷ []) f = (omega arith, tt)
 strict-above (a ∷ b ∷ s) f = (let h = f.0 in omega arith, strict-above (b ∷ s) f.1)
-
-less-above : (s : List ℕ) → less_the_rest (above 0 s) ≡ less_the_rest s ++ 0 ∷ []
-less-above [] = refl
-less-above (a ∷ s) =
-    let e = length-append (map suc s) (0 ∷ []) in
-    let l = length-map s suc in
-    ap₂ (λ (x : ℕ) (k : List ℕ). x ∷ k) (let d : suc a - length (above 0 s) ≡ a - length s = omega arith in d) (less-above s)
 
 pub value-zero : (g : List ℕ → ℤ) (s : List ℕ) → straight_value g (above 0 s) ≡ straight_value g s
 value-zero g s = by (has_equal_entries s) refl
@@ -149,5 +134,5 @@ value-zero g s = by (has_equal_entries s) refl
         value-sorted (λ l. straight_value g (above 0 l)) (above-alternates g 0) s h
         ∙ ap (λ z. sorting_sign s *ℤ z)
         (value-strict g (above 0 (sorted_falling s)) (strict-above (sorted_falling s) (sorted_strict s h))
-        ∙ ap g (ap without_last_zeros (less-above (sorted_falling s)) ∙ without_last_zeros-zero (less_the_rest (sorted_falling s))))
+        ∙ ap g (ap without_last_zeros (less-raised (sorted_falling s)) ∙ without_last_zeros-zero (less_the_rest (sorted_falling s))))
         ∙ sym (value-different g s h)

@@ -1,4 +1,4 @@
--- The entry of a rim hook, inserted among the beta numbers of the other rows.
+-- The number a that a rim hook of a cells adds to a beta set, inserted among the beta numbers of the other rows.
 use Rattle.std.proofs.Common.{◌≡◌, ℕ, suc, ◌+◌, ◌-◌, ◌*◌, ◌^◌, ◌<◌, ◌≤◌, nat_le, Bool, true, false, cond, List, [], ◌∷◌, ◌++◌, map, length, refl, sym, ap, ap₂, ◌∙◌, subst, arith, ℤ, ◌*ℤ◌}
 use Rattle.std.specs.Prelude.{nat_lt, nat_abs, nat_eq}
 use Rattle.std.specs.Cmp.{nat_eq_equiv}
@@ -9,7 +9,6 @@ use Rattle.sym_model.specs.Bases.{has}
 use Rattle.sym_model.specs.BetaList.{beta, put_falling, greater, from_beta}
 use Rattle.sym_model.specs.PlaceOrders.{minus_one_to}
 use Rattle.sym_model.proofs.Integers.{sign_size, nat_abs-product}
-use Rattle.sym_model.proofs.Ring.{ring}
 use Rattle.beta_list_laws.specs.StrictFall.{FallsStrictly}
 use Rattle.beta_list_laws.proofs.BetaLists.{from_beta_partition, beta-from_beta}
 use Rattle.basis_change.specs.SpecialRimHooks.{straight_value, hooked}
@@ -23,8 +22,10 @@ use Rattle.beta_sets.proofs.BetaSets.{digit-absent, or_digit}
 use Rattle.beta_sets.proofs.ShapeSums.{one_label}
 use Rattle.alternant_laws.proofs.EnoughPlaces.{rows-full}
 use lib.IntN.{+ℤ_idr}
+use Rattle.std.proofs.Math.IntN.{*ℤ_comm}
+use Rattle.sym_model.proofs.Numbers.{pow_next}
 
--- ---- a decreasing list without 0 is the beta list of a partition with one row for each number
+-- ---- a strictly decreasing list without 0 is the beta list of a partition with a row for each number
 
 positive_put : (a : ℕ) (xs : List ℕ) → 0 < a → ArePositive (put_falling a (map suc xs))
 positive_put a [] h = (h, tt)
@@ -42,9 +43,9 @@ rows-put : (ν : List ℕ) (k a : ℕ) → 0 < a → FallsStrictly (put_falling 
 rows-put ν k a h f =
     rows-full (put_falling a (map suc (beta k ν))) f (positive_put a (beta k ν) h)
 
--- ---- the beta set after the rim hook is added
+-- ---- the beta set after a rim hook is added
 
--- 2·set + 1 is the beta set of ν for one more row
+-- if the bits of the number `set` are at the beta numbers of ν for k rows, the bits of 2·set + 1 are at those for k + 1 rows (`IsBetaSet`)
 pub lengthened_is : (ν : List ℕ) (k set next m : ℕ) → IsBetaSet ν k set → set < 2 ^ 63 → next ≡ 2 * set + 1 → m ≡ k + 1 → IsBetaSet ν m next
 lengthened_is ν k set next m is low e s = record {
   partition = is.partition;
@@ -62,9 +63,6 @@ greater_within a (x ∷ b) = by (nat_lt a x) (greater_within a b)
     by true r = omega arith
     by false r = omega arith
 
-pub pow_next : (d : ℕ) → 2 ^ (d + 1) ≡ 2 * 2 ^ d
-pow_next d = ap (λ n. 2 ^ n) (let e : d + 1 ≡ suc d = omega arith in e) ∙ (let e : 2 ^ suc d ≡ 2 * 2 ^ d = omega arith in e)
-
 pub hook-none : (a set : ℕ) → has a (numbers (2 * set)) ≡ true → hook a set ≡ []
 hook-none a set h = ap (λ t. cond t [] ((2 * set + 2 ^ a, minus_one_to (length (numbers (2 * set)) - greater a (numbers (2 * set)))) ∷ [])) h
 
@@ -75,17 +73,15 @@ module _ (a set others : ℕ) (c : ℤ) (twice : others ≡ 2 * set) (none : has
   here : has a (numbers (2 * set)) ≡ false
   here = ap (λ o. has a (numbers o)) (sym twice) ∙ none
 
-  -- the set `made` with the coefficient `number` is c times the term of the rim hook
+  -- if the set `others` = 2·set does not have the number a, and `passed` of its numbers are below a, then the term with the label `made` = `others` +
+  -- 2^a and the coefficient `number` = (-1)^`passed`·c is c times the term of `hook a set`. Sets of numbers are given as sums of powers of 2.
   pub hook-added : (made passed : ℕ) (number : ℤ) → made ≡ others + 2 ^ a → number ≡ minus_one_to passed *ℤ c → passed ≡ length (numbers others) - greater a (numbers others) → (made, number) ∷ [] ≡ scaled c (hook a set)
   hook-added made passed number m n e =
       ap₂ (λ (s : ℕ) (z : ℤ). (s, z) ∷ []) (m ∙ ap (λ o. o + 2 ^ a) twice)
-      (n ∙ turned (minus_one_to passed) c ∙ ap (λ k. c *ℤ minus_one_to k) (e ∙ ap (λ o. length (numbers o) - greater a (numbers o)) twice))
+      (n ∙ *ℤ_comm (minus_one_to passed) c ∙ ap (λ k. c *ℤ minus_one_to k) (e ∙ ap (λ o. length (numbers o) - greater a (numbers o)) twice))
       ∙ sym (ap (scaled c) (hook-one a set here))
-    where
-      turned : (x y : ℤ) → x *ℤ y ≡ y *ℤ x
-      turned x y = simp ring
 
-  -- if |c| is at least 2^127, adding c times the term of the rim hook overflows
+  -- if |c| is at least 2^127 and the set 2·set does not have the number a, adding c times the term of `hook a set` overflows
   pub hook-past : (old : WholeTermsOf ℕ) → 2 ^ 127 ≤ nat_abs c → Overflows nat_eq old (scaled c (hook a set))
   hook-past old large =
       let passed = length (numbers (2 * set)) - greater a (numbers (2 * set)) in
@@ -136,7 +132,7 @@ module _ (ν : List ℕ) (k set a : ℕ) (is : IsBetaSet ν k set) (low : set < 
         ∙ sym (value-put ν k a is.partition absent φ (length (numbers (2 * set)) - greater a (numbers (2 * set)))
         (let w = greater_within a (numbers (2 * set)) in let g = ap (greater a) others_are in let n = ap length others_are in let m = length-others ν k in omega arith))
 
-  -- ---- the terms that the rim hook adds
+  -- ---- the term of `hook a set`, if `set` is the beta set of ν for k rows
 
   pub hook-over : a ≤ 20 → (φ : List ℕ → ℤ) → over (λ s. φ (shape s)) (hook a set) ≡ straight_value φ (hooked ν (k + 1) a)
   hook-over few φ = by (has a (numbers (2 * set))) refl

@@ -1,28 +1,30 @@
--- A rim hook that begins in a row after the last one of a partition: the rows in which it can begin, and those of the
--- result.
+-- A rim hook that begins in row `count`, below the last row of a partition: the rows in which it can begin, and the rows of the result.
 --     value-rows       the result has `count` rows
---     value-far        there is no result for a row that is more than a rows further down
---     total_after-cut  a sum over the rows, with one more row
+--     value-far        there is no result if the rim hook of a cells begins more than a rows after the last row
+--     total_after-cut  a sum over the rows up to n, with one more row
 use Rattle.std.proofs.Common.{◌≡◌, ◌⊎◌, ℕ, zero, suc, ◌+◌, ◌-◌, ◌<◌, ◌≤◌, Bool, true, false, ◌||◌, ◌==◌, cond, nat_le, List, [], ◌∷◌, ◌++◌, map, length, refl, sym, ap, ◌∙◌, inl, inr, arith, length-append, ℤ, pos, ◌+ℤ◌, ◌*ℤ◌}
 use Rattle.std.proofs.lemmas.Int.{ints}
 use Rattle.std.proofs.lemmas.Bool.{cases_eq, cases_lt, eq-eqb, or_right, or_left}
 use Rattle.std.proofs.lemmas.Bool.Decides.{nat_tests}
-use Rattle.std.proofs.lemmas.List.{length-map}
+use Rattle.std.proofs.lemmas.List.{length-map, get_or_past}
 use Rattle.sym_model.specs.Sum.{total}
 use Rattle.sym_model.specs.Partition.{ArePositive, rows, part, after}
 use Rattle.sym_model.specs.Bases.{has}
 use Rattle.sym_model.specs.BetaList.{beta, has_equal_entries, sorted_falling, sorting_sign, less_the_rest, from_beta}
-use Rattle.sym_model.proofs.Parts.{past_end, without_last_zeros-positive}
+use Rattle.sym_model.proofs.Parts.{without_last_zeros-positive}
 use Rattle.beta_list_laws.specs.StrictFall.{FallsStrictly}
 use Rattle.beta_list_laws.proofs.NeighbourExchanges.{has-sorted, length-sorted}
 use Rattle.beta_list_laws.proofs.SortedLists.{sorted_strict}
 use Rattle.beta_list_laws.proofs.BetaLists.{strict_tail, length-beta, length-less}
-use Rattle.beta_list_laws.proofs.ReducedSums.{times_chosen}
 use Rattle.basis_change.specs.SpecialRimHooks.{straight_value, hooked, within_rows}
 use Rattle.basis_change.proofs.FrontSorting.{above, value-equal, value-different}
 use lib.IntN.{+ℤ_idl}
+use Rattle.sym_model.proofs.Integers.{nothing_either, times_chosen}
+use Rattle.sym_model.proofs.Numbers.{positive-test}
+use Rattle.alternant_laws.proofs.StraightShapes.{single}
+use Rattle.sym_model.proofs.SortedParts.{has_rest}
 
--- ---- the number of rows after the rim hook is added
+-- ---- the number of rows of a partition after a rim hook is added
 
 -- if a strictly decreasing list without 0 begins with a, fewer than a entries follow
 below_first : (a : ℕ) (b : List ℕ) → FallsStrictly (a ∷ b) → has 0 (a ∷ b) ≡ false → length b < a
@@ -49,14 +51,8 @@ rows-without_zero s e h =
     ∙ length-sorted s
 
 no_zero : (a : ℕ) (s : List ℕ) → 0 < a → has 0 (above a s) ≡ false
-no_zero a [] h = ap (λ t. t || false) (apart a h)
-  where
-    apart : (a : ℕ) → 0 < a → (a == 0) ≡ false
-    apart a h = grind (arith, nat_tests)
-no_zero a (b ∷ s) h = ap (λ t. t || has 0 (above a s)) (apart b) ∙ no_zero a s h
-  where
-    apart : (b : ℕ) → (suc b == 0) ≡ false
-    apart b = grind (arith, nat_tests)
+no_zero a [] h = ap (λ t. t || false) (positive-test a h)
+no_zero a (b ∷ s) h = ap (λ t. t || has 0 (above a s)) (positive-test (suc b) (omega arith)) ∙ no_zero a s h
 
 pub length-hooked : (ν : List ℕ) (count a : ℕ) → 0 < count → length (hooked ν count a) ≡ count
 length-hooked ν count a h =
@@ -72,11 +68,7 @@ pub value-rows : (n : ℕ) (g : List ℕ → ℤ) (ν : List ℕ) (count a : ℕ
 value-rows n g ν count a h p = by (has_equal_entries (hooked ν count a)) refl
   where
     by : (t : Bool) → has_equal_entries (hooked ν count a) ≡ t → straight_value (within_rows n g) (hooked ν count a) ≡ cond (nat_le count n) (straight_value g (hooked ν count a)) (pos 0)
-    by true e = value-equal (within_rows n g) (hooked ν count a) e ∙ sym (ap (λ z. cond (nat_le count n) z (pos 0)) (value-equal g (hooked ν count a) e) ∙ either (nat_le count n))
-      where
-        either : (t : Bool) → cond t (pos 0) (pos 0) ≡ pos 0
-        either true = refl
-        either false = refl
+    by true e = value-equal (within_rows n g) (hooked ν count a) e ∙ sym (ap (λ z. cond (nat_le count n) z (pos 0)) (value-equal g (hooked ν count a) e) ∙ nothing_either (nat_le count n))
     by false e =
         value-different (within_rows n g) (hooked ν count a) e
         ∙ ap (λ k. sorting_sign (hooked ν count a) *ℤ cond (nat_le k n) (g (from_beta (sorted_falling (hooked ν count a)))) (pos 0)) (rows-hooked ν count a h p e)
@@ -103,21 +95,18 @@ equal-last a (b ∷ front) h = by (cases_eq b a) (λ g. equal-last a front g)
 
     by : (b ≡ a) ⊎ (b ≡ a → ⊥) → (has a front ≡ true → has_equal_entries (front ++ a ∷ []) ≡ true) → (has b (front ++ a ∷ []) || has_equal_entries (front ++ a ∷ [])) ≡ true
     by (inl e) r = or_left (has b (front ++ a ∷ [])) (has_equal_entries (front ++ a ∷ [])) (there b front e)
-    by (inr n) r = or_right (has b (front ++ a ∷ [])) (has_equal_entries (front ++ a ∷ [])) (r (later (b == a) refl h))
-      where
-        later : (t : Bool) → (b == a) ≡ t → (t || has a front) ≡ true → has a front ≡ true
-        later true e h = absurd (n (grind (arith, nat_tests)))
-        later false e h = h
+    by (inr n) r = or_right (has b (front ++ a ∷ [])) (has_equal_entries (front ++ a ∷ [])) (r (has_rest a b front n h))
 
--- if the rim hook begins more than a rows after the last row of ν, the value is 0, since the empty row that is a rows up has the entry a, too
+-- if 0 < a and `count` is greater than the number of rows of ν plus a, the value of g at the straightening of `hooked ν count a` is 0: an empty row
+-- of ν has the beta number a, which is then in the list twice
 pub value-far : (g : List ℕ → ℤ) (ν : List ℕ) (count a : ℕ) → 0 < a → rows ν + a < count → straight_value g (hooked ν count a) ≡ pos 0
 value-far g ν count a p h =
     value-equal g (hooked ν count a)
     (equal-last a (map suc (beta (count - 1) ν))
     (has-after (λ i. part ν i + (count - 1 - i)) a 0 (count - 1) (count - a) (omega arith) (omega arith)
-    (let e = past_end ν (count - a - 1) (omega arith) in omega arith)))
+    (let e = get_or_past ν (count - a - 1) 0 (omega arith) in omega arith)))
 
--- ---- sums over the row in which the rim hook begins, which is at most n, with n raised by 1
+-- ---- the sum over the rows up to n + 1 in which a rim hook of a cells can begin, computed from the sum over the rows up to n
 
 pub total_after-cut : (v : ℕ → ℤ) (start a n : ℕ) → ((count : ℕ) → start + a < count → v count ≡ pos 0)
     → total (λ (count : ℕ). cond (nat_le count (suc n)) (v count) (pos 0)) (after start a)
@@ -139,23 +128,20 @@ total_after-cut v start (suc a) n h =
         not : (x : ℤ) (t : Bool) → t ≡ false → cond t x (pos 0) ≡ pos 0
         not x t e = rw e refl
 
-        is : (x : ℤ) (t : Bool) → t ≡ true → cond t x (pos 0) ≡ x
-        is x t e = rw e refl
-
         by : (start < n) ⊎ (n ≤ start) → cond (nat_le (start + 1) (suc n)) (v (start + 1)) (pos 0) +ℤ cond (nat_le (start + 1) n) (v (suc n)) (pos 0)
             ≡ cond (nat_le (start + 1) n) (v (start + 1)) (pos 0) +ℤ cond (nat_le start n) (v (suc n)) (pos 0)
         by (inl l) =
-            let w = is (v (start + 1)) (nat_le (start + 1) (suc n)) (grind (arith, nat_tests)) in
-            let x = is (v (suc n)) (nat_le (start + 1) n) (grind (arith, nat_tests)) in
-            let y = is (v (start + 1)) (nat_le (start + 1) n) (grind (arith, nat_tests)) in
-            let z = is (v (suc n)) (nat_le start n) (grind (arith, nat_tests)) in
+            let w = single (nat_le (start + 1) (suc n)) (v (start + 1)) (grind (arith, nat_tests)) in
+            let x = single (nat_le (start + 1) n) (v (suc n)) (grind (arith, nat_tests)) in
+            let y = single (nat_le (start + 1) n) (v (start + 1)) (grind (arith, nat_tests)) in
+            let z = single (nat_le start n) (v (suc n)) (grind (arith, nat_tests)) in
             omega (arith, ints)
         by (inr l) = elim (cases_eq start n) [
           | inl e ↦
-              let w = is (v (start + 1)) (nat_le (start + 1) (suc n)) (grind (arith, nat_tests)) in
+              let w = single (nat_le (start + 1) (suc n)) (v (start + 1)) (grind (arith, nat_tests)) in
               let x = not (v (suc n)) (nat_le (start + 1) n) (grind (arith, nat_tests)) in
               let y = not (v (start + 1)) (nat_le (start + 1) n) (grind (arith, nat_tests)) in
-              let z = is (v (suc n)) (nat_le start n) (grind (arith, nat_tests)) in
+              let z = single (nat_le start n) (v (suc n)) (grind (arith, nat_tests)) in
               let u : start + 1 ≡ suc n = omega arith in
               let s = ap v u in
               omega (arith, ints)

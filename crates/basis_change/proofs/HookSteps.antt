@@ -1,10 +1,10 @@
--- Adding a rim hook that begins in an empty row: its entry is inserted among the decreasing entries of the other rows.
---     beta-last          the entries of the other rows are the beta list without its last entry, 0
---     value-put          the value of g at the result
+-- Adding a rim hook of a cells that begins in an empty row: a is inserted among the decreasing entries of the other rows.
+--     beta-last          the beta list in k + 1 rows is that in k rows with each entry increased by 1, followed by 0
+--     value-put          the value of g at the straightening of the result
 --     size-put           the size of the result
-use Rattle.std.proofs.Common.{◌≡◌, ℕ, suc, ◌+◌, ◌-◌, ◌≤◌, true, false, ◌||◌, ◌==◌, cond, nat_lt, List, [], ◌∷◌, ◌++◌, map, length, refl, sym, ap, ap₂, ◌∙◌, subst, inl, inr, arith, length-append, ℤ, pos, ◌*ℤ◌}
-use Rattle.std.proofs.lemmas.Bool.{cases_lt, or_parts, ne_eqb, both_ways, eq-eqb}
-use Rattle.std.proofs.lemmas.List.{map-append, length-map}
+use Rattle.std.proofs.Common.{◌≡◌, ℕ, suc, ◌+◌, ◌-◌, ◌≤◌, true, false, ◌||◌, ◌==◌, cond, nat_lt, List, [], ◌∷◌, ◌++◌, map, length, refl, sym, ap, ap₂, ◌∙◌, subst, arith, length-append, ℤ, pos, ◌*ℤ◌}
+use Rattle.std.proofs.lemmas.Bool.{or_parts, ne_eqb, both_ways, eq-eqb}
+use Rattle.std.proofs.lemmas.List.{map-append, length-map, get_or_past}
 use Rattle.sym_model.specs.Partition.{Falls, IsPartition, size, rows, part, after}
 use Rattle.sym_model.specs.Bases.{has}
 use Rattle.sym_model.specs.Alternant.{staircase}
@@ -12,10 +12,10 @@ use Rattle.sym_model.specs.BetaList.{beta, has_equal_entries, put_falling, sorte
 use Rattle.sym_model.specs.PlaceOrders.{minus_one_to}
 use Rattle.sym_model.proofs.AfterLists.{after_among, after-more}
 use Rattle.sym_model.proofs.Lists.{map-among, map-map}
-use Rattle.sym_model.proofs.Numbers.{counts-not_less, counts-less}
-use Rattle.sym_model.proofs.Parts.{past_end, size-append}
+use Rattle.sym_model.proofs.Numbers.{counts-not_less}
+use Rattle.sym_model.proofs.Parts.{size-append}
 use Rattle.beta_list_laws.specs.StrictFall.{FallsStrictly}
-use Rattle.beta_list_laws.proofs.NeighbourExchanges.{sorted-exchange, sorted-falling, size-sorted, length-sorted}
+use Rattle.beta_list_laws.proofs.NeighbourExchanges.{sorted-exchange, sorted-falling, size-sorted, length-sorted, one_way}
 use Rattle.beta_list_laws.proofs.SortedLists.{sorted_strict, greater_first}
 use Rattle.beta_list_laws.proofs.BetaLists.{beta_strict, strict_tail, length-beta, size-beta, size-from_beta}
 use Rattle.basis_change.specs.SpecialRimHooks.{straight_value, hooked}
@@ -24,7 +24,7 @@ use Rattle.basis_change.proofs.HookRows.{equal-last}
 use Rattle.beta_list_laws.proofs.BetaLowerings.{strict_distinct}
 use Rattle.beta_list_laws.proofs.Lowest.{strict_falls}
 
--- ---- the beta numbers with one more row, which is empty
+-- ---- the beta list in k + 1 rows of a partition with at most k rows
 
 pub beta-last : (ν : List ℕ) (k : ℕ) → rows ν ≤ k → beta (k + 1) ν ≡ above 0 (beta k ν)
 beta-last ν k h =
@@ -33,7 +33,7 @@ beta-last ν k h =
     ∙ ap₂ (λ (l : List ℕ) (x : ℕ). l ++ x ∷ [])
     (map-among (λ i. part ν i + (k + 1 - i)) (λ i. suc (part ν i + (k - i))) (after 0 k) (λ i m. let b = (after_among 0 k i m).1 in omega arith)
     ∙ sym (map-map suc (λ i. part ν i + (k - i)) (after 0 k)))
-    (let e = past_end ν (0 + k + 1 - 1) (omega arith) in omega arith)
+    (let e = get_or_past ν (0 + k + 1 - 1) 0 (omega arith) in omega arith)
 
 strict-next : (s : List ℕ) → FallsStrictly s → FallsStrictly (map suc s)
 strict-next [] f = tt
@@ -50,7 +50,7 @@ size-next : (s : List ℕ) → size (map suc s) ≡ size s + length s
 size-next [] = refl
 size-next (a ∷ s) = let e = size-next s in omega arith
 
--- ---- sorting a list to which the number a is appended
+-- ---- sorting a list to whose end the number a is appended
 
 sorted-last : (front : List ℕ) (a : ℕ) → sorted_falling (front ++ a ∷ []) ≡ put_falling a (sorted_falling front)
 sorted-last [] a = refl
@@ -71,8 +71,8 @@ greater-last : (b a : ℕ) (front : List ℕ) → greater b (front ++ a ∷ []) 
 greater-last b a [] = let e : cond {A = ℕ} (nat_lt b a) 1 0 + 0 ≡ 0 + cond (nat_lt b a) 1 0 = omega arith in e
 greater-last b a (c ∷ front) = let e = greater-last b a front in omega arith
 
--- if a is not in the decreasing list `front`, sorting `front` with a appended moves a before all entries that are not
--- greater
+-- if a is not in the strictly decreasing list `front`: the number of increasing pairs of `front` ++ [a] (`rising_pairs`), plus the number of entries
+-- of `front` greater than a, is the length of `front`
 pub passed : (front : List ℕ) (a : ℕ) → FallsStrictly front → has a front ≡ false → rising_pairs (front ++ a ∷ []) + greater a front ≡ length front
 passed [] a f h = refl
 passed (b ∷ front) a f h =
@@ -83,14 +83,8 @@ passed (b ∷ front) a f h =
     let z = counts-not_less b b (omega arith) in
     let w = one_way b a (λ e. both_ways (b == a) q.0 (eq-eqb b a e)) in
     omega arith
-  where
-    one_way : (b a : ℕ) → (b ≡ a → ⊥) → cond {A = ℕ} (nat_lt b a) 1 0 + cond {A = ℕ} (nat_lt a b) 1 0 ≡ 1
-    one_way b a n = elim (cases_lt b a) [
-      | inl l ↦ let x = counts-less b a l in let y = counts-not_less a b (omega arith) in omega arith
-      | inr l ↦ let x = counts-not_less b a l in let y = counts-less a b (omega (arith, n)) in omega arith
-    ]
 
--- ---- the value of g after the rim hook is added
+-- ---- the value of g at the straightening of `hooked ν (k + 1) a`, the beta list after a rim hook of a cells is added that begins in row k + 1
 
 pub value-again : (g : List ℕ → ℤ) (ν : List ℕ) (k a : ℕ) → has a (map suc (beta k ν)) ≡ true → straight_value g (hooked ν (k + 1) a) ≡ pos 0
 value-again g ν k a h =

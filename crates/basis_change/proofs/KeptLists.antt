@@ -1,11 +1,10 @@
--- The lists to which the arrangements of partitions straighten, kept for each partition (specs/KeptLists).
---     kept-empty, kept-step, not_large      the conditions for keeping a list
---     listed-next .. hooked_lists-append    the different parts one after another
+-- Kept lists: a kept list of a partition is the list of terms to which its arrangements straighten (specs/KeptLists).
+--     kept-empty, kept-step, not_large      the list for a partition has the property `IsKept`
+--     listed-next .. hooked_lists-append    the different parts of a partition, one after another
 use Rattle.std.proofs.Common.{◌≡◌, ◌⊎◌, ℕ, zero, suc, ◌+◌, ◌-◌, ◌*◌, ◌^◌, ◌<◌, ◌≤◌, Bool, true, false, cond, List, [], ◌∷◌, ◌++◌, map, length, refl, sym, ap, ◌∙◌, subst, append_assoc, inl, inr, arith, ℤ, pos, ◌+ℤ◌, ◌*ℤ◌}
-use Rattle.std.specs.Prelude.{drop, get_or, ◌==◌, nat_eq}
-use Rattle.std.proofs.lemmas.List.{map-append, append-nil, drop_all}
+use Rattle.std.specs.Prelude.{drop, get_or, nat_eq}
+use Rattle.std.proofs.lemmas.List.{map-append, append-nil, drop_all, drop_more}
 use Rattle.std.proofs.lemmas.Grind.{flat_map-append}
-use Rattle.std.proofs.lemmas.Bool.Decides.{nat_tests}
 use Rattle.sym_model.specs.Sum.{Among}
 use Rattle.sym_model.specs.Polynomial.{pair}
 use Rattle.sym_model.specs.Partition.{IsPartition, size, rows}
@@ -15,9 +14,9 @@ use Rattle.sym_model.specs.Weight.{factorial}
 use Rattle.sym_model.proofs.Sums.{total_among, total_each, total_map, Among_from_append, Among_from_map}
 use Rattle.sym_model.proofs.SortedParts.{rows_within_size, size-without_one, has-zero}
 use Rattle.sym_model.proofs.Parts.{size-append}
-use Rattle.sym_model.proofs.Lists.{drop-next, map-map}
+use Rattle.sym_model.proofs.Lists.{map-map}
 use Rattle.sym_model.specs.Bases.{has}
-use Rattle.monomial_laws.proofs.Growths.{factorial-mono}
+use Rattle.monomial_laws.proofs.Growths.{factorial-mono, factorial-step}
 use Rattle.basis_change.specs.SpecialRimHooks.{within_rows, hooks_value, IsStraightening, all_hooks}
 use Rattle.basis_change.proofs.StraightenedArrangements.{no_part, last_part}
 use Rattle.linear_combinations.specs.Gains.{over, mass, replaced, Gains, Overflows}
@@ -35,7 +34,7 @@ use native.Mathlib.Nat.{mul-le-mul_left, mul-le-mul_right}
 use Rattle.linear_combinations.proofs.Weighed.{gains_mass}
 use lib.IntN.{+ℤ_idl}
 
--- ---- the conditions for keeping a list
+-- ---- the property `IsKept` of the list for the empty partition, and bounds by factorials
 
 pub kept-empty : (old new : WholeTermsOf ℕ) (set : ℕ) (c : ℤ) → old ≡ [] → set ≡ 0 → c ≡ pos 1 → IsShapeTable new → Gains old ((set, c) ∷ []) new → IsKept [] new
 kept-empty old new set c o s n is gained = record {
@@ -62,11 +61,7 @@ size-distinct (a ∷ numbers) = by (has a numbers) (size-distinct numbers)
     by true h = omega arith
     by false h = omega arith
 
-factorial-step : (d : ℕ) → 0 < d → factorial d ≡ d * factorial (d - 1)
-factorial-step zero h = absurd (omega arith)
-factorial-step (suc d) h = let e : suc d - 1 ≡ d = omega arith in ap (λ k. suc d * factorial k) (sym e)
-
--- the numbers with which the lists are paired
+-- the first components, which are numbers, of a list of pairs of a number and a table
 abbrev pub parts_of : List (ℕ × WholeTermsOf ℕ) → List ℕ
 parts_of lists = map (λ (x : ℕ × WholeTermsOf ℕ). x.0) lists
 
@@ -81,9 +76,9 @@ pub part-positive : (parts : List ℕ) (a : ℕ) → IsPartition parts → has a
 part-positive parts zero p h = absurd (let z = has-zero parts p.positive in cc)
 part-positive parts (suc a) p h = omega arith
 
--- ---- rim hooks added below the shapes of the lists that are kept for the partition without one part
+-- ---- rim hooks of a cells added below the shapes of the list for `parts` without one part a
 
--- a number with its list, whose beta sets are replaced by their partitions
+-- a pair of a number and a list, with the beta sets of the list replaced by their partitions
 abbrev with_shapes : ℕ × WholeTermsOf ℕ → ℕ × WholeTerms
 with_shapes x = (x.0, shapes x.1)
 
@@ -162,7 +157,8 @@ module _ (parts : List ℕ) (p : IsPartition parts) (low : size parts ≤ 20) wh
     within = labels_gained nat_eq_equiv same_set [] (hooked_lists lists) sum is gains (IsShape (size parts)) (λ t m. absurd m) (all-labels lists rests);
   }
 
-  -- adding up the lists, with rim hooks added below their shapes, never overflows
+  -- if `lists` has a list for each of the first different parts a of `parts` (`IsKeptRest`), adding up these lists with rim hooks of a cells added
+  -- below their shapes (`hooked_lists`) never overflows
   pub not_large : (lists : List (ℕ × WholeTermsOf ℕ)) (later : List ℕ) → 0 < length parts → parts_of lists ++ later ≡ distinct parts → ((x : ℕ × WholeTermsOf ℕ) → Among x lists → IsKeptRest parts x)
       → Overflows nat_eq [] (hooked_lists lists) → ⊥
   not_large lists later l listed rests large =
@@ -176,19 +172,11 @@ module _ (parts : List ℕ) (p : IsPartition parts) (low : size parts ≤ 20) wh
       let n : factorial 20 < 2 ^ 127 = omega (arith, factorial_20) in
       omega arith
 
--- ---- the different parts, listed one after another
+-- ---- the different parts of a partition, listed one after another
 
 distinct-here : (parts : List ℕ) (at : ℕ) → at < length parts → has (get_or parts at 0) (drop (at + 1) parts) ≡ false → distinct (drop at parts) ≡ get_or parts at 0 ∷ distinct (drop (at + 1) parts)
 distinct-here parts at l h =
-    ap distinct (drop-next parts at l) ∙ ap (λ t. cond t (distinct (drop (at + 1) parts)) (get_or parts at 0 ∷ distinct (drop (at + 1) parts))) h
-
-pub no_parts : (parts : List ℕ) → true ≡ (length parts == 0) → parts ≡ []
-no_parts [] e = refl
-no_parts (a ∷ parts) e = absurd (grind (arith, nat_tests))
-
-pub some_parts : (parts : List ℕ) → false ≡ (length parts == 0) → 0 < length parts
-some_parts [] e = absurd (grind (arith, nat_tests))
-some_parts (a ∷ parts) e = omega arith
+    ap distinct (drop_more parts at 0 l) ∙ ap (λ t. cond t (distinct (drop (at + 1) parts)) (get_or parts at 0 ∷ distinct (drop (at + 1) parts))) h
 
 pub listed-next : (parts : List ℕ) (at : ℕ) (done : List (ℕ × WholeTermsOf ℕ)) (list : WholeTermsOf ℕ) → at < length parts → has (get_or parts at 0) (drop (at + 1) parts) ≡ false
     → parts_of done ++ distinct (drop at parts) ≡ distinct parts → parts_of (done ++ (get_or parts at 0, list) ∷ []) ++ distinct (drop (at + 1) parts) ≡ distinct parts
@@ -201,7 +189,6 @@ listed-next parts at done list l h e =
 pub listed-end : (parts : List ℕ) (at : ℕ) (numbers : List ℕ) → length parts ≤ at → numbers ++ distinct (drop at parts) ≡ distinct parts → numbers ≡ distinct parts
 listed-end parts at numbers l e = sym (append-nil numbers) ∙ ap (λ (xs : List ℕ). numbers ++ distinct xs) (sym (drop_all at parts l)) ∙ e
 
--- if each number with its list in `done` has the property `IsKeptRest`, and so has y, this holds for `done` with y appended
 pub rests-next : (parts : List ℕ) (done : List (ℕ × WholeTermsOf ℕ)) (y : ℕ × WholeTermsOf ℕ) → ((x : ℕ × WholeTermsOf ℕ) → Among x done → IsKeptRest parts x) → IsKeptRest parts y
     → (x : ℕ × WholeTermsOf ℕ) → Among x (done ++ y ∷ []) → IsKeptRest parts x
 rests-next parts done y before here x m = by (Among_from_append x done (y ∷ []) m)

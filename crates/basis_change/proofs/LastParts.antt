@@ -1,4 +1,4 @@
--- A partition by its last part and the parts before it.
+-- A partition, split into its last part and the parts before it.
 --     insert_part-end      a number that is at most every part is inserted after all parts
 --     last_part            each nonempty partition is a partition followed by a positive number
 use Rattle.std.proofs.Common.{◌≡◌, ℕ, suc, ◌+◌, ◌-◌, ◌<◌, List, [], ◌∷◌, ◌++◌, length, take, refl, sym, ap, ◌∙◌, subst, arith}
@@ -27,7 +27,7 @@ insert_part-end a (b ∷ front) p =
     ∙ ap (insert_part b) (insert_part-end a front (IsPartition_tail b (front ++ a ∷ []) p))
     ∙ insert_part-front b (front ++ a ∷ []) p.positive.0 p.falls
 
--- the parts are those of `rest`, a partition, and a positive number after them
+-- `parts` is the partition `rest` followed by the positive number a
 pub record IsEnded (a : ℕ) (rest parts : List ℕ) : Type 0 where
   pub is : parts ≡ rest ++ a ∷ []
   pub positive : 0 < a

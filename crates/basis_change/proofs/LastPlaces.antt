@@ -1,27 +1,26 @@
--- Sums over the arrangements of a partition in places, by the number in the last place.
+-- Sums over the arrangements of a partition in n places, by the number in the last place.
 --     arrangement           the properties of an arrangement
 --     arrangements-last     0 or one of the different parts is in the last place
---     arrangements-few      no arrangement has more parts than places
---     arrangements-none     there is one arrangement of no parts
+--     arrangements-few      there is no arrangement in fewer places than parts
+--     arrangements-none     the empty partition has only one arrangement
 use Rattle.std.proofs.Common.{◌≡◌, ◌⊎◌, ℕ, zero, suc, ◌+◌, ◌-◌, ◌<◌, ◌≤◌, Bool, true, false, ◌==◌, cond, eqb, nat_le, List, [], ◌∷◌, ◌++◌, map, length, replicate, refl, sym, ap, ◌∙◌, inl, inr, arith, ℤ, pos, ◌+ℤ◌}
 use Rattle.std.proofs.lemmas.Bool.{cases_eq, le-leb, eq-eqb, ne_eqb}
 use Rattle.std.proofs.lemmas.Bool.Decides.{nat_tests}
 use Rattle.sym_model.specs.Sum.{total, Among}
 use Rattle.sym_model.specs.Polynomial.{same}
-use Rattle.sym_model.specs.Partition.{IsPartition, ArePositive, size, insert_part, sorted_parts}
+use Rattle.sym_model.specs.Partition.{IsPartition, size, insert_part, sorted_parts}
 use Rattle.sym_model.specs.Bases.{has, down_from, exponent_lists}
 use Rattle.sym_model.specs.RaisedPart.{without_one, distinct}
 use Rattle.sym_model.specs.Arrangement.{arrangements}
-use Rattle.sym_model.proofs.Sums.{total_ext, total_among, total_none, total_map, total_each, total_select, total_exchange, Among_from_select}
+use Rattle.sym_model.proofs.Sums.{total_ext, total_among, total_none, total_map, total_each, total_select, total_exchange, Among_from_select, down_from-below}
 use Rattle.sym_model.proofs.Exponents.{tests_agree, same_from, same_true, same_apart}
 use Rattle.sym_model.proofs.Monomials.{total_down_from-only, total_exponent_lists-zero, members_of-exponent_lists}
-use Rattle.sym_model.proofs.SortedParts.{insert_part_comm, without_one-insert_part, insert_part-without_one, has-insert_part, has-zero, without_one-zero, zero_or_has, has-zero_or, rows-sorted_parts, sorted_parts-zeros, size-taken}
-use Rattle.monomial_laws.proofs.Arrangements.{down_from-below}
+use Rattle.sym_model.proofs.SortedParts.{insert_part_comm, without_one-insert_part, insert_part-without_one, has-insert_part, without_one-zero, zero_or_has, has-zero_or, rows-sorted_parts, sorted_parts-zeros, size-taken, distinct-zero}
 use Rattle.monomial_laws.proofs.PowerSums.{total_distinct-only}
 use Rattle.monomial_laws.proofs.PowerSumLists.{has_from-distinct}
 use lib.IntN.{+ℤ_idl}
 
--- ---- the properties of an arrangement
+-- ---- the length, the sum and the sorted parts of an arrangement
 
 pub record IsArrangement (parts : List ℕ) (n : ℕ) (α : List ℕ) : Type 0 where
   pub long : length α ≡ n
@@ -47,15 +46,12 @@ arrangements-none F n =
 
 -- ---- sums over lists of exponents, by their last exponent
 
--- a sum over the numbers up to e is a sum over those up to d ≥ e, with 0 for the numbers over e
+-- a sum of f over the numbers up to e is a sum over the numbers up to d ≥ e, with 0 in place of f for the numbers greater than e
 cut : (f : ℕ → ℤ) (b e d : ℕ) → d ≡ b + e → total f (down_from e) ≡ total (λ (a : ℕ). cond (nat_le a e) (f a) (pos 0)) (down_from d)
 cut f zero e d h =
     total_among f (λ (a : ℕ). cond (nat_le a e) (f a) (pos 0)) (down_from e)
-    (λ a m. let l = down_from-below e a m in sym (ap (λ t. cond t (f a) (pos 0)) (within a e l)))
+    (λ a m. let l = down_from-below e a m in sym (ap (λ t. cond t (f a) (pos 0)) (le-leb a e l)))
     ∙ let same : e ≡ d = omega arith in ap (λ k. total (λ (a : ℕ). cond (nat_le a e) (f a) (pos 0)) (down_from k)) same
-  where
-    within : (a e : ℕ) → a ≤ e → nat_le a e ≡ true
-    within a e h = grind (arith, nat_tests)
 cut f (suc b) e d h =
     let next : suc (b + e) ≡ d = omega arith in
     cut f b e (b + e) refl
@@ -113,7 +109,7 @@ sorted_parts-last : (α : List ℕ) (a : ℕ) → sorted_parts (α ++ a ∷ []) 
 sorted_parts-last [] a = refl
 sorted_parts-last (b ∷ α) a = ap (insert_part b) (sorted_parts-last α a) ∙ insert_part_comm b a (sorted_parts α)
 
--- inserting a, a part of λ or 0, into σ gives λ if and only if σ is λ with one a removed
+-- if a is 0 or a part of λ, inserting a into σ gives λ if and only if σ is λ with one a removed
 put_test : (a : ℕ) (parts σ : List ℕ) → IsPartition parts → has a (0 ∷ parts) ≡ true → same (insert_part a σ) parts ≡ same σ (without_one a parts)
 put_test zero parts σ p h = ap (λ l. same σ l) (sym (without_one-zero parts p.positive))
 put_test (suc a) parts σ p h =
@@ -133,11 +129,11 @@ no_test (suc a) parts σ h =
     (λ e. let t : has (suc a) parts ≡ true = ap (has (suc a)) (sym e) ∙ has-insert_part (suc a) σ (omega arith) in
     let u = has-zero_or (suc a) parts (inr t) in absurd (cc))
 
--- the sum over the arrangements with the number a in the last place
+-- the sum of F(α ++ [a]) over the arrangements α, in n places, of the parts without one a
 abbrev ending : (List ℕ → ℤ) → List ℕ → ℕ → ℕ → ℤ
 ending F parts n a = total (λ α. F (α ++ a ∷ [])) (arrangements (without_one a parts) n)
 
--- the sum over all lists α whose numbers and a sort to the parts
+-- the sum of F(α ++ [a]) over the lists α of n numbers for which α ++ [a] sorts to `parts`
 abbrev chosen : (List ℕ → ℤ) → List ℕ → ℕ → ℕ → ℤ
 chosen F parts n a = total (λ α. cond (same (sorted_parts (α ++ a ∷ [])) parts) (F (α ++ a ∷ [])) (pos 0)) (exponent_lists n (size parts - a))
 
@@ -158,9 +154,6 @@ chosen-is F parts n a p = by (has a (0 ∷ parts)) refl
 -- if b is a part of the partition, or 0, b is at most the size of the partition
 within_size : (b : ℕ) (parts : List ℕ) → IsPartition parts → has b (0 ∷ parts) ≡ true → b ≤ size parts
 within_size b parts p h = let e = size-taken b parts p h in omega arith
-
-distinct-zero : (parts : List ℕ) → ArePositive parts → distinct (0 ∷ parts) ≡ 0 ∷ distinct parts
-distinct-zero parts p = ap (λ t. cond t (distinct parts) (0 ∷ distinct parts)) (has-zero parts p)
 
 pub arrangements-last : (F : List ℕ → ℤ) (parts : List ℕ) (n : ℕ) → IsPartition parts
     → total F (arrangements parts (suc n)) ≡ total (λ (a : ℕ). total (λ α. F (α ++ a ∷ [])) (arrangements (without_one a parts) n)) (0 ∷ distinct parts)

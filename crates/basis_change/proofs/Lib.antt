@@ -5,7 +5,6 @@ pub mod HookSteps
 pub mod StraightenedArrangements
 pub mod MixedLabels
 pub mod PartLists
-pub mod SortingSigns
 pub mod LastParts
 pub mod Walks
 pub mod Conversions

@@ -1,4 +1,4 @@
--- The labels of tables with two partitions: they are equal if both partitions are.
+-- The labels of tables with pairs of partitions as labels: two labels are equal if their first and their second partitions are equal.
 use Rattle.std.proofs.Common.{ap₂}
 use Rattle.std.specs.Prelude.{◌&&◌}
 use Rattle.std.specs.Cmp.{IsEquivalence}

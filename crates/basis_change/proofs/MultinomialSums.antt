@@ -1,14 +1,14 @@
 -- The multinomial coefficients of all arrangements of all partitions of s in n places add up to at most n^s.
---     total-mono             the sum of f is at most that of g if each value of f is at most that of g
---     multinomial            the coefficient of an exponent list in the power of x_1 + .. + x_n with its sum
+--     total-mono             if f(x) ≤ g(x) for each x, the sum of f is at most the sum of g
+--     multinomial            the coefficient of x^α in the power of x_1 + .. + x_n with the exponent |α|
 --     multinomials-within    the coefficients of the arrangements of different partitions of s add up to at most n^s
---     arranged-within        a number bounded by multinomials, added once for each arrangement
+--     arranged-within        if multinomial coefficients bound a number, a bound for its sum over all arrangements
 use Rattle.std.proofs.Common.{◌≡◌, ◌⊎◌, ℕ, zero, suc, ◌*◌, ◌^◌, ◌≤◌, Bool, true, false, cond, eqb, List, [], ◌∷◌, map, refl, sym, ap, ◌∙◌, subst, inl, inr, arith, pow-suc, ℤ, pos, ◌+ℤ◌, ◌*ℤ◌}
 use Rattle.std.specs.Prelude.{◌≤ℤ◌}
 use Rattle.std.proofs.Common.{negsuc}
 use Rattle.std.proofs.lemmas.Int.{ints}
 use Rattle.std.proofs.lemmas.Bool.{cases_eq, eq-eqb, ne_eqb}
-use Rattle.std.proofs.Math.Nat.{pow-zero}
+use Rattle.std.proofs.Math.Nat.{pow-zero, mul_assoc}
 use Rattle.sym_model.specs.Sum.{total, Among, Once}
 use Rattle.sym_model.specs.Polynomial.{same, coefficient, pair}
 use Rattle.sym_model.specs.Partition.{size, after, sorted_parts}
@@ -29,13 +29,13 @@ use Rattle.basis_change.proofs.LastPlaces.{IsArrangement, arrangement}
 use Rattle.basis_change.proofs.CostTable.{cancel-le}
 use lib.IntN.{+ℤ_idl}
 
--- ---- sums compared term by term
+-- ---- sums that are compared term by term
 
 pub total-mono : {A : Type 0} (f g : A → ℤ) (xs : List A) → ((x : A) → Among x xs → f x ≤ℤ g x) → total f xs ≤ℤ total g xs
 total-mono f g [] h = omega (arith, ints)
 total-mono f g (x ∷ xs) h = let a = h x (inl refl) in let r = total-mono f g xs (λ y m. h y (inr m)) in omega (arith, ints)
 
--- a sum over different lists of y if the list is x, and 0 otherwise, is at most y
+-- if y ≥ 0, and each list occurs once in `lists`, the sum over `lists` of y for the list x and 0 for all other lists is at most y
 total-one : (x : List ℕ) (y : ℤ) (lists : List (List ℕ)) → pos 0 ≤ℤ y → Once lists → total (λ l. cond (same x l) y (pos 0)) lists ≤ℤ y
 total-one x y [] p o = p
 total-one x y (l ∷ lists) p o = by (same x l) refl (total-one x y lists p o.1)
@@ -52,7 +52,7 @@ total-one x y (l ∷ lists) p o = by (same x l) refl (total-one x y lists p o.1)
     by true e r = let z = others lists (λ m. o.0 (subst (λ k. Among k lists) (same_true x l e) m)) in omega (arith, ints)
     by false e r = omega (arith, ints)
 
--- ---- the multinomial coefficients of all exponent lists add up to n^s
+-- ---- the multinomial coefficients of all lists of n exponents with the sum s add up to n^s
 
 count-words : (n s : ℕ) → total (λ (w : List ℕ). pos 1) (words n s) ≡ pos (n ^ s)
 count-words n zero = ap pos (sym (pow-zero n))
@@ -88,9 +88,9 @@ all-within s n =
         ∙ total_exponent_lists-only (λ α. pos 1) β n s))
         (at_most (is_exponent_list n s β))
 
--- ---- the arrangements of partitions of one size
+-- ---- sums of multinomial coefficients over the arrangements of partitions of s
 
--- the sum of the multinomials of the arrangements of a partition if it has the size s, otherwise 0
+-- the sum of the multinomial coefficients of the arrangements of a partition in n places if it has the size s, otherwise 0
 abbrev pub arranged : ℕ → ℕ → List ℕ → ℤ
 arranged s n parts = cond (eqb (size parts) s) (total (multinomial s n) (arrangements parts n)) (pos 0)
 
@@ -119,10 +119,9 @@ multinomials-within s n lists o =
         let z = total_zero {A = List ℕ} (exponent_lists n s) in
         omega (arith, ints)
 
--- ---- a number bounded by the factorials of one partition
+-- ---- a number x with x·Π λ_i! ≤ N·|λ|!
 
--- if x·Π λ_i! is at most N·d!, d the size of λ, x is at most N times the multinomial coefficient of each
--- arrangement
+-- if x·Π λ_i! ≤ N·|λ|!, then x is at most N times the multinomial coefficient of each arrangement of λ
 bounded_at : (x N n : ℕ) (parts α : List ℕ) → IsArrangement parts n α → x * factorials parts ≤ N * factorial (size parts) → pos x ≤ℤ (pos N *ℤ multinomial (size parts) n α)
 bounded_at x N n parts α a h = by (multinomial (size parts) n α) (power-nonnegative (size parts) n α) whole
   where
@@ -139,15 +138,13 @@ bounded_at x N n parts α a h = by (multinomial (size parts) n α) (power-nonneg
     by (pos m) p e =
         let k : m * factorials α ≡ factorial (size parts) = let u = e in omega (arith, ints) in
         let l : x * factorials α ≤ (N * m) * factorials α =
-        subst (λ q. x * q ≤ (N * m) * q) (sym same_f) (let v : N * factorial (size parts) ≡ (N * m) * factorials parts = ap (λ q. N * q) (sym k ∙ ap (λ q. m * q) same_f) ∙ grouped N m (factorials parts) in omega arith) in
+        subst (λ q. x * q ≤ (N * m) * q) (sym same_f) (let v : N * factorial (size parts) ≡ (N * m) * factorials parts = ap (λ q. N * q) (sym k ∙ ap (λ q. m * q) same_f) ∙ sym (mul_assoc N m (factorials parts)) in omega arith) in
         let c = cancel-le x (N * m) (factorials α) (factorials-positive α) l in
         omega (arith, ints)
-      where
-        grouped : (a b c : ℕ) → a * (b * c) ≡ (a * b) * c
-        grouped a b c = omega arith
     by (negsuc m) p e = absurd (omega (arith, ints))
 
--- if x·Π λ_i! is at most N·d!, then x, added once for each arrangement of λ, is at most N times the sum of their multinomial coefficients
+-- if x·Π λ_i! ≤ N·|λ|!, then x, added once for each arrangement of λ, is at most N times the sum of the multinomial coefficients of these
+-- arrangements
 pub arranged-within : (x N n : ℕ) (parts : List ℕ) → x * factorials parts ≤ N * factorial (size parts)
     → total (λ (α : List ℕ). pos x) (arrangements parts n) ≤ℤ (pos N *ℤ total (multinomial (size parts) n) (arrangements parts n))
 arranged-within x N n parts h =

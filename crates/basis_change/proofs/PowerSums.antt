@@ -1,7 +1,6 @@
--- The lists of p_1, p_2 and so on in the basis of a family: the lists of p_0, p_1, .. without the first one.
-use Rattle.std.proofs.Common.{◌≡◌, ℕ, suc, ◌+◌, ◌-◌, ◌^◌, ◌<◌, List, [], ◌∷◌, length, ◌∙◌, ap, subst, arith, ℤ, pos, ◌*ℤ◌}
+-- The lists of p_1, p_2 and so on in the basis of a family: the lists that `power_sums` returns, without the one at index 0.
+use Rattle.std.proofs.Common.{◌≡◌, ℕ, suc, ◌+◌, ◌-◌, ◌^◌, ◌<◌, List, [], ◌∷◌, length, ◌∙◌, ap, subst, arith}
 use Rattle.std.specs.Prelude.{drop}
-use Rattle.std.proofs.lemmas.Int.{ints}
 use Rattle.sym_model.specs.Polynomial.{pair}
 use Rattle.sym_model.specs.Bases.{power_sum_of}
 use Rattle.sym_model.specs.WholeTerms.{WholeTerms}
@@ -12,6 +11,7 @@ use Rattle.sparse_polys.specs.Families.{polynomial_of}
 use Rattle.family_lists.specs.FactorLists.{list_at, ArePowers}
 use Rattle.basis_change.specs.AugmentedProducts.{IsSmall, AreSmall}
 use Rattle.basis_change.specs.Factors.{IsPowerSum, ArePowerSums}
+use Rattle.sym_model.proofs.Ring.{one-product}
 
 small : (family : Family) (k : ℕ) (terms : WholeTerms) → Stands (polynomial_of family) 1 (2 ^ k - 1) k (λ n. power_sum_of k n) terms → IsSmall k terms
 small family k terms s = record {
@@ -20,10 +20,7 @@ small family k terms s = record {
 }
 
 value : (family : Family) (k : ℕ) (terms : WholeTerms) → Stands (polynomial_of family) 1 (2 ^ k - 1) k (λ n. power_sum_of k n) terms → IsPowerSum family k terms
-value family k terms s n φ = s.value n φ ∙ once (pair (power_sum_of k n) φ)
-  where
-    once : (z : ℤ) → pos 1 *ℤ z ≡ z
-    once z = omega (arith, ints)
+value family k terms s n φ = s.value n φ ∙ one-product (pair (power_sum_of k n) φ)
 
 behind : (family : Family) (d : ℕ) (m : WholeTerms) (lists : List WholeTerms) → length lists ≡ d → ArePowers (polynomial_of family) (d + 1) (m ∷ lists)
     → (i : ℕ) → i < length lists → Stands (polynomial_of family) 1 (2 ^ (i + 1) - 1) (i + 1) (λ n. power_sum_of (i + 1) n) (list_at lists i)

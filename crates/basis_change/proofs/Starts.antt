@@ -1,4 +1,4 @@
--- The table that a conversion starts from.
+-- The table with which the change of a list in m into another basis starts: the list times d!, written in augmented monomials.
 use Rattle.std.proofs.Common.{ℕ, ◌*◌, ◌≤◌, List, [], ◌∷◌, refl, sym, ap, subst, inl, inr, arith, ℤ}
 use Rattle.sym_model.specs.Sum.{Among}
 use Rattle.sym_model.specs.Partition.{IsPartition}

@@ -1,5 +1,6 @@
--- Invariants of a step, which converts one part of each longest augmented monomial, and of the end.
---     step-value, step-cost, step-ready       a step keeps the value, the bound for the cost and the conditions on labels
+-- Invariants of the conversion of augmented monomials: of one step, which converts the last part of each augmented monomial with the greatest number
+-- of parts, and of the end.
+--     step-value, step-cost, step-ready       a step changes no value, keeps the bound for the cost and the conditions on labels
 --     end-value, end-mass, end-low            the value, the bound and the sizes of the terms of the target at the end
 use Rattle.std.proofs.Common.{◌≡◌, ℕ, suc, ◌^◌, ◌≤◌, List, [], length, refl, ◌∙◌, arith, ℤ}
 use Rattle.std.specs.Cmp.Lexicographic.{nat_list_eq_equiv}
@@ -32,7 +33,8 @@ fewer d m n es l h t k =
     let r = h t k in
     record { converted = r.converted; augmented = r.augmented; low = r.low; few = let f = r.few in omega arith }
 
--- a sum over the new terms is the sum over the old labels, if at each label the terms that replace it have the value of the label
+-- let each label l be replaced by the terms `image l`: if the sum of f over `image l` is g(l) for each label l, the sum of f over the new terms is
+-- the sum of g over the old ones
 replaced-value : {L : Type 0} (image : MixedLabel → WholeTermsOf L) (f : L → ℤ) (g : MixedLabel → ℤ) (es : Mixed) (new : WholeTermsOf L) → Gains [] (replaced image es) new → HaveLabels (λ l. over f (image l) ≡ g l) es
     → over f new ≡ over g es
 replaced-value image f g es new a h =
@@ -62,7 +64,7 @@ module _ (factors : List WholeTerms) (es : Mixed) where
       (λ t m. absurd m)
       (labels_replaced (conversion factors (suc most)) (IsReady (length factors) most) es (λ t m. ready-conversion most factors t.0 small (ready t m)))
 
-  -- ---- the value at the end of the rewriting
+  -- ---- the terms of the target after the last step
 
   module _ (ready : HaveLabels (IsReady (length factors) 1) es) where
     pub end-value : (family : Family) (n : ℕ) (φ : List ℕ → ℤ) (end : WholeTerms) → ArePowerSums family factors → Gains [] (replaced (in_target factors) es) end

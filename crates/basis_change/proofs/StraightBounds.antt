@@ -1,11 +1,11 @@
--- Bounds for the numbers in straightening, for each partition of the target separately.
---     list-within          the bound for the terms to which a bounded list straightens
---     large-straight       if a sum overflows, the bound times the growth is 2^127 or more
+-- Bounds for the sums of absolute values when a list in m is straightened, for each partition of the result separately.
+--     list-within          if N bounds a list (`IsBoundedBy`), the bound for the terms to which the list straightens
+--     large-straight       if a sum overflows, N times the growth into s is 2^127 or more
 use Rattle.std.proofs.Common.{◌≡◌, ◌⊎◌, ℕ, zero, suc, ◌+◌, ◌-◌, ◌*◌, ◌^◌, ◌<◌, ◌≤◌, Bool, true, false, cond, eqb, List, [], ◌∷◌, length, refl, sym, ap, ◌∙◌, subst, inl, inr, arith, pow-suc, ℤ, pos, ◌*ℤ◌, flat_map}
 use Rattle.std.specs.Prelude.{◌≤ℤ◌, nat_abs, Some, None}
 use Rattle.std.proofs.lemmas.Int.{ints, unsigned_abs-mul}
 use Rattle.std.proofs.lemmas.Bool.{cases_eq, cases_lt, eq-eqb, ne_eqb}
-use Rattle.std.proofs.Math.Nat.{pow-zero}
+use Rattle.std.proofs.Math.Nat.{pow-zero, one-mul}
 use Rattle.sym_model.specs.Sum.{total}
 use Rattle.sym_model.specs.Partition.{size}
 use Rattle.sym_model.specs.Alternant.{staircase}
@@ -39,20 +39,14 @@ use Rattle.sym_model.proofs.Sums.{total_among}
 use Rattle.sym_model.proofs.Parts.{length-staircase}
 use native.Mathlib.Nat.{mul-le-mul_left}
 use lib.IntN.{*ℤ-zero, zero-*ℤ}
+use Rattle.sym_model.proofs.Integers.{sign_size}
 
--- ---- the terms to which one arrangement straightens
+-- ---- the term to which one arrangement straightens, times a number
 
 pub sign-size : (k : ℕ) (z : ℤ) → nat_abs (minus_one_to k *ℤ z) ≡ nat_abs z
-sign-size k z = unsigned_abs-mul (minus_one_to k) z ∙ ap (λ n. n * nat_abs z) (one k) ∙ single (nat_abs z)
-  where
-    one : (k : ℕ) → nat_abs (minus_one_to k) ≡ 1
-    one zero = refl
-    one (suc k) = let r = one k in omega (arith, ints)
+sign-size k z = unsigned_abs-mul (minus_one_to k) z ∙ ap (λ n. n * nat_abs z) (sign_size k) ∙ one-mul (nat_abs z)
 
-    single : (n : ℕ) → 1 * n ≡ n
-    single n = omega arith
-
--- straightening α gives a partition of the same size as α
+-- if the beta list of α has no two equal entries, the partition to which α straightens has the size of α
 straight-size : (α : List ℕ) → has_equal_entries (shifted α) ≡ false → size (from_beta (sorted_falling (shifted α))) ≡ size α
 straight-size α h =
     let strict = sorted_strict (shifted α) h in
@@ -63,7 +57,8 @@ straight-size α h =
     let s = ap (λ k. size (staircase k)) l in
     omega arith
 
--- an arrangement of a partition adds at most |z| at a partition of the same size, and nothing at a partition of another size
+-- let α be an arrangement of λ: z times the straightening of α has at the label ν a coefficient of absolute value at most |z|, and of 0 if ν and λ
+-- differ in size
 one-within : (ν : List ℕ) (z : ℤ) (parts : List ℕ) (n : ℕ) (α : List ℕ) → IsArrangement parts n α
     → pos (mass_at equal ν (straight_term z (shifted α))) ≤ℤ cond (eqb (size parts) (size ν)) (pos (nat_abs z)) (pos 0)
 one-within ν z parts n α a = by (has_equal_entries (shifted α)) refl
@@ -90,7 +85,7 @@ one-within ν z parts n α a = by (has_equal_entries (shifted α)) refl
         subst (λ (xs : WholeTerms). pos (mass_at equal ν xs) ≤ℤ cond (eqb (size parts) (size ν)) (pos (nat_abs z)) (pos 0)) (sym (straight_term-some z (shifted α) h))
         (here (equal ν (from_beta (sorted_falling (shifted α)))) refl h)
 
--- ---- the terms to which the arrangements of one label straighten
+-- ---- the terms to which the arrangements of one label straighten, times a number
 
 mass-total : (ν : List ℕ) (es : WholeTerms) → pos (mass_at equal ν es) ≡ total (λ (t : List ℕ × ℤ). pos (cond (equal ν t.0) (nat_abs t.1) 0)) es
 mass-total ν [] = refl
@@ -119,7 +114,7 @@ label-within N n ν z parts h =
         subst (λ b. total (λ (α : List ℕ). cond b (pos (nat_abs z)) (pos 0)) (arrangements parts n) ≤ℤ (pos N *ℤ cond b (total (multinomial (size ν) n) (arrangements parts n)) (pos 0))) (sym (ne_eqb (size parts) (size ν) d))
         (let y = total_zero {A = List ℕ} (arrangements parts n) in let x = *ℤ-zero (pos N) in omega (arith, ints))
 
--- ---- the bound for a list of terms
+-- ---- the bound for a list of terms, at one partition ν
 
 abbrev sum_of : ℕ → ℕ → WholeTerms → ℤ
 sum_of s n terms = total (λ (t : List ℕ × ℤ). arranged s n t.0) terms
@@ -174,6 +169,7 @@ list-within N n terms is w b ν = by (cases_lt n (size ν))
         let y = scaled-le N (sum_of (size ν) n terms) (n ^ size ν) v in
         omega (arith, ints)
 
--- if adding up the terms to which a list bounded by N straightens overflows, N times the growth into s is 2^127 or more
+-- if N bounds a list in m (`IsBoundedBy`) and its labels have at most n cells, and adding up the terms to which it straightens overflows, then N
+-- times the growth into s at n is 2^127 or more
 pub large-straight : (N n : ℕ) (terms : WholeTerms) → IsWholeTable terms → AreWithin n terms → IsBoundedBy N terms → Overflows equal [] (straightened_list n terms) → 2 ^ 127 ≤ N * growth Basis.schurs n
 large-straight N n terms is w b (ν, h) = let l = list-within N n terms is w b ν in let o = over_only_within equal ν [] in omega arith

@@ -1,6 +1,6 @@
--- The terms to which arrangements straighten, added to a table.
+-- The terms to which the arrangements of a partition straighten, as lists that are added to a table.
 --     straight_terms-over         a sum over the terms of all arrangements
---     straightened_list-append    the labels of a list one after another
+--     straightened_list-append    the terms to which a list xs ++ ys straightens
 use Rattle.std.proofs.Common.{◌≡◌, ℕ, Bool, true, false, cond, List, [], ◌∷◌, ◌++◌, refl, sym, ap, ◌∙◌, arith, ℤ, pos, ◌+ℤ◌, ◌*ℤ◌}
 use Rattle.std.specs.Prelude.{Some, None}
 use Rattle.std.proofs.lemmas.Grind.{flat_map-append}
@@ -19,7 +19,7 @@ use Rattle.basis_change.specs.Arranging.{times_straight, straight_term, straight
 use Rattle.basis_change.specs.Straightening.{straightened_list}
 use lib.IntN.{*ℤ-zero}
 
--- ---- sums over the terms of all arrangements
+-- ---- sums over the terms to which all arrangements of a partition straighten
 
 pub total-straight_terms : (g : List ℕ × ℤ → ℤ) (c : ℤ) (parts : List ℕ) (n : ℕ) → total g (straight_terms c parts n) ≡ total (λ α. total g (straight_term c (shifted α))) (arrangements parts n)
 total-straight_terms g c parts n = total_each g (λ (α : List ℕ). straight_term c (shifted α)) (arrangements parts n)
@@ -50,7 +50,7 @@ straight_terms-over φ c parts n =
     ∙ total_ext (λ (α : List ℕ). over φ (straight_term c (shifted α))) (λ (α : List ℕ). c *ℤ straight_value φ (shifted α)) (λ α. straight_term-over φ c (shifted α)) (arrangements parts n)
     ∙ total_scale c (λ (α : List ℕ). straight_value φ (shifted α)) (arrangements parts n)
 
--- ---- the straightened terms of two lists, one after the other
+-- ---- the terms to which a list xs ++ ys straightens
 
 pub straightened_list-append : (places : ℕ) (xs ys : WholeTerms) → straightened_list places (xs ++ ys) ≡ straightened_list places xs ++ straightened_list places ys
 straightened_list-append places xs ys = flat_map-append (λ (t : List ℕ × ℤ). straight_terms t.1 t.0 places) xs ys

@@ -1,6 +1,6 @@
--- The polynomial of the straightened list.
---     multiple-straightened                    a list in m and its straightened terms have the same polynomial
---     straightened-again, straightened-large   the straightened list as a table of beta sets
+-- The polynomial of the terms to which a list in m straightens (`straightened_list`).
+--     multiple-straightened                    a list in m and its straightened terms, in Schur polynomials, are the same polynomial
+--     straightened-again, straightened-large   the straightened terms as a table of beta sets
 use Rattle.std.proofs.Common.{◌≡◌, ℕ, ◌≤◌, List, [], ◌∷◌, sym, ap, ◌∙◌, arith, ℤ, pos, ◌+ℤ◌, ◌*ℤ◌}
 use Rattle.std.specs.Prelude.{Option, Some, None, nat_abs}
 use Rattle.std.proofs.lemmas.Int.{ints}
@@ -40,7 +40,8 @@ schur_value n φ label = pair (schur label n) φ
 abbrev term_value : ℕ → (List ℕ → ℤ) → List ℕ × ℤ → ℤ
 term_value n φ t = t.1 *ℤ schur_value n φ t.0
 
--- c times the straightening of a list of exponents has c times the value of the straightening
+-- for the straightening o of a list of exponents (a sign and a partition, or nothing): c·o as a list of terms in Schur polynomials has c times the
+-- value of o
 one-value : (n : ℕ) (φ : List ℕ → ℤ) (c : ℤ) (o : Option (ℤ × List ℕ)) → total (term_value n φ) (times_straight c o) ≡ c *ℤ pair (combined (λ label. schur label n) (straightened_term o)) φ
 one-value n φ c None = sym (*ℤ-zero c)
 one-value n φ c (Some s) =
@@ -49,7 +50,8 @@ one-value n φ c (Some s) =
     turned : (a c x : ℤ) → (a *ℤ c) *ℤ x +ℤ pos 0 ≡ c *ℤ (a *ℤ x +ℤ pos 0)
     turned a c x = simp ring (omega (arith, ints))
 
--- the values of the terms of all arrangements of a partition λ add up to c times that of m_λ
+-- if λ has at most d cells, the values of c times the straightenings of all arrangements of λ in d places add up to c times the value of m_λ in n
+-- variables
 label-value : (n d : ℕ) (φ : List ℕ → ℤ) (c : ℤ) (parts : List ℕ) → IsPartition parts → size parts ≤ d
     → total (term_value n φ) (straight_terms c parts d) ≡ c *ℤ pair (monomial parts n) φ
 label-value n d φ c parts p h =
@@ -83,14 +85,15 @@ multiple-straightened d terms end is w a n α =
     ∙ sym (one-product (coefficient (in_monomials terms n) α))
     ∙ sym (coefficient_scale (pos 1) (in_monomials terms n) α)
 
--- ---- the straightened list as a table of beta sets
+-- ---- the straightened terms as a table of beta sets
 
 pub straightened-again : (d : ℕ) (terms sum end : WholeTerms) → Gains [] (straightened_list d terms) sum → Gains [] sum end → Gains [] (straightened_list d terms) end
 straightened-again d terms sum end a b = record {
   sums = λ φ. b.sums φ ∙ +ℤ_idl (sum_over φ sum) ∙ a.sums φ;
 }
 
--- writing out the partitions of the table overflows only if adding up the straightened list does
+-- if `sum` is a table of beta sets in 20 rows whose partitions are the sum of the straightened terms, adding up these partitions overflows only if
+-- adding up the straightened terms does
 pub straightened-large : (d : ℕ) (terms : WholeTerms) (sum : WholeTermsOf ℕ) → IsShapeTable sum → HaveLabels (IsInRows 20 20) sum → Gains [] (straightened_list d terms) (shapes sum)
     → Overflows equal [] (shapes sum) → Overflows equal [] (straightened_list d terms)
 straightened-large d terms sum is w a (ν, l) =

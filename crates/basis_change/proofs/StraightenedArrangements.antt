@@ -1,7 +1,7 @@
--- The list to which the arrangements of a partition straighten, from those with one part less.
+-- The list to which the arrangements of a partition straighten, computed from the lists for the partition without one part.
 --     last_part          the law of `last_part_law`
 --     no_part            the list for no parts
-use Rattle.std.proofs.Common.{◌≡◌, ℕ, zero, suc, ◌+◌, ◌-◌, ◌<◌, true, false, cond, nat_le, List, [], ◌∷◌, ◌++◌, length, replicate, refl, sym, ap, ap₂, subst, ◌∙◌, arith, ℤ, pos, ◌+ℤ◌, ◌*ℤ◌}
+use Rattle.std.proofs.Common.{◌≡◌, ℕ, zero, suc, ◌+◌, ◌-◌, ◌<◌, true, cond, nat_le, List, [], ◌∷◌, ◌++◌, length, replicate, refl, sym, ap, ap₂, subst, ◌∙◌, arith, ℤ, pos, ◌+ℤ◌, ◌*ℤ◌}
 use Rattle.std.proofs.lemmas.Bool.Decides.{nat_tests}
 use Rattle.sym_model.specs.Sum.{total, Among}
 use Rattle.sym_model.specs.Polynomial.{Term, join, pair}
@@ -25,8 +25,10 @@ use Rattle.basis_change.proofs.LastPlaces.{arrangement, arrangements-few, arrang
 use Rattle.basis_change.proofs.FrontSorting.{above, value-front, value-zero}
 use Rattle.basis_change.proofs.HookRows.{value-rows, value-far, total_after-cut}
 use lib.IntN.{+ℤ_idr, *ℤ-zero}
+use Rattle.std.proofs.lemmas.Bool.{lt-leb}
+use Rattle.alternant_laws.proofs.EnoughPlaces.{staircase-raised}
 
--- ---- straightening a list of exponents that has the number a in its last place
+-- ---- straightening a list of exponents whose last number is a
 
 length-shifted : (α : List ℕ) → length (shifted α) ≡ length α
 length-shifted α = length-join_same (length α) α (staircase (length α)) refl (length-staircase (length α))
@@ -39,8 +41,8 @@ shifted-last (b ∷ α) a = ap₂ (λ (k : ℕ) (l : List ℕ). k ∷ l) (let e 
     long [] = refl
     long (b ∷ α) = ap suc (long α)
 
--- the sum over the arrangements in n places, each followed by a, is the sum over the terms with at most n rows, with a rim hook
--- of a cells added to each label in the row n + 1
+-- if the arrangements of `parts` straighten to `terms`, the sum of g over the straightenings of all α ++ [a], for the arrangements α in n places, is
+-- the sum over the terms with at most n rows, each with a rim hook of a cells added that begins in row n + 1
 ending_value : (g : List ℕ → ℤ) (parts : List ℕ) (terms : WholeTerms) (n a : ℕ) → IsStraightening parts terms
     → total (λ α. straight_value g (shifted (α ++ a ∷ []))) (arrangements parts n) ≡ pair terms (within_rows n (λ ν. straight_value g (hooked ν (suc n) a)))
 ending_value g parts terms n a s =
@@ -52,13 +54,13 @@ ending_value g parts terms n a s =
     (let l = length-shifted α in let i = (arrangement parts n α m).long in let e : length (shifted α) ≡ suc n - 1 = omega arith in e))
     ∙ s n (λ ν. straight_value g (hooked ν (suc n) a))
 
--- a 0 in the last place does not change the sum over the arrangements of n places
+-- the sum of g over the straightenings of all α ++ [0], for the arrangements α in n places, is that over the straightenings of all α
 zero_value : (g : List ℕ → ℤ) (parts : List ℕ) (n : ℕ) → total (λ α. straight_value g (shifted (α ++ 0 ∷ []))) (arrangements parts n) ≡ arranged_value g parts n
 zero_value g parts n =
     total_ext (λ (α : List ℕ). straight_value g (shifted (α ++ 0 ∷ []))) (λ (α : List ℕ). straight_value g (shifted α))
     (λ α. ap (straight_value g) (shifted-last α 0) ∙ value-zero g (shifted α)) (arrangements parts n)
 
--- ---- the rim hooks added to one term, with at most n rows in the result
+-- ---- rim hooks added to one term: the results with at most n rows, and those with at most n + 1 rows
 
 hooks_within : (n : ℕ) (g : List ℕ → ℤ) (a : ℕ) (ν : List ℕ) → 0 < a
     → hooks_value (within_rows n g) a ν ≡ total (λ (count : ℕ). cond (nat_le count n) (straight_value g (hooked ν count a)) (pos 0)) (after (rows ν) a)
@@ -70,10 +72,7 @@ hooks_none : (g : List ℕ → ℤ) (a : ℕ) (ν : List ℕ) → 0 < a → hook
 hooks_none g a ν p =
     hooks_within 0 g a ν p
     ∙ total_none (λ (count : ℕ). cond (nat_le count 0) (straight_value g (hooked ν count a)) (pos 0)) (after (rows ν) a)
-    (λ count m. let h = (after_among (rows ν) a count m).0 in ap (λ b. cond b (straight_value g (hooked ν count a)) (pos 0)) (past count (omega arith)))
-  where
-    past : (count : ℕ) → 0 < count → nat_le count 0 ≡ false
-    past count h = grind (arith, nat_tests)
+    (λ count m. let h = (after_among (rows ν) a count m).0 in ap (λ b. cond b (straight_value g (hooked ν count a)) (pos 0)) (lt-leb count 0 (omega arith)))
 
 hooks_more : (n : ℕ) (g : List ℕ → ℤ) (a : ℕ) (ν : List ℕ) → 0 < a
     → hooks_value (within_rows (suc n) g) a ν ≡ hooks_value (within_rows n g) a ν +ℤ within_rows n (λ μ. straight_value g (hooked μ (suc n) a)) ν
@@ -82,7 +81,7 @@ hooks_more n g a ν p =
     ∙ total_after-cut (λ count. straight_value g (hooked ν count a)) (rows ν) a n (λ count h. value-far g ν count a p h)
     ∙ ap (λ z. z +ℤ within_rows n (λ μ. straight_value g (hooked μ (suc n) a)) ν) (sym (hooks_within n g a ν p))
 
--- ---- the sum over all parts that can be in the last place
+-- ---- the sum over all parts that can be the last number of an arrangement
 
 part_more : (n : ℕ) (g : List ℕ → ℤ) (terms : WholeTerms) (a : ℕ) → 0 < a
     → pair terms (hooks_value (within_rows (suc n) g) a) ≡ pair terms (hooks_value (within_rows n g) a) +ℤ pair terms (within_rows n (λ ν. straight_value g (hooked ν (suc n) a)))
@@ -125,15 +124,11 @@ pub last_part : (parts : List ℕ) (lists : List (ℕ × WholeTerms)) (terms : W
     → AreStraightenings parts lists → ((g : List ℕ → ℤ) → pair terms g ≡ all_hooks g lists) → IsStraightening parts terms
 last_part parts lists terms p l s e n g = arranged-is parts lists p l s n g ∙ sym (e (within_rows n g))
 
--- ---- the only arrangement of no parts
-
-staircase-above : (n : ℕ) → staircase (suc n) ≡ above 0 (staircase n)
-staircase-above zero = refl
-staircase-above (suc n) = ap (λ l. suc n ∷ l) (staircase-above n)
+-- ---- the arrangement of no parts: n zeros
 
 staircase_value : (g : List ℕ → ℤ) (n : ℕ) → straight_value g (staircase n) ≡ g []
 staircase_value g zero = one-product (g [])
-staircase_value g (suc n) = ap (straight_value g) (staircase-above n) ∙ value-zero g (staircase n) ∙ staircase_value g n
+staircase_value g (suc n) = ap (straight_value g) (staircase-raised n) ∙ value-zero g (staircase n) ∙ staircase_value g n
 
 pub no_part : IsStraightening [] (([], pos 1) ∷ [])
 no_part n g =

@@ -1,8 +1,8 @@
--- Lists of shapes as beta sets in 20 rows (in_rows of beta_sets).
---     wide-shape, wide-rows                the set in 20 rows
---     mass-single                          in a table of sets the terms of a partition do not cancel
+-- Lists of shapes as beta sets in 20 rows (`in_rows` of beta_sets).
+--     wide-shape, wide-rows                the beta set in 20 rows of the partition of a set
+--     mass-single                          in a table of beta sets, the terms of a partition do not cancel
 --     wide-gains, wide-labels, wide-large  a multiple of a kept list replaces the terms of the arrangements
-use Rattle.std.proofs.Common.{◌≡◌, ◌⊎◌, ℕ, zero, suc, ◌+◌, ◌-◌, ◌*◌, ◌^◌, ◌<◌, ◌≤◌, nat_le, Bool, true, false, cond, List, [], ◌∷◌, length, refl, sym, ap, ap₂, ◌∙◌, subst, inl, inr, arith, ℤ, pos, ◌+ℤ◌, ◌*ℤ◌}
+use Rattle.std.proofs.Common.{◌≡◌, ◌⊎◌, ℕ, zero, suc, ◌+◌, ◌-◌, ◌*◌, ◌^◌, ◌<◌, ◌≤◌, Bool, true, false, cond, List, [], ◌∷◌, length, refl, sym, ap, ap₂, ◌∙◌, subst, inl, inr, arith, ℤ, pos, ◌+ℤ◌, ◌*ℤ◌}
 use Rattle.std.specs.Prelude.{nat_abs, nat_eq}
 use Rattle.std.specs.Cmp.{IsEquivalence, nat_eq_equiv}
 use Rattle.std.specs.List.{IsDistinct}
@@ -10,8 +10,7 @@ use Rattle.std.specs.Map.{keys_of}
 use Rattle.std.specs.Option.{unwrap_or}
 use Rattle.std.specs.Prelude.{Option}
 use Rattle.std.proofs.Math.Nat.{pow-le-pow_right}
-use Rattle.std.proofs.lemmas.Bool.{cases_lt}
-use Rattle.std.proofs.lemmas.Bool.Decides.{nat_tests}
+use Rattle.std.proofs.lemmas.Bool.{cases_lt, le-leb, eq-eqb}
 use Rattle.std.proofs.lemmas.Int.{ints}
 use Rattle.std.proofs.lemmas.Map.{lookup-none}
 use Rattle.std.proofs.lemmas.Map.Keys.{IsDistinct-tail}
@@ -21,7 +20,7 @@ use Rattle.sym_model.specs.BetaList.{beta, from_beta}
 use Rattle.sym_model.specs.Partition.{size, rows}
 use Rattle.sym_model.specs.WholeTerms.{WholeTermsOf}
 use Rattle.sym_model.proofs.Integers.{nat_abs-product}
-use Rattle.sym_model.proofs.Ring.{ring, product-one}
+use Rattle.sym_model.proofs.Ring.{product-one, product_left_comm}
 use Rattle.sym_model.proofs.SortedParts.{rows_within_size}
 use Rattle.sym_model.proofs.Sums.{total_among, total_scale, Among_from_map}
 use Rattle.beta_list_laws.proofs.BetaLists.{from_beta-beta, length-beta}
@@ -30,7 +29,6 @@ use Rattle.linear_combinations.specs.Labels.{same_partition}
 use Rattle.linear_combinations.proofs.Gains.{over_at, over_only_within, replaced_over}
 use Rattle.linear_combinations.proofs.Masses.{label_held, labels_replaced}
 use Rattle.sparse_polys.specs.Tables.{equal}
-use Rattle.sparse_polys.proofs.WholeLists.{equal_from}
 use Rattle.beta_sets.specs.BetaSets.{numbers, shape, shapes, in_rows, set_of, IsBetaSet, IsInRows, IsShape, AreShapes, IsShapeTable, same_set}
 use Rattle.beta_sets.proofs.BetaSets.{below_power, within_more}
 use Rattle.beta_sets.proofs.SetNumbers.{set_of-numbers, same_shape}
@@ -41,18 +39,17 @@ use Rattle.basis_change.specs.SpecialRimHooks.{within_rows}
 use Rattle.basis_change.proofs.HookEntries.{lengthened_is}
 use Rattle.basis_change.proofs.StraightTerms.{straight_terms-over}
 use lib.IntN.{+ℤ_idr, *ℤ-zero}
+use Rattle.sym_model.proofs.Numbers.{power-positive}
+use Rattle.linear_combinations.proofs.LabelTests.{equal_from}
 
 -- ---- the beta set of the same partition in more rows
-
-power-positive : (j : ℕ) → 1 ≤ 2 ^ j
-power-positive j = pow-le-pow_right {n = 2} (omega arith) {i = 0} {j = j} (omega arith)
 
 more_rows : (ν : List ℕ) (k set j next : ℕ) → IsBetaSet ν k set → (set + 1) * 2 ^ j ≤ 2 ^ 63 → next + 1 ≡ (set + 1) * 2 ^ j → IsBetaSet ν (k + j) next
 more_rows ν k set zero next is l e =
     let s : next ≡ set = let p : (set + 1) * 2 ^ 0 ≡ set + 1 = omega arith in omega arith in
     subst (λ n. IsBetaSet ν n next) (let z : k ≡ k + 0 = omega arith in z) (subst (IsBetaSet ν k) (sym s) is)
 more_rows ν k set (suc j) next is l e =
-    let p = power-positive j in
+    let p = power-positive 2 j (omega arith) in
     let d : 2 ^ suc j ≡ 2 * 2 ^ j = omega arith in
     let q : (set + 1) * 2 ^ suc j ≡ 2 * ((set + 1) * 2 ^ j) = ap (λ n. (set + 1) * n) d ∙ (let t : (set + 1) * (2 * 2 ^ j) ≡ 2 * ((set + 1) * 2 ^ j) = omega arith in t) in
     let r : 1 ≤ (set + 1) * 2 ^ j = let t : (set + 1) * 2 ^ j ≡ set * 2 ^ j + 2 ^ j = omega arith in omega arith in
@@ -79,7 +76,7 @@ module _ (set : ℕ) (is : IsShape 20 set) where
       let r = rows_are in
       let f = few_rows in
       let w = wide-room in
-      let p = power-positive (20 - length (numbers set)) in
+      let p = power-positive 2 (20 - length (numbers set)) (omega arith) in
       let t : (set + 1) * 2 ^ (20 - length (numbers set)) ≡ set * 2 ^ (20 - length (numbers set)) + 2 ^ (20 - length (numbers set)) = omega arith in
       subst (λ k. IsBetaSet (shape set) k (in_rows 20 set)) (let e : rows (shape set) + (20 - length (numbers set)) ≡ 20 = omega arith in e)
       (more_rows (shape set) (rows (shape set)) set (20 - length (numbers set)) (in_rows 20 set) is.beta (omega arith) (omega arith))
@@ -94,7 +91,7 @@ module _ (set : ℕ) (is : IsShape 20 set) where
     cells = let e = ap size wide-shape in let s = is.cells in omega arith;
   }
 
--- ---- sets with the same partition are equal
+-- ---- beta sets in 20 rows, and beta sets without empty rows, are equal if they have the same partition
 
 pub shapes-apart : (a b : ℕ) → IsShape 20 a → IsShape 20 b → shape a ≡ shape b → a ≡ b
 shapes-apart a b r s e =
@@ -105,7 +102,7 @@ shapes-apart a b r s e =
 pub rows-apart : (a b : ℕ) → IsInRows 20 20 a → IsInRows 20 20 b → shape a ≡ shape b → a ≡ b
 rows-apart = same_shape 20 20
 
--- in a table, the absolute values at a label add up to that of its coefficient, since the label occurs at most once
+-- in a table, the sum of the absolute values of the terms with the label x is the absolute value of the coefficient of x, since x occurs at most once
 mass_at-table : {L : Type 0} {eq : L → L → Bool} → IsEquivalence eq → ((x y : L) → eq x y ≡ true → x ≡ y) → (x : L) (terms : WholeTermsOf L) → IsDistinct eq (keys_of terms)
     → mass_at eq x terms ≡ nat_abs (over (only eq x) terms)
 mass_at-table laws same x [] distinct = refl
@@ -124,10 +121,7 @@ mass_at-table {L} {eq} laws same x (t ∷ terms) distinct = by (eq x t.0) refl (
         let h : nat_abs (pos 0) ≡ 0 = refl in
         omega arith
 
-same_as : (x y : ℕ) → x ≡ y → nat_eq x y ≡ true
-same_as x y e = subst (λ z. nat_eq x z ≡ true) e (nat_eq_equiv.refl x)
-
--- ---- tables of sets, as tables of partitions, for sets that are fixed by their partitions
+-- ---- tables of sets with the property P, as tables of partitions, if P and the partition determine the set
 
 module _ {P : ℕ → Type 0} (apart : (a b : ℕ) → P a → P b → shape a ≡ shape b → a ≡ b) where
   same-label : (x s : ℕ) → P x → P s → equal (shape x) (shape s) ≡ nat_eq x s
@@ -136,7 +130,7 @@ module _ {P : ℕ → Type 0} (apart : (a b : ℕ) → P a → P b → shape a �
       by : (b : Bool) → nat_eq x s ≡ b → (d : Bool) → equal (shape x) (shape s) ≡ d → equal (shape x) (shape s) ≡ nat_eq x s
       by true e d f = equal_from (shape x) (shape s) (ap shape (same_set x s e)) ∙ sym e
       by false e false f = f ∙ sym e
-      by false e true f = absurd (let i = same_as x s (apart x s p q (same_partition (shape x) (shape s) f)) in cc)
+      by false e true f = absurd (let i = eq-eqb x s (apart x s p q (same_partition (shape x) (shape s) f)) in cc)
 
   pub over_shape : (x : ℕ) → P x → (terms : WholeTermsOf ℕ) → HaveLabels P terms → over (only equal (shape x)) (shapes terms) ≡ over (only nat_eq x) terms
   over_shape x p [] h = refl
@@ -167,9 +161,9 @@ module _ {P : ℕ → Type 0} (apart : (a b : ℕ) → P a → P b → shape a �
           subst (λ (μ : List ℕ). mass_at equal μ (shapes terms) ≡ nat_abs (over (only equal μ) (shapes terms))) r.2 (at r.0 r.1)
       by (inr l) = let w = over_only_within equal ν (shapes terms) in omega arith
 
--- ---- a multiple of a kept list in 20 rows
+-- ---- a multiple of a kept list, with its sets in 20 rows
 
--- the set in 20 rows, with coefficient c
+-- the beta set in 20 rows of the partition of `set`, with the coefficient c
 abbrev pub wide : ℤ → ℕ → WholeTermsOf ℕ
 wide c set = (in_rows 20 set, c) ∷ []
 
@@ -201,11 +195,8 @@ module _ (c : ℤ) (parts : List ℕ) (n : ℕ) (list : WholeTermsOf ℕ) (kept 
       let is = kept.within t m in
       let r = rows_within_size (shape t.0) is.beta.partition.positive in
       let s = is.cells in
-      ap (λ b. t.1 *ℤ cond b (g (shape t.0)) (pos 0)) (below (rows (shape t.0)) n (omega arith)))
+      ap (λ b. t.1 *ℤ cond b (g (shape t.0)) (pos 0)) (le-leb (rows (shape t.0)) n (omega arith)))
       ∙ sym (over-shapes g list)
-    where
-      below : (a b : ℕ) → a ≤ b → nat_le a b ≡ true
-      below a b h = grind (arith, nat_tests)
 
   list-over : (φ : List ℕ → ℤ) → c *ℤ over φ (shapes list) ≡ over φ (straight_terms c parts n)
   list-over φ = ap (λ z. c *ℤ z) (sym (kept.straightens n φ ∙ rows-within φ)) ∙ sym (straight_terms-over φ c parts n)
@@ -220,10 +211,7 @@ module _ (c : ℤ) (parts : List ℕ) (n : ℕ) (list : WholeTermsOf ℕ) (kept 
       ∙ list-over φ
     where
       turned : (x y z : ℤ) → x *ℤ (y *ℤ z +ℤ pos 0) ≡ y *ℤ (x *ℤ z)
-      turned x y z = ap (λ w. x *ℤ w) (+ℤ_idr (y *ℤ z)) ∙ swapped x y z
-        where
-          swapped : (x y z : ℤ) → x *ℤ (y *ℤ z) ≡ y *ℤ (x *ℤ z)
-          swapped x y z = simp ring
+      turned x y z = ap (λ w. x *ℤ w) (+ℤ_idr (y *ℤ z)) ∙ product_left_comm x y z
 
   pub wide-gains : (old new : WholeTermsOf ℕ) → Gains old (replaced (wide c) list) new → Gains (shapes old) (straight_terms c parts n) (shapes new)
   wide-gains old new a = record {

@@ -1,6 +1,6 @@
--- The values of terms: the target's polynomial times an augmented monomial.
+-- The value of a label in a change of basis: the target's basis polynomial of its first partition times the augmented monomial of its second.
 --     value-last             converting the last part changes no value
---     value-conversion       replacing a label by its terms changes no value
+--     value-conversion       replacing a label by the terms of its conversion changes no value
 --     value-target           the terms of the target at the end have the same value
 use Rattle.std.proofs.Common.{◌≡◌, ◌⊎◌, ℕ, ◌+◌, ◌-◌, ◌<◌, List, [], ◌∷◌, ◌++◌, length, refl, sym, ap, ap₂, ◌∙◌, subst, inl, inr, arith, ℤ, pos, negsuc, ◌+ℤ◌, ◌*ℤ◌, flat_map}
 use Rattle.std.proofs.lemmas.Int.{ints}
@@ -31,17 +31,16 @@ use Rattle.basis_change.specs.AugmentedProducts.{MixedLabel, IsReady, products, 
 use Rattle.basis_change.specs.Factors.{target_value, product_value, IsPowerSum, ArePowerSums}
 use Rattle.basis_change.proofs.LastParts.{IsEnded}
 use Rattle.basis_change.proofs.Conversions.{Stays, Ends, conversion-cases}
+use Rattle.sym_model.proofs.Ring.{one-product}
+use Rattle.sym_model.proofs.Integers.{single_term}
 
 pub In-augmented : (parts : List ℕ) (n : ℕ) → In n (augmented parts n)
 In-augmented parts n = In_scale n (pos (multiplicity_factorials parts)) (monomial parts n) (In-monomials (λ α. same (sorted_parts α) parts) n (size parts))
 
--- ---- a label without an augmented monomial
+-- ---- a label whose augmented monomial has no parts
 
 scale-one : (f : Poly) → Same (scale (pos 1) f) f
-scale-one f = same_from_pair (scale (pos 1) f) f (λ φ. pair_scale (pos 1) f φ ∙ single (pair f φ))
-  where
-    single : (x : ℤ) → pos 1 *ℤ x ≡ x
-    single x = omega (arith, ints)
+scale-one f = same_from_pair (scale (pos 1) f) f (λ φ. pair_scale (pos 1) f φ ∙ one-product (pair f φ))
 
 augmented-none : (n : ℕ) → Same (augmented [] n) (one n)
 augmented-none n =
@@ -59,7 +58,7 @@ target_value-is family n φ label =
     sym (pair_determined (times (product_over (polynomial_of family) label n) (augmented [] n)) (product_over (polynomial_of family) label n) φ
     (times-augmented-none n (product_over (polynomial_of family) label n) (In-product_over (polynomial_of family) label n (In-family family n))))
 
--- ---- p_a times the remaining augmented monomial
+-- ---- p_a times the augmented monomial of the other parts
 
 value-products : (family : Family) (n : ℕ) (φ : List ℕ → ℤ) (a : ℕ) (factor : WholeTerms) (converted rest : List ℕ) → IsPartition converted → IsPowerSum family a factor
     → over (product_value family n φ) (products factor converted rest) ≡ pair (times (power_sum_of a n) (times (product_over (polynomial_of family) converted n) (augmented rest n))) φ
@@ -94,8 +93,8 @@ value-raised f converted a rest numbers =
     each_over (negsuc 0) f (raised converted a rest numbers)
     ∙ ap (λ z. negsuc 0 *ℤ z) (total_map f (λ (b : ℕ). (converted, raise a b rest)) numbers)
 
--- p_a times C times an augmented monomial is the sum of C times the augmented monomial with a part a inserted and of C
--- times each one with a part increased by a
+-- the product of p_a, C and the augmented monomial of `rest` is C times the augmented monomial of `rest` with a part a inserted, plus C times each
+-- augmented monomial of `rest` with one part increased by a
 value-power_sum : (n a : ℕ) (C : Poly) (rest : List ℕ) (φ : List ℕ → ℤ) → 0 < a → IsPartition rest
     → pair (times (power_sum_of a n) (times C (augmented rest n))) φ ≡ pair (times C (augmented (insert_part a rest) n)) φ +ℤ total (λ (b : ℕ). pair (times C (augmented (raise a b rest) n)) φ) rest
 value-power_sum n a C rest φ h p =
@@ -133,16 +132,14 @@ value-last family n φ factor converted a rest parts p is e =
     left : (x y : ℤ) → (x +ℤ y) +ℤ negsuc 0 *ℤ y ≡ x
     left x y = omega (arith, ints)
 
--- replacing a label l that can be converted by the terms of its conversion does not change the value
+-- if a label l satisfies `IsReady` and `factors` are the lists of p_1, p_2 and so on, replacing l by the terms of its conversion does not change the
+-- value
 pub value-conversion : (family : Family) (most count n : ℕ) (φ : List ℕ → ℤ) (factors : List WholeTerms) (l : MixedLabel) → ArePowerSums family factors → IsReady (length factors) most l
     → over (product_value family n φ) (conversion factors count l) ≡ product_value family n φ l
 value-conversion family most count n φ factors l are ready = by (conversion-cases factors count l ready.augmented)
   where
     by : Stays factors count l ⊎ Ends factors count l → over (product_value family n φ) (conversion factors count l) ≡ product_value family n φ l
-    by (inl s) = ap (over (product_value family n φ)) s.is ∙ single (product_value family n φ l)
-      where
-        single : (x : ℤ) → pos 1 *ℤ x +ℤ pos 0 ≡ x
-        single x = omega (arith, ints)
+    by (inl s) = ap (over (product_value family n φ)) s.is ∙ single_term (product_value family n φ l)
     by (inr e) =
         let p = e.ended in
         let low = ready.low in
@@ -153,14 +150,11 @@ value-conversion family most count n φ factors l are ready = by (conversion-cas
         ap (over (product_value family n φ)) e.is
         ∙ value-last family n φ (list_at factors (e.a - 1)) l.0 e.a e.rest l.1 ready.converted (subst (λ k. IsPowerSum family k (list_at factors (e.a - 1))) j (are (e.a - 1) i)) p
 
--- the terms of the target for a label whose augmented monomial has at most one part have the value of the label
+-- if the augmented monomial of a label has at most one part, the terms of the target for this label (`in_target`) have the value of the label
 pub value-target : (family : Family) (n : ℕ) (φ : List ℕ → ℤ) (factors : List WholeTerms) (l : MixedLabel) → ArePowerSums family factors → IsReady (length factors) 1 l
     → over (target_value family n φ) (in_target factors l) ≡ product_value family n φ l
 value-target family n φ factors (converted, []) are ready =
-    single (target_value family n φ converted) ∙ target_value-is family n φ converted
-  where
-    single : (x : ℤ) → pos 1 *ℤ x +ℤ pos 0 ≡ x
-    single x = omega (arith, ints)
+    single_term (target_value family n φ converted) ∙ target_value-is family n φ converted
 value-target family n φ factors (converted, (a ∷ b ∷ rest)) are ready = absurd (let few = ready.few in omega arith)
 value-target family n φ factors (converted, (a ∷ [])) are ready =
     in-row (list_at factors (a - 1))
@@ -170,9 +164,6 @@ value-target family n φ factors (converted, (a ∷ [])) are ready =
     none : (x : ℤ) → x +ℤ pos 0 ≡ x
     none x = omega (arith, ints)
 
-    single : (x : ℤ) → pos 1 *ℤ x ≡ x
-    single x = omega (arith, ints)
-
     in-row : (V : WholeTerms) → over (target_value family n φ) (row converted (pos 1) V) ≡ over (product_value family n φ) (products V converted [])
     in-row [] = refl
-    in-row (t ∷ V) = ap₂ ◌+ℤ◌ (ap₂ (λ x y. x *ℤ y) (single t.1) (target_value-is family n φ (merged converted t.0))) (in-row V)
+    in-row (t ∷ V) = ap₂ ◌+ℤ◌ (ap₂ (λ x y. x *ℤ y) (one-product t.1) (target_value-is family n φ (merged converted t.0))) (in-row V)

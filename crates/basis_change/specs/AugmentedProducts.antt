@@ -1,5 +1,5 @@
--- Sums on the way from one basis to another: each term is the product of a basis polynomial of the target and an
--- augmented monomial, which is m_λ times the factorials of the multiplicities of the parts of λ.
+-- Sums in a change from m to e, h or p: each term is the product of a basis polynomial of the target and an augmented monomial, which is m_λ times
+-- the factorials of the multiplicities of the parts of λ.
 use Rattle.std.specs.Prelude.{ℕ, ◌+◌, ◌-◌, ◌^◌, ◌<◌, ◌≤◌, nat_eq, Bool, ◌&&◌, cond}
 use Rattle.std.specs.Prelude.{pos, negsuc, ℤ, List, [], ◌∷◌, ◌++◌, map, length, take}
 use Rattle.std.specs.Cmp.Lexicographic.{pointwise}
@@ -13,15 +13,16 @@ use Rattle.linear_combinations.specs.Entries.{IsCombination}
 use Rattle.linear_combinations.specs.Gains.{WholeTermsOf, HaveLabels, each_with, mass}
 use Rattle.family_lists.specs.FactorLists.{list_at}
 
--- the partition of the target's polynomial, and that of the augmented monomial
+-- the label of a term that is the product of a basis polynomial of the target and an augmented monomial: the partition of the former and the
+-- partition of the latter
 abbrev pub MixedLabel : Type 0
 MixedLabel = List ℕ × List ℕ
 
--- a list of terms: labels with their coefficients
+-- a list of terms with integer coefficients, each the product of a basis polynomial of the target and an augmented monomial (`MixedLabel`)
 abbrev pub Mixed : Type 0
 Mixed = WholeTermsOf MixedLabel
 
--- whether two labels are the same
+-- whether two labels, each of two partitions, are equal
 abbrev pub equal : MixedLabel → MixedLabel → Bool
 equal a b = pointwise nat_eq a.0 b.0 && pointwise nat_eq a.1 b.1
 
@@ -29,8 +30,7 @@ equal a b = pointwise nat_eq a.0 b.0 && pointwise nat_eq a.1 b.1
 abbrev pub IsMixedTable : Mixed → Type 0
 IsMixedTable terms = IsCombination equal is_pair_label whole terms
 
--- both lists are partitions, of at most d cells together, and that of the augmented monomial has at
--- most `most` parts
+-- the two lists of a label are partitions whose sizes add up to at most d, and the partition of the augmented monomial has at most `most` parts
 pub record IsReady (d most : ℕ) (label : MixedLabel) : Type 0 where
   pub converted : IsPartition label.0
   pub augmented : IsPartition label.1
@@ -42,22 +42,23 @@ pub record IsSmall (k : ℕ) (terms : WholeTerms) : Type 0 where
   pub few : mass terms + 1 ≤ 2 ^ k
   pub low : HaveLabels (IsLow k) terms
 
--- the list at each index i, which is to be p_k in the target for k = i + 1, is small for k
+-- for each k from 1 to the number of lists, the list at the index k - 1, which is to be p_k in the target, satisfies `IsSmall` k
 abbrev pub AreSmall : List WholeTerms → Type 0
 AreSmall lists = (i : ℕ) → i < length lists → IsSmall (i + 1) (list_at lists i)
 
--- each term of a list, times the target's polynomial of a partition, times an augmented monomial
+-- `factor`, a list in the target, times the target's basis polynomial of `converted` times the augmented monomial of `augmented`, as a list of terms
 abbrev pub products : WholeTerms → List ℕ → List ℕ → Mixed
 products factor converted augmented =
     map (λ (t : List ℕ × ℤ). ((merged converted t.0, augmented), t.1)) factor
 
--- for each of the numbers b, the augmented monomial with one part b replaced by a + b
+-- for each b of the list `numbers`, the label of two partitions: `converted`, and `augmented` with one part b replaced by a + b
 abbrev pub raised : List ℕ → ℕ → List ℕ → List ℕ → List MixedLabel
 raised converted a augmented numbers = map (λ (b : ℕ). (converted, raise a b augmented)) numbers
 
--- the conversion of an augmented monomial at its last part a, a smallest one: p_a times the augmented monomial of the
--- other parts `rest`, less the augmented monomials in which a part of `rest` is increased by a; the lists `factors` are
--- those of p_1, p_2 and so on; without parts, the label stays
+-- The conversion of the augmented monomial of a partition at its last and smallest part a, with `rest` for the other parts: p_a times the augmented
+-- monomial of `rest`, minus the augmented monomials of the partitions that are obtained if one part of `rest` is increased by a. Every term is
+-- multiplied by the target's polynomial of `converted`, and the list of `factors` at the index a - 1 is p_a in the target. An augmented monomial
+-- without parts is not changed.
 abbrev pub conversion_of : List WholeTerms → List ℕ → List ℕ → Mixed
 conversion_of factors converted [] = ((converted, []), pos 1) ∷ []
 conversion_of factors converted (b ∷ others) =
@@ -67,21 +68,20 @@ conversion_of factors converted (b ∷ others) =
     products (list_at factors (a - 1)) converted rest
     ++ each_with (negsuc 0) (raised converted a rest rest)
 
--- the terms that replace a label: its augmented monomial is converted if it has `count` parts; otherwise the label
--- stays
+-- the terms that replace a label: those of `conversion_of` if its augmented monomial has `count` parts; otherwise the label itself
 abbrev pub conversion : List WholeTerms → ℕ → MixedLabel → Mixed
 conversion factors count label =
     cond (nat_eq (length label.1) count) (conversion_of factors label.0 label.1)
     ((label, pos 1) ∷ [])
 
--- what the conversion of a label needs: small lists of p_1, p_2 and so on, at most 15, as many as the label has cells
--- or more, and at most `most` parts in its augmented monomial
+-- the conditions for converting a label: at most 15 lists `factors`, which are small (`AreSmall`); the sizes of the two partitions of the label add
+-- up to at most the number of these lists; and its augmented monomial has at most `most` parts
 pub record IsConvertible (factors : List WholeTerms) (most : ℕ) (label : MixedLabel) : Type 0 where
   pub small : AreSmall factors
   pub lists : length factors ≤ 15
   pub ready : IsReady (length factors) most label
 
--- a label whose augmented monomial has at most one part, as terms of the target
+-- a label whose augmented monomial has at most one part, as a list of terms in the target
 abbrev pub in_target : List WholeTerms → MixedLabel → WholeTerms
 in_target factors (converted, []) = (converted, pos 1) ∷ []
 in_target factors (converted, (a ∷ rest)) = row converted (pos 1) (list_at factors (a - 1))

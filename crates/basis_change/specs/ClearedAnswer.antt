@@ -1,4 +1,5 @@
--- The answers of a change of basis: with integer coefficients over one denominator, and as fractions.
+-- The results of a change of basis: a list of terms with integer coefficients, and the list of fractions that is obtained if each of these
+-- coefficients is divided by one number.
 use Rattle.std.specs.Prelude.{◌≡◌, ℕ, ◌*◌, ◌%◌, ◌^◌, ◌≤◌, List, Result, IfOk, IsErrOf}
 use Rattle.calc_base.specs.declared.faults.SumFault.{SumFault}
 use Rattle.calc_base.specs.declared.faults.SumFault.TheVariants.{Large}
@@ -16,14 +17,14 @@ use Rattle.coeff_rings.specs.Fractions.{lowest_terms}
 use Rattle.sparse_polys.specs.Tables.{found, IsWholeTable}
 use Rattle.basis_change.specs.Clearing.{IsBoundedBy, IsMultipleIn, clearing_factor}
 
--- m times each coefficient is an integer, the absolute values of these products add up to at most
--- `most`, and no label has more than d cells
+-- m is a multiple of the denominator of each coefficient of the list, the absolute values of the coefficients times m add up to at most `most`, and
+-- no label has more than d cells
 pub record IsClearedBy (m most d : ℕ) (terms : Terms (List ℕ)) : Type 0 where
   pub whole : (t : List ℕ × Fraction) → Among t terms → m % t.1.1 ≡ 0
   pub few : absolute_sum m terms ≤ most
   pub within : AreWithin d terms
 
--- the polynomials of the basis are products over the parts of the labels
+-- the basis is e, h or p, whose polynomials are products over the parts of their labels
 abbrev pub IsMultiplied : Basis → Type 0
 IsMultiplied monomials = ⊥
 IsMultiplied elementaries = Unit {0}
@@ -31,18 +32,17 @@ IsMultiplied completes = Unit {0}
 IsMultiplied power_sums = Unit {0}
 IsMultiplied schurs = ⊥
 
--- A change into e, h or p: with d the greatest size of a label, `den` times d! times each
--- coefficient of the answer is an integer, the absolute values of these products add up to at most
--- `num` times the growth at d, and no label of the answer has more than d cells.
+-- If the target is e, h or p, and d is the greatest size of a label of `list`: `den`·d! times each coefficient of the answer is an integer, the
+-- absolute values of these products add up to at most `num`·`growth`(target, d), and no label of the answer has more than d cells.
 abbrev pub MultipliesOut : Basis → ℕ → ℕ → Terms (List ℕ) → Terms (List ℕ) → Type 0
 MultipliesOut target num den list answer =
     let d = greatest_size list in
     IsMultiplied target → IsClearedBy (den * factorial d) (num * growth target d) d answer
 
--- The change of a list in m, with labels of at most `size` cells, into the target: the answer is the
--- list times the clearing factor. Into e, h and p, the absolute values of its coefficients add up to
--- at most N times the growth at the size, for each N that bounds the list, and no label has more
--- cells. `Large` is returned only if N times the growth is 2^127 or more, for each such N.
+-- The result of changing a list in m, with labels of at most `size` cells, into the target: the answer, read in the target, is the list times the
+-- clearing factor. If the target is e, h or p, no label of the answer has more than `size` cells, and for each N with `IsBoundedBy N list` the
+-- absolute values of its coefficients add up to at most N·`growth`(target, size). `Large` is returned only if N·`growth`(target, size) is 2^127 or
+-- more for each such N.
 pub record IsChanged (target : Basis) (size : ℕ) (list : WholeTerms)
     (result : Result WholeTerms SumFault) : Type 0 where
   pub value : IfOk result (IsMultipleIn target (clearing_factor target size) list)
@@ -53,8 +53,8 @@ pub record IsChanged (target : Basis) (size : ℕ) (list : WholeTerms)
   pub large : IsErrOf result Large → (N : ℕ) → IsBoundedBy N list
       → 2 ^ 127 ≤ N * growth target size
 
--- The change of a list in m, with labels of at most `size` cells, into the target, as fractions: the coefficients of
--- the answer are those of `whole` divided by `den`, and `whole` is the list times the clearing factor.
+-- The fractions that result from changing a list in m, with labels of at most `size` cells, into the target: the coefficients of the answer are those
+-- of `whole` divided by `den`, and `whole` is the list times the clearing factor, in the target.
 pub record IsQuotientOf (target : Basis) (size den : ℕ) (list : WholeTerms)
     (answer : Terms (List ℕ)) : Type 0 where
   pub whole : WholeTerms

@@ -1,4 +1,4 @@
--- Lists of terms in m with integer coefficients: a bound, the same list in another basis, and the list in augmented
+-- Lists of terms in m with integer coefficients: a bound for the coefficients, a multiple of the list in another basis, and the list in augmented
 -- monomials.
 use Rattle.std.specs.Prelude.{ℕ, ◌/◌, ◌*◌, ◌≤◌, ℤ, pos, nat_abs, ◌*ℤ◌, List, [], map}
 use Rattle.sym_model.specs.Sum.{Among}
@@ -13,8 +13,7 @@ use Rattle.monomial_laws.specs.ExpressionTerms.{in_monomials}
 use Rattle.basis_change_laws.specs.AugmentedMonomial.{multiplicity_factorials}
 use Rattle.basis_change.specs.AugmentedProducts.{Mixed}
 
--- the absolute value of each coefficient times the product of the factorials of the parts of its
--- label is at most N times the factorial of the size of the label
+-- |c|·Π λ_i! ≤ N·|λ|! for each term of the list with the label λ and the coefficient c
 abbrev pub IsBoundedBy : ℕ → WholeTerms → Type 0
 IsBoundedBy N terms =
     (t : List ℕ × ℤ) → Among t terms → nat_abs t.1 * factorials t.0 ≤ N * factorial (size t.0)
@@ -25,8 +24,8 @@ IsMultipleIn basis q terms answer =
     (n : ℕ) → Same (combined (λ label. basis_polynomial basis label n) answer)
     (scale (pos q) (in_monomials terms n))
 
--- the number that clears the fractions of every list in m with integer coefficients and labels of
--- at most d cells, changed into the basis: d! for e, h and p, and 1 for m and s
+-- the number that clears the fractions if a list in m with integer coefficients and labels of at most d cells is changed into the basis: d! for e, h
+-- and p, and 1 for m and s
 abbrev pub clearing_factor : Basis → ℕ → ℕ
 clearing_factor monomials d = 1
 clearing_factor elementaries d = factorial d
@@ -34,18 +33,17 @@ clearing_factor completes d = factorial d
 clearing_factor power_sums d = factorial d
 clearing_factor schurs d = 1
 
--- a coefficient times the integer quotient of `factor` by the product of the factorials of the multiplicities of a
--- label
+-- c times the quotient, rounded down, of `factor` by the product of the factorials of the multiplicities of the parts of the label
 abbrev pub augmented_number : ℕ → List ℕ → ℤ → ℤ
 augmented_number factor label c = c *ℤ pos (factor / multiplicity_factorials label)
 
--- `factor` times the list, in augmented monomials, if the product of the factorials of the multiplicities of each label
--- divides `factor`
+-- `factor` times a list in m, written in augmented monomials, if `factor` is a multiple of the product of the factorials of the multiplicities of the
+-- parts, for each label
 abbrev pub augmented_terms : ℕ → WholeTerms → Mixed
 augmented_terms factor terms =
     map (λ (t : List ℕ × ℤ). (([], t.0), augmented_number factor t.0 t.1)) terms
 
--- for each label, the product of the factorials of its multiplicities is at most `factor`
+-- for each label, the product of the factorials of the multiplicities of its parts is at most `factor`
 abbrev pub HasFactors : ℕ → WholeTerms → Type 0
 HasFactors factor terms =
     (t : List ℕ × ℤ) → Among t terms → multiplicity_factorials t.0 ≤ factor

@@ -1,5 +1,4 @@
--- Power sums in a family of polynomials that are multiplied over the parts of a partition
--- (Macdonald, I.2).
+-- The basis e, h or p of a family, and the power sums as lists in this basis (Macdonald, I.2).
 use Rattle.std.specs.Prelude.{◌≡◌, ℕ, ◌+◌, ◌<◌, ℤ, List, length}
 use Rattle.sym_model.specs.Polynomial.{pair, times}
 use Rattle.sym_model.specs.Bases.{power_sum_of, product_over}
@@ -11,23 +10,24 @@ use Rattle.sparse_polys.specs.declared.family.Family.{Family}
 use Rattle.sparse_polys.specs.Families.{polynomial_of}
 use Rattle.basis_change.specs.AugmentedProducts.{MixedLabel}
 
--- Σ c·φ(α) over the terms c·x^α of the product of the polynomials of the family for the parts of a label, in n variables
+-- for λ = `label`, let f be e_λ, h_λ or p_λ in n variables, the one of the family; e_λ is the product of the e_k over the parts k of λ, and so on.
+-- The value is Σ c·φ(α) over the terms c·x^α of f.
 abbrev pub target_value : Family → ℕ → (List ℕ → ℤ) → List ℕ → ℤ
 target_value family n φ label = pair (product_over (polynomial_of family) label n) φ
 
--- Σ c·φ(α) over the terms c·x^α of the polynomial of the family times the augmented monomial, in n variables
+-- for a label of two partitions λ and μ, let f be the polynomial of λ in the basis of the family times the augmented monomial of μ, in n variables.
+-- The value is Σ c·φ(α) over the terms c·x^α of f.
 abbrev pub product_value : Family → ℕ → (List ℕ → ℤ) → MixedLabel → ℤ
 product_value family n φ l =
     pair (times (product_over (polynomial_of family) l.0 n) (augmented l.1 n)) φ
 
--- the list, each label read as the product of the polynomials of the family for its parts, is p_k in every number of
--- variables
+-- in every number of variables, the list is the power sum p_k; a label λ of the list stands for e_λ, h_λ or p_λ, the one of the family
 abbrev pub IsPowerSum : Family → ℕ → WholeTerms → Type 0
 IsPowerSum family k terms =
     (n : ℕ) (φ : List ℕ → ℤ)
     → over (target_value family n φ) terms ≡ pair (power_sum_of k n) φ
 
--- the lists are p_1, p_2 and so on in the family
+-- the lists are those of p_1, p_2 and so on in the basis of the family
 abbrev pub ArePowerSums : Family → List WholeTerms → Type 0
 ArePowerSums family lists =
     (i : ℕ) → i < length lists → IsPowerSum family (i + 1) (list_at lists i)

@@ -1,4 +1,4 @@
--- The lists to which the arrangements of partitions straighten, kept for each partition.
+-- Partitions, each with the list of terms to which its arrangements straighten.
 use Rattle.std.specs.Prelude.{◌≡◌, ℕ, ◌≤◌, true, List}
 use Rattle.sym_model.specs.Bases.{has}
 use Rattle.sym_model.specs.Partition.{size}
@@ -10,18 +10,18 @@ use Rattle.linear_combinations.specs.Gains.{mass}
 use Rattle.family_lists.specs.KeptLists.{AreListsOf}
 use Rattle.beta_sets.specs.BetaSets.{shapes, AreShapes}
 
--- the arrangements of the partition straighten to this list of beta sets, the absolute values of its coefficients add
--- up to at most the factorial of the size of the partition, and no label has more cells than the partition
+-- the arrangements of the partition `parts` straighten to the list `terms` of beta sets, the absolute values of its coefficients add up to at most
+-- |parts|!, and no label has more than |parts| cells
 pub record IsKept (parts : List ℕ) (terms : WholeTermsOf ℕ) : Type 0 where
   pub straightens : IsStraightening parts (shapes terms)
   pub few : mass terms ≤ factorial (size parts)
   pub within : AreShapes (size parts) terms
 
--- each entry is a partition with a list to which its arrangements straighten
+-- each entry is a partition with a list to which its arrangements straighten (`IsKept`)
 abbrev pub AreKept : List (List ℕ × WholeTermsOf ℕ) → Type 0
 AreKept = AreListsOf IsKept
 
--- the number is one of the parts, and its list is kept for the parts without it
+-- for the pair x of a number a and a list: a is one of the parts, and the arrangements of the parts without one a straighten to the list (`IsKept`)
 pub record IsKeptRest (parts : List ℕ) (x : ℕ × WholeTermsOf ℕ) : Type 0 where
   pub part : has x.0 parts ≡ true
   pub kept : IsKept (without_one x.0 parts) x.1

@@ -1,4 +1,4 @@
-//! The change from the monomial basis to any other.
+//! The change of expansions in the basis m into the basis m, e, h, p or s.
 ghost use Rattle.std.specs.Prelude.{◌≡◌, ℕ, ◌*◌, ◌^◌, ◌<◌, ◌≤◌, IfOk, IsErrOf};
 ghost use Rattle.sym_model.specs.ExpressionOffence.{degree_limit};
 ghost use Rattle.sym_model.specs.Expansion.{monomials, IsExpansionOf};
@@ -23,18 +23,18 @@ use partitions::Partition;
 use sparse_polys::{Family, Whole, divided};
 use std::alloc::Global;
 
-/// An expansion in m as an expansion in the target basis: the answer expands every polynomial that
-/// the list expands, in every number of variables.
+/// The expansion `list` in m, changed into the basis `target`: in every number of variables, the
+/// answer expands each polynomial that `list` expands.
 ///
 /// `bound` has two numbers of at least 1: `den`, a multiple of all denominators of the list, and
-/// `num`, with |c|·`den`·Π λ_i! ≤ `num`·|λ|! for each of its terms c·m_λ. The labels have at most
-/// 20 cells for the targets m and s, at most 15 for e, h and p. Returns `Large` only if
-/// `bound.num`·`bound.den` times the growth into the target at the greatest size of a label is
-/// 2^127 or more.
+/// `num`, with |c|·`den`·Π λ_i! ≤ `num`·|λ|! for each term c·m_λ of the list. The labels have at
+/// most 20 cells for the targets m and s, at most 15 for e, h and p. Let d be the greatest size of
+/// a label, and B the growth into the target at d: 1 if d = 0, and otherwise d^d for m and s,
+/// d!·(2d)^d for e, h and p. Returns `Large` only if `num`·`den`·B is 2^127 or more.
 ///
-/// Into e, h and p, with d the greatest size of a label: `bound.den`·d! times each coefficient of
-/// the answer is an integer, the absolute values of these products add up to at most `bound.num`
-/// times the growth at d, and no label of the answer has more than d cells.
+/// Into e, h and p: `den`·d! times each coefficient of the answer is an integer, the absolute
+/// values of these products add up to at most `num`·B, and no label of the answer has more than d
+/// cells.
 pub fn to_basis(
     alloc: Global,
     list: &Lin<Partition, Frac>,
@@ -58,10 +58,11 @@ pub fn to_basis(
     quotients_in(alloc, terms, size, target, den)
 }
 
-/// The clearing factor times a list in m with integer coefficients, in the target basis, with each
-/// coefficient divided by `den`, which is positive and below 2^127. The labels have at most `size`
-/// cells. Returns `Large` only if N times the growth into the target at `size` is 2^127 or more,
-/// for each N that bounds the list.
+/// Changes the product of `list` and the clearing factor for `size` (`clearing_factor`) into the
+/// basis `target`, and divides each coefficient of the result by `den`. `list` is a list in m with
+/// integer coefficients and labels of at most `size` cells, and `den` is positive and below 2^127.
+/// Returns `Large` only if N·`growth`(target, size) is 2^127 or more for each N that bounds the
+/// list (`IsBoundedBy`).
 fn quotients_in(
     alloc: Global,
     list: Whole,
@@ -85,8 +86,8 @@ fn quotients_in(
     divided(alloc, &answer, den)
 }
 
-/// The number that clears the fractions of every list in m with integer coefficients and labels of
-/// at most `size` cells, changed into the target: `size`! for e, h and p, and 1 for m and s.
+/// The number that clears the fractions if a list in m with integer coefficients and labels of at
+/// most `size` cells is changed into the basis `target`: `size`! for e, h and p, and 1 for m and s.
 pub fn clearing_factor(target: Basis, size: u16) -> u128
     requires { size ≤ 20 }
     ensures { result ≡ clearing_factor (basis_of target) size }
@@ -100,12 +101,13 @@ pub fn clearing_factor(target: Basis, size: u16) -> u128
     }
 }
 
-/// The clearing factor times a list in m with integer coefficients, in the target basis, in every
-/// number of variables.
+/// Changes the product of `list` and the clearing factor for `size` (`clearing_factor`) into the
+/// basis `target`, in every number of variables.
 ///
-/// The labels have at most `size` cells: at most 20 for the targets m and s, at most 15 for e, h
-/// and p. Returns `Large` only if N times the growth into the target at `size` is 2^127 or more, for
-/// each N that bounds the list.
+/// `list` is a list in m with integer coefficients and labels of at most `size` cells; `size` is at
+/// most 20 for the targets m and s, and at most 15 for e, h and p. Returns `Large` only if
+/// N·`growth`(target, size) is 2^127 or more for each N with |c|·Π λ_i! ≤ N·|λ|! for all terms
+/// c·m_λ of the list.
 pub fn in_basis(alloc: Global, list: Whole, size: u16, target: Basis) -> Result<Whole, SumFault>
     requires low { size ≤ degree_limit (basis_of target) }
     requires table { IsWholeTable list }
@@ -121,10 +123,11 @@ pub fn in_basis(alloc: Global, list: Whole, size: u16, target: Basis) -> Result<
     }
 }
 
-/// `size`! times a list in m with integer coefficients, in e, h or p, in every number of variables:
-/// by augmented monomials, whose parts become power sums one after another. The labels have at most
-/// `size` cells. Returns `Large` only if N times the growth at `size` is 2^127 or more, for each N
-/// that bounds the list.
+/// Changes `size`! times `list` into the basis e, h or p of `family`, in every number of variables.
+/// `list` is a list in m with integer coefficients and labels of at most `size` cells, and `size`
+/// is at most 15. It is first written in augmented monomials; then the parts of these become power
+/// sums, one after another. Returns `Large` only if N·`size`!·(2·`size`)^`size` is 2^127 or more
+/// for each N with |c|·Π λ_i! ≤ N·|λ|! for all terms c·m_λ of the list.
 pub fn in_family(alloc: Global, list: &Whole, size: u16, family: Family) -> Result<Whole, SumFault>
     requires low { size ≤ 15 }
     requires table { IsWholeTable list.now }

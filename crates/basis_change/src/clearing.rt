@@ -1,5 +1,5 @@
-//! Clears the fractions of a list of terms, and writes a list in m with integer coefficients in
-//! augmented monomials.
+//! Multiplies a list of terms in m by a common denominator, and writes a list in m with integer
+//! coefficients in augmented monomials.
 ghost use Rattle.std.specs.Prelude.{◌≡◌, ℕ, ◌*◌, ◌/◌, ◌^◌, ◌<◌, ◌≤◌, List, [], ◌∷◌, pos, nat_abs};
 ghost use Rattle.std.specs.Prelude.{MatchOption, IfOk, OnOk, IsErrOf};
 ghost use Rattle.sym_model.specs.Sum.{Among};
@@ -23,7 +23,7 @@ use partitions::Partition;
 use sparse_polys::{Pair, Whole};
 use std::alloc::Global;
 
-/// The greatest size of a label, 0 for the empty list.
+/// The greatest size of a label of the list, 0 for the empty list.
 pub fn greatest_size(list: &Lin<Partition, Frac>) -> u16
     ensures within { AreWithin result list.now }
     ensures least { (d : ℕ) → AreWithin d list.now → result ≤ d }
@@ -39,7 +39,7 @@ pub fn greatest_size(list: &Lin<Partition, Frac>) -> u16
     greatest
 }
 
-/// A number of the type u128 as an `Int`.
+/// The number `n`, below 2^127, as an `Int`.
 pub fn whole_of(n: u128) -> Int
     requires { n < 2 ^ 127 }
     ensures { result ≡ pos n }
@@ -47,14 +47,14 @@ pub fn whole_of(n: u128) -> Int
     Int::new(n as i128)
 }
 
-/// The numerator.
+/// The numerator of the fraction c.
 pub fn numerator_of(c: Frac) -> Int
     ensures { result ≡ c.0 }
 {
     Int::new(c.num())
 }
 
-/// The denominator.
+/// The denominator of the fraction c.
 pub fn denominator_of(c: Frac) -> u128
     ensures value { result ≡ c.1 }
     ensures positive { 0 < c.1 }
@@ -63,8 +63,8 @@ pub fn denominator_of(c: Frac) -> u128
     c.den() as u128
 }
 
-/// The coefficient times the common denominator `den`; `None` only if the absolute value of the
-/// product is 2^127 or more.
+/// The integer c·`den`, for a multiple `den` of the denominator of the fraction c; `None` only if
+/// its absolute value is 2^127 or more.
 fn scaled_number(c: Frac, den: u128) -> Option<Int>
     requires { den < 2 ^ 127 }
     ensures { MatchOption result (2 ^ 127 ≤ nat_abs (scaled den c)) (λ z. z ≡ scaled den c) }
@@ -92,7 +92,9 @@ pub fn whole_terms(alloc: Global, list: &Lin<Partition, Frac>, den: u128) -> Res
     Ok(terms)
 }
 
-/// Adds a term of the list times `factor`, in augmented monomials.
+/// Adds to `sum` the product of `factor` and the term c·m_`label`, written in augmented monomials.
+/// For an exact result, `factor` must be a multiple of the product of the factorials of the
+/// multiplicities of the parts of `label`.
 fn add_augmented(
     alloc: Global,
     sum: &mut Mixed,
@@ -117,7 +119,10 @@ fn add_augmented(
     sum.add_owned(label, number)
 }
 
-/// The list times `factor`, in augmented monomials.
+/// The product of `factor` and the list in m, written in augmented monomials: the augmented
+/// monomial of λ is m_λ times the product of the factorials of the multiplicities of the parts of
+/// λ. For each label λ of the list, `factor` must be a multiple of this product of factorials, so
+/// that the result is exact.
 pub(crate) fn in_augmented(alloc: Global, list: &Whole, factor: u128) -> Result<Mixed, SumFault>
     requires factor { factor < 2 ^ 127 }
     requires multiplicities { HasFactors factor list.now }

@@ -1,4 +1,4 @@
-//! Special rim hooks added below shapes.
+//! Adds special rim hooks to shapes: rim hooks that begin in the first column, below the shape.
 ghost use Rattle.std.specs.Prelude.{◌≡◌, ◌<◌, ◌≤◌, ◌^◌, ◌*ℤ◌, nat_abs, nat_eq, OnOk, IsErrOf};
 ghost use Rattle.std.specs.Prelude.{MatchOption};
 ghost use Rattle.sym_model.specs.PlaceOrders.{minus_one_to};
@@ -10,16 +10,17 @@ use calc_base::SumFault;
 use coeff_rings::{Int, Ring};
 use linear_combinations::Rule;
 
-/// The number times (-1)^`times`; `None` only if its absolute value is 2^127 or more.
+/// (-1)^`times`·c; `None` only if the absolute value of c is 2^127 or more.
 fn turned(c: Int, times: u32) -> Option<Int>
     ensures { MatchOption result (2 ^ 127 ≤ nat_abs c) (λ z. z ≡ minus_one_to times *ℤ c) }
 {
     if times % 2 == 0 { Some(c) } else { c.neg() }
 }
 
-/// Adds c times the result of adding a rim hook of `a` cells that begins in the row below those of
-/// the beta set: each beta number increases by 1, and the number `a` is added to the set. The last
-/// rows of the set may be empty.
+/// Adds to `sum` c times the result, with its sign, of adding a rim hook of `a` cells to the shape
+/// of the beta set; the rim hook begins in the first column, in the row after the rows of the set.
+/// Each beta number is increased by 1, and then the number `a` is added to the set; if `a` is one
+/// of the increased numbers, nothing is added to `sum`. The last rows of the set may be empty.
 fn add_hook(sum: &mut Shapes, beta: BetaSet, a: u16, c: Int) -> Result<(), SumFault>
     requires few { a ≤ 20 }
     requires low { beta < 2 ^ 63 }
@@ -38,8 +39,9 @@ fn add_hook(sum: &mut Shapes, beta: BetaSet, a: u16, c: Int) -> Result<(), SumFa
     sum.add_owned(others.with(a), number)
 }
 
-/// The rule that adds each rim hook of `cells` cells that begins below a shape: in the next row, or
-/// with fewer than `cells` empty rows between.
+/// The rule that replaces a shape by a sum over the `cells` rows after its last row: for each of
+/// these rows, the result, with its sign, of adding a rim hook of `cells` cells that begins in this
+/// row, in the first column.
 #[derive(Drop)]
 pub(crate) struct HooksBelow {
     pub cells: u16,

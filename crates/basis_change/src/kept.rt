@@ -1,4 +1,5 @@
-//! The lists to which the arrangements of a partition straighten, each computed once and kept.
+//! For each partition λ, the list of Schur polynomials with signs to which the arrangements of λ
+//! straighten; each list is computed once and then kept.
 ghost use Rattle.std.specs.Prelude.{ℕ, ◌≤◌, [], IfOk, OnOk, IsErrOf};
 ghost use Rattle.sym_model.specs.Partition.{IsPartition, size};
 ghost use Rattle.linear_combinations.specs.Gains.{Gains, Overflows, HaveLabels};
@@ -20,7 +21,8 @@ use linear_combinations::Lin;
 use partitions::Partition;
 use std::alloc::Global;
 
-/// The list to which the arrangements of the empty partition straighten: that partition, once.
+/// The list to which the arrangements of the empty partition straighten: the empty partition with
+/// the coefficient 1.
 fn of_nothing(alloc: Global) -> Result<Shapes, SumFault>
     ensures kept { IfOk result (IsKept []) }
     ensures small { ¬ IsErrOf result SumFault.Large }
@@ -30,8 +32,9 @@ fn of_nothing(alloc: Global) -> Result<Shapes, SumFault>
     Ok(list)
 }
 
-/// The index of the list to which the arrangements of `parts` straighten. If it is not kept yet, it
-/// is computed from the lists for the partitions with one part less.
+/// The index in `lists` of the list to which the arrangements of `parts` straighten. If `lists`
+/// does not have this list yet, it is computed from the lists for `parts` without one of its parts,
+/// and added to `lists`.
 fn kept_list(alloc: Global, lists: &mut Lists<Shapes>, parts: &[u16]) -> Result<usize, SumFault>
     requires partition { IsPartition parts.now }
     requires low { size parts.now ≤ 20 }
@@ -61,8 +64,8 @@ fn kept_list(alloc: Global, lists: &mut Lists<Shapes>, parts: &[u16]) -> Result<
     Ok(keep(lists, label, sum)?)
 }
 
-/// Adds c times the list to which the arrangements of the parts straighten to a sum of beta sets in
-/// 20 rows. The list is kept from then on.
+/// Adds to `sum`, a list of beta sets in 20 rows, c times the list to which the arrangements of
+/// `parts` straighten. If `lists` does not have that list yet, it is computed and added to `lists`.
 pub(crate) fn add_straightened(
     alloc: Global,
     lists: &mut Lists<Shapes>,

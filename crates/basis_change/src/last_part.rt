@@ -1,4 +1,5 @@
-//! Arrangements by their last part.
+//! The list to which the arrangements of a partition straighten, computed from the lists for the
+//! partition without one part.
 
 ghost use Rattle.std.specs.Prelude.{◌≡◌, ℕ, ◌<◌, ℤ, ◌*◌, pos, List, [], ◌∷◌, length};
 ghost use Rattle.sym_model.specs.Polynomial.{pair};
@@ -7,11 +8,11 @@ ghost use Rattle.sym_model.specs.WholeTerms.{WholeTerms};
 ghost use Rattle.basis_change.specs.SpecialRimHooks.{all_hooks, AreStraightenings};
 ghost use Rattle.basis_change.specs.SpecialRimHooks.{IsStraightening};
 
-/// The list to which the arrangements of a partition straighten, from the lists for one part less.
-/// Each arrangement has a last part a, and the arrangement of the other parts before it is
-/// straightened first. So the list for λ is the sum, over the different parts a of λ, over the
-/// terms of the list for λ without one a, and over the special rim hooks of a cells that are added
-/// to them (Egecioglu and Remmel's rule for m in s).
+/// The list to which the arrangements of a partition λ straighten, computed from the lists for λ
+/// without one part. Each arrangement has a last part a, and the arrangement of the other parts
+/// before it is straightened first. So the list for λ is the sum, over the different parts a of λ
+/// and over the terms of the list for λ without one a, of the results of adding a special rim hook
+/// of a cells to the term (Egecioglu and Remmel's rule for m in s).
 ///
 /// Example: the list for (2) is s_(2) - s_(1,1), from the rim hooks of two cells added to the empty
 /// shape.

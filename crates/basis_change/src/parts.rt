@@ -1,4 +1,4 @@
-//! Inserts, removes and increases parts of partitions, and counts their multiplicities.
+//! Inserts, removes and increases parts of partitions, and computes their multiplicities.
 ghost use Rattle.std.specs.Prelude.{◌≡◌, ◌+◌, ◌<◌, ◌≤◌, ◌^◌, length, insert, IfOk, OnOk};
 ghost use Rattle.sym_model.specs.Partition.{insert_part};
 ghost use Rattle.sym_model.specs.RaisedPart.{raise, without_one};
@@ -16,8 +16,8 @@ pub(crate) fn copy_of(alloc: Global, parts: &[u16]) -> Result<Vec<u16>, AllocErr
     Ok(copy)
 }
 
-/// The index of the first part that is not greater than `part`; the number of parts if there is
-/// none.
+/// The index of the first of `parts` that is not greater than `part`; the number of parts if all
+/// are greater.
 fn place_of(parts: &[u16], part: u16) -> usize
     requires { 0 < part }
     ensures within { result ≤ length parts.now }
@@ -30,7 +30,8 @@ fn place_of(parts: &[u16], part: u16) -> usize
     at
 }
 
-/// Inserts a part at its place.
+/// Inserts `part` into the weakly decreasing list `parts`, before the first part that is not
+/// greater.
 fn insert_part(parts: &mut Vec<u16>, part: u16) -> Result<(), AllocError>
     requires { 0 < part }
     ensures { OnOk result (parts.new.items ≡ insert_part part parts.old.items) }
@@ -40,8 +41,8 @@ fn insert_part(parts: &mut Vec<u16>, part: u16) -> Result<(), AllocError>
     Ok(())
 }
 
-/// Replaces `raised` by the parts, with the first part `from` increased by `by` and put at its new
-/// place.
+/// Replaces the contents of `raised` by the partition `parts`, in which one part `from` is removed
+/// and the part `by` + `from` is inserted.
 pub(crate) fn put_raised(
     raised: &mut Vec<u16>,
     parts: &[u16],

@@ -1,4 +1,5 @@
-//! The parts of augmented monomials converted one after another, the smallest first.
+//! The conversion of augmented monomials into the target e, h or p: their parts become power sums
+//! one after another, the smallest first.
 ghost use Rattle.std.specs.Prelude.{◌≡◌, ℕ, ◌^◌, ◌≤◌, ℤ, List, [], length, IfOk, IsErrOf};
 ghost use Rattle.linear_combinations.specs.Gains.{Gains, Overflows, HaveLabels, mass, over};
 ghost use Rattle.linear_combinations.specs.Gains.{replaced};
@@ -21,8 +22,8 @@ use partitions::Partition;
 use sparse_polys::{Pair, Whole};
 use std::alloc::Global;
 
-/// The rule that converts the last part of each augmented monomial with `rows` parts, by the lists
-/// of p_1, p_2 and so on in the target. The last part is a smallest one: its power sum has the
+/// The rule that converts the last part a of each augmented monomial with `rows` parts; the list of
+/// p_a in the target is `factors[a - 1]`. The last part is a smallest one, so its power sum has the
 /// fewest terms.
 #[derive(Drop)]
 struct LastPart<'a> {
@@ -51,8 +52,8 @@ impl Rule<Pair, Pair> for LastPart<'_> {
     }
 }
 
-/// The table after the last part is converted in each term whose augmented monomial has `rows`
-/// parts; the other terms stay.
+/// The table `table`, in which each term whose augmented monomial has `rows` parts is replaced by
+/// the terms into which the rule `LastPart` converts it; the other terms are copied.
 fn step(alloc: Global, table: &Mixed, factors: &[Whole], rows: u16) -> Result<Mixed, SumFault>
     requires { HaveLabels (IsConvertible factors.now rows) table.now }
     ensures gains { IfOk result (Gains [] (replaced (conversion factors.now rows) table.now)) }
@@ -70,8 +71,7 @@ fn step(alloc: Global, table: &Mixed, factors: &[Whole], rows: u16) -> Result<Mi
     Ok(next)
 }
 
-/// The rule that converts augmented monomials of at most one part: the result has only terms of the
-/// target.
+/// The rule that converts augmented monomials of at most one part into terms of the target.
 #[derive(Drop)]
 struct OnePart<'a> {
     alloc: Global,
@@ -94,8 +94,8 @@ impl Rule<Pair, Partition> for OnePart<'_> {
     }
 }
 
-/// The terms in the target basis, after the augmented monomials, each of at most one part, are
-/// converted.
+/// The sum of the terms of `table`, as a list in the target. Each augmented monomial of the table
+/// must have at most one part.
 fn targets(alloc: Global, table: &Mixed, factors: &[Whole]) -> Result<Whole, SumFault>
     requires { HaveLabels (IsConvertible factors.now 1) table.now }
     ensures gains { IfOk result (Gains [] (replaced (in_target factors.now) table.now)) }
@@ -108,7 +108,8 @@ fn targets(alloc: Global, table: &Mixed, factors: &[Whole]) -> Result<Whole, Sum
     Ok(list)
 }
 
-/// The list in the target, after all augmented monomials, of at most `most` parts, are converted.
+/// The sum of the terms of `start`, as a list in the target. Each augmented monomial of `start`
+/// must have at most `most` parts; `factors` are the lists of p_1, p_2 and so on in the target.
 pub(crate) fn converted(
     alloc: Global,
     start: Mixed,

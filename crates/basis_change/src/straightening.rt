@@ -1,4 +1,4 @@
-//! The change into Schur polynomials, by straightening the arrangements of each label.
+//! The change from m into Schur polynomials, by straightening the arrangements of each label.
 ghost use Rattle.std.specs.Prelude.{◌≤◌, ◌<◌, ◌^◌, [], ℕ, ◌*◌, IfOk, IsErrOf};
 ghost use Rattle.sym_model.specs.Expansion.{schurs};
 ghost use Rattle.sym_model.specs.Weight.{growth};
@@ -20,8 +20,9 @@ use partitions::Partition;
 use sparse_polys::Whole;
 use std::alloc::Global;
 
-/// The list in Schur polynomials, each given by the beta set of its partition in 20 rows, by
-/// straightening the arrangements of each label in `size` places.
+/// The list in m, changed into Schur polynomials: each m_λ is replaced by the sum to which the
+/// arrangements of λ in `size` places straighten. Each Schur polynomial is given by the beta set of
+/// its partition in 20 rows.
 fn straightened(alloc: Global, list: &Whole, size: u16) -> Result<Shapes, SumFault>
     requires low { size ≤ 20 }
     requires sizes { AreWithin size list.now }
@@ -40,8 +41,8 @@ fn straightened(alloc: Global, list: &Whole, size: u16) -> Result<Shapes, SumFau
     Ok(sum)
 }
 
-/// A list in m with integer coefficients, in Schur polynomials. Its labels have at most `size`
-/// cells.
+/// The list in m with integer coefficients, changed into Schur polynomials. Its labels have at most
+/// `size` cells.
 pub(crate) fn by_arrangements(alloc: Global, list: &Whole, size: u16) -> Result<Whole, SumFault>
     requires low { size ≤ 20 }
     requires sizes { AreWithin size list.now }
@@ -51,8 +52,9 @@ pub(crate) fn by_arrangements(alloc: Global, list: &Whole, size: u16) -> Result<
     partitions_of(alloc, &sum)
 }
 
-/// A list in m with integer coefficients, in Schur polynomials, with each coefficient divided by
-/// `den`, which is positive and below 2^127. Its labels have at most `size` cells.
+/// The list in m with integer coefficients is changed into Schur polynomials, and then each
+/// coefficient is divided by `den`. The labels of the list have at most `size` cells, and `den` is
+/// positive and below 2^127.
 pub(crate) fn quotients_by_arrangements(
     alloc: Global,
     list: &Whole,

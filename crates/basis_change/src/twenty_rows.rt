@@ -1,13 +1,14 @@
-//! Shapes as beta sets in 20 rows, which are sorted as the partitions are.
+//! Shapes as beta sets in 20 rows; the order of these sets is the order of their partitions.
 use beta_sets::{BetaSet, Shapes};
 use calc_base::SumFault;
 use coeff_rings::{Int, product_of};
 use linear_combinations::Rule;
 
-/// The number of beta numbers of each set.
+/// The number of rows, and of beta numbers, of each set.
 const ROWS: u16 = 20;
 
-/// The rule that replaces each beta set by `times` times that of the same partition in 20 rows.
+/// The rule that replaces each beta set by `times` times the beta set in 20 rows of the same
+/// partition.
 #[derive(Drop)]
 pub(crate) struct InTwentyRows {
     pub times: Int,

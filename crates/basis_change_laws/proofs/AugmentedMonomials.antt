@@ -1,8 +1,8 @@
--- A power sum times an augmented monomial symmetric polynomial.
+-- The product of a power sum and an augmented monomial symmetric polynomial (`augmented`).
 use Rattle.std.proofs.Common.{◌≡◌, ℕ, zero, suc, ◌+◌, ◌*◌, ◌<◌, ◌≤◌, ◌⊎◌, ◌==◌, Bool, true, false, cond, List, [], ◌∷◌, map, nat_le, sym, ◌∙◌, ap, ap₂, refl, inl, inr, arith, ℤ, pos, ◌+ℤ◌, ◌*ℤ◌, flat_map}
 use Rattle.std.proofs.lemmas.Int.{ints}
 use Rattle.std.proofs.lemmas.Bool.{cases_lt, cases_eq, cases_Bool, ne_eqb, leb-false, both_ways}
-use Rattle.std.proofs.Math.Nat.{mul_left_comm, mul_assoc, mul_comm}
+use Rattle.std.proofs.Math.Nat.{mul_left_comm, mul_assoc, mul_comm, mul_right_comm}
 use Rattle.sym_model.specs.Sum.{total}
 use Rattle.sym_model.specs.Polynomial.{Same, scale, plus, times, pair}
 use Rattle.sym_model.specs.Partition.{IsPartition, insert_part}
@@ -18,24 +18,21 @@ use lib.IntN.{*ℤ_comm}
 use Rattle.sym_model.proofs.Sums.{total_ext, total_among, total_map, total_exchange, total_scale}
 use Rattle.sym_model.proofs.Polynomials.{pair_scale, pair_plus, pair_each, pair_determined, same_from_pair}
 use Rattle.sym_model.proofs.PolynomialLaws.{times-scale}
-use Rattle.sym_model.proofs.SortedParts.{times_in-insert_part, insert_part-without_one, has_from-times_in, has-zero, without_one-zero, has-among}
+use Rattle.sym_model.proofs.SortedParts.{times_in-insert_part, insert_part-without_one, has_from-times_in, has-zero, without_one-zero, has-among, distinct-zero}
 use Rattle.sym_model.proofs.WholeTerms.{pair_of_combined}
 use Rattle.sym_model.proofs.Contents.{times_in-here, times_in-other}
 use Rattle.sym_model.proofs.Numbers.{equal-sym}
 use Rattle.monomial_laws.proofs.PowerSums.{total_distinct-only, total_times_in, power_sum_times_monomial}
 use Rattle.monomial_laws.proofs.PowerSumLists.{has_from-distinct}
 use Rattle.sym_model.specs.ListWeight.{factorials}
+use Rattle.sym_model.proofs.Integers.{pos-cond}
 
--- ---- the factorials of the multiplicities of a list with one more number
+-- ---- multiplicities in the list of the different numbers of l; the product of the factorials of the multiplicities of a list with one more number
 
 times_in-distinct : (k : ℕ) (l : List ℕ) → times_in k (distinct l) ≡ cond (has k l) 1 0
-times_in-distinct k l = let e = sym (total_times_in k (distinct l)) ∙ total_distinct-only (λ b. pos 1) k l ∙ by (has k l) in omega (arith, ints)
-  where
-    by : (b : Bool) → cond b (pos 1) (pos 0) ≡ pos (cond b 1 0)
-    by true = refl
-    by false = refl
+times_in-distinct k l = let e = sym (total_times_in k (distinct l)) ∙ total_distinct-only (λ b. pos 1) k l ∙ sym (pos-cond (has k l) 1) in omega (arith, ints)
 
--- one more number c in front of l does not change the factorials of the multiplicities of the numbers of D, if c is not in D
+-- if c is not in the list D, then the product over the numbers of D of the factorials of their multiplicities is the same for the list c ∷ l as for l
 factorials_without : (c : ℕ) (l D : List ℕ) → times_in c D ≡ 0 → factorials (map (λ b. times_in b (c ∷ l)) D) ≡ factorials (map (λ b. times_in b l) D)
 factorials_without c l [] z = refl
 factorials_without c l (b ∷ D) z = by (cases_eq b c) (factorials_without c l D)
@@ -64,7 +61,7 @@ factorials_with c l (b ∷ D) z = by (cases_eq b c) (factorials_with c l D)
         ap₂ ◌*◌ (ap factorial (times_in-other b c l (λ e. n (sym e)))) (later (sym (times_in-other c b D n) ∙ z))
         ∙ mul_left_comm (factorial (times_in b l)) (times_in c (c ∷ l)) (factorials (map (λ d. times_in d l) D))
 
--- one more number c in front of l multiplies the product of the factorials of the multiplicities by the new multiplicity of c
+-- `multiplicity_factorials` of c ∷ l is that of l times the multiplicity of c in c ∷ l
 pub multiplicity_factorials-cons : (c : ℕ) (l : List ℕ) → multiplicity_factorials (c ∷ l) ≡ times_in c (c ∷ l) * multiplicity_factorials l
 multiplicity_factorials-cons c l = by (cases_Bool (has c l))
   where
@@ -83,7 +80,7 @@ multiplicity_factorials-cons c l = by (cases_Bool (has c l))
         no_more (inl h) = absurd (both_ways (has c l) e (has_from-times_in c l h))
         no_more (inr h) = omega arith
 
--- ---- the factorials of the multiplicities after a part is inserted or increased
+-- ---- the product of the factorials of the multiplicities of a partition after a part is inserted or increased
 
 pub multiplicity_factorials-insert : (a : ℕ) (parts : List ℕ) → 0 < a → multiplicity_factorials (insert_part a parts) ≡ times_in a (insert_part a parts) * multiplicity_factorials parts
 multiplicity_factorials-insert zero parts h = absurd (omega arith)
@@ -105,8 +102,8 @@ multiplicity_factorials-insert (suc a) (b ∷ parts) h = by (nat_le b (suc a)) r
         ∙ mul_left_comm (times_in b (b ∷ parts)) (times_in (suc a) (insert_part (suc a) parts)) (multiplicity_factorials parts)
         ∙ ap₂ ◌*◌ (sym v) (sym y)
 
--- if a > 0, λ is the partition `parts`, and μ is λ with a part b replaced by a + b, then
--- m_b(λ)·Π m_i(μ)! = m_(a+b)(μ)·Π m_i(λ)!, where m_i counts the parts i
+-- let m_i be the multiplicity of i. If a > 0, b is a part of the partition λ, which is `parts`, and μ is λ with one b replaced by a + b, then
+-- m_b(λ)·Π m_i(μ)! = m_(a+b)(μ)·Π m_i(λ)!
 raise_factor : (a b : ℕ) (parts : List ℕ) → 0 < a → IsPartition parts → has b parts ≡ true
     → times_in b parts * multiplicity_factorials (raise a b parts) ≡ multiplicity_factorials parts * times_in (a + b) (raise a b parts)
 raise_factor a zero parts h p e = absurd (both_ways (has 0 parts) (has-zero parts p.positive) e)
@@ -116,19 +113,16 @@ raise_factor a (suc b) parts h p e =
     let y = multiplicity_factorials-insert (suc b) (without_one (suc b) parts) (omega arith) in
     let z : multiplicity_factorials parts ≡ times_in (suc b) parts * multiplicity_factorials (without_one (suc b) parts) = ap multiplicity_factorials (sym back) ∙ y ∙ ap (λ l. times_in (suc b) l * multiplicity_factorials (without_one (suc b) parts)) back in
     ap (λ i. times_in (suc b) parts * i) x
-    ∙ product_turn (times_in (suc b) parts) (times_in (a + suc b) (raise a (suc b) parts)) (multiplicity_factorials (without_one (suc b) parts))
+    ∙ (sym (mul_assoc (times_in (suc b) parts) (times_in (a + suc b) (raise a (suc b) parts)) (multiplicity_factorials (without_one (suc b) parts))) ∙ mul_right_comm (times_in (suc b) parts) (times_in (a + suc b) (raise a (suc b) parts)) (multiplicity_factorials (without_one (suc b) parts)))
     ∙ ap (λ i. i * times_in (a + suc b) (raise a (suc b) parts)) (sym z)
-  where
-    product_turn : (u v w : ℕ) → u * (v * w) ≡ (u * w) * v
-    product_turn u v w = omega arith
 
--- ---- sums over the parts, and over the different parts, of a partition
+-- ---- sums over the parts of a partition, and over its different parts with their multiplicities
 
 pull_factor : (t : Bool) (x : ℤ) → cond t (pos 1) (pos 0) *ℤ x ≡ cond t x (pos 0)
 pull_factor true x = omega (arith, ints)
 pull_factor false x = omega (arith, ints)
 
--- the sum of g over the parts is the sum over the different parts b of the multiplicity of b times g(b)
+-- the sum of g(b) over all entries b of l is the sum, over the different entries b, of the multiplicity of b times g(b)
 total_parts : (g : ℕ → ℤ) (l : List ℕ) → total (λ (b : ℕ). pos (times_in b l) *ℤ g b) (distinct l) ≡ total g l
 total_parts g l =
     total_ext (λ (b : ℕ). pos (times_in b l) *ℤ g b) (λ (b : ℕ). total (λ (c : ℕ). cond (b == c) (g b) (pos 0)) l) spread (distinct l)
@@ -144,7 +138,7 @@ total_parts g l =
         ∙ total_ext (λ (c : ℕ). g b *ℤ cond (c == b) (pos 1) (pos 0)) (λ (c : ℕ). cond (b == c) (g b) (pos 0))
         (λ c. *ℤ_comm (g b) (cond (c == b) (pos 1) (pos 0)) ∙ pull_factor (c == b) (g b) ∙ ap (λ (t : Bool). cond t (g b) (pos 0)) (equal-sym c b)) l
 
--- ---- p_a times an augmented monomial
+-- ---- p_a times an augmented monomial symmetric polynomial
 
 pub power_sum_times_augmented : (a n : ℕ) (parts : List ℕ) → 0 < a → IsPartition parts
     → Same (times (power_sum_of a n) (augmented parts n)) (plus (augmented (insert_part a parts) n) (flat_map (λ b. augmented (raise a b parts) n) parts))
@@ -156,16 +150,13 @@ power_sum_times_augmented a n parts h p =
     pair_determined (times (power_sum_of a n) (monomial parts n)) (combined (λ label. monomial label n) (raised_terms a parts)) φ (power_sum_times_monomial a n parts h p)
     ∙ pair_of_combined (λ label. monomial label n) (raised_terms a parts) φ
     ∙ total_map (λ (t : List ℕ × ℤ). t.1 *ℤ pair (monomial t.0 n) φ) (λ (b : ℕ). (raise a b parts, pos (times_in (a + b) (raise a b parts)))) (distinct (0 ∷ parts))
-    ∙ ap (λ (l : List ℕ). total (λ (b : ℕ). pos (times_in (a + b) (raise a b parts)) *ℤ pair (monomial (raise a b parts) n) φ) l) different)
+    ∙ ap (λ (l : List ℕ). total (λ (b : ℕ). pos (times_in (a + b) (raise a b parts)) *ℤ pair (monomial (raise a b parts) n) φ) l) (distinct-zero parts p.positive))
     ∙ distributes_left (pos (multiplicity_factorials parts)) (pos (times_in (a + 0) (raise a 0 parts)) *ℤ pair (monomial (raise a 0 parts) n) φ) (total (λ (b : ℕ). pos (times_in (a + b) (raise a b parts)) *ℤ pair (monomial (raise a b parts) n) φ) (distinct parts))
     ∙ ap₂ ◌+ℤ◌ (put_in φ) (made_greater φ)
     ∙ sym (pair_plus (augmented (insert_part a parts) n) (flat_map (λ b. augmented (raise a b parts) n) parts) φ
     ∙ ap₂ ◌+ℤ◌ (pair_scale (pos (multiplicity_factorials (insert_part a parts))) (monomial (insert_part a parts) n) φ)
     (pair_each (λ (b : ℕ). augmented (raise a b parts) n) parts φ ∙ total_ext (λ (b : ℕ). pair (augmented (raise a b parts) n) φ) (λ (b : ℕ). pos (multiplicity_factorials (raise a b parts)) *ℤ pair (monomial (raise a b parts) n) φ) (λ b. pair_scale (pos (multiplicity_factorials (raise a b parts))) (monomial (raise a b parts) n) φ) parts)))
   where
-    different : distinct (0 ∷ parts) ≡ 0 ∷ distinct parts
-    different = ap (λ (t : Bool). cond t (distinct parts) (0 ∷ distinct parts)) (has-zero parts p.positive)
-
     nothing_raised : raise a 0 parts ≡ insert_part a parts
     nothing_raised = let e : a + 0 ≡ a = omega arith in ap₂ insert_part e (without_one-zero parts p.positive)
 

@@ -1,9 +1,10 @@
--- Quotients of factorials.
+-- Exact quotients of factorials: binomial coefficients, and d!/a! for a ≤ d.
 use Rattle.std.proofs.Common.{◌≡◌, ℕ, zero, suc, ◌+◌, ◌-◌, ◌*◌, ◌/◌, ◌^◌, ◌<◌, ◌≤◌, refl, sym, ap, ◌∙◌, subst, arith, lit<}
 use Rattle.std.specs.Int.{◌∣◌}
 use Rattle.sym_model.specs.Weight.{factorial}
 use Rattle.monomial_laws.proofs.Growths.{factorial-positive, factorial-mono}
 use native.Mathlib.Nat.{div-mul_cancel, dvd-mul_left, mul-le-mul_left, mul-le-mul_right, mul-pos}
+use Rattle.std.proofs.Math.Nat.{mul_assoc, mul_right_comm}
 
 choose : ℕ → ℕ → ℕ
 choose zero b = 1
@@ -46,15 +47,12 @@ pub rise-is : (a d : ℕ) → a ≤ d → factorial d / factorial a * factorial 
 rise-is a d h =
     let e : a + (d - a) ≡ d = omega arith in
     let c = choose-is a (d - a) ∙ ap factorial e in
-    quotient-is (choose a (d - a) * factorial (d - a)) (factorial a) (factorial d) (turned (choose a (d - a)) (factorial a) (factorial (d - a)) ∙ c)
-  where
-    turned : (x a b : ℕ) → (x * b) * a ≡ x * (a * b)
-    turned x a b = omega arith
+    quotient-is (choose a (d - a) * factorial (d - a)) (factorial a) (factorial d) ((mul_right_comm (choose a (d - a)) (factorial (d - a)) (factorial a) ∙ mul_assoc (choose a (d - a)) (factorial a) (factorial (d - a))) ∙ c)
 
 pub factors-positive : (a b : ℕ) → 0 < factorial a * factorial b
 factors-positive a b = mul-pos (factorial-positive a) (factorial-positive b)
 
--- if x divides d! and d is at most 20, x is below 2^127
+-- if x divides d! and d ≤ 20, then x < 2^127
 pub within-factorial : (x k d : ℕ) → x * k ≡ factorial d → 0 < k → d ≤ 20 → x < 2 ^ 127
 within-factorial x k d e p h =
     let m = factorial-mono d 20 h in

@@ -1,17 +1,16 @@
--- The growth into p, h and e (specs/Weight), d!·(2d)^d at the degree d: bounds of the product of two growths by the growth at the sum of the degrees.
+-- The growth into p, h and e at the degree d is d!·(2d)^d (specs/Weight): bounds for the product of the growths at a and b by the growth at a + b.
 use Rattle.std.proofs.Common.{◌≡◌, ℕ, zero, suc, ◌+◌, ◌*◌, ◌^◌, ◌<◌, ◌≤◌, refl, ap, ◌∙◌, arith, sym}
-use Rattle.std.proofs.Math.Nat.{pow-le-pow_right, mul_assoc}
+use Rattle.std.proofs.Math.Nat.{pow-le-pow_right, mul_assoc, pow-le-pow_left}
 use Rattle.std.proofs.lemmas.Nat.{mul-le, pow-add}
 use Rattle.sym_model.specs.Expansion.{Basis}
 use Rattle.sym_model.specs.Weight.{factorial, growth}
-use Rattle.sym_model.proofs.Numbers.{power-base}
 use Rattle.monomial_laws.proofs.Growths.{factorial-positive, factorial-mono}
 use native.Mathlib.Nat.{mul-le-mul_left, pow-zero}
 
 abbrev pub grown : ℕ → ℕ
 grown d = growth Basis.completes d
 
--- the growth at d is d!·(2d)^d, also for d = 0
+-- the growth into p, h and e at the degree d is d!·(2d)^d, also for d = 0
 pub grown-is : (d : ℕ) → grown d ≡ factorial d * (2 * d) ^ d
 grown-is zero = refl
 grown-is (suc d) = refl
@@ -19,12 +18,12 @@ grown-is (suc d) = refl
 power-up : (a d : ℕ) → a ≤ d → (2 * a) ^ a ≤ (2 * d) ^ d
 power-up zero zero h = omega arith
 power-up a (suc d) h =
-    let p = power-base (2 * a) (2 * suc d) a (omega arith) in
+    let p = pow-le-pow_left {n = (2 * a)} {m = (2 * suc d)} (omega arith) a in
     let q = pow-le-pow_right {n = 2 * suc d} (omega arith) h in
     omega arith
 power-up (suc a) zero h = absurd (omega arith)
 
--- if c is d!/a!, c times the growth at a is at most the growth at d
+-- if a ≤ d, d!/a! times the growth at a is at most the growth at d
 pub grown-raised : (a d c : ℕ) → a ≤ d → c * factorial a ≡ factorial d → c * grown a ≤ grown d
 grown-raised a d c h e =
     let x = (2 * a) ^ a in
@@ -35,14 +34,14 @@ grown-raised a d c h e =
 grouped : (c u x v y : ℕ) → c * ((u * x) * (v * y)) ≡ (c * (u * v)) * (x * y)
 grouped c u x v y = omega arith
 
--- the product of the growths at a and b, times the binomial coefficient (a + b)!/(a!·b!), is at most the growth at a + b
+-- the binomial coefficient (a + b)!/(a!·b!), times the growths at a and at b, is at most the growth at a + b
 pub grown-product : (a b c : ℕ) → c * (factorial a * factorial b) ≡ factorial (a + b) → c * (grown a * grown b) ≤ grown (a + b)
 grown-product a b c e =
     let x = (2 * a) ^ a in
     let y = (2 * b) ^ b in
     let z = 2 * (a + b) in
-    let p = power-base (2 * a) (2 * (a + b)) a (omega arith) in
-    let q = power-base (2 * b) (2 * (a + b)) b (omega arith) in
+    let p = pow-le-pow_left {n = (2 * a)} {m = (2 * (a + b))} (omega arith) a in
+    let q = pow-le-pow_left {n = (2 * b)} {m = (2 * (a + b))} (omega arith) b in
     let r = mul-le ((2 * a) ^ a) ((2 * b) ^ b) ((2 * (a + b)) ^ a) ((2 * (a + b)) ^ b) p q in
     let s = pow-add (2 * (a + b)) a b in
     let t : factorial (a + b) * (x * y) ≤ factorial (a + b) * (2 * (a + b)) ^ (a + b) = mul-le-mul_left (factorial (a + b)) (let u : x * y ≤ (2 * (a + b)) ^ (a + b) = omega arith in u) in
@@ -55,7 +54,7 @@ grown-joined k s c o e =
     let x = 2 ^ k in
     let y = (2 * s) ^ s in
     let p = two-up k (k + s) (omega arith) in
-    let q = power-base (2 * s) (2 * (k + s)) s (omega arith) in
+    let q = pow-le-pow_left {n = (2 * s)} {m = (2 * (k + s))} (omega arith) s in
     let r = mul-le (2 ^ k) ((2 * s) ^ s) ((2 * (k + s)) ^ k) ((2 * (k + s)) ^ s) p q in
     let a = pow-add (2 * (k + s)) k s in
     let t : factorial (k + s) * (x * y) ≤ factorial (k + s) * (2 * (k + s)) ^ (k + s) = mul-le-mul_left (factorial (k + s)) (let u : x * y ≤ (2 * (k + s)) ^ (k + s) = omega arith in u) in
@@ -64,7 +63,7 @@ grown-joined k s c o e =
   where
     two-up : (k d : ℕ) → k ≤ d → 2 ^ k ≤ (2 * d) ^ k
     two-up zero d h = rw (pow-zero 2, pow-zero (2 * d)) (omega arith)
-    two-up (suc k) d h = power-base 2 (2 * d) (suc k) (omega arith)
+    two-up (suc k) d h = pow-le-pow_left {n = 2} {m = (2 * d)} (omega arith) (suc k)
 
 pub grown-mono : (a d : ℕ) → a ≤ d → grown a ≤ grown d
 grown-mono a d h = rw (grown-is a, grown-is d) (mul-le (factorial a) ((2 * a) ^ a) (factorial d) ((2 * d) ^ d) (factorial-mono a d h) (power-up a d h))

@@ -1,5 +1,5 @@
--- Lists of terms in a multiplicative basis: the polynomial of a label is the product of the polynomials of its parts.
---     `stands-product`, `-plus`, `-scale`, `-raised`, `-weaken`      products, sums and multiples of such lists
+-- Lists of terms in a multiplicative basis, in which a label stands for the product of the polynomials of its parts: products, sums and multiples.
+--     `stands-product`, `-plus`, `-scale`, `-raised`, `-weaken`      products, sums and multiples of lists of q·f (`Stands`)
 use Rattle.std.proofs.Common.{◌≡◌, ℕ, ◌+◌, ◌*◌, ◌≤◌, List, [], ◌∷◌, map, refl, sym, ap, ap₂, ◌∙◌, inl, inr, arith, ℤ, pos, ◌+ℤ◌, ◌*ℤ◌}
 use Rattle.std.specs.Prelude.{nat_abs}
 use Rattle.std.proofs.lemmas.Int.{ints, unsigned_abs-mul}
@@ -20,7 +20,7 @@ use Rattle.basis_change_laws.proofs.MergedParts.{IsPartition-merged, size-merged
 use Rattle.sym_model.proofs.WholeTerms.{absolute-append}
 use Rattle.std.proofs.Math.Nat.{mul_assoc}
 
--- ---- if two lists have labels of at most a and at most b cells, the labels of their product have at most a + b cells
+-- ---- if the labels of two lists have at most a and at most b cells, the labels of the product of the lists have at most a + b cells
 
 low-joined : (a b : ℕ) (W V : WholeTerms) → HaveLabels (IsLow a) W → HaveLabels (IsLow b) V → HaveLabels (IsLow (a + b)) (joined W V)
 low-joined a b [] V h k t m = absurd m
@@ -38,7 +38,7 @@ low-joined a b (s ∷ W) V h k u n =
         let z = size-merged s.0 t.0 in
         record { partition = IsPartition-merged s.0 t.0 second.partition; low = omega arith }
 
--- ---- the sum of the absolute values of the coefficients
+-- ---- the sum of the absolute values of the coefficients of a multiple and of a product of lists
 
 pub absolute-scale : (c : ℤ) (W : WholeTerms) → absolute_total (scale c W) ≡ nat_abs c * absolute_total W
 absolute-scale c [] = omega arith
@@ -56,7 +56,7 @@ absolute-joined (s ∷ W) V =
     row [] = omega arith
     row (t ∷ U) = let u = unsigned_abs-mul s.1 t.1 in let r = row U in omega arith
 
--- ---- the polynomial of a product of two lists is the product of their polynomials
+-- ---- the polynomial of a product of two lists is the product of the polynomials of the lists
 
 pub pair-joined : (W V : WholeTerms) (ψ : List ℕ → ℤ) → pair (joined W V) ψ ≡ pair W (λ l. pair V (λ r. ψ (merged l r)))
 pair-joined W V ψ =
@@ -136,8 +136,8 @@ stands-plus P q A B M d f g W V h k m = record {
   labels = labels_append (IsLow d) W V h.labels k.labels;
 }
 
--- if W is the list of q·f, and the absolute values of its coefficients add up to at most A, then c·W is the list of q·(c·f), and those of c·W add up
--- to at most each M ≥ |c|·A
+-- if W is a list of q·f (`Stands`), and the absolute values of its coefficients add up to at most A, then c·W is a list of q·(c·f), and the absolute
+-- values of its coefficients add up to at most M, for each M ≥ |c|·A
 pub stands-scale : (P : ℕ → ℕ → Poly) (q A M d : ℕ) (c : ℤ) (f : ℕ → Poly) (W : WholeTerms) → Stands P q A d f W → nat_abs c * A ≤ M → Stands P q M d (λ n. scale c (f n)) (scale c W)
 stands-scale P q A M d c f W h m = record {
   value = λ n φ.
@@ -147,8 +147,8 @@ stands-scale P q A M d c f W h m = record {
   labels = labels_scaled _ c W h.labels;
 }
 
--- if W is the list of q·f, and the absolute values of its coefficients add up to at most A, then c·W is the list of (c·q)·f, and those of c·W add up
--- to at most each M ≥ c·A
+-- if W is a list of q·f (`Stands`), and the absolute values of its coefficients add up to at most A, then c·W is a list of (c·q)·f, and the absolute
+-- values of its coefficients add up to at most M, for each M ≥ c·A
 pub stands-raised : (P : ℕ → ℕ → Poly) (q A M d r : ℕ) (c : ℕ) (f : ℕ → Poly) (W : WholeTerms) → Stands P q A d f W → c * q ≡ r → c * A ≤ M → Stands P r M d f (scale (pos c) W)
 stands-raised P q A M d r c f W h e m = record {
   value = λ n φ.

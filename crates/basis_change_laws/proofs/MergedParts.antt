@@ -1,4 +1,4 @@
--- Partitions with their parts merged, and the products over their parts.
+-- The partition whose parts are those of two partitions together (`merged`), and products of polynomials over its parts.
 use Rattle.std.proofs.Common.{◌≡◌, ℕ, zero, suc, ◌+◌, ◌<◌, Bool, true, false, cond, nat_le, List, [], ◌∷◌, arith}
 use Rattle.sym_model.specs.Polynomial.{Poly, Same, In, times, one}
 use Rattle.sym_model.specs.Partition.{IsPartition, ArePositive, size, insert_part}
@@ -17,7 +17,7 @@ pub size-merged : (more parts : List ℕ) → size (merged more parts) ≡ size 
 size-merged [] parts = omega arith
 size-merged (a ∷ more) parts = omega (arith, size-merged more (insert_part a parts), size-insert_part a parts)
 
--- ---- the product over the parts of a partition with a part inserted
+-- ---- f·(g·h) = g·(f·h); the product over the parts of a partition with a part inserted, and of two partitions merged
 
 pub front : (f g h : Poly) → Same (times f (times g h)) (times g (times f h))
 front f g h =

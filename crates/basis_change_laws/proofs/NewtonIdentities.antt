@@ -1,5 +1,5 @@
--- Newton's identities, coefficient by coefficient: for each i, i can be subtracted at the places of α with a number of at least i, and the number of
--- these places, over all i, is the size of α.
+-- Newton's identities, coefficient by coefficient: for each i, i can be subtracted from the entries of α that are at least i, and the number of pairs
+-- of such an i and such an entry is the sum of α.
 use Rattle.std.proofs.Common.{◌≡◌, ℕ, zero, suc, ◌+◌, ◌-◌, ◌<◌, ◌≤◌, ◌⊎◌, ◌==◌, Bool, true, false, cond, ◌&&◌, List, [], ◌∷◌, map, length, nat_le, sym, ◌∙◌, ap, ap₂, subst, refl, inl, inr, arith, ℤ, pos, neg_ℤ, ◌+ℤ◌, ◌*ℤ◌, flat_map}
 use Rattle.std.proofs.lemmas.Int.{ints}
 use Rattle.std.proofs.lemmas.Bool.{cases_lt, le-leb, lt-leb, eq-eqb, eqb-true, ne_eqb, and_parts}
@@ -17,8 +17,9 @@ use Rattle.sym_model.proofs.Monomials.{is_exponent_list, coefficient-monomials, 
 use Rattle.sym_model.proofs.Polynomials.{coefficient_scale}
 use Rattle.monomial_laws.proofs.PowerSums.{length-lowered, coefficient-power_sum_times}
 use lib.IntN.{+ℤ_idr, *ℤ-zero}
+use Rattle.sym_model.proofs.Integers.{times_chosen}
 
--- ---- α with i subtracted at one place
+-- ---- the lists obtained from α by subtracting i from one entry
 
 size-lowered : (i : ℕ) (α γ : List ℕ) → Among γ (lowered i α) → i + size γ ≡ size α
 size-lowered i [] γ m = absurd m
@@ -33,7 +34,8 @@ size-lowered i (c ∷ α) γ m = by (cases_lt c i) (Among_from_append γ (cond (
         here (inr v) = absurd v
     by h (inr u) r = let s = Among_from_map (λ (δ : List ℕ). c ∷ δ) γ (lowered i α) u in let d = ap size s.2 in let e = r s.0 s.1 in omega arith
 
--- a sum over c ∷ α with i subtracted at one place is the term for the place of c, if i ≤ c, plus the sum over the places of α
+-- the sum of g over the lists obtained from c ∷ α by subtracting i from one entry is the term for the entry c, if i ≤ c, plus the sum for the entries
+-- of α
 total_lowered : (g : List ℕ → ℤ) (i c : ℕ) (α : List ℕ) → total g (lowered i (c ∷ α)) ≡ cond (nat_le i c) (g ((c - i) ∷ α)) (pos 0) +ℤ total (λ (γ : List ℕ). g (c ∷ γ)) (lowered i α)
 total_lowered g i c α =
     total_append g (cond (nat_le i c) (((c - i) ∷ α) ∷ []) []) (map (λ (γ : List ℕ). c ∷ γ) (lowered i α))
@@ -43,7 +45,7 @@ total_lowered g i c α =
     by true = +ℤ_idr (g ((c - i) ∷ α))
     by false = refl
 
--- ---- sums over 1, .., m, with the last summand taken out
+-- ---- a sum over a + 1, .., a + k + 1 is the sum over a + 1, .., a + k plus the last summand
 
 total_last : (a k : ℕ) (g : ℕ → ℤ) → total g (after a (suc k)) ≡ total g (after a k) +ℤ g (a + suc k)
 total_last a zero g = omega (arith, ints)
@@ -53,9 +55,9 @@ total_last a (suc k) g =
     let f = ap g d in
     omega (arith, ints)
 
--- Newton's identity for complete symmetric polynomials
+-- Newton's identity for complete symmetric polynomials: k·h_k is the sum of p_i·h_(k-i) for i from 1 to k
 
--- if |α| ≤ m, the number of ways to subtract one of 1, .., m at a place of α is |α|
+-- if the sum of α is at most m, the number of pairs of an i from 1 to m and an entry of α that is at least i is the sum of α
 total_places : (m : ℕ) (α : List ℕ) → size α ≤ m → total (λ (i : ℕ). total (λ (γ : List ℕ). pos 1) (lowered i α)) (after 0 m) ≡ pos (size α)
 total_places m [] h = total_zero (after 0 m)
 total_places m (c ∷ α) h =
@@ -74,10 +76,9 @@ total_places m (c ∷ α) h =
         ∙ one-product (pos (length (after 0 c)))
         ∙ ap pos (length_after 0 c)
 
--- ---- the products of p_i and a complete or elementary symmetric polynomial
+-- ---- the coefficients of p_i·h_(k-i) and p_i·e_(k-i)
 
--- for i ≤ k: if γ is α with i subtracted at one place, γ has n places and the degree k - i if and only if α has n places and
--- the degree k
+-- for i ≤ k: if γ is α with i subtracted from one entry, γ has n places and the sum k - i if and only if α has n places and the sum k
 left_degree : (n k i : ℕ) (α γ : List ℕ) → i ≤ k → Among γ (lowered i α) → is_exponent_list n (k - i) γ ≡ is_exponent_list n k α
 left_degree n k i α γ h m =
     let l = length-lowered i α γ m in
@@ -87,8 +88,8 @@ left_degree n k i α γ h m =
     (λ e. let d = eqb-true (size γ) (k - i) e in eq-eqb (size α) k (omega arith))
     (λ e. let d = eqb-true (size α) k e in eq-eqb (size γ) (k - i) (omega arith)))
 
--- for 0 < i ≤ k: if α has n places and the degree k, the coefficient at x^α of p_i times the sum of the monomials of degree
--- k - i that pass a test is the number of ways to subtract i at a place of α and get exponents that pass the test; else 0
+-- for 0 < i ≤ k: if α has n places and the sum k, the coefficient of x^α in p_i times the sum of the monomials of degree k - i that pass a test is
+-- the number of lists obtained from α by subtracting i from one entry that pass the test; otherwise it is 0
 one_product : (test : List ℕ → Bool) (n k i : ℕ) (α : List ℕ) → 0 < i → i ≤ k
     → coefficient (times (power_sum_of i n) (monomials test n (k - i))) α ≡ cond (is_exponent_list n k α) (total (λ (γ : List ℕ). cond (test γ) (pos 1) (pos 0)) (lowered i α)) (pos 0)
 one_product test n k i α p h =
@@ -114,9 +115,9 @@ newton_complete k n α =
     by true s = let e = s refl in product-one (pos k) ∙ ap pos (sym e) ∙ sym (total_places k α (omega arith))
     by false s = *ℤ-zero (pos k)
 
--- Newton's identity for elementary symmetric polynomials
+-- Newton's identity for elementary symmetric polynomials: k·e_k is the sum of (-1)^(i-1)·p_i·e_(k-i) for i from 1 to k
 
--- the sign (-1)^(i-1)
+-- `turn i`: the sign (-1)^(i-1)
 abbrev turn : ℕ → ℤ
 turn i = minus_one_to (i - 1)
 
@@ -170,8 +171,8 @@ later_places : {A : Type 0} (b : Bool) (test : A → Bool) (xs : List A) (t : �
 later_places true test xs t = refl
 later_places false test xs t = ap (λ z. t *ℤ z) (total_zero xs) ∙ *ℤ-zero t
 
--- a step of `elementary_places` from α to c ∷ α, with n for the size of α and b for whether no number of α is above 1; with [P] for 1 if P holds and
--- 0 otherwise: [b and c = 1] + n·[c ≤ 1 and b] = (c + n)·[c ≤ 1 and b]
+-- the step from α to c ∷ α in the proof of `elementary_places`; n is the sum of α, and b says whether no entry of α is above 1. With [P] for 1 if P
+-- holds and 0 otherwise: [b and c = 1] + n·[c ≤ 1 and b] = (c + n)·[c ≤ 1 and b]
 with_first : (c n : ℕ) (b : Bool) → cond b (cond (c == 1) (pos 1) (pos 0)) (pos 0) +ℤ cond (nat_le c 1) (cond b (pos n) (pos 0)) (pos 0) ≡ cond (nat_le c 1 && b) (pos (c + n)) (pos 0)
 with_first zero n true = omega (arith, ints)
 with_first zero n false = refl
@@ -186,8 +187,8 @@ with_first (suc (suc c)) n b =
     none true = refl
     none false = refl
 
--- if |α| ≤ m, the sum over i from 1 to m of (-1)^(i-1) times the number of ways to subtract i at a place of α and get a
--- list of 0s and 1s is |α| if α is a list of 0s and 1s, else 0
+-- if the sum of α is at most m, the sum over i from 1 to m of (-1)^(i-1) times the number of lists of 0s and 1s obtained from α by subtracting i from
+-- one entry is the sum of α if α is a list of 0s and 1s, and 0 otherwise
 elementary_places : (m : ℕ) (α : List ℕ) → size α ≤ m
     → total (λ (i : ℕ). turn i *ℤ total (λ (γ : List ℕ). cond (at_most_one γ) (pos 1) (pos 0)) (lowered i α)) (after 0 m) ≡ cond (at_most_one α) (pos (size α)) (pos 0)
 elementary_places m [] h = total_none (λ (i : ℕ). turn i *ℤ pos 0) (after 0 m) (λ i n. *ℤ-zero (turn i))
@@ -204,10 +205,6 @@ elementary_places m (c ∷ α) h =
     (total_cond (nat_le c 1) (λ (i : ℕ). turn i *ℤ total (λ (γ : List ℕ). cond (at_most_one γ) (pos 1) (pos 0)) (lowered i α)) (after 0 m) ∙ ap (λ (z : ℤ). cond (nat_le c 1) z (pos 0)) (elementary_places m α (omega arith)))
     ∙ with_first c (size α) (at_most_one α)
 
-pub turn_inside : (b : Bool) (t x : ℤ) → t *ℤ cond b x (pos 0) ≡ cond b (t *ℤ x) (pos 0)
-turn_inside true t x = refl
-turn_inside false t x = *ℤ-zero t
-
 pub newton_elementary : (k n : ℕ) → Same (scale (pos k) (elementary_of k n)) (flat_map (λ i. scale (minus_one_to (i - 1)) (times (power_sum_of i n) (elementary_of (k - i) n))) (after 0 k))
 newton_elementary k n α =
     coefficient_scale (pos k) (elementary_of k n) α
@@ -219,7 +216,7 @@ newton_elementary k n α =
     (λ i m. let r = after_among 0 k i m in let l = r.1 in
     coefficient_scale (turn i) (times (power_sum_of i n) (elementary_of (k - i) n)) α
     ∙ ap (λ x. turn i *ℤ x) (one_product at_most_one n k i α r.0 (omega arith))
-    ∙ turn_inside (is_exponent_list n k α) (turn i) (total (λ (γ : List ℕ). cond (at_most_one γ) (pos 1) (pos 0)) (lowered i α)))
+    ∙ sym (times_chosen (is_exponent_list n k α) (turn i) (total (λ (γ : List ℕ). cond (at_most_one γ) (pos 1) (pos 0)) (lowered i α))))
     ∙ total_cond (is_exponent_list n k α) (λ (i : ℕ). turn i *ℤ total (λ (γ : List ℕ). cond (at_most_one γ) (pos 1) (pos 0)) (lowered i α)) (after 0 k))
   where
     scaled : (b : Bool) → pos k *ℤ cond b (pos 1) (pos 0) ≡ cond b (pos k) (pos 0)

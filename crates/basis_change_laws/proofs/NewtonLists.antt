@@ -1,4 +1,4 @@
--- The two families that satisfy Newton's identities: h_k and e_k, each with its signs.
+-- The families h_k and e_k satisfy Newton's identities, with the signs 1 for h_k and (-1)^(i-1) for e_k.
 use Rattle.std.proofs.Common.{◌≡◌, ℕ, zero, suc, ◌-◌, ◌*◌, Bool, true, cond, List, [], ◌∷◌, replicate, refl, sym, ap, ap₂, ◌∙◌, ℤ, pos, ◌*ℤ◌, filter, flat_map}
 use Rattle.std.specs.Prelude.{nat_abs}
 use Rattle.sym_model.specs.Polynomial.{Poly, Same, pair, times, scale, one}
@@ -13,13 +13,14 @@ use Rattle.sym_model.proofs.Monomials.{total_exponent_lists-zero}
 use Rattle.basis_change_laws.proofs.NewtonIdentities.{newton_complete, newton_elementary}
 use Rattle.sym_model.proofs.Integers.{sign_size}
 
--- G_0 is 1, and k·G_k is the sum of σ(i)·p_i·G_(k-i) over i from 1 to k, each σ(i) being 1 or -1
+-- the polynomials G_k satisfy Newton's identities with the signs σ: G_0 = 1, and k·G_k is the sum of σ(i)·p_i·G_(k-i) over i from 1 to k; each σ(i)
+-- is 1 or -1
 pub record IsNewton (G : ℕ → ℕ → Poly) (σ : ℕ → ℤ) : Type 0 where
   pub unit : (i : ℕ) → nat_abs (σ i) ≡ 1
   pub first : (n : ℕ) → Same (G 0 n) (one n)
   pub sums : (k n : ℕ) → Same (scale (pos k) (G k n)) (flat_map (λ i. scale (σ i) (times (power_sum_of i n) (G (k - i) n))) (after 0 k))
 
--- ---- h_k and e_k satisfy Newton's identities
+-- ---- exponents that are all 0, and h_0 = e_0 = 1; h_k and e_k satisfy Newton's identities
 
 pub zeros_low : (n : ℕ) → at_most_one (replicate n 0) ≡ true
 zeros_low zero = refl
@@ -54,7 +55,7 @@ newton-complete = record {
       ∙ sym (pair_each (λ (i : ℕ). scale (pos 1) (times (power_sum_of i n) (complete_of (k - i) n))) (after 0 k) φ)));
 }
 
--- ---- multiples of lists of terms
+-- ---- a multiple of a multiple of a list of terms
 
 pub scale-scale : (x y : ℤ) (W : WholeTerms) → scale x (scale y W) ≡ scale (x *ℤ y) W
 scale-scale x y [] = refl

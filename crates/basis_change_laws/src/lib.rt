@@ -4,8 +4,9 @@
 //!
 //! What is proved:
 //!
-//! `newton_law`: Newton's identities for h and e. `augmented_monomial_law`: a power sum times an
-//! augmented monomial symmetric polynomial.
+//! `newton_law`: Newton's identities for h and e. `augmented_monomial_law`: the product of a power
+//! sum p_a and an augmented monomial symmetric polynomial, as a sum of augmented monomial symmetric
+//! polynomials.
 #![tactic(auto)]
 
 mod augmented;

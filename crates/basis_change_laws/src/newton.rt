@@ -1,4 +1,4 @@
-//! Newton's identities.
+//! Newton's identities for complete and elementary symmetric polynomials.
 
 ghost use Rattle.std.specs.Prelude.{ℕ, ◌-◌, pos, flat_map};
 ghost use Rattle.sym_model.specs.Polynomial.{Same, scale, times};

@@ -1,5 +1,5 @@
--- Lists with the absolute values of their coefficients: if a table T and a list L are equal as formal sums, then for f ≥ 0 the
--- sum of |c|·f(label) over the terms of T is at most that over the terms of L.
+-- Lists with the absolute values of their coefficients: if a table T and a list L have the same coefficient at each label, then for each function f ≥
+-- 0 the sum of |c|·f(label) over the terms of T is at most the sum over the terms of L.
 use Rattle.std.proofs.Common.{◌≡◌, ℕ, suc, List, [], ◌∷◌, sym, ◌∙◌, ap, subst, refl, arith, ℤ, pos, negsuc, neg_ℤ, ◌+ℤ◌, ◌*ℤ◌}
 use Rattle.std.specs.Prelude.{◌≤ℤ◌, nat_abs}
 use Rattle.std.proofs.lemmas.Int.{ints}
@@ -13,7 +13,7 @@ use Rattle.monomial_laws.specs.ExpressionTerms.{absolute}
 use Rattle.linear_combinations.proofs.Found.{coefficient_of_term}
 use Rattle.sparse_polys.specs.Tables.{IsWholeTable}
 
--- turn c f is f if c is at least 0, and -f otherwise
+-- f if c is at least 0, and -f otherwise
 abbrev turn : ℤ → ℤ → ℤ
 turn (pos n) f = f
 turn (negsuc n) f = neg_ℤ f

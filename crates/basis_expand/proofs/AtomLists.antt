@@ -1,13 +1,13 @@
--- Products over the parts of a partition, factor by factor.
+-- Lists in m of the product of e_k, h_k or p_k over the parts k of a partition, one factor after another.
 --     IsBounded-one, -product        bounds of one factor and of the product
---     list-more, -times              the list with one more factor, from coefficients or a polynomial
---     large-factor, -later           if a product of lists is refused, the growth is 2^127 or more
---     have_room, few_cells           room for the cells of a factor
-use Rattle.std.proofs.Common.{◌≡◌, true, ℕ, ◌+◌, ◌^◌, ◌<◌, ◌≤◌, List, [], ◌∷◌, map, length, sym, ap, subst, refl, inl, inr, arith, pos, append-nil}
+--     list-more, -times              a list of the product with one more factor, given by its coefficients or as a polynomial
+--     large-factor, -later           if a product of lists has too large a coefficient, the growth is 2^127 or more
+--     have_room, few_cells           the labels with k more cells are within the limits
+use Rattle.std.proofs.Common.{◌≡◌, true, ℕ, ◌+◌, ◌^◌, ◌<◌, ◌≤◌, List, [], ◌∷◌, map, length, sym, ap, subst, refl, arith, pos, append-nil}
 use Rattle.std.specs.Prelude.{◌≤ℤ◌, Result, IfOk}
 use Rattle.std.proofs.lemmas.Int.{ints}
 use Rattle.calc_base.specs.declared.faults.SumFault.{SumFault}
-use Rattle.sym_model.specs.Sum.{Among, Once}
+use Rattle.sym_model.specs.Sum.{Once}
 use Rattle.sym_model.specs.Partition.{IsPartition, size}
 use Rattle.sym_model.specs.PartitionList.{partitions_of}
 use Rattle.sym_model.specs.Polynomial.{Poly, Same, coefficient, times}
@@ -22,7 +22,7 @@ use Rattle.monomial_laws.specs.ExpressionTerms.{in_monomials, absolute, elementa
 use Rattle.monomial_laws.specs.MonomialProduct.{product_coefficient}
 use Rattle.monomial_laws.specs.Majorant.{IsBounded, IsMajorant, power}
 use Rattle.monomial_laws.proofs.ExpressionTerms.{list_respects, list-no_factor, list-factor}
-use Rattle.monomial_laws.proofs.Majorants.{majorant-monomials, bounded-atom, bounded_respects}
+use Rattle.monomial_laws.proofs.Majorants.{majorant-monomials, bounded-atom, bounded_respects, low-one}
 use Rattle.monomial_laws.proofs.WeightBounds.{product_within_growth, growth-mono}
 use Rattle.linear_combinations.specs.Gains.{HaveLabels}
 use Rattle.linear_combinations.proofs.Steps.{if_answered}
@@ -36,18 +36,15 @@ use Rattle.sparse_polys.specs.Large.{ProductIsLarge}
 use Rattle.sparse_polys.specs.Families.{polynomial_of}
 use Rattle.sparse_polys.specs.declared.family.Family.{Family}
 use Rattle.sparse_polys.specs.declared.family.Family.TheVariants.{Elementary, Complete, PowerSum}
+use Rattle.std.proofs.Math.Nat.{le_trans}
 
 bounded_by : (k n : ℕ) (f : Poly) → IsMajorant (power k n) f → IsBounded 1 k n f
 bounded_by k n f m = record {
   exponents = k ∷ [];
   few = omega arith;
-  low = low;
+  low = low-one k;
   majorant = subst (λ g. IsMajorant g f) (sym (append-nil (power k n))) m;
 }
-  where
-    low : (j : ℕ) → Among j (k ∷ []) → j ≤ k
-    low j (inl e) = omega arith
-    low j (inr none) = absurd none
 
 pub IsBounded-one : (family : Family) (k n : ℕ) → IsBounded 1 k n (polynomial_of family k n)
 IsBounded-one Elementary k n = bounded_by k n _ (majorant-monomials at_most_one n k)
@@ -59,8 +56,9 @@ IsBounded-product Elementary parts n = bounded-atom Basis.elementaries parts n
 IsBounded-product Complete parts n = bounded-atom Basis.completes parts n
 IsBounded-product PowerSum parts n = bounded-atom Basis.power_sums parts n
 
--- A is a list of e_k (h_k, p_k) and B of the product of e_j (h_j, p_j) over the parts j, neither with a label twice; if the
--- product A·B is refused as too large, the growth at the degree k + size parts, for m, is 2^127 or more
+-- let A be a list of e_k (h_k, p_k) and B one of the product of e_j (h_j, p_j) over the parts j, neither with a label twice: if the product |A|·|B|
+-- of the lists with absolute values as coefficients has a coefficient of 2^127 or more (`ProductIsLarge`), the growth into m at the degree k + size
+-- parts is 2^127 or more
 pub large-factor : (family : Family) (k : ℕ) (parts : List ℕ) (A B : WholeTerms) → Once (labels A) → Once (labels B)
     → IsList A (polynomial_of family k) → IsList B (product_over (polynomial_of family) parts) → ProductIsLarge A B → 2 ^ 127 ≤ growth Basis.monomials (k + size parts)
 large-factor family k parts A B o p h i (ν, is, l) =
@@ -70,8 +68,9 @@ large-factor family k parts A B o p h i (ν, is, l) =
     (λ n. bounded_respects 1 (size parts) n (product_over (polynomial_of family) parts n) (in_monomials B n) (Same_sym (in_monomials B n) (product_over (polynomial_of family) parts n) (i n)) (IsBounded-product family parts n)) ν in
     omega (arith, ints)
 
--- A is a list of e_k (h_k, p_k) and B of the product of e_j (h_j, p_j) over the parts j, neither with a label twice; if the
--- product B·A is refused as too large, the growth at the degree k + size parts, for m, is 2^127 or more
+-- let A be a list of e_k (h_k, p_k) and B one of the product of e_j (h_j, p_j) over the parts j, neither with a label twice: if the product |B|·|A|
+-- of the lists with absolute values as coefficients has a coefficient of 2^127 or more (`ProductIsLarge`), the growth into m at the degree k + size
+-- parts is 2^127 or more
 pub large-factor_right : (family : Family) (k : ℕ) (parts : List ℕ) (A B : WholeTerms) → Once (labels A) → Once (labels B)
     → IsList A (polynomial_of family k) → IsList B (product_over (polynomial_of family) parts) → ProductIsLarge B A → 2 ^ 127 ≤ growth Basis.monomials (k + size parts)
 large-factor_right family k parts A B o p h i (ν, is, l) =
@@ -84,31 +83,28 @@ large-factor_right family k parts A B o p h i (ν, is, l) =
     omega (arith, ints)
 
 pub large-later : (k s : ℕ) → 2 ^ 127 ≤ growth Basis.monomials s → 2 ^ 127 ≤ growth Basis.monomials (k + s)
-large-later k s h = let g = growth-mono s (k + s) (omega arith) in three (2 ^ 127) (growth Basis.monomials s) (growth Basis.monomials (k + s)) h g
-  where
-    three : (a b c : ℕ) → a ≤ b → b ≤ c → a ≤ c
-    three a b c h k = omega arith
+large-later k s h = let g = growth-mono s (k + s) (omega arith) in le_trans h g
 
 pub no_parts : (parts : List ℕ) → length parts < 1 → [] ≡ parts
 no_parts [] h = refl
 no_parts (k ∷ rest) h = absurd (omega arith)
 
--- if `parts` is empty, a list equal to the one term 1 at the empty label is a list of the product over `parts`
+-- if `parts` is empty, a list that is equal to the one term 1 at the empty label is a list of the product over `parts`, which is 1
 pub list-none : (family : Family) (parts : List ℕ) (W : WholeTerms) → length parts < 1 → Same W (([], pos 1) ∷ []) → IsList W (product_over (polynomial_of family) parts)
 list-none family parts W h e =
     subst (λ p. IsList W (product_over (polynomial_of family) p)) (no_parts parts h)
     (list_respects (([], pos 1) ∷ []) W (product_over (polynomial_of family) []) (Same_sym W (([], pos 1) ∷ []) e) (list-no_factor (polynomial_of family)))
 
--- if A is a list of e_k, h_k or p_k, and B one of the product over `parts`, a list with the coefficients of A·B is one of
--- the product over k ∷ parts
+-- let A be a list of e_k, h_k or p_k, and B one of the product of e_j, h_j or p_j over `parts`: if C has the coefficients of A·B whenever r is Ok C,
+-- then C is a list of the product over k ∷ parts whenever r is Ok C
 pub list-more : (family : Family) (k : ℕ) (A B : WholeTerms) (r : Result WholeTerms SumFault) → IsList A (polynomial_of family k)
     → IfOk r (λ C. (ν : List ℕ) → IsPartition ν → coefficient C ν ≡ product_coefficient A B ν)
     → (parts : List ℕ) → IsList B (product_over (polynomial_of family) parts)
     → IfOk r (λ C. IsList C (product_over (polynomial_of family) (k ∷ parts)))
 list-more family k A B r h e parts i = if_answered r e (λ C f. list-factor (polynomial_of family) k parts A B C h i f)
 
--- B is a list of the product over `parts`; if C = e_k·B (h_k·B, p_k·B) whenever r is Ok C, then C is a list of the product over
--- k ∷ parts whenever r is Ok C
+-- let B be a list of the product of e_j, h_j or p_j over `parts`: if C is e_k·B (h_k·B, p_k·B) whenever r is Ok C, then C is a list of the product
+-- over k ∷ parts whenever r is Ok C
 pub list-times : (family : Family) (k : ℕ) (B : WholeTerms) (r : Result WholeTerms SumFault)
     → IfOk r (λ C. (n : ℕ) → Same (in_monomials C n) (times (polynomial_of family k n) (in_monomials B n)))
     → (parts : List ℕ) → IsList B (product_over (polynomial_of family) parts)
@@ -119,7 +115,7 @@ list-times family k B r h parts i = if_answered r h (λ C f n.
     Same_trans (in_monomials C n) (times first (in_monomials B n)) (times first others) (f n)
     (times_respects first first (in_monomials B n) others (Same_refl first) (i n)))
 
--- if k plus the greatest size is at most 512, each label has room for a column of k more cells
+-- if k plus the greatest size of a label is at most 512, each label has room for a column of k more cells (`HasRoomForColumn`)
 pub have_room : (k : ℕ) (terms : WholeTerms) → IsWholeTable terms → k + greatest_size terms ≤ 512 → HaveLabels (HasRoomForColumn k) terms
 have_room k terms is h t m =
     let p = label-partition terms is t m in
@@ -130,15 +126,15 @@ have_room k terms is h t m =
       rows_within = omega (arith, h, s, rows_within_size t.0 p.positive);
     }
 
--- if k plus the greatest size is at most 512, each label has at most 512 - k cells
+-- if k plus the greatest size of a label is at most 512, each label has at most 512 - k cells
 pub few_cells : (k : ℕ) (terms : WholeTerms) → k + greatest_size terms ≤ 512 → HaveLabels (λ μ. size μ + k ≤ 512) terms
 few_cells k terms h t m = let s = greatest_size-among terms t m in omega (arith, h)
 
--- no label occurs twice in the list of e_k
+-- no label occurs twice in the list `elementary_terms k` of e_k
 pub once-elementary : (k : ℕ) → Once (labels (elementary_terms k))
 once-elementary k = (λ m. m, tt)
 
--- no label occurs twice in the list of h_k
+-- no label occurs twice in the list `complete_terms k` of h_k
 pub once-complete : (k : ℕ) → Once (labels (complete_terms k))
 once-complete k = subst Once (labels_ones (partitions_of k)) (Once-FallsLexicographically (partitions_of k) (FallsLexicographically-partitions_within k k k))
   where
@@ -153,7 +149,7 @@ large-complete k B (ν, is, l) = (ν, is, subst (λ A. pos (2 ^ 127) ≤ℤ prod
     absolute_ones [] = refl
     absolute_ones (ν ∷ shapes) = ap (λ l. (ν, pos 1) ∷ l) (absolute_ones shapes)
 
--- if W and V are equal as formal sums, and V is a list of e_k, h_k or p_k, so is W
+-- if W and V have the same coefficient at each label, and V is a list of e_k, h_k or p_k, so is W
 pub list-family : (family : Family) (k : ℕ) (W V : WholeTerms) → Same W V → IsList V (polynomial_of family k) → IsList W (polynomial_of family k)
 list-family family k W V e h = list_respects V W (polynomial_of family k) (Same_sym W V e) h
 

@@ -1,8 +1,8 @@
--- Contents found part by part, each with the number of ways to remove horizontal strips of the sizes of its parts from the shapes
--- of a list in s.
---     counts-end, -missed, -step          the contents are counted by their next part, if any
---     fresh-longer, limits-longer         properties of the chosen parts hold with one more part
---     list-counted, lists-counted         if all contents are counted, the list in m has the polynomial s_λ, or that of the list in s
+-- If a shape is taken apart by removing horizontal strips one after another, the list of their numbers of cells is the content.
+-- For a list in s, all contents that are partitions are found part by part, each with its number of ways.
+--     counts-end, -missed, -step          the contents by their next part, if any
+--     fresh-longer, limits-longer         properties of the chosen parts, with one more part
+--     list-counted, lists-counted         if all contents are counted, the list in m is s_λ, or the given list in s
 use Rattle.std.proofs.Common.{◌≡◌, ◌⊎◌, ℕ, ◌-◌, ◌≤◌, ◌<◌, min, List, [], ◌∷◌, ◌++◌, length, sym, ◌∙◌, ap, ap₂, subst, inl, inr, arith, append_assoc, append-nil, cond, drop, length-append, ℤ, pos, ◌+ℤ◌, ◌*ℤ◌, Bool, true, false, refl}
 use Rattle.std.proofs.Math.Nat.{eq-or-lt_of_le}
 use Rattle.std.proofs.lemmas.Bool.{cases_lt}
@@ -29,14 +29,13 @@ use Rattle.sparse_polys.proofs.WholeLists.{label-partition}
 use Rattle.basis_expand.proofs.StripTables.{ways-alone, pair-strip_terms}
 use lib.IntN.{+ℤ_idl, +ℤ_idr, *ℤ-zero}
 
--- ---- contents are partitions of at most a given size
+-- ---- contents are the partitions of at most a given size
 
--- if `largest` ≤ `more`, a content with parts of at most `largest` is one with parts of at most `more`
 content-more : (largest more left : ℕ) (rest : List ℕ) → largest ≤ more → IsContent largest left rest → IsContent more left rest
 content-more largest more left [] h c = c
 content-more largest more left (a ∷ rest) h c = ((c.0.0, let l = c.0.1 in omega arith, c.0.2), c.1)
 
--- a content is a partition of at most `left` cells
+-- a content whose sum is at most `left` is a partition of at most `left` cells
 content-falls : (largest left : ℕ) (rest : List ℕ) → IsContent largest left rest → Falls rest × ArePositive rest × (size rest ≤ left)
 content-falls largest left [] c = (tt, tt, omega arith)
 content-falls largest left (a ∷ []) c = (tt, (c.0.0, tt), let l = c.0.2 in omega arith)
@@ -44,7 +43,7 @@ content-falls largest left (a ∷ b ∷ rest) c =
     let r = content-falls a (left - a) (b ∷ rest) c.1 in
     ((c.1.0.1, r.0), (c.0.0, r.1), let l = c.0.2 in let e = r.2 in omega arith)
 
--- a partition of at most `left` cells, whose parts are at most `largest`, is a content
+-- a partition of at most `left` cells, whose parts are at most `largest`, is a content within these bounds (`IsContent`)
 partition-content : (largest left : ℕ) (parts : List ℕ) → IsPartition parts → size parts ≤ left → Falls (largest ∷ parts) → IsContent largest left parts
 partition-content largest left [] p e f = tt
 partition-content largest left (a ∷ []) p e f = ((p.positive.0, f.0, omega arith), tt)
@@ -57,13 +56,13 @@ first_few : (parts : List ℕ) (d : ℕ) → size parts ≤ d → Falls parts �
 first_few [] d e f = tt
 first_few (a ∷ parts) d e f = (omega arith, f)
 
--- contents of at most 512 cells are within the limits of partitions
+-- a content whose sum is at most d is within the limits of partitions, if d ≤ 512
 pub limits-content : (largest d : ℕ) (rest : List ℕ) → d ≤ 512 → IsContent largest d rest → IsWithinLimits rest
 limits-content largest d rest h c =
     let is = content-falls largest d rest c in
     IsWithinLimits-low rest (record { falls = is.0; positive = is.1 }) (let e = is.2 in omega arith)
 
--- ---- the chosen parts with one more part appended
+-- ---- contents that begin with the chosen parts and one more part
 
 pub limits-longer : (chosen longer : List ℕ) (part largest left : ℕ) → longer ≡ chosen ++ part ∷ [] → 1 ≤ part → part ≤ largest → part ≤ left
     → ((rest : List ℕ) → IsContent largest left rest → IsWithinLimits (chosen ++ rest))
@@ -71,7 +70,7 @@ pub limits-longer : (chosen longer : List ℕ) (part largest left : ℕ) → lon
 limits-longer chosen longer part largest left e p h l limits rest c =
     subst IsWithinLimits (sym (append_assoc chosen (part ∷ []) rest) ∙ ap (λ xs. xs ++ rest) (sym e)) (limits (part ∷ rest) ((p, h, l), c))
 
--- if two lists continue the same chosen parts and are equal, their next parts are equal
+-- if two lists that begin with `chosen` are equal, and a and b are their next parts, then a = b
 same_behind : (chosen : List ℕ) (a b : ℕ) (xs ys : List ℕ) → chosen ++ (a ∷ xs) ≡ chosen ++ (b ∷ ys) → a ≡ b
 same_behind [] a b xs ys e = ap (λ (l : List ℕ). first l) e
   where
@@ -83,7 +82,7 @@ same_behind (x ∷ chosen) a b xs ys e = same_behind chosen a b xs ys (ap (drop 
 not_nothing : (chosen : List ℕ) (b : ℕ) (ys : List ℕ) → chosen ++ [] ≡ chosen ++ (b ∷ ys) → ⊥
 not_nothing chosen b ys e = let h = ap length e in omega (arith, length-append chosen [], length-append chosen (b ∷ ys))
 
--- a content with smaller parts differs from one that begins with `part`
+-- `chosen` followed by `part` and more parts is not `chosen` followed by a content whose parts are all less than `part`
 apart : (chosen rest behind : List ℕ) (part left : ℕ) → 1 ≤ part → IsContent (part - 1) left rest → chosen ++ (part ∷ behind) ≡ chosen ++ rest → ⊥
 apart chosen [] behind part left p c e = not_nothing chosen part behind (sym e)
 apart chosen (a ∷ rest) behind part left p c e = let h = same_behind chosen part a behind rest e in let l = c.0.1 in omega arith
@@ -98,14 +97,14 @@ pub fresh-longer : (terms : WholeTerms) (chosen longer : List ℕ) (part left : 
 fresh-longer terms chosen longer part left old list l p none so_far rest =
     ap (coefficient list) (ap (λ xs. xs ++ rest) l ∙ append_assoc chosen (part ∷ []) rest) ∙ none_here terms chosen part left old list p none so_far rest
 
--- the ways to remove `part` and then `rest` from the terms are the ways to remove `rest` after one strip of `part` cells
+-- if `next` has the shapes that remain of those of `terms` after a strip of `part` cells is removed, the sum of c·K(λ, rest) over the terms (λ, c) of
+-- `next` is that of c·K(λ, part ∷ rest) over those of `terms`; K is the Kostka number
 ways : (part : ℕ) (terms next : WholeTerms) (rest : List ℕ) → Same next (strip_terms part terms)
     → pair next (λ shape. kostka shape rest) ≡ pair terms (λ shape. kostka shape (part ∷ rest))
 ways part terms next rest e = pair_determined next (strip_terms part terms) (λ shape. kostka shape rest) e ∙ pair-strip_terms part terms (λ shape. kostka shape rest)
 
--- if no term is left after removing horizontal strips of `part` cells, the labels of `old` that begin with the chosen parts have
--- the coefficient 0, and the contents with a next part of at most `part - 1` have been counted, then those with a next part of
--- at most `part` have been counted
+-- if no shape remains after removing horizontal strips of `part` cells from the terms, no label of `old` begins with `chosen`, and the contents with
+-- a next part of at most `part - 1` have been counted (`CountsContents`), then those with a next part of at most `part` have been counted
 pub counts-missed : (terms next : WholeTerms) (chosen : List ℕ) (part left : ℕ) (old list : WholeTerms) → 1 ≤ part → next ≡ [] → Same next (strip_terms part terms)
     → HasNoneBehind chosen old → CountsContents terms chosen (part - 1) left old list → CountsContents terms chosen part left old list
 counts-missed terms next chosen part left old list p nothing e none so_far = record {
@@ -126,8 +125,8 @@ counts-missed terms next chosen part left old list p nothing e none so_far = rec
             ∙ ap (λ b. pair terms (λ shape. kostka shape (b ∷ rest))) (sym s)
         by (inr l) = so_far.counted (a ∷ rest) ((c.0.0, omega arith, c.0.2), c.1)
 
--- if the contents that continue with a part of at most `part - 1` have been counted, and then those that continue with
--- `part`, all contents that continue with a part of at most `part` have been counted
+-- if the contents with a next part of at most `part - 1` have been counted (`CountsContents`), and then those with the next part `part`, all contents
+-- with a next part of at most `part` have been counted
 pub counts-step : (terms next : WholeTerms) (chosen longer : List ℕ) (part left : ℕ) (old list new : WholeTerms) → longer ≡ chosen ++ part ∷ [] → 1 ≤ part → part ≤ left
     → Same next (strip_terms part terms) → CountsContents terms chosen (part - 1) left old list → CountsContents next longer part (left - part) list new
     → CountsContents terms chosen part left old new
@@ -156,7 +155,6 @@ counts-step terms next chosen longer part left old list new l p low e so_far mor
             more.others (chosen ++ (a ∷ rest)) (λ other d is. let h = same_behind chosen a part rest other (is ∙ behind other) in omega arith)
             ∙ so_far.counted (a ∷ rest) ((c.0.0, omega arith, c.0.2), c.1)
 
--- a term with the coefficient 0 changes nothing
 pub nothing-more : (label : List ℕ) (number : ℤ) (list : WholeTerms) → number ≡ pos 0 → Same list (list ++ (label, number) ∷ [])
 nothing-more label number list z other =
     sym (coefficient_plus list ((label, number) ∷ []) other
@@ -168,8 +166,8 @@ nothing-more label number list z other =
     none true = refl
     none false = refl
 
--- if no further part is allowed, all contents are counted once the term with the label `chosen` is added, whose coefficient is
--- that of the empty shape in `terms`
+-- if `new` is `old` with one term added, whose label is `chosen` and whose coefficient is that of the empty shape in `terms`, then all contents
+-- without a further part have been counted (`CountsContents`)
 pub counts-end : (terms : WholeTerms) (chosen nothing : List ℕ) (left : ℕ) (number : ℤ) (old new : WholeTerms) → IsWholeTable terms → nothing ≡ []
     → number ≡ found equal (pos 0) terms nothing → HasNoneBehind chosen old → Same new (old ++ (chosen, number) ∷ []) → CountsContents terms chosen 0 left old new
 counts-end terms chosen nothing left number old new is n f none more = record {
@@ -191,14 +189,15 @@ counts-end terms chosen nothing left number old new is n f none more = record {
         ∙ +ℤ_idl (number +ℤ pos 0) ∙ +ℤ_idr number
         ∙ f ∙ ap (found equal (pos 0) terms) n ∙ sym (coefficient_found terms is.distinct []) ∙ coefficient_pair terms []
 
--- if each label that begins with the chosen parts has the coefficient 0, looking up the label of the chosen parts gives 0
+-- if each label that begins with `chosen` has the coefficient 0 in the table `old`, looking up `chosen` in it gives 0
 pub fresh-found : (chosen label : List ℕ) (old : WholeTerms) → IsWholeTable old → label ≡ chosen → HasNoneBehind chosen old → found equal (pos 0) old label ≡ pos 0
 fresh-found chosen label old is l none =
     ap (found equal (pos 0) old) l ∙ sym (coefficient_found old is.distinct chosen) ∙ ap (coefficient old) (sym (append-nil chosen)) ∙ none []
 
--- ---- all contents are counted
+-- ---- the result if all contents have been counted
 
--- if the contents with parts up to min(largest, left) are counted, so are those with parts up to `largest`, as no part is above `left`
+-- if the contents with further parts of at most min(largest, left) have been counted, so have those with further parts of at most `largest`, as no
+-- further part exceeds `left`
 pub counts-all : (terms : WholeTerms) (chosen : List ℕ) (most largest left : ℕ) (old new : WholeTerms) → most ≡ min largest left → CountsContents terms chosen most left old new
     → CountsContents terms chosen largest left old new
 counts-all terms chosen most largest left old new e counts = record {
@@ -210,8 +209,8 @@ counts-all terms chosen most largest left old new e counts = record {
     less [] c = c
     less (a ∷ rest) c = ((c.0.0, let l = c.0.1 in let few = c.0.2 in omega arith, c.0.2), c.1)
 
--- if all contents of at most d cells have been counted, from an empty list, the coefficient of a partition κ of at most d cells
--- is Σ c·K_(λ,κ) over the terms c·s_λ of W
+-- if, from an empty list on, all contents of at most d cells have been counted for W (`CountsContents`), then the coefficient of a partition κ of at
+-- most d cells is Σ c·K(λ,κ) over the terms c·s_λ of W, with K the Kostka number
 at_most : (d : ℕ) (W old list : WholeTerms) (κ : List ℕ) → old ≡ [] → CountsContents W [] d d old list → IsPartition κ → size κ ≤ d
     → coefficient list κ ≡ pair W (λ shape. kostka shape κ)
 at_most d W old list κ none counts is low = counts.counted κ (partition-content d d κ is low (first_few κ d low is.falls))
@@ -229,8 +228,8 @@ list-counted shape d terms old list p is_d none e counts = list-schur shape list
     at κ is (inr low) = at_most d terms old list κ none counts is low ∙ ways-alone shape terms e κ
     at κ is (inl high) = past d terms old list κ none counts high ∙ sym (kostka-other_size shape κ p (λ same_size. omega arith))
 
--- if all contents of at most d cells have been counted, from an empty list, and the labels λ have at most d cells, the list in m
--- has the value Σ c·s_λ over the terms c·λ
+-- if the labels of `terms` have at most d cells, and, from an empty list on, all contents of at most d cells have been counted for `terms`
+-- (`CountsContents`), then the resulting list in m is the sum of c·s_λ over the terms c·λ
 pub lists-counted : (d : ℕ) (terms old list : WholeTerms) → IsWholeTable terms → AreWithin d terms → old ≡ [] → CountsContents terms [] d d old list
     → IsList list (λ n. combined (λ label. schur label n) terms)
 lists-counted d terms old list is within none counts =

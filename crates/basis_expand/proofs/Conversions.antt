@@ -1,7 +1,7 @@
--- Lists without fractions, and the expressions whose values they represent.
---     converted-number .. -product    the list of a node is the value of its expression times the denominator
---     large-negation .. -product      a refusal shows a weight of 2^127 or more
-use Rattle.std.proofs.Common.{◌≡◌, ℕ, ◌*◌, ◌/◌, ◌^◌, ◌≤◌, max, List, [], ◌∷◌, sym, ◌∙◌, ap₂, subst, inl, inr, arith, ℤ, pos, negsuc, neg_ℤ, ◌*ℤ◌}
+-- The values in m of the nodes of an expression, each a list with integer coefficients and a denominator.
+--     converted-number .. -product    the list of a node is the node's expression times the node's denominator
+--     large-negation .. -product      if `Large` is returned for a node, its weight is 2^127 or more
+use Rattle.std.proofs.Common.{◌≡◌, ℕ, ◌*◌, ◌/◌, ◌^◌, ◌≤◌, max, List, [], ◌∷◌, sym, ◌∙◌, ap₂, subst, inl, inr, arith, ℤ, pos, negsuc}
 use Rattle.std.specs.Prelude.{nat_abs}
 use Rattle.std.proofs.lemmas.Int.{ints}
 use Rattle.std.proofs.lemmas.Nat.{mul-le}
@@ -22,8 +22,10 @@ use Rattle.basis_expand.specs.declared.cleared.Cleared.{Cleared}
 use Rattle.basis_expand.specs.Clearing.{ClearsTo}
 use Rattle.sparse_polys.specs.Large.{HasLarge, SumIsLarge, ProductIsLarge}
 use Rattle.sparse_polys.proofs.Bounds.{coefficient-within, past-weight}
+use Rattle.sym_model.proofs.Integers.{neg_one-product}
+use Rattle.std.proofs.Math.Nat.{le_trans}
 
--- ---- the list of a node is the value of its expression times the denominator
+-- ---- the list of a number, an atom, a negation, a sum and a product is the expression times its denominator
 
 pub converted-number : (a : ℕ) (c : Cleared) → c.den ≡ 1 → Same c.terms (([], pos a) ∷ []) → ClearsTo (number a) c
 converted-number a c d h = record {
@@ -37,11 +39,8 @@ converted-fraction a b c d h = record {
   value = list_respects (([], pos a) ∷ []) c.terms (cleared_value (fraction a b)) (Same_sym c.terms (([], pos a) ∷ []) h) (cleared-fraction a b);
 }
 
-minus_once : (W : WholeTerms) → Same (scale (negsuc 0) W) (negate W)
-minus_once W label = coefficient_scale (negsuc 0) W label ∙ minus (coefficient W label) ∙ sym (coefficient_negate W label)
-  where
-    minus : (z : ℤ) → negsuc 0 *ℤ z ≡ neg_ℤ z
-    minus z = omega (arith, ints)
+pub minus_once : (W : WholeTerms) → Same (scale (negsuc 0) W) (negate W)
+minus_once W label = coefficient_scale (negsuc 0) W label ∙ neg_one-product (coefficient W label) ∙ sym (coefficient_negate W label)
 
 pub converted-negation : (e : Tree) (c d : Cleared) → d.den ≡ c.den → Same d.terms (scale (negsuc 0) c.terms) → ClearsTo e c → ClearsTo (negation e) d
 converted-negation e c d i h k = record {
@@ -52,8 +51,8 @@ converted-negation e c d i h k = record {
       (cleared-negation c.terms e k.value);
 }
 
--- if l is the lcm of the denominators of e and f, p = l/den e and q = l/den f, then p times the list of e plus q times the list
--- of f is the value of e + f times its denominator
+-- let l be the least common multiple of the denominators of e and f, p = l/(denominator of e) and q = l/(denominator of f): then p times the list of
+-- e plus q times the list of f is e + f times the denominator of e + f
 multiples : (e f : Tree) (c d : Cleared) (p q : ℤ) → p ≡ pos (lcm c.den d.den / c.den) → q ≡ pos (lcm c.den d.den / d.den) → ClearsTo e c → ClearsTo f d
     → IsCleared (plus (scale p c.terms) (scale q d.terms)) (sum e f)
 multiples e f c d p q i j h k =
@@ -81,7 +80,7 @@ converted-product e f c d s m w h k = record {
   value = cleared-product c.terms d.terms s.terms e f h.value k.value w;
 }
 
--- ---- if a node is refused as too large, its weight is 2^127 or more
+-- ---- if a number is too large at a negation, a sum or a product, the weight of this expression is 2^127 or more
 
 pub large-negation : (e : Tree) (c : Cleared) → HasDenominators e → ClearsTo e c → HasLarge (scale (negsuc 0) c.terms) → 2 ^ 127 ≤ weight Basis.monomials (negation e)
 large-negation e c d h l =
@@ -91,23 +90,20 @@ large-negation e c d h l =
     (cleared-negation c.terms e h.value))
     l.label l.partition l.large
 
+four : (a b c d : ℕ) → a ≤ b → b ≡ c → c ≤ d → a ≤ d
+four a b c d h k l = omega arith
+
 pub large-sum_denominator : (e f : Tree) (c d : Cleared) → HasDenominators e → HasDenominators f → ClearsTo e c → ClearsTo f d → 2 ^ 127 ≤ lcm c.den d.den → 2 ^ 127 ≤ weight Basis.monomials (sum e f)
 large-sum_denominator e f c d i j h k l =
     let w = denominator-within_weight (sum e f) (i, j) in
     let same : lcm c.den d.den ≡ lcm (denominator e) (denominator f) = ap₂ (λ (x y : ℕ). lcm x y) h.den_is k.den_is in
     four (2 ^ 127) (lcm c.den d.den) (lcm (denominator e) (denominator f)) (weight Basis.monomials (sum e f)) l same w
-  where
-    four : (a b c d : ℕ) → a ≤ b → b ≡ c → c ≤ d → a ≤ d
-    four a b c d h k l = omega arith
 
 pub large-product_denominator : (e f : Tree) (c d : Cleared) → HasDenominators e → HasDenominators f → ClearsTo e c → ClearsTo f d → 2 ^ 127 ≤ c.den * d.den → 2 ^ 127 ≤ weight Basis.monomials (product e f)
 large-product_denominator e f c d i j h k l =
     let w = denominator-within_weight (product e f) (i, j) in
     let same : c.den * d.den ≡ denominator e * denominator f = ap₂ ◌*◌ h.den_is k.den_is in
     four (2 ^ 127) (c.den * d.den) (denominator e * denominator f) (weight Basis.monomials (product e f)) l same w
-  where
-    four : (a b c d : ℕ) → a ≤ b → b ≡ c → c ≤ d → a ≤ d
-    four a b c d h k l = omega arith
 
 pub large-product : (e f : Tree) (A B : WholeTerms) → HasDenominators e → HasDenominators f → Once (labels A) → Once (labels B) → IsCleared A e → IsCleared B f
     → ProductIsLarge A B → 2 ^ 127 ≤ weight Basis.monomials (product e f)
@@ -138,22 +134,15 @@ large-sum e f c d p q i j u v h k (inl l) =
     let is : p ≡ pos (lcm (denominator e) (denominator f) / denominator e) = u ∙ ap₂ (λ (x y : ℕ). pos (lcm x y / x)) h.den_is k.den_is in
     let bound = multiple-within e (lcm (denominator e) (denominator f) / denominator e) (numerator (sum e f)) (max (degree e) (degree f)) c.terms h.value (omega arith) (omega arith)
     (subst (λ z. HasLarge (scale z c.terms)) is l) in
-    three (2 ^ 127) (numerator (sum e f) * growth Basis.monomials (max (degree e) (degree f))) (weight Basis.monomials (sum e f)) bound (growth-within_weight (sum e f) (i, j))
-  where
-    three : (a b c : ℕ) → a ≤ b → b ≤ c → a ≤ c
-    three a b c h k = omega arith
+    le_trans {n = (2 ^ 127)} {m = (numerator (sum e f) * growth Basis.monomials (max (degree e) (degree f)))} {k = (weight Basis.monomials (sum e f))} bound (growth-within_weight (sum e f) (i, j))
 large-sum e f c d p q i j u v h k (inr (inl l)) =
     let is : q ≡ pos (lcm (denominator e) (denominator f) / denominator f) = v ∙ ap₂ (λ (x y : ℕ). pos (lcm x y / y)) h.den_is k.den_is in
     let bound = multiple-within f (lcm (denominator e) (denominator f) / denominator f) (numerator (sum e f)) (max (degree e) (degree f)) d.terms k.value (omega arith) (omega arith)
     (subst (λ z. HasLarge (scale z d.terms)) is l) in
-    three (2 ^ 127) (numerator (sum e f) * growth Basis.monomials (max (degree e) (degree f))) (weight Basis.monomials (sum e f)) bound (growth-within_weight (sum e f) (i, j))
-  where
-    three : (a b c : ℕ) → a ≤ b → b ≤ c → a ≤ c
-    three a b c h k = omega arith
+    le_trans {n = (2 ^ 127)} {m = (numerator (sum e f) * growth Basis.monomials (max (degree e) (degree f)))} {k = (weight Basis.monomials (sum e f))} bound (growth-within_weight (sum e f) (i, j))
 large-sum e f c d p q i j u v h k (inr (inr l)) =
     past-weight (sum e f) (plus (scale p c.terms) (scale q d.terms)) (i, j) (multiples e f c d p q u v h k) l.label l.partition l.large
 
--- if S is p·A + q·B, p = p' and q = q', then S is p'·A + q'·B
 pub Same-sum_again : (S A B : WholeTerms) (p p' q q' : ℤ) → p ≡ p' → q ≡ q' → Same S (plus (scale p A) (scale q B)) → Same S (plus (scale p' A) (scale q' B))
 Same-sum_again S A B p p' q q' e f h = subst (λ z. Same S (plus (scale z A) (scale q' B))) e (subst (λ z. Same S (plus (scale p A) (scale z B))) f h)
 

@@ -1,4 +1,4 @@
--- The nodes of an expression in postorder: they are found one by one, and they evaluate the expression.
+-- The nodes of an expression in postorder: the loop that finds them, and their evaluation on a stack of values.
 use Rattle.std.proofs.Common.{◌≡◌, ℕ, ◌<◌, List, [], ◌∷◌, ◌++◌, length, reverse, map, take, drop, suc, append_assoc, append-nil, sym, ◌∙◌, ap, ap₂, subst, refl, arith}
 use Rattle.std.specs.List.{All}
 use Rattle.std.specs.Prelude.{flat_map}
@@ -12,7 +12,7 @@ use Rattle.basis_expand.specs.Postorder.{operands, postorder, AreValues, EndsWit
 two : (xs ys : List Expr) (e : Expr) → xs ++ (ys ++ e ∷ []) ≡ (xs ++ (ys ++ [])) ++ e ∷ []
 two xs ys e = sym (append_assoc xs (ys ++ []) (e ∷ []) ∙ ap (λ (zs : List Expr). xs ++ (zs ++ e ∷ [])) (append-nil ys))
 
--- a node comes after those of its operands
+-- the postorder of e is the postorders of its operands, from the left, followed by e
 postorder-operands : (e : Expr) → postorder e ≡ flat_map postorder (operands e) ++ e ∷ []
 postorder-operands (Number num) = refl
 postorder-operands (Fraction num den) = refl
@@ -25,7 +25,7 @@ postorder-operands (Sum' p left q right) = two (postorder left) (postorder right
 postorder-operands (Difference' p left q right) = two (postorder left) (postorder right) (Difference' p left q right)
 postorder-operands (Product' p left q right) = two (postorder left) (postorder right) (Product' p left q right)
 
--- in postorder the last waiting node comes after its operands
+-- the postorders of the expressions `waits` and then of `node` are the postorders of `waits` and then of the operands of `node`, followed by `node`
 postorder-last : (waits : List Expr) (node : Expr) → flat_map postorder (waits ++ node ∷ []) ≡ flat_map postorder (waits ++ operands node) ++ node ∷ []
 postorder-last waits node =
     flat_map-append postorder waits (node ∷ [])
@@ -71,7 +71,7 @@ module _ {A : Type 0} (now : A → Expr) where
 both : (P : Expr → Type 0) (left right e : Expr) → All P (postorder left) → All P (postorder right) → P e → All P (postorder left ++ (postorder right ++ e ∷ []))
 both P left right e h k p = All-append P (postorder left) (postorder right ++ e ∷ []) h (All-append P (postorder right) (e ∷ []) k (All-cons P e [] p (All-nil P)))
 
--- if the property P passes from each expression to its operands, it passes from an expression to all its nodes
+-- if each expression with the property P has only operands with the property P, each expression with P has only nodes with P
 pub All-postorder : (P : Expr → Type 0) → ((e : Expr) → P e → All P (operands e)) → (e : Expr) → P e → All P (postorder e)
 All-postorder P on (Number num) h = All-cons P (Number num) [] h (All-nil P)
 All-postorder P on (Fraction num den) h = All-cons P (Fraction num den) [] h (All-nil P)
@@ -90,8 +90,9 @@ All-postorder P on (Product' p left q right) h =
     both P left right (Product' p left q right) (All-postorder P on left (All-head P left (right ∷ []) s)) (All-postorder P on right (All-head P right [] (All-tail P left (right ∷ []) s))) h
 
 module _ {V : Type 0} (R : Expr → V → Type 0) where
-  -- if `left` and `right` can be evaluated, and `nodes` over `below` and any value of `node`, then the nodes of `left`, those of
-  -- `right`, `node` and `nodes` can be evaluated, in this order, over `below`
+  -- the lemma `evaluates-part` for a node with the operands `left` and `right`, from the lemma for these operands: if `nodes` can be evaluated on the
+  -- stack `below` with any value of `node` on top, then the nodes of `left`, those of `right`, `node` and `nodes`, one after another, can be
+  -- evaluated on the stack `below`
   evaluates-two : (goal left right node : Expr) (nodes : List Expr) (below : List V) → operands node ≡ left ∷ right ∷ []
       → ((xs : List Expr) (at : List V) → ((v : V) → R left v → Evaluates R goal xs (at ++ v ∷ [])) → Evaluates R goal (postorder left ++ xs) at)
       → ((xs : List Expr) (at : List V) → ((v : V) → R right v → Evaluates R goal xs (at ++ v ∷ [])) → Evaluates R goal (postorder right ++ xs) at)
@@ -104,8 +105,8 @@ module _ {V : Type 0} (R : Expr → V → Type 0) where
       on_right (node ∷ nodes) (below ++ v ∷ []) (λ w l.
       (below, (v ∷ w ∷ [], append_assoc below (v ∷ []) (w ∷ []), subst (λ (es : List Expr). AreValues R es (v ∷ w ∷ [])) (sym is) (k, (l, tt))), h))))
 
-  -- if `nodes` can be evaluated over `below` and any value of e, then the nodes of e followed by `nodes` can be
-  -- evaluated over `below`
+  -- if `nodes` can be evaluated on the stack `below` with any value of e on top (`Evaluates`), then the nodes of e in postorder, followed by `nodes`,
+  -- can be evaluated on the stack `below`
   pub evaluates-part : (goal e : Expr) (nodes : List Expr) (below : List V) → ((v : V) → R e v → Evaluates R goal nodes (below ++ v ∷ []))
       → Evaluates R goal (postorder e ++ nodes) below
   evaluates-part goal (Number num) nodes below h = (below, ([], sym (append-nil below), tt), h)
@@ -121,13 +122,13 @@ module _ {V : Type 0} (R : Expr → V → Type 0) where
   evaluates-part goal (Product' p left q right) nodes below h =
       evaluates-two goal left right (Product' p left q right) nodes below refl (evaluates-part goal left) (evaluates-part goal right) h
 
-  -- evaluating the nodes of an expression in postorder, from the empty stack, leaves only its value
+  -- evaluating the nodes of e in postorder, from an empty stack of values, leaves only a value of e (`Evaluates`)
   pub evaluates-all : (e : Expr) → Evaluates R e (postorder e) []
   evaluates-all e = subst (λ (xs : List Expr). Evaluates R e xs []) (append-nil (postorder e)) (evaluates-part e e [] [] (λ v h. (v ∷ [], refl, (h, tt))))
 
-  -- ---- the values of operands, which are removed from the stack
+  -- ---- removing the values of the operands of a node from the stack
 
-  -- a list of the values of expressions has one value for each expression
+  -- a list of values of expressions (`AreValues`) has the length of the list of the expressions
   length-values : (exprs : List Expr) (values : List V) → AreValues R exprs values → length values ≡ length exprs
   length-values [] [] h = refl
   length-values [] (v ∷ values) h = elim h [ ]
@@ -142,18 +143,20 @@ module _ {V : Type 0} (R : Expr → V → Type 0) where
         sym (drop-append_seam xs us) ∙ ap₂ (λ (i : ℕ) (zs : List V). drop i zs) k e ∙ drop-append_seam ys vs,
       )
 
-  -- the values before those of the expressions are determined by all values and the expressions
+  -- if `values` is both a and b followed by values of the expressions `exprs` (`EndsWith`), then a = b
   same-below : (exprs : List Expr) (a b values : List V) → EndsWith R exprs a values → EndsWith R exprs b values → a ≡ b
   same-below exprs a b values (us, e, h) (vs, f, k) =
       (same_ends a b us vs (length-values exprs us h ∙ sym (length-values exprs vs k)) (sym e ∙ f)).0
 
-  -- if the number of values removed at the end is the number of expressions, the removed values are those of the expressions
+  -- let `values` be `after` followed by `taken`: if `values` ends with values of `exprs` (`EndsWith`), and `taken` has the length of `exprs`, then
+  -- `taken` are values of `exprs`
   pub values-taken : (exprs : List Expr) (below values after taken : List V) → length taken ≡ length exprs → EndsWith R exprs below values → values ≡ after ++ taken
       → AreValues R exprs taken
   values-taken exprs below values after taken n (given, is, are) e =
       subst (AreValues R exprs) (same_ends below after given taken (length-values exprs given are ∙ sym n) (sym is ∙ e)).1 are
 
-  -- evaluating a node replaces the values of its operands by the value of the node
+  -- let the stack `values` be `after` with values of the operands of `node` on top, and v a value of `node`: if `node` and then `nodes` can be
+  -- evaluated on `values` (`Evaluates`), then `nodes` can be evaluated on the stack `after` with v on top
   pub evaluates-next : (goal node : Expr) (nodes : List Expr) (values after more : List V) (v : V) → Evaluates R goal (node ∷ nodes) values
       → EndsWith R (operands node) after values → R node v → more ≡ after ++ v ∷ [] → Evaluates R goal nodes more
   evaluates-next goal node nodes values after more v (below, ends, on) took h e =

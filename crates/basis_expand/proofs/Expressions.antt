@@ -1,4 +1,4 @@
--- Lists for the subexpressions of an expression, and for the operations on them.
+-- Negations, sums and products of expressions: their lists of terms in Schur polynomials, from the lists of their operands.
 use Rattle.std.proofs.Common.{◌≡◌, ℕ, ◌*◌, ◌/◌, List, [], ◌∷◌, length, sym, ◌∙◌, ap, ap₂, subst, arith, ℤ, pos, ◌+ℤ◌, ◌*ℤ◌, neg_ℤ}
 use Rattle.std.specs.Prelude.{nat_eq, negsuc}
 use Rattle.std.specs.Int.{◌∣◌}
@@ -8,7 +8,7 @@ use Rattle.coeff_rings.specs.Proved.Fractions.{InLowestTerms-whole}
 use Rattle.sym_model.specs.Polynomial.{pair, scale, negate, times}
 use Rattle.sym_model.specs.Expansion.{Basis, schurs, Terms, denominators, basis_polynomial, IsExpansionOf}
 use Rattle.sym_model.specs.Expression.{Tree, atom, negation, sum, product, lcm, denominator, cleared_value}
-use Rattle.sym_model.proofs.Ring.{ring, negation-product, product-negation, one-product}
+use Rattle.sym_model.proofs.Ring.{product-negation, distributes_left, product_left_comm, product_assoc}
 use Rattle.sym_model.proofs.Polynomials.{pair_plus, pair_scale, pair_negate}
 use Rattle.sym_model.proofs.PolynomialLaws.{times_comm}
 use Rattle.monomial_laws.specs.ExpressionTerms.{HasDenominators}
@@ -27,8 +27,9 @@ use Rattle.basis_expand.specs.SchurLaws.{expansion_respects}
 use Rattle.basis_expand.proofs.SchurExpansions.{expansion-tells, expansion-from}
 use Rattle.basis_expand.proofs.SchurTables.{common-sum, sum_at-sum, common-multiple, sum_at-multiple}
 use Rattle.linear_combinations.specs.Cleared.{IsCommonDenominator}
+use Rattle.sym_model.proofs.Integers.{neg_one-product}
 
--- ---- the list of a negation
+-- ---- the list in s of a negation
 
 pub negation-list : (e : Tree) (list turned : Terms (List ℕ)) → IsFractionTable list → IsFractionTable turned → IsMultipleOf (pointwise nat_eq) list (whole (negsuc 0)) turned → StandsFor e list → StandsFor (negation e) turned
 negation-list e list turned is it products h n =
@@ -40,40 +41,28 @@ negation-list e list turned is it products h n =
     (λ φ.
     let told = expansion-tells list n (cleared_value e n) (denominator e) (denominators list) common (h n) φ in
     let k : D * 1 ≡ D = omega arith in
-    ap (λ z. pos (denominator e) *ℤ z) (sum_at-multiple D 1 (whole (negsuc 0)) list turned is it (InLowestTerms-whole (negsuc 0)) (omega arith) one common products n φ ∙ minus (sum_at (denominators list) list n φ))
+    ap (λ z. pos (denominator e) *ℤ z) (sum_at-multiple D 1 (whole (negsuc 0)) list turned is it (InLowestTerms-whole (negsuc 0)) (omega arith) one common products n φ ∙ neg_one-product (sum_at (denominators list) list n φ))
     ∙ product-negation (pos (denominator e)) (sum_at (denominators list) list n φ)
     ∙ ap neg_ℤ told
     ∙ sym (product-negation (pos (denominators list)) (pair (cleared_value e n) φ))
     ∙ ap₂ (λ (m : ℕ) (z : ℤ). pos m *ℤ z) (sym k) (sym (pair_negate (cleared_value e n) φ)))
-  where
-    minus : (z : ℤ) → negsuc 0 *ℤ z ≡ neg_ℤ z
-    minus z = negation-product (pos 1) z ∙ ap neg_ℤ (one-product z)
 
--- the empty list is its own negation
+-- if the list of e is empty, it is also the list of the negation of e
 pub negation-nothing : (e : Tree) (list : Terms (List ℕ)) → length list ≡ 0 → StandsFor e list → StandsFor (negation e) list
 negation-nothing e [] none h =
     let empty = IsCombination-empty (pointwise nat_eq) is_label in
     negation-list e [] [] empty empty (λ ν. sym (product-zero (whole (negsuc 0)) (InLowestTerms-whole (negsuc 0)))) h
 negation-nothing e (t ∷ list) none h = absurd (omega arith)
 
--- ---- the list of a sum
+-- ---- the list in s of a sum
 
 joined : (m d e l r q : ℕ) (X Y f g : ℤ) → l * d ≡ m → r * e ≡ m → pos d *ℤ X ≡ pos q *ℤ f → pos e *ℤ Y ≡ pos q *ℤ g → pos m *ℤ (X +ℤ Y) ≡ pos q *ℤ (pos l *ℤ f +ℤ pos r *ℤ g)
 joined m d e l r q X Y f g a b h k =
-    split (pos m) X Y ∙ ap₂ ◌+ℤ◌ (part m d l q X f a h) (part m e r q Y g b k) ∙ sym (split (pos q) (pos l *ℤ f) (pos r *ℤ g))
+    distributes_left (pos m) X Y ∙ ap₂ ◌+ℤ◌ (part m d l q X f a h) (part m e r q Y g b k) ∙ sym (distributes_left (pos q) (pos l *ℤ f) (pos r *ℤ g))
   where
-    split : (x y z : ℤ) → x *ℤ (y +ℤ z) ≡ x *ℤ y +ℤ x *ℤ z
-    split x y z = simp ring
-
-    exchanged : (l d q f : ℤ) → l *ℤ (q *ℤ f) ≡ q *ℤ (l *ℤ f)
-    exchanged l d q f = simp ring
-
-    grouped : (l d X : ℤ) → (l *ℤ d) *ℤ X ≡ l *ℤ (d *ℤ X)
-    grouped l d X = simp ring
-
     part : (m d l q : ℕ) (X f : ℤ) → l * d ≡ m → pos d *ℤ X ≡ pos q *ℤ f → pos m *ℤ X ≡ pos q *ℤ (pos l *ℤ f)
     part m d l q X f a h =
-        ap (λ (k : ℕ). pos k *ℤ X) (sym a) ∙ grouped (pos l) (pos d) X ∙ ap (λ z. pos l *ℤ z) h ∙ exchanged (pos l) (pos d) (pos q) f
+        ap (λ (k : ℕ). pos k *ℤ X) (sym a) ∙ product_assoc (pos l) (pos d) X ∙ ap (λ z. pos l *ℤ z) h ∙ product_left_comm (pos l) (pos q) f
 
 -- the product of the denominators of two tables is a common denominator of both
 both_common : (left right : Terms (List ℕ)) → IsFractionTable left → IsFractionTable right → IsCommonDenominator (denominators left * denominators right) left × IsCommonDenominator (denominators left * denominators right) right
@@ -101,7 +90,7 @@ sum-list e f left right both he hf is also it sums h k n =
     (sym (pair_plus (scale (pos (m / denominator e)) (cleared_value e n)) (scale (pos (m / denominator f)) (cleared_value f n)) φ
     ∙ ap₂ ◌+ℤ◌ (pair_scale (pos (m / denominator e)) (cleared_value e n) φ) (pair_scale (pos (m / denominator f)) (cleared_value f n) φ))))
 
--- ---- the list of a product with an atom
+-- ---- the list of a product of an expression and an atom
 
 pub right_factor : (e : Tree) (basis : Basis) (parts : List ℕ) (list : Terms (List ℕ))
     → ((n : ℕ) → IsExpansionOf schurs list n (times (basis_polynomial basis parts n) (cleared_value e n)) (denominator e)) → StandsFor (product e (atom basis parts)) list

@@ -1,4 +1,4 @@
--- Lists times the polynomials of a family, one part after another.
+-- A list in Schur polynomials times the product of e_k, h_k or p_k over the parts k of a partition, one part after another.
 use Rattle.std.proofs.Common.{◌≡◌, ℕ, ◌+◌, ◌<◌, ◌≤◌, List, [], ◌∷◌, ◌++◌, inl, inr, length, sym, ◌∙◌, ap, subst, refl}
 use Rattle.sym_model.specs.Bases.{product_over}
 use Rattle.sym_model.specs.Partition.{size, rows}
@@ -16,21 +16,20 @@ use Rattle.basis_expand.proofs.AtomLists.{no_parts}
 use Rattle.basis_expand.specs.SchurLists.{StandsFor}
 use Rattle.basis_expand.specs.SchurLaws.{expansion_respects}
 
--- the product over the parts of a partition is its polynomial in the basis of the family
+-- the product of e_k, h_k or p_k over the parts k of a partition is the polynomial of this partition in the basis e, h or p
 pub product_basis : (family : Family) (parts : List ℕ) (n : ℕ) → product_over (polynomial_of family) parts n ≡ basis_polynomial (basis_in family) parts n
 product_basis Elementary parts n = refl
 product_basis Complete parts n = refl
 product_basis PowerSum parts n = refl
 
--- a list that expands f also expands the product over no parts times f
+-- if `parts` is empty, a list that expands f also expands f times the product over `parts`, which is 1
 pub times-no_parts : (family : Family) (parts : List ℕ) (list : Terms (List ℕ)) → length parts < 1
     → (n : ℕ) (f : Poly) (q : ℕ) → In n f → IsExpansionOf schurs list n f q → IsExpansionOf schurs list n (times (product_over (polynomial_of family) parts n) f) q
 times-no_parts family parts list h n f q i e =
     subst (λ (p : List ℕ). IsExpansionOf schurs list n (times (product_over (polynomial_of family) p n) f) q) (no_parts parts h)
     (expansion_respects list n f (times (one n) f) q (Same_sym (times (one n) f) f (one-times n f i)) e)
 
--- if a list expands the polynomial of k times the product over `rest` times f, and `parts` is k ∷ rest, it expands the product over
--- `parts` times f
+-- if `parts` is k ∷ rest, a list that expands e_k (h_k, p_k) times the product over `rest` times f expands the product over `parts` times f
 pub times-more_parts : (family : Family) (k : ℕ) (rest parts : List ℕ) (list : Terms (List ℕ)) → k ∷ rest ≡ parts
     → (n : ℕ) (f : Poly) (q : ℕ) → IsExpansionOf schurs list n (times (polynomial_of family k n) (times (product_over (polynomial_of family) rest n) f)) q
     → IsExpansionOf schurs list n (times (product_over (polynomial_of family) parts n) f) q
@@ -40,7 +39,7 @@ times-more_parts family k rest parts list split n f q e =
     (Same_sym (times (times (polynomial_of family k n) (product_over (polynomial_of family) rest n)) f) (times (polynomial_of family k n) (times (product_over (polynomial_of family) rest n) f))
     (times_assoc (polynomial_of family k n) (product_over (polynomial_of family) rest n) f)) e)
 
--- ---- the labels after each factor have room for the next strip
+-- ---- room for strips of k cells in one more label (`HaveRoomForStrips`)
 
 pub room_next : (k : ℕ) (terms : Terms (List ℕ)) (label : List ℕ) (c : Fraction) → HaveRoomForStrips k terms → size label + k ≤ 4096 → rows label + k ≤ 512 → HaveRoomForStrips k (terms ++ (label, c) ∷ [])
 room_next k [] label c h a b t (inl e) = subst (λ (l : List ℕ). (size l + k ≤ 4096) × (rows l + k ≤ 512)) (ap (λ (u : List ℕ × Fraction). u.0) (sym e)) (a, b)
@@ -48,7 +47,7 @@ room_next k [] label c h a b t (inr m) = absurd m
 room_next k (u ∷ terms) label c h a b t (inl e) = h t (inl e)
 room_next k (u ∷ terms) label c h a b t (inr m) = room_next k terms label c (λ v n. h v (inr n)) a b t m
 
--- ---- an expression times an atom
+-- ---- the product of an expression and an atom in e, h or p
 
 pub factor_times : (family : Family) (e : Tree) (parts label : List ℕ) (start list : Terms (List ℕ)) → parts ≡ label
     → ((n : ℕ) (f : Poly) (q : ℕ) → In n f → IsExpansionOf schurs start n f q → IsExpansionOf schurs list n (times (product_over (polynomial_of family) parts n) f) q)

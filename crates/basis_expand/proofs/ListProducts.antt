@@ -1,6 +1,6 @@
--- Products of lists of Schur polynomials, pair by pair.
-use Rattle.std.proofs.Common.{◌≡◌, ℕ, ◌*◌, ◌<◌, List, [], ◌∷◌, ◌++◌, length, sym, ◌∙◌, ap, subst, refl, arith, ℤ, pos, ◌+ℤ◌, ◌*ℤ◌}
-use Rattle.std.proofs.lemmas.List.{map-append}
+-- Products of two lists of terms in Schur polynomials, one pair of terms after another.
+use Rattle.std.proofs.Common.{◌≡◌, ℕ, ◌*◌, ◌<◌, List, [], ◌∷◌, ◌++◌, length, sym, ◌∙◌, ap, subst, arith, ℤ, pos, ◌+ℤ◌, ◌*ℤ◌}
+use Rattle.std.proofs.lemmas.List.{nil_from_length}
 use Rattle.std.specs.Prelude.{nat_eq}
 use Rattle.std.specs.Int.{◌∣◌}
 use Rattle.std.specs.Cmp.Lexicographic.{pointwise}
@@ -16,7 +16,7 @@ use Rattle.sym_model.proofs.Polynomials.{pair_ext, pair_exchange, pair_plus, pai
 use Rattle.sym_model.proofs.PolynomialLaws.{times-scale, scale-times, one-times, times-one}
 use Rattle.sparse_polys.specs.Combination.{terms_of}
 use Rattle.monomial_laws.specs.ExpressionTerms.{over}
-use Rattle.monomial_laws.proofs.DividedTerms.{divides-denominators}
+use Rattle.monomial_laws.proofs.DividedTerms.{divides-denominators, over-append}
 use Rattle.sym_model.specs.LabelLimits.{is_label}
 use Rattle.sparse_polys.proofs.Expansions.{over-one, whole-denominators}
 use Rattle.sparse_polys.proofs.Tables.{table_gained}
@@ -29,10 +29,7 @@ use Rattle.linear_combinations.specs.Cleared.{IsCommonDenominator, GainsCleared}
 use lib.IntN.{+ℤ_idl, +ℤ_idr}
 use native.Mathlib.Nat.{mul-pos, dvd-mul_left}
 
--- ---- the product, one term after another
-
-over-append : (q : ℕ) (first second : Terms (List ℕ)) → over q (first ++ second) ≡ over q first ++ over q second
-over-append q first second = map-append (λ (t : List ℕ × Fraction). (t.0, scaled q t.1)) first second
+-- ---- q times a list (`over q`) that has one more term, and the sums over its products with another list
 
 pair_next : (q : ℕ) (terms : Terms (List ℕ)) (k : List ℕ) (c : Fraction) (w : List ℕ → ℤ) → pair (over q (terms ++ (k, c) ∷ [])) w ≡ pair (over q terms) w +ℤ scaled q c *ℤ w k
 pair_next q terms k c w =
@@ -80,14 +77,14 @@ module _ (D E : ℕ) (left right : Terms (List ℕ)) (n : ℕ) (φ : List ℕ �
       ∙ pair_cleared D left n (λ α. pair (cleared (λ label. schur label n) E right) (λ β. φ (join α β)))
       ∙ pair_ext (over D left) (λ l. pair (schur l n) (λ α. pair (cleared (λ label. schur label n) E right) (λ β. φ (join α β)))) (λ l. row_at l E right n φ) row-times
 
--- the product of a·f and b·g, paired with φ, is a·b times the product of f and g, paired with φ
+-- Σ c·φ(α) over the terms c·x^α of (a·f)·(b·g) is a·b times Σ c·φ(α) over the terms c·x^α of f·g
 both_scaled : (a b : ℤ) (f g : Poly) (φ : List ℕ → ℤ) → pair (times (scale a f) (scale b g)) φ ≡ a *ℤ (b *ℤ pair (times f g) φ)
 both_scaled a b f g φ =
     sym (pair_determined (scale a (times f (scale b g))) (times (scale a f) (scale b g)) φ (scale-times a f (scale b g)))
     ∙ pair_scale a (times f (scale b g)) φ
     ∙ ap (λ z. a *ℤ z) (pair_determined (times f (scale b g)) (scale b (times f g)) φ (times-scale b f g) ∙ pair_scale b (times f g) φ)
 
--- the product of the denominators of an expansion is a common denominator
+-- if a list is an expansion in Schur polynomials, the product of its denominators is a common denominator of it
 common_of_expansion : (terms : Terms (List ℕ)) (n : ℕ) (f : Poly) (q : ℕ) → IsExpansionOf schurs terms n f q → IsCommonDenominator (denominators terms) terms
 common_of_expansion terms n f q h = record { positive = h.positive; multiple = divides-denominators terms }
 
@@ -120,7 +117,7 @@ product-list left right both sums n f g p q h k =
     ∙ both_scaled (pos D) (pos E) f g φ
     ∙ sym (product_assoc (pos D) (pos E) (pair (times f g) φ)))
 
--- ---- a fraction c times an integer v, with its denominator cleared by a multiple q of that of c
+-- ---- the product of a fraction c and an integer v, times a multiple q of the denominator of c
 
 pub counted : (q : ℕ) (c p : Fraction) (v : ℤ) → InLowestTerms c → p ≡ fraction_product c (whole v) → 0 < q → c.1 ∣ q → (p.1 ∣ q) × (scaled q p ≡ scaled q c *ℤ v)
 counted q c p v lc e some cd =
@@ -133,18 +130,14 @@ counted q c p v lc e some cd =
 
 -- ---- the Schur polynomial of the empty partition is 1
 
-no_rows : (parts : List ℕ) → length parts ≡ 0 → [] ≡ parts
-no_rows [] h = refl
-no_rows (k ∷ parts) h = absurd (omega arith)
-
 pub nothing_left : (left right : List ℕ) → length left ≡ 0 → (n : ℕ) (φ : List ℕ → ℤ) → pair (schur right n) φ ≡ product_at left right n φ
 nothing_left left right h n φ =
     sym (pair_determined (times (one n) (schur right n)) (schur right n) φ (one-times n (schur right n) (In-schur right n)))
     ∙ ap (λ f. pair (times f (schur right n)) φ) (sym (schur-nothing n))
-    ∙ ap (λ (l : List ℕ). pair (times (schur l n) (schur right n)) φ) (no_rows left h)
+    ∙ ap (λ (l : List ℕ). pair (times (schur l n) (schur right n)) φ) (sym (nil_from_length left h))
 
 pub nothing_right : (left right : List ℕ) → length right ≡ 0 → (n : ℕ) (φ : List ℕ → ℤ) → pair (schur left n) φ ≡ product_at left right n φ
 nothing_right left right h n φ =
     sym (pair_determined (times (schur left n) (one n)) (schur left n) φ (times-one n (schur left n) (In-schur left n)))
     ∙ ap (λ f. pair (times (schur left n) f) φ) (sym (schur-nothing n))
-    ∙ ap (λ (l : List ℕ). pair (times (schur left n) (schur l n)) φ) (no_rows right h)
+    ∙ ap (λ (l : List ℕ). pair (times (schur left n) (schur l n)) φ) (sym (nil_from_length right h))

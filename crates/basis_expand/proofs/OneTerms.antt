@@ -1,4 +1,4 @@
--- Lists of one term, and the polynomials that they expand.
+-- Lists in s with one term, and the polynomials that they expand.
 use Rattle.std.proofs.Common.{◌≡◌, ◌+ℤ◌, ℕ, zero, suc, ◌*◌, ◌/◌, ◌<◌, List, [], ◌∷◌, sym, ◌∙◌, ap, subst, refl, arith, ℤ, pos, ◌*ℤ◌}
 use Rattle.std.specs.Prelude.{nat_eq, nat_abs, ◌≤ℤ◌}
 use Rattle.std.specs.Int.{◌∣◌}
@@ -33,7 +33,7 @@ use native.Mathlib.Nat.{dvd-mul_left}
 use lib.IntN.{+ℤ_idl, +ℤ_idr}
 use Rattle.strip_rules.proofs.BeadSums.{schur-nothing}
 
--- a list with the one term c·s_label expands s_label times the numerator of c, over the denominator of c
+-- the list with the one term c·s_label expands c·s_label, as the numerator of c times s_label, divided by the denominator of c
 pub expansion_one_term : (label : List ℕ) (c : Fraction) (list : Terms (List ℕ)) → InLowestTerms c → IsOneTerm label c list
     → (n : ℕ) → IsExpansionOf schurs list n (scale c.0 (schur label n)) c.1
 expansion_one_term label c list lc is n =
@@ -79,7 +79,7 @@ quotient-list num den list sign some term n =
     let p : num ≡ pos (nat_abs num) = omega (arith, ints) in
     subst (λ z. IsExpansionOf schurs list n (scale z (one n)) den) p (expansion_number num den list some term n)
 
--- ---- the list of a monomial symmetric polynomial
+-- ---- the list in s of a monomial symmetric polynomial
 
 one_lowest : lowest_terms (pos 1) 1 ≡ whole (pos 1)
 one_lowest = Stands-same _ _ (pos 1) (pos 1) 1 1 (Stands-lowest_terms (pos 1) 1 (omega arith)) (Stands-whole (pos 1)) refl

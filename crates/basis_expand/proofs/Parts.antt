@@ -1,4 +1,4 @@
--- The subexpressions of an expression have at most its weight.
+-- The numerator, the denominator and the degree of a subexpression are at most those of the expression.
 use Rattle.std.proofs.Common.{◌≡◌, ◌<◌, ◌≤◌, ◌/◌, ℕ, [], ◌∷◌, ℤ, pos, negsuc, arith, true}
 use Rattle.std.specs.List.{All}
 use Rattle.std.specs.Prelude.{IsTrue, nat_abs}
@@ -19,7 +19,7 @@ positive_size : (z : ℤ) → lt_z (pos 0) z ≡ true → 0 < nat_abs z
 positive_size (pos n) h = ltb-true 0 n h
 positive_size (negsuc n) h = omega arith
 
--- an expression without signs has positive denominators
+-- if the numbers and numerators of an expression are at least 0 and its denominators positive (`has_no_signs`), it satisfies `HasDenominators`
 pub HasDenominators-plain : (t : Expr) → IsTrue (has_no_signs t) → HasDenominators (tree_of t)
 HasDenominators-plain (Number num) h = tt
 HasDenominators-plain (Fraction num den) h = positive_size den (and_parts (le_z (pos 0) num) (lt_z (pos 0) den) h).1
@@ -32,7 +32,8 @@ HasDenominators-plain (Difference' p left q right) h =
 HasDenominators-plain (Product' p left q right) h =
     let s = and_parts (has_no_signs left) (has_no_signs right) h in (HasDenominators-plain left s.0, HasDenominators-plain right s.1)
 
--- an expression without signs, of degree at most `limit`, meets the conditions of `IsTaken`: positive denominators and that degree
+-- an expression whose numbers and numerators are at least 0 and whose denominators are positive (`has_no_signs`), of degree at most `limit`,
+-- satisfies `IsTaken`
 pub taken-plain : (limit : ℕ) (t : Expr) → IsTrue (has_no_signs t) → degree (tree_of t) ≤ limit → IsTaken limit (tree_of t)
 taken-plain limit t h k = record { plain = HasDenominators-plain t h; low = k }
 
@@ -45,7 +46,7 @@ taken-right limit e f h = let l = h.low in record { plain = h.plain.1; low = ome
 pub taken-sum : (limit : ℕ) (e f : Tree) → IsTaken limit (difference e f) → IsTaken limit (sum e (negation f))
 taken-sum limit e f h = record { plain = (h.plain.0, h.plain.1); low = h.low }
 
--- ---- numerator, denominator and degree of a subexpression are at most those of the expression
+-- ---- the numerator, the denominator and the degree of a subexpression are at most those of the expression
 
 pub within-itself : (e : Tree) → IsNoHeavier e e
 within-itself e = record { num = omega arith; den = omega arith; deg = omega arith }
@@ -91,7 +92,7 @@ within_right_factor e f h k =
     let d = times-more (denominator f) (denominator e) (denominator-positive e h) in
     record { num = omega arith; den = omega arith; deg = omega arith }
 
--- ---- the subexpressions of an expression without signs have no signs, and at most its weight
+-- ---- if the numbers of the expression `goal` have no minus signs, this holds of its subexpressions e, and their weights are at most that of `goal`
 
 pub record IsPart (goal e : Expr) : Type 0 where
   pub plain : IsTrue (has_no_signs e)

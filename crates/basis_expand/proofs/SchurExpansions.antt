@@ -1,6 +1,5 @@
--- An expansion in Schur polynomials and the sum over its terms, with its fractions cleared by any common
--- denominator.
---     pair_cleared          the cleared list and the sum over its terms
+-- An expansion in Schur polynomials, and the sums Σ c·φ(α) over the terms c·x^α of q times the expansion, for any common denominator q.
+--     pair_cleared          the sum over q times a list, as a sum over the terms of the list
 --     expansion-tells       the sum over the terms of an expansion in s
 --     expansion-from        a list with this sum is an expansion
 --     expansion_times       a list that expands h times the value of a list
@@ -11,7 +10,7 @@ use Rattle.sym_model.specs.Sum.{Among}
 use Rattle.sym_model.specs.Polynomial.{Poly, pair, scale, times}
 use Rattle.sym_model.specs.Schur.{schur}
 use Rattle.sym_model.specs.Expansion.{schurs, Fraction, Terms, denominators, cleared, value, IsExpansionOf}
-use Rattle.sym_model.proofs.Ring.{ring, product_left_comm}
+use Rattle.sym_model.proofs.Ring.{ring, product_left_comm, distributes_left, product_turned}
 use Rattle.sym_model.proofs.Polynomials.{pair_plus, pair_scale, pair_determined, same_from_pair, times_respects, Same_refl}
 use Rattle.sym_model.proofs.PolynomialLaws.{times-scale}
 use Rattle.monomial_laws.proofs.DividedTerms.{divides-denominators}
@@ -28,19 +27,16 @@ pair_cleared q (t ∷ terms) n φ =
     pair_plus (scale (t.1.0 *ℤ pos (q / t.1.1)) (schur t.0 n)) (cleared (λ label. schur label n) q terms) φ
     ∙ ap₂ ◌+ℤ◌ (pair_scale (t.1.0 *ℤ pos (q / t.1.1)) (schur t.0 n) φ) (pair_cleared q terms n φ)
 
--- ---- the sum over the terms, for two common denominators
+-- ---- the sums over the terms of Q and of R times a list, for two common denominators Q and R
 
 turned : (num Q R den w q r X Y : ℤ) → Q *ℤ den ≡ q → R *ℤ den ≡ r → r *ℤ X ≡ q *ℤ Y → r *ℤ (num *ℤ Q *ℤ w +ℤ X) ≡ q *ℤ (num *ℤ R *ℤ w +ℤ Y)
 turned num Q R den w q r X Y e f h =
     let a : r *ℤ (num *ℤ Q *ℤ w) ≡ q *ℤ (num *ℤ R *ℤ w) =
     ap (λ x. x *ℤ (num *ℤ Q *ℤ w)) (sym f) ∙ exchanged R den num Q w ∙ ap (λ x. x *ℤ (num *ℤ R *ℤ w)) e in
-    split r (num *ℤ Q *ℤ w) X ∙ ap₂ ◌+ℤ◌ a h ∙ sym (split q (num *ℤ R *ℤ w) Y)
+    distributes_left r (num *ℤ Q *ℤ w) X ∙ ap₂ ◌+ℤ◌ a h ∙ sym (distributes_left q (num *ℤ R *ℤ w) Y)
   where
     exchanged : (R den num Q w : ℤ) → (R *ℤ den) *ℤ (num *ℤ Q *ℤ w) ≡ (Q *ℤ den) *ℤ (num *ℤ R *ℤ w)
     exchanged R den num Q w = simp ring
-
-    split : (x y z : ℤ) → x *ℤ (y +ℤ z) ≡ x *ℤ y +ℤ x *ℤ z
-    split x y z = simp ring
 
 two_denominators : (q r : ℕ) (terms : Terms (List ℕ)) (n : ℕ) (φ : List ℕ → ℤ)
     → ((t : List ℕ × Fraction) → Among t terms → t.1.1 ∣ q) → ((t : List ℕ × Fraction) → Among t terms → t.1.1 ∣ r)
@@ -60,7 +56,8 @@ through D q d X Y f some e h =
 
 -- ---- expansions and the sums over their terms
 
--- d times the sum of an expansion of f over d, cleared by the product D of its denominators, is D times the pairing of f
+-- let D be the product of the denominators of a list that expands f divided by d: then d times the sum over D times the list (`sum_at`) is D times Σ
+-- c·φ(α) over the terms c·x^α of f
 expansion-at : (terms : Terms (List ℕ)) (n : ℕ) (f : Poly) (d : ℕ) → IsExpansionOf schurs terms n f d
     → (φ : List ℕ → ℤ) → pos d *ℤ sum_at (denominators terms) terms n φ ≡ pos (denominators terms) *ℤ pair f φ
 expansion-at terms n f d h φ =
@@ -92,7 +89,7 @@ expansion-from terms n f d q is common h =
           ∙ sym (pair_scale (pos (denominators terms)) f φ));
     }
 
--- if d > 0 and a·e = b·d, an expansion of a·g over d is one of b·g over e
+-- if d > 0 and a·e = b·d, an expansion of a·g divided by d is one of b·g divided by e
 pub expansion_rescaled : (terms : Terms (List ℕ)) (n : ℕ) (g : Poly) (a b : ℤ) (d e : ℕ) → 0 < d → a *ℤ pos e ≡ b *ℤ pos d
     → IsExpansionOf schurs terms n (scale a g) d → IsExpansionOf schurs terms n (scale b g) e
 expansion_rescaled terms n g a b d e some cross h = record {
@@ -113,18 +110,15 @@ expansion_rescaled terms n g a b d e some cross h = record {
   where
     crossed : (d e V D a b G : ℤ) → d *ℤ V ≡ D *ℤ (a *ℤ G) → a *ℤ e ≡ b *ℤ d → (e *ℤ V) *ℤ d ≡ (D *ℤ (b *ℤ G)) *ℤ d
     crossed d e V D a b G h k =
-        first d e V ∙ ap (λ z. e *ℤ z) h ∙ second e D a G ∙ ap (λ z. D *ℤ (z *ℤ G)) k ∙ third D b d G
+        product_turned e V d ∙ ap (λ z. e *ℤ z) h ∙ second e D a G ∙ ap (λ z. D *ℤ (z *ℤ G)) k ∙ third D b d G
       where
-        first : (d e V : ℤ) → (e *ℤ V) *ℤ d ≡ e *ℤ (d *ℤ V)
-        first d e V = simp ring
-
         second : (e D a G : ℤ) → e *ℤ (D *ℤ (a *ℤ G)) ≡ D *ℤ ((a *ℤ e) *ℤ G)
         second e D a G = simp ring
 
         third : (D b d G : ℤ) → D *ℤ ((b *ℤ d) *ℤ G) ≡ (D *ℤ (b *ℤ G)) *ℤ d
         third D b d G = simp ring
 
--- if `product` expands h times the value of the list, it expands h times f for each f that the list expands
+-- if `product` expands h times the polynomial of `list`, it expands h·f for each f that `list` expands
 pub expansion_times : (list product : Terms (List ℕ)) (n : ℕ) (h f : Poly) (q : ℕ)
     → IsExpansionOf schurs product n (times h (value schurs list n)) (denominators list)
     → IsExpansionOf schurs list n f q → IsExpansionOf schurs product n (times h f) q

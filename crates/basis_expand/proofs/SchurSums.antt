@@ -1,6 +1,6 @@
--- Lists of Schur polynomials by their Kostka numbers.
+-- Lists of Schur polynomials in m, by Kostka numbers.
 --     coefficient-schur_sorted   the coefficient of a Schur polynomial at exponents in any order
---     list-schurs                a list in m whose coefficients are the sums of Kostka numbers has the sum of the Schur polynomials
+--     list-schurs                a list in m whose coefficients are sums of c·K(λ,κ) is the sum of the c·s_λ
 use Rattle.std.proofs.Common.{◌≡◌, ◌⊎◌, ℕ, cond, List, map, length, sym, ◌∙◌, ap, refl, inl, inr, ℤ, pos, ◌*ℤ◌}
 use Rattle.std.proofs.lemmas.Bool.{cases_eq}
 use Rattle.sym_model.specs.Sum.{total, Among}
@@ -22,7 +22,7 @@ use Rattle.monomial_laws.proofs.Splits.{In-monomial_terms}
 use Rattle.schur_laws.specs.Kostka.{kostka}
 use Rattle.schur_laws.proofs.SchurLists.{list-schur, kostka-other_size}
 
--- the terms K_(shape,κ)·κ for the partitions κ of the size of the shape
+-- the list of the terms K(shape,κ)·κ, for the partitions κ of the size of the shape, with K the Kostka number
 abbrev kostka_terms : List ℕ → WholeTerms
 kostka_terms shape = map (λ (κ : List ℕ). (κ, kostka shape κ)) (partitions_of (size shape))
 

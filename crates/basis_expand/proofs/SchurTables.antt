@@ -1,8 +1,8 @@
--- Tables in Schur polynomials, described by the coefficients that look-ups return.
+-- Tables of terms in Schur polynomials, described by the coefficients that look-ups return.
 --     cleared_at            a common denominator clears the coefficient that a look-up returns
 --     sum_at-found          the look-ups determine the sum over the terms
---     ComeTo-one, -multiple the value of one Schur polynomial, and of a multiple of terms
---     ComeTo-both           the value of two lists of terms
+--     ComeTo-one, -multiple the sums over one Schur polynomial, and over a multiple of terms
+--     ComeTo-both           the sums over two lists of terms, one after the other
 --     sum_at-sum, -multiple the sum of two tables, and a multiple of one
 use Rattle.std.proofs.Common.{◌≡◌, ℕ, ◌*◌, ◌<◌, Bool, true, false, cond, List, [], ◌∷◌, ◌++◌, sym, ◌∙◌, ap, ap₂, subst, refl, inl, inr, arith, ℤ, pos, ◌+ℤ◌, ◌*ℤ◌}
 use Rattle.std.specs.Prelude.{nat_eq, Some}
@@ -41,7 +41,8 @@ cleared_at q (t ∷ terms) h ν = by (pointwise nat_eq ν t.0) (cleared_at q ter
     by true r = h t (inl refl)
     by false r = r
 
--- a positive multiple of the denominators of all coefficients that look-ups in a table return is a common denominator
+-- if q > 0 is a multiple of the denominators of all coefficients that look-ups in a table return (`AreCleared`), it is a common denominator of the
+-- terms of the table
 pub common_of : (q : ℕ) (terms : Terms (List ℕ)) → 0 < q → IsFractionTable terms
     → AreCleared (pointwise nat_eq) q terms → IsCommonDenominator q terms
 common_of q terms some is h = record { positive = some; multiple = divides_terms q terms is (λ ν p. h ν) }
@@ -50,9 +51,9 @@ pub sum_at-found : (q : ℕ) (terms : Terms (List ℕ)) (W : WholeTerms) → IsF
     → (n : ℕ) (φ : List ℕ → ℤ) → sum_at q terms n φ ≡ pair W (λ label. pair (schur label n) φ)
 sum_at-found q terms W is h n φ = pair_determined (over q terms) W (λ label. pair (schur label n) φ) (λ ν. coefficient-over q terms is ν ∙ h ν)
 
--- ---- lists of terms with a given value in every number of variables
+-- ---- lists whose terms have given sums Σ c·φ(α) in every number of variables (`ComeTo`)
 
--- the list with the one term s_label has the value of s_label
+-- if a(n, φ) is Σ c·φ(α) over the terms c·x^α of s_label in n variables, then the list with the one term s_label has the sums a (`ComeTo`)
 pub ComeTo-one : (label : List ℕ) (a : ℕ → (List ℕ → ℤ) → ℤ)
     → ((n : ℕ) (φ : List ℕ → ℤ) → pair (schur label n) φ ≡ a n φ)
     → ComeTo ((label, pos 1) ∷ []) a
@@ -70,7 +71,7 @@ pub ComeTo-both : (first second : WholeTerms) (a b s : ℕ → (List ℕ → ℤ
 ComeTo-both first second a b s e h k n φ =
     pair_plus first second (λ label. pair (schur label n) φ) ∙ ap₂ ◌+ℤ◌ (h n φ) (k n φ) ∙ e n φ
 
--- ---- the value of a sum of tables, and of a multiple of a table
+-- ---- the sums over the terms of a sum of tables, and of a multiple of a table
 
 module _ (q : ℕ) (first second both : Terms (List ℕ)) (is : IsFractionTable first) (also : IsFractionTable second) (it : IsFractionTable both)
     (c : IsCommonDenominator q first) (d : IsCommonDenominator q second) (sums : IsSumOf (pointwise nat_eq) first second both) where

@@ -1,4 +1,4 @@
--- Tables of shapes that remain after strips are removed: their pairings with Kostka numbers, and bounds for them.
+-- Tables of the shapes that remain after horizontal strips are removed, and bounds for the sums of their coefficients times Kostka numbers.
 use Rattle.std.proofs.Common.{◌≡◌, ℕ, ◌+◌, ◌^◌, ◌≤◌, Bool, true, false, cond, List, [], ◌∷◌, ◌++◌, replicate, sym, ◌∙◌, ap, ap₂, subst, refl, inl, inr, arith, append_assoc, ℤ, pos, ◌+ℤ◌, ◌*ℤ◌}
 use Rattle.std.specs.Prelude.{◌≤ℤ◌, nat_abs}
 use Rattle.std.proofs.lemmas.Int.{ints}
@@ -12,7 +12,7 @@ use Rattle.sym_model.specs.WholeTerms.{WholeTerms}
 use Rattle.sym_model.proofs.Ring.{one-product, product-one}
 use Rattle.sym_model.proofs.Sums.{total_ext}
 use Rattle.sym_model.proofs.Polynomials.{pair_determined}
-use Rattle.sym_model.proofs.Integers.{product-at_least, product-nonnegative}
+use Rattle.sym_model.proofs.Integers.{product-at_least, product-nonnegative, le_trans_ℤ}
 use Rattle.monomial_laws.specs.ExpressionTerms.{absolute}
 use Rattle.schur_laws.specs.Kostka.{strips_off, kostka}
 use Rattle.schur_laws.proofs.KostkaNumbers.{strips_off-tell}
@@ -27,17 +27,18 @@ use Rattle.basis_expand.specs.Strips.{strips, strip_terms}
 use Rattle.basis_expand.proofs.AbsoluteTerms.{table-within}
 use lib.IntN.{+ℤ_idr}
 
--- in the table with only one shape, the number of ways to remove the content `rest` is that of the shape
+-- if a table has only the term 1 at a shape, the sum of c·K(λ, rest) over its terms (λ, c) is K(shape, rest), with K the Kostka number
 pub ways-alone : (shape : List ℕ) (terms : WholeTerms) → Same terms ((shape, pos 1) ∷ []) → (rest : List ℕ) → pair terms (λ left. kostka left rest) ≡ kostka shape rest
 ways-alone shape terms e rest =
     pair_determined terms ((shape, pos 1) ∷ []) (λ left. kostka left rest) e
     ∙ +ℤ_idr (pos 1 *ℤ kostka shape rest) ∙ one-product (kostka shape rest)
 
--- c times the list of the shapes left when a strip of k cells is removed is the list of these shapes, each with the coefficient c
+-- c times the list `strips k shape` is the list of the shapes `strips_off k shape`, each with the coefficient c
 pub scaled-strips : (c : ℤ) (k : ℕ) (shape : List ℕ) → scaled c (strips k shape) ≡ each_with c (strips_off k shape)
 scaled-strips c k shape = scaled_each c (pos 1) (strips_off k shape) ∙ ap (λ z. each_with z (strips_off k shape)) (product-one c)
 
--- φ of the terms after one more strip is the sum, over the terms, of φ at the shapes left
+-- the sum of c·φ over the shapes that remain of the terms after one strip of k cells is the sum, over the terms (shape, c), of c times the sum of φ
+-- over the shapes that remain of `shape`
 pub pair-strip_terms : (k : ℕ) (terms : WholeTerms) (φ : List ℕ → ℤ) → pair (strip_terms k terms) φ ≡ pair terms (λ shape. total φ (strips_off k shape))
 pair-strip_terms k terms φ =
     replaced_over (strips k) φ terms
@@ -56,15 +57,12 @@ absolute-strips k (t ∷ W) =
     (ap absolute (scaled-strips t.1 k t.0) ∙ absolute-each t.1 (strips_off k t.0) ∙ sym (scaled-strips (pos (nat_abs t.1)) k t.0))
     (absolute-strips k W)
 
--- with the absolute values of the coefficients: the number of ways to remove a strip of k cells and then the content `rest` is the number of ways to
--- remove the content k, `rest`
+-- the sum of |c|·K(λ, rest) over the shapes λ that remain of the terms after a strip of k cells is the sum of |c|·K(λ, k ∷ rest) over the terms, with
+-- K the Kostka number
 ways-stripped : (k : ℕ) (terms : WholeTerms) (rest : List ℕ)
     → pair (absolute (strip_terms k terms)) (λ left. kostka left rest) ≡ pair (absolute terms) (λ shape. kostka shape (k ∷ rest))
 ways-stripped k terms rest =
     ap (λ (W : WholeTerms). pair W (λ left. kostka left rest)) (absolute-strips k terms) ∙ pair-strip_terms k (absolute terms) (λ left. kostka left rest)
-
-further : (a b c : ℤ) → a ≤ℤ b → b ≤ℤ c → a ≤ℤ c
-further a b c h k = omega (arith, ints)
 
 pub leads-start : (terms : WholeTerms) → Leads terms [] terms
 leads-start terms rest = omega (arith, ints)
@@ -72,17 +70,14 @@ leads-start terms rest = omega (arith, ints)
 pub leads-next : (start : WholeTerms) (content : List ℕ) (k : ℕ) (old new : WholeTerms) → Leads start content old → IsWholeTable new
     → Same new (strip_terms k old) → Leads start (content ++ k ∷ []) new
 leads-next start content k old new h is e rest =
-    further (pair (absolute new) (λ left. kostka left rest)) (pair (absolute old) (λ shape. kostka shape (k ∷ rest)))
-    (pair (absolute start) (λ shape. kostka shape ((content ++ k ∷ []) ++ rest)))
-    (subst (λ z. pair (absolute new) (λ left. kostka left rest) ≤ℤ z) (ways-stripped k old rest)
-    (table-within new (strip_terms k old) (λ left. kostka left rest) is e (kostka-not_negative rest)))
-    (subst (λ (l : List ℕ). pair (absolute old) (λ shape. kostka shape (k ∷ rest)) ≤ℤ pair (absolute start) (λ shape. kostka shape l))
+    le_trans_ℤ (pair (absolute new) (λ left. kostka left rest)) (pair (absolute old) (λ shape. kostka shape (k ∷ rest))) (pair (absolute start) (λ shape. kostka shape ((content ++ k ∷ []) ++ rest))) (subst (λ z. pair (absolute new) (λ left. kostka left rest) ≤ℤ z) (ways-stripped k old rest)
+    (table-within new (strip_terms k old) (λ left. kostka left rest) is e (kostka-not_negative rest))) (subst (λ (l : List ℕ). pair (absolute old) (λ shape. kostka shape (k ∷ rest)) ≤ℤ pair (absolute start) (λ shape. kostka shape l))
     (sym (append_assoc content (k ∷ []) rest)) (h (k ∷ rest)))
 
--- ---- bounds for the coefficients and for the ways to remove strips
+-- ---- bounds for the coefficients, and for the numbers of ways to remove strips
 
--- the absolute values of the coefficients at the partition x add up to at most the number of ways to remove the shapes of W
--- cell by cell
+-- the absolute values of the coefficients at the partition x add up to at most the sum, over the terms (λ, c) of W, of |c| times the number of ways
+-- to remove λ cell by cell in |x| steps
 mass-ways : (W : WholeTerms) (x : List ℕ) → HaveLabels IsPartition W
     → pos (mass_at equal x W) ≤ℤ pair (absolute W) (λ shape. kostka shape (replicate (size x) 1))
 mass-ways [] x h = omega (arith, ints)
@@ -122,7 +117,8 @@ large-lead start content k terms partitions h (x, l) =
     past : (a : ℕ) (b c : ℤ) → pos a ≤ℤ b → b ≤ℤ c → 2 ^ 127 ≤ a → pos (2 ^ 127) ≤ℤ c
     past a b c h k l = omega (arith, ints)
 
--- if the number of ways to remove some content from the table of one shape is 2^127 or more, so is the growth at its size
+-- if a table has only the term 1 at `shape`, and the number of ways to remove this shape by the strips of some content is 2^127 or more
+-- (`HasManyWays`), the growth into m at the size of `shape` is 2^127 or more
 pub many-alone : (shape : List ℕ) (terms : WholeTerms) → IsPartition shape → IsWholeTable terms → Same terms ((shape, pos 1) ∷ [])
     → HasManyWays terms → 2 ^ 127 ≤ growth Basis.monomials (size shape)
 many-alone shape terms p is e many =

@@ -1,5 +1,5 @@
--- Laws of conversions into m: what represents the sum of e and -f represents e - f, and the weight increases weakly
--- with the numerator, the denominator and the degree.
+-- Laws of the values in m: each value that represents e + (-f) represents e - f, and the weight increases weakly with the numerator, the denominator
+-- and the degree.
 use Rattle.sym_model.specs.Expansion.{Basis}
 use Rattle.sym_model.specs.Expression.{Tree, negation, sum, difference, cleared_value}
 use Rattle.sym_model.proofs.Polynomials.{Same_trans}
@@ -10,7 +10,7 @@ use Rattle.basis_expand.specs.TargetLaws.{difference-value, heavy-more}
 use Rattle.basis_expand.specs.declared.cleared.Cleared.{Cleared}
 use Rattle.basis_expand.specs.Clearing.{ClearsTo, IsHeavyInMonomials}
 
--- a list that represents e + (-f) represents e - f
+-- if c, a list in m and a denominator, represents e + (-f) (`ClearsTo`), it also represents e - f
 pub clears-difference : (e f : Tree) (c : Cleared) → ClearsTo (sum e (negation f)) c
     → ClearsTo (difference e f) c
 clears-difference e f c h = record {

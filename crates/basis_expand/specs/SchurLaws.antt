@@ -1,4 +1,4 @@
--- Laws of conversions into s: what represents the sum of e and -f represents e - f.
+-- Laws of the values in s: each value that represents e + (-f) represents e - f.
 use Rattle.std.specs.Prelude.{ℕ, List, pos}
 use Rattle.sym_model.specs.Polynomial.{Poly, Same, scale}
 use Rattle.sym_model.specs.Expansion.{schurs, Terms, denominators, value, IsExpansionOf}
@@ -9,7 +9,7 @@ use Rattle.basis_expand.specs.declared.operand.Operand.{Operand}
 use Rattle.basis_expand.specs.declared.operand.Operand.TheVariants.{Atom, Expanded}
 use Rattle.basis_expand.specs.Operands.{IsOperand}
 
--- an expansion of f expands every polynomial that is the same as f
+-- if f and g are the same polynomial (`Same`), an expansion of f/d in Schur polynomials is also an expansion of g/d
 pub expansion_respects : (terms : Terms (List ℕ)) (n : ℕ) (f g : Poly) (d : ℕ) → Same f g
     → IsExpansionOf schurs terms n f d → IsExpansionOf schurs terms n g d
 expansion_respects terms n f g d e h = record {
@@ -20,7 +20,7 @@ expansion_respects terms n f g d e h = record {
       h.equal (scale_respects (pos (denominators terms)) f g e);
 }
 
--- a value of the sum of e and -f is a value of the difference e - f
+-- each operand that is a value of e + (-f) (`IsOperand`) is also a value of e - f
 pub operand-difference : (e f : Tree) (v : Operand) → IsOperand (sum e (negation f)) v
     → IsOperand (difference e f) v
 operand-difference e f (Atom basis label) h = cc

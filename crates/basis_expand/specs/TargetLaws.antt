@@ -1,27 +1,25 @@
--- Laws of conversions into any basis: a difference has the value of the sum with the negation, and the weight
--- increases weakly with the numerator, the denominator and the degree.
-use Rattle.std.proofs.Common.{◌≡◌, ◌≤◌, ◌*◌, ◌/◌, ◌^◌, ◌∙◌, ℕ, ap, sym, arith, ℤ, pos, neg_ℤ, ◌*ℤ◌}
+-- Laws of the values of expressions, for every target: e - f has the value of e + (-f), and the weight increases weakly with the numerator, the
+-- denominator and the degree.
+use Rattle.std.proofs.Common.{◌≤◌, ◌*◌, ◌/◌, ◌^◌, ◌∙◌, ℕ, ap, sym, ℤ, pos, neg_ℤ, ◌*ℤ◌}
 use Rattle.std.proofs.lemmas.Nat.{mul-le}
 use Rattle.sym_model.specs.Polynomial.{Poly, Same, coefficient, negate, scale}
 use Rattle.sym_model.specs.Expansion.{Basis}
 use Rattle.sym_model.specs.Expression.{Tree, negation, sum, difference, denominator, degree, lcm, cleared_value}
 use Rattle.sym_model.specs.Weight.{growth, numerator, weight}
 use Rattle.sym_model.proofs.Polynomials.{coefficient_scale, coefficient_negate, Same_refl, plus_respects}
-use Rattle.sym_model.proofs.Ring.{ring}
+use Rattle.sym_model.proofs.Ring.{product-negation}
 use Rattle.basis_expand.specs.Values.{IsNoHeavier}
+use Rattle.std.proofs.Math.Nat.{le_trans}
 
 negated_multiple : (q : ℤ) (g : Poly) → Same (scale q (negate g)) (negate (scale q g))
 negated_multiple q g α =
     coefficient_scale q (negate g) α
     ∙ ap (λ z. q *ℤ z) (coefficient_negate g α)
-    ∙ turn q (coefficient g α)
+    ∙ product-negation q (coefficient g α)
     ∙ ap neg_ℤ (sym (coefficient_scale q g α))
     ∙ sym (coefficient_negate (scale q g) α)
-  where
-    turn : (a b : ℤ) → a *ℤ neg_ℤ b ≡ neg_ℤ (a *ℤ b)
-    turn a b = simp ring
 
--- a difference has the value of the sum with the negation
+-- e + (-f) and e - f, each times its denominator, are the same polynomial
 pub difference-value : (e f : Tree) (n : ℕ) → Same (cleared_value (sum e (negation f)) n) (cleared_value (difference e f) n)
 difference-value e f n =
     let q = lcm (denominator e) (denominator f) / denominator e in
@@ -32,8 +30,8 @@ difference-value e f n =
     (Same_refl (scale (pos q) (cleared_value e n)))
     (negated_multiple (pos r) (cleared_value f n))
 
--- if the growth increases weakly with the degree, and the numerator, the denominator and the degree of e are at most those
--- of f, the weight of e is at most that of f
+-- if the growth into a target increases weakly with the degree, and the numerator, the denominator and the degree of e are at most those of f, then
+-- the weight of e is at most that of f
 pub weight-more : (target : Basis) → ((d e : ℕ) → d ≤ e → growth target d ≤ growth target e) → (e f : Tree) → IsNoHeavier e f → weight target e ≤ weight target f
 weight-more target mono e f h =
     mul-le (numerator e * denominator e) (growth target (degree e)) (numerator f * denominator f) (growth target (degree f))
@@ -41,7 +39,4 @@ weight-more target mono e f h =
 
 pub heavy-more : (target : Basis) → ((d e : ℕ) → d ≤ e → growth target d ≤ growth target e) → (e f : Tree) → IsNoHeavier e f
     → 2 ^ 127 ≤ weight target e → 2 ^ 127 ≤ weight target f
-heavy-more target mono e f h k = three (2 ^ 127) (weight target e) (weight target f) k (weight-more target mono e f h)
-  where
-    three : (a b c : ℕ) → a ≤ b → b ≤ c → a ≤ c
-    three a b c h k = omega arith
+heavy-more target mono e f h k = le_trans k (weight-more target mono e f h)

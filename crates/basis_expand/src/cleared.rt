@@ -1,12 +1,12 @@
-//! Expressions with their fractions cleared, as lists of terms in m: no fractions occur in the
-//! computation.
+//! Lists of terms in m with integer coefficients. Each list is the value of an expression times the
+//! denominator of the expression, so that no fractions occur in the computation.
 ghost use Rattle.std.specs.Prelude.{◌<◌, ◌^◌};
 ghost use Rattle.std.proofs.Props.{props};
 ghost use Rattle.sparse_polys.specs.Tables.{IsWholeTable};
 
 use sparse_polys::Whole;
 
-/// A list of terms in m that is an expression times its denominator.
+/// The value of an expression times its denominator `den`, as the list `terms` in m.
 #[derive(Drop)]
 pub(crate) struct Cleared {
     pub(crate) terms: Whole,

@@ -1,4 +1,5 @@
-//! The value of an expression in a target.
+//! The evaluation of an expression in a target, the basis of the result: its value, for example a
+//! list of terms, is computed node by node.
 ghost use Rattle.std.specs.Prelude.{◌≤◌, IsTrue, List};
 ghost use Rattle.sym_model.specs.Expression.{Tree, degree, sum, difference, negation};
 ghost use Rattle.expression_reading.specs.declared.expr.Expr.{Expr};
@@ -12,7 +13,8 @@ use calc_base::SumFault;
 use expression_reading::Expr;
 use std::alloc::Global;
 
-/// The value of a difference: that of the sum of `left` and the negation of `right`.
+/// The value of a difference, computed as the sum of the value `left` and the negation of the value
+/// `right`.
 fn subtracted<T: Target>(
     alloc: Global,
     target: &T,
@@ -29,8 +31,8 @@ fn subtracted<T: Target>(
     target.added(alloc, left, turned)
 }
 
-/// The value of a node, from the values of its operands, which are removed from the end of
-/// `values`.
+/// The value of `node`, from the values of its operands, which are the last ones of `values` and
+/// are removed.
 fn value_of<T: Target>(
     alloc: Global,
     target: &T,
@@ -66,9 +68,9 @@ fn value_of<T: Target>(
     }
 }
 
-/// The value of an expression in the target. Its numbers and numerators must be at least 0, its
-/// denominators positive, and its degree at most the limit of the target. A tree may be deep: its
-/// nodes are evaluated one after another, on a stack of values.
+/// The value of the expression `tree` in the target. Its numbers and numerators must be at least 0,
+/// its denominators positive, and its degree at most the limit of the target. A tree may be deep:
+/// its nodes are evaluated one after another, on a stack of values.
 pub fn evaluate<T: Target>(alloc: Global, target: &T, tree: &Expr) -> Result<T::Value, SumFault>
     requires plain { IsTrue (has_no_signs tree.now) }
     requires low { degree (tree_of tree.now) ≤ T.limit }

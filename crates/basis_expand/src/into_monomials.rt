@@ -18,8 +18,9 @@ use partitions::Partition;
 use sparse_polys::divided;
 use std::alloc::Global;
 
-/// The expansion of a formula in m, in every number of variables. Its coefficients are bounded by N
-/// and D, the two numbers of `Formula::weight`.
+/// The expansion of a formula in m, in every number of variables. The numbers N and D of
+/// `Formula::weight` bound its coefficients: D is a multiple of all denominators, and |c|·D·Π λ_i!
+/// ≤ N·|λ|! for each term c·m_λ.
 ///
 /// Returns `Large` only if N·D·d^d is 2^127 or more, with d the degree of the formula (0^0 is 1).
 pub fn to_monomial(alloc: Global, formula: &Formula) -> Result<Lin<Partition, Frac>, SumFault>

@@ -33,7 +33,8 @@ pub fn to_schur(alloc: Global, formula: &Formula) -> Result<Lin<Partition, Frac>
     }
 }
 
-/// The expansion of a formula in Schur polynomials, computed from that in m.
+/// The expansion of a formula in Schur polynomials, computed from the expansion of the formula in
+/// m.
 fn through_monomials(alloc: Global, formula: &Formula) -> Result<Lin<Partition, Frac>, SumFault>
     ensures value { let e = tree_of formula.now.tree in
         IfOk result (λ list. (n : ℕ)

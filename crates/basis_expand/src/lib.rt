@@ -1,21 +1,23 @@
-//! Expands expressions in m and in s. One function, `evaluate`, visits the nodes of an expression
-//! for every target, the basis of the result; this crate has the targets m and s.
+//! Expands expressions in m and in s. The function `evaluate` computes the value of an expression
+//! in any target, the basis of the result with its operations; this crate has the targets m and s.
 //!
 //! What is proved:
 //!
-//! `evaluate`: the value represents the expression, as the target defines it; `Large` is returned
-//! only if the target says that the expression is heavy, that is, too large.
+//! `evaluate`: the value represents the expression, in the sense that the target defines; `Large`
+//! is returned only if the expression is heavy, that is, large in the sense that the target
+//! defines.
 //!
-//! `to_monomial`: the list is the expression in m, in every number of variables, bounded by the two
-//! numbers of `Formula::weight`; `Large` is returned only if the weight for the target m
+//! `to_monomial`: the list is the expression in m, in every number of variables. The two numbers of
+//! `Formula::weight` bound the list, and `Large` is returned only if the weight for the target m
 //! (`Formula::weight_below`) is 2^127 or more. `schurs_to_monomials`: a list in s with integer
-//! coefficients as a list in m, in every number of variables; `Large` is returned only if, with the
-//! absolute values of the coefficients, some coefficient of the result is 2^127 or more.
+//! coefficients as a list in m, in every number of variables; `Large` is returned only if, after
+//! each coefficient of the list in s is replaced by its absolute value, some coefficient of the
+//! result is 2^127 or more.
 //!
-//! `to_schur`: the list is the expression in s, in every number of variables: a factor in h, e or p
+//! `to_schur`: the list is the expression in s, in every number of variables. A factor in h, e or p
 //! is multiplied by strips or rim hooks, other products are computed pair by pair by the
 //! Littlewood-Richardson rule, and if an intermediate number is too large, the expression is
-//! expanded in m first; `Large` is returned only if the weight for the target s is 2^127 or more.
+//! expanded in m first. `Large` is returned only if the weight for the target s is 2^127 or more.
 //! `to_monomial_by_schurs`: the list is the expression in m, in every number of variables; `Large`
 //! is returned only if the weight for the target m is 2^127 or more.
 #![tactic(auto)]

@@ -21,8 +21,8 @@ use sparse_polys::{Family, Whole, single, times_whole_in_m};
 use std::alloc::Global;
 use strip_rules::{times_complete, times_elementary};
 
-/// The product of e_k, h_k or p_k, by the family, and the list `others`, which is the product over
-/// the other parts.
+/// The product of `others` and e_k, h_k or p_k (`family` says which), as a list in m. The list
+/// `others` in m is the product of e_j, h_j or p_j over other parts j.
 fn times_factor(alloc: Global, family: Family, k: u16, others: &Whole) -> Result<Whole, SumFault>
     requires positive { 0 < k }
     requires low { k + greatest_size others.now ≤ 512 }
@@ -41,8 +41,8 @@ fn times_factor(alloc: Global, family: Family, k: u16, others: &Whole) -> Result
     }
 }
 
-/// The product of e_k, h_k or p_k, by the family, over the parts k, as a list in m, computed from
-/// the smallest part on.
+/// The product of e_k, h_k or p_k (`family` says which) over the parts k, as a list in m. The last
+/// part, a smallest one, is multiplied first.
 fn over_parts(alloc: Global, family: Family, parts: &[u16]) -> Result<Whole, SumFault>
     requires positive { ArePositive parts.now }
     requires low { size parts.now ≤ 512 }
@@ -58,7 +58,7 @@ fn over_parts(alloc: Global, family: Family, parts: &[u16]) -> Result<Whole, Sum
     times_factor(alloc, family, *k, &others)
 }
 
-/// A basis polynomial as a list in m.
+/// The polynomial of λ = `label` in `basis` (m_λ, e_λ, h_λ, p_λ or s_λ), as a list in m.
 fn terms_of(alloc: Global, basis: Basis, label: &Partition) -> Result<Whole, SumFault>
     requires { size label.now ≤ 512 }
     ensures value { IfOk result (λ list.
@@ -76,7 +76,8 @@ fn terms_of(alloc: Global, basis: Basis, label: &Partition) -> Result<Whole, Sum
     }
 }
 
-/// A basis polynomial as a list in m, with the denominator 1.
+/// The polynomial of λ = `label` in `basis` (m_λ, e_λ, h_λ, p_λ or s_λ), as a list in m with the
+/// denominator 1.
 pub(crate) fn atom(alloc: Global, basis: Basis, label: &Partition) -> Result<Cleared, SumFault>
     requires { size label.now ≤ 512 }
     ensures { IsConverted (atom (basis_of basis) label.now) result }

@@ -1,4 +1,5 @@
-//! The target m: numbers, atoms, negations, sums and products as cleared lists.
+//! The target m: the values of numbers, atoms, negations, sums and products, each a list in m with
+//! integer coefficients and a denominator.
 ghost use Rattle.std.specs.Prelude.{ℕ, ◌^◌, ◌≤◌, IsErrOf};
 ghost use Rattle.sym_model.specs.Expression.{lcm, sum};
 ghost use Rattle.basis_expand.specs.Clearing.{ClearsTo, IsHeavyInMonomials};
@@ -14,7 +15,7 @@ use partitions::Partition;
 use sparse_polys::{single, sum_of, times_whole_in_m};
 use std::alloc::Global;
 
-/// The target m.
+/// The target m, whose values are of the type `Cleared`.
 #[derive(Clone, Copy)]
 pub(crate) struct Monomials;
 
@@ -42,8 +43,9 @@ impl Target for Monomials {
         Ok(Cleared { terms, den })
     }
 
-    /// The sum, over the least common denominator. If that is 2^127 or more, this returns `Large`
-    /// before any memory is allocated.
+    /// The value of the sum of two expressions with the values `left` and `right`; its denominator
+    /// is the least common multiple of their denominators. If this is 2^127 or more, `Large` is
+    /// returned before any memory is allocated.
     fn added(&self, _: Global, left: Cleared, right: Cleared) -> Result<Cleared, SumFault>
         ensures made { IsMadeOf sum 20 ClearsTo IsHeavyInMonomials left right result }
         ensures past { 2 ^ 127 ≤ lcm left.den right.den → IsErrOf result SumFault.Large }

@@ -19,13 +19,13 @@ pub fn postorder(alloc: Global, tree: &Expr) -> Result<Vec<&Expr>, NoMemory>
         nodes.push(node)?;
         push_operands(&mut waiting, node)?;
     }
-    // Up to here each node is listed before its operands, the right operand first; reversed, this
-    // is the postorder.
+    // Up to here each node is listed before its operands, and the right operand before the left
+    // one; the reverse of this list is the postorder.
     nodes.reverse();
     Ok(nodes)
 }
 
-/// Appends the operands of a node.
+/// Appends the operands of `node` to `waiting`.
 fn push_operands<'a>(waiting: &mut Vec<&'a Expr>, node: &'a Expr) -> Result<(), NoMemory>
     ensures { OnOk result (map (λ e. e.now) waiting.new.items
         ≡ map (λ e. e.now) waiting.old.items ++ operands node.now) }
@@ -43,7 +43,7 @@ fn push_operands<'a>(waiting: &mut Vec<&'a Expr>, node: &'a Expr) -> Result<(), 
     Ok(())
 }
 
-/// Removes the value of a node's one operand, which is the last, and returns it.
+/// Removes the last value, which is that of the one operand of a node, and returns it.
 pub(crate) fn take_operand<V>(values: &mut Vec<V>) -> V
     requires { 0 < length values.old.items }
     ensures { values.old.items ≡ values.new.items ++ result ∷ [] }
@@ -51,7 +51,7 @@ pub(crate) fn take_operand<V>(values: &mut Vec<V>) -> V
     values.pop().unwrap()
 }
 
-/// Removes the values of a node's two operands, which are the last ones, and returns them.
+/// Removes the last two values, which are those of the two operands of a node, and returns them.
 pub(crate) fn take_operands<V>(values: &mut Vec<V>) -> (V, V)
     requires { 1 < length values.old.items }
     ensures { values.old.items ≡ values.new.items ++ result.0 ∷ result.1 ∷ [] }

@@ -1,4 +1,4 @@
-//! p_k as a list of terms in m.
+//! The power sum p_k as a list of terms in m.
 ghost use Rattle.std.specs.Prelude.{◌<◌, ◌≤◌, IfOk, IsErrOf};
 ghost use Rattle.sym_model.specs.Polynomial.{Same};
 ghost use Rattle.monomial_laws.specs.ExpressionTerms.{power_sum_terms_of};

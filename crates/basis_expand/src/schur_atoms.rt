@@ -1,4 +1,4 @@
-//! Numbers and atoms as lists of terms in Schur polynomials.
+//! Numbers and the polynomials m_λ, e_λ, h_λ, p_λ and s_λ as lists of terms in Schur polynomials.
 ghost use Rattle.std.specs.Prelude.{◌<◌, ◌≤◌, ◌^◌, ◌≤ℤ◌, ℕ, pos, nat_abs, IfOk};
 ghost use Rattle.sym_model.specs.Bases.{monomial};
 ghost use Rattle.sym_model.specs.Expansion.{schurs, basis_polynomial, IsExpansionOf};
@@ -18,7 +18,7 @@ use partitions::Partition;
 use std::alloc::Global;
 use strip_rules::{columns_product, hooks_product, rows_product};
 
-/// The list with one term; it is empty if the coefficient is 0.
+/// The list with the one term c at the label `parts`; it is empty if c is 0.
 fn single(alloc: Global, parts: &[u16], c: Frac) -> Result<Lin<Partition, Frac>, SumFault>
     requires { IsWithinLimits parts.now }
     ensures { IfOk result (IsOneTerm parts.now c) }
@@ -28,7 +28,7 @@ fn single(alloc: Global, parts: &[u16], c: Frac) -> Result<Lin<Partition, Frac>,
     Ok(list)
 }
 
-/// The number `num`/`den` as a list of terms.
+/// The number `num`/`den` as a list of terms in Schur polynomials.
 pub(crate) fn quotient(
     alloc: Global,
     num: i128,
@@ -41,7 +41,7 @@ pub(crate) fn quotient(
     single(alloc, &[], quotient_of(Int::new(num), den))
 }
 
-/// A monomial symmetric polynomial in Schur polynomials, by the change of basis.
+/// m_λ, for λ = `label`, as a list in Schur polynomials, by the change of basis.
 fn from_monomial(alloc: Global, label: &Partition) -> Result<Lin<Partition, Frac>, SumFault>
     requires { size label.now ≤ 20 }
     ensures { IfOk result (λ list. (n : ℕ) → IsExpansionOf schurs list n (monomial label.now n) 1) }
@@ -57,7 +57,8 @@ fn from_schur(alloc: Global, label: &Partition) -> Result<Lin<Partition, Frac>, 
     single(alloc, label.parts(), Frac::one())
 }
 
-/// A basis polynomial in Schur polynomials.
+/// The polynomial of λ = `label` in `basis` (m_λ, e_λ, h_λ, p_λ or s_λ), as a list in Schur
+/// polynomials.
 pub(crate) fn atom(
     alloc: Global,
     basis: Basis,

@@ -19,13 +19,14 @@ use lr_product::mult;
 use partitions::Partition;
 use std::alloc::Global;
 
-/// The most cells that two labels together can have if they are multiplied; and the most rows.
+/// Two labels are multiplied only if together they have at most `MAX_CELLS` cells and at most
+/// `MAX_ROWS` rows.
 const MAX_CELLS: u16 = 4096;
 
 const MAX_ROWS: u16 = 512;
 
 /// Whether two labels can be multiplied, that is, whether the labels of their product are within
-/// the limits. Labels from an expression always can.
+/// the limits. Any two labels that occur in the expansion of an expression can be multiplied.
 fn can_multiply(left: &Partition, right: &Partition) -> bool
     ensures { IsTrue result ↔ ((size left.now + size right.now ≤ 4096)
         × (rows left.now + rows right.now ≤ 512)) }
@@ -33,7 +34,7 @@ fn can_multiply(left: &Partition, right: &Partition) -> bool
     left.size() + right.size() <= MAX_CELLS && left.rows() + right.rows() <= MAX_ROWS
 }
 
-/// Adds a number times a Schur polynomial.
+/// Adds c times the Schur polynomial of `label` to `sum`.
 fn add_multiple(label: &Partition, c: Frac, sum: &mut Lin<Partition, Frac>) -> Result<(), SumFault>
     requires { InLowestTerms c }
     ensures { OnOk result (GainsMultiple (pointwise nat_eq) is_label c ((label.now, pos 1) ∷ [])
@@ -42,8 +43,8 @@ fn add_multiple(label: &Partition, c: Frac, sum: &mut Lin<Partition, Frac>) -> R
     sum.add_term(label.copy()?, c)
 }
 
-/// Adds a number times the product of two Schur polynomials, by the Littlewood-Richardson rule. The
-/// Schur polynomial of the empty partition is 1.
+/// Adds c times the product of the Schur polynomials of `left` and `right` to `sum`, by the
+/// Littlewood-Richardson rule. The Schur polynomial of the empty partition is 1.
 fn add_pair(
     alloc: Global,
     left: &Partition,
@@ -75,7 +76,7 @@ fn add_pair(
     Ok(())
 }
 
-/// Adds the product of a term and a list.
+/// Adds to `sum` the product of c times the Schur polynomial of `left` and the list `right`.
 fn add_term_product(
     alloc: Global,
     left: &Partition,
@@ -97,7 +98,7 @@ fn add_term_product(
     Ok(())
 }
 
-/// The product of two lists.
+/// The product of two lists of terms in Schur polynomials.
 pub(crate) fn product(
     alloc: Global,
     left: &Lin<Partition, Frac>,

@@ -1,6 +1,7 @@
-//! Schur polynomials as lists of terms in m: the coefficient of a partition is the number of ways
-//! to empty the shape by removing horizontal strips, whose numbers of cells are the parts. All
-//! partitions are found in one walk, part by part, for all shapes of a list together.
+//! Schur polynomials as lists of terms in m. The coefficient of a partition κ in s_λ is the number
+//! of ways to remove all cells of λ by horizontal strips, one after another, that have the parts of
+//! κ as their numbers of cells. All partitions κ are found part by part, in one search for all
+//! shapes λ of a list.
 ghost use Rattle.std.specs.Prelude.{◌≡◌, ℕ, ◌≤◌, ◌^◌, [], ◌∷◌, ◌++◌, List, IfOk, OnOk, IsErrOf};
 ghost use Rattle.sym_model.specs.Expansion.{monomials};
 ghost use Rattle.sym_model.specs.Partition.{size};
@@ -25,7 +26,8 @@ use partitions::Partition;
 use sparse_polys::{Whole, single};
 use std::alloc::Global;
 
-/// The shapes that remain after a horizontal strip of k cells is removed from each shape of a list.
+/// The shapes that remain if a horizontal strip of k cells is removed, in all ways, from each shape
+/// of a list; each has the coefficient of the shape from which the strip is removed.
 fn stripped(alloc: Global, terms: &Whole, k: u16) -> Result<Whole, SumFault>
     ensures value { IfOk result (λ list. Same list (strip_terms k terms.now)) }
     ensures table { IfOk result IsWholeTable }
@@ -36,7 +38,7 @@ fn stripped(alloc: Global, terms: &Whole, k: u16) -> Result<Whole, SumFault>
     Ok(list)
 }
 
-/// The parts with `part` appended.
+/// The list `parts` with `part` appended.
 fn with_part(alloc: Global, parts: &[u16], part: u16) -> Result<Vec<u16>, NoMemory>
     ensures { IfOk result (λ longer. longer.items ≡ parts.now ++ part ∷ []) }
 {
@@ -45,8 +47,10 @@ fn with_part(alloc: Global, parts: &[u16], part: u16) -> Result<Vec<u16>, NoMemo
     Ok(longer)
 }
 
-/// Adds the chosen parts as a label, with the number of ways to remove all cells, which is the
-/// coefficient of the empty shape in `terms`. A coefficient 0 is left out.
+/// Adds to `list` the label `chosen` with the coefficient of the empty shape in `terms`, unless
+/// this coefficient is 0. If `terms` is what remains of a list of shapes after strips with the
+/// numbers of cells `chosen` are removed, the coefficient counts the ways to remove all cells of a
+/// shape of the list by such strips, each way with the coefficient of the shape.
 fn add_content(
     alloc: Global,
     terms: &Whole,
@@ -71,14 +75,16 @@ fn add_content(
     list.add_term(label, ways)
 }
 
-/// A content is the list of the numbers of cells of the strips that are removed. Adds each
-/// content that begins with the chosen parts and continues with parts of at most `left` cells
-/// together, each at most `largest`, with the number of ways to remove strips of these further
-/// parts from the terms.
+/// A content is the list of the numbers of cells of the horizontal strips that are removed from a
+/// shape, one after another; it is weakly decreasing. `terms` is what remains of a list of shapes
+/// after strips with the numbers of cells `chosen` are removed. For each weakly decreasing list
+/// `rest` of parts of at most `largest` with a sum of at most `left`, adds to `list` the content
+/// that consists of `chosen` and then `rest`. Its coefficient counts the ways to remove all cells
+/// of a shape of `terms` by strips with the numbers of cells `rest`, each way with the coefficient
+/// of the shape.
 ///
-/// The terms are what remains of the shapes of a list after strips of the chosen parts are removed.
-/// So contents that begin alike share these steps, and a content is dropped as soon as no shape is
-/// left.
+/// So contents that begin with the same parts are computed together; and if no shape remains after
+/// the strips of the first parts, no content that begins with these parts is computed.
 fn add_contents(
     alloc: Global,
     terms: &Whole,
@@ -125,12 +131,11 @@ pub(crate) fn schur(alloc: Global, label: &Partition) -> Result<Whole, SumFault>
     Ok(list)
 }
 
-/// A list of terms in Schur polynomials, none with more than `cells` cells, as a list in m: the
-/// coefficient of each partition is the sum over the terms of the coefficient times the Kostka
-/// number (Macdonald, I.6).
+/// The list `terms` in Schur polynomials, none of whose labels has more than `cells` cells, as a
+/// list in m: the coefficient of κ is the sum, over the terms c·s_λ, of c times the Kostka number
+/// K(λ,κ) (Macdonald, I.6).
 ///
-/// Returns `Large` only if, with the absolute values of the coefficients, such a sum is 2^127 or
-/// more.
+/// Returns `Large` only if, with |c| in place of c, such a sum is 2^127 or more.
 pub fn schurs_to_monomials(alloc: Global, terms: &Whole, cells: u16) -> Result<Whole, SumFault>
     requires within { AreWithin cells terms.now }
     requires low { cells ≤ 512 }

@@ -1,5 +1,5 @@
-//! The target s: numbers, atoms, negations, sums and products as lists of terms in Schur
-//! polynomials.
+//! The target s: the values of numbers, atoms, negations, sums and products, each an atom or a list
+//! of terms in Schur polynomials.
 ghost use Rattle.std.specs.Prelude.{ℕ, ◌≤◌, nat_eq, IsTrue, IfOk};
 ghost use Rattle.std.specs.Cmp.Lexicographic.{pointwise};
 ghost use Rattle.sym_model.specs.Expression.{Tree, degree, product};
@@ -23,7 +23,8 @@ use linear_combinations::Lin;
 use partitions::Partition;
 use std::alloc::Global;
 
-/// The target s. Its operations return `Large` if an intermediate number is too large.
+/// The target s, whose values are of the type `Operand`. Its operations return `Large` if an
+/// intermediate number is too large.
 #[derive(Clone, Copy)]
 pub(crate) struct Schurs;
 
@@ -77,7 +78,7 @@ impl Target for Schurs {
     ghost grows = { λ _ e f _ _. tt };
 }
 
-/// The list of an operand.
+/// The list of terms in Schur polynomials of an operand, which is an atom or such a list.
 fn list_of(alloc: Global, operand: Operand) -> Result<Lin<Partition, Frac>, SumFault>
     requires { (e : Tree) × IsOperand e operand × (degree e ≤ 20) }
     ensures { (e : Tree) → IsOperand e operand → IfOk result (StandsFor e) }
@@ -88,7 +89,7 @@ fn list_of(alloc: Global, operand: Operand) -> Result<Lin<Partition, Frac>, SumF
     }
 }
 
-/// The sum of two lists. The shorter one is added to the longer one.
+/// The sum of two lists of terms in Schur polynomials. The shorter list is added to the longer one.
 fn sum_of(
     first: Lin<Partition, Frac>,
     second: Lin<Partition, Frac>,
@@ -103,8 +104,9 @@ fn sum_of(
     first.add_all(&second)
 }
 
-/// The product of two operands. If one is an atom in e, h or p, the other is multiplied by it part
-/// by part.
+/// The product of two operands as a list of terms in Schur polynomials. If one of them is an atom
+/// e_λ, h_λ or p_λ, the other one is multiplied by e_k, h_k or p_k for one part k of λ after
+/// another.
 fn product_of(
     alloc: Global,
     left: Operand,
@@ -126,8 +128,8 @@ fn product_of(
     product(alloc, &first, &second)
 }
 
-/// The expression in Schur polynomials. Returns `Large` if an intermediate number is too large; the
-/// caller then uses another method.
+/// The expression `tree` as a list of terms in Schur polynomials. Returns `Large` if an
+/// intermediate number is too large; the caller then uses another method.
 pub(crate) fn converted(alloc: Global, tree: &Expr) -> Result<Lin<Partition, Frac>, SumFault>
     requires plain { IsTrue (has_no_signs tree.now) }
     requires low { degree (tree_of tree.now) ≤ 20 }

@@ -1,5 +1,5 @@
-//! Lists of terms in Schur polynomials times e_k, h_k and p_k, by the strips and the rim hooks of k
-//! cells.
+//! Products of a list of terms in Schur polynomials with e_k, h_k and p_k, by the vertical strips,
+//! horizontal strips and rim hooks of k cells.
 ghost use Rattle.std.specs.Prelude.{◌≡◌, ◌↔◌, ◌+◌, ◌<◌, ◌≤◌, ℕ, List, IsTrue, IfOk, IfSome};
 ghost use Rattle.sym_model.specs.Bases.{product_over};
 ghost use Rattle.sym_model.specs.Expansion.{schurs, IsExpansionOf};
@@ -20,12 +20,13 @@ use sparse_polys::Family;
 use std::alloc::Global;
 use strip_rules::times_family;
 
-/// The greatest numbers of cells and of rows of a label.
+/// A label has at most `MAX_CELLS` cells and at most `MAX_ROWS` rows.
 const MAX_CELLS: u16 = 4096;
 
 const MAX_ROWS: u16 = 512;
 
-/// Whether a label has room for k more cells.
+/// Whether `label`, with k more cells and k more rows, would be within the limits of labels: at
+/// most 4096 cells and at most 512 rows.
 fn can_grow(label: &Partition, k: u16) -> bool
     requires { k ≤ 512 }
     ensures { IsTrue result ↔ ((size label.now + k ≤ 4096) × (rows label.now + k ≤ 512)) }
@@ -33,7 +34,9 @@ fn can_grow(label: &Partition, k: u16) -> bool
     label.size() + k <= MAX_CELLS && label.rows() + k <= MAX_ROWS
 }
 
-/// Whether each label has room for k more cells. Labels from an expression always have.
+/// Whether each label of `list`, with k more cells and k more rows, would be within the limits of
+/// labels: at most 4096 cells and at most 512 rows. This always holds for the labels in the
+/// expansion of an expression.
 fn has_room(list: &Lin<Partition, Frac>, k: u16) -> bool
     requires { k ≤ 512 }
     ensures { IsTrue result ↔ HaveRoomForStrips k list.now }
@@ -46,7 +49,7 @@ fn has_room(list: &Lin<Partition, Frac>, k: u16) -> bool
     true
 }
 
-/// The list times e_k, h_k or p_k.
+/// The list in Schur polynomials, times e_k, h_k or p_k (`family` says which).
 fn times_part(
     alloc: Global,
     family: Family,
@@ -65,7 +68,8 @@ fn times_part(
     times_family(alloc, &list, family, k)
 }
 
-/// The list times e_k, h_k or p_k for each of the parts k.
+/// The list in Schur polynomials, times the product of e_k, h_k or p_k (`family` says which) over
+/// the parts k.
 pub(crate) fn times_parts(
     alloc: Global,
     family: Family,
@@ -86,7 +90,7 @@ pub(crate) fn times_parts(
     times_part(alloc, family, others, *k)
 }
 
-/// The family of e, h or p; None for m and s.
+/// The family of the basis e, h or p; None for the bases m and s.
 fn family_of(basis: Basis) -> Option<Family>
     ensures { IfSome result (λ family. basis_of basis ≡ basis_in family) }
 {
@@ -98,7 +102,8 @@ fn family_of(basis: Basis) -> Option<Family>
     }
 }
 
-/// The family and the partition of an operand that is an atom in e, h or p.
+/// The family and the partition of an operand that is an atom in e, h or p; None for other
+/// operands.
 pub(crate) fn factors_of(operand: &Operand) -> Option<(Family, &Partition)>
     ensures { IfSome result (λ factors. (e : Tree) → IsOperand e operand.now
         → e ≡ atom (basis_in factors.0) factors.1.now) }

@@ -1,4 +1,5 @@
-//! Horizontal strips removed from a shape, and from the shapes of a list.
+//! The shapes that remain if a horizontal strip is removed from a shape, or from each shape of a
+//! list.
 ghost use Rattle.std.specs.Prelude.{◌≡◌, ◌≤◌, ◌++◌, map, IfOk, OnOk};
 ghost use Rattle.sym_model.specs.Partition.{IsPartition, part, without_last_zeros};
 ghost use Rattle.partitions.specs.Limits.{IsWithinLimits};
@@ -12,15 +13,16 @@ use partitions::Partition;
 use sparse_polys::Whole;
 use std::alloc::Global;
 
-/// The length of the first row; 0 if there is none.
+/// The length of the first row; 0 if there are no rows.
 fn first_row(rows: &[u16]) -> u16
     ensures { result ≡ part rows.now 1 }
 {
     rows.first().copied().unwrap_or(0)
 }
 
-/// Adds to the list the rows that remain after a horizontal strip of k cells is removed, each below
-/// the rows of `above`, which is unchanged at the end. The first row has at least k cells.
+/// Removes a horizontal strip of k cells from `rows`, in all ways, and appends to `shapes` the
+/// shapes that have the rows of `above` and below them the rows that remain. The first of `rows`
+/// must have at least k cells; k must be 0 if there are no rows. At the end `above` is unchanged.
 fn add_strips(
     alloc: Global,
     k: u16,
@@ -40,7 +42,8 @@ fn add_strips(
         shapes.push(Partition::from_valid_numbers(alloc, above)?)?;
         return Ok(());
     };
-    // From the rows below at most as many cells can be removed as the first of them has.
+    // The first of the rows `below` has `next` cells, so at most `next` cells can be removed from
+    // them.
     let next = first_row(below);
     for cells in k.saturating_sub(next)..k.min(*row - next) + 1 {
         above.push(*row - cells)?;
@@ -50,7 +53,8 @@ fn add_strips(
     Ok(())
 }
 
-/// The shapes that remain after a horizontal strip of k cells is removed, each once.
+/// The shapes that remain if a horizontal strip of k cells is removed from the shape with the rows
+/// `rows`, in all ways, each shape once.
 fn strips_off(alloc: Global, k: u16, rows: &[u16]) -> Result<Vec<Partition>, NoMemory>
     requires { IsWithinLimits rows.now }
     ensures { IfOk result (λ shapes. shapes.items ≡ strips_off k rows.now) }
@@ -64,7 +68,8 @@ fn strips_off(alloc: Global, k: u16, rows: &[u16]) -> Result<Vec<Partition>, NoM
     Ok(shapes)
 }
 
-/// The rule that removes a horizontal strip of `cells` cells from a shape, in all ways.
+/// The rule that replaces a shape by the shapes that remain if a horizontal strip of `cells` cells
+/// is removed from it, in all ways.
 #[derive(Drop)]
 pub(crate) struct HorizontalStrip {
     pub(crate) alloc: Global,

@@ -1,4 +1,4 @@
-//! The trait of the targets in which an expression is evaluated.
+//! The trait of the targets: the bases in which an expression is evaluated, with their operations.
 ghost use Rattle.std.specs.Prelude.{◌≡◌, ℕ, ◌<◌, ◌≤◌, ◌^◌, ◌≤ℤ◌, pos, nat_abs};
 ghost use Rattle.sym_model.specs.Expression.{Tree, number, fraction, atom, negation, sum};
 ghost use Rattle.sym_model.specs.Expression.{difference, product};
@@ -11,20 +11,20 @@ use calc_base::{Basis, SumFault};
 use partitions::Partition;
 use std::alloc::Global;
 
-/// The values of expressions, and the operations that compute the value of a node from those of its
-/// operands. The contract of each call states which expression its value represents; it returns
-/// `Large` only if that expression is heavy.
+/// A target: a type of values of expressions, and the operations that compute the value of a node
+/// from those of its operands. The contract of each operation states which expression its result
+/// represents; it returns `Large` only if that expression is heavy (`heavy`).
 pub trait Target {
     /// The type of the value of an expression.
     type Value: Drop;
 
-    /// The greatest degree of an expression.
+    /// The greatest degree of an expression that is evaluated in the target.
     ghost limit: { ℕ };
 
     /// The relation between an expression and a value that represents it.
     ghost stands: { Self → Tree → Self.Value → Type 0 };
 
-    /// The expressions that may be refused as too large.
+    /// The property of the expressions for which `Large` may be returned.
     ghost heavy: { Self → Tree → Type 0 };
 
     /// The value of the number `num`/`den`.
@@ -36,19 +36,19 @@ pub trait Target {
         ensures fraction { IsMade (stands self.now) (heavy self.now)
             (fraction (nat_abs num) den) result };
 
-    /// The value of a partition in a basis.
+    /// The value of the basis polynomial of the partition `label` in `basis`.
     fn atom(&self, alloc: Global, basis: Basis, label: &Partition) -> Result<Self::Value, SumFault>
         requires { size label.now ≤ limit }
         ensures { IsMade (stands self.now) (heavy self.now)
             (atom (basis_of basis) label.now) result };
 
-    /// The value of the negation.
+    /// The value of the negation of an expression with the value `inner`.
     fn negated(&self, alloc: Global, inner: Self::Value) -> Result<Self::Value, SumFault>
         requires { (e : Tree) × IsTaken limit e × stands self.now e inner }
         ensures { (e : Tree) → IsTaken limit e → stands self.now e inner
             → IsMade (stands self.now) (heavy self.now) (negation e) result };
 
-    /// The value of the sum.
+    /// The value of the sum of two expressions with the values `left` and `right`.
     fn added(
         &self,
         alloc: Global,
@@ -58,7 +58,7 @@ pub trait Target {
         requires { AreOperands sum limit (stands self.now) left right }
         ensures { IsMadeOf sum limit (stands self.now) (heavy self.now) left right result };
 
-    /// The value of the product.
+    /// The value of the product of two expressions with the values `left` and `right`.
     fn multiplied(
         &self,
         alloc: Global,
@@ -68,7 +68,7 @@ pub trait Target {
         requires { AreOperands product limit (stands self.now) left right }
         ensures { IsMadeOf product limit (stands self.now) (heavy self.now) left right result };
 
-    /// A value of the sum with a negation represents the difference.
+    /// Each value that represents e + (-f) also represents e - f.
     ghost differs: { (t : Self) (e f : Tree) (v : Self.Value) → stands t (sum e (negation f)) v
         → stands t (difference e f) v };
 

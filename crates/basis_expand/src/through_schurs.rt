@@ -20,10 +20,11 @@ use partitions::Partition;
 use sparse_polys::divided;
 use std::alloc::Global;
 
-/// The greatest number of cells of a label that is changed into m.
+/// The greatest number of cells of a label of a list in s that is changed into m.
 const MAX_CELLS: u16 = 512;
 
-/// The least common denominator of the coefficients. Returns an error if it is 2^127 or more.
+/// The least common denominator of the coefficients of a list. Returns an error if it is 2^127 or
+/// more.
 fn denominator_of_all(list: &Lin<Partition, Frac>) -> Result<u128, Large>
     ensures { IfOk result (λ den. (den < 2 ^ 127) × IsCommonDenominator den list.now) }
 {
@@ -35,9 +36,9 @@ fn denominator_of_all(list: &Lin<Partition, Frac>) -> Result<u128, Large>
     Ok(den)
 }
 
-/// An expansion in s as an expansion in m: its fractions are cleared first, and each coefficient is
-/// divided at the end. Returns `Large` if an intermediate number is too large; the caller then uses
-/// another method.
+/// The expansion `list` in s, changed into an expansion in m: the list is multiplied by a common
+/// denominator first, and each coefficient of the result is divided by it. Returns `Large` if an
+/// intermediate number is too large; the caller then uses another method.
 fn in_monomials(
     alloc: Global,
     list: &Lin<Partition, Frac>,
@@ -55,8 +56,8 @@ fn in_monomials(
     divided(alloc, &answer, den)
 }
 
-/// The expansion in m by way of Schur polynomials. Returns `Large` if an intermediate number is too
-/// large.
+/// The expansion of a formula in m, computed from its expansion in Schur polynomials. Returns
+/// `Large` if an intermediate number is too large.
 fn by_schurs(alloc: Global, formula: &Formula) -> Result<Lin<Partition, Frac>, SumFault>
     ensures { let e = tree_of formula.now.tree in
         IfOk result (λ list. (n : ℕ)
@@ -66,9 +67,10 @@ fn by_schurs(alloc: Global, formula: &Formula) -> Result<Lin<Partition, Frac>, S
     in_monomials(alloc, &list)
 }
 
-/// Whether the way by Schur polynomials is faster; both ways give the same expansion. It is faster
-/// if each atom is in e, h or s, and either some atom is in s, or some atom is in h and a product
-/// occurs: a partition in e or h is expanded in m part by part, and products are faster in s.
+/// Whether expanding an expression in Schur polynomials first, and then in m, is faster than
+/// expanding it in m directly; both methods give the same expansion. It is faster if each atom is
+/// in e, h or s, and either some atom is in s, or some atom is in h and a product occurs: a
+/// partition in e or h is expanded in m part by part, and products are faster in s.
 fn goes_by_schurs(alloc: Global, tree: &Expr) -> Result<bool, NoMemory> {
     let mut schur = false;
     let mut complete = false;

@@ -1,4 +1,4 @@
--- The lines of a text, line by line, and the blocks of a batch, block by block.
+-- The lines of a text that begins with a given line, and the blocks of a batch whose lines are given in two parts.
 use Rattle.std.proofs.Common.{◌≡◌, ℕ, ◌==◌, ◌<◌, Bool, true, false, ◌&&◌, cond, List, [], ◌∷◌, ◌++◌, append_assoc, length, refl, sym, ap, ◌∙◌, Some}
 use Rattle.std.specs.Prelude.{codes}
 use Rattle.std.proofs.lemmas.Bool.{lt-ltb, ne_eqb}
@@ -9,7 +9,7 @@ use Rattle.sym_model.specs.NumberText.{split_at, before_first}
 use Rattle.batch_lines.specs.Feeds.{HasNoFeed}
 use Rattle.batch_lines.specs.Reading.{Took}
 
--- ---- the lines of a text
+-- ---- the lines of a text: the first line and the others, or one line without a line feed
 
 abbrev whole_lines : List (List ℕ) → List (List ℕ)
 whole_lines [] = []
@@ -50,7 +50,7 @@ pub line_last : (text : List ℕ) → HasNoFeed text → 0 < length text → lin
 line_last text h l =
     lines_are text ∙ ap whole_lines (split_one text h) ∙ ap (λ t. cond t (text ∷ []) []) (lt-ltb 0 (length text) l)
 
--- ---- the bytes read of a source that records its bytes
+-- ---- the bytes that were taken from a source that records its bytes
 
 pub told : (all rest taken : List ℕ) → Took (Some all) (Some rest) taken → all ≡ taken ++ rest
 told all rest taken h = h
@@ -58,7 +58,7 @@ told all rest taken h = h
 pub long_is : (text : List ℕ) → most_bytes < length text → batch_line text ≡ too_long
 long_is text h = ap (λ t. cond t too_long (line_of_words (words_of_line (without_return text)))) (lt-ltb most_bytes (length text) h)
 
--- ---- the blocks of two groups of lines, one after the other
+-- ---- the blocks of two lists of lines, one after the other
 
 pub more_blocks : (entries : List Entry) (lines more : List BatchLine) (blocks others : List Block) → AreBlocks entries lines blocks → AreBlocks entries more others
     → AreBlocks entries (lines ++ more) (blocks ++ others)

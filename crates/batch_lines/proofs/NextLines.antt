@@ -1,10 +1,10 @@
--- The next line of a source, which is read piece by piece.
+-- The next line of a source whose bytes are taken piece by piece.
 use Rattle.std.proofs.Common.{◌≡◌, ℕ, ◌+◌, ◌≤◌, Bool, true, false, List, [], ◌∷◌, ◌++◌, append_assoc, length, length-append, refl, sym, ap, ◌∙◌, subst, arith, Option, Some, None, inl, inr}
 use Rattle.std.specs.Prelude.{IfSome}
 use Rattle.std.specs.Io.KnownBytes.{IsAtEnd, Keeps}
 use Rattle.std.proofs.KnownBytes.{Consumes-trans, Consumes-kept}
 use Rattle.std.proofs.lemmas.Bool.{ltb-true, ltb-false}
-use Rattle.std.proofs.lemmas.List.{append-nil}
+use Rattle.std.proofs.lemmas.List.{append-nil, nil_from_length}
 use Rattle.sym_model.specs.BatchLine.{most_bytes}
 use Rattle.calc_base.specs.Source.{SourceSeen}
 use Rattle.batch_lines.specs.Feeds.{HasNoFeed}
@@ -23,7 +23,7 @@ took_nothing (Some rest) = refl
 pub took_more : (before between now : Option (List ℕ)) (first more : List ℕ) → Took before between first → Took between now more → Took before now (first ++ more)
 took_more before between now first more h k = Consumes-trans before between now first more h k
 
--- ---- the first bytes of a line, `text`, were read, and `pending` are the bytes that were read after them
+-- ---- the state after the first bytes `text` of a line were read; `pending` are the bytes that were taken and follow them
 
 pub record ReadsSo (before now : SourceSeen) (first pending kept : List ℕ) (is_long : Bool) : Type 0 where
   pub taken : List ℕ
@@ -35,7 +35,7 @@ pub record ReadsSo (before now : SourceSeen) (first pending kept : List ℕ) (is
   pub bytes : first ++ taken ≡ text ++ pending
   pub heard : IsHeard text kept is_long
 
--- ---- the line ends in the pending bytes
+-- ---- the case that the line ends within the pending bytes
 
 ended_at_feed : (text line : List ℕ) (is_long : Bool) (all pending : List ℕ) (now : Option (List ℕ)) → IsHeard text line is_long → EndsAtFeed all text pending
     → IsNext (next_at_feed is_long) all text pending now line
@@ -61,7 +61,7 @@ ends {before = before} {now = now} {first = first} {pending = pending} {behind =
           (ended_at_feed (r.text ++ h.part) line heard.is_long (first ++ r.taken) behind now.left h.heard all);
     }
 
--- ---- the line does not end in the pending bytes
+-- ---- the case that the line does not end within the pending bytes, so that more are taken from the source
 
 pub goes_on : {before now later : SourceSeen} {first pending kept behind line piece : List ℕ} {is_long : Bool} (heard : Heard)
     → (r : ReadsSo before now first pending kept is_long) → Hears r.text pending behind line heard → heard.has_ended ≡ false
@@ -82,7 +82,7 @@ goes_on {before = before} {now = now} {later = later} {first = first} {pending =
       heard = h.heard;
     }
 
--- ---- the source fails before the line ends
+-- ---- the case that the source fails before the line ends
 
 pub cuts : {before now : SourceSeen} (later : Option (List ℕ)) {first pending kept behind line : List ℕ} {is_long : Bool} (heard : Heard)
     → (r : ReadsSo before now first pending kept is_long) → Hears r.text pending behind line heard → heard.has_ended ≡ false
@@ -96,11 +96,7 @@ cuts {before = before} {now = now} later {first = first} {pending = pending} {be
           subst HasNoFeed (sym (r.bytes ∙ ap (λ xs. r.text ++ xs) cut.0)) (no_feed_append r.text h.part r.no_feed h.no_feed);
     }
 
--- ---- the source ends before a line feed
-
-no_bytes : (piece : List ℕ) → length piece ≡ 0 → piece ≡ []
-no_bytes [] h = refl
-no_bytes (b ∷ piece) h = absurd (omega (arith, h))
+-- ---- the case that the source ends before a line feed
 
 told_end : (later : Option (List ℕ)) → IsAtEnd later → IfSome later (λ rest. rest ≡ [])
 told_end None h = tt
@@ -120,7 +116,7 @@ pub stops : {before now later : SourceSeen} {first pending kept behind line piec
     → next ≡ next_at_end line heard.is_long → ReadsNext before later first piece line true next
 stops {before = before} {now = now} {later = later} {first = first} {pending = pending} {behind = behind} {line = line} {piece = piece} heard next r h e t s z q n =
     let cut : (pending ≡ h.part) × (behind ≡ []) = subst (IsTaken h.part pending behind) e h.taken in
-    let none = no_bytes piece z in
+    let none = nil_from_length piece z in
     let text = r.text ++ h.part in
     let at_end : EndsAtEnd (first ++ r.taken) text piece later.left =
     record { whole = r.bytes ∙ ap (λ xs. r.text ++ xs) cut.0; none_pending = none; none_left = told_end later.left q } in

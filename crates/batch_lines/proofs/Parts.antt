@@ -1,7 +1,7 @@
--- Parts of a list of bytes, and texts without a line feed.
-use Rattle.std.proofs.Common.{◌≡◌, ℕ, zero, suc, ◌+◌, ◌-◌, ◌<◌, ◌≤◌, List, [], ◌∷◌, ◌++◌, length, take, drop, get_or, refl, sym, ap, ◌∙◌, subst, arith}
+-- Bytes without a line feed, and bytes of which the first ones are dropped.
+use Rattle.std.proofs.Common.{◌≡◌, ℕ, zero, suc, ◌+◌, ◌-◌, ◌<◌, ◌≤◌, List, [], ◌∷◌, ◌++◌, length, take, drop, get_or, sym, ap, ◌∙◌, subst, arith}
 use Rattle.std.specs.Prelude.{Option, Some, None, true, is_some, slice_index, slice_range, MatchOption}
-use Rattle.std.proofs.lemmas.List.{take_more, length-take, drop-take}
+use Rattle.std.proofs.lemmas.List.{take_more, length-take, drop-take, drop-drop}
 use Rattle.batch_lines.specs.Feeds.{HasNoFeed}
 
 pub no_feed_append : (xs ys : List ℕ) → HasNoFeed xs → HasNoFeed ys → HasNoFeed (xs ++ ys)
@@ -16,21 +16,12 @@ some_feed [] at h is none = absurd (omega (arith, h))
 some_feed (b ∷ bytes) zero h is none = none.0 is
 some_feed (b ∷ bytes) (suc at) h is none = some_feed bytes at (omega (arith, h)) is none.1
 
--- if a search for a line feed found a place, the bytes have a line feed
+-- if the search for a line feed returned an index, the bytes have a line feed
 pub found_feed : (bytes : List ℕ) (found : Option ℕ)
     → MatchOption found (HasNoFeed bytes) (λ at. (at < length bytes) × HasNoFeed (take at bytes) × (slice_index bytes at ≡ 10))
     → is_some found ≡ true → HasNoFeed bytes → ⊥
 found_feed bytes None m some none = cc
 found_feed bytes (Some at) m some none = some_feed bytes at m.0 m.2 none
-
-drop_nothing : (n : ℕ) → ◌≡◌ {A = List ℕ} (drop n []) []
-drop_nothing zero = refl
-drop_nothing (suc n) = refl
-
-drop_more : (n m : ℕ) (xs : List ℕ) → drop (n + m) xs ≡ drop m (drop n xs)
-drop_more zero m xs = ap (λ k. drop k xs) (let e : 0 + m ≡ m = omega arith in e)
-drop_more (suc n) m [] = drop_nothing (suc n + m) ∙ sym (drop_nothing m)
-drop_more (suc n) m (x ∷ xs) = ap (λ k. drop k (x ∷ xs)) (let e : suc n + m ≡ suc (n + m) = omega arith in e) ∙ drop_more n m xs
 
 pub skipped : (bytes : List ℕ) (start end count : ℕ) → start ≤ end → end ≤ length bytes → count ≤ length (slice_range bytes start end)
     → slice_range bytes (start + count) end ≡ drop count (slice_range bytes start end)
@@ -38,5 +29,5 @@ skipped bytes start end count h k l =
     let t = length-take (end - start) (drop start bytes) in
     let m = end - (start + count) in
     let e : end - start ≡ count + m = omega (arith, h, l, t) in
-    ap (take m) (drop_more start count bytes)
+    ap (take m) (sym (drop-drop count start bytes))
     ∙ sym (ap (λ n. drop count (take n (drop start bytes))) e ∙ drop-take count m (drop start bytes))

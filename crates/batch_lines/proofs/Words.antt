@@ -1,4 +1,4 @@
--- The words of a line, piece by piece.
+-- The text of a line of `work`, written word by word.
 use Rattle.std.proofs.Common.{◌≡◌, ◌≤◌, ◌<◌, ℕ, zero, suc, ◌+◌, ◌-◌, min, max, List, [], ◌∷◌, ◌++◌, append_assoc, append-nil, map, length, refl, sym, ap, ◌∙◌, arith, flat_map}
 use Rattle.std.specs.Prelude.{codes, decimal}
 use Rattle.std.proofs.lemmas.Fmt.{length-decimal-le}
@@ -11,7 +11,7 @@ use Rattle.batch_lines.specs.Parts.{behind_spaces, past}
 pub one_digit : (n : ℕ) → n < 10 → length (decimal n) ≤ 1
 one_digit n h = length-decimal-le 1 n (omega arith) h (omega (arith, h))
 
--- ---- words with a space between them are a word and further ones after spaces
+-- ---- a text of words with a space between two of them is the first word, followed by the others, each after a space
 
 abbrev pub word : ℕ → List ℕ
 word n = codes " " ++ decimal n
@@ -29,7 +29,8 @@ each_numbers (n ∷ numbers) more =
     ap (λ t. (codes " " ++ decimal n) ++ t) (each_numbers numbers more)
     ∙ sym (append_assoc (codes " " ++ decimal n) (behind_spaces numbers) (flat_map (λ w. codes " " ++ w) more))
 
--- the text of a name, numbers, a sign and other numbers is made of their texts with spaces between them
+-- the text of a name, some numbers, a sign and further numbers, with a space between two of these words, is the name, followed by the numbers, the
+-- sign and the further numbers, each after a space
 pub between_text : (name sign : List ℕ) (first second : List ℕ)
     → separated (codes " ") (name ∷ (map decimal first ++ (sign ∷ map decimal second)))
     ≡ name ++ (behind_spaces first ++ ((codes " " ++ sign) ++ behind_spaces second))
@@ -42,7 +43,7 @@ between_text name sign first second =
     last [] = refl
     last (n ∷ numbers) = ap (λ t. (codes " " ++ decimal n) ++ t) (last numbers)
 
--- ---- the four letters of a permutation, by its code
+-- ---- the four letters of a permutation, computed from its code
 
 abbrev R : ℕ → ℕ → ℕ → ℕ
 R a c q = past (past (c + 1) (min (a + 1) q)) (max (a + 1) q)
@@ -111,7 +112,7 @@ four_words old p q r s =
     ∙ append_assoc old (word p) (word q ++ (word r ++ word s))
     ∙ ap (λ t. old ++ (word p ++ (word q ++ (word r ++ t)))) (sym (append-nil (word s)))
 
--- ---- the whole line that is drawn
+-- ---- the whole line that is drawn from a state of the generator
 
 kind_is : (x k kind : ℕ) → k ≡ drawn 1 5 x → k ≡ kind → separated (codes " ") (words_drawn kind (draw x)) ≡ work_line x
 kind_is x k kind d e = ap (λ j. separated (codes " ") (words_drawn j (draw x))) (sym e ∙ d)

@@ -1,4 +1,4 @@
--- The progress of a batch, and its end.
+-- The progress of a batch, the status at its end, and the call of `finish` on its sink.
 use Rattle.std.specs.Prelude.{◌≡◌, ℕ, List, [], Bool, true, false, ◌&&◌, codes, cond}
 use Rattle.calc_base.specs.declared.status.Status.{Status}
 use Rattle.calc_base.specs.declared.status.Status.TheVariants as status
@@ -22,12 +22,12 @@ is_done_status status.SinkFault = false
 is_done_status status.SourceFault = false
 is_done_status status.NoMemory = false
 
--- the progress of a batch after one more block, with this status
+-- the progress of a batch after one more block, whose line ended with the status `answer`
 abbrev pub progress_after : Progress → Status → Progress
 progress_after progress answer =
     record { is_first = false; is_done = progress.is_done && is_done_status answer }
 
--- the status at the end, if neither the source nor the sink fails
+-- the status at the end of a batch with this progress, if neither the source nor the sink fails
 abbrev pub end_status : Progress → Status
 end_status progress = cond progress.is_done status.Done status.SomeRefused
 
@@ -35,7 +35,7 @@ end_status progress = cond progress.is_done status.Done status.SomeRefused
 abbrev pub status_where : Bool → Status → Status
 status_where well answer = cond well answer status.SinkFault
 
--- The sink is finished, and the result is the status; or `finish` failed, and it is `SinkFault`.
+-- `finish` succeeded and the result is the status `answer`; or `finish` failed, and the result is `SinkFault`.
 pub record Finishes (old new : SinkSeen) (answer result : Status) : Type 0 where
   pub well : Bool
   pub puts : Puts true old well new []

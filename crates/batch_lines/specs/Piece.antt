@@ -1,7 +1,7 @@
--- The part that is left of a piece of bytes.
+-- The bytes of a buffer that are not yet read: those from `start` to `end`.
 use Rattle.std.specs.Prelude.{ℕ, ◌≤◌, List, length}
 
--- the places `start` and `end` are in order and within the bytes
+-- the indices satisfy start ≤ end, and `end` is at most the number of bytes
 pub record IsPart (bytes : List ℕ) (start end : ℕ) : Type 0 where
   pub order : start ≤ end
   pub within : end ≤ length bytes

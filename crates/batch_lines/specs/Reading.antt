@@ -11,7 +11,7 @@ use Rattle.batch_lines.specs.declared.next.Next.TheVariants.{Line, TooLong, End}
 use Rattle.batch_lines.specs.declared.next.LineFault.{LineFault}
 use Rattle.batch_lines.specs.declared.next.LineFault.TheVariants.{SourceFault, NoMemory}
 
--- the most bytes that are taken from the source at a time, and so the most that are pending
+-- the greatest number of bytes that one call takes from the source; at most this number of bytes are taken and not yet read
 abbrev pub most_pending : ℕ
 most_pending = 4096
 
@@ -30,24 +30,25 @@ Took before now taken = Consumes before now taken
 abbrev pub EndsAtFeed : List ℕ → List ℕ → List ℕ → Type 0
 EndsAtFeed all text pending = all ≡ text ++ 10 ∷ pending
 
--- the bytes are the text of a line that has no line feed, and the source has ended
+-- the bytes `all` are the text of a line without a line feed, no bytes are pending after it, and nothing is left in
+-- the source
 pub record EndsAtEnd (all text pending : List ℕ) (left : Option (List ℕ)) : Type 0 where
   pub whole : all ≡ text
   pub none_pending : pending ≡ []
   pub none_left : IfSome left (λ rest. rest ≡ [])
 
--- if the source has ended, nothing is left in it
+-- if the flag says that the source has ended, nothing is left in it
 abbrev pub IsAtEnd : Bool → Option (List ℕ) → Type 0
 IsAtEnd false left = Unit {0}
 IsAtEnd true left = IfSome left (λ rest. rest ≡ [])
 
--- the end of a line: a line feed, or the end of the source
+-- the line `text` at the front of the bytes `all` ends at a line feed (`false`), or at the end of the source (`true`)
 abbrev pub EndsBy : Bool → (all text pending : List ℕ) → Option (List ℕ) → Type 0
 EndsBy false all text pending left = EndsAtFeed all text pending
 EndsBy true all text pending left = EndsAtEnd all text pending left
 
--- the result of reading a line: a line of at most 4,096 bytes, a longer one, or the end; after the last line feed there
--- is a line only if there are bytes
+-- the result of reading the line `text`: `Line` if it has at most 4,096 bytes, `TooLong` if it has more, and `End` if
+-- the source has ended and there are no bytes after the last line feed
 abbrev pub IsNext : Next → (all text pending : List ℕ) → Option (List ℕ) → (line : List ℕ) → Type 0
 IsNext Line all text pending left line =
     (line ≡ text) × (length text ≤ most_bytes)
@@ -56,7 +57,7 @@ IsNext TooLong all text pending left line =
     (most_bytes < length text) × (EndsAtFeed all text pending ⊎ EndsAtEnd all text pending left)
 IsNext End all text pending left line = (text ≡ []) × EndsAtEnd all text pending left
 
--- the bytes `taken` were taken from the source, and the next line was read from the pending bytes followed by them
+-- the bytes `taken` were taken from the source, and the next line was read from the pending bytes followed by `taken`
 pub record ReadsNext (before now : SourceSeen) (pending left_pending line : List ℕ)
     (has_ended : Bool) (next : Next) : Type 0 where
   pub taken : List ℕ
@@ -67,18 +68,19 @@ pub record ReadsNext (before now : SourceSeen) (pending left_pending line : List
   pub ends : EndsBy has_ended (pending ++ taken) text left_pending now.left
   pub is_next : IsNext next (pending ++ taken) text left_pending now.left line
 
--- the result of reading a line that a line feed ended, given whether the line is too long
+-- the result of reading a line that ends at a line feed, given whether the line is too long
 abbrev pub next_at_feed : Bool → Next
 next_at_feed true = TooLong
 next_at_feed false = Line
 
--- the result if the source has ended, given the bytes of the last line and whether it is too long
+-- the result of reading a line after which the source has ended, given the bytes of the line and whether it is too
+-- long
 abbrev pub next_at_end : List ℕ → Bool → Next
 next_at_end line true = TooLong
 next_at_end [] false = End
 next_at_end (byte ∷ line) false = Line
 
--- the count of faults is one more after `SourceFault`, and unchanged otherwise
+-- the source's count of faults is one more (`Rose`) if the result is `SourceFault`, and unchanged otherwise
 abbrev pub CountsLine : (before now : ℕ) → Result Next LineFault → Type 0
 CountsLine before now (Ok next) = now ≡ before
 CountsLine before now (Err SourceFault) = Rose before now
@@ -90,8 +92,8 @@ pub record TookPart (before now : Option (List ℕ)) (pending : List ℕ) : Type
   pub took : Took before now taken
   pub no_feed : HasNoFeed (pending ++ taken)
 
--- if the source failed, it had not ended before, and neither the pending bytes nor those that were taken from it
--- have a line feed
+-- if the result is `SourceFault`, the source had not ended before, and neither the pending bytes nor those that were
+-- taken from the source have a line feed
 abbrev pub CutsLine : (before now : Option (List ℕ)) → List ℕ → (had_ended : Bool)
     → Result Next LineFault → Type 0
 CutsLine before now pending had_ended (Ok next) = Unit {0}

@@ -1,10 +1,11 @@
--- The numbers of terms and bytes, added up over the blocks of a workload.
+-- The numbers of blocks, terms and bytes, added up over the blocks (the texts of answers or refusals) of the lines of
+-- a workload.
 use Rattle.std.specs.Prelude.{ℕ, ◌+◌, ◌*◌, ◌^◌, ◌≤◌, List, ◌++◌, map, length, codes, decimal}
 use Rattle.sym_model.specs.Partition.{size}
 use Rattle.sym_model.specs.Workload.{terms_in}
 use Rattle.batch_lines.specs.declared.sums.Sums.{Sums}
 
--- the sums over blocks: the numbers of blocks, terms and bytes
+-- the sums over a list of blocks, given by their texts: the numbers of blocks, terms and bytes
 abbrev pub sums_over : List (List ℕ) → Sums
 sums_over blocks =
     record {
@@ -13,12 +14,12 @@ sums_over blocks =
       bytes = size (map length blocks);
     }
 
--- the sums after one more block
+-- the sums after one more block, given by its text
 abbrev pub sums_with : Sums → List ℕ → Sums
 sums_with s block =
     record { lines = s.lines + 1; terms = s.terms + terms_in block; bytes = s.bytes + length block }
 
--- the sums of terms and bytes are at most 2^64 for each block, so that they fit in 128 bits
+-- the numbers of terms and of bytes are at most 2^64 times the number of blocks, so that they fit in 128 bits
 pub record AreSmall (s : Sums) : Type 0 where
   pub terms : s.terms ≤ s.lines * 2 ^ 64
   pub bytes : s.bytes ≤ s.lines * 2 ^ 64

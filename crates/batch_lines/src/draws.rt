@@ -1,10 +1,11 @@
-//! Draws of the pseudo-random generator whose lines the command `work` runs.
+//! Draws of the pseudo-random generator from which the command `work` generates its lines.
 
 ghost use Rattle.std.specs.Prelude.{◌≡◌, ◌<◌, ◌≤◌, ◌%◌};
 ghost use Rattle.sym_model.specs.Workload.{draw as next_state, after_draws};
 ghost use Rattle.batch_lines.specs.Parts.{AreFalling, parts_drawn};
 
-/// Three weakly decreasing numbers.
+/// Three weakly decreasing numbers: the parts of a partition with at most three parts, followed by
+/// zeros.
 #[derive(Clone, Copy, Debug)]
 pub(crate) struct Parts {
     pub first: u8,
@@ -12,7 +13,7 @@ pub(crate) struct Parts {
     pub third: u8,
 }
 
-/// Advances the state by one draw, and returns it.
+/// Advances the state of the generator by one draw, and returns the new state.
 pub(crate) fn draw(state: &mut u32) -> u32
     requires { state.old ≤ 65536 }
     ensures moved { state.new ≡ next_state state.old }
@@ -23,7 +24,7 @@ pub(crate) fn draw(state: &mut u32) -> u32
     *state
 }
 
-/// Advances the state by one draw, and returns it modulo a number.
+/// Advances the state of the generator by one draw, and returns the new state modulo `modulus`.
 pub(crate) fn draw_below(state: &mut u32, modulus: u8) -> u8
     requires within { state.old ≤ 65536 }
     requires some { 0 < modulus }
@@ -35,7 +36,8 @@ pub(crate) fn draw_below(state: &mut u32, modulus: u8) -> u8
     (draw(state) % u32::from(modulus)) as u8
 }
 
-/// Three parts from three draws a, b and c modulo a number of at most 4: a + b + c, b + c and c.
+/// The three numbers a + b + c, b + c and c, for three draws a, b and c modulo `modulus`, which is
+/// from 1 to 4.
 pub(crate) fn draw_parts(state: &mut u32, modulus: u8) -> Parts
     requires within { state.old ≤ 65536 }
     requires some { 0 < modulus }

@@ -1,17 +1,17 @@
-//! The text between two blocks, and the end of the sink.
+//! The text between two blocks of a batch, and the call of `finish` at the end of a command.
 ghost use Rattle.std.specs.Prelude.{◌≡◌};
 ghost use Rattle.batch_lines.specs.Ends.{separator, status_where, Finishes};
 
 use calc_base::{Sink, Status};
 
-/// The text before a block: the line `--`, and nothing before the first block.
+/// The text before a block of a batch: the line `--`, and nothing before the first block.
 pub fn separator(is_first: bool) -> &'static [u8]
     ensures { result.now ≡ separator is_first }
 {
     if is_first { b"" } else { b"--\n" }
 }
 
-/// Finishes the sink and returns the status, or `SinkFault` if `finish` failed.
+/// Calls `finish` on the sink, and returns the given status, or `SinkFault` if `finish` failed.
 pub fn finished<K: Sink>(status: Status, sink: &mut K) -> Status
     ensures { Finishes (K.seen sink.old) (K.seen sink.new) status result }
 {

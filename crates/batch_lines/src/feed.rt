@@ -1,8 +1,8 @@
-//! The end of a line.
+//! The search for the first line feed of some bytes.
 ghost use Rattle.std.specs.Prelude.{◌≡◌, ◌<◌, length, take, slice_index, MatchOption};
 ghost use Rattle.batch_lines.specs.Feeds.{HasNoFeed};
 
-/// The place of the first line feed, if there is one.
+/// The index of the first line feed, counted from 0, if there is one.
 pub(crate) fn first_feed(bytes: &[u8]) -> Option<usize>
     ensures { MatchOption result (HasNoFeed bytes.now)
         (λ at. (at < length bytes.now) × HasNoFeed (take at bytes.now)

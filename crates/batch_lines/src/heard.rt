@@ -1,4 +1,4 @@
-//! The bytes that are kept of a line while it is read.
+//! The bytes of a line that are stored while it is read: at most 4,096.
 ghost use Rattle.std.specs.Prelude.{◌≡◌, ◌≤◌, ◌++◌, false, length, List, ℕ, IfOk};
 ghost use Rattle.batch_lines.specs.Heard.{IsHeard, Hears};
 ghost use Rattle.batch_lines.specs.Reading.{most_pending};
@@ -7,18 +7,20 @@ use crate::feed::first_feed;
 use crate::pieces::Pieces;
 use calc_base::NoMemory;
 
-/// The most bytes of a line before its line feed.
+/// The greatest number of bytes of a line, without its line feed.
 const MOST_BYTES: usize = 4096;
 
-/// Whether a line has too many bytes so far, and whether it has ended.
+/// The state of a line while it is read: whether it has more than 4,096 bytes so far, and whether
+/// it has ended.
 #[derive(Clone, Copy, Debug)]
 pub(crate) struct Heard {
     pub is_long: bool,
     pub has_ended: bool,
 }
 
-/// Appends bytes to a line, unless it has or would then have more than 4,096 bytes, and returns
-/// whether it does. Fails only if memory runs out.
+/// Appends `bytes` to the line and returns false, if the line then has at most 4,096 bytes. If it
+/// would have more, or if `is_long` says that it is already too long, appends nothing and returns
+/// true. Fails only if memory runs out.
 fn add(line: &mut Vec<u8>, is_long: bool, bytes: &[u8]) -> Result<bool, NoMemory>
     ensures { (text : List ℕ) → IsHeard text line.old.items is_long
         → IfOk result (λ long. IsHeard (text ++ bytes.now) line.new.items long) }
@@ -30,8 +32,8 @@ fn add(line: &mut Vec<u8>, is_long: bool, bytes: &[u8]) -> Result<bool, NoMemory
     Ok(false)
 }
 
-/// Reads the bytes that were taken from the source up to the end of the line, and appends them to
-/// the line unless it is too long.
+/// Reads the bytes of `pieces` up to the first line feed, or all bytes if there is no line feed.
+/// The bytes before the line feed are appended to the line, unless it is or becomes too long.
 pub(crate) fn hear(
     pieces: &mut Pieces,
     line: &mut Vec<u8>,

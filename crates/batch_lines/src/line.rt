@@ -1,4 +1,4 @@
-//! One line of a workload.
+//! One line of a workload, that is, of the lines that are generated for the command `work`.
 
 ghost use Rattle.std.specs.Prelude.{◌≡◌, ◌≤◌, ◌<◌, ◌++◌, [], length};
 ghost use Rattle.sym_model.specs.Workload.{work_line as line_from, after_line, after_draws};
@@ -9,11 +9,12 @@ use crate::LineBuf;
 use crate::draws::{draw_below, draw_parts};
 use crate::numbers::{put_list, put_partition, put_permutation};
 
-/// Writes to `out` the line that the generator gives from `state` on, and advances the state, which
-/// is at most 65,536, to the next line. No memory is allocated.
+/// Writes to `out` the line that the generator gives for the state `state`, and advances the state,
+/// which is at most 65,536, to that for the next line. No memory is allocated.
 ///
-/// A draw modulo 5 picks the command, `mult`, `skew`, `coprod`, `schubmult` or `expand p m[..]`,
-/// and further draws its partitions, of at most three parts, or its permutations of four letters.
+/// A draw modulo 5 selects the command, `mult`, `skew`, `coprod`, `schubmult` or `expand p m[..]`,
+/// and further draws give its partitions, of at most three parts, or its permutations of four
+/// letters.
 pub fn work_line(state: &mut u32, out: &mut LineBuf)
     requires { state.old ≤ 65536 }
     ensures line { out.new ≡ line_from state.old }
@@ -42,7 +43,8 @@ pub fn work_line(state: &mut u32, out: &mut LineBuf)
     }
 }
 
-/// Writes `name`, a partition drawn modulo `modulus`, `sign`, and a partition drawn modulo `other`.
+/// Writes to `out`, which is empty, the text `name`, a partition of three draws modulo `modulus`
+/// (`draw_parts`), the text `sign`, and a partition of three draws modulo `other`.
 fn put_pair(name: &[u8], modulus: u8, sign: &[u8], other: u8, state: &mut u32, out: &mut LineBuf)
     requires within { state.old ≤ 65536 }
     requires some { 0 < modulus }

@@ -1,14 +1,15 @@
-//! A buffer for one line.
+//! A buffer for one line of a workload.
 
 ghost use Rattle.std.specs.Prelude.{◌≡◌, ◌+◌, ◌<◌, ◌≤◌, [], ◌++◌, length, codes, decimal};
 
 use itoa::Buffer;
 use std::marker::Model;
 
-/// The most bytes of a line.
+/// The greatest number of bytes of a line of a workload.
 const CAPACITY: usize = 64;
 
-/// A buffer of 64 bytes with a length. A contract sees the bytes that it holds.
+/// A buffer of 64 bytes with a length. In contracts, its value is the list of the bytes up to its
+/// length.
 #[derive(Drop)]
 pub struct LineBuf {
     bytes: [u8; CAPACITY],

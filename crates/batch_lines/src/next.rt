@@ -1,11 +1,11 @@
-//! The results and errors of reading a line.
+//! The results and the errors of reading the next line.
 ghost use Rattle.std.specs.Prelude.{◌≡◌};
 ghost use Rattle.batch_lines.specs.declared.next.LineFault.TheVariants.{NoMemory as no_memory};
 
 use calc_base::NoMemory;
 use thiserror::Error;
 
-/// The result of reading a line.
+/// The result of reading the next line.
 #[derive(Clone, Copy, Debug, PartialEq, Eq, Hash)]
 pub enum Next {
     /// A line of at most 4,096 bytes.

@@ -1,4 +1,4 @@
-//! The numbers of a line: partitions and permutations.
+//! The partitions and permutations in the lines of a workload: they are drawn and written.
 
 ghost use Rattle.std.specs.Prelude.{◌≡◌, ◌+◌, ◌<◌, ◌≤◌, [], ◌∷◌, ◌++◌, length};
 ghost use Rattle.sym_model.specs.Partition.{without_last_zeros};
@@ -11,7 +11,8 @@ ghost use Rattle.batch_lines.specs.Parts.{AreFalling, behind_spaces, numbers_of,
 use crate::LineBuf;
 use crate::draws::{Parts, draw_below, draw_parts};
 
-/// Draws a partition and appends its parts, each after a space.
+/// Appends the parts of a partition, each after a space; the partition is given by three draws
+/// modulo `modulus` (`draw_parts`).
 pub(crate) fn put_partition(state: &mut u32, modulus: u8, out: &mut LineBuf)
     requires within { state.old ≤ 65536 }
     requires some { 0 < modulus }
@@ -70,7 +71,8 @@ pub(crate) fn put_list(parts: Parts, out: &mut LineBuf)
     out.put_digit(parts.third);
 }
 
-/// Draws a code of four letters and appends the letters of its permutation, each after a space.
+/// Draws the code of a permutation of four letters, and appends the letters of the permutation,
+/// each after a space.
 pub(crate) fn put_permutation(state: &mut u32, out: &mut LineBuf)
     requires within { state.old ≤ 65536 }
     requires room { length out.old ≤ 56 }
@@ -86,7 +88,8 @@ pub(crate) fn put_permutation(state: &mut u32, out: &mut LineBuf)
     put_letters(first, second, third, out);
 }
 
-/// Appends the letters of the permutation with this code, each after a space.
+/// Appends the letters of the permutation of four letters with the code (first, second, third, 0),
+/// each after a space.
 fn put_letters(first: u8, second: u8, third: u8, out: &mut LineBuf)
     requires below_4 { first < 4 }
     requires below_3 { second < 3 }
@@ -102,12 +105,12 @@ fn put_letters(first: u8, second: u8, third: u8, out: &mut LineBuf)
     out.put_word(a);
     out.put_word(b);
     out.put_word(c);
-    // The four letters add up to 10.
+    // The four letters of the permutation add up to 10.
     out.put_word(10 - a - b - c);
 }
 
-/// The letter with the index `letter` among the letters other than `other`: one more than `letter`
-/// if `other` is not greater than `letter`.
+/// The letter with the number `letter` among the letters 1, 2, .. other than `other`: `letter`
+/// itself if it is less than `other`, and otherwise one more.
 fn past_one(letter: u8, other: u8) -> u8
     requires { letter ≤ 4 }
     ensures { result ≡ past letter other }

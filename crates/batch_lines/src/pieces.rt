@@ -1,4 +1,4 @@
-//! A buffer of bytes that were taken from a source.
+//! A buffer of bytes that were taken from a source and not yet read.
 ghost use Rattle.std.specs.Prelude.{◌≡◌, ◌≤◌, ◌==◌, [], length, drop, OnErr, IfOk};
 ghost use Rattle.std.specs.Io.KnownBytes.{Consumes, IsAtEnd, Keeps};
 ghost use Rattle.calc_base.specs.Fault.{CountsFaults};
@@ -8,10 +8,10 @@ ghost use Rattle.batch_lines.specs.Reading.{most_pending};
 use calc_base::{Source, SourceFault};
 use std::marker::Model;
 
-/// The most bytes that are taken at a time.
+/// The greatest number of bytes that are taken from the source by one call.
 const PIECE: usize = 4096;
 
-/// The bytes that were taken and not yet read.
+/// The bytes that were taken from the source and not yet read.
 #[derive(Drop)]
 pub(crate) struct Pieces {
     bytes: [u8; PIECE],
@@ -50,7 +50,7 @@ impl Pieces {
         &self.bytes[self.start..self.end]
     }
 
-    /// Drops the first bytes.
+    /// Drops the first `count` bytes, which have been read.
     pub(crate) fn skip(&mut self, count: usize)
         requires { count ≤ length self.old }
         ensures { self.new ≡ drop count self.old }
@@ -58,7 +58,7 @@ impl Pieces {
         self.start += count;
     }
 
-    /// Replaces the bytes with the next ones of the source, and returns their number.
+    /// Replaces the bytes of the buffer with the next ones of the source, and returns their number.
     pub(crate) fn refill<S: Source>(&mut self, source: &mut S) -> Result<usize, SourceFault>
         ensures count { IfOk result (λ count. count ≡ length self.new) }
         ensures taken { IfOk result (λ _.

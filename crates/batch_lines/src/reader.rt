@@ -1,4 +1,4 @@
-//! A reader of lines.
+//! A reader of the lines of a source.
 ghost use Rattle.std.specs.Prelude.{◌≡◌, ◌≤◌, ℕ, List, [], true, false, length, IfOk, OnErr};
 ghost use Rattle.std.specs.Prelude.{vec_len};
 ghost use Rattle.sym_model.specs.BatchLine.{most_bytes};
@@ -14,10 +14,10 @@ use calc_base::{NoMemory, Source};
 use std::alloc::Global;
 use std::marker::Model;
 
-/// The most bytes of a line before its line feed.
+/// The greatest number of bytes of a line, without its line feed.
 const MOST_BYTES: usize = 4096;
 
-/// A reader of lines from a source, which takes at most 4,096 bytes at a time.
+/// A reader of the lines of a source. It takes at most 4,096 bytes from the source at a time.
 #[derive(Drop)]
 pub struct LineReader {
     pieces: Pieces,
@@ -37,8 +37,8 @@ impl Model for LineReader {
 }
 
 impl LineReader {
-    /// A reader that has taken nothing. The memory for a line is allocated here, so this fails only
-    /// if memory runs out.
+    /// A reader that has not taken any bytes from its source yet. The memory for a line is
+    /// allocated here, so this fails only if memory runs out.
     pub fn new(alloc: Global) -> Result<LineReader, NoMemory>
         ensures { IfOk result (λ r. r ≡ record { pending = []; line = []; has_ended = false }) }
     {
@@ -49,14 +49,16 @@ impl LineReader {
         })
     }
 
-    /// The bytes, without the line feed, of the line that was read last, if it had at most 4,096.
+    /// The bytes, without the line feed, of the line that was read last, if these are at most
+    /// 4,096.
     pub fn line(&self) -> &[u8]
         ensures { result.now ≡ self.now.line }
     {
         self.line.as_slice()
     }
 
-    /// Whether a complete line was taken and not yet read, so that `next` does not call the source.
+    /// Whether a complete line was taken from the source and not yet read, so that `next` does not
+    /// call the source.
     pub fn has_line(&self) -> bool
         ensures some { result ≡ true → HasNoFeed self.now.pending → ⊥ }
         ensures none { result ≡ false → HasNoFeed self.now.pending }
@@ -67,11 +69,12 @@ impl LineReader {
     /// Reads the next line. Bytes after the last line feed of the source, if there are any, are a
     /// line.
     ///
-    /// A line of more than 4,096 bytes is skipped as `TooLong`, and its further bytes are not kept.
-    /// The call returns `SourceFault` if and only if a call of the source failed; the bytes that
-    /// were taken then have no line feed. After an error bytes may be lost, and the reader must not
-    /// be used. After the source has ended it is not called, and the result is `End`. The clause
-    /// `reads` assumes that a source that had ended before has nothing left.
+    /// A line of more than 4,096 bytes is skipped as `TooLong`, and its further bytes are not
+    /// stored. The call returns `SourceFault` if and only if a call of the source failed; in this
+    /// case the bytes that were taken and not yet read have no line feed. After an error bytes may
+    /// be lost, and the reader must not be used. After the source has ended it is not called, and
+    /// the result is `End`. The clause `reads` assumes that a source that had ended before has
+    /// nothing left.
     pub fn next<S: Source>(&mut self, source: &mut S) -> Result<Next, LineFault>
         ensures reads { IsAtEnd self.old.has_ended (S.seen source.old).left
             → IfOk result (ReadsNext (S.seen source.old) (S.seen source.new)
@@ -100,14 +103,15 @@ impl LineReader {
     }
 }
 
-/// The result of reading a line that a line feed ended.
+/// The result of reading a line that ends at a line feed, given whether it is too long.
 fn at_feed(is_long: bool) -> Next
     ensures { result ≡ next_at_feed is_long }
 {
     if is_long { Next::TooLong } else { Next::Line }
 }
 
-/// The result if the source has ended: `End` if no byte follows the last line feed.
+/// The result of reading a line after which the source has ended: `TooLong` or `Line`, or `End` if
+/// no byte follows the last line feed.
 fn at_end(line: &[u8], is_long: bool) -> Next
     ensures { result ≡ next_at_end line.now is_long }
 {

@@ -1,4 +1,5 @@
-//! The sums over blocks, and their text.
+//! The sums over the blocks of lines: the numbers of blocks, terms and bytes, and the text of these
+//! three sums. The block of a line is the text of its answer or refusal.
 
 ghost use Rattle.std.specs.Prelude.{◌≡◌, ◌≤◌, ◌<◌, ◌+◌, ◌==◌, [], cond, true, length, decimal};
 ghost use Rattle.calc_base.specs.Puts.{Puts};
@@ -9,7 +10,8 @@ ghost use Rattle.batch_lines.specs.Totals.{sums_over, sums_with, AreSmall, sums_
 use calc_base::{Sink, put_if};
 use itoa::Buffer;
 
-/// The numbers of blocks, terms and bytes.
+/// The numbers of blocks, of terms and of bytes, added up over the blocks (the texts of the answers
+/// or refusals) of some lines.
 #[derive(Clone, Copy, Debug, Drop)]
 pub struct Sums {
     lines: u128,
@@ -56,7 +58,7 @@ fn terms(block: &[u8]) -> u64
     feeds(block)
 }
 
-/// The number of line feeds.
+/// The number of line feeds among the bytes.
 fn feeds(bytes: &[u8]) -> u64
     ensures feeds { result ≡ times_in 10 bytes.now }
     ensures few { result ≤ length bytes.now }
@@ -75,7 +77,8 @@ fn feed(byte: u8) -> u64
     if byte == b'\n' { 1 } else { 0 }
 }
 
-/// Writes the three lines of the sums, and returns whether all calls of the sink succeeded.
+/// Writes the sums to the sink, a line for each of the three numbers, and returns whether all calls
+/// of the sink succeeded.
 pub fn put_summary<K: Sink>(sums: &Sums, sink: &mut K) -> bool
     ensures { Puts true (K.seen sink.old) result (K.seen sink.new) (sums_text sums.now) }
 {
@@ -88,7 +91,8 @@ pub fn put_summary<K: Sink>(sums: &Sums, sink: &mut K) -> bool
     put_if(bytes, sink, b"\n")
 }
 
-/// Writes a number, if all calls of the sink succeeded so far.
+/// Writes a number in decimal digits, if `well` says that all calls of the sink succeeded so far.
+/// Returns whether all calls succeeded.
 fn put_number<K: Sink>(well: bool, number: u128, sink: &mut K) -> bool
     ensures { Puts well (K.seen sink.old) result (K.seen sink.new) (decimal number) }
 {

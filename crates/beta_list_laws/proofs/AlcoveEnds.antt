@@ -1,6 +1,6 @@
--- The end of the reflections of a strictly decreasing list depends only on the remainders and the sum.
---     alcove_reduced      the result of the reflections
---     alcove_found        a list c in a window of n numbers with the remainders and the sum of b is the result, with the sign of sorting
+-- The list at which the reflections of a strictly decreasing list b end depends only on the remainders of b modulo n and on its sum.
+--     alcove_reduced      the result of `reflected_into_alcove n b` satisfies `Reduced n b`
+--     alcove_found        if the numbers of a window [t, t + n) with the remainders of b have the sum of b, the result is their sorted list
 use Rattle.std.proofs.Common.{◌↔◌, ◌≡◌, ℕ, zero, suc, ◌+◌, ◌-◌, ◌%◌, ◌<◌, ◌≤◌, ◌⊎◌, inl, inr, true, false, ◌==◌, ◌||◌, cond, List, [], ◌∷◌, ◌++◌, map, refl, sym, ◌∙◌, ap, ap₂, subst, arith, ℤ, ◌*ℤ◌, pos, Option, Some, None}
 use Rattle.std.proofs.lemmas.Bool.{cases_lt, cases_eq, cases_Bool, eq-eqb, eqb-true, or_cases, or_right as or_either, both_ways, ne_eqb}
 use Rattle.std.proofs.Math.Nat.{add-mod_right, mod-mod, mod-eq-sub-mod}
@@ -23,7 +23,7 @@ use Rattle.beta_list_laws.proofs.Lowest.{strict_pairs, strict_second}
 use Rattle.beta_list_laws.proofs.Windows.{LieIn, up_low, up_high, up-remainder, up_is, sorted-map-sorted, spread_is, last_below, narrow_lie, alcove_only}
 use Rattle.std.proofs.lemmas.List.{map-append}
 
--- ---- equal entries of a list and of its remainders
+-- ---- equal entries of a list b and of the list of the f(x) for the entries x of b
 
 has_map : (f : ℕ → ℕ) (x : ℕ) (b : List ℕ) → has x b ≡ true → has (f x) (map f b) ≡ true
 has_map f x [] e = absurd (cc)
@@ -43,7 +43,7 @@ pub equal_inside : (left : List ℕ) (x y : ℕ) (right : List ℕ) → x ≡ y 
 equal_inside [] x y right e = ap (λ t. t || has_equal_entries (y ∷ right)) (has_here x y right (sym e))
 equal_inside (c ∷ left) x y right e = or_either (has c (left ++ (x ∷ y ∷ right))) (has_equal_entries (left ++ (x ∷ y ∷ right))) (equal_inside left x y right e)
 
--- ---- the least numbers from t on with the remainders of a list depend only on these remainders
+-- ---- the least numbers ≥ t with the remainders of the entries of a list: they depend only on these remainders
 
 pub up_alike : (n t x y : ℕ) → 1 ≤ n → x % n ≡ y % n → up n t x ≡ up n t y
 up_alike n t x y h e = up_is n t x (up n t y) h (up_low n t y h) (up_high n t y h) (up-remainder n t y h ∙ sym e)
@@ -70,7 +70,8 @@ ups_differ n t b h e = elim (cases_Bool (has_equal_entries (map (up n t) b))) [
   | inl f ↦ absurd (both_ways (has_equal_entries (remainders n b)) e (ap has_equal_entries (sym (remainders_of_ups n t b h)) ∙ equal_map (λ x. x % n) (map (up n t) b) f))
 ]
 
--- if c lies in the window [t, t + n) and has an entry with the remainder of x, that entry is the least number from t on with this remainder
+-- if c lies in the window [t, t + n) and has an entry with the remainder of x modulo n, then `match_in n c x` is the least number ≥ t with this
+-- remainder
 match_up : (n t x : ℕ) (c : List ℕ) → 1 ≤ n → LieIn n t c → has (x % n) (remainders n c) ≡ true → match_in n c x ≡ up n t x
 match_up n t x [] h w e = absurd (cc)
 match_up n t x (y ∷ c) h w e = by (cases_eq (y % n) (x % n)) (match_up n t x c h w.2)
@@ -90,7 +91,7 @@ matches_up n t (x ∷ b) c h w m =
 pub same_remainders_has : (n : ℕ) (b c : List ℕ) → sorted_falling (remainders n c) ≡ sorted_falling (remainders n b) → (r : ℕ) → has r (remainders n b) ≡ true → has r (remainders n c) ≡ true
 same_remainders_has n b c e r h = sym (has-sorted r (remainders n c)) ∙ ap (has r) e ∙ has-sorted r (remainders n b) ∙ h
 
--- a strictly decreasing list whose spread, its first entry less its last, is below n has different remainders
+-- if x ∷ b is strictly decreasing and its entries lie in a window [t, t + n), no entry of b leaves the remainder of x modulo n
 
 absent_remainder : (n t x : ℕ) (b : List ℕ) → FallsStrictly (x ∷ b) → t ≤ x → x < t + n → LieIn n t b → has (x % n) (remainders n b) ≡ false
 absent_remainder n t x [] f a c w = refl
@@ -103,7 +104,7 @@ distinct_narrow n t [] f w = refl
 distinct_narrow n t (x ∷ b) f w =
     ap₂ ◌||◌ (absent_remainder n t x b f w.0 w.1 w.2) (distinct_narrow n t b (strict_tail x b f) w.2)
 
--- ---- one reflection keeps the remainders and the sum
+-- ---- a reflection keeps the remainders modulo n and the sum of the entries
 
 raised_remainders : (n a : ℕ) (b : List ℕ) → remainders n (last_raised n (a ∷ b)) ≡ remainders n (a ∷ b)
 raised_remainders n a [] = ap (λ r. r ∷ []) (add-mod_right a n)
@@ -142,7 +143,8 @@ wall_equal n (a ∷ c ∷ b) h f e =
     let r : last_of c b % n ≡ a % n = sym (add-mod_right (last_of c b) n) ∙ ap (λ x. x % n) (sym m) in
     ap (λ t. t || has_equal_entries (remainders n (c ∷ b))) (ap (λ x. has x (remainders n (c ∷ b))) (sym r) ∙ has_last n c b)
 
--- ---- parities that exchanges of neighbours keep
+-- ---- the number of increasing pairs of a list l plus that of the list of the f(x) for x in l: exchanging neighbours of l and sorting l do not
+-- change its parity
 
 keeps_turns : (f : ℕ → ℕ) (k : ℕ) → KeptByExchanges (λ l. (has_equal_entries (map f l) ≡ false) × ((rising_pairs (map f l) + rising_pairs l + k) % 2 ≡ 0))
 keeps_turns f k left a b right p =
@@ -181,10 +183,11 @@ equal_map_sorted f s =
     ∙ e)
     refl
 
--- ---- the result of the reflections
+-- ---- the result of the reduction into the alcove
 
--- the result of reflecting b: None if two entries of b leave the same remainder modulo n. Otherwise it is a strictly decreasing list with the sum and the
--- remainders of b and entries in some window [t, t + n), and the sign of sorting b with each entry replaced by the number of the window with its remainder
+-- `Reduced n b r`: if r = None, two entries of b leave the same remainder modulo n. If r is a list c with a sign, no two entries of b do; c is
+-- strictly decreasing, has the sum and the remainders of b, and lies in some window [t, t + n); the sign is that of sorting the numbers of this
+-- window with the remainders of b
 abbrev pub Reduced : ℕ → List ℕ → Option (List ℕ × ℤ) → Type 0
 Reduced n b None = has_equal_entries (remainders n b) ≡ true
 Reduced n b (Some answer) =
@@ -254,7 +257,8 @@ reduced_within (suc fuel) n b q h f =
 pub alcove_reduced : (n : ℕ) (b : List ℕ) → 1 ≤ n → FallsStrictly b → Reduced n b (reflected_into_alcove n b)
 alcove_reduced n b h f = reduced_within (suc (squares b)) n b (omega arith) h f
 
--- ---- the clauses of `alcove_law`
+-- ---- the clauses of `alcove_law`: when the reduction of b is 0 (two entries of b leave the same remainder), and otherwise the list at which it
+-- ends, and its sign
 
 pub alcove_zero : (n : ℕ) (b : List ℕ) → 1 ≤ n → FallsStrictly b → reflected_into_alcove n b ≡ None → has_equal_entries (remainders n b) ≡ true
 alcove_zero n b h f e = subst (Reduced n b) e (alcove_reduced n b h f)
@@ -274,7 +278,8 @@ alcove_sign n b c sign h f e =
     let r = subst (Reduced n b) e (alcove_reduced n b h f) in
     r.4 ∙ ap sorting_sign (sym (matches_up n r.2 b c h r.3 (same_remainders_has n b c r.1.alike)))
 
--- ---- a list that lies in a window [t, t + n) and has the remainders and the sum of b is the end of the reflections of b
+-- ---- exchanges of neighbours keep a list in its window [t, t + n); if the numbers of a window with the remainders of b have the sum of b, the
+-- sorted list of them is the list at which the reflections of b end
 
 lies_kept : (n t : ℕ) → KeptByExchanges (LieIn n t)
 lies_kept n t [] a b right w = (w.2.0, w.2.1, (w.0, w.1, w.2.2))

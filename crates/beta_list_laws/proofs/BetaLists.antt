@@ -1,7 +1,7 @@
 -- From partitions to beta lists and back.
 --     beta_strict            the beta list of a decreasing list is strictly decreasing
---     from_beta-beta         a partition is determined by its beta list
---     beta-from_beta         a strictly decreasing list is determined by its partition
+--     from_beta-beta         the partition of the beta list of a partition is that partition
+--     beta-from_beta         the beta list of the partition of a strictly decreasing list is that list
 use Rattle.std.proofs.Common.{◌≡◌, ℕ, zero, suc, ◌+◌, ◌-◌, ◌<◌, ◌≤◌, List, [], ◌∷◌, ◌++◌, map, length, get_or, replicate, refl, ◌∙◌, ap, ap₂, arith}
 use Rattle.std.proofs.lemmas.List.{length-map}
 use Rattle.sym_model.specs.Partition.{Falls, ArePositive, IsPartition, size, rows, part, after, in_front, without_last_zeros}
@@ -13,7 +13,7 @@ use Rattle.beta_list_laws.specs.StrictFall.{FallsStrictly}
 use Rattle.sym_model.proofs.AfterLists.{length_after}
 use Rattle.sym_model.proofs.Parts.{length-without_last_zeros, get_or-without_last_zeros, in_front-positive}
 
--- ---- lists of the values of a function at the numbers after a
+-- ---- the length of a beta list, and lists of the values of a function at the numbers a + 1, .., a + k
 
 pub length-beta : (k : ℕ) (parts : List ℕ) → length (beta k parts) ≡ k
 length-beta k parts = length-map (after 0 k) (λ i. part parts i + (k - i)) ∙ length_after 0 k
@@ -22,7 +22,7 @@ pub map_after_ext : (f g : ℕ → ℕ) (a k : ℕ) → ((i : ℕ) → a < i →
 map_after_ext f g a zero e = refl
 map_after_ext f g a (suc k) e = ap₂ ◌∷◌ (e (a + 1) (omega arith) (omega arith)) (map_after_ext f g (a + 1) k (λ i h l. e i (omega arith) (omega arith)))
 
--- the values at the places from a + 2 on are the values of the shifted function at the places from a + 1 on
+-- the values of f at a + 2, .., a + k + 1 are the values of f(i + 1) for i = a + 1, .., a + k
 map_after_shift : (f : ℕ → ℕ) (a k : ℕ) → map f (after (a + 1) k) ≡ map (λ i. f (i + 1)) (after a k)
 map_after_shift f a zero = refl
 map_after_shift f a (suc k) = ap (λ l. f (a + 1 + 1) ∷ l) (map_after_shift f (a + 1) k)
@@ -35,7 +35,7 @@ strict_after f a (suc (suc k)) h = (h (a + 1) (omega arith) (omega arith), stric
 pub beta_strict : (k : ℕ) (parts : List ℕ) → Falls parts → FallsStrictly (beta k parts)
 beta_strict k parts f = strict_after (λ i. part parts i + (k - i)) 0 k (λ i h l. let p = falls_part parts f i (omega arith) in omega arith)
 
--- ---- from a partition to its beta list and back
+-- ---- the beta list of a partition determines the partition
 
 less_after : (parts : List ℕ) (a m k : ℕ) → k ≡ a + m → less_the_rest (map (λ i. part parts i + (k - i)) (after a m)) ≡ map (part parts) (after a m)
 less_after parts a zero k e = refl
@@ -81,7 +81,7 @@ pub from_beta-beta : (k : ℕ) (parts : List ℕ) → IsPartition parts → rows
 from_beta-beta k parts p h =
     ap without_last_zeros (less-beta k parts ∙ parts_padded parts k h) ∙ padding_dropped parts (k - length parts) p.positive
 
--- ---- from a strictly decreasing list to its partition and back
+-- ---- a strictly decreasing list without its first entry is strictly decreasing; each strictly decreasing list is the beta list of its partition
 
 pub strict_tail : (a : ℕ) (b : List ℕ) → FallsStrictly (a ∷ b) → FallsStrictly b
 strict_tail a [] f = tt
@@ -130,7 +130,7 @@ beta-from_beta b f =
     map_after_ext (λ i. part (from_beta b) i + (length b - i)) (λ i. part (less_the_rest b) i + (length b - i)) 0 (length b) (λ i l m. ap (λ p. p + (length b - i)) (part-from_beta b i))
     ∙ beta_less b (length b) f refl
 
--- ---- the size of a partition by its beta list
+-- ---- the sum of a beta list is the size of its partition plus that of the staircase k - 1, .., 1, 0
 
 size-less : (b : List ℕ) → FallsStrictly b → size b ≡ size (less_the_rest b) + size (staircase (length b))
 size-less [] f = refl

@@ -1,8 +1,7 @@
--- Each removal of a rim hook lowers an entry of the beta list; a list is full if no entry can be lowered.
---     removal_lowers      the entry that a removal lowers, and the entries between its old and its new place
---     fewer_rows          a removal does not increase the number of rows
+-- Each removal of a rim hook of n cells lowers an entry of the beta list by n; a list is full (`IsFull`) if no entry can be lowered.
+--     removal_lowers      a removal lowers one entry of the beta list and moves it after h - 1 entries, if h is the height of the rim hook
 --     lowers_or_full      a strictly decreasing list has an entry that can be lowered, or is full
---     full_none           nothing can be lowered in a full list
+--     full_none           no entry of a full strictly decreasing list can be lowered
 use Rattle.std.proofs.Common.{◌≡◌, ℕ, zero, suc, ◌+◌, ◌-◌, ◌<◌, ◌≤◌, ◌⊎◌, inl, inr, true, false, List, [], ◌∷◌, ◌++◌, map, length, refl, sym, ◌∙◌, ap, ap₂, subst, arith, Bool, ◌||◌}
 use Rattle.std.proofs.lemmas.Bool.{cases_lt, cases_eq, cases_Bool}
 use Rattle.sym_model.specs.Partition.{IsPartition, rows, part, after}
@@ -11,9 +10,8 @@ use Rattle.sym_model.specs.BetaList.{beta, from_beta, has_equal_entries}
 use Rattle.sym_model.specs.Strip.{height}
 use Rattle.sym_model.specs.RimHookReduction.{IsRemoval, HasNoRemoval}
 use Rattle.sym_model.proofs.AfterLists.{length_after, after-append}
-use Rattle.sym_model.proofs.SortedParts.{has_here, has_past}
-use Rattle.sym_model.proofs.Parts.{past_end, at_least_one, part-get_or}
-use Rattle.std.proofs.lemmas.List.{length-map, map-append}
+use Rattle.sym_model.proofs.SortedParts.{has_past, not_first}
+use Rattle.std.proofs.lemmas.List.{length-map, map-append, get_or_past}
 use Rattle.strip_laws.specs.HookRows.{IsHookRows}
 use Rattle.strip_laws.proofs.RimHooks.{hook_rows, height_of_rows}
 use Rattle.strip_laws.proofs.HookSizes.{hook_size}
@@ -23,7 +21,8 @@ use Rattle.beta_list_laws.proofs.BetaLists.{beta_strict, from_beta-beta, strict_
 use Rattle.beta_list_laws.proofs.BetaRemovals.{before, lowered, shown_removal, above_lowered}
 use Rattle.std.proofs.Math.Nat.{zero-add, add_right_comm}
 
--- c is b with an entry lowered by n and moved after the entries of `middle`, of which there are `passed`
+-- b has an entry y + n, followed by the entries `middle`, of which there are `passed`; c is b with this entry replaced by y and moved to the end of
+-- `middle`
 pub record Lowers (n : ℕ) (b c : List ℕ) (passed : ℕ) : Type 0 where
   pub front : List ℕ
   pub entry : ℕ
@@ -33,25 +32,13 @@ pub record Lowers (n : ℕ) (b c : List ℕ) (passed : ℕ) : Type 0 where
   pub to : c ≡ lowered entry front middle back
   pub passes : passed ≡ length middle
 
--- ---- from a removal to the lowered entry
-
-pub fewer_rows : (n : ℕ) (shape left : List ℕ) → IsRemoval n shape left → rows left ≤ rows shape
-fewer_rows n shape left r = elim (cases_lt (length shape) (length left)) [
-  | inr h ↦ h
-  | inl h ↦ (
-      let a = at_least_one left r.partition.positive (length shape) h in
-      let b = past_end shape (length shape) (omega arith) in
-      let c = r.hook.holds (length shape + 1) in
-      let d = part-get_or left (length shape) in
-      let e = part-get_or shape (length shape) in
-      absurd (omega (arith, a, b, c, d, e)))
-]
+-- ---- the entry of the beta list that a removal lowers
 
 map_after_next : (f g : ℕ → ℕ) (a k : ℕ) → ((i : ℕ) → a < i → i ≤ a + k → f (i + 1) ≡ g i) → map f (after (a + 1) k) ≡ map g (after a k)
 map_after_next f g a zero e = refl
 map_after_next f g a (suc k) e = ap₂ ◌∷◌ (e (a + 1) (omega arith) (omega arith)) (map_after_next f g (a + 1) k (λ i h l. e i (omega arith) (omega arith)))
 
--- the values at the places 1, .., k are split before and after the place a + 1
+-- the values of f at 1, .., k are those at 1, .., a, the value at a + 1, and those at the next d and the last c places, if k = a + 1 + d + c
 split_at : (f : ℕ → ℕ) (k a d c : ℕ) → k ≡ a + suc (d + c) → map f (after 0 k) ≡ map f (after 0 a) ++ (f (a + 1) ∷ (map f (after (a + 1) d) ++ map f (after (a + 1 + d) c)))
 split_at f k a d c e =
     ap (λ m. map f (after 0 m)) e
@@ -61,7 +48,8 @@ split_at f k a d c e =
     ∙ ap (λ l. map f (after 0 a) ++ (f (a + 1) ∷ map f l)) (after-append (a + 1) d c)
     ∙ ap (λ l. map f (after 0 a) ++ (f (a + 1) ∷ l)) (map-append f (after (a + 1) d) (after (a + 1 + d) c))
 
--- the values at the places 1, .., k are split before and after the place a + d + 1
+-- the values of f at 1, .., k are those at 1, .., a, those at the next d places, the value at a + d + 1, and those at the last c places, if k = a + 1
+-- + d + c
 split_later : (f : ℕ → ℕ) (k a d c : ℕ) → k ≡ a + suc (d + c) → map f (after 0 k) ≡ map f (after 0 a) ++ (map f (after a d) ++ (f (a + d + 1) ∷ map f (after (a + 1 + d) c)))
 split_later f k a d c e =
     ap (λ m. map f (after 0 m)) length_is
@@ -75,8 +63,8 @@ split_later f k a d c e =
     length_is : k ≡ a + (d + suc c)
     length_is = omega (arith, e)
 
--- f and g at the places 1, .., k: f at a + 1 is y + n, g at a + d + 1 is y, f at i + 1 is g at i for the places
--- between, and the other values are equal
+-- if f(a + 1) = y + n, g(a + d + 1) = y, f(i + 1) = g(i) for a < i ≤ a + d, and f(i) = g(i) at all other places up to k, then the list of the values
+-- g(1), .., g(k) is that of f(1), .., f(k) with an entry lowered by n and moved after d entries
 lowered_values : (f g : ℕ → ℕ) (n y k a d c : ℕ) → k ≡ a + suc (d + c) → f (a + 1) ≡ y + n → g (a + d + 1) ≡ y
     → ((i : ℕ) → 0 < i → i ≤ a → f i ≡ g i) → ((i : ℕ) → a < i → i ≤ a + d → f (i + 1) ≡ g i) → ((i : ℕ) → a + 1 + d < i → i ≤ a + 1 + d + c → f i ≡ g i)
     → Lowers n (map f (after 0 k)) (map g (after 0 k)) d
@@ -100,7 +88,7 @@ lowered_values f g n y k a d c e top low above between below =
     }
 
 last_within : (outer inner : List ℕ) (last : ℕ) → 1 ≤ last → part inner last < part outer last → last ≤ length outer
-last_within outer inner last c h = elim (cases_lt (length outer) last) [ inl l ↦ absurd (let e = past_end outer (last - 1) (omega arith) in omega (arith, e, h)) | inr l ↦ l ]
+last_within outer inner last c h = elim (cases_lt (length outer) last) [ inl l ↦ absurd (let e = get_or_past outer (last - 1) 0 (omega arith) in omega (arith, e, h)) | inr l ↦ l ]
 
 rows_lower : (k n : ℕ) (shape left : List ℕ) (first last : ℕ) → rows shape ≤ k → IsRemoval n shape left → IsHookRows shape left first last
     → Lowers n (beta k shape) (beta k left) (last - first)
@@ -121,7 +109,7 @@ rows_lower k n shape left first last l r h =
     (λ i u v. let e = h.chained i (omega arith) (omega arith) in omega arith)
     (λ i u v. ap (λ m. m + (k - i)) (h.below i (omega arith)))
 
--- a removal lowers an entry of the beta list and moves it after `passed` entries; the rim hook has passed + 1 rows
+-- a removal of n cells lowers an entry of the beta list by n and moves it after `passed` entries; the rim hook has passed + 1 rows
 pub removal_lowers : (k n : ℕ) (shape left : List ℕ) → IsPartition shape → rows shape ≤ k → IsRemoval n shape left
     → (passed : ℕ) × Lowers n (beta k shape) (beta k left) passed × (height shape left ≡ passed + 1)
 removal_lowers k n shape left p l r =
@@ -134,15 +122,13 @@ removal_lowers k n shape left p l r =
         let o = h.ordered in
         (last - first, rows_lower k n shape left first last l r h, omega arith)
 
--- ---- a strictly decreasing list is full, or an entry of it can be lowered
+-- ---- a number that is not an entry of a strictly decreasing list can be inserted into it; the list is full (`IsFull`), or one of its entries can be
+-- lowered by n
 
 place_for : (y : ℕ) (b : List ℕ) → FallsStrictly b → has y b ≡ false → (middle : List ℕ) × (back : List ℕ) × (b ≡ middle ++ back) × FallsStrictly (middle ++ (y ∷ back))
 place_for y [] f h = ([], [], refl, tt)
 place_for y (x ∷ b) f h = by (cases_lt y x) (cases_eq x y) (place_for y b (strict_tail x b f))
   where
-    not_first : x ≡ y → ⊥
-    not_first e = let t : has y (x ∷ b) ≡ true = has_here y x b e in let u = sym t ∙ h in cc
-
     front_strict : (m back : List ℕ) → b ≡ m ++ back → y < x → FallsStrictly (m ++ (y ∷ back)) → FallsStrictly (x ∷ (m ++ (y ∷ back)))
     front_strict [] back e l g = (l, g)
     front_strict (z ∷ m) back e l g = (first (subst (λ c. FallsStrictly (x ∷ c)) e f), g)
@@ -152,13 +138,14 @@ place_for y (x ∷ b) f h = by (cases_lt y x) (cases_eq x y) (place_for y b (str
 
     by : (y < x) ⊎ (x ≤ y) → (x ≡ y) ⊎ (x ≡ y → ⊥) → (has y b ≡ false → (middle : List ℕ) × (back : List ℕ) × (b ≡ middle ++ back) × FallsStrictly (middle ++ (y ∷ back)))
         → (middle : List ℕ) × (back : List ℕ) × (x ∷ b ≡ middle ++ back) × FallsStrictly (middle ++ (y ∷ back))
-    by a (inl e) later = absurd (not_first e)
+    by a (inl e) later = absurd (not_first y x b h e)
     by (inr l) (inr d) later = ([], x ∷ b, refl, (omega (arith, l, d), f))
     by (inl l) (inr d) later =
         let r = later (sym (has_past y x b d) ∙ h) in
         (x ∷ r.0, r.1, ap (λ c. x ∷ c) r.2, front_strict r.0 r.1 r.2 l r.3)
 
--- an entry of a strictly decreasing list that can be lowered
+-- an entry y + n of the list b that can be lowered: if it is replaced by y and moved after the entries of `middle`, the list is still strictly
+-- decreasing
 pub record CanLower (n : ℕ) (b : List ℕ) : Type 0 where
   pub front : List ℕ
   pub entry : ℕ
@@ -167,7 +154,7 @@ pub record CanLower (n : ℕ) (b : List ℕ) : Type 0 where
   pub from : b ≡ before n entry front middle back
   pub strict : FallsStrictly (lowered entry front middle back)
 
--- an entry of b that can be lowered can be lowered in x ∷ b too, if x is greater than the entries of b
+-- if x ∷ b is strictly decreasing, an entry of b that can be lowered by n can also be lowered in x ∷ b
 under_first : (n x : ℕ) (b : List ℕ) (l : CanLower n b) → FallsStrictly (x ∷ b) → CanLower n (x ∷ b)
 under_first n x b l f = record {
   front = x ∷ l.front;
@@ -206,7 +193,7 @@ lowers_or_full n (x ∷ b) f = by (lowers_or_full n b (strict_tail x b f)) (case
     by (inr g) (inr l) (inl e) = inr (λ h. e, g)
     by (inr g) (inr l) (inr e) = inl (here l e)
 
--- a number that is at least the first entry y is not among the later entries
+-- if y ∷ b is strictly decreasing and y ≤ z, then z is not an entry of b
 pub not_below : (y z : ℕ) (b : List ℕ) → FallsStrictly (y ∷ b) → y ≤ z → has z b ≡ false
 not_below y z [] f l = refl
 not_below y z (x ∷ b) f l = let h = f.0 in has_past z x b (λ e. omega (arith, e, h, l)) ∙ not_below x z b f.1 (omega (arith, h, l))
@@ -224,14 +211,14 @@ full_none n y [] middle back g f =
     cc
 full_none n y (x ∷ front) middle back g f = full_none n y front middle back g.1 (strict_tail x (lowered y front middle back) f)
 
--- if the beta list is full, nothing can be removed
+-- if no entry of the beta list can be lowered by n, no rim hook of n cells can be removed from the shape
 pub full_stays : (k n : ℕ) (shape : List ℕ) → IsPartition shape → rows shape ≤ k → IsFull n (beta k shape) → HasNoRemoval n shape
 full_stays k n shape p l g left r =
     let h = removal_lowers k n shape left p l r in
     let w = h.1 in
     full_none n w.entry w.front w.middle w.back (subst (IsFull n) w.from g) (subst FallsStrictly w.to (beta_strict k left r.partition.falls))
 
--- lowering an entry removes a rim hook from the partition
+-- lowering an entry of the beta list of a shape by n removes a rim hook of n cells from the shape
 pub lowering_removes : (k n : ℕ) (shape : List ℕ) → 1 ≤ n → IsPartition shape → rows shape ≤ k → (l : CanLower n (beta k shape))
     → IsRemoval n shape (from_beta (lowered l.entry l.front l.middle l.back))
 lowering_removes k n shape h p r l =
@@ -245,7 +232,8 @@ stays_full k n shape h p r none = elim (lowers_or_full n (beta k shape) (beta_st
   | inr g ↦ g
 ]
 
--- ---- removals of rim hooks and lowered entries, as the law function states them
+-- ---- each removal of a rim hook of n cells replaces an entry y + n of the beta list by y, moved after the entries `middle`; the height of the rim
+-- hook is the length of `middle` plus 1
 
 pub removal_as_lowered : (k n : ℕ) (shape left : List ℕ) → IsPartition shape → rows shape ≤ k → IsRemoval n shape left
     → (y : ℕ) × (front : List ℕ) × (middle : List ℕ) × (back : List ℕ) × (beta k shape ≡ before n y front middle back) × (beta k left ≡ lowered y front middle back) × (height shape left ≡ length middle + 1)

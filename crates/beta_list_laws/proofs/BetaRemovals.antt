@@ -1,5 +1,5 @@
--- The removal of a rim hook by its beta lists: an entry y + n is lowered by n and moved after the entries `middle`, and
--- both lists are strictly decreasing.
+-- The removal of a rim hook of n cells by beta lists: if an entry y + n is replaced by y and moved after the entries `middle`, and the lists before
+-- and after are strictly decreasing, then the partition of the second list is obtained from that of the first by removing a rim hook.
 use Rattle.std.proofs.Common.{◌≡◌, ℕ, zero, suc, ◌+◌, ◌-◌, ◌<◌, ◌≤◌, List, [], ◌∷◌, ◌++◌, length, get_or, refl, sym, ◌∙◌, ap, arith, length-append}
 use Rattle.sym_model.specs.Partition.{size, part}
 use Rattle.sym_model.specs.Alternant.{staircase}
@@ -12,7 +12,7 @@ use Rattle.strip_laws.proofs.RimHooks.{hook_from_rows, height_of_rows}
 use Rattle.beta_list_laws.specs.StrictFall.{FallsStrictly}
 use Rattle.beta_list_laws.proofs.BetaLists.{strict_tail, rest_within, from_beta_partition, part-from_beta, size-from_beta}
 
--- the beta list with the entry y + n, before it is lowered; `lowered` is the list after it
+-- the list with the entry y + n between `left` and `middle`; in `lowered`, this entry is y, and is between `middle` and `right`
 abbrev pub before : ℕ → ℕ → List ℕ → List ℕ → List ℕ → List ℕ
 before n y left middle right = left ++ ((y + n) ∷ (middle ++ right))
 
@@ -23,9 +23,9 @@ strict_drop : (left c : List ℕ) → FallsStrictly (left ++ c) → FallsStrictl
 strict_drop [] c f = f
 strict_drop (a ∷ left) c f = strict_drop left c (strict_tail a (left ++ c) f)
 
--- ---- the entries less the number of those after them
+-- ---- the parts of a beta list (`less_the_rest`): each entry minus the number of the entries after it
 
--- the parts of the entries in `left` depend only on the number of later entries
+-- the first parts (`less_the_rest`) of left ++ c, one for each entry of `left`, depend on the length of c, and not on its entries
 same_front : (left c d : List ℕ) (i : ℕ) → length c ≡ length d → i < length left → get_or (less_the_rest (left ++ c)) i 0 ≡ get_or (less_the_rest (left ++ d)) i 0
 same_front [] c d i e h = absurd (omega arith)
 same_front (a ∷ left) c d zero e h = let p = length-append left c in let q = length-append left d in ap (λ n. a - n) (omega arith)
@@ -37,7 +37,8 @@ past_front (a ∷ left) c i =
     let e : suc (length left) + i ≡ suc (length left + i) = omega arith in
     ap (λ n. get_or (less_the_rest ((a ∷ left) ++ c)) n 0) e ∙ past_front left c i
 
--- an entry of `middle` is one place further left in the new list, and its part is one less
+-- if the list x, `middle`, `right` becomes the strictly decreasing list `middle`, y, `right`, each entry of `middle` moves one place to the left, and
+-- its part (`less_the_rest`) decreases by 1
 chained_middle : (x y : ℕ) (middle right : List ℕ) (i : ℕ) → FallsStrictly (middle ++ (y ∷ right)) → i < length middle
     → get_or (less_the_rest (x ∷ (middle ++ right))) (suc i) 0 ≡ get_or (less_the_rest (middle ++ (y ∷ right))) i 0 + 1
 chained_middle x y [] right i f h = absurd (omega arith)
@@ -48,7 +49,7 @@ chained_middle x y (p ∷ middle) right zero f h =
     omega arith
 chained_middle x y (p ∷ middle) right (suc i) f h = chained_middle p y middle right i (strict_tail p (middle ++ (y ∷ right)) f) (omega arith)
 
--- the parts of the entries after `middle` and the lowered entry do not change
+-- if the list x, `middle`, `right` becomes `middle`, y, `right`, the parts (`less_the_rest`) of the entries of `right` do not change
 same_back : (x y : ℕ) (middle right : List ℕ) (i : ℕ) → length middle < i → get_or (less_the_rest (x ∷ (middle ++ right))) i 0 ≡ get_or (less_the_rest (middle ++ (y ∷ right))) i 0
 same_back x y middle right zero h = absurd (omega arith)
 same_back x y [] right (suc i) h = refl
@@ -58,13 +59,14 @@ pub above_lowered : (y z : ℕ) (middle back : List ℕ) → FallsStrictly (z �
 above_lowered y z [] back f = f.0
 above_lowered y z (m ∷ middle) back f = let p = f.0 in let q = above_lowered y m middle back f.1 in omega arith
 
--- the part of the lowered entry y is less than the part at its place before the lowering
+-- if y < x, and the list x, `middle`, `right` becomes the strictly decreasing list `middle`, y, `right`, the part (`less_the_rest`) at the place that
+-- y then has becomes smaller
 below_last : (x y : ℕ) (middle right : List ℕ) → y < x → FallsStrictly (middle ++ (y ∷ right))
     → get_or (less_the_rest (middle ++ (y ∷ right))) (length middle) 0 < get_or (less_the_rest (x ∷ (middle ++ right))) (length middle) 0
 below_last x y [] right h f = let w = rest_within y right f in omega arith
 below_last x y (p ∷ middle) right h f = below_last p y middle right (above_lowered y p middle right f) (strict_tail p (middle ++ (y ∷ right)) f)
 
--- ---- the parts of the partitions before and after the removal
+-- ---- the partitions of `before` and of `lowered` satisfy the conditions on the rows of a rim hook (`IsHookRows`)
 
 abbrev outer_of : ℕ → ℕ → List ℕ → List ℕ → List ℕ → List ℕ
 outer_of n y left middle right = from_beta (before n y left middle right)
@@ -111,7 +113,7 @@ shown_rows n y left middle right h f = record {
       omega arith;
 }
 
--- ---- the removal of the rim hook, and its height
+-- ---- the partition of `lowered` is that of `before` without a rim hook of n cells, whose height is the length of `middle` plus 1
 
 pub shown_removal : (n y : ℕ) (left middle right : List ℕ) → 1 ≤ n → FallsStrictly (before n y left middle right) → FallsStrictly (lowered y left middle right)
     → IsRemoval n (from_beta (before n y left middle right)) (from_beta (lowered y left middle right))

@@ -1,5 +1,6 @@
--- Every end of the removals of rim hooks from a partition is the partition of the sorted lowest list (specs/LowestList) of its beta list.
---     goes_ends       the end of the removals
+-- If rim hooks of n cells are removed from a partition λ until no more can be removed, the beta list of the partition that remains is the sorted
+-- lowest list (`lowest`) of the beta list of λ.
+--     goes_ends       the partition that remains, the product of the signs of the removals, and the number of cells
 use Rattle.std.proofs.Common.{◌≡◌, ℕ, zero, suc, ◌+◌, ◌-◌, ◌*◌, ◌/◌, ◌<◌, ◌≤◌, ◌⊎◌, inl, inr, List, ◌∷◌, ◌++◌, length, refl, sym, ◌∙◌, ap, ap₂, subst, arith, length-append, ℤ, ◌*ℤ◌, pos, Bool, true, false, nat_le, cond, Option, Some, None}
 use Rattle.std.proofs.Math.Nat.{mul-div_cancel_left}
 use Rattle.std.proofs.lemmas.Bool.{leb-true}
@@ -14,17 +15,19 @@ use Rattle.beta_list_laws.specs.StrictFall.{FallsStrictly}
 use Rattle.beta_list_laws.specs.FullBetaList.{IsFull}
 use Rattle.beta_list_laws.proofs.BetaLists.{length-beta, beta_strict, from_beta-beta}
 use Rattle.beta_list_laws.proofs.BetaRemovals.{lowered}
-use Rattle.beta_list_laws.proofs.BetaLowerings.{Lowers, CanLower, removal_lowers, fewer_rows, lowers_or_full, full_stays, stays_full, lowering_removes}
+use Rattle.beta_list_laws.proofs.BetaLowerings.{Lowers, CanLower, removal_lowers, lowers_or_full, full_stays, stays_full, lowering_removes}
 use Rattle.beta_list_laws.proofs.NeighbourExchanges.{Resorts, same_sign, sorted-falling}
 use Rattle.beta_list_laws.specs.LowestList.{lowest, end_of, power_of, end_sign, reduction_by_remainders}
 use Rattle.beta_list_laws.proofs.Lowest.{lowest_moves, full_lowest, strict_falls, strict_pairs}
+use Rattle.strip_laws.proofs.RimHooks.{fewer_rows}
 
--- ---- if nothing can be removed from a partition, its beta list is its own lowest list
+-- ---- if no rim hook of n cells can be removed from a partition, lowering (`lowest`) does not change its beta list
 
 stays_lowest : (k n : ℕ) (shape : List ℕ) → 1 ≤ n → IsPartition shape → rows shape ≤ k → HasNoRemoval n shape → lowest n (beta k shape) ≡ beta k shape
 stays_lowest k n shape h p r none = full_lowest n (beta k shape) (beta_strict k shape p.falls) (stays_full k n shape h p r none)
 
--- ---- one removal does not change the sorted lowest list
+-- ---- one removal does not change the sorted lowest list; the numbers of increasing pairs of the lowest lists before and after it differ by the
+-- height minus 1, modulo 2
 
 removal_resorts : (k n : ℕ) (shape left : List ℕ) → IsPartition shape → rows shape ≤ k → IsRemoval n shape left
     → (passed : ℕ) × Resorts passed (lowest n (beta k shape)) (lowest n (beta k left)) × (height shape left ≡ passed + 1) × (passed + 1 ≤ k)
@@ -47,7 +50,7 @@ removal_resorts k n shape left p l r =
         let y = length-append w.middle w.back in
         (passed, subst (λ q. Resorts q (lowest n (beta k shape)) (lowest n (beta k left))) (sym d) c, e, omega arith)
 
--- ---- the shape at which removals end, with its sign and power
+-- ---- the partition `end` that remains after the removals, the product of their signs, and their number (power)
 
 pub record Ends (k n : ℕ) (shape end : List ℕ) (sign : ℤ) (power : ℕ) : Type 0 where
   pub end_is : end ≡ end_of k n shape
@@ -98,7 +101,7 @@ goes_ends k n shape end sign zero h p (r, none, e, s) = stays_ends k n shape end
 goes_ends k n shape end sign (suc power) h p (r, left, t, m, g, s) =
     step_ends k n shape left end t sign power p r m (goes_ends k n left end t power h m.partition g) s
 
--- ---- the removals from each partition have an end
+-- ---- from each partition rim hooks of n cells can be removed until no more can be removed
 
 abbrev HasEnd : ℕ → ℕ → List ℕ → Type 0
 HasEnd k n shape = (end : List ℕ) × (sign : ℤ) × (power : ℕ) × GoesTo k n shape end sign power
@@ -116,7 +119,7 @@ goes_within (suc fuel) k n shape f h p r =
         let e = later left m in
         (e.0, minus_one_to (k - height shape left) *ℤ e.1, suc e.2, (r, left, e.1, m, e.3, refl))
 
--- ---- the clauses of `removals_end_law`
+-- ---- the clauses of `removals_end_law`: the end, the number of removals (power), the sign, and that the end is reached
 
 pub goes_end : (k n : ℕ) (shape end : List ℕ) (sign : ℤ) (power : ℕ) → 1 ≤ n → IsPartition shape → GoesTo k n shape end sign power → end ≡ end_of k n shape
 goes_end k n shape end sign power h p g = (goes_ends k n shape end sign power h p g).end_is
@@ -153,7 +156,7 @@ pub goes_rows : (k n : ℕ) (shape end : List ℕ) (sign : ℤ) (power : ℕ) �
 goes_rows k n shape end sign zero (r, none, e, s) = let d = ap length e in omega arith
 goes_rows k n shape end sign (suc power) (r, left, t, m, g, s) = goes_rows k n left end t power g
 
--- ---- the reduction of a partition by its end
+-- ---- the reduction of a partition by rim hooks, given by its n-core
 
 by_columns : (k n : ℕ) (shape : List ℕ) → 1 ≤ n → IsPartition shape → rows shape ≤ k → (t : Bool) → nat_le (k + columns (end_of k n shape)) n ≡ t
     → ReducesTo k n shape (cond t (Some (end_of k n shape, end_sign k n shape, power_of k n shape)) None)
@@ -162,7 +165,7 @@ by_columns k n shape h p r false e =
     let l : n < k + columns (end_of k n shape) = grind (arith, nat_tests) in
     (end_of k n shape, end_sign k n shape, power_of k n shape, goes_to_end k n shape h p r, l)
 
--- each partition of at most k rows reduces to its reduction by remainders
+-- a partition of at most k rows reduces, in the sense of `ReducesTo`, to its `reduction_by_remainders`
 pub reduces_by_remainders : (k n : ℕ) (shape : List ℕ) → 1 ≤ n → IsPartition shape → rows shape ≤ k → ReducesTo k n shape (reduction_by_remainders k n shape)
 reduces_by_remainders k n shape h p r = by_columns k n shape h p r (nat_le (k + columns (end_of k n shape)) n) refl
 
@@ -176,7 +179,7 @@ narrow k n shape l =
     let t : nat_le (k + columns (end_of k n shape)) n ≡ true = grind (arith, nat_tests) in
     ap (λ v. cond {A = Option (List ℕ × ℤ × ℕ)} v (Some (end_of k n shape, end_sign k n shape, power_of k n shape)) None) t
 
--- each reduction of a partition is its reduction by remainders
+-- if a partition reduces to `answer`, in the sense of `ReducesTo`, then `answer` is its `reduction_by_remainders`
 pub reduces_only : (k n : ℕ) (shape : List ℕ) (answer : Option (List ℕ × ℤ × ℕ)) → 1 ≤ n → IsPartition shape → ReducesTo k n shape answer → answer ≡ reduction_by_remainders k n shape
 reduces_only k n shape None h p (end, sign, power, g, l) =
     let e = ap columns (goes_end k n shape end sign power h p g) in

@@ -1,5 +1,6 @@
--- The lowest list (specs/LowestList): lowering an entry of a list moves one entry of its lowest list, and a full list is its own lowest list.
---     lowest_moves      lowering an entry moves one entry of the lowest list to the right of the entries of `middle`
+-- The lowest list (`lowest` of specs/LowestList): lowering an entry of a list moves one entry of its lowest list, and a full list is its own lowest
+-- list.
+--     lowest_moves      if an entry y + n becomes y and moves after `middle`, one entry of the lowest list moves back by the length of `middle`
 --     full_lowest       the lowest list of a full list is that list
 use Rattle.std.proofs.Common.{◌≡◌, ℕ, suc, ◌+◌, ◌-◌, ◌*◌, ◌%◌, ◌<◌, ◌≤◌, ◌⊎◌, inl, inr, true, List, [], ◌∷◌, ◌++◌, length, refl, sym, ◌∙◌, ap, ap₂, subst, arith}
 use Rattle.std.proofs.lemmas.Bool.{cases_lt, cases_eq}
@@ -18,13 +19,14 @@ use Rattle.beta_list_laws.specs.LowestList.{alike, lowest}
 use Rattle.beta_list_laws.proofs.Remainders.{alike_far, between_unlike, alike-here, alike-past, alike-remainder, alike-append, lowered_remainder}
 use Rattle.beta_list_laws.proofs.BetaLowerings.{not_below}
 
--- ---- the lowest list after an entry is lowered and moved
+-- ---- a strictly decreasing list without its second entry; the lowest list after an entry y + n is lowered to y and moved after the entries of
+-- `middle`
 
 pub strict_second : (a b : ℕ) (c : List ℕ) → FallsStrictly (a ∷ b ∷ c) → FallsStrictly (a ∷ c)
 strict_second a b [] f = tt
 strict_second a b (d ∷ c) f = let p = f.0 in let q = f.1.0 in (omega arith, f.1.1)
 
--- the number of entries with the remainder of x does not change when y + n is lowered by n and moved after `middle`
+-- the number of entries with the remainder of x modulo n does not change if y + n is replaced by y and moved after `middle`
 same_counts : (n x y : ℕ) (middle back : List ℕ) → alike n x ((y + n) ∷ (middle ++ back)) ≡ alike n x (middle ++ (y ∷ back))
 same_counts n x y middle back =
     let a = alike-append n x middle back in
@@ -38,7 +40,7 @@ same_counts n x y middle back =
       | inr d ↦ alike-past n x u [] (λ g. d (sym e ∙ g)) ∙ sym (alike-past n x v [] d)
     ]
 
--- if y and m leave different remainders, the number of entries with the remainder of m does not depend on y
+-- if y and m leave different remainders modulo n, the number of entries with the remainder of m is the same with y in the list and without it
 unseen : (n y m : ℕ) (middle back : List ℕ) → (y % n ≡ m % n → ⊥) → alike n m (middle ++ back) ≡ alike n m (middle ++ (y ∷ back))
 unseen n y m middle back d =
     let a = alike-append n m middle back in
@@ -87,7 +89,7 @@ lowest_moves n y (x ∷ front) middle back f g =
     (ap (λ a. x % n + a * n) e)
     (resorts_under (length middle) head (lowest n (before n y front middle back)) (lowest n (lowered y front middle back)) later)
 
--- ---- a full list is its own lowest list
+-- ---- the lowest list of a full list (`IsFull`) is that list
 
 count_full : (n x : ℕ) (b : List ℕ) → FallsStrictly (x ∷ b) → IsFull n (x ∷ b) → x % n + alike n x b * n ≡ x
 count_full n x [] f g = elim (cases_lt x n) [
@@ -127,7 +129,7 @@ pub full_lowest : (n : ℕ) (b : List ℕ) → FallsStrictly b → IsFull n b �
 full_lowest n [] f g = refl
 full_lowest n (x ∷ b) f g = ap₂ ◌∷◌ (count_full n x b f g) (full_lowest n b (strict_tail x b f) g.1)
 
--- ---- strictly decreasing lists have no increasing pair
+-- ---- a strictly decreasing list is weakly decreasing, and has no increasing pair
 
 pub strict_falls : (b : List ℕ) → FallsStrictly b → Falls b
 strict_falls [] f = tt
@@ -142,7 +144,7 @@ pub strict_pairs : (b : List ℕ) → FallsStrictly b → rising_pairs b ≡ 0
 strict_pairs [] f = refl
 strict_pairs (a ∷ b) f = let e = none_greater a a b f (omega arith) in let g = strict_pairs b (strict_tail a b f) in omega arith
 
--- ---- no entry of the lowest list is greater than the entry it comes from
+-- ---- each entry of the lowest list is at most the entry of the given list from which it is computed
 
 pub lowered_below : (n x : ℕ) (b : List ℕ) → FallsStrictly (x ∷ b) → x % n + alike n x b * n ≤ x
 lowered_below n x [] f = let e = mod-le x n in omega arith

@@ -1,8 +1,8 @@
--- Sums of reductions: they depend only on the coefficients of the list that is reduced, not on its order.
---     reduced_sum         the coefficient at a label, if terms are reduced by rim hooks
---     reflected_sum       the coefficient at a label, if terms are reflected into the alcove
+-- The terms of a list reduced by rim hooks or into the alcove: the coefficients of the result depend only on the coefficients of the list.
+--     reduced_sum         the coefficient at a label of a list of terms reduced by rim hooks
+--     reflected_sum       the coefficient at a label of a list of terms reflected into the alcove
 --     absolute_within     the sum of the absolute values of a list with each label once is at most that of any list with the same coefficients
-use Rattle.std.proofs.Common.{◌≡◌, ℕ, ◌≤◌, Bool, true, false, cond, List, [], ◌∷◌, refl, sym, ◌∙◌, ap, ap₂, subst, inl, inr, arith, ℤ, pos, negsuc, ◌+ℤ◌, ◌*ℤ◌, ◌≤ℤ◌, Option, Some, None}
+use Rattle.std.proofs.Common.{◌≡◌, ℕ, ◌≤◌, cond, List, [], ◌∷◌, refl, sym, ◌∙◌, ap, ap₂, subst, inl, inr, arith, ℤ, pos, negsuc, ◌+ℤ◌, ◌*ℤ◌, ◌≤ℤ◌, Option, Some, None}
 use Rattle.std.specs.Prelude.{nat_abs}
 use Rattle.std.proofs.lemmas.Int.{ints}
 use Rattle.std.proofs.Math.IntN.{*ℤ-zero, +ℤ_idl, +ℤ_idr}
@@ -18,11 +18,11 @@ use Rattle.sym_model.proofs.Polynomials.{pair_determined}
 use Rattle.beta_list_laws.specs.LowestList.{reduction_by_remainders}
 use Rattle.beta_list_laws.specs.ReductionLists.{reductions_of}
 use Rattle.beta_list_laws.proofs.Ends.{reduces_by_remainders}
-use Rattle.sym_model.proofs.Integers.{sign_of}
+use Rattle.sym_model.proofs.Integers.{sign_of, times_chosen}
 
--- ---- lists reduced by rim hooks
+-- ---- the coefficients of a list of terms that is reduced by rim hooks
 
--- the coefficient that a reduction adds at a label
+-- `reduced_value (power, ν) r`: the sign of the reduction r if r leads to the partition ν with this power of q; otherwise 0
 abbrev pub reduced_value : ℕ × List ℕ → Reduction → ℤ
 reduced_value label None = pos 0
 reduced_value label (Some r) = cond (same_power (r.2, r.0) label) r.1 (pos 0)
@@ -35,10 +35,6 @@ are_reductions k n [] h e = tt
 are_reductions k n (t ∷ terms) h e =
     let p = e t (inl refl) in (reduces_by_remainders k n t.0 h p.0 p.1, are_reductions k n terms h (λ u m. e u (inr m)))
 
-pub times_chosen : (b : Bool) (c s : ℤ) → cond b (c *ℤ s) (pos 0) ≡ c *ℤ cond b s (pos 0)
-times_chosen true c s = refl
-times_chosen false c s = sym (*ℤ-zero c)
-
 pub reduced_sum : (k n : ℕ) (terms : WholeTerms) (label : ℕ × List ℕ)
     → coefficient_by same_power (reduced_terms terms (reductions_of k n terms)) label ≡ total (λ (t : Term). t.1 *ℤ reduced_share k n label t.0) terms
 reduced_sum k n [] label = refl
@@ -49,7 +45,7 @@ reduced_sum k n (t ∷ terms) label = by (reduction_by_remainders k n t.0) (redu
     by None e = e ∙ sym (+ℤ_idl (total (λ (t : Term). t.1 *ℤ reduced_share k n label t.0) terms)) ∙ ap (λ z. z +ℤ total (λ (t : Term). t.1 *ℤ reduced_share k n label t.0) terms) (sym (*ℤ-zero t.1))
     by (Some r) e = ap₂ ◌+ℤ◌ (times_chosen (same_power (r.2, r.0) label) t.1 r.1) e
 
--- ---- lists reflected into the alcove
+-- ---- the coefficients of a list of terms that is reflected into the alcove
 
 abbrev pub alcove_value : List ℕ → Option (List ℕ × ℤ) → ℤ
 alcove_value label None = pos 0
@@ -68,7 +64,7 @@ reflected_sum k n terms label =
     ∙ total_ext (λ (t : Term). coefficient (reflected_term t.1 (alcove_reduction k n t.0)) label) (λ (t : Term). t.1 *ℤ alcove_share k n label t.0)
     (λ (t : Term). one_reflected label t.1 (alcove_reduction k n t.0)) terms
 
--- ---- the sums of the absolute values of the coefficients
+-- ---- sums of the absolute values of the coefficients of a list of terms
 
 sgn_itself : (z : ℤ) → z *ℤ sign_of z ≡ pos (nat_abs z)
 sgn_itself (pos n) = omega (arith, ints)

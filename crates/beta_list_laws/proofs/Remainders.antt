@@ -1,6 +1,6 @@
 -- Numbers that leave the same remainder modulo n.
 --     alike_far           two different numbers that leave the same remainder differ by at least n
---     alike-append        the number of entries with a remainder, for two lists one after the other
+--     alike-append        the number of entries with a given remainder, of two lists joined
 use Rattle.std.proofs.Common.{◌≡◌, ℕ, suc, ◌+◌, ◌*◌, ◌/◌, ◌%◌, ◌<◌, ◌≤◌, inl, inr, true, false, ◌==◌, cond, List, [], ◌∷◌, ◌++◌, refl, sym, ◌∙◌, ap, arith}
 use Rattle.std.proofs.lemmas.Bool.{cases_lt, eq-eqb, ne_eqb}
 use Rattle.std.proofs.Math.Nat.{mod-add-div', mod-mod, add-mul-mod_self_right, mul-le-mul_left}
@@ -17,7 +17,7 @@ alike_far n x y e h =
     let m = mul-le-mul_left n l in
     omega arith
 
--- two numbers in a window of n numbers that leave the same remainder are equal
+-- two numbers of a window [t, t + n) that leave the same remainder modulo n are equal
 pub alike_same : (n t x y : ℕ) → x % n ≡ y % n → t ≤ x → x < t + n → t ≤ y → y < t + n → x ≡ y
 alike_same n t x y e a b c d = elim (cases_lt x y) [
   | inl l ↦ (let f = alike_far n y x (sym e) l in absurd (omega arith))
@@ -34,7 +34,7 @@ alike-here n x y b e = let t : (y % n == x % n) ≡ true = eq-eqb (y % n) (x % n
 pub alike-past : (n x y : ℕ) (b : List ℕ) → (y % n ≡ x % n → ⊥) → alike n x (y ∷ b) ≡ alike n x b
 alike-past n x y b d = let t : (y % n == x % n) ≡ false = ne_eqb (y % n) (x % n) d in ap (λ v. cond {A = ℕ} v 1 0 + alike n x b) t ∙ omega arith
 
--- if x and y leave the same remainder, b has equally many entries with the remainder of x and with that of y
+-- if x and y leave the same remainder modulo n, b has equally many entries with the remainder of x and with that of y
 pub alike-remainder : (n x y : ℕ) (b : List ℕ) → x % n ≡ y % n → alike n x b ≡ alike n y b
 alike-remainder n x y [] e = refl
 alike-remainder n x y (z ∷ b) e = let r = alike-remainder n x y b e in let t = ap (λ m. cond {A = ℕ} (z % n == m) 1 0) e in omega arith

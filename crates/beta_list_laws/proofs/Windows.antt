@@ -1,7 +1,7 @@
--- Lists in a window of n numbers from t on.
---     up_low, up_high, up-remainder     the least number from t on with a given remainder
---     up_is                             each number of the window [t, t + n) is the least from t on with its remainder
---     alcove_only                       a list with a spread below n is determined by its sum and its remainders
+-- Numbers and lists in a window of n numbers, t, .., t + n - 1.
+--     up_low, up_high, up-remainder     `up n t x`, the least number ≥ t with the remainder of x, is in the window and has this remainder
+--     up_is                             each number of the window [t, t + n) with the remainder of x is `up n t x`
+--     alcove_only                       a strictly decreasing list with a spread (first minus last) below n is given by its sum and remainders
 use Rattle.std.proofs.Common.{◌≡◌, ℕ, zero, suc, ◌+◌, ◌-◌, ◌*◌, ◌/◌, ◌%◌, true, false, ◌<◌, ◌≤◌, ◌⊎◌, inl, inr, cond, List, [], ◌∷◌, ◌++◌, map, length, get_or, refl, sym, ◌∙◌, ap, ap₂, arith}
 use Rattle.std.proofs.lemmas.Bool.{cases_lt, cases_eq, eq-eqb, or_parts, ne_eqb}
 use Rattle.std.proofs.lemmas.List.{length-map, map-append}
@@ -19,7 +19,7 @@ use Rattle.beta_list_laws.proofs.Remainders.{alike_same, alike-here, alike-past}
 use Rattle.beta_list_laws.proofs.Lowest.{strict_falls}
 use Rattle.strip_laws.proofs.Reflections.{last_of, last_is}
 
--- ---- the least number from t on with a remainder
+-- ---- the least number ≥ t with a given remainder modulo n
 
 record InWindow (n t x u : ℕ) : Type 0 where
   low : t ≤ u
@@ -56,7 +56,7 @@ up_high n t x h = (up_window n t x h).high
 pub up-remainder : (n t x : ℕ) → 1 ≤ n → up n t x % n ≡ x % n
 up-remainder n t x h = (up_window n t x h).remainder
 
--- if u is in the window [t, t + n) and leaves the remainder of x, it is the least number from t on with this remainder
+-- if u is in the window [t, t + n) and leaves the remainder of x modulo n, it is the least number ≥ t with this remainder
 pub up_is : (n t x u : ℕ) → 1 ≤ n → t ≤ u → u < t + n → u % n ≡ x % n → up n t x ≡ u
 up_is n t x u h a b e = alike_same n t (up n t x) u (up-remainder n t x h ∙ sym e) (up_low n t x h) (up_high n t x h) a b
 
@@ -72,7 +72,7 @@ up_rises n t (suc d) x =
     let b = past_above n (t + d) (up n (t + d) x) in
     omega arith
 
--- ---- lists of values in a window
+-- ---- the list of the least numbers ≥ t with the remainders of the entries of a list: its sum does not decrease if t increases
 
 pub map_up_same : (n t : ℕ) (s : List ℕ) (d : ℕ) → size (map (up n t) s) ≤ size (map (up n (t + d)) s)
 map_up_same n t [] d = omega arith
@@ -85,7 +85,7 @@ same_where_sums n t (x ∷ s) d e =
     let b = map_up_same n t s d in
     ap₂ ◌∷◌ (omega arith) (same_where_sums n t s d (omega arith))
 
--- exchanging two neighbours of a list does not change the sorted list of the values of f at its entries
+-- exchanging two neighbouring entries of a list does not change the sorted list of the f(x) for the entries x
 pub sorted-map-exchange : (f : ℕ → ℕ) (left : List ℕ) (a b : ℕ) (right : List ℕ) → sorted_falling (map f (left ++ (a ∷ b ∷ right))) ≡ sorted_falling (map f (left ++ (b ∷ a ∷ right)))
 sorted-map-exchange f left a b right =
     ap sorted_falling (map-append f left (a ∷ b ∷ right))
@@ -120,12 +120,12 @@ strict_lie n t a (c ∷ b) f e l =
 pub narrow_lie : (n a : ℕ) (b : List ℕ) → FallsStrictly (a ∷ b) → spread (a ∷ b) < n → LieIn n (last_of a b) (a ∷ b)
 narrow_lie n a b f l = let e = spread_is a b in let h = last_below a b f in strict_lie n (last_of a b) a b f refl (omega arith)
 
--- a list b in the window [t, t + n) is determined by its remainders: each entry is the least number from t on with its remainder
+-- if the entries of b lie in the window [t, t + n), each is the least number ≥ t with its remainder modulo n
 pub window_back : (n t : ℕ) (b : List ℕ) → 1 ≤ n → LieIn n t b → map (up n t) (remainders n b) ≡ b
 window_back n t [] h w = refl
 window_back n t (x ∷ b) h w = ap₂ ◌∷◌ (up_is n t (x % n) x h w.0 w.1 (sym (mod-mod x n))) (window_back n t b h w.2)
 
--- a strictly decreasing list with a spread below n is determined by its last entry and its remainders
+-- a strictly decreasing list whose first entry exceeds its last by less than n is determined by its last entry and its remainders modulo n
 narrow_shown : (n a : ℕ) (b : List ℕ) → 1 ≤ n → FallsStrictly (a ∷ b) → spread (a ∷ b) < n
     → a ∷ b ≡ sorted_falling (map (up n (last_of a b)) (sorted_falling (remainders n (a ∷ b))))
 narrow_shown n a b h f l =
@@ -174,9 +174,9 @@ alcove_only n b (x ∷ c) (y ∷ d) h w v =
         let m : last_of y d ≡ last_of x c + k = omega arith in
         shown_same n (last_of x c) k (sorted_falling (remainders n b)) (x ∷ c) (y ∷ d) p (q ∙ ap (λ t. sorted_falling (map (up n t) (sorted_falling (remainders n b)))) m) e
 
--- ---- the sum of the least numbers from t on with the remainders of a list, as t increases by 1
+-- ---- the sum of the least numbers ≥ t with the remainders of a list, if t increases by 1
 
--- the least number from n·q on with the remainder of x is x % n + n·q
+-- the least number ≥ n·q with the remainder of x modulo n is x % n + n·q
 up-multiple : (n q x : ℕ) → 1 ≤ n → up n (n * q) x ≡ x % n + n * q
 up-multiple n q x h =
     let l = mod-lt x h in
@@ -186,7 +186,7 @@ pub size-multiple : (n q : ℕ) (b : List ℕ) → 1 ≤ n → size (map (up n (
 size-multiple n q [] h = omega arith
 size-multiple n q (x ∷ b) h = let e = up-multiple n q x h in let r = size-multiple n q b h in omega arith
 
--- if the window [t, t + n) moves by one, the numbers with the remainder of t increase by n
+-- if t increases by 1, the sum of the least numbers ≥ t with the remainders of b increases by n for each entry of b with the remainder of t
 pub size-next : (n t : ℕ) (b : List ℕ) → 1 ≤ n → size (map (up n (suc t)) b) ≡ size (map (up n t) b) + n * alike n t b
 size-next n t [] h = omega arith
 size-next n t (x ∷ b) h = by (cases_eq (x % n) (t % n)) (size-next n t b h)
@@ -210,7 +210,7 @@ size_above n t (x ∷ b) h = let l = up_low n t x h in let r = size_above n t b 
 pub size_remainders : (n x turns : ℕ) (b : List ℕ) → size b ≡ size (remainders n b) + turns * n → size (x ∷ b) ≡ size (remainders n (x ∷ b)) + (turns + x / n) * n
 size_remainders n x turns b e = let d = mod-add-div' x n in omega arith
 
--- ---- counts of remainders that are all different
+-- ---- the number of entries with the remainder of x: it is positive if the remainder occurs, and at most 1 if all remainders are different
 
 pub has_alike : (n x : ℕ) (b : List ℕ) → 1 ≤ alike n x b → has (x % n) (remainders n b) ≡ true
 has_alike n x [] h = absurd (omega arith)

@@ -1,4 +1,5 @@
-//! The end of the reflections of beta lists, which depends only on remainders and the sum.
+//! The reduction of beta lists into the alcove (`reflected_into_alcove`): its result depends only
+//! on the remainders of the entries modulo n and on their sum.
 
 ghost use Rattle.std.specs.Prelude.{◌≡◌, ℕ, ◌≤◌, ◌↔◌, true, false, ℤ, List, Some, None, map};
 ghost use Rattle.std.specs.Prelude.{length};
@@ -8,13 +9,15 @@ ghost use Rattle.sym_model.specs.AlcoveReduction.{reflected_into_alcove};
 ghost use Rattle.beta_list_laws.specs.StrictFall.{FallsStrictly};
 ghost use Rattle.beta_list_laws.specs.AlcoveEnd.{remainders, match_in, IsAlcoveEnd, up};
 
-/// A strictly decreasing list whose spread, the first entry minus the last, is at least n is
-/// reflected: n is subtracted from its first entry and added to its last, and the list is sorted,
-/// until the spread is below n; the result is 0 if the spread is n or two entries become equal. It
-/// is 0 if and only if two entries of the given list leave the same remainder modulo n. Otherwise
-/// it is the only strictly decreasing list with the same sum, the same remainders and a spread
-/// below n, with the sign of the order in which its entries are matched with those of the given
-/// list. It is computed by raising or lowering each entry into a window of n numbers.
+/// Let b be strictly decreasing, and let its spread be its first entry minus its last.
+/// `reflected_into_alcove n b` is b if the spread is below n, and 0 if it is n. Otherwise n is
+/// subtracted from the first entry and added to the last; if two entries are then equal, the result
+/// is 0, and if not, the list is sorted and reduced again, with the sign of sorting. The law: the
+/// result is 0 if and only if two entries of b leave the same remainder modulo n. Otherwise it is
+/// the only strictly decreasing list c with the sum and the remainders of b and a spread below n;
+/// its sign is that of sorting the list in which each entry of b is replaced by the entry of c with
+/// its remainder. If, for some t, the numbers of the window [t, t + n) that leave the remainders of
+/// b have the same sum as b, then c is the sorted list of these numbers.
 pub fn alcove_law()
     ensures zero { (n : ℕ) (b : List ℕ) → 1 ≤ n → FallsStrictly b
         → (reflected_into_alcove n b ≡ None ↔ has_equal_entries (remainders n b) ≡ true) }

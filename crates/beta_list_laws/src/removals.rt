@@ -1,4 +1,5 @@
-//! All removals of rim hooks from one partition have the same end.
+//! All ways to remove rim hooks of n cells from a partition, until no more can be removed, have the
+//! same end.
 
 ghost use Rattle.std.specs.Prelude.{◌≡◌, ℕ, ◌+◌, ◌*◌, ◌≤◌, ℤ, List, Option};
 ghost use Rattle.sym_model.specs.Partition.{IsPartition, size, rows};
@@ -6,10 +7,12 @@ ghost use Rattle.sym_model.specs.RimHookReduction.{GoesTo, ReducesTo};
 ghost use Rattle.beta_list_laws.specs.LowestList.{end_of, power_of, end_sign};
 ghost use Rattle.beta_list_laws.specs.LowestList.{reduction_by_remainders};
 
-/// Removing rim hooks of n cells, as long as possible and in any order, leads from one partition
-/// with at most k rows to one end, with one sign, the product of (-1)^(k - height) over the removed
-/// rim hooks, and one number of removals. The end is computed from the beta list by lowering each
-/// entry by multiples of n as far as possible.
+/// Rim hooks of n cells are removed from a partition with at most k rows, in any order, until no
+/// more can be removed. The partition that remains, the product of the signs (-1)^(k - height) of
+/// the removed rim hooks, and the number of removals do not depend on the order. The beta list of
+/// the partition that remains is computed from that of the given one: entries of at least n are
+/// lowered by n, as long as some of them can be lowered without becoming equal to another entry,
+/// and the list is sorted.
 pub fn removals_end_law()
     ensures goes { (k n : ℕ) (shape : List ℕ) → 1 ≤ n → IsPartition shape → rows shape ≤ k
         → GoesTo k n shape (end_of k n shape) (end_sign k n shape) (power_of k n shape) }

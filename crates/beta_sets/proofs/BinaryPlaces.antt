@@ -1,9 +1,9 @@
 -- The places of the binary digits 1 of a number (specs/BetaSets).
---     places-more                 the places do not depend on the number of digits above the highest 1
+--     places-more                 the places are the same if more digits above the highest 1 are read
 --     places-even, places-odd     the places of 2n, and of 2n + 1
 --     places-put                  the places after one more digit 1 is set
---     has-places, length-places, greater-places     membership in the places, their number, and that of the greater ones
---     places-top                  the places without the highest one
+--     has-places, length-places, greater-places     membership in the places, their number, and the number of those above a given one
+--     places-top                  the places of the k + 1 lowest digits: the highest one, and those of the k lowest digits
 use Rattle.std.proofs.Common.{◌≡◌, ℕ, zero, suc, ◌+◌, ◌*◌, ◌/◌, ◌%◌, ◌^◌, ◌<◌, ◌≤◌, nat_le, Bool, true, false, ◌==◌, ◌||◌, cond, List, [], ◌∷◌, ◌++◌, map, length, refl, sym, ap, ap₂, ◌∙◌, arith, length-append}
 use Rattle.std.specs.Prelude.{nat_eq, nat_lt, count_ones}
 use Rattle.std.specs.Int.{bit_at}
@@ -16,7 +16,7 @@ use Rattle.sym_model.specs.BetaList.{put_falling, greater}
 use Rattle.beta_sets.specs.BetaSets.{places}
 use lib.Count.{ones_step}
 
--- the list of the place 0 if the lowest digit is 1, otherwise the empty list
+-- the list of the one place 0 if the lowest binary digit is 1, otherwise the empty list
 abbrev pub lowest : Bool → List ℕ
 lowest b = cond b (0 ∷ []) []
 
@@ -88,7 +88,7 @@ places-put (suc k) (suc a) n l z =
     ∙ sym (put-suc a (places k (n / 2)) (nat_eq (n % 2) 1))
     ∙ ap (put_falling (suc a)) (sym (places-suc k n))
 
--- ---- membership in the places, and their number
+-- ---- membership in the places of the digits 1, and the number of these places
 
 has-zero : (xs : List ℕ) (b : Bool) → has 0 (map suc xs ++ lowest b) ≡ b
 has-zero [] true = refl
@@ -149,7 +149,7 @@ greater-places (suc k) (suc a) n h =
     ap (greater (suc a)) (places-suc k n) ∙ greater-suc a (places k (n / 2)) (nat_eq (n % 2) 1) ∙ greater-places k a (n / 2) (omega arith)
     ∙ ap (λ m. count_ones (m / 2)) (shr-shr n 1 a ∙ ap (λ j. n / 2 ^ j) (let e : 1 + a ≡ suc a = omega arith in e))
 
--- ---- the places, listed from the highest one on
+-- ---- the places of the digits 1, listed from the highest one on
 
 pub places-top : (k n : ℕ) → places (suc k) n ≡ cond (nat_eq (bit_at n k) 1) (k ∷ []) [] ++ places k n
 places-top zero n =

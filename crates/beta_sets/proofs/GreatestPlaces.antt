@@ -1,4 +1,4 @@
--- The places of binary digits from the greatest one on, and a number from its places.
+-- The places of the binary digits 1 of a number, from the greatest one on.
 --     places-greatest, split_at   the greatest place, and the other places
 --     places_strict               the places are strictly decreasing
 use Rattle.std.proofs.Common.{◌≡◌, ◌⊎◌, ℕ, zero, suc, ◌+◌, ◌-◌, ◌*◌, ◌/◌, ◌%◌, ◌^◌, ◌<◌, ◌≤◌, Bool, true, false, List, [], ◌∷◌, ◌++◌, map, refl, sym, ap, ap₂, ◌∙◌, subst, inl, inr, arith}
@@ -11,7 +11,7 @@ use Rattle.beta_sets.specs.BetaSets.{numbers, places, IsSplit}
 use Rattle.beta_sets.proofs.BinaryPlaces.{lowest, places-suc, places-none, places-more, has-places}
 use Rattle.beta_sets.proofs.BetaSets.{below_power}
 
--- if n is less than 2^k, its places among the d + k lowest digits are those among the k lowest digits
+-- if n is less than 2^k, the places of its digits 1 among the d + k lowest digits are those among the k lowest digits
 pub places-enough : (d k n : ℕ) → n < 2 ^ k → places (d + k) n ≡ places k n
 places-enough zero k n h = ap (λ m. places m n) (let e : 0 + k ≡ k = omega arith in e)
 places-enough (suc d) k n h =
@@ -35,7 +35,7 @@ places-one (suc k) m h =
     ∙ ap (λ xs. map suc xs ++ lowest (nat_eq (m % 2) 1)) (places-one k (m / 2) (omega arith))
     ∙ ap (λ xs. suc k ∷ xs) (sym (places-suc k m))
 
--- the numbers of the set 2^k + m, for m < 2^k, are k and then those of m
+-- for k < 64 and m < 2^k, the numbers in the set 2^k + m are k and then those in the set m
 pub numbers-greatest : (k m : ℕ) → k < 64 → m < 2 ^ k → numbers (2 ^ k + m) ≡ k ∷ numbers m
 numbers-greatest k m l h =
     let p : 2 ^ suc k ≡ 2 * 2 ^ k = omega arith in
@@ -59,7 +59,7 @@ split_at set k l low high =
 pub numbers-none : numbers 0 ≡ []
 numbers-none = ap (λ n. places n 0) (let e : 64 ≡ 64 + 0 = omega arith in e) ∙ places-enough 64 0 0 (omega arith) ∙ places-none 0
 
--- ---- the places are strictly decreasing
+-- ---- the places of the digits 1 are strictly decreasing
 
 raised_strict : (xs : List ℕ) (b : Bool) → FallsStrictly xs → FallsStrictly (map suc xs ++ lowest b)
 raised_strict [] true f = tt
@@ -73,7 +73,7 @@ places_strict zero n = subst FallsStrictly (sym (places-none n)) tt
 places_strict (suc k) n =
     subst FallsStrictly (sym (places-suc k n)) (raised_strict (places k (n / 2)) (nat_eq (n % 2) 1) (places_strict k (n / 2)))
 
--- ---- 2^a, for a number a of a set, compared with the set as a number
+-- ---- 2^a is at most the number that stores a set, if a is in the set
 
 pub digit_low : (set a : ℕ) → a < 64 → has a (numbers set) ≡ true → 2 ^ a ≤ set
 digit_low set a l h = by (cases_lt set (2 ^ a))

@@ -1,6 +1,6 @@
--- A set from its numbers, parts of a set, and the first row of its partition (specs/BetaSets).
---     set_of-numbers                          a set from its numbers
---     places-free, places-from, places-below  the numbers that a test selects
+-- A set from the list of its numbers, subsets, and the first row of its partition (specs/BetaSets).
+--     set_of-numbers                          the set of the numbers in a set is this set
+--     places-free, places-from, places-below  those numbers in a set that have a given property
 --     first_row, no_row                       the first row of the partition of a set
 --     same_shape                              sets of n numbers with the same partition are equal
 use Rattle.std.proofs.Common.{◌≡◌, ◌⊎◌, ℕ, zero, suc, ◌+◌, ◌-◌, ◌*◌, ◌/◌, ◌%◌, ◌^◌, ◌<◌, ◌≤◌, min, nat_le, Bool, true, false, ◌&&◌, ◌||◌, ◌==◌, cond, List, [], ◌∷◌, ◌++◌, map, filter, length, refl, sym, ap, ap₂, ◌∙◌, inl, inr, arith}
@@ -21,8 +21,9 @@ use Rattle.sparse_polys.proofs.PartitionTerms.{IsWithinLimits-low}
 use Rattle.beta_sets.specs.BetaSets.{numbers, places, shape, set_of, free, from_place, below_place, IsSplit, IsInRows}
 use Rattle.beta_sets.proofs.BinaryPlaces.{lowest, places-suc, places-none, places-top, has-places}
 use Rattle.beta_sets.proofs.GreatestPlaces.{places_strict}
+use Rattle.sym_model.proofs.Numbers.{power-positive}
 
--- ---- a set from its numbers
+-- ---- a set from the list of its numbers
 
 set_of-raised : (xs : List ℕ) (b : Bool) → set_of (map suc xs ++ lowest b) ≡ 2 * set_of xs + cond b 1 0
 unfolding set_of
@@ -49,7 +50,7 @@ set_of-places (suc k) n h =
 pub set_of-numbers : (set : ℕ) → set < 2 ^ 64 → set_of (numbers set) ≡ set
 set_of-numbers set h = set_of-places 64 set h
 
--- ---- the numbers that a test selects
+-- ---- the numbers in a set that pass a test
 
 places-selected : (k : ℕ) (P : ℕ → Bool) (n m : ℕ) → ((a : ℕ) → a < k → nat_eq (bit_at m a) 1 ≡ (nat_eq (bit_at n a) 1 && P a)) → places k m ≡ filter P (places k n)
 places-selected zero P n m h = places-none m ∙ sym (ap (filter P) (places-none n))
@@ -67,8 +68,7 @@ places-selected (suc k) P n m h =
         head false e = sym (ap (λ t. cond t (k ∷ filter P (places k n)) (filter P (places k n))) e)
     either false b e = refl
 
--- if p and q are binary digits of x and y at one place, the digit of x & y there is min(p, q), which is 1 if and only
--- if p and q are
+-- for binary digits p and q, min(p, q) is 1 if and only if p and q are both 1
 digit_and : (p q : ℕ) (t : Bool) → p < 2 → q < 2 → nat_eq q 1 ≡ t → nat_eq (min p q) 1 ≡ (nat_eq p 1 && t)
 digit_and zero q t l h e = let m : min zero q ≡ zero = omega arith in ap (λ d. nat_eq d 1) m
 digit_and (suc zero) zero t l h e = e
@@ -81,8 +81,8 @@ digit_not zero l = refl
 digit_not (suc zero) l = refl
 digit_not (suc (suc q)) l = absurd (omega arith)
 
--- the numbers of the set n & m are those numbers of n that pass the test P, if digit a of m is 1 if and only if a
--- passes P
+-- if, for each a < 64, the binary digit of m at place a is 1 if and only if a passes the test P, then the numbers in the set n & m are those numbers
+-- in n that pass P
 and_selects : (P : ℕ → Bool) (n m : ℕ) → ((a : ℕ) → a < 64 → nat_eq (bit_at m a) 1 ≡ P a) → numbers (bit_and n m) ≡ filter P (numbers n)
 and_selects P n m h =
     places-selected 64 P n (bit_and n m)
@@ -107,7 +107,7 @@ has_at set a h = by (cases_lt a 64)
     by (inl l) = has-places 64 a set l
     by (inr l) = absent_above set a 64 l ∙ sym (digit_above set a h l)
 
--- digit a of n / 2^k is digit a + k of n
+-- the binary digit of n / 2^k (rounded down) at place a is the digit of n at place a + k
 digit_shifted : (n k a : ℕ) → bit_at (n / 2 ^ k) a ≡ bit_at n (a + k)
 digit_shifted n k a =
     sym (shr_and_one (n / 2 ^ k) a)
@@ -124,19 +124,15 @@ places-free k n h = and_selects (λ b. not (has (b + k) (numbers n))) n (bit_not
         ∙ ap (λ d. not (nat_eq d 1)) (digit_shifted n k a)
         ∙ ap not (sym (has_at n (a + k) h))
 
--- digit a of 2^place - 1 is 1 if and only if a < place
+-- the binary digit of 2^place - 1 at place a is 1 if and only if a < place
 digit_ones : (place a : ℕ) → nat_eq (bit_at (2 ^ place - 1) a) 1 ≡ nat_lt a place
 digit_ones place a = by (cases_lt a place)
   where
     by : (a < place) ⊎ (place ≤ a) → nat_eq (bit_at (2 ^ place - 1) a) 1 ≡ nat_lt a place
     by (inl l) = ap (λ d. nat_eq d 1) (bit_at_ones place a l) ∙ (let e : nat_lt a place ≡ true = grind (arith, nat_tests) in sym e)
     by (inr l) =
-        ap (λ d. nat_eq d 1) (bit_at_above (2 ^ place - 1) place a (let p = positive place in omega arith) l)
+        ap (λ d. nat_eq d 1) (bit_at_above (2 ^ place - 1) place a (let p = power-positive 2 place (omega arith) in omega arith) l)
         ∙ (let e : nat_lt a place ≡ false = grind (arith, nat_tests) in sym e)
-      where
-        positive : (place : ℕ) → 1 ≤ 2 ^ place
-        positive zero = omega arith
-        positive (suc place) = let r = positive place in omega arith
 
 pub places-below : (place n : ℕ) → place < 64 → numbers (bit_and n (1 * 2 ^ place % 2 ^ 64 - 1)) ≡ below_place place (numbers n)
 places-below place n l =
@@ -187,16 +183,17 @@ no_row set b others s z =
     no_part (shape set) (from_beta_partition (numbers set) (places_strict 64 set))
     (part-from_beta (numbers set) 1 ∙ ap (λ l. part (less_the_rest l) 1) s.numbers ∙ (let f : b - length (numbers others) ≡ 0 = omega arith in f))
 
--- ---- sets of n numbers
+-- ---- sets of the same number n of numbers, with the same partition
+
+-- the set of n numbers is the beta set of its partition with n rows
+pub beads_of : (n set : ℕ) → length (numbers set) ≡ n → beta n (shape set) ≡ numbers set
+beads_of n set e = ap (λ j. beta j (shape set)) (sym e) ∙ beta-from_beta (numbers set) (places_strict 64 set)
 
 pub same_shape : (n d a b : ℕ) → IsInRows n d a → IsInRows n d b → shape a ≡ shape b → a ≡ b
 same_shape n d a b r s e =
     sym (set_of-numbers a r.word)
-    ∙ ap set_of (sym (back a r.rows) ∙ ap (beta n) e ∙ back b s.rows)
+    ∙ ap set_of (sym (beads_of n a r.rows) ∙ ap (beta n) e ∙ beads_of n b s.rows)
     ∙ set_of-numbers b s.word
-  where
-    back : (c : ℕ) → length (numbers c) ≡ n → beta n (shape c) ≡ numbers c
-    back c f = ap (λ j. beta j (shape c)) (sym f) ∙ beta-from_beta (numbers c) (places_strict 64 c)
 
 pub rows_limits : (set : ℕ) → IsInRows 20 20 set → IsWithinLimits (shape set)
 rows_limits set r = let c = r.cells in IsWithinLimits-low (shape set) (from_beta_partition (numbers set) (places_strict 64 set)) (omega arith)

@@ -1,7 +1,7 @@
--- The partitions of a table of sets, written out term by term.
---     coefficient-before     the partition of a set does not occur before the set
---     same_quotients         tables with the same coefficients have the same quotients
-use Rattle.std.proofs.Common.{◌≡◌, ℕ, true, cond, List, [], ◌∷◌, ◌++◌, refl, sym, ap, ap₂, ◌∙◌, subst, inl, inr, ℤ, pos}
+-- The terms of a table of beta sets are written one after another; the label of each is the partition of its set.
+--     coefficient-before     the partition of a term's set is not among those of the terms before it
+--     same_quotients         for tables with the same coefficients, the coefficients divided by d are the same
+use Rattle.std.proofs.Common.{◌≡◌, ℕ, true, cond, List, ◌∷◌, ◌++◌, refl, sym, ap, ap₂, ◌∙◌, subst, inl, ℤ, pos}
 use Rattle.std.specs.Prelude.{nat_eq, Option, Some}
 use Rattle.std.specs.Option.{unwrap_or}
 use Rattle.std.specs.List.{IsDistinct}
@@ -23,19 +23,15 @@ use Rattle.sparse_polys.proofs.Quotients.{Quotients}
 use Rattle.beta_sets.specs.BetaSets.{shape, shapes, same_set, IsInRows}
 use Rattle.beta_sets.proofs.ShapeSums.{over-shapes}
 use Rattle.beta_sets.proofs.SetNumbers.{same_shape}
+use Rattle.sparse_polys.proofs.PartitionTerms.{once_before}
 
--- two terms of a table with the same label are equal
+-- two terms of a table that have the same label are equal
 same_term : (terms : WholeTermsOf ℕ) → IsDistinct nat_eq (keys_of terms) → (t u : ℕ × ℤ) → Among t terms → Among u terms → t.0 ≡ u.0 → t ≡ u
 same_term terms d t u m n e =
     let f = found-among nat_eq_equiv same_set terms d t m in
     let g = found-among nat_eq_equiv same_set terms d u n in
     let v : Some t.1 ≡ Some u.1 = cc in
     ap₂ (λ (a : ℕ) (b : ℤ). (a, b)) e (ap (λ (o : Option ℤ). unwrap_or o (pos 0)) v)
-
-once_before : (done rest : WholeTermsOf ℕ) (t : ℕ × ℤ) → Once (done ++ t ∷ rest) → Among t done → ⊥
-once_before [] rest t o m = m
-once_before (u ∷ done) rest t o (inl e) = o.0 (subst (λ (x : ℕ × ℤ). Among x (done ++ t ∷ rest)) e (Among-append_right t done (t ∷ rest) (inl refl)))
-once_before (u ∷ done) rest t o (inr m) = once_before done rest t o.1 m
 
 pub coefficient-before : (terms : WholeTermsOf ℕ) → IsCombination nat_eq (λ s. true) whole terms → HaveLabels (IsInRows 20 20) terms → (done rest : WholeTermsOf ℕ) (k : ℕ) (v : ℤ) → done ++ (k, v) ∷ rest ≡ terms
     → coefficient (shapes done) (shape k) ≡ pos 0
@@ -46,8 +42,7 @@ coefficient-before terms is within done rest k v e =
     let there = subst (Among r.0) e (Among-append_left r.0 done ((k, v) ∷ rest) r.1) in
     let here = subst (Among (k, v)) e (Among-append_right (k, v) done ((k, v) ∷ rest) (inl refl)) in
     let label = same_shape 20 20 r.0.0 k (within r.0 there) (within (k, v) here) (sym (ap (λ (u : List ℕ × ℤ). u.0) r.2) ∙ i) in
-    once_before done rest (k, v) (subst (λ (l : WholeTermsOf ℕ). Once l) (sym e) (once nat_eq_equiv same_set terms is.distinct))
-    (subst (λ (x : ℕ × ℤ). Among x done) (same_term terms is.distinct r.0 (k, v) there here label) r.1))))
+    once_before done rest (k, v) (subst (λ (l : WholeTermsOf ℕ). Once l) (sym e) (once nat_eq_equiv same_set terms is.distinct)) (subst (λ (x : ℕ × ℤ). Among x done) (same_term terms is.distinct r.0 (k, v) there here label) r.1))))
 
 same_sums : (first second : WholeTermsOf ℕ) → IsCombination nat_eq (λ s. true) whole first → IsCombination nat_eq (λ s. true) whole second → HasSameCoefficients nat_eq (pos 0) first second
     → (label : List ℕ) → coefficient (shapes second) label ≡ coefficient (shapes first) label
@@ -62,7 +57,7 @@ pub same_quotients : (d : ℕ) (first second : WholeTermsOf ℕ) (answer : Terms
     → HasSameCoefficients nat_eq (pos 0) first second → Quotients d answer (shapes second) → Quotients d answer (shapes first)
 same_quotients d first second answer is also equal q label = q label ∙ ap (λ z. lowest_terms z d) (same_sums first second is also equal label)
 
--- if P holds for the labels of a table, it holds for those of every table with the same coefficients
+-- if P holds for the labels of the table `first`, it holds for those of any table `second` with the same coefficients
 pub same_labels : (P : ℕ → Type 0) (first second : WholeTermsOf ℕ) → IsCombination nat_eq (λ s. true) whole first → IsCombination nat_eq (λ s. true) whole second
     → HasSameCoefficients nat_eq (pos 0) first second → HaveLabels P first → HaveLabels P second
 same_labels P first second is also equal held t m =

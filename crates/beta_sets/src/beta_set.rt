@@ -22,24 +22,25 @@ use std::alloc::Global;
 use std::cmp::Ordering;
 use std::marker::Model;
 
-/// A partition, as the set of its beta numbers in some number of rows, which is at least the number
-/// of its parts. All beta numbers are below 64. If the number of rows is that of the parts, the
-/// beta numbers are the hook lengths of the first column. `digits` has the binary digit 1 at each
-/// beta number.
+/// A partition λ as the set of its beta numbers λ_i + k - i, for i from 1 to k, for a number k of
+/// rows that is at least the number of parts of λ. All beta numbers are below 64. If k is the
+/// number of parts, they are the hook lengths of the first column. `digits` has the binary digit 1
+/// at each beta number.
 #[derive(Clone, Copy, PartialEq, Eq, Hash, Drop)]
 pub struct BetaSet {
     digits: u64,
 }
 
 impl BetaSet {
-    /// The empty set, for the empty partition in no rows.
+    /// The empty set, which is that of the empty partition for 0 rows.
     pub fn empty() -> BetaSet
         ensures { result ≡ 0 }
     {
         BetaSet { digits: 0 }
     }
 
-    /// The empty partition in `rows` rows, at most 63: the set of 0, .., `rows` - 1.
+    /// The beta numbers of the empty partition for `rows` rows, at most 63: the set of 0, ..,
+    /// `rows` - 1.
     pub fn staircase(rows: u16) -> BetaSet
         requires { rows < 64 }
         ensures { result + 1 ≡ 2 ^ rows }
@@ -70,14 +71,15 @@ impl BetaSet {
         }
     }
 
-    /// The number of beta numbers.
+    /// The number of beta numbers in the set.
     pub fn len(self) -> u32
         ensures { result ≡ length (numbers self) }
     {
         self.digits.count_ones()
     }
 
-    /// The set of the numbers increased by 1. They must be below 63.
+    /// The set of the numbers of this set, each increased by 1. The numbers of this set must be
+    /// below 63.
     pub fn raised(self) -> BetaSet
         requires { self < 2 ^ 63 }
         ensures { result ≡ 2 * self }
@@ -87,8 +89,8 @@ impl BetaSet {
         }
     }
 
-    /// The beta numbers of the same partition in one more row: each number increased by 1, and 0.
-    /// The numbers must be below 63.
+    /// The beta numbers of the same partition for one more row: each number of the set increased by
+    /// 1, and 0. The numbers of the set must be below 63.
     pub fn lengthened(self) -> BetaSet
         requires { self < 2 ^ 63 }
         ensures { result ≡ 2 * self + 1 }
@@ -98,8 +100,8 @@ impl BetaSet {
         }
     }
 
-    /// The beta numbers of the same partition in `rows` rows, at least as many as the set has numbers.
-    /// They must be below 64, and not be 0, .., 63.
+    /// The beta numbers of the same partition for `rows` rows, at most 63 and at least the number
+    /// of beta numbers in this set. The new beta numbers must be below 64.
     pub fn in_rows(self, rows: u16) -> BetaSet
         requires rows { (length (numbers self) ≤ rows) × (rows < 64) }
         requires room { (self + 1) * 2 ^ (rows - length (numbers self)) < 2 ^ 64 }
@@ -111,7 +113,7 @@ impl BetaSet {
         }
     }
 
-    /// The set with `number`, at most 63, which must not be in it yet.
+    /// The set with `number` added, which is at most 63 and must not be in the set before.
     pub fn with(self, number: u16) -> BetaSet
         requires place { number < 64 }
         requires new { has number (numbers self) ≡ false }
@@ -138,7 +140,7 @@ impl BetaSet {
         (self.digits >> than >> 1).count_ones()
     }
 
-    /// The numbers b of the set such that b + `by` is not in it. `by` is at most 63.
+    /// The set of those numbers b of this set such that b + `by` is not in it. `by` is at most 63.
     pub fn free(self, by: u16) -> BetaSet
         requires { by < 64 }
         ensures { numbers result ≡ free by (numbers self) }
@@ -148,7 +150,7 @@ impl BetaSet {
         }
     }
 
-    /// The numbers of the set that are at least `place`, which is at most 63.
+    /// The set of those numbers of this set that are at least `place`, which is at most 63.
     pub fn from(self, place: u16) -> BetaSet
         requires { place < 64 }
         ensures { numbers result ≡ from_place place (numbers self) }
@@ -158,7 +160,7 @@ impl BetaSet {
         }
     }
 
-    /// The numbers of the set below `place`, which is at most 63.
+    /// The set of those numbers of this set that are below `place`, which is at most 63.
     pub fn below(self, place: u16) -> BetaSet
         requires { place < 64 }
         ensures { numbers result ≡ below_place place (numbers self) }
@@ -168,7 +170,7 @@ impl BetaSet {
         }
     }
 
-    /// The set with `number`, one of its numbers and below 63, increased by 1. The next number must
+    /// The set with `number`, one of its numbers and below 63, increased by 1; `number` + 1 must
     /// not be in the set.
     pub fn raised_at(self, number: u16) -> BetaSet
         requires place { number < 64 }
@@ -192,7 +194,8 @@ impl BetaSet {
         }
     }
 
-    /// The greatest of the `rows` numbers of the set; `None` if the partition of the set is empty.
+    /// The greatest of the numbers of the set, of which there are `rows`; `None` if the partition
+    /// of the set is empty.
     fn first_bead(self, rows: u16) -> Option<u16>
         requires { rows ≡ length (numbers self) }
         ensures { MatchOption result (shape self ≡ []) (λ b. IsSplit self b (self - 2 ^ b)
@@ -207,8 +210,8 @@ impl BetaSet {
         Some(number)
     }
 
-    /// The partition with these beta numbers, which must be within the limits of `Partition`. Fails
-    /// only if memory runs out.
+    /// The partition with these beta numbers, which must have at most 512 rows and 4,096 cells.
+    /// Fails only if memory runs out.
     pub fn partition(self, alloc: Global) -> Result<Partition, NoMemory>
         requires { IsWithinLimits (shape self) }
         ensures { IfOk result (λ p. p ≡ shape self) }
@@ -260,10 +263,10 @@ impl Label for BetaSet {
     ghost order_equal = { sets_tie };
 }
 
-/// A table of partitions, as beta sets, with integer coefficients.
+/// A table of partitions, stored as beta sets, with integer coefficients.
 pub type Shapes = Lin<BetaSet, Int>;
 
-/// The rule that replaces each beta set by its partition.
+/// The linear map that takes each beta set to its partition.
 #[derive(Drop)]
 struct AsPartition {
     alloc: Global,
@@ -283,8 +286,8 @@ impl Rule<BetaSet, Partition> for AsPartition {
     }
 }
 
-/// The list with each beta set replaced by its partition, which must be within the limits of
-/// `Partition`. Returns `Large` only if the absolute values of the coefficients of some partition
+/// The list with each beta set replaced by its partition, which must have at most 512 rows and
+/// 4,096 cells. Returns `Large` only if the absolute values of the coefficients of some partition
 /// add up to 2^127 or more.
 pub fn partitions_of(alloc: Global, list: &Shapes) -> Result<Whole, SumFault>
     requires { HaveLabels (λ s. IsWithinLimits (shape s)) list.now }
@@ -298,8 +301,8 @@ pub fn partitions_of(alloc: Global, list: &Shapes) -> Result<Whole, SumFault>
 }
 
 /// The list with each beta set replaced by its partition, and each coefficient divided by `den`,
-/// which is positive and below 2^127. Each set has 20 numbers, and its partition at most 20 cells.
-/// It never returns `Large`.
+/// which must be positive and below 2^127. Each set must have 20 numbers, and its partition at most
+/// 20 cells. It never returns `Large`.
 pub fn in_partitions(
     alloc: Global,
     list: Shapes,

@@ -1,4 +1,4 @@
--- The reading of a text as an answer.
+-- The results of reading a text as the block of an answer.
 use Rattle.std.proofs.Common.{◌≡◌, ◌≢◌, ℕ, arith, ℤ, pos, List, [], ◌∷◌, ◌++◌, ◌&&◌, ◌==◌, Bool, true, false, cond, Option, Some, None, FitsSigned, refl, sym, ◌∙◌, ap, subst, append-nil, nat_lt, nat_abs}
 use Rattle.std.specs.Prelude.{Err}
 use Rattle.std.specs.Int.{w128}
@@ -22,9 +22,9 @@ use Rattle.block_reader.specs.declared.fault.ReadBackFault.TheVariants.{NotPrint
 use Rattle.block_reader.specs.Fitting.{fits, all_fit}
 use Rattle.block_reader.specs.Readings.{IsReading}
 
--- ---- the terms that are read from the lines of a text
+-- ---- the terms that the lines of a text spell
 
--- whether the terms of the text are canonical, can be printed, and print to this text
+-- whether the terms that the lines of the text spell are canonical, can be printed, and have the text as their block
 abbrev passes : {L : Type 0} → LabelRules L → List ℕ → Bool
 passes rules text = is_canonical_by rules (terms_of rules text) && is_printable (terms_of rules text) && same (block_by rules (terms_of rules text)) text
 
@@ -47,7 +47,8 @@ canonical-fit {L} rules (t ∷ terms) h k =
     (and_from (fits rules.has_fractions t.1) (rules.is_within_limits t.0) (and_from (is_coefficient rules.has_fractions t.1) (fits_128_bits t.1.0 && fits_128_bits (pos t.1.1)) r.0 q.0) r.1)
     (canonical-fit rules terms p.1 q.1)
 
--- if the terms of the text are not in order, or a block cannot have them all, the text is not read
+-- if the terms that the lines of the text spell are not in order, or a block cannot have them all (`all_fit`), the text is not a block (`read_by` is
+-- `None`)
 refused-none : {L : Type 0} (rules : LabelRules L) (text : List ℕ)
     → (is_ordered rules.order (terms_of rules text) && all_fit rules.has_fractions rules.is_within_limits (terms_of rules text)) ≡ false → read_by rules text ≡ None
 refused-none {L} rules text h =
@@ -63,9 +64,9 @@ pub reading-refused : (kind : Kind) (text : List ℕ) (fault : ReadBackFault)
 reading-refused kind text NotPrinted h = refused-none (label_rules kind) text (h refl)
 reading-refused kind text NoMemory h = tt
 
--- ---- texts that are read as a number
+-- ---- texts that are the block of a number
 
--- the first line of the text is a number of 128 bits, and `terms` are the terms of this number
+-- the first line of the text spells an integer of 128 bits, and `terms` are the terms of this integer
 record IsOnLine (text : List ℕ) (terms : Terms (Label kinds.number)) : Type 0 where
   fits : FitsSigned w128 (signed_value (cut_at 10 text).0)
   told : number_terms (signed_value (cut_at 10 text).0) ≡ terms
@@ -109,9 +110,9 @@ none_else (Some x) h = absurd (h x refl)
 pub number-refused : (text : List ℕ) → (FitsSigned w128 (signed_value (cut_at 10 text).0) → ⊥) → read_by (label_rules kinds.number) text ≡ None
 number-refused text large = none_else (read_by (label_rules kinds.number) text) (λ terms e. large (number-line text terms e).fits)
 
--- ---- a text is compared with the block of the answer that was read
+-- ---- the text, compared with the block of the answer that was read
 
--- if every list that `text` is read as is that of the answer a, and a prints to another text, `text` is not read
+-- if only the answer a can have `text` as its block, and the block of a is another text, then `text` is not a block (`read_by` is `None`)
 pub not_printed : (kind : Kind) (text : List ℕ) (a : PlainAnswer)
     → ((terms : Terms (Label kind)) → read_by (label_rules kind) text ≡ Some terms → a ≡ answer kind terms) → answer_text a ≢ text
     → read_by (label_rules kind) text ≡ None

@@ -1,10 +1,10 @@
--- Values of digits, read one by one.
+-- Values of decimal digits, read one after another.
 use Rattle.std.proofs.Common.{◌≡◌, ℕ, ◌+◌, ◌-◌, ◌*◌, ◌≤◌, ◌<◌, length, arith, List, ◌++◌, sym, ◌∙◌, ap, take, drop, get_or}
 use Rattle.std.proofs.lemmas.List.{take-append-drop}
 use Rattle.sym_model.specs.NumberText.{value_from, decimal_value}
 use Rattle.printing_laws.proofs.Decimals.{value_from-append, value_from-ge, decimal_value_more}
 
--- the value of the first digits of a row is at most the value of all its digits
+-- the value of the first k digits is at most the value of all digits
 pub value-front : (xs : List ℕ) (k : ℕ) → decimal_value (take k xs) ≤ decimal_value xs
 value-front xs k =
     let e : value_from 0 (take k xs ++ drop k xs) ≡ value_from (decimal_value (take k xs)) (drop k xs) = value_from-append 0 (take k xs) (drop k xs) in
@@ -12,13 +12,13 @@ value-front xs k =
     let h = value_from-ge (decimal_value (take k xs)) (drop k xs) in
     omega arith
 
--- the value of the first k + 1 digits is 10 times that of the first k, plus the next digit
+-- let `value` be the value of the first k digits: 10 times `value`, plus the next digit, is the value of the first k + 1 digits
 pub value-more : (xs : List ℕ) (k value : ℕ) → value ≡ decimal_value (take k xs) → k < length xs
     → 10 * value + (get_or xs k 0 - 48) ≡ decimal_value (take (k + 1) xs)
 value-more xs k value so_far below =
     ap (λ v. 10 * v + (get_or xs k 0 - 48)) so_far ∙ sym (decimal_value_more xs k below)
 
--- if the value of the first k + 1 digits is not below the bound, neither is the value of all digits
+-- if 10 times the value of the first k digits, plus the next digit, is not below the bound, the value of all digits is not below the bound
 pub value-past : (xs : List ℕ) (k value bound : ℕ) → value ≡ decimal_value (take k xs) → k < length xs
     → (10 * value + (get_or xs k 0 - 48) < bound → ⊥) → decimal_value xs < bound → ⊥
 value-past xs k value bound so_far below past whole =

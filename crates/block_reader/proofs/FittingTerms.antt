@@ -1,4 +1,4 @@
--- Terms that a block can have, and the terms for the parts of a line.
+-- The terms that a block can have, and the terms of a line from its parts.
 use Rattle.std.proofs.Common.{◌≡◌, ◌≢◌, ℕ, zero, suc, arith, ℤ, pos, negsuc, List, [], ◌∷◌, ◌++◌, ◌&&◌, Bool, true, false, FitsSigned, refl, sym, ◌∙◌, ap, ap₂}
 use Rattle.std.specs.Prelude.{nat_lt, nat_abs}
 use Rattle.std.specs.Int.{w128}
@@ -13,7 +13,7 @@ use Rattle.block_reader.specs.Parts.{denominator_after}
 use Rattle.block_reader.specs.Fitting.{fits, all_fit, term_with}
 use Rattle.block_reader.proofs.Cuts.{pieces_after, split-cut}
 
--- ---- the fraction of a line, from its parts
+-- ---- the terms of a line, from its numerator, its denominator and its label
 
 fraction_of-cut : (text : List ℕ) → fraction_of text ≡ (signed_value (cut_at 47 text).0, denominator_after (cut_at 47 text).1)
 fraction_of-cut text = ap fraction_of_pieces (split-cut 47 text) ∙ behind (cut_at 47 text).0 (cut_at 47 text).1
@@ -22,7 +22,7 @@ fraction_of-cut text = ap fraction_of_pieces (split-cut 47 text) ∙ behind (cut
     behind num [] = refl
     behind num (slash ∷ tail) = ap (λ ps. fraction_of_pieces (num ∷ ps)) (split-cut 47 tail)
 
--- the term of a line is made of the numerator, the denominator and the label that were cut out of it
+-- the terms of a line are those of the numerator, the denominator and the label that are cut out of the line (`term_with`)
 pub line-told : {L : Type 0} (rules : LabelRules L) (line coefficient name num den : List ℕ) → coefficient ≡ (cut_at 32 line).0 → name ≡ (cut_at 32 line).1
     → num ≡ (cut_at 47 coefficient).0 → den ≡ (cut_at 47 coefficient).1
     → term_of_line rules (cut_at 32 line) ≡ term_with (signed_value num) den (rules.spelled name)
@@ -37,7 +37,8 @@ counts (pos (suc n)) other = lt-ltb 0 (suc n) (omega arith)
 counts (negsuc n) other = lt-ltb 0 (suc n) (omega arith)
 
 module _ {L : Type 0} (has_fractions : Bool) (is_label : L → Bool) where
-  -- if the numerator z is not 0, the line has one term
+  -- if the numerator z is not 0, the line has one term (`term_with`): `label` with the coefficient that has the numerator z and the denominator in
+  -- `den`
   pub term-counts : (z : ℤ) (den : List ℕ) (label : L) → z ≢ pos 0 → term_with z den label ≡ (label, (z, denominator_after den)) ∷ []
   term-counts z den label other = cond-true (nat_lt 0 (nat_abs z)) ((label, (z, denominator_after den)) ∷ []) [] (counts z other)
 
@@ -47,13 +48,15 @@ module _ {L : Type 0} (has_fractions : Bool) (is_label : L → Bool) where
   alone : (label : L) (c : Fraction) → (fits has_fractions c && is_label label) ≡ false → all_fit has_fractions is_label ((label, c) ∷ []) ≡ false
   alone label c h = ap (λ b. b && true) h
 
-  -- a term with a numerator other than 0 does not fit if a block cannot have its coefficient
+  -- if the numerator z is not 0, and a block cannot have the coefficient with the numerator z and the denominator in `den`, then the term of z, `den`
+  -- and `label` (`term_with`) does not fit (`all_fit`)
   pub term-unfit : (z : ℤ) (den : List ℕ) (label : L) → z ≢ pos 0 → fits has_fractions (z, denominator_after den) ≡ false
       → all_fit has_fractions is_label (term_with z den label) ≡ false
   term-unfit z den label other h =
       ap (all_fit has_fractions is_label) (term-counts z den label other) ∙ alone label (z, denominator_after den) (ap (λ b. b && is_label label) h)
 
-  -- a term with a numerator other than 0 does not fit if a block cannot have its label
+  -- if the numerator z is not 0, and `label` does not pass the test `is_label`, then the term of z, `den` and `label` (`term_with`) does not fit
+  -- (`all_fit`)
   pub term-unlabelled : (z : ℤ) (den : List ℕ) (label : L) → z ≢ pos 0 → is_label label ≡ false
       → all_fit has_fractions is_label (term_with z den label) ≡ false
   term-unlabelled z den label other h =
@@ -61,14 +64,14 @@ module _ {L : Type 0} (has_fractions : Bool) (is_label : L → Bool) where
       ∙ alone label (z, denominator_after den) (false_from_ne_true (fits has_fractions (z, denominator_after den) && is_label label)
       (λ k. let clash : true ≡ false = sym (and_parts (fits has_fractions (z, denominator_after den)) (is_label label) k).1 ∙ h in cc))
 
-  -- a term does not fit if its numerator is not a number of 128 bits
+  -- if the numerator z is not a signed number of 128 bits, then the term of z, `den` and `label` (`term_with`) does not fit (`all_fit`)
   pub term-large : (z : ℤ) (den : List ℕ) (label : L) → (FitsSigned w128 z → ⊥) → all_fit has_fractions is_label (term_with z den label) ≡ false
   term-large z den label large =
       term-unfit z den label (λ e. large (fits_from_test z (ap fits_128_bits e)))
       (false_from_ne_true (fits has_fractions (z, denominator_after den)) (λ k.
       large (fits_from_test z (and_parts (fits_128_bits z) (fits_128_bits (pos (denominator_after den))) (and_parts (is_coefficient has_fractions (z, denominator_after den)) _ k).1).0)))
 
-  -- if a list of terms does not fit, neither does a longer list that ends with it
+  -- if the terms ys do not all fit (`all_fit`), the terms xs ++ ys do not all fit
   pub unfit-behind : (xs ys : Terms L) → all_fit has_fractions is_label ys ≡ false → all_fit has_fractions is_label (xs ++ ys) ≡ false
   unfit-behind [] ys h = h
   unfit-behind (x ∷ xs) ys h = false_from_ne_true (all_fit has_fractions is_label (x ∷ xs ++ ys))

@@ -19,12 +19,12 @@ use Rattle.partitions.specs.Limits.{RisesFirstAt}
 use Rattle.perm_codes.specs.Limits.{OffendsFirstAt}
 use Rattle.block_reader.specs.Parts.{AreSmall}
 
--- if the option is `None`, `MatchOption` says that P holds
+-- if `MatchOption o P Q` holds and the option o is `None`, then P holds
 pub at_none : {A : Type 0} (P : Type 0) (Q : A → Type 0) (o : Option A) → o ≡ None → MatchOption o P Q → P
 at_none P Q None e h = h
 at_none P Q (Some x) e h = cc
 
--- ---- lists that are not partitions
+-- ---- lists of numbers that are no label of a partition
 
 falls-at : (parts : List ℕ) (k : ℕ) → Falls parts → slice_index parts (suc k) ≤ slice_index parts k
 falls-at [] k f = omega arith
@@ -69,7 +69,7 @@ small-from_size (a ∷ numbers) h = (omega arith, small-from_size numbers (omega
 pub not_label-numbers : (parts : List ℕ) → (AreSmall parts → ⊥) → is_label parts ≡ false
 not_label-numbers parts large = false_from_ne_true (is_label parts) (λ h. let small = (is_label-tells parts h).size in large (small-from_size parts (omega arith)))
 
--- ---- lists that are not monomials
+-- ---- lists of numbers that are no label of a monomial
 
 record IsMonomial (e : List ℕ) : Type 0 where
   whole : without_last_zeros e ≡ e
@@ -102,7 +102,7 @@ not_monomial-big e big = false_from_ne_true (is_monomial_label e) (λ h.
 pub not_monomial-numbers : (e : List ℕ) → (AreSmall e → ⊥) → is_monomial_label e ≡ false
 not_monomial-numbers e large = false_from_ne_true (is_monomial_label e) (λ h. let small = (monomial-tells e h).small in large (small-from_size e (omega arith)))
 
--- ---- lists that are not permutations
+-- ---- lists of numbers that are no label of a permutation
 
 record IsKeptLetters (w : List ℕ) : Type 0 where
   letters : are_letters (length w) w ≡ true
@@ -164,7 +164,7 @@ pub not_permutation-numbers : (w : List ℕ) → (AreSmall w → ⊥) → is_per
 not_permutation-numbers w large = false_from_ne_true (is_permutation_label w) (λ h.
     let p = permutation-tells w h in large (letters-small (length w) w p.few p.letters))
 
--- if w without its fixed letters at the end has as many letters as w, it is w
+-- if `kept w`, which is w without the fixed letters at its end, has the length of w, then it equals w
 pub kept-long : (w : List ℕ) → length (kept w) ≡ length w → kept w ≡ w
 kept-long w long =
     let t = kept_whole w in

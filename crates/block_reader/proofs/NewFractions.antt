@@ -1,4 +1,4 @@
--- A fraction num/den that a block can have is unchanged by reduction to lowest terms.
+-- A fraction num/den that a block can have is not changed by reduction to lowest terms.
 use Rattle.std.proofs.Common.{◌≡◌, ℕ, ◌*◌, arith, ℤ, pos, true, false, ◌&&◌, Some, None, Option, refl, ◌∙◌, ap, ap₂}
 use Rattle.std.specs.Ordering.{int_eq}
 use Rattle.std.proofs.lemmas.Bool.{and_parts, cond-false, false_from_ne_true}
@@ -28,7 +28,7 @@ fits-new num den positive e h =
     ∙ ap checked_fraction quotient
     ∙ where_fits-true (fits_fraction (num, den)) (num, den) p.1
 
--- if the fraction that is made of num and den is not (num, den), a block cannot have (num, den)
+-- if the fraction num/den that `checked_fraction_of` computes is not (num, den) itself, a block cannot have (num, den) as a coefficient
 pub not_new : (num : ℤ) (den : ℕ) (positive : ℤ) (made : Option (ℤ × ℕ)) → positive ≡ pos den → made ≡ checked_fraction_of num positive
     → (made ≡ Some (num, den) → ⊥) → fits true (num, den) ≡ false
 not_new num den positive made e is other = false_from_ne_true (fits true (num, den)) (λ h. other (is ∙ fits-new num den positive e h))

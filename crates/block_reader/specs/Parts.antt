@@ -1,4 +1,4 @@
--- Parts of a printed line.
+-- Pieces of a printed line, and lists of small numbers.
 use Rattle.std.specs.Prelude.{ℕ, ◌<◌, ◌^◌, List, [], ◌∷◌}
 use Rattle.sym_model.specs.NumberText.{cut_at, decimal_value, without_last}
 
@@ -7,7 +7,7 @@ abbrev pub inside_of : List ℕ → List ℕ
 inside_of [] = []
 inside_of (byte ∷ text) = without_last text
 
--- the denominator of a fraction, given its text after the numerator; `/` is the byte 47
+-- the denominator of a fraction, given its text after the numerator: 1 if this text is empty, and otherwise the number after the `/`
 abbrev pub denominator_after : List ℕ → ℕ
 denominator_after [] = 1
 denominator_after (slash ∷ text) = decimal_value (cut_at 47 text).0

@@ -1,4 +1,4 @@
--- The reading of a text as an answer.
+-- Correct results of reading a text as the block of an answer.
 use Rattle.std.specs.Prelude.{◌≡◌, ℕ, List, Result, Ok, Err, Some, None}
 use Rattle.sym_model.specs.Answer.{answer}
 use Rattle.sym_model.specs.Expansion.{Terms}
@@ -9,8 +9,8 @@ use Rattle.expansion_printer.specs.Answers.{kind_of_answer, plain_answer}
 use Rattle.block_reader.specs.declared.fault.ReadBackFault.{ReadBackFault}
 use Rattle.block_reader.specs.declared.fault.ReadBackFault.TheVariants.{NotPrinted, NoMemory}
 
--- The answer is the only one of its kind that can have this text as its block; `NotPrinted` means that there is none.
--- Nothing is required if memory runs out.
+-- The result is correct: an answer of this kind that is the only one that can have the text as its block; or `NotPrinted`, if no answer of this kind
+-- has this block. Nothing is required if memory runs out.
 abbrev pub IsReading : Kind → List ℕ → Result Answer ReadBackFault → Type 0
 IsReading kind text (Ok a) = (kind_of_answer a ≡ kind)
     × ((terms : Terms (Label kind)) → read_by (label_rules kind) text ≡ Some terms

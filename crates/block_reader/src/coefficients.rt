@@ -1,16 +1,16 @@
-//! Coefficients, read back from their numbers.
+//! Coefficients, read back from their numerators and denominators.
 ghost use Rattle.std.specs.Prelude.{◌≡◌, Bool, true, false, MatchOption};
 ghost use Rattle.block_reader.specs.Fitting.{fits};
 
 use coeff_rings::{Frac, Int, Scalar};
 
-/// Coefficients that can be read back.
+/// Coefficients that can be read back from a block.
 pub(crate) trait Coefficient: Scalar {
     // Whether the coefficients may be fractions.
     ghost has_fractions: { Bool };
 
     /// The coefficient with this numerator and this denominator, or `None` if a block cannot have
-    /// it.
+    /// such a coefficient.
     fn of_parts(num: i128, den: u128) -> Option<Self>
         ensures { MatchOption result (fits has_fractions (num, den) ≡ false)
             (λ c. Self.value c ≡ (num, den)) };

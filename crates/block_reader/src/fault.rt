@@ -9,7 +9,7 @@ use thiserror::Error;
 /// The reason why a text is not read back as an answer.
 #[derive(Clone, Copy, Debug, PartialEq, Eq, Hash, Error)]
 pub enum ReadBackFault {
-    /// The text is not a block that an answer of this kind prints.
+    /// The text is not the block, or not the one-line form, of an answer of this kind.
     #[error("no printed block of this kind")]
     NotPrinted,
     /// Memory ran out.

@@ -17,13 +17,13 @@ use perm_codes::{Perm, PermFault};
 use sparse_polys::{MonoFault, Monomial, Pair, Power, Shifted};
 use std::alloc::Global;
 
-/// Labels that can be read back.
+/// Labels that can be read back from a block.
 pub(crate) trait Spelled: Label {
     // The rules by which these labels are printed in a block and read back.
     ghost line_rules: { LabelRules Self };
 
-    /// The label that the text after a coefficient spells, or `None` if it is no label within the
-    /// limits.
+    /// The label that the text after a coefficient spells, or `None` if the text spells no label
+    /// within the limits.
     fn spelled(alloc: Global, text: &[u8]) -> Result<Option<Self>, NoMemory>
         ensures { IfOk result (λ found. MatchOption found
             (Self.is_label (line_rules.spelled text.now) ≡ false)
@@ -99,7 +99,8 @@ impl Spelled for Shifted {
     }
 }
 
-/// The partition of a label, or `None` if its numbers are no partition within the limits.
+/// The partition that the text of a label spells, or `None` if its numbers are no partition within
+/// the limits.
 fn shape_of(alloc: Global, label: &[u8]) -> Result<Option<Partition>, NoMemory>
     ensures { IfOk result (λ found.
         MatchOption found (is_label (label_of label.now) ≡ false)
@@ -125,7 +126,7 @@ fn partition_of(alloc: Global, parts: &[u16]) -> Result<Option<Partition>, NoMem
     }
 }
 
-/// The partition `shape`, which was made of these parts, if they have no zeros at the end.
+/// `shape`, which is `parts` without the zeros at the end, or `None` if `parts` has such zeros.
 fn whole_shape(shape: Partition, parts: &[u16]) -> Option<Partition>
     requires { shape ≡ without_last_zeros parts.now }
     ensures { MatchOption result (is_label parts.now ≡ false) (λ shape. shape ≡ parts.now) }
@@ -136,8 +137,8 @@ fn whole_shape(shape: Partition, parts: &[u16]) -> Option<Partition>
     None
 }
 
-/// The permutation of a label, or `None` if its numbers are no permutation within the limits and
-/// without fixed letters at its end.
+/// The permutation that the text of a label spells; `None` unless its numbers are a permutation
+/// that is within the limits and has no fixed letters at its end.
 fn labelled_permutation(alloc: Global, label: &[u8]) -> Result<Option<Perm>, NoMemory>
     ensures { IfOk result (λ found.
         MatchOption found (is_permutation_label (label_of label.now) ≡ false)
@@ -149,8 +150,8 @@ fn labelled_permutation(alloc: Global, label: &[u8]) -> Result<Option<Perm>, NoM
     }
 }
 
-/// The permutation with these letters, or `None` if they are no permutation within the limits and
-/// without fixed letters at its end.
+/// The permutation with these letters; `None` unless they are a permutation that is within the
+/// limits and has no fixed letters at its end.
 fn permutation_of(alloc: Global, letters: &[u16]) -> Result<Option<Perm>, NoMemory>
     ensures { IfOk result (λ found.
         MatchOption found (is_permutation_label letters.now ≡ false) (λ w. w ≡ letters.now)) }
@@ -164,7 +165,8 @@ fn permutation_of(alloc: Global, letters: &[u16]) -> Result<Option<Perm>, NoMemo
     }
 }
 
-/// The permutation `w`, which was made of these letters, if it has all of them.
+/// `w`, which is `letters` without the fixed letters at the end (`kept`), or `None` if `w` is
+/// shorter than `letters`.
 fn whole_permutation(w: Perm, letters: &[u16]) -> Option<Perm>
     requires { w ≡ kept letters.now }
     ensures { MatchOption result (is_permutation_label letters.now ≡ false) (λ w. w ≡ letters.now) }
@@ -175,7 +177,8 @@ fn whole_permutation(w: Perm, letters: &[u16]) -> Option<Perm>
     None
 }
 
-/// The monomial of a label, or `None` if its exponents exceed the limits or end in a zero.
+/// The monomial that the text of a label spells, or `None` if its exponents exceed the limits or
+/// end in a zero.
 fn labelled_monomial(alloc: Global, label: &[u8]) -> Result<Option<Monomial>, NoMemory>
     ensures { IfOk result (λ found.
         MatchOption found (is_monomial_label (label_of label.now) ≡ false)
@@ -200,7 +203,7 @@ fn monomial_of(alloc: Global, exponents: &[u16]) -> Result<Option<Monomial>, NoM
     }
 }
 
-/// The monomial `m`, which was made of these exponents, if they have no zeros at the end.
+/// `m`, which is `exponents` without the zeros at the end, or `None` if `exponents` has such zeros.
 fn whole_monomial(m: Monomial, exponents: &[u16]) -> Option<Monomial>
     requires { m ≡ without_last_zeros exponents.now }
     ensures { MatchOption result (is_monomial_label exponents.now ≡ false)
@@ -212,7 +215,7 @@ fn whole_monomial(m: Monomial, exponents: &[u16]) -> Option<Monomial>
     None
 }
 
-/// The value of a row of digits, if it is below 2^32.
+/// The value of a text of decimal digits, if it is below 2^32.
 fn power_of(digits: &[u8]) -> Option<u32>
     ensures { SomeIff result (decimal_value digits.now < 2 ^ 32) (decimal_value digits.now) }
 {

@@ -1,13 +1,14 @@
 //! Printed blocks and one-line forms, read back as answers. The answer that is read is printed
-//! again, and the bytes are compared; a one-line form is rewritten as a block first.
+//! again, and the bytes are compared; a one-line form is first rewritten as a block.
 //!
 //! What is proved:
 //!
-//! `read_back`: the answer of a given kind whose block is a given text. It prints to the same bytes
-//! and is canonical; `NotPrinted` is returned only if the text is not a block of that kind.
-//! `read_one_line`: the expansion or product whose one-line form in a basis is a given text. It
-//! prints to the same bytes and is canonical, and the text without its LF is an expression that
-//! denotes the list of the answer; `NotPrinted` is returned only if the text is not such a form.
+//! `read_back` returns the answer of a given kind whose block is a given text; the answer prints to
+//! the same bytes and is canonical. It returns `NotPrinted` only if the text is not a block of that
+//! kind. `read_one_line` returns the expansion or product whose one-line form in a basis is a given
+//! text; the answer prints to the same bytes and is canonical, and the text without its line feed
+//! is an expression that denotes the terms of the answer. It returns `NotPrinted` only if the text
+//! is not such a form.
 #![tactic(auto)]
 
 mod coefficients;

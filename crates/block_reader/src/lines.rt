@@ -1,4 +1,4 @@
-//! Lines of blocks, read back.
+//! The terms of the lines of a block, read back.
 ghost use Rattle.std.specs.Prelude.{◌≡◌, ◌++◌, ◌&&◌, false, IfOk, IsErrOf, OnOk, MatchOption};
 ghost use Rattle.sparse_polys.specs.Combination.{terms_of};
 ghost use Rattle.sym_model.specs.Canonical.{is_ordered};
@@ -17,7 +17,7 @@ use coeff_rings::{Int, Scalar};
 use linear_combinations::{Label, Terms};
 use std::alloc::Global;
 
-/// The terms that the lines of a text spell, or `NotPrinted` if a block cannot have them.
+/// The terms that the lines of a text spell, or `NotPrinted` if a block cannot have these terms.
 pub(crate) fn read_terms<L: Spelled, R: Coefficient>(
     alloc: Global,
     text: &[u8],
@@ -35,7 +35,8 @@ pub(crate) fn read_terms<L: Spelled, R: Coefficient>(
     }
 }
 
-/// The labels and coefficients that the lines of a text spell.
+/// The labels and coefficients of the terms that the lines of a text spell; terms with the
+/// coefficient 0 are left out. `NotPrinted` if a block cannot have one of the terms.
 fn read_pairs<L: Spelled, R: Coefficient>(
     alloc: Global,
     text: &[u8],
@@ -58,7 +59,7 @@ fn read_pairs<L: Spelled, R: Coefficient>(
     }
 }
 
-/// Appends the term of a line, if there is one.
+/// Appends the term that was found in a line, if there is one.
 fn push_found<L: Label, R: Scalar>(
     pairs: &mut Vec<(L, R)>,
     found: Option<(L, R)>,
@@ -73,7 +74,8 @@ fn push_found<L: Label, R: Scalar>(
     Ok(())
 }
 
-/// The term of a line, or `None` if its coefficient is 0.
+/// The term of a line, or `None` if its coefficient is 0; `NotPrinted` if a block cannot have this
+/// term.
 fn read_line<L: Spelled, R: Coefficient>(
     alloc: Global,
     line: &[u8],
@@ -101,7 +103,8 @@ fn read_line<L: Spelled, R: Coefficient>(
     }
 }
 
-/// The coefficient with this numerator, and with the denominator in the text after it.
+/// The coefficient with the numerator `num` and the denominator in `text`, which follows the
+/// numerator; `None` if a block cannot have such a coefficient.
 fn coefficient_with<R: Coefficient>(num: i128, text: &[u8]) -> Option<R>
     ensures { MatchOption result (fits R.has_fractions (num, denominator_after text.now) ≡ false)
         (λ c. R.value c ≡ (num, denominator_after text.now)) }

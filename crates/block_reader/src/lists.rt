@@ -1,4 +1,4 @@
-//! Lists of numbers with commas between them.
+//! Lists of numbers with commas between them, read back.
 ghost use Rattle.std.specs.Prelude.{◌≡◌, ◌^◌, ◌<◌, length, SomeIff, IfOk, MatchOption};
 ghost use Rattle.sym_model.specs.NumberText.{decimal_value, label_of, numbers_of};
 ghost use Rattle.block_reader.specs.Parts.{AreSmall};
@@ -8,7 +8,7 @@ use crate::numbers::number_of;
 use calc_base::NoMemory;
 use std::alloc::Global;
 
-/// The numbers of a label, if each is below 2^16.
+/// The numbers in the text of a label, or `None` if one of them is 2^16 or more.
 pub(crate) fn list_of(alloc: Global, label: &[u8]) -> Result<Option<Vec<u16>>, NoMemory>
     ensures { IfOk result (λ found.
         MatchOption found (¬ AreSmall (label_of label.now))
@@ -21,7 +21,8 @@ pub(crate) fn list_of(alloc: Global, label: &[u8]) -> Result<Option<Vec<u16>>, N
     numbers_in(alloc, text)
 }
 
-/// The numbers between the commas of a text that is not empty, if each is below 2^16.
+/// The numbers between the commas of a text that is not empty, or `None` if one of them is 2^16 or
+/// more.
 fn numbers_in(alloc: Global, text: &[u8]) -> Result<Option<Vec<u16>>, NoMemory>
     requires { 0 < length text.now }
     ensures { IfOk result (λ found.
@@ -43,7 +44,7 @@ fn numbers_in(alloc: Global, text: &[u8]) -> Result<Option<Vec<u16>>, NoMemory>
     }
 }
 
-/// The value of a row of digits, if it is below 2^16.
+/// The value of a text of decimal digits, if it is below 2^16.
 fn small_number(digits: &[u8]) -> Option<u16>
     ensures { SomeIff result (decimal_value digits.now < 2 ^ 16) (decimal_value digits.now) }
 {

@@ -29,7 +29,7 @@ pub fn read_one_line(
         answer_text_in (as_line (basis_of basis)) (plain_answer answer) ≡ text.now) }
     ensures printable { IfOk result (λ answer. IsPrintable (plain_answer answer)) }
 
-    // The text without its LF is an expression that denotes the list of the answer.
+    // The text without its line feed is an expression that denotes the terms of the answer.
     ensures expression { IfOk result
         (λ answer. IsLineOfExpression (basis_of basis) (plain_answer answer)) }
     ensures not_printed { IsErrOf result ReadBackFault.NotPrinted
@@ -40,7 +40,8 @@ pub fn read_one_line(
     checked(alloc, answer, basis, text)
 }
 
-/// The answer, if the text is its line.
+/// The answer, if the text is its one-line form with the atoms of the basis; otherwise
+/// `NotPrinted`.
 fn checked(
     alloc: Global,
     answer: Answer,
@@ -54,7 +55,7 @@ fn checked(
     ensures not_printed { IsErrOf result ReadBackFault.NotPrinted
         → answer_text_in (as_line (basis_of basis)) (plain_answer answer) ≢ text.now }
 
-    // Memory can run out only if the line has the length of the text.
+    // Memory can run out only if the one-line form of the answer has the length of the text.
     ensures no_memory { IsErrOf result ReadBackFault.NoMemory
         → length (answer_text_in (as_line (basis_of basis)) (plain_answer answer))
         ≡ length text.now }
@@ -66,7 +67,7 @@ fn checked(
     }
 }
 
-/// Whether the text is the line of the answer.
+/// Whether the text is the one-line form of the answer with the atoms of the basis.
 fn is_line(alloc: Global, answer: &Answer, basis: Basis, text: &[u8]) -> Result<bool, NoMemory>
     ensures compares { IfOk result (λ same. MatchBool same
         (answer_text_in (as_line (basis_of basis)) (plain_answer answer.now) ≡ text.now)
@@ -81,14 +82,15 @@ fn is_line(alloc: Global, answer: &Answer, basis: Basis, text: &[u8]) -> Result<
     }
     let mut sink = MemSink::new(alloc, text.len(), &[])?;
     if print_one_line(answer, basis, &mut sink).is_err() {
-        // This sink has room for the text, which is as long as the line, so it fails only if memory
-        // runs out.
+        // This sink has room for the text, which is as long as the one-line form, so it fails only
+        // if memory runs out.
         return Err(NoMemory);
     }
     Ok(sink.bytes() == text)
 }
 
-/// Whether the line of the answer has the length of the text.
+/// Whether the one-line form of the answer, with the atoms of the basis, has the length of the
+/// text.
 fn has_length(answer: &Answer, basis: Basis, text: &[u8]) -> bool
     ensures length { let line = answer_text_in (as_line (basis_of basis)) (plain_answer answer.now) in
         MatchBool result (length line ≡ length text.now) (length line ≢ length text.now) }

@@ -1,4 +1,4 @@
-//! Texts, read back as answers.
+//! Printed blocks, read back as answers.
 ghost use Rattle.std.specs.Prelude.{◌≡◌, ◌≢◌, None, IfOk, IsErrOf, MatchBool, OnErr, length};
 ghost use Rattle.sym_model.specs.Answer.{answer_text, IsPrintable};
 ghost use Rattle.sym_model.specs.Kind.{label_rules, number, expansion, product, pairs, powers};
@@ -31,7 +31,7 @@ pub fn read_back(alloc: Global, text: &[u8], kind: Kind) -> Result<Answer, ReadB
     checked(alloc, answer, text)
 }
 
-/// The answer, if the text is its block.
+/// The answer, if the text is its block; otherwise `NotPrinted`.
 fn checked(alloc: Global, answer: Answer, text: &[u8]) -> Result<Answer, ReadBackFault>
     ensures same { IfOk result (λ same. same ≡ answer) }
     ensures prints { IfOk result (λ same. answer_text (plain_answer same) ≡ text.now) }
@@ -82,7 +82,8 @@ fn has_length(answer: &Answer, text: &[u8]) -> bool
     count.count() == text.len() as u128
 }
 
-/// The one answer of this kind that can have this block.
+/// The only answer of this kind that can have the text as its block, or `NotPrinted` if there is no
+/// such answer.
 fn candidate(alloc: Global, text: &[u8], kind: Kind) -> Result<Answer, ReadBackFault>
     ensures { IsReading (kind_of kind) text.now result }
 {
@@ -98,7 +99,7 @@ fn candidate(alloc: Global, text: &[u8], kind: Kind) -> Result<Answer, ReadBackF
     }
 }
 
-/// Reads a number.
+/// The only number that can have the text as its block, or `NotPrinted`.
 fn read_number(text: &[u8]) -> Result<Answer, ReadBackFault>
     ensures { IsReading number text.now result }
 {
@@ -111,7 +112,7 @@ fn read_number(text: &[u8]) -> Result<Answer, ReadBackFault>
     }
 }
 
-/// Reads partitions with fractions.
+/// The only list of partitions with fractions that can have the text as its block, or `NotPrinted`.
 fn read_expansion(alloc: Global, text: &[u8]) -> Result<Answer, ReadBackFault>
     ensures { IsReading expansion text.now result }
 {
@@ -119,7 +120,8 @@ fn read_expansion(alloc: Global, text: &[u8]) -> Result<Answer, ReadBackFault>
     Ok(Answer::Expansion { terms })
 }
 
-/// Reads partitions with integer coefficients.
+/// The only list of partitions with integer coefficients that can have the text as its block, or
+/// `NotPrinted`.
 fn read_product(alloc: Global, text: &[u8]) -> Result<Answer, ReadBackFault>
     ensures { IsReading product text.now result }
 {
@@ -127,7 +129,7 @@ fn read_product(alloc: Global, text: &[u8]) -> Result<Answer, ReadBackFault>
     Ok(Answer::Product { terms })
 }
 
-/// Reads pairs of partitions.
+/// The only list of pairs of partitions that can have the text as its block, or `NotPrinted`.
 fn read_pairs(alloc: Global, text: &[u8]) -> Result<Answer, ReadBackFault>
     ensures { IsReading pairs text.now result }
 {
@@ -135,7 +137,8 @@ fn read_pairs(alloc: Global, text: &[u8]) -> Result<Answer, ReadBackFault>
     Ok(Answer::Pairs { terms })
 }
 
-/// Reads partitions with a power of q.
+/// The only list of partitions with powers of q that can have the text as its block, or
+/// `NotPrinted`.
 fn read_powers(alloc: Global, text: &[u8]) -> Result<Answer, ReadBackFault>
     ensures { IsReading powers text.now result }
 {
@@ -143,7 +146,7 @@ fn read_powers(alloc: Global, text: &[u8]) -> Result<Answer, ReadBackFault>
     Ok(Answer::Powers { terms })
 }
 
-/// Reads permutations.
+/// The only list of permutations that can have the text as its block, or `NotPrinted`.
 fn read_permutations(alloc: Global, text: &[u8]) -> Result<Answer, ReadBackFault>
     ensures { IsReading permutations text.now result }
 {
@@ -151,7 +154,7 @@ fn read_permutations(alloc: Global, text: &[u8]) -> Result<Answer, ReadBackFault
     Ok(Answer::Permutations { terms })
 }
 
-/// Reads monomials with integer coefficients.
+/// The only list of monomials that can have the text as its block, or `NotPrinted`.
 fn read_polynomial(alloc: Global, text: &[u8]) -> Result<Answer, ReadBackFault>
     ensures { IsReading polynomial text.now result }
 {
@@ -159,7 +162,8 @@ fn read_polynomial(alloc: Global, text: &[u8]) -> Result<Answer, ReadBackFault>
     Ok(Answer::Polynomial { terms })
 }
 
-/// Reads permutations, each with a monomial in the variables y.
+/// The only list of permutations with monomials in the variables y that can have the text as its
+/// block, or `NotPrinted`.
 fn read_shifts(alloc: Global, text: &[u8]) -> Result<Answer, ReadBackFault>
     ensures { IsReading shifts text.now result }
 {

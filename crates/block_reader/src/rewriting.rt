@@ -1,12 +1,12 @@
-//! A one-line form rewritten as a block.
+//! Rewriting a one-line form as a block.
 ghost use Rattle.std.specs.Prelude.{◌≡◌, ◌++◌, true, cond, codes, IfOk, OnOk};
 ghost use Rattle.block_reader.specs.Lines.{block_from, emitted, is_dropped, is_bare_after};
 
 use calc_base::NoMemory;
 use std::alloc::Global;
 
-/// The block for a one-line form, byte by byte: a line for each atom, with the coefficient in front
-/// of it, or 1. The result for any other text does not matter.
+/// The block for a one-line form: a line for each atom, with the coefficient in front of the atom,
+/// or 1 if there is no coefficient. For a text that is no one-line form, the result has no meaning.
 pub(crate) fn as_block(alloc: Global, text: &[u8]) -> Result<Vec<u8>, NoMemory>
     ensures { IfOk result (λ block. block.items ≡ block_from true text.now) }
 {
@@ -19,8 +19,8 @@ pub(crate) fn as_block(alloc: Global, text: &[u8]) -> Result<Vec<u8>, NoMemory>
     Ok(block)
 }
 
-/// Appends the part of the block for a byte of the one-line form; `bare` is whether no coefficient
-/// of the next atom has been read.
+/// Appends to the block the text for a byte of the one-line form; `bare` says whether no digit has
+/// been read since the last atom.
 fn put_byte(block: &mut Vec<u8>, bare: bool, byte: u8) -> Result<(), NoMemory>
     ensures { OnOk result (block.new.items ≡ block.old.items ++ emitted bare byte) }
 {
@@ -37,7 +37,7 @@ fn put_byte(block: &mut Vec<u8>, bare: bool, byte: u8) -> Result<(), NoMemory>
     Ok(())
 }
 
-/// Appends a text.
+/// Appends a text to the block.
 fn put_text(block: &mut Vec<u8>, text: &[u8]) -> Result<(), NoMemory>
     ensures { OnOk result (block.new.items ≡ block.old.items ++ text.now) }
 {
@@ -45,7 +45,8 @@ fn put_text(block: &mut Vec<u8>, text: &[u8]) -> Result<(), NoMemory>
     Ok(())
 }
 
-/// The text that opens a label, with the coefficient 1 if none was read.
+/// The text in front of a label: two spaces and `(`, after the coefficient 1 if `bare` is true,
+/// that is, if no coefficient was read.
 fn opening(bare: bool) -> &'static [u8]
     ensures { result.now ≡ cond bare (codes "1  (") (codes "  (") }
 {
@@ -55,15 +56,16 @@ fn opening(bare: bool) -> &'static [u8]
     b"  ("
 }
 
-/// Whether a byte adds nothing to the block: `+`, `*`, a letter, and the end of the line after an
-/// atom.
+/// Whether a byte of a one-line form adds nothing to the block: `+`, `*`, a letter, and a line feed
+/// if `bare` is true, that is, if no digit was read since the last atom.
 fn is_dropped(bare: bool, byte: u8) -> bool
     ensures { result ≡ is_dropped bare byte }
 {
     byte == b'+' || byte == b'*' || byte >= b'a' || bare && byte == b'\n'
 }
 
-/// Whether, after this byte, no coefficient of the next atom has been read.
+/// Whether, after the byte `byte` is read, no digit has been read since the last atom; `bare` says
+/// whether this holds before `byte` is read.
 fn is_bare_after(bare: bool, byte: u8) -> bool
     ensures { result ≡ is_bare_after bare byte }
 {

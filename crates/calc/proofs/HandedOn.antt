@@ -1,4 +1,4 @@
--- If nothing waits in the buffer of a sink over a writer, the writer holds all that was written to the sink.
+-- If the buffer of a sink over a writer is empty, the writer has received all that was written to the sink.
 use Rattle.std.proofs.Common.{◌≡◌, ℕ, List, [], ◌∷◌, Option, Some, None, true, false, refl, ap, ◌∙◌, append-nil}
 use Rattle.std.proofs.lemmas.Bool.{and_parts}
 use Rattle.std.specs.Io.KnownBytes.{append_known}
@@ -12,7 +12,7 @@ nothing_more : (known : Option (List ℕ)) → append_known known [] ≡ known
 nothing_more None = refl
 nothing_more (Some bytes) = ap Some (append-nil bytes)
 
--- If nothing waits in the buffer, then the bytes that were written to the sink are the bytes that the writer holds.
+-- If the buffer of the sink is empty (`is_handed_on`), the bytes that were written to the sink are the bytes that its writer has received.
 pub handed_on : {W : Type 0} (contents : W → Option (List ℕ)) (s : Outlet W) → is_handed_on s ≡ true → told_bytes contents s ≡ contents s.writer
 handed_on contents s settled =
     ap (append_known (contents s.writer)) (none_waits s.waiting (and_parts s.finished (is_none s.waiting) settled).1) ∙ nothing_more (contents s.writer)

@@ -1,13 +1,13 @@
-//! The calculator as a program. It runs the command that its words name, over standard input and
-//! standard output, and ends with the code of its status. Nothing goes to standard error.
+//! The calculator as a program. It runs the command that its words spell, over standard input and
+//! standard output, and exits with the code of its status. Nothing is written to standard error.
 //!
 //! What is proved:
 //!
-//! The program is proved safe; the run that is kept as its example is `expand m p[2,1]`.
-//! `code_of_run`: the exit code of the program is the code of a status that the words after the
-//! program's name may have, by `AnswersWords`. `code_for`: 7 or 8 if the system refuses the words.
-//! `run_over`: all clauses of `run`, over any reader and any writer with a buffer in front of it;
-//! its clauses `headline` and `lines` hold also for the bytes that the writer itself holds.
+//! The program is proved safe; its example run is `expand m p[2,1]`. `code_of_run`: the exit code
+//! of the program is the code of a status that the words after the program's name may have, by
+//! `AnswersWords`. `code_for`: the exit code is 7 or 8 if the system refuses the words. `run_over`:
+//! all clauses of `run`, over any reader and any writer with a buffer in front of it; the clauses
+//! `headline` and `lines` hold also for the bytes that the writer has received from the buffer.
 #![tactic(auto)]
 
 ghost use Rattle.std.specs.Prelude.{◌≡◌, ◌≢◌, ℕ, List, Some, drop, map, string_bytes};
@@ -37,7 +37,8 @@ fn main(rt: HostRuntime) -> ExitCode {
     }
 }
 
-/// Runs the words after the program's name, and returns the exit code of their status.
+/// Runs the command that the words after the program's name spell, and returns the exit code of its
+/// status.
 fn code_of_run(rt: &HostRuntime, arguments: &[String]) -> ExitCode
     ensures { IsCodeOf (AnswersWords (map string_bytes (drop 1 arguments.now)) (λ line. Unit {0}))
         (exit_status result) }
@@ -45,7 +46,7 @@ fn code_of_run(rt: &HostRuntime, arguments: &[String]) -> ExitCode
     ExitCode::from(status_of(rt, after_name(arguments)).code())
 }
 
-/// The words from the system, of which the first is the program's name.
+/// The words that the system gives to the program; the first one is the program's name.
 fn arguments_of(rt: &(impl Env + Alloc<A = Global>)) -> io::Result<Vec<String>> {
     Ok(env::args(rt)?.collect(rt.alloc())?)
 }
@@ -73,12 +74,13 @@ fn code_for(refusal: ErrorKind) -> u8
     }
 }
 
-/// Runs the words over standard input and standard output. The text is written in large pieces.
-/// When a batch has no further line to run, `run` flushes the output, so that a caller who sends a
-/// line and waits for its block receives it.
+/// Runs the command that the words spell over standard input and standard output. The text is
+/// written in large pieces. After a block of a batch, `run` flushes the output if no further
+/// complete line has been read, so that a caller who sends a line and waits for its block receives
+/// it.
 fn status_of(rt: &HostRuntime, words: &[String]) -> Status
-    // The status is one that the words may have. No clause can speak of the bytes that standard
-    // input gives and standard output takes.
+    // The status is one that the words may have (`AnswersWords`). The contract says nothing of the
+    // bytes that are read from standard input and written to standard output.
     ensures { AnswersWords (map string_bytes words.now) (λ line. Unit {0}) result }
 {
     let Ok(writer) = BufWriter::new(rt.alloc(), rt.stdout()) else {
@@ -88,15 +90,16 @@ fn status_of(rt: &HostRuntime, words: &[String]) -> Status
     run_over(rt.alloc(), words, &mut source, &mut StdOut::new(writer))
 }
 
-/// Runs the words over a reader, and over a writer with a buffer in front of it.
+/// Runs the command that the words spell, over a reader, and over a writer with a buffer in front
+/// of it.
 fn run_over<R: Read, W: Write + Drop>(
     alloc: Global,
     words: &[String],
     source: &mut StdIn<R>,
     sink: &mut StdOut<W>,
 ) -> Status
-    // The clauses `headline` and `lines` of `run`, for the bytes that the writer itself holds:
-    // nothing waits in the buffer.
+    // The clauses `headline` and `lines` of `run`, for the bytes that the writer has received: at
+    // the end the buffer in front of it is empty.
     ensures headline { result ≡ Status.Done → (before : List ℕ)
         → told_bytes W.contents sink.old ≡ Some before
         → PrintsAnswerTo (map string_bytes words.now) before (R.remaining source.old.reader)

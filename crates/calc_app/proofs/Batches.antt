@@ -1,4 +1,5 @@
--- The blocks of the lines of a batch, one after another, and how a batch ends.
+-- A batch: its lines are read one after another, and the block of output for each is written before the next line is read; and the ways in which a
+-- batch ends.
 use Rattle.std.proofs.Common.{◌≡◌, ◌⊎◌, ℕ, ◌+◌, ◌≤◌, ◌<◌, Bool, true, false, ◌&&◌, cond, List, [], ◌∷◌, ◌++◌, append_assoc, append-nil, map, length, length-append, refl, sym, ap, ◌∙◌, subst, arith, Option, Some, None, inl, inr}
 use Rattle.std.specs.Prelude.{Ok}
 use Rattle.std.proofs.lemmas.List.{map-append}
@@ -41,7 +42,7 @@ use Rattle.calc_app.proofs.Faults.{no_faults, sink_failed, source_failed, ends_w
 use Rattle.calc_app.proofs.Outcomes.{has_outcome, leaves_ending}
 use Rattle.calc_replies.proofs.Replies.{computes_reply}
 
--- ---- the reply to one line, and its block
+-- ---- the outcome of one line, and its block
 
 pub line_reply : (line : BatchLine) (command : Command) (outcome : Outcome) → IsLineRead line (Ok (Some command))
     → IsReplyTo (command_of command) (Ok outcome) → ComesOfLine line (Some outcome)
@@ -49,7 +50,7 @@ line_reply too_long command outcome read reply = absurd read
 line_reply passed_over command outcome read reply = absurd read
 line_reply (spoken words) command outcome read reply = computes_reply batch_entries words (command_of command) (Ok outcome) read.0 reply
 
--- the block of the line consists of this text and an ending whose status is `answer`
+-- the line has a block, which consists of this text and an ending whose status is `answer`
 pub record HasBlockOf (line : BatchLine) (text : List ℕ) (answer : Status) : Type 0 where
   pub ending : Ending
   pub are : AreBlocks batch_entries (line ∷ []) ((text, ending) ∷ [])
@@ -90,7 +91,8 @@ abbrev pub is_none : List Block → Bool
 is_none [] = true
 is_none (b ∷ blocks) = false
 
--- the lines `lines` of the source were read, their blocks were written, and no fault was counted
+-- the lines `lines` of the source have been read, their blocks have been written, and no fault has been counted; `pending` has the bytes that were
+-- taken from the source after these lines
 pub record Runs (first now : SinkSeen) (source here : SourceSeen) (pending : List ℕ) (has_ended : Bool) (progress : Progress) : Type 0 where
   pub lines : List (List ℕ)
   pub spelled : List ℕ
@@ -121,7 +123,8 @@ begins sink source = record {
   source_still = refl;
 }
 
--- a line was read after the pending bytes, and `comes` is its outcome, `None` if it has none
+-- a line was read, from the pending bytes and from bytes that were taken from the source, and `comes` is its outcome, or `None` if the line is
+-- skipped
 pub record TookLine (before now : SourceSeen) (pending behind : List ℕ) (ended : Bool) (comes : Option Outcome) : Type 0 where
   pub taken : List ℕ
   pub took : Took before.left now.left taken
@@ -193,7 +196,7 @@ pub passed_took : {before now : SourceSeen} {pending behind : List ℕ} {ended :
     → TakesTurn before now pending behind ended turn.Passed → TookLine before now pending behind ended None
 passed_took t = took_line None t (λ e. subst (λ r. IsTurn r t.line turn.Passed) e t.is) passed_comes
 
--- the source was read to its end, without a further line
+-- the source was read to its end, and there was no further line
 pub record TookEnd (before now : SourceSeen) (pending behind : List ℕ) : Type 0 where
   pub taken : List ℕ
   pub took : Took before.left now.left taken
@@ -287,7 +290,7 @@ runs_block {first = first} {sink = sink} {next_sink = next_sink} {source = sourc
       source_still = same ∙ r.source_still;
     }
 
--- ---- the end of a batch
+-- ---- the ways in which a batch ends
 
 -- `SinkFault`, `NoMemory` and `SourceFault` are not statuses of a batch that was read to its end
 is_cut : IsThrough status.SinkFault → ⊥
@@ -305,7 +308,7 @@ is_source_fault (inr e) = cc
 no_end : {answer : Status} {Read : Type 0} → (IsThrough answer → ⊥) → IsThrough answer → Read
 no_end none through = absurd (none through)
 
--- the text of the blocks of the lines of an input is the text of a batch over the input
+-- if `blocks` are the blocks of the lines of an input, their text and their ending are an outcome of a batch over this input
 runs_input : (input : List ℕ) (lines : List (List ℕ)) (blocks : List Block) → AreBlocks batch_entries (map batch_line lines) blocks → lines_of input ≡ lines
     → RunsInput batch_entries input (batch_text blocks) (batch_ending blocks)
 runs_input input lines blocks are same = record {
@@ -315,7 +318,8 @@ runs_input input lines blocks are same = record {
   ends = refl;
 }
 
--- if the blocks of the lines were written whole, and after them a prefix of the separator and the next block, `CutsBlock` holds
+-- if the blocks of `lines` were written whole, followed by a prefix of the separator and the block of a further line, `CutsBlock` holds for these
+-- lines and the further line
 cuts_block : (first sink next_sink : SinkSeen) (lines : List (List ℕ)) (line : List ℕ) (blocks : List Block) (b : Block) → AreBlocks batch_entries (map batch_line lines) blocks → AreBlocks batch_entries (batch_line line ∷ []) (b ∷ [])
     → Appends first sink (batch_text blocks) → AppendsPrefix sink next_sink (separator (is_none blocks) ++ b.0)
     → CutsBlock first next_sink (map batch_line (lines ++ line ∷ []))
@@ -337,7 +341,7 @@ cuts_block first sink next_sink lines line blocks b are is_last appended cut = r
   appended = Appends-then appended cut.appends;
 }
 
--- if the sink fails in a block, the batch ends with `SinkFault`
+-- if the sink fails while the block of a line is written, the batch ends with `SinkFault`
 pub ends_cut : {first sink next_sink : SinkSeen} {source before now : SourceSeen} (Untouched : Type 0) {pending behind : List ℕ} {had ended : Bool}
     {progress : Progress} (outcome : Outcome) → Runs first sink source before pending had progress
     → TookLine before now pending behind ended (Some outcome) → HasBlock outcome → now.faults ≡ before.faults
@@ -414,7 +418,8 @@ put_nothing first sink next_sink text appended cut =
     subst (Appends first next_sink)
     (ap (λ xs. text ++ xs) (no_front cut.front cut.is_prefix.rest cut.is_prefix.joined) ∙ append-nil text) (Appends-then appended cut.appends)
 
--- if `finish` of the sink fails after the blocks of the lines so far, and no further line feed was read, the batch ends with `SinkFault`
+-- if `finish` of the sink fails after the blocks of the lines read so far were written, and no further line feed was read, the batch ends with
+-- `SinkFault`
 finish_cut : {first sink next_sink : SinkSeen} {source now : SourceSeen} (Untouched : Type 0) {lines : List (List ℕ)} {piece : List ℕ} (blocks : List Block)
     → AreBlocks batch_entries (map batch_line lines) blocks → Appends first sink (batch_text blocks) → sink.faults ≡ first.faults
     → Puts true sink false next_sink [] → Cut source.left now.left lines piece → HasNoFeed piece → source.faults ≤ now.faults
@@ -447,7 +452,7 @@ finished_text : (first sink next_sink : SinkSeen) (text : List ℕ) → Appends 
 finished_text first sink next_sink text appended puts =
     subst (Appends first next_sink) (append-nil text) (Appends-then appended (puts.whole refl))
 
--- if `finish` of the sink succeeds, the blocks of the lines read so far have been written
+-- if `finish` of the sink succeeds, the state `Runs` of the batch is kept: the blocks of the lines read so far have been written
 pub runs_handed : {first sink next_sink : SinkSeen} {source now : SourceSeen} {pending : List ℕ} {had : Bool} {progress : Progress}
     → Runs first sink source now pending had progress → Puts true sink true next_sink [] → Runs first next_sink source now pending had progress
 runs_handed {first = first} {sink = sink} {next_sink = next_sink} r puts = record {
@@ -465,7 +470,7 @@ runs_handed {first = first} {sink = sink} {next_sink = next_sink} r puts = recor
   source_still = r.source_still;
 }
 
--- if `finish` of the sink fails before a further line is read, the batch ends with `SinkFault`
+-- if the pending bytes have no line feed, and `finish` of the sink fails, the batch ends with `SinkFault`
 pub ends_held : {first sink next_sink : SinkSeen} {source now : SourceSeen} (Untouched : Type 0) {pending : List ℕ} {had : Bool} {progress : Progress}
     → Runs first sink source now pending had progress → HasNoFeed pending → Puts true sink false next_sink []
     → EndsBatch first next_sink source now Untouched status.SinkFault
@@ -474,7 +479,7 @@ ends_held {source = source} {now = now} Untouched {pending = pending} {had = had
     (read_cut source.left now.left now.left [] pending r.spelled r.lines had r.read r.is_spelled r.is_whole (took_nothing now.left))
     (subst HasNoFeed (sym (append-nil pending)) none) (let s = r.source_still in omega (arith, s))
 
--- if `is_done` says whether all blocks have the ending `done`, the status at the end is that of the ending of the blocks
+-- if `is_done` says whether all blocks have the ending `done`, the status at the end of the batch is that of the ending of its blocks
 end_same : (progress : Progress) (blocks : List Block) → progress.is_done ≡ are_done blocks → end_status progress ≡ status_of (batch_ending blocks)
 end_same progress blocks same = ap (λ x. cond x status.Done status.SomeRefused) same ∙ by (are_done blocks)
   where
@@ -482,7 +487,7 @@ end_same progress blocks same = ap (λ x. cond x status.Done status.SomeRefused)
     by true = refl
     by false = refl
 
--- if the end of the source was read, the batch ends with the status of its blocks, or with `SinkFault` if `finish` failed
+-- if the source was read to its end without a further line, the batch ends with the status of its blocks, or with `SinkFault` if `finish` failed
 pub ends_last : {first sink next_sink : SinkSeen} {source before now : SourceSeen} (Untouched : Type 0) {pending behind : List ℕ} {had : Bool}
     {progress : Progress} {answer result : Status} → Runs first sink source before pending had progress
     → TookEnd before now pending behind → now.faults ≡ before.faults → answer ≡ end_status progress

@@ -18,7 +18,8 @@ use Rattle.calc_replies.specs.Computed.{Tells}
 use Rattle.calc_app.specs.Top.{IsInput, Says, SaysOver}
 use Rattle.sym_model.specs.Partition.{ArePartitions}
 
--- the command asks for an expansion: a text answers it if and only if it is the text of an expansion that it asks for
+-- the command asks for an expansion: a text and an ending are an outcome of it (`Answers`) if and only if they are an outcome of an expansion
+-- (`Expands`)
 pub record NamesExpansion (command : Command) : Type 0 where
   pub answers : (text : List ℕ) (ending : Ending) → Expands command text ending → Answers command text ending
   pub expands : (text : List ℕ) (ending : Ending) → Answers command text ending → Expands command text ending
@@ -28,7 +29,7 @@ pub record NamesExpansion (command : Command) : Type 0 where
   pub says : (text : List ℕ) → KeepsLimits command → ReadsBack command text → Says command text
   pub says_over : (left : Option (List ℕ)) (text : List ℕ) → Says command text → SaysOver left command text
 
--- the command prints lines that are not terms: tableaux, words or grids
+-- the command prints lines that are not terms: tableaux, words or grids (`tab`, `rsk`, `unrsk`, `rect` or `growth`)
 pub record TellsLines (command : Command) : Type 0 where
   pub answers : (text : List ℕ) → Tells command text → Answers command text done
   pub over : (input text : List ℕ) (ending : Ending) → Answers command text ending → AnswersWith batch_entries input command text ending
@@ -38,7 +39,7 @@ pub record TellsLines (command : Command) : Type 0 where
   pub says : (text : List ℕ) → Answers command text done → Says command text
   pub says_over : (left : Option (List ℕ)) (text : List ℕ) → Says command text → SaysOver left command text
 
--- the command runs other commands
+-- the command runs other commands, as `batch` and `work` do: it has no answer of its own, and it cannot be refused as too large
 pub record RunsOthers (command : Command) : Type 0 where
   pub unanswered : (text : List ℕ) (ending : Ending) → Answers command text ending → ⊥
   pub unnamed : (answer : PlainAnswer) → Meets command answer → ⊥
@@ -47,17 +48,17 @@ pub record RunsOthers (command : Command) : Type 0 where
   pub says_over : (left : Option (List ℕ)) (input text : List ℕ) → IsInput left input
       → AnswersWith batch_entries input command text done → SaysOver left command text
 
--- a command with no defined coefficient and no weight cannot be refused as too large
+-- a command for which no coefficient (`IsDefinedCoefficient`) and no weight is defined cannot be refused as too large
 not_large : (command : Command) → ((c : ℤ) → IsDefinedCoefficient command c → ⊥) → ((weight : ℕ) → HasWeight command weight → ⊥)
     → MayBeLarge command → ⊥
 not_large command h k (inl large) = h large.0 large.1
 not_large command h k (inr heavy) = k heavy.0 heavy.1
 
--- factors that are written within the limits are partitions
+-- if each factor satisfies `IsWritten`, the limits of a written partition, then all factors are partitions
 are_partitions : (factors : List (List ℕ)) → EachOf IsWritten factors → ArePartitions factors
 are_partitions factors written parts among = (each_in IsWritten parts factors written among).partition
 
--- every command asks for an expansion, prints tableaux, words or grids, or runs other commands
+-- every command asks for an expansion (`NamesExpansion`), prints tableaux, words or grids (`TellsLines`), or runs other commands (`RunsOthers`)
 pub kind : (command : Command) → NamesExpansion command ⊎ TellsLines command ⊎ RunsOthers command
 kind (tab outer inner last) = inr (inl (record { answers = λ t h. (h, refl); over = λ i t e h. h; alone = λ i t e h. h; unnamed = λ a h. h; small = not_large (tab outer inner last) (λ c h. h) (λ w h. h); says = λ t h. h; says_over = λ l t h. h }))
 kind (rsk w) = inr (inl (record { answers = λ t h. (h, refl); over = λ i t e h. h; alone = λ i t e h. h; unnamed = λ a h. h; small = not_large (rsk w) (λ c h. h) (λ w h. h); says = λ t h. h; says_over = λ l t h. h }))

@@ -1,4 +1,4 @@
--- The clauses of the top call `run` after an outcome was written, and after lines were run.
+-- The clauses of the call `run`, after an outcome was written, and after lines were run.
 use Rattle.std.proofs.Common.{◌≡◌, ◌⊎◌, ℕ, List, [], ◌∷◌, ◌++◌, Bool, true, false, cond, map, Some, refl, sym, ◌∙◌, ap, subst, inl, inr, arith}
 use Rattle.std.specs.Prelude.{Ok}
 use Rattle.calc_base.specs.declared.status.Status.{Status}
@@ -29,8 +29,9 @@ use Rattle.calc_app.specs.Top.{IsOutcome, RunsLines, Leaves, PutsWhole, PutsOutc
 use Rattle.calc_app.specs.Batch.{EndsBatch}
 use Rattle.calc_app.proofs.Faults.{no_faults, sink_failed, ends_well}
 use Rattle.calc_app.proofs.Outcomes.{has_outcome, headline, leaves_whole, leaves_prefix, answers_say, not_done, accepted, refuses_offence, refuses_place, cut_answers}
+use Rattle.std.proofs.lemmas.Bool.{cases_cond}
 
--- the clauses that `task_of` ensures of the task for the words
+-- the clauses that `task_of` ensures of the task that it returns for the words
 pub record HasTask (words : List (List ℕ)) (task : Task) : Type 0 where
   pub computes : IsTaskFor words (Ok task)
   pub accepts : (command : Command) → SpellsWithoutOffence command_entries words command → AcceptsTask command (Ok task)
@@ -44,7 +45,7 @@ pub task_is : {words : List (List ℕ)} {found task : Task} → found ≡ task �
 task_is {words = words} is computes accepts refuses goes_wrong =
     subst (HasTask words) is (record { computes = computes; accepts = accepts; refuses = refuses; goes_wrong = goes_wrong })
 
--- the clauses of the top call, except that the source is unchanged
+-- the clauses of the call `run`, except the one that the source is unchanged
 pub record Ran (words : List (List ℕ)) (old new : SinkSeen) (source now : SourceSeen) (Untouched : Type 0) (result : Status) : Type 0 where
   pub headline : result ≡ status.Done → (before : List ℕ) → old.written ≡ Some before → PrintsAnswerTo words before source.left new.written
   pub lines : RunsLines words → IsThrough result → (before : List ℕ) → old.written ≡ Some before → PrintsLines before source.left new.written
@@ -54,7 +55,7 @@ pub record Ran (words : List (List ℕ)) (old new : SinkSeen) (source now : Sour
   pub faults : HidesNoFault old new source now result
   pub all_read : RunsLines words → IsThrough result → IsEmptied now.left
 
--- ---- the clauses of the top call after an outcome was written
+-- ---- the clauses of `run` after an outcome was written
 
 put_leaves : (words : List (List ℕ)) (old new : SinkSeen) (source : SourceSeen) (Untouched : Type 0) (outcome : Outcome) (result : Status)
     → HasTask words (Put outcome) → PutsOutcome old new outcome result
@@ -108,9 +109,9 @@ put_ran words old new source Untouched outcome result task p =
       all_read = λ runs. absurd ((task.accepts batch runs).1 refl);
     }
 
--- ---- the clauses of the top call after lines were run
+-- ---- the clauses of `run` after lines were run
 
--- a text that is defined for the lines of an input is defined for the words that run them
+-- if the words are the command that runs the lines of its input, a text and an ending that these lines may give are an outcome of the words
 runs_outcome : (words : List (List ℕ)) (input text : List ℕ) (ending : Ending) → RunsLines words → RunsInput batch_entries input text ending
     → IsOutcome words input text ending
 runs_outcome words input text ending spelled runs = inr (inr (batch, spelled, runs))
@@ -175,11 +176,7 @@ lines_leave words old new source now Untouched status.NoMemory runs (inr l) = in
 )
 
 not_so : (blocks : List Block) (ending : Ending) → ending ≡ batch_ending blocks → (ending ≡ done) ⊎ (ending ≡ some_refused)
-not_so blocks ending is = by (are_done blocks) is
-  where
-    by : (x : Bool) → ending ≡ cond x done some_refused → (ending ≡ done) ⊎ (ending ≡ some_refused)
-    by true e = inl e
-    by false e = inr e
+not_so blocks ending is = cases_cond (are_done blocks) done some_refused ending is
 
 no_syntax : (syntax ≡ done) ⊎ (syntax ≡ some_refused) → ⊥
 no_syntax (inl e) = cc
@@ -204,7 +201,7 @@ lines_end old new source now Untouched status.SinkFault l = inr (inr (inl (inr r
 lines_end old new source now Untouched status.SourceFault l = inr (inr (inr (refl, inr refl)))
 lines_end old new source now Untouched status.NoMemory l = inr (inr (inl (inl refl)))
 
--- ---- the blocks of lines are the answers to their commands
+-- ---- the blocks of the lines of a batch are the answers to the commands of the lines
 
 kept_in_line : (words : List (List ℕ)) (command : Command) → SpellsWithoutOffence batch_entries words command → KeepsLimits command
 kept_in_line words command spelled =

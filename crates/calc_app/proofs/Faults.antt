@@ -1,4 +1,4 @@
--- No status hides a fault: the cases of no fault, of a fault of the sink and of a fault of the source.
+-- No status hides a fault (`HidesNoFault`): the cases of no fault, of a fault of the sink and of a fault of the source.
 use Rattle.std.proofs.Common.{◌≡◌, ◌≤◌, refl, arith}
 use Rattle.calc_base.specs.declared.status.Status.{Status}
 use Rattle.calc_base.specs.declared.status.Status.TheVariants as status
@@ -44,7 +44,7 @@ source_failed still rose later = record {
   source_later = later;
 }
 
--- the status that goes with an ending names no fault
+-- the status of an ending is neither `SinkFault` nor `SourceFault`
 pub ends_well : (ending : Ending) → (status_of ending ≡ status.SinkFault → ⊥) × (status_of ending ≡ status.SourceFault → ⊥)
 ends_well done = ((λ e. cc), (λ e. cc))
 ends_well some_refused = ((λ e. cc), (λ e. cc))
@@ -52,6 +52,6 @@ ends_well syntax = ((λ e. cc), (λ e. cc))
 ends_well range = ((λ e. cc), (λ e. cc))
 ends_well past = ((λ e. cc), (λ e. cc))
 
--- out of memory is no fault of the sink or the source
+-- the status `NoMemory` is neither `SinkFault` nor `SourceFault`
 pub is_full : (status.NoMemory ≡ status.SinkFault → ⊥) × (status.NoMemory ≡ status.SourceFault → ⊥)
 is_full = ((λ e. cc), (λ e. cc))

@@ -1,4 +1,4 @@
--- The lines read so far of a source that records its bytes.
+-- The lines of a source that have been read so far, if the source records its bytes.
 use Rattle.std.proofs.Common.{◌≡◌, ℕ, Bool, true, false, ◌+◌, ◌<◌, ◌≤◌, List, [], ◌∷◌, ◌++◌, append_assoc, append-nil, length, length-append, refl, sym, ap, ◌∙◌, arith, Option, Some, None, ◌⊎◌, inl, inr}
 use Rattle.batch_lines.proofs.Lines.{line_first, line_last, told}
 use Rattle.batch_lines.specs.Feeds.{HasNoFeed}
@@ -6,24 +6,24 @@ use Rattle.batch_lines.specs.Reading.{Took, IsAtEnd, EndsAtFeed, EndsAtEnd, Took
 use Rattle.sym_model.specs.BatchLine.{lines_of}
 use Rattle.calc_app.specs.Top.{IsInput, IsFrontOf, IsWholeLines}
 
--- the text `front` ends at the end of a line: with any text after it, the lines are `lines` followed by the lines of that
--- text
+-- the text `front` ends at the end of a line: whatever text follows it, the lines are `lines`, followed by the lines of that text
 abbrev pub IsEnded : List ℕ → List (List ℕ) → Type 0
 IsEnded front lines = (text : List ℕ) → lines_of (front ++ text) ≡ lines ++ lines_of text
 
--- either the last line read ends at a line feed, or the source was found at its end and these are all its lines
+-- either (`false`) the text `front` has the lines `lines` and ends at a line feed, or (`true`) the source was found at its end and the lines of
+-- `front` are all its lines
 abbrev Stands : Bool → (front behind : List ℕ) → List (List ℕ) → Type 0
 Stands false front behind lines = IsEnded front lines × IsWholeLines front
 Stands true front behind lines = (behind ≡ []) × (lines_of front ≡ lines)
 
--- the lines `lines` were read of the input, and the pending bytes and `rest` are still to be read
+-- the lines `lines` of the input have been read, and the pending bytes and `rest` follow them in the input
 pub record Reads (input rest : List ℕ) (lines : List (List ℕ)) (pending : List ℕ) (has_ended : Bool) : Type 0 where
   pub front : List ℕ
   pub cut : input ≡ front ++ (pending ++ rest)
   pub state : Stands has_ended front (pending ++ rest) lines
 
--- `Reads` for a source that may not record its bytes. If it does not, this says only that a source that has ended has
--- nothing left.
+-- `Reads` for a source that may not record its bytes. If the source does not record them, this says only that nothing is left in it if it was found
+-- at its end.
 abbrev pub ReadsTold : Option (List ℕ) → Option (List ℕ) → List (List ℕ) → List ℕ → Bool → Type 0
 ReadsTold (Some input) (Some rest) lines pending has_ended = Reads input rest lines pending has_ended
 ReadsTold (Some input) None lines pending has_ended = ⊥
@@ -37,7 +37,7 @@ none_behind : (pending rest : List ℕ) → pending ++ rest ≡ [] → rest ≡ 
 none_behind [] rest h = h
 none_behind (b ∷ pending) rest h = cc
 
--- nothing is left of a source that was found at its end
+-- if lines were read of a source (`ReadsTold`), and it was found at its end, nothing is left in it
 pub read_end : (left now : Option (List ℕ)) (lines : List (List ℕ)) (pending : List ℕ) (has_ended : Bool) → ReadsTold left now lines pending has_ended
     → IsAtEnd has_ended now
 read_end left now lines pending false r = tt
@@ -116,7 +116,7 @@ read_more (Some input) None now taken pending text behind lines had has r took n
 read_more None before now taken pending text behind lines had false r took n e = tt
 read_more None before now taken pending text behind lines had true r took n e = e.0.none_left
 
--- after a line was read, fewer bytes are left to be read
+-- after a line was read, fewer bytes are left to be read: pending ones and those that the source may still give
 pub fewer_left : (allowance less : ℕ) (taken pending text behind : List ℕ) (now : Option (List ℕ)) (has : Bool) → less + length taken ≤ allowance
     → EndsLine has (pending ++ taken) text behind now → less + length behind < allowance + length pending
 fewer_left allowance less taken pending text behind now false spent e =
@@ -131,7 +131,7 @@ fewer_left allowance less taken pending text behind now true spent e =
 front_lines : (front : List ℕ) (lines : List (List ℕ)) → IsEnded front lines → lines_of front ≡ lines
 front_lines front lines h = ap lines_of (sym (append-nil front)) ∙ h [] ∙ append-nil lines
 
--- an input whose lines are `lines`; it is all that the source had left if the source records that
+-- an input whose lines are `lines`; it is all that the source had left, if the source records that
 pub record Whole (left : Option (List ℕ)) (lines : List (List ℕ)) : Type 0 where
   pub input : List ℕ
   pub is_input : IsInput left input
@@ -173,7 +173,7 @@ front_told input rest lines pending had r = by had r.state
     by true s =
         (s.1, [], ap lines_of (r.cut ∙ ap (λ t. r.front ++ t) s.0 ∙ append-nil r.front) ∙ sym (append-nil (lines_of r.front)))
 
--- `front` is the text of the first lines `lines`, each of which ends in what was read, and `piece` was read after it
+-- `front` is the text of the first lines `lines` of the source, each of which ends within the bytes read, and `piece` was read after it
 pub record Cut (left now : Option (List ℕ)) (lines : List (List ℕ)) (piece : List ℕ) : Type 0 where
   pub front : List ℕ
   pub took : Took left now (front ++ piece)
@@ -205,7 +205,7 @@ read_cut (Some input) None now taken pending spelled lines had r ended whole too
 read_cut None before now taken pending spelled lines had r ended whole took =
     record { front = spelled; took = tt; is_ended = inl whole; is_front = tt; are = front_lines spelled lines ended }
 
--- `front` is the text of the first lines `lines`, and `piece`, which has no line feed, was read after it
+-- `front` is the text of the first lines `lines` of the source, and `piece`, which has no line feed, was read after it
 pub record Part (left now : Option (List ℕ)) (lines : List (List ℕ)) : Type 0 where
   pub front : List ℕ
   pub piece : List ℕ

@@ -1,4 +1,5 @@
--- The text that is written for a computed outcome is one that is defined for the words.
+-- If the program computes an outcome for a command, the text that it prints and the way in which it ends are among those that the specification
+-- allows for the words of the command (`IsOutcome`).
 use Rattle.std.proofs.Common.{◌≡◌, ℕ, List, ◌++◌, true, Option, Some, refl, sym, ◌∙◌, ap, subst, inl, inr, ◌⊎◌}
 use Rattle.std.specs.Prelude.{codes, None, Ok, []}
 use Rattle.calc_base.specs.declared.status.Status.{Status}
@@ -76,7 +77,7 @@ tells_answer command text tells = by (kind command)
 
 -- ---- the text of the answer to the words, or of their refusal
 
--- an outcome of the words by the commands of the list, with a text, and the status that goes with it
+-- the text and some ending are an outcome of the words, by the commands of the list `entries`, and `answer` is the status of this ending
 pub record HasOutcome (entries : List Entry) (words : List (List ℕ)) (text : List ℕ) (answer : Status) : Type 0 where
   pub ending : Ending
   pub outcome : IsLineOutcome entries words text ending
@@ -129,7 +130,7 @@ has_outcome entries words (Told lines) computes block = record {
   same = refl;
 }
 
--- a text that answers a command answers it over every input
+-- if the text and the ending are an outcome of a command by `Answers`, they are an outcome of the command over every input
 answers_alone : (input : List ℕ) (command : Command) (text : List ℕ) (ending : Ending) → Answers command text ending
     → AnswersWith batch_entries input command text ending
 answers_alone input command text ending answers = by (kind command)
@@ -157,8 +158,8 @@ no_some_refused (Refused fault.NoMemory) is = cc
 no_some_refused Large is = cc
 no_some_refused (Told lines) is = cc
 
--- if a text that is defined for the words was written whole, `finish` succeeded, and lines are run if the status is `SomeRefused`,
--- the clause `Leaves` holds
+-- if the whole text of an outcome over the input was written, `finish` succeeded, and the status is not `SomeRefused` unless lines are run, then the
+-- clause `Leaves` holds with the status of the ending
 pub leaves_ending : (old new : SinkSeen) (source now : SourceSeen) (Untouched Runs : Type 0) (Defined : List ℕ → List ℕ → Ending → Type 0)
     (input text : List ℕ) (ending : Ending) → IsInput source.left input → Defined input text ending → (status_of ending ≡ status.SomeRefused → Runs)
     → Appends old new text → new.settled ≡ true → Leaves old new source now Untouched Runs Defined (status_of ending)
@@ -180,7 +181,7 @@ pub told_input : (left : Option (List ℕ)) → (input : List ℕ) × IsInput le
 told_input None = ([], tt)
 told_input (Some bytes) = (bytes, refl)
 
--- the empty text is a front of every input, with none of its lines
+-- the empty text consists of the first lines of every input, namely of none of them
 pub no_front : (left : Option (List ℕ)) → IsFrontOf left []
 no_front None = tt
 no_front (Some bytes) = (lines_of bytes, refl)
@@ -229,7 +230,7 @@ expands_say command text (inl expands) =
     subst (ReadsBack command) (sym prints.printed) (says_text command prints.answer prints.meets prints.printable)
 expands_say command text (inr refused) = let clash : done ≡ past = refused.2 in cc
 
--- if a command keeps its limits, the text that answers it with the ending `done` satisfies `Says`
+-- if a command is within its limits, and the text with the ending `done` is an outcome of the command (`Answers`), the text satisfies `Says`
 pub answers_say : (command : Command) (text : List ℕ) → KeepsLimits command → Answers command text done → Says command text
 answers_say command text keeps answers = by (kind command)
   where
@@ -252,7 +253,7 @@ not_done offences.literal is = cc
 not_done offences.range is = cc
 not_done offences.shape is = cc
 
--- a text that was written whole with the status Done is the answer to the command of the words
+-- if the clause `Leaves` holds with the status `Done`, the text that was written is the answer to the command of the words
 pub headline : (old new : SinkSeen) (source now : SourceSeen) (Untouched : Type 0) (words : List (List ℕ)) (answer : Status)
     → Leaves old new source now Untouched (RunsLines words) (IsOutcome words) answer
     → answer ≡ status.Done → (before : List ℕ) → old.written ≡ Some before → PrintsAnswerTo words before source.left new.written
@@ -272,7 +273,7 @@ headline old new source now Untouched words answer leaves ended before told =
       says = answers_with_say source.left input comes.0 text is_input (kept_by_all words comes.0 comes.1) comes.2;
     }
 
--- ---- the clause `answers`: a refusal by its own line
+-- ---- the clause `answers`: the refusal of words is the line of their first error
 
 pub accepted : (command : Command) (outcome : Outcome) → Accepts command (Ok outcome) → IsAccepted command (status_for outcome)
 accepted command (Answered answer form) accepts = inl refl
@@ -280,7 +281,7 @@ accepted command (Refused reason) accepts = absurd accepts
 accepted command Large accepts = inr (inl (refl, accepts))
 accepted command (Told lines) accepts = inl refl
 
--- a refusal that names the error has the status and the line of that error
+-- if the reason of a refusal names the error `offence`, the refusal has the status and the line of this error
 names : (offence : Offence) (reason : WordsFault) → IsFaultOf offence reason
     → (refusal_status reason ≡ status_of (ending_of offence.2)) × (refusal_text reason ≡ offence_line offence)
 names offence (fault.Syntax at) is = absurd is
@@ -308,7 +309,7 @@ refuses_place IsPut word byte (Refused reason) wrong put =
 refuses_place IsPut word byte Large wrong put = absurd wrong
 refuses_place IsPut word byte (Told lines) wrong put = absurd wrong
 
--- a status of memory or of the sink is the status of no ending, so it requires no line
+-- the statuses `NoMemory` and `SinkFault` are not the status of any ending
 no_ending : (ending : Ending) (answer : Status) → WasCutOff answer → answer ≡ status_of ending → ⊥
 no_ending done answer (inl cut) ended = let clash : status.NoMemory ≡ status.Done = sym cut ∙ ended in cc
 no_ending done answer (inr cut) ended = let clash : status.SinkFault ≡ status.Done = sym cut ∙ ended in cc
@@ -324,7 +325,7 @@ no_ending past answer (inr cut) ended = let clash : status.SinkFault ≡ status.
 was_cut_off : (ending : Ending) (IsPut : Type 0) (answer : Status) → WasCutOff answer → IsRefused ending IsPut answer
 was_cut_off ending IsPut answer cut = record { ends = inr cut; puts = λ ended. absurd (no_ending ending answer cut ended) }
 
--- if memory ran out or the sink failed, then `AnswersWords` holds for all words
+-- if the status is `NoMemory` or `SinkFault`, the clause `AnswersWords` holds for all words
 pub cut_answers : (words : List (List ℕ)) (IsPut : List ℕ → Type 0) (answer : Status) → WasCutOff answer → AnswersWords words IsPut answer
 cut_answers words IsPut answer cut = record {
   accepted = λ command spelled. inr (inr (inl cut));

@@ -1,4 +1,4 @@
--- The sums over the blocks of the generated lines, one after another, and how `work` ends.
+-- The generated lines of `work` are run one after another: the sums over the blocks of these lines, and the ways in which `work` ends.
 use Rattle.std.proofs.Common.{◌≡◌, ℕ, zero, suc, ◌+◌, ◌<◌, ◌≤◌, Bool, true, false, cond, List, [], ◌∷◌, ◌++◌, append_assoc, append-nil, map, length, refl, sym, ap, ◌∙◌, subst, arith, Some, None, inl, inr}
 use Rattle.std.specs.Prelude.{Result, Ok, Err, IfOk}
 use Rattle.std.proofs.lemmas.List.{map-append}
@@ -31,7 +31,7 @@ use Rattle.calc_app.proofs.Ends.{HasTask, Ran}
 use Rattle.calc_app.proofs.Faults.{no_faults, sink_failed, ends_well, is_full}
 use Rattle.calc_app.proofs.Outcomes.{headline, told_input, no_front}
 
--- ---- the sums after one more line
+-- ---- the sums after one more line was run
 
 pub add_some : (line : BatchLine) (outcome : Outcome) (result : Result (Unit {0}) NoMemory) (old new : Sums) → ComesOfLine line (Some outcome)
     → IfOk result (λ _. new ≡ sums_with old (text_of outcome)) → IfOk result (λ _. AreSmall new) → IfOk result (λ _. HasBlock outcome)
@@ -145,7 +145,7 @@ all_ran lines seed index state sums s above = by s.rest s.count s.all
     }
     by (suc rest) count all = absurd (omega (arith, count, above))
 
--- ---- the two ends of `work`: the sums were written, or the sink failed
+-- ---- the ways in which `work` ends: the sums were written, or the sink failed
 
 pub seed_within : (words : List (List ℕ)) (lines seed : ℕ) → SpellsWithoutOffence command_entries words (work lines seed) → seed ≤ 65536
 seed_within words lines seed spelled = (kept_by_all words (work lines seed) spelled).2
@@ -183,7 +183,7 @@ work_leaves words old new source Untouched lines seed result spelled (inr w) = b
           appended = puts.cut refl refl;
         })
 
--- the clauses of the top call on acceptance and on faults, after `work` has ended
+-- the clauses of `run` on accepted commands and on faults, after `work` has ended
 record WorkEnded (old new : SinkSeen) (source : SourceSeen) (result : Status) : Type 0 where
   accepted : (command : Command) → IsAccepted command result
   faults : HidesNoFault old new source source result

@@ -1,4 +1,4 @@
--- The outcome of the lines of a batch, one after another.
+-- A batch: its lines are run one after another, and each line that is not skipped has an outcome; and the state at the end of the batch.
 use Rattle.std.specs.Prelude.{◌≡◌, ℕ, List, Bool, false, Option, Some, None, Result, Ok, Err}
 use Rattle.batch_lines.specs.declared.next.LineFault.{LineFault}
 use Rattle.batch_lines.specs.declared.next.LineFault.TheVariants as line_fault
@@ -31,7 +31,8 @@ pub record RefusesLong (outcome : Outcome) : Type 0 where
   pub is : outcome ≡ Refused reason
   pub names : IsFaultOf too_long_offence reason
 
--- the outcome of a line: none if it is skipped, otherwise its refusal or the outcome of its words
+-- the outcome of a line: `None` if it is skipped, its refusal if it is too long, and otherwise an outcome of its
+-- words
 abbrev pub ComesOfLine : BatchLine → Option Outcome → Type 0
 ComesOfLine too_long None = ⊥
 ComesOfLine too_long (Some outcome) = RefusesLong outcome
@@ -40,7 +41,8 @@ ComesOfLine passed_over (Some outcome) = ⊥
 ComesOfLine (spoken words) None = ⊥
 ComesOfLine (spoken words) (Some outcome) = Computes batch_entries words (Ok outcome)
 
--- the turn `Passed` is that of a skipped line, `Block` has the outcome of a line, also of one that is too long, and `Last` is the end
+-- the result `turn` of reading a line: `Passed` for a skipped line, `Block` with the outcome of a line that is not
+-- skipped, also if it is too long, and `Last` at the end
 abbrev pub IsTurn : Next → List ℕ → Turn → Type 0
 IsTurn next.Line line Passed = ComesOfLine (batch_line line) None
 IsTurn next.Line line (Block outcome) = ComesOfLine (batch_line line) (Some outcome)
@@ -52,7 +54,7 @@ IsTurn next.End line Passed = ⊥
 IsTurn next.End line (Block outcome) = ⊥
 IsTurn next.End line Last = Unit {0}
 
--- the next line was read, and `turn` is its outcome
+-- the next line was read (`ReadsNext`), and `turn` is the result: the line is skipped, or it has an outcome, or there is no line left
 pub record TakesTurn (before now : SourceSeen) (pending left_pending : List ℕ) (has_ended : Bool)
     (turn : Turn) : Type 0 where
   pub line : List ℕ
@@ -60,8 +62,8 @@ pub record TakesTurn (before now : SourceSeen) (pending left_pending : List ℕ)
   pub reads : ReadsNext before now pending left_pending line has_ended read
   pub is : IsTurn read line turn
 
--- if the source failed, it had not ended before, and neither the pending bytes nor those that were taken from it
--- have a line feed
+-- if the result is `SourceFault`, the source had not ended before, and neither the pending bytes nor those that were
+-- taken from the source have a line feed
 abbrev pub CutsTurn : (before now : Option (List ℕ)) → List ℕ → (had_ended : Bool)
     → Result Turn LineFault → Type 0
 CutsTurn before now pending had_ended (Ok turn) = Unit {0}
@@ -69,7 +71,7 @@ CutsTurn before now pending had_ended (Err line_fault.SourceFault) =
     (had_ended ≡ false) × TookPart before now pending
 CutsTurn before now pending had_ended (Err line_fault.NoMemory) = Unit {0}
 
--- the count of faults is one more after `SourceFault`, and unchanged otherwise
+-- the source's count of faults is one more (`Rose`) if the result is `SourceFault`, and unchanged otherwise
 abbrev pub CountsTurn : (before now : ℕ) → Result Turn LineFault → Type 0
 CountsTurn before now (Ok turn) = now ≡ before
 CountsTurn before now (Err line_fault.SourceFault) = Rose before now
@@ -77,8 +79,9 @@ CountsTurn before now (Err line_fault.NoMemory) = now ≡ before
 
 -- ---- the end of a batch
 
--- The end of a batch: the bytes in the sink; the faults that were counted; if the status says so, that the whole
--- input was read; and after a fault of the sink, the lines that were read and written.
+-- The state at the end of a batch. Which bytes were written to the sink depends on the status (`Leaves`), and the counts of faults agree with the
+-- status (`HidesNoFault`). If the status is that of a batch read to its end, the whole input was read. After a fault of the sink, `CutsLines` relates
+-- the lines that were read to those whose blocks were written.
 pub record EndsBatch (old new : SinkSeen) (source now : SourceSeen) (Untouched : Type 0)
     (result : Status) : Type 0 where
   pub leaves : Leaves old new source now Untouched (Unit {0}) (RunsInput batch_entries) result

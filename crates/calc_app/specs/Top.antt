@@ -1,4 +1,4 @@
--- The contract of the call that runs a command, by cases on the status that it returns.
+-- The contract of the call `run`, which runs a command, by cases on the status that it returns.
 use Rattle.std.specs.Prelude.{◌≡◌, ◌≢◌, ◌⊎◌, ◌+◌, ◌≤◌, ℕ, List, [], ◌∷◌, ◌++◌, length, Bool, true}
 use Rattle.std.specs.Prelude.{codes, map, Option, Some, IfSome}
 use Rattle.calc_base.specs.declared.status.Status.{Status}
@@ -30,27 +30,27 @@ use Rattle.sym_model.specs.RefusalText.{refusal_line, offence_line}
 use Rattle.sym_model.specs.SyntaxPlace.{IsSyntaxPlace}
 use Rattle.rim_hooks.specs.PrintedSteps.{ReadsReducedInSteps, ReadsReflectedInSteps}
 
--- ---- the texts that are defined for words and an input
+-- ---- the outcomes of the words of a command, given the input that a source has left
 
--- the text and the ending are an outcome of the words if the source has this input
+-- the text and the ending are an outcome of the words, if `input` is what the source has left
 abbrev pub IsOutcome : List (List ℕ) → List ℕ → List ℕ → Ending → Type 0
 IsOutcome words input text ending =
     IsOutcomeOf command_entries batch_entries words input text ending
 
--- the words are those of the command that runs the lines of its input
+-- the words spell `batch`, the command that runs the lines of its input
 abbrev pub RunsLines : List (List ℕ) → Type 0
 RunsLines words = SpellsWithoutOffence command_entries words batch
 
--- the input is all that the source has left, if the source records that
+-- `input` is all that the source has left, if the source records what it has left
 abbrev pub IsInput : Option (List ℕ) → List ℕ → Type 0
 IsInput left input = IfSome left (λ bytes. bytes ≡ input)
 
--- the lines of `front` are the first lines of what the source has left, if the source records that
+-- the lines of `front` are the first lines of what the source has left, if the source records what it has left
 abbrev pub IsFrontOf : Option (List ℕ) → List ℕ → Type 0
 IsFrontOf left front =
     IfSome left (λ bytes. (more : List (List ℕ)) × (lines_of bytes ≡ lines_of front ++ more))
 
--- nothing is left in the source, if it records that
+-- nothing is left in the source, if the source records what it has left
 abbrev pub IsEmptied : Option (List ℕ) → Type 0
 IsEmptied left = IfSome left (λ rest. rest ≡ [])
 
@@ -58,7 +58,7 @@ IsEmptied left = IfSome left (λ rest. rest ≡ [])
 abbrev pub IsWholeLines : List ℕ → Type 0
 IsWholeLines text = (text ≡ []) ⊎ ((front : List ℕ) × (text ≡ front ++ 10 ∷ []))
 
--- the status of a command with this ending
+-- the status of a command whose outcome has this ending
 abbrev pub status_of : Ending → Status
 status_of done = Done
 status_of some_refused = SomeRefused
@@ -66,9 +66,10 @@ status_of syntax = Syntax
 status_of range = Range
 status_of past = Past
 
--- ---- the bytes left in the sink; `Defined input text ending` says which texts are defined over an input
+-- ---- the bytes left in the sink; `Defined input text ending` says that the text and the ending are an outcome over
+-- the input
 
--- a text that is defined over the whole input, with this ending, was appended whole, and `finish` succeeded after it
+-- for the whole input that the source had left: the whole text of an outcome with this ending was appended, and `finish` succeeded after it
 pub record PutsWhole (old new : SinkSeen) (source : SourceSeen)
     (Defined : List ℕ → List ℕ → Ending → Type 0) (ending : Ending) : Type 0 where
   pub input : List ℕ
@@ -78,7 +79,7 @@ pub record PutsWhole (old new : SinkSeen) (source : SourceSeen)
   pub appended : Appends old new text
   pub is_settled : new.settled ≡ true
 
--- a prefix of a text that is defined over the first lines of the input was appended
+-- a prefix of the text of an outcome over the first lines of the input was appended
 pub record PutsPrefix (old new : SinkSeen) (source : SourceSeen)
     (Defined : List ℕ → List ℕ → Ending → Type 0) : Type 0 where
   pub front : List ℕ
@@ -88,8 +89,8 @@ pub record PutsPrefix (old new : SinkSeen) (source : SourceSeen)
   pub outcome : Defined front text ending
   pub appended : AppendsPrefix old new text
 
--- A text that is defined over the first lines of the input was appended whole. Those lines and a piece after them were
--- read; each of the lines ends within what was read, at a line feed or because nothing is left in the source.
+-- The whole text of an outcome over the first lines of the input was appended. Those lines and a piece after them
+-- were read; each of the lines ends within the bytes read, at a line feed or because nothing is left in the source.
 pub record PutsFront (old new : SinkSeen) (source now : SourceSeen)
     (Defined : List ℕ → List ℕ → Ending → Type 0) : Type 0 where
   pub front : List ℕ
@@ -102,8 +103,8 @@ pub record PutsFront (old new : SinkSeen) (source now : SourceSeen)
   pub outcome : Defined front text ending
   pub appended : Appends old new text
 
--- The text of the lines that were read completely was appended whole, and `finish` succeeded after it. The piece that was
--- read after those lines has no line feed.
+-- The whole text of an outcome over the lines that were read completely was appended, and `finish` succeeded after
+-- it. The piece that was read after those lines has no line feed.
 pub record PutsRead (old new : SinkSeen) (source now : SourceSeen)
     (Defined : List ℕ → List ℕ → Ending → Type 0) : Type 0 where
   pub front : List ℕ
@@ -118,10 +119,10 @@ pub record PutsRead (old new : SinkSeen) (source now : SourceSeen)
   pub appended : Appends old new text
   pub is_settled : new.settled ≡ true
 
--- The bytes that a command leaves in the sink, by its status: the whole text, with a successful `finish` after it; after a
--- fault of the sink a prefix of the text of the first lines; after a fault of the source the text of the lines read
--- completely, with a successful `finish` after it; without memory nothing or, if lines are run, the text of the first ones.
--- `Untouched` says that no call of the sink was made, and `Runs` that lines are run; only then can the status be
+-- The bytes that a command leaves in the sink, by its status. After a fault of the sink: a prefix of the text of an outcome over the first lines of
+-- the input. After a fault of the source: the text of an outcome over the lines read completely, with a successful `finish` after it. If memory ran
+-- out: no bytes or, if lines are run, the text of an outcome over the first lines. For any other status: the whole text of an outcome, with a
+-- successful `finish` after it. `Untouched` says that no call of the sink was made, and `Runs` that lines are run; only then can the status be
 -- `SomeRefused` or `SourceFault`.
 abbrev pub Leaves : (old new : SinkSeen) (source now : SourceSeen) (Untouched Runs : Type 0)
     → (List ℕ → List ℕ → Ending → Type 0) → Status → Type 0
@@ -137,9 +138,9 @@ Leaves old new source now Untouched Runs Defined SourceFault =
 Leaves old new source now Untouched Runs Defined NoMemory =
     Untouched ⊎ (Runs × PutsFront old new source now Defined)
 
--- No fault is hidden: with `SinkFault` the sink's count of faults is greater by exactly one, or is 2^64 - 1, and
--- with every other status it has not changed. With `SourceFault` the source's count is greater by exactly one, or is
--- 2^64 - 1; with every status but `SourceFault` and `SinkFault` it has not changed. No count decreases.
+-- The status hides no fault: with `SinkFault` the sink's count of faults is greater by exactly one, or is 2^64 - 1,
+-- and with every other status it has not changed. With `SourceFault` the source's count is greater by exactly one, or
+-- is 2^64 - 1; with every status but `SourceFault` and `SinkFault` it has not changed. No count decreases.
 pub record HidesNoFault (old new : SinkSeen) (source now : SourceSeen)
     (status : Status) : Type 0 where
   pub sink_fault : status ≡ SinkFault → Rose old.faults new.faults
@@ -149,11 +150,11 @@ pub record HidesNoFault (old new : SinkSeen) (source now : SourceSeen)
   pub no_source_fault : status ≢ SourceFault → status ≢ SinkFault → now.faults ≡ source.faults
   pub source_later : source.faults ≤ now.faults
 
--- ---- the headline: the text that was written is the answer
+-- ---- the clause `headline`: the text that was written is the answer
 
 -- The meaning of the text of a command that runs no lines. For `tab`, `rsk`, `unrsk`, `rect` and `growth` it is the
--- text that is defined for them. For any other command the text reads back as a canonical list of terms, which is the
--- answer to the command; for `quantum` and `fusion` that list is also the result of reducing after each factor.
+-- text of the answer (`Answers`). For any other command the text reads back as a canonical list of terms, which is
+-- the answer to the command; for `quantum` and `fusion` that list is also the result of reducing after each factor.
 abbrev pub Says : Command → List ℕ → Type 0
 Says (quantum rows columns factors) text =
     ReadsBack (quantum rows columns factors) text
@@ -170,17 +171,18 @@ Says batch text = ⊥
 Says (work lines seed) text = ⊥
 Says command text = ReadsBack command text
 
--- The meaning of the text of every command: for `batch` it is the blocks of the lines that the source had left, if the
--- source records them; for `work` it is the sums over the blocks of its lines.
+-- The meaning of the text of every command. For `batch` it consists of the blocks of the lines of some input, which is what the source had left if
+-- the source records that, and no line was refused; for `work` it is the text of the sums over the blocks of its lines; for any other command it is
+-- as in `Says`.
 abbrev pub SaysOver : Option (List ℕ) → Command → List ℕ → Type 0
 SaysOver left batch text =
     (input : List ℕ) × IsInput left input × RunsInput batch_entries input text done
 SaysOver left (work lines seed) text = RunsWorkload batch_entries lines seed text
 SaysOver left command text = Says command text
 
--- The headline: the words spell a command without an error, and the text that was appended to the bytes written
--- before is the answer to it: read back, a canonical list of terms; for `tab`, `rsk`, `unrsk`, `rect` and `growth`
--- the text that is defined for it; for `batch` the blocks of its lines and for `work` the sums over them. For
+-- The clause `headline`: the words spell a command without an error, and the text that was appended to the bytes
+-- written before is the answer to it: read back, a canonical list of terms; for `tab`, `rsk`, `unrsk`, `rect` and
+-- `growth` the text of the answer; for `batch` the blocks of its lines, and for `work` the sums over them. For
 -- `expand m` and an expression, for example, the list, read in the monomial basis, is the expression in every number
 -- of variables.
 pub record PrintsAnswerTo (words : List (List ℕ)) (before : List ℕ)
@@ -191,14 +193,14 @@ pub record PrintsAnswerTo (words : List (List ℕ)) (before : List ℕ)
   pub spelled : SpellsWithoutOffence command_entries words command
   pub says : SaysOver left command text
 
--- the words of a line spell a command of a line without an error, and the text of its block is the answer to the
+-- the words of a line of a batch spell a command without an error, and the text of the block is the answer to this
 -- command
 pub record SaysLine (words : List (List ℕ)) (text : List ℕ) : Type 0 where
   pub command : Command
   pub spelled : SpellsWithoutOffence batch_entries words command
   pub says : Says command text
 
--- each line that was not refused has a block whose text is the answer to its command
+-- the text of each block whose ending is `done` is the answer to the command of its line
 abbrev pub SayLines : List BatchLine → List Block → Type 0
 SayLines (spoken words ∷ lines) (b ∷ blocks) =
     (b.1 ≡ done → SaysLine words b.0) × SayLines lines blocks
@@ -206,9 +208,9 @@ SayLines (too_long ∷ lines) (b ∷ blocks) = SayLines lines blocks
 SayLines (passed_over ∷ lines) blocks = SayLines lines blocks
 SayLines _ _ = Unit {0}
 
--- The headline of a batch. For some input, which is all that the source had left if the source records that, the blocks
--- of all lines were appended in order to the bytes written before, and each block of a line that was not refused is the
--- answer to the line's command.
+-- The clause `lines` for a batch. For some input, which is all that the source had left if the source records that,
+-- the blocks of all lines were appended in order to the bytes written before, and the block of each line that was not
+-- refused is the answer to the command of this line.
 pub record PrintsLines (before : List ℕ) (left now : Option (List ℕ)) : Type 0 where
   pub input : List ℕ
   pub is_input : IsInput left input
@@ -217,9 +219,10 @@ pub record PrintsLines (before : List ℕ) (left now : Option (List ℕ)) : Type
   pub are_blocks : AreBlocks batch_entries (map batch_line (lines_of input)) blocks
   pub say : SayLines (map batch_line (lines_of input)) blocks
 
--- ---- a batch whose sink failed
+-- ---- the clause `cut`: a batch whose sink failed
 
--- the blocks of the earlier lines were written whole, and a prefix of the separator and block of the next line
+-- the blocks of all lines but the last were appended whole, and after them a prefix of the last block; if there are earlier blocks, the prefix is one
+-- of the line `--` followed by the last block
 pub record CutsBlock (old new : SinkSeen) (lines : List BatchLine) : Type 0 where
   pub earlier : List BatchLine
   pub line : BatchLine
@@ -232,16 +235,17 @@ pub record CutsBlock (old new : SinkSeen) (lines : List BatchLine) : Type 0 wher
   pub is_shown : IsPrefix (batch_text blocks ++ shown) (batch_text (blocks ++ last ∷ []))
   pub appended : Appends old new (batch_text blocks ++ shown)
 
--- `blocks` are the outcomes of the lines that are not skipped, and their texts were appended whole
+-- `blocks` are the blocks of the lines that are not skipped, and they were appended whole, with the line `--` between
+-- them
 pub record PutsBlocks (old new : SinkSeen) (lines : List BatchLine) : Type 0 where
   pub blocks : List Block
   pub are_blocks : AreBlocks batch_entries lines blocks
   pub appended : Appends old new (batch_text blocks)
 
--- The state after a fault of the sink in a batch. The lines of `front` were read, all completely. Either the blocks of
--- all but the last were written whole, a prefix of the last block too, and at most 4,096 bytes were taken after the
--- lines; or the blocks of all lines were written whole, the sink failed at the end, and no complete line was taken
--- after them.
+-- The state after a fault of the sink in a batch. The lines of `front` were read, all completely. Either the blocks
+-- of all these lines but the last were written whole, followed by a prefix of the last block, and at most 4,096 bytes
+-- were taken from the source after the lines; or the blocks of all lines were written whole, `finish` failed, and no
+-- complete line was taken from the source after them.
 pub record CutsLines (old new : SinkSeen) (source now : SourceSeen) : Type 0 where
   pub front : List ℕ
   pub piece : List ℕ
@@ -250,32 +254,33 @@ pub record CutsLines (old new : SinkSeen) (source now : SourceSeen) : Type 0 whe
   pub puts : (CutsBlock old new (map batch_line (lines_of front)) × (length piece ≤ most_pending))
       ⊎ (PutsBlocks old new (map batch_line (lines_of front)) × HasNoFeed piece)
 
--- ---- the outcome of words: they are answered or refused
+-- ---- the clause `answers`: words are answered or refused
 
--- memory ran out or the sink failed
+-- the status is that of a run in which memory ran out or the sink failed
 abbrev pub WasCutOff : Status → Type 0
 WasCutOff status = (status ≡ NoMemory) ⊎ (status ≡ SinkFault)
 
--- the input was read to its end
+-- the status is `Done` or `SomeRefused`; a batch that ends with it has been read to its end
 abbrev pub IsThrough : Status → Type 0
 IsThrough status = (status ≡ Done) ⊎ (status ≡ SomeRefused)
 
--- A command without an error is answered, unless memory runs out or the sink fails. It is refused only if a coefficient
--- that is defined for it exceeds 2^127 - 1, or its weight is 2^127 or more. In a batch lines can be refused, and its
--- source can fail.
+-- The status of a command without an error: it is answered, unless memory runs out or the sink fails. It is refused
+-- only if a coefficient that is defined for it (`IsDefinedCoefficient`) exceeds 2^127 - 1, or its weight is 2^127 or
+-- more. In a batch some lines can be refused, and the source can fail.
 abbrev pub IsAccepted : Command → Status → Type 0
 IsAccepted command status =
     (status ≡ Done) ⊎ ((status ≡ Past) × MayBeLarge command) ⊎ WasCutOff status
     ⊎ ((command ≡ batch) × ((status ≡ SomeRefused) ⊎ (status ≡ SourceFault)))
 
--- Words whose refusal has this ending are refused with its status, and then their line was written, unless memory ran
--- out or the sink failed.
+-- The status of words that are refused with this ending: it is the status of the ending, and then `IsPut` holds, which says that the line of the
+-- refusal was written; or memory ran out or the sink failed.
 pub record IsRefused (ending : Ending) (IsPut : Type 0) (status : Status) : Type 0 where
   pub ends : (status ≡ status_of ending) ⊎ WasCutOff status
   pub puts : status ≡ status_of ending → IsPut
 
--- The reply to words; `IsPut` says that a line was written. Words that spell a command without an error are answered.
--- Words with a first error, and words that are no command, are refused by their own line.
+-- The clause `answers`; `IsPut line` says that the line was written. Words that spell a command without an error are
+-- answered (`IsAccepted`). Words that spell a command with an error are refused by the line of their first error, and
+-- words that are no command by the line `! Syntax` with the place at which they first fail.
 pub record AnswersWords (words : List (List ℕ)) (IsPut : List ℕ → Type 0)
     (status : Status) : Type 0 where
   pub accepted : (command : Command) → SpellsWithoutOffence command_entries words command
@@ -285,10 +290,11 @@ pub record AnswersWords (words : List (List ℕ)) (IsPut : List ℕ → Type 0)
   pub no_command : (word byte : ℕ) → IsSyntaxPlace command_entries words word byte
       → IsRefused syntax (IsPut (refusal_line (codes "Syntax") word byte)) status
 
--- ---- writing an outcome to the sink
+-- ---- an outcome written to the sink
 
--- The text of the outcome was written and the sink finished, and the result is the status of the outcome; or the
--- sink failed, and the result is `SinkFault`. The block of an answer can be read back.
+-- The text of the outcome was written, `finish` succeeded, and the result is the status of the outcome; or the sink
+-- failed, and the result is `SinkFault`. If the outcome is an answer, it is printable, so that its block can be read
+-- back.
 pub record PutsOutcome (old new : SinkSeen) (outcome : Outcome) (result : Status) : Type 0 where
   pub well : Bool
   pub puts : Puts true old well new (text_of outcome)

@@ -1,4 +1,5 @@
-//! The lines of a batch, run one after another.
+//! The lines of a batch. One after another, each line is read and run as a command, and its block,
+//! the text of its answer or refusal, is written.
 
 ghost use Rattle.std.specs.Prelude.{◌≡◌, ◌≤◌, ◌++◌, ℕ, List, [], length, Some, true, false, IfOk};
 ghost use Rattle.lru.specs.LruCache.{lru_cache};
@@ -20,18 +21,18 @@ use calc_replies::{Outcome, put_text, reply_by, status_if_put};
 use schubert_transition::Memo;
 use std::alloc::Global;
 
-/// The most bytes of a line before its line feed.
+/// The greatest number of bytes of a line, without its line feed.
 const MOST_BYTES: u64 = 4096;
 
-/// The number of Schubert polynomials that are kept for later lines.
+/// The greatest number of Schubert polynomials that are stored for later lines.
 const KEPT: usize = 64;
 
-/// The outcome of the next line.
+/// The result of reading the next line of a batch.
 #[derive(Drop)]
 enum Turn {
     /// No outcome: the line is skipped.
     Passed,
-    /// The outcome of the line's words.
+    /// The outcome of the words of the line, or the refusal of a line that is too long.
     Block { outcome: Outcome },
     /// There is no line left.
     Last,
@@ -39,10 +40,10 @@ enum Turn {
 
 /// Runs the lines of the source and writes their blocks, with the line `--` between two blocks.
 ///
-/// Each block is written when its line has been read; only Schubert polynomials are kept for later
-/// lines. If no further complete line has been read, the sink is finished before the source is
-/// called. If the source fails, the run ends after the lines read completely, and the sink is
-/// finished. If memory runs out, the run ends.
+/// The block of a line is written before the next line is run; only Schubert polynomials are stored
+/// for later lines. After each line, also one that is skipped, `finish` is called on the sink if
+/// the bytes read so far have no further complete line. If the source fails, the run ends after the
+/// lines read completely, and `finish` is called. If memory runs out, the run ends.
 pub(crate) fn batch<S: Source, K: Sink>(alloc: Global, source: &mut S, sink: &mut K) -> Status
     ensures { EndsBatch (K.seen sink.old) (K.seen sink.new) (S.seen source.old) (S.seen source.new)
         (sink.new ≡ sink.old) result }
@@ -59,7 +60,11 @@ pub(crate) fn batch<S: Source, K: Sink>(alloc: Global, source: &mut S, sink: &mu
     };
     loop {
         match next_turn(alloc, &mut memo, &mut reader, source) {
-            Ok(Turn::Passed) => {}
+            Ok(Turn::Passed) => {
+                if !hand_on(&reader, sink) {
+                    return Status::SinkFault;
+                }
+            }
             Ok(Turn::Block { outcome }) => {
                 if !put_block(&mut progress, outcome, sink) {
                     return Status::SinkFault;
@@ -82,7 +87,8 @@ pub(crate) fn new_memo(alloc: Global) -> Result<Memo, NoMemory>
     Memo::new(alloc, KEPT)
 }
 
-/// Reads the next line and computes its outcome.
+/// Reads the next line and computes its outcome; `Passed` if the line is skipped, `Last` at the
+/// end.
 fn next_turn<S: Source>(
     alloc: Global,
     memo: &mut Memo,
@@ -111,7 +117,7 @@ fn next_turn<S: Source>(
     }
 }
 
-/// Computes the outcome of a line.
+/// Computes the outcome of a line (`ComesOfLine`); None if the line is skipped.
 pub(crate) fn line_outcome(
     alloc: Global,
     memo: &mut Memo,
@@ -130,7 +136,7 @@ pub(crate) fn line_outcome(
     }
 }
 
-/// The outcome of a command of a line; the command is dropped.
+/// The outcome of a command that is a line of a batch. The command is dropped.
 fn reply_once(alloc: Global, memo: &mut Memo, command: Command) -> Result<Outcome, NoMemory>
     requires limits { IsWithinItsLimits command }
     requires sound { IsSound command }
@@ -143,7 +149,7 @@ fn reply_once(alloc: Global, memo: &mut Memo, command: Command) -> Result<Outcom
     reply
 }
 
-/// The outcome of a line that is too long.
+/// The outcome of a line of more than 4,096 bytes: its refusal.
 fn refused_long() -> Outcome
     ensures { ComesOfLine too_long (Some result) }
 {
@@ -157,8 +163,8 @@ fn refused_long() -> Outcome
     }
 }
 
-/// Writes the block of a line, after the line `--` unless it is the first one, and returns whether
-/// all calls of the sink succeeded.
+/// Writes the block of a line, the text of `outcome`, with the line `--` before it unless it is the
+/// first block. Returns whether all calls of the sink succeeded.
 fn put_block<K: Sink>(progress: &mut Progress, outcome: Outcome, sink: &mut K) -> bool
     requires { HasText outcome }
     ensures goes { Puts true (K.seen sink.old) result (K.seen sink.new)
@@ -172,8 +178,8 @@ fn put_block<K: Sink>(progress: &mut Progress, outcome: Outcome, sink: &mut K) -
     put_text(front, &mut outcome, sink)
 }
 
-/// Finishes the sink if no further complete line has been read, so that a caller who sends a line
-/// and waits gets its block. It returns whether the sink did not fail.
+/// Calls `finish` on the sink if the bytes read so far have no further complete line, so that a
+/// caller who sends a line and waits gets its block. Returns whether the sink did not fail.
 fn hand_on<K: Sink>(reader: &LineReader, sink: &mut K) -> bool
     ensures goes { Puts true (K.seen sink.old) result (K.seen sink.new) [] }
     ensures none { result ≡ false → HasNoFeed reader.now.pending }

@@ -1,4 +1,4 @@
-//! The top call of the calculator.
+//! The call `run`, which runs the command that given words spell.
 
 ghost use Rattle.std.specs.Prelude.{◌≡◌, ℕ, List, Some, map, string_bytes};
 ghost use Rattle.calc_base.specs.Sink.{Appends};
@@ -14,7 +14,7 @@ use calc_base::{NoMemory, Sink, Source, Status};
 use calc_replies::{Outcome, Task, put_text, status_if_put, task_of};
 use std::alloc::Global;
 
-/// Runs the command that the words name (without the name of the program) and writes its text to
+/// Runs the command that the words spell (without the name of the program) and writes its text to
 /// the sink.
 ///
 /// The commands are those of `calc_language::read_words`. The text has a line for each term of the
@@ -26,7 +26,7 @@ use std::alloc::Global;
 /// a limit or have a wrong shape (`Range`), or have a number that is too large (`Past`). Then the
 /// whole answer is computed. It is refused by the line `! Large` (`Past`) only if a coefficient of
 /// its definition exceeds 2^127 - 1, or a weight of the command, which bounds the numbers of its
-/// computation, is 2^127 or more. The tableaux of `tab` are not kept: each is written when it is
+/// computation, is 2^127 or more. The tableaux of `tab` are not stored: each is written when it is
 /// found. Last, `finish` is called, also after a refusal.
 ///
 /// Returns `SinkFault` if and only if a call of the sink failed; the sink is not called after that.
@@ -34,11 +34,11 @@ use std::alloc::Global;
 /// earlier answers.
 ///
 /// `batch` runs each line of the source as a command, and writes its block (or its refusal) as soon
-/// as the line is read, with the line `--` between two blocks; if no complete line is left of the
-/// input read so far, `finish` is called before the source is read again. It ends with
-/// `SomeRefused` if a line was refused. If a read fails, it ends with `SourceFault` after the lines
-/// read completely. Other commands do not touch the source. `work` runs generated lines in this
-/// way, and writes sums over their blocks.
+/// as the line is read, with the line `--` between two blocks; after a block, `finish` is called if
+/// the input read so far has no further complete line. It ends with `SomeRefused` if a line was
+/// refused. If a read fails, it ends with `SourceFault` after the lines read completely. Other
+/// commands do not touch the source. `work` runs generated lines in this way, but writes only the
+/// numbers of their blocks, terms and bytes.
 pub fn run<S: Source, K: Sink>(
     alloc: Global,
     words: &[String],
@@ -46,45 +46,50 @@ pub fn run<S: Source, K: Sink>(
     sink: &mut K,
 ) -> Status
     // If the status is `Done`, the text can be read back as a canonical list of terms, and that
-    // list is the answer to the command, which is defined by polynomials; for `quantum` and
-    // `fusion` it is also the result of reducing after each factor. For a command on tableaux the
-    // text is the one that is defined for it.
+    // list is the answer to the command, as it is defined by polynomials; for `quantum` and
+    // `fusion` it is also the result of reducing after each factor. For `tab`, `rsk`, `unrsk`,
+    // `rect` and `growth` the text is that of the answer. For `batch` and `work` it is what
+    // `SaysOver` says.
     ensures headline { result ≡ Status.Done → (before : List ℕ)
         → (K.seen sink.old).written ≡ Some before
         → PrintsAnswerTo (map string_bytes words.now) before (S.seen source.old).left
         (K.seen sink.new).written }
 
     // If a batch was read to its end, the blocks of all its lines were written, and the block of
-    // each line that was not refused is the answer to the line's command.
+    // each line that was not refused is the answer to the command of this line.
     ensures lines { RunsLines (map string_bytes words.now) → IsThrough result → (before : List ℕ)
         → (K.seen sink.old).written ≡ Some before
         → PrintsLines before (S.seen source.old).left (K.seen sink.new).written }
 
-    // If the sink failed in a batch, no line was read after the one whose block was cut off: the
-    // blocks of the lines before it were written completely.
+    // If the sink failed in a batch (`CutsLines`), either the blocks of all lines that were read,
+    // except the last, were written whole, followed by a prefix of the last block; or the blocks of
+    // all these lines were written whole, and `finish` failed.
     ensures cut { RunsLines (map string_bytes words.now) → result ≡ Status.SinkFault
         → CutsLines (K.seen sink.old) (K.seen sink.new) (S.seen source.old) (S.seen source.new) }
 
-    // The text that was written, by the status. It is the whole text that is defined for the words,
-    // with a successful `finish` after it; after a fault of the sink it is a prefix of this text;
-    // after a fault of the source it is the text of the lines read completely, with a successful
-    // `finish` after it; if memory ran out, it is empty or, in a batch, the text of its first lines.
+    // The text that was written, by the status. It is the whole text of an outcome of the words
+    // (`IsOutcome`), and `finish` succeeded after it. After a fault of the sink it is a prefix of
+    // the text of an outcome; after a fault of the source it is the text of the lines read
+    // completely, and `finish` succeeded after it; if memory ran out, it is empty or, in a batch,
+    // the text of its first lines.
     ensures leaves { Leaves (K.seen sink.old) (K.seen sink.new) (S.seen source.old)
         (S.seen source.new) (sink.new ≡ sink.old)
         (RunsLines (map string_bytes words.now)) (IsOutcome (map string_bytes words.now)) result }
 
     // Words that spell a command without an error are answered, and refused only if a coefficient
     // of the answer's definition exceeds 2^127 - 1, or a weight of the command, which bounds the
-    // numbers of its computation, is 2^127 or more. Words with a first error, and words that are no
-    // command, are refused by their own line.
+    // numbers of its computation, is 2^127 or more. Words that spell a command with an error are
+    // refused by the line of their first error, and words that are no command by the line
+    // `! Syntax` with the place at which they first fail.
     ensures answers { AnswersWords (map string_bytes words.now)
         (Appends (K.seen sink.old) (K.seen sink.new)) result }
 
-    // No fault of the sink or of the source is hidden.
+    // No fault of the sink or of the source is hidden by the status (`HidesNoFault`).
     ensures faults { HidesNoFault (K.seen sink.old) (K.seen sink.new) (S.seen source.old)
         (S.seen source.new) result }
 
-    // A batch is read to its end, and other commands do not touch the source.
+    // If a batch ends with `Done` or `SomeRefused`, the source was read to its end. Commands other
+    // than `batch` do not touch the source.
     ensures all_read { RunsLines (map string_bytes words.now) → IsThrough result
         → IsEmptied (S.seen source.new).left }
     ensures untouched { (RunsLines (map string_bytes words.now) → ⊥) → source.new ≡ source.old }
@@ -97,8 +102,8 @@ pub fn run<S: Source, K: Sink>(
     }
 }
 
-/// Writes the outcome of the words of a command, finishes the sink, and returns the status, or
-/// `SinkFault`.
+/// Writes the text of an outcome of the words of a command and calls `finish` on the sink. Returns
+/// the status of the outcome, or `SinkFault`.
 fn put_outcome<K: Sink>(outcome: Outcome, sink: &mut K) -> Status
     requires { HasText outcome }
     ensures { PutsOutcome (K.seen sink.old) (K.seen sink.new) outcome result }

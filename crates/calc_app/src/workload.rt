@@ -1,4 +1,5 @@
-//! The generated lines, run one after another.
+//! The command `work`: generated lines are run one after another, and their blocks (the texts of
+//! their answers or refusals) are counted.
 
 ghost use Rattle.std.specs.Prelude.{◌≡◌, ◌<◌, ◌≤◌, IfOk};
 ghost use Rattle.sym_model.specs.BatchLine.{batch_line};
@@ -13,10 +14,10 @@ use calc_replies::{Outcome, put_text};
 use schubert_transition::Memo;
 use std::alloc::Global;
 
-/// Runs `lines` lines of the generator from the seed on, which is at most 65,536, and writes the
-/// sums over their blocks.
+/// Runs the first `lines` lines that are generated from `seed` (at most 65,536), and writes the
+/// numbers of their blocks, terms and bytes.
 ///
-/// One block is kept at a time. If memory runs out it returns `NoMemory` and writes nothing.
+/// One block is stored at a time. If memory runs out it returns `NoMemory` and writes nothing.
 pub fn work<K: Sink>(alloc: Global, lines: u16, seed: u32, sink: &mut K) -> Status
     requires { seed ≤ 65536 }
     ensures { EndsWork (K.seen sink.old) (K.seen sink.new) (sink.new ≡ sink.old) lines seed result }
@@ -27,7 +28,7 @@ pub fn work<K: Sink>(alloc: Global, lines: u16, seed: u32, sink: &mut K) -> Stat
     }
 }
 
-/// Writes the summary and finishes the sink.
+/// Writes the text of the sums and calls `finish` on the sink. Returns `Done`, or `SinkFault`.
 fn put_sums<K: Sink>(sums: &Sums, sink: &mut K) -> Status
     ensures { PutsSums (K.seen sink.old) (K.seen sink.new) sums.now result }
 {
@@ -37,7 +38,8 @@ fn put_sums<K: Sink>(sums: &Sums, sink: &mut K) -> Status
     finished(Status::Done, sink)
 }
 
-/// The numbers of blocks, terms and bytes of the answers to drawn lines.
+/// The numbers of blocks, terms and bytes in the blocks of the first `lines` lines that are
+/// generated from `seed`.
 fn sums_of(alloc: Global, lines: u16, seed: u32) -> Result<Sums, NoMemory>
     requires { seed ≤ 65536 }
     ensures { IfOk result (AreSumsOf lines seed) }
@@ -54,7 +56,8 @@ fn sums_of(alloc: Global, lines: u16, seed: u32) -> Result<Sums, NoMemory>
     Ok(sums)
 }
 
-/// Adds the numbers of terms and bytes of the block of a line to the sums.
+/// Runs a line, and adds its block, with the terms and bytes of the block, to the sums. A skipped
+/// line has no block.
 fn add_line(
     alloc: Global,
     memo: &mut Memo,
@@ -72,7 +75,7 @@ fn add_line(
     }
 }
 
-/// Adds the numbers of terms and bytes of the block of an outcome to the sums.
+/// Adds the block of an outcome, with the terms and bytes of the block, to the sums.
 fn add_block(outcome: Outcome, text: &mut GrowingSink, sums: &mut Sums) -> Result<(), NoMemory>
     requires has_text { HasText outcome }
     requires small { AreSmall sums.old }

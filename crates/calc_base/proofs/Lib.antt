@@ -1,4 +1,5 @@
--- Lemmas about texts written to sinks, sources and sinks in memory, and numbers combined for hashing.
+-- Lemmas on three subjects: the texts that are written to a sink; sources and sinks in memory; and the numbers that are combined into one for
+-- hashing.
 pub mod PutsLaws
 pub mod Memory
 pub mod Written

@@ -1,13 +1,13 @@
--- Sources and sinks in memory, as operations on lists.
-use Rattle.std.proofs.Common.{◌≡◌, ℕ, zero, suc, ◌+◌, ◌<◌, ◌≤◌, min, max, List, [], ◌∷◌, ◌++◌, length, take, drop, Some, refl, sym, ◌∙◌, ap, arith, length-append, Bool}
-use Rattle.std.proofs.lemmas.List.{take-append-drop}
-use Rattle.std.proofs.Math.Seq.{take-append_seam}
+-- Reads of a source in memory and writes to a sink in memory, as operations on lists of bytes.
+use Rattle.std.proofs.Common.{◌≡◌, ℕ, ◌+◌, ◌<◌, ◌≤◌, min, max, List, ◌++◌, length, take, drop, Some, sym, ◌∙◌, ap, arith, length-append, Bool}
+use Rattle.std.proofs.lemmas.List.{take-append-drop, nil_from_length}
+use Rattle.std.proofs.Math.Seq.{take-append_seam, drop-nil}
 use Rattle.std.proofs.lemmas.Grind.{common_steps}
 use Rattle.calc_base.specs.Source.{Takes}
 use Rattle.calc_base.specs.Sink.{greatest_length, seen_bytes, AppendsPrefix}
 
--- a read that moves the first `count` bytes of `rest` to the front of a buffer that is not empty satisfies `Takes`, if
--- `count` is the least of the length of the buffer, the number of bytes in `rest`, and `piece` ≥ 1
+-- let `piece` ≥ 1, let the buffer not be empty, and let `count` be the least of its length, `piece` and the number of bytes in `rest`: a read that
+-- moves the first `count` bytes of `rest` to the front of the buffer satisfies `Takes`
 pub Takes-front : (rest later filled behind buffer : List ℕ) (piece count : ℕ)
     → filled ≡ take count rest → later ≡ drop count rest → buffer ≡ filled ++ behind
     → count ≡ min (length buffer) (min piece (length rest)) → 0 < length buffer → 1 ≤ piece
@@ -15,7 +15,7 @@ pub Takes-front : (rest later filled behind buffer : List ℕ) (piece count : �
 Takes-front rest later filled behind buffer piece count front back whole number room some = record {
   fits = omega arith;
   given = sym (take-append-drop count rest) ∙ parts (take count buffer) later in_front (sym back);
-  ended = λ none. back ∙ ap (drop count) (nothing rest (omega arith)) ∙ drop_nothing count;
+  ended = λ none. back ∙ ap (drop count) (nil_from_length rest (omega arith)) ∙ drop-nil count;
 }
   where
     long : length filled ≡ count
@@ -28,15 +28,7 @@ Takes-front rest later filled behind buffer piece count front back whole number 
     parts : (a b : List ℕ) → take count rest ≡ a → drop count rest ≡ b → take count rest ++ drop count rest ≡ a ++ b
     parts a b e f = cc
 
-    drop_nothing : (n : ℕ) → ◌≡◌ {A = List ℕ} (drop n []) []
-    drop_nothing zero = refl
-    drop_nothing (suc n) = refl
-
-    nothing : (xs : List ℕ) → length xs ≡ 0 → xs ≡ []
-    nothing [] e = refl
-    nothing (x ∷ xs) e = cc
-
--- if the first `count` bytes of the piece were appended, the sink has appended a prefix of the piece
+-- if the first `count` bytes of `piece` are appended to the recorded bytes `old`, the sink has appended a prefix of `piece`
 pub appends_some : (old new piece : List ℕ) (count was failed : ℕ) (settled finished : Bool) → new ≡ old ++ take count piece
     → AppendsPrefix (seen_bytes (Some old) was settled) (seen_bytes (Some new) failed finished) piece
 appends_some old new piece count was failed settled finished grew = record {

@@ -8,8 +8,8 @@ use Rattle.calc_base.specs.Fault.{counted_up, Rose}
 use Rattle.calc_base.specs.Sink.{SinkSeen, greatest_length, IsLonger, Appends, AppendsPrefix}
 use Rattle.calc_base.specs.Puts.{Puts, Prints}
 
--- updating the recorded number n of bytes, up to the limit, for texts of a and then b bytes gives the same as for a text of
--- c = a + b bytes
+-- let the recorded number n of bytes be increased by the length of each text, but not beyond the limit: texts of a and then b bytes give the same
+-- number as one text of c = a + b bytes
 number-number : (n a b c limit : ℕ) → c ≡ a + b
     → max (max n (min (n + a) limit)) (min (max n (min (n + a) limit) + b) limit) ≡ max n (min (n + c) limit)
 number-number n a b c limit e = omega arith
@@ -27,7 +27,7 @@ longer-nothing (Some n) = ap Some (number-nothing n greatest_length)
     number-nothing : (n limit : ℕ) → n ≡ max n (min (n + 0) limit)
     number-nothing n limit = omega arith
 
--- ---- the text that one call appended
+-- ---- texts appended one after another (`Appends` and `AppendsPrefix`)
 
 pub Appends-then : {old mid new : SinkSeen} {a b : List ℕ}
     → Appends old mid a → Appends mid new b → Appends old new (a ++ b)
@@ -79,9 +79,9 @@ pub AppendsPrefix-whole : {old new : SinkSeen} {a : List ℕ}
     → Appends old new a → AppendsPrefix old new a
 AppendsPrefix-whole {a = a} all = record { front = a; is_prefix = record { rest = []; joined = append-nil a }; appends = all }
 
--- ---- the text that several calls appended
+-- ---- texts written one after another, with a record of whether a call failed (`Puts`)
 
--- writing a and then b is writing a ++ b, also if a call fails
+-- if `Puts` holds for writing a, and then for writing b, it holds for writing a ++ b (whether or not a call fails)
 pub Puts-then : {before mid now : Bool} {old between new : SinkSeen} {a b : List ℕ}
     → Puts before old mid between a → Puts mid between now new b
     → Puts before old now new (a ++ b)
@@ -114,13 +114,13 @@ Puts-then {before = before} {mid = mid} {now = now}
     by_rose false went began ended =
         ap (λ (s : SinkSeen). s.faults) (second.untouched went) ∙ first.rose began went
 
--- if a text was written, so was any text that is equal to it
+-- if `Puts` holds for the text a, it holds for any text b that is equal to a
 pub Puts-as : {before now : Bool} {old new : SinkSeen} {a b : List ℕ} → a ≡ b
     → Puts before old now new a → Puts before old now new b
 Puts-as {before = before} {now = now} {old = old} {new = new} same goes =
     let P : List ℕ → Type 0 = λ t. Puts before old now new t in subst P same goes
 
--- an unchanged sink is one to which the empty text was written
+-- `Puts` holds for an unchanged sink and the empty text
 pub Puts-nothing : (before : Bool) (s : SinkSeen)
     → Puts before s before s []
 Puts-nothing before s = record {
@@ -133,7 +133,8 @@ Puts-nothing before s = record {
   ill = λ ill. ill;
 }
 
--- if a printer began without a fault and returns `Ok` if and only if none occurred, it prints the text
+-- if `Puts` holds for a text from `true` (no fault so far) to `now`, a result that is `Ok` if and only if `now` is true satisfies `Prints` for the
+-- text
 pub Puts-prints : {E : Type 0} {now : Bool} {old new : SinkSeen} {text : List ℕ} (result : Result (Unit {0}) E)
     → Puts true old now new text → is_ok result ≡ now
     → Prints old new text result
@@ -144,7 +145,7 @@ Puts-prints {now = now} (Err e) goes answer =
     let ended : now ≡ false = sym answer in
     record { whole = tt; cut = goes.cut refl ended; counted = record { still = tt; rose = goes.rose refl ended; later = goes.later } }
 
--- if a text was written and a finish then wrote nothing more, the two calls together wrote the text
+-- if a text was written, and then a finish wrote the empty text, the two calls together wrote the text (`Puts`)
 pub Puts-finished : {before mid now : Bool} {old between new : SinkSeen} {text : List ℕ}
     → Puts before old mid between text → Puts mid between now new []
     → Puts before old now new text

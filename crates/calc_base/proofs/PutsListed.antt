@@ -1,5 +1,5 @@
--- Writing the items of a lister to a sink: the invariant of a printer's loop over a lister, its start, its step and
--- its ends.
+-- Writing the items of a lister to a sink: `PutsUpTo`, the invariant of a printer's loop over the lister, at its start and after one more item, and
+-- what follows from it when no item is left or a call has failed.
 use Rattle.std.proofs.Common.{◌≡◌, ℕ, List, [], ◌++◌, Option, Some, Bool, false, refl, sym, ◌∙◌, ap, subst, append_assoc, append-nil}
 use Rattle.std.specs.List.{flat_map}
 use Rattle.std.specs.Option.{option_to_list}
@@ -7,7 +7,7 @@ use Rattle.calc_base.specs.Puts.{Puts}
 use Rattle.calc_base.specs.Sink.{SinkSeen}
 use Rattle.calc_base.proofs.PutsLaws.{Puts-then, Puts-as, Puts-nothing, Puts-stopped}
 
--- `front` was written to the sink; followed by the texts of the items that are left, it is the text of all items.
+-- `Puts` holds for the text `front`, and `front` followed by the texts of the items `left` is the text of all items
 pub record PutsUpTo {X : Type 0} (before : Bool) (old : SinkSeen) (now : Bool) (new : SinkSeen)
     (text : X → List ℕ) (all left : List X) : Type 0 where
   pub front : List ℕ
@@ -22,7 +22,8 @@ PutsUpTo-start before s text all = record {
   joined = refl;
 }
 
--- if the next item x was listed and its text written, the items after it are left to be written
+-- let `PutsUpTo` hold with `listed` as the items that are left, and let x, the first of them, be written: then `PutsUpTo` holds with the items after
+-- x
 pub PutsUpTo-more : {X : Type 0} {before mid now : Bool} {old between new : SinkSeen} (text : X → List ℕ) (all listed left : List X) (item : Option X) (x : X)
     → PutsUpTo before old mid between text all listed
     → listed ≡ option_to_list item ++ left → item ≡ Some x
@@ -36,7 +37,7 @@ PutsUpTo-more text all listed left item x so_far next current goes = record {
       ∙ so_far.joined;
 }
 
--- if no item is left, the texts of all items were written
+-- if `PutsUpTo` holds and no item is left, `Puts` holds for the texts of all items
 pub PutsUpTo-all : {X : Type 0} {before now : Bool} {old new : SinkSeen} (text : X → List ℕ) (all left : List X)
     → PutsUpTo before old now new text all left → left ≡ []
     → Puts before old now new (flat_map text all)
@@ -44,7 +45,7 @@ PutsUpTo-all text all left so_far none =
     Puts-as (sym (append-nil so_far.front) ∙ ap (λ items. so_far.front ++ flat_map text items) (sym none) ∙ so_far.joined)
     so_far.goes
 
--- if a call has failed, a prefix of the texts of all items was written
+-- if `PutsUpTo` holds and a call has failed, `Puts` holds for the texts of all items: a prefix of them was written
 pub PutsUpTo-stopped : {X : Type 0} {before now : Bool} {old new : SinkSeen} (text : X → List ℕ) (all left : List X)
     → PutsUpTo before old now new text all left → now ≡ false
     → Puts before old now new (flat_map text all)

@@ -12,7 +12,7 @@ Appends-append (Some x) (Some y) (Some z) a b first second =
 Appends-append (Some x) (Some y) None a b first second = absurd second
 Appends-append (Some x) None after a b first second = absurd first
 
--- if `bytes` up to `at` were appended, and then `count` of those left, `bytes` up to `at` + `count` were appended
+-- if the first `at` of the bytes were appended, and then the first `count` of those left, the first `at` + `count` of the bytes were appended
 pub Appends-more : (before between after : Option (List ℕ)) (bytes left : List ℕ) (at count : ℕ)
     → left ≡ take (length bytes - at) (drop at bytes)
     → Appends before between (take at bytes) → Appends between after (take count left)

@@ -1,5 +1,4 @@
--- Counts of faults and of calls. A count is a u64 that stays at its greatest value, 2^64 - 1, once
--- it is there.
+-- Counts of faults and of calls. A count is a u64; at its greatest value, 2^64 - 1, it is not increased further.
 use Rattle.std.specs.Prelude.{◌≡◌, ℕ, ◌+◌, ◌-◌, ◌^◌, ◌≤◌, min, Bool, cond, Result, OnOk, OnErr}
 
 -- the next value of a count, at most 2^64 - 1
@@ -10,7 +9,7 @@ counted_up count = min (count + 1) (2 ^ 64 - 1)
 abbrev pub Rose : (before now : ℕ) → Type 0
 Rose before now = now ≡ counted_up before
 
--- the count of faults after a call, given whether the call failed
+-- the count of faults after a call, given the count before it and whether the call failed
 abbrev pub faults_after : ℕ → Bool → ℕ
 faults_after before fails = cond fails (counted_up before) before
 

@@ -1,4 +1,4 @@
--- Sources, sinks and listers in contracts, and the rules of writing a text to a sink.
+-- The states of sources, sinks and listers, in terms of which contracts are stated, and the rules of writing a text to a sink.
 pub mod Fault
 pub mod Source
 pub mod Sink

@@ -1,11 +1,11 @@
--- Writing a text to a sink piece by piece, with one truth value: whether no call has failed so far.
+-- Writing a text to a sink piece by piece, while a truth value records whether no call has failed so far.
 use Rattle.std.specs.Prelude.{◌≡◌, ℕ, ◌≤◌, List, Bool, true, false, Result, OnOk, OnErr}
 use Rattle.calc_base.specs.Fault.{Rose, CountsFaults}
 use Rattle.calc_base.specs.Sink.{SinkSeen, Appends, AppendsPrefix}
 
--- If no call has failed before or now, the text was appended whole. If the first call failed now, a prefix of it was
--- appended, and the count of faults increased by 1, or was 2^64 - 1. If a call had failed before, the sink is
--- unchanged.
+-- `before` and `now` say whether no call has failed before the text is written, and whether none has failed after it. If `now` is true, the text was
+-- appended whole. If `before` is true and `now` false, a prefix of it was appended, and the count of faults increased by 1, or remained at 2^64 - 1.
+-- If `before` is false, so is `now`, and the sink is unchanged.
 pub record Puts (before : Bool) (old : SinkSeen) (now : Bool) (new : SinkSeen)
     (text : List ℕ) : Type 0 where
   pub whole : now ≡ true → Appends old new text
@@ -16,8 +16,8 @@ pub record Puts (before : Bool) (old : SinkSeen) (now : Bool) (new : SinkSeen)
   pub untouched : before ≡ false → new ≡ old
   pub ill : before ≡ false → now ≡ false
 
--- the outcome of a printer: at `Ok` the text was appended whole without a fault, otherwise a prefix with exactly one
--- fault
+-- the outcome of a printer: after `Ok` the text was appended whole and the count of faults is unchanged; otherwise a prefix of the text was appended,
+-- and the count of faults increased by 1, or remained at 2^64 - 1
 pub record Prints {E : Type 0} (old new : SinkSeen) (text : List ℕ)
     (result : Result (Unit {0}) E) : Type 0 where
   pub whole : OnOk result (Appends old new text)

@@ -2,20 +2,20 @@
 use Rattle.std.specs.Prelude.{◌≡◌, ℕ, ◌+◌, ◌≤◌, List, length, take, Option, Result, MatchResult}
 use Rattle.std.specs.Io.KnownBytes.{Consumes, IsAtEnd}
 
--- The visible state of a source: the bytes that are left, if it records them; an allowance, which decreases by at
--- least the number of bytes read, so that a loop that reads some each time ends; and the number of calls that failed.
+-- The visible state of a source: the bytes that are left, if it records them; an allowance, which decreases by at least the number of bytes read, so
+-- that a loop in which each call reads some bytes ends; and the number of calls that failed.
 pub record SourceSeen : Type 0 where
   pub left : Option (List ℕ)
   pub allowance : ℕ
   pub faults : ℕ
 
--- the first `count` bytes of the buffer are the next ones of the source, which no longer has them; count is 0 only at
--- the end
+-- `count` is at most the length of the buffer, and the first `count` bytes of the buffer are the next bytes of the source, which were removed from
+-- it; if `count` is 0, the source has no byte left
 pub record Takes (before now : Option (List ℕ)) (buffer : List ℕ) (count : ℕ) : Type 0 where
   pub fits : count ≤ length buffer
   pub given : Consumes before now (take count buffer)
   pub ended : count ≡ 0 → IsAtEnd now
 
--- the allowance decreases by at least the number of bytes given, and never increases
+-- the allowance decreases by at least the number of bytes given, if the call succeeds, and never increases
 abbrev pub Spends : {E : Type 0} → (before now : ℕ) → Result ℕ E → Type 0
 Spends before now result = MatchResult result (λ count. now + count ≤ before) (λ _. now ≤ before)

@@ -16,7 +16,7 @@ code_of SinkFault = 5
 code_of SourceFault = 6
 code_of NoMemory = 7
 
--- the code is that of a status with the property P
+-- `code` is the exit code of a status with the property P
 pub record IsCodeOf (P : Status → Type 0) (code : ℕ) : Type 0 where
   pub status : Status
   pub is : code ≡ code_of status

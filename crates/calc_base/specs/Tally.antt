@@ -1,17 +1,17 @@
--- A sink that counts the bytes and keeps none, in contracts.
+-- The state of a sink that counts the bytes and keeps none, as contracts describe it.
 use Rattle.std.specs.Prelude.{ℕ, ◌+◌, List, length, min, None, Some, Bool, false}
 use Rattle.calc_base.specs.Sink.{SinkSeen, greatest_length}
 
--- the number of bytes written, up to 2^128 - 1, and whether the last call finished the sink
+-- the number of bytes written, up to 2^128 - 1, and whether the last call was a `finish`
 pub record Tally : Type 0 where
   pub count : ℕ
   pub finished : Bool
 
--- a tally after a call of `put` with this piece
+-- a counting sink after a call of `put` with this piece
 abbrev pub tally_after_put : Tally → List ℕ → Tally
 tally_after_put t piece =
     record { count = min (t.count + length piece) greatest_length; finished = false }
 
--- the state of a tally: the number of its bytes is recorded, and no call fails
+-- the visible state of a counting sink: the number of its bytes is recorded, and no call fails
 abbrev pub tally_seen : Tally → SinkSeen
 tally_seen t = record { written = None; length = Some t.count; faults = 0; settled = t.finished }

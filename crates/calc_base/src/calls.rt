@@ -1,4 +1,5 @@
-//! The calls of a source or sink in memory: which of them fail, and their count.
+//! The calls of a source or sink in memory: which of them fail, and the numbers of calls and of
+//! faults so far.
 ghost use Rattle.std.specs.Prelude.{◌≡◌, [], length, IfOk};
 ghost use Rattle.calc_base.specs.Fault.{counted_up};
 ghost use Rattle.calc_base.specs.Supply.{is_listed};
@@ -6,8 +7,8 @@ ghost use Rattle.calc_base.specs.Supply.{is_listed};
 use crate::NoMemory;
 use std::alloc::Global;
 
-/// The calls that fail, by their numbers counted from 0, the number of calls so far, and the number
-/// of faults.
+/// The numbers, counted from 0, of the calls that fail; the number of calls so far; and the number
+/// of faults so far.
 #[derive(Drop)]
 pub(crate) struct Calls {
     pub(crate) fails: Vec<u64>,
@@ -29,7 +30,8 @@ impl Calls {
         })
     }
 
-    /// Counts one more call, up to 2^64 - 1, and returns whether it is one that fails.
+    /// Increases the number of calls by 1, up to 2^64 - 1, and returns whether this call is one of
+    /// those that fail.
     pub(crate) fn begin(&mut self) -> bool
         ensures listed { result ≡ is_listed self.old.fails.items self.old.made }
         ensures fails { self.new.fails.items ≡ self.old.fails.items }
@@ -41,7 +43,7 @@ impl Calls {
         listed
     }
 
-    /// Counts one more fault, up to 2^64 - 1.
+    /// Increases the number of faults by 1, up to 2^64 - 1.
     pub(crate) fn fault(&mut self)
         ensures fails { self.new.fails.items ≡ self.old.fails.items }
         ensures made { self.new.made ≡ self.old.made }

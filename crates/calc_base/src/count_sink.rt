@@ -21,7 +21,7 @@ impl Model for CountSink {
 }
 
 impl CountSink {
-    /// A sink without bytes.
+    /// A sink to which no bytes have been written.
     pub fn new() -> CountSink
         ensures { result ≡ record { count = 0; finished = false } }
     {
@@ -43,14 +43,14 @@ impl Sink for CountSink {
     ghost seen = { tally_seen };
 
     fn put(&mut self, bytes: &[u8]) -> Result<(), SinkFault>
-        // Clauses of the trait.
+        // The contract of `put` of the trait `Sink`.
         ensures ok { OnOk result (Appends (tally_seen self.old) (tally_seen self.new) bytes.now) }
         ensures err { OnErr result (AppendsPrefix (tally_seen self.old)
             (tally_seen self.new) bytes.now) }
         ensures counts { CountsFaults 0 0 result }
         ensures settled { self.new.finished ≡ false }
 
-        // Clauses of this sink.
+        // In addition, `CountSink` states that no call fails and what the state after the call is.
         ensures never { IsOk result }
         ensures after { self.new ≡ tally_after_put self.old bytes.now }
     {
@@ -60,12 +60,12 @@ impl Sink for CountSink {
     }
 
     fn finish(&mut self) -> Result<(), SinkFault>
-        // Clauses of the trait.
+        // The contract of `finish` of the trait `Sink`.
         ensures same { Appends (tally_seen self.old) (tally_seen self.new) [] }
         ensures counts { CountsFaults 0 0 result }
         ensures settled { self.new.finished ≡ is_ok result }
 
-        // Clauses of this sink.
+        // In addition, `CountSink` states that no call fails and what the state after the call is.
         ensures never { IsOk result }
         ensures after { self.new ≡ record { count = self.old.count; finished = true } }
     {

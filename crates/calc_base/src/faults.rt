@@ -10,7 +10,7 @@ use thiserror::Error;
 #[error("out of memory")]
 pub struct NoMemory;
 
-/// A number is too large. It is the error of code that allocates no memory, so such code cannot
+/// A number is too large. This type is the error of functions that allocate no memory and so cannot
 /// fail for lack of memory.
 #[derive(Clone, Copy, Debug, PartialEq, Eq, Hash, Error)]
 #[error("a number is too large")]

@@ -8,7 +8,8 @@ ghost use Rattle.calc_base.specs.Fixed.{Fixed, fixed_seen, is_too_long, fixed_af
 use crate::{Sink, SinkFault};
 use std::marker::Model;
 
-/// A sink into a borrowed buffer. It allocates no memory.
+/// A sink that writes into a borrowed buffer and allocates no memory. If a call of `put` has more
+/// bytes than fit into the rest of the buffer, it appends those that fit, and fails.
 #[derive(Drop)]
 pub struct FixedSink<'a> {
     buffer: &'a mut [u8],
@@ -31,7 +32,8 @@ impl<'a> Model for FixedSink<'a> {
 }
 
 impl<'a> FixedSink<'a> {
-    /// An empty sink. The length of the buffer is the greatest number of bytes that it can take.
+    /// A sink without bytes over `buffer`, whose length is the greatest number of bytes that the
+    /// sink can hold.
     pub fn new(buffer: &'a mut [u8]) -> FixedSink<'a>
         ensures { result ≡ record {
           bytes = [];
@@ -67,14 +69,14 @@ impl<'a> Sink for FixedSink<'a> {
     ghost seen = { fixed_seen };
 
     fn put(&mut self, bytes: &[u8]) -> Result<(), SinkFault>
-        // Clauses of the trait.
+        // The contract of `put` of the trait `Sink`.
         ensures ok { OnOk result (Appends (fixed_seen self.old) (fixed_seen self.new) bytes.now) }
         ensures err { OnErr result (AppendsPrefix (fixed_seen self.old)
             (fixed_seen self.new) bytes.now) }
         ensures counts { CountsFaults self.old.failed self.new.failed result }
         ensures settled { self.new.finished ≡ false }
 
-        // Clauses of this sink.
+        // In addition, `FixedSink` states which calls fail and what the state after the call is.
         ensures fails { is_err result ≡ is_too_long self.old bytes.now }
         ensures after { self.new ≡ fixed_after_put self.old bytes.now }
     {
@@ -89,12 +91,13 @@ impl<'a> Sink for FixedSink<'a> {
     }
 
     fn finish(&mut self) -> Result<(), SinkFault>
-        // Clauses of the trait.
+        // The contract of `finish` of the trait `Sink`.
         ensures same { Appends (fixed_seen self.old) (fixed_seen self.new) [] }
         ensures counts { CountsFaults self.old.failed self.new.failed result }
         ensures settled { self.new.finished ≡ is_ok result }
 
-        // Clauses of this sink.
+        // In addition, `FixedSink` states that no call of `finish` fails and what the state after
+        // the call is.
         ensures never { IsOk result }
         ensures after { self.new ≡ record self.old { finished = true } }
     {

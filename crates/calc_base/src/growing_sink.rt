@@ -26,7 +26,7 @@ impl Model for GrowingSink {
 }
 
 impl GrowingSink {
-    /// A sink without bytes. It allocates no memory yet.
+    /// A sink to which no bytes have been written. Memory is allocated only by later calls.
     pub fn new(alloc: Global) -> GrowingSink
         ensures bytes { result.bytes ≡ [] }
         ensures faults { result.failed ≡ 0 }
@@ -39,7 +39,8 @@ impl GrowingSink {
         }
     }
 
-    /// Removes the bytes and keeps their memory for the next text. The count of faults stays.
+    /// Removes the bytes and keeps their memory for the next text. The count of faults is
+    /// unchanged.
     pub fn clear(&mut self)
         ensures bytes { self.new.bytes ≡ [] }
         ensures faults { self.new.failed ≡ self.old.failed }

@@ -1,12 +1,12 @@
-//! Combines a list of numbers into one for hashing.
+//! Combines a list of numbers into one number, which can be hashed faster.
 ghost use Rattle.std.specs.Prelude.{◌≡◌};
 ghost use Rattle.calc_base.specs.Mixing.{mixed as mixed_of};
 
 /// The base of the digits that are combined into one number: a prime.
 const BASE: u64 = 1_000_003;
 
-/// The number with these numbers as its digits to the base `BASE`, modulo 2^64. Hashing it is
-/// faster than hashing the list, which a hasher reads number by number.
+/// The number whose digits to the base `BASE` are `numbers`, the highest first, modulo 2^64.
+/// Hashing this one number is faster than hashing the list, which a hasher reads number by number.
 pub fn mixed(numbers: &[u16]) -> u64
     ensures { result ≡ mixed_of 0 numbers.now }
 {

@@ -1,13 +1,14 @@
 //! The base of the calculator: sources and sinks of bytes, listers, which give a list item by item,
-//! and the plain types that its crates share.
+//! and the small types that its crates share.
 //!
 //! What is proved:
 //!
-//! The traits `Source`, `Sink` and `Lister`; sources and sinks in memory do exactly what the
-//! functions of specs/ say, and exactly the chosen calls fail; `StdIn` and `StdOut` meet the
-//! traits, and if `StdOut` is settled, its buffer is empty; a call that succeeds leaves the count
-//! of faults unchanged, and one that fails adds 1; `put_if` writes a text whole, or a prefix of it;
-//! `mixed` is the number with the given digits to a fixed base, modulo 2^64.
+//! The contracts of the traits `Source`, `Sink` and `Lister`; the state of each source and sink in
+//! memory after a call, and whether the call fails, are those that the functions of specs/ give;
+//! `StdIn` and `StdOut` satisfy the contracts of their traits, and if `StdOut` is settled, its
+//! buffer is empty; a call that succeeds leaves the count of faults unchanged, and one that fails
+//! adds 1; `put_if` writes a text whole, or a prefix of it; `mixed` is the number with the given
+//! digits to a fixed base, modulo 2^64.
 #![tactic(auto)]
 
 mod calls;

@@ -3,10 +3,10 @@ ghost use Rattle.std.specs.Prelude.{◌≡◌, ◌++◌, ◌↔◌, ℕ, List, [
 ghost use Rattle.std.specs.Option.{option_to_list};
 ghost use Rattle.std.specs.Bool.{OnFalse};
 
-/// A list that is given item by item, each a list of numbers, without allocating memory. A new
-/// lister has no current item.
+/// A list whose items, each a list of numbers, are given one at a time, without allocating memory.
+/// A new lister has no current item.
 pub trait Lister {
-    /// The items that are still to be given.
+    /// The items after the current one, which calls of `advance` are still to give.
     ghost rest: { Self → List (List ℕ) };
 
     /// The current item, if there is one.

@@ -1,5 +1,5 @@
-//! A sink into memory with a fixed room. Chosen calls fail, and so do calls that write more bytes
-//! than the room left.
+//! A sink into memory with room for a fixed number of bytes. Chosen calls fail, and so does a call
+//! that writes more bytes than there is room left for.
 ghost use Rattle.std.specs.Prelude.{◌≡◌, ◌≤◌, [], false, IfOk, OnOk, OnErr, is_ok, is_err, refl};
 ghost use Rattle.std.specs.Prelude.{length as list_length, vec_capacity};
 ghost use Rattle.calc_base.specs.Fault.{CountsFaults};
@@ -12,7 +12,7 @@ use crate::{NoMemory, Sink, SinkFault};
 use std::alloc::Global;
 use std::marker::Model;
 
-/// A sink into memory, with a fixed room, at which chosen calls fail.
+/// A sink into memory, with room for a fixed number of bytes, at which chosen calls fail.
 #[derive(Drop)]
 pub struct MemSink {
     bytes: Vec<u8>,
@@ -37,9 +37,9 @@ impl Model for MemSink {
 }
 
 impl MemSink {
-    /// An empty sink with the room `room`, which it allocates now. A call of `put` or `finish`
-    /// fails if its number, counted from 0, is in `fails`, and a `put` also if its bytes are more
-    /// than the room left.
+    /// An empty sink with room for `room` bytes, which it allocates now. A call of `put` or
+    /// `finish` fails if its number, counted from 0 over both kinds of calls, is in `fails`, and a
+    /// call of `put` fails also if the room that is left is too small for its bytes.
     pub fn new(alloc: Global, room: usize, fails: &[u64]) -> Result<MemSink, NoMemory>
         ensures { IfOk result (λ sink. sink ≡ record {
           bytes = [];
@@ -77,14 +77,14 @@ impl Sink for MemSink {
     ghost seen = { store_seen };
 
     fn put(&mut self, bytes: &[u8]) -> Result<(), SinkFault>
-        // Clauses of the trait.
+        // The contract of `put` of the trait `Sink`.
         ensures ok { OnOk result (Appends (store_seen self.old) (store_seen self.new) bytes.now) }
         ensures err { OnErr result (AppendsPrefix (store_seen self.old)
             (store_seen self.new) bytes.now) }
         ensures counts { CountsFaults self.old.failed self.new.failed result }
         ensures settled { self.new.finished ≡ false }
 
-        // Clauses of this sink.
+        // In addition, `MemSink` states which calls fail and what the state after the call is.
         ensures fails { is_err result ≡ put_fails self.old bytes.now }
         ensures after { self.new ≡ after_put self.old bytes.now }
     {
@@ -105,12 +105,12 @@ impl Sink for MemSink {
     }
 
     fn finish(&mut self) -> Result<(), SinkFault>
-        // Clauses of the trait.
+        // The contract of `finish` of the trait `Sink`.
         ensures same { Appends (store_seen self.old) (store_seen self.new) [] }
         ensures counts { CountsFaults self.old.failed self.new.failed result }
         ensures settled { self.new.finished ≡ is_ok result }
 
-        // Clauses of this sink.
+        // In addition, `MemSink` states which calls fail and what the state after the call is.
         ensures fails { is_err result ≡ fails_now self.old }
         ensures after { self.new ≡ after_finish self.old }
     {

@@ -35,8 +35,8 @@ impl Model for MemSource {
 }
 
 impl MemSource {
-    /// A source of these bytes. A call gives at most `piece` of them, a number of at least 1, and
-    /// fails if its number, counted from 0, is in `fails`.
+    /// A source of `bytes`. Each call gives at most `piece` of them, and fails if its number,
+    /// counted from 0, is in `fails`. `piece` must be at least 1.
     pub fn new(
         alloc: Global,
         bytes: &[u8],
@@ -74,13 +74,14 @@ impl Source for MemSource {
     fn take(&mut self, buf: &mut [u8]) -> Result<usize, SourceFault>
         requires { 0 < length buf.old }
 
-        // Clauses of the trait.
+        // The contract of `take` of the trait `Source`.
         ensures ok { IfOk result (Takes (Some self.old.rest) (Some self.new.rest) buf.new) }
         ensures err { OnErr result (Keeps (Some self.old.rest) (Some self.new.rest)) }
         ensures spends { Spends (length self.old.rest) (length self.new.rest) result }
         ensures counts { CountsFaults self.old.failed self.new.failed result }
 
-        // Clauses of this source.
+        // In addition, `MemSource` states which calls fail, the number of bytes given, and what the
+        // state and the buffer after the call are.
         ensures fails { is_err result ≡ is_listed self.old.fails self.old.calls }
         ensures given { IfOk result (λ count. count ≡ given_count self.old (length buf.new)) }
         ensures after { self.new ≡ after_take self.old result }

@@ -11,20 +11,21 @@ use crate::SinkFault;
 pub trait Sink {
     /// The visible state of the sink: the bytes so far (`written`) and their number, up to 2^128 -
     /// 1 (`length`), each if it is recorded; the number of failed calls, up to 2^64 - 1 (`faults`);
-    /// and whether the last call was a `finish` that returned `Ok`, so that no byte waits in the
-    /// sink (`settled`).
+    /// and whether the last call was a `finish` that returned `Ok`, so that no byte waits in a
+    /// buffer (`settled`).
     ghost seen: { Self → SinkSeen };
 
     /// Appends the bytes. After an `Err` a prefix of them was appended, and the count of faults is
-    /// greater by 1, or is at its greatest value. After an `Ok` the count is unchanged.
+    /// greater by 1, or remains at its greatest value. After an `Ok` the count is unchanged.
     fn put(&mut self, bytes: &[u8]) -> Result<(), SinkFault>
         ensures ok { OnOk result (Appends (seen self.old) (seen self.new) bytes.now) }
         ensures err { OnErr result (AppendsPrefix (seen self.old) (seen self.new) bytes.now) }
         ensures counts { CountsFaults (seen self.old).faults (seen self.new).faults result }
         ensures settled { (seen self.new).settled ≡ false };
 
-    /// Flushes the bytes that wait, and appends none. After an `Err` the count of faults is greater
-    /// by 1, or is at its greatest value. After an `Ok` the count is unchanged.
+    /// Flushes the bytes that wait in a buffer, and appends none. After an `Err` the count of
+    /// faults is greater by 1, or remains at its greatest value. After an `Ok` the count is
+    /// unchanged.
     fn finish(&mut self) -> Result<(), SinkFault>
         ensures same { Appends (seen self.old) (seen self.new) [] }
         ensures counts { CountsFaults (seen self.old).faults (seen self.new).faults result }

@@ -10,13 +10,14 @@ use crate::SourceFault;
 /// record.
 pub trait Source {
     /// The visible state of the source: the bytes that are left, if it records them (`left`); a
-    /// number that decreases by at least the number of bytes read, so that a loop that reads some
-    /// each time ends (`allowance`); and the number of failed calls, up to 2^64 - 1 (`faults`).
+    /// number that decreases by at least the number of bytes read, so that a loop in which each
+    /// call reads some bytes ends (`allowance`); and the number of failed calls, up to 2^64 - 1
+    /// (`faults`).
     ghost seen: { Self → SourceSeen };
 
-    /// Writes the next bytes to the front of `buf`, and returns their number: 0 only at the end of
-    /// the input, and then always. After an `Err` no byte was given, and the count of faults is
-    /// greater by 1, or is at its greatest value. After an `Ok` the count is unchanged.
+    /// Writes the next bytes to the front of `buf`, and returns their number, which is 0 if and
+    /// only if the input is at its end. After an `Err` no byte was read, and the count of faults is
+    /// greater by 1, or remains at its greatest value. After an `Ok` the count is unchanged.
     fn take(&mut self, buf: &mut [u8]) -> Result<usize, SourceFault>
         requires { 0 < length buf.old }
         ensures ok { IfOk result (Takes (seen self.old).left (seen self.new).left buf.new) }

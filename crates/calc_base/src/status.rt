@@ -4,19 +4,20 @@ ghost use Rattle.std.specs.Prelude.{◌≡◌};
 /// The status of a command at its end; `code` is the exit code of the program.
 #[derive(Clone, Copy, Debug, PartialEq, Eq, Hash)]
 pub enum Status {
-    /// The text of the command was written, and the sink is finished.
+    /// The whole text of the command was written and flushed, and no line of it is a refusal.
     Done,
-    /// Some line of a batch was refused.
+    /// The whole text of a batch was written and flushed, and the answer to some line is a refusal.
     SomeRefused,
-    /// The words are not a command.
+    /// The words of the command line do not spell a command.
     Syntax,
     /// A number in the words exceeds a limit, or a list in them is not of the required kind.
     Range,
-    /// A number in the words, or a number of the answer, is too large.
+    /// A number in the words exceeds 2^127 - 1, or numbers of the answer or of its computation may
+    /// exceed it.
     Past,
-    /// The sink failed.
+    /// A write to the sink, or its flush, failed.
     SinkFault,
-    /// The source failed.
+    /// A read from the source failed.
     SourceFault,
     /// Out of memory.
     NoMemory,

@@ -27,7 +27,7 @@ impl<R> Model for StdIn<R> {
 }
 
 impl<R> StdIn<R> {
-    /// A source over the reader.
+    /// A source over `reader` that gives at most 2^62 bytes in all.
     pub fn new(reader: R) -> StdIn<R>
         ensures { result ≡ record { reader = reader; allowance = 2 ^ 62; failed = 0 } }
     {
@@ -42,11 +42,12 @@ impl<R> StdIn<R> {
 impl<R: Read> Source for StdIn<R> {
     ghost seen = { intake_seen R.remaining };
 
-    /// Reads once. It fails if the read fails or no allowance is left.
+    /// Reads once from the reader. It fails if the read fails, or if the allowance, the number of
+    /// bytes that may still be read, is 0.
     fn take(&mut self, buf: &mut [u8]) -> Result<usize, SourceFault>
         requires { 0 < length buf.old }
 
-        // Clauses of the trait.
+        // The contract of `take` of the trait `Source`.
         ensures ok { IfOk result (Takes (R.remaining self.old.reader)
             (R.remaining self.new.reader) buf.new) }
         ensures err { OnErr result (Keeps (R.remaining self.old.reader)
@@ -54,7 +55,7 @@ impl<R: Read> Source for StdIn<R> {
         ensures spends { Spends self.old.allowance self.new.allowance result }
         ensures counts { CountsFaults self.old.failed self.new.failed result }
 
-        // Clauses of this source.
+        // In addition, `StdIn` states how the allowance changes.
         ensures spent { IfOk result (λ count. self.new.allowance + count ≡ self.old.allowance) }
         ensures unspent { OnErr result (self.new.allowance ≡ self.old.allowance) }
         ensures exhausted { self.old.allowance ≡ 0 → IsErr result }

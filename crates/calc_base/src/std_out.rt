@@ -11,7 +11,7 @@ use crate::{Sink, SinkFault};
 use std::io::{BufWriter, Write};
 use std::marker::Model;
 
-/// The sink over the program's output: a buffer before any writer. It records the bytes of the
+/// The sink over the program's output: a `BufWriter` over any writer. It records the bytes of the
 /// writer, if they are known, followed by those that wait in the buffer.
 #[derive(Drop)]
 pub struct StdOut<W: Write + Drop> {
@@ -32,7 +32,7 @@ impl<W: Write + Drop> Model for StdOut<W> {
 }
 
 impl<W: Write + Drop> StdOut<W> {
-    /// A sink over the writer.
+    /// A sink over `writer`, whose buffer may already have bytes.
     pub fn new(writer: BufWriter<W>) -> StdOut<W>
         ensures { result ≡ record {
           writer = writer_inner writer;
@@ -50,12 +50,12 @@ impl<W: Write + Drop> StdOut<W> {
 }
 
 impl<W: Write + Drop> Sink for StdOut<W> {
-    /// The state of the sink. If it is settled, the buffer is empty.
+    /// The visible state of the sink. If the sink is settled, the buffer is empty.
     ghost seen = { outlet_seen W.contents };
 
     /// Writes until all bytes are written. It fails if a write fails or writes nothing.
     fn put(&mut self, bytes: &[u8]) -> Result<(), SinkFault>
-        // Clauses of the trait.
+        // The contract of `put` of the trait `Sink`.
         ensures ok { OnOk result (Appends (outlet_seen W.contents self.old)
             (outlet_seen W.contents self.new) bytes.now) }
         ensures err { OnErr result (AppendsPrefix (outlet_seen W.contents self.old)
@@ -73,7 +73,7 @@ impl<W: Write + Drop> Sink for StdOut<W> {
 
     /// Flushes, so that the buffer is empty. It fails if the flush fails.
     fn finish(&mut self) -> Result<(), SinkFault>
-        // Clauses of the trait.
+        // The contract of `finish` of the trait `Sink`.
         ensures same { Appends (outlet_seen W.contents self.old)
             (outlet_seen W.contents self.new) [] }
         ensures counts { CountsFaults self.old.failed self.new.failed result }

@@ -5,7 +5,7 @@ use crate::NoMemory;
 use std::alloc::Global;
 use std::marker::Model;
 
-/// A list of numbers, as the letters of a word or a code.
+/// A list of numbers that owns its memory, such as the letters of a word or the entries of a code.
 #[derive(Debug, Drop)]
 pub struct Word {
     letters: Vec<u16>,

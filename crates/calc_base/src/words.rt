@@ -1,4 +1,5 @@
-//! Places in the words of a command, the errors of words, bases, and weights.
+//! Positions in the words of a command line, the errors of reading these words, the bases of the
+//! symmetric functions, and bounds of coefficients.
 ghost use Rattle.std.specs.Prelude.{◌≡◌};
 ghost use Rattle.calc_base.specs.declared.words.WordsFault.TheVariants.{NoMemory as no_memory};
 
@@ -6,29 +7,30 @@ use crate::NoMemory;
 use std::alloc::{AllocError, AllocFailed};
 use thiserror::Error;
 
-/// A place in the words of a command: a word and a byte of it, both counted from 0.
+/// A position in the words of a command: the index of a word and of a byte in it.
 #[derive(Clone, Copy, Debug, PartialEq, Eq, PartialOrd, Ord, Hash)]
 pub struct Place {
-    /// The word, counted from 0.
+    /// The word of the command, counted from 0; word 0 is the name of the command.
     pub word: u64,
-    /// The byte in it, counted from 0.
+    /// The byte in that word, counted from 0.
     pub byte: u64,
 }
 
-/// The reasons for which words are not a command that can be run: the first error and its place, or
-/// out of memory.
+/// The reason why words are not a command that can be run: their first error, with its place, or
+/// that memory ran out.
 #[derive(Clone, Copy, Debug, PartialEq, Eq, Hash, Error)]
 pub enum WordsFault {
     /// No command has these words; the first error is at this place.
     #[error("no command, at byte {byte} of word {word}", byte = .at.byte, word = .at.word)]
     Syntax { at: Place },
-    /// A number that exceeds 2^127 - 1 begins here.
+    /// A number that exceeds 2^127 - 1 begins at this place.
     #[error("a number too large, at byte {byte} of word {word}", byte = .at.byte, word = .at.word)]
     Literal { at: Place },
-    /// A limit is exceeded here.
+    /// A limit is exceeded at this place.
     #[error("past a limit, at byte {byte} of word {word}", byte = .at.byte, word = .at.word)]
     Range { at: Place },
-    /// A list here is not of the required kind, for example a partition with increasing parts.
+    /// A list at this place is not of the required kind, for example a partition with increasing
+    /// parts.
     #[error("a list out of shape, at byte {byte} of word {word}", byte = .at.byte, word = .at.word)]
     Shape { at: Place },
     /// Out of memory.
@@ -76,13 +78,13 @@ pub enum Basis {
     S,
 }
 
-/// Two numbers that bound the coefficients of a list of terms: each denominator divides `den`, and
-/// the absolute value of a coefficient times `den` is at most `num` times a number that depends on
-/// the label.
+/// Bounds of the coefficients of a list of terms: `den` is a multiple of the denominator of each
+/// coefficient, and for each coefficient c, |c|·`den` is at most `num` times a number that depends
+/// only on the label.
 #[derive(Clone, Copy, Debug, PartialEq, Eq, Hash)]
 pub struct Weight {
-    /// The bound for the coefficients times `den`.
+    /// The bound for the coefficients times `den`, up to a factor that depends on the label.
     pub num: u128,
-    /// A multiple of each denominator.
+    /// A multiple of the denominator of each coefficient.
     pub den: u128,
 }

@@ -4,7 +4,8 @@ ghost use Rattle.calc_base.specs.Puts.{Puts};
 
 use crate::Sink;
 
-/// Writes the piece if no call has failed so far (`well`), and returns whether none has failed yet.
+/// Writes `bytes` if no call has failed so far (`well`), and returns whether still no call has
+/// failed.
 pub fn put_if<K: Sink>(well: bool, sink: &mut K, bytes: &[u8]) -> bool
     ensures goes { Puts well (K.seen sink.old) result (K.seen sink.new) bytes.now }
     ensures untouched { well ≡ false → sink.new ≡ sink.old }

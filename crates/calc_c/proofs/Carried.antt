@@ -1,4 +1,4 @@
--- The clauses of a run, for the bytes in the caller's buffer.
+-- The clauses of `run`, carried over to the bytes in the caller's buffer.
 use Rattle.std.proofs.Common.{◌≡◌, ◌≤◌, Option, [], Some, ℕ, List, length, take, subst, sym, ◌∙◌, ap, inl, inr, refl, arith}
 use Rattle.calc_app.proofs.Outcomes.{answers_as}
 use Rattle.calc_app.specs.Top.{PrintsLines, PutsWhole, Leaves, IsOutcome, RunsLines, AnswersWords, IsThrough}
@@ -19,14 +19,15 @@ lines_carried rest input before now text is_input is_empty is_text prints =
     (subst (λ (it : List ℕ). PrintsLines it (Some input) (Some now)) is_empty
     (subst (λ (it : List ℕ). PrintsLines before (Some it) (Some now)) is_input prints))
 
--- the text that was appended to an empty sink is its bytes
+-- if the sink was empty and `text` was appended to it, its bytes are `text`
 appended_bytes : (old new : Growing) (text : List ℕ) → old.bytes ≡ [] → Appends (growing_seen old) (growing_seen new) text → new.bytes ≡ text
 appended_bytes old new text empty a = some_is (Appends-told {old = growing_seen old} {new = growing_seen new} [] a (ap Some empty))
   where
     some_is : ◌≡◌ {A = Option (List ℕ)} (Some new.bytes) (Some text) → new.bytes ≡ text
     some_is h = cc
 
--- the line of a refusal is at the front of the buffer, if the buffer has room for it
+-- let the sink be empty before the call, and let its bytes then be copied to the front of the buffer if they fit: if the clause `AnswersWords` holds
+-- for the sink, it holds for the buffer, which begins with the line of a refusal if there is room for it
 pub answers_carried : (words : List (List ℕ)) (old new : Growing) (out : List ℕ) (needed : ℕ) (status : Status) → old.bytes ≡ []
     → (needed ≤ length out → take needed out ≡ new.bytes) → AnswersWords words (Appends (growing_seen old) (growing_seen new)) status
     → AnswersWords words (StandsIn needed out) status
@@ -40,7 +41,8 @@ whole_left words input old new ending empty l =
     subst (λ (text : List ℕ). IsOutcome words input text ending) (sym (appended_bytes old new l.text empty l.appended))
     (subst (λ (all : List ℕ). IsOutcome words all l.text ending) (sym l.is_input) l.outcome)
 
--- if the sink was empty before, and the status is not `SourceFault`, its bytes are the text that a call leaves
+-- if the sink was empty before, the clause `Leaves` holds for it, and the status is not `SourceFault`, then the bytes of the sink are a text that a
+-- call leaves (`IsLeft`)
 pub left_text : (words : List (List ℕ)) (input : List ℕ) (old new : Growing) (now : SourceSeen) (Untouched : Type 0) (status : Status)
     → old.bytes ≡ [] → (Untouched → new.bytes ≡ []) → (status ≡ statuses.SourceFault → ⊥)
     → Leaves (growing_seen old) (growing_seen new) (slice_seen input) now Untouched (RunsLines words) (IsOutcome words) status
@@ -63,7 +65,7 @@ left_text words input old new now Untouched statuses.NoMemory empty none ends (i
       (record { front = l.1.front; is_front = l.1.is_front; ending = l.1.ending; outcome = l.1.outcome }),
 )
 
--- a code of at most 1 is that of a run that read its input to the end
+-- a status with a code of at most 1 is `Done` or `SomeRefused`
 pub went_through : (status : Status) → code_of status ≤ code_of statuses.SomeRefused → IsThrough status
 went_through statuses.Done h = inl refl
 went_through statuses.SomeRefused h = inr refl

@@ -13,16 +13,16 @@ use Rattle.sym_model.specs.Ending.{Ending, done, some_refused, syntax, range, pa
 abbrev pub slice_seen : List ℕ → SourceSeen
 slice_seen rest = record { left = Some rest; allowance = length rest; faults = 0 }
 
--- the text is one that is defined for the words over the first lines of the input
+-- the text is that of an outcome of the words (`IsOutcome`) over the first lines of the input
 pub record IsTextOfFirst (words : List (List ℕ)) (input text : List ℕ) : Type 0 where
   pub front : List ℕ
   pub is_front : IsFrontOf (Some input) front
   pub ending : Ending
   pub outcome : IsOutcome words front text ending
 
--- The text that a call leaves, by its status: the whole text that is defined for the words over the input; if memory
--- ran out for the text, a prefix of one that is defined over its first lines; if memory ran out for the answer, nothing
--- or, in a batch, the text of its first lines.
+-- The text that a call leaves, by its status. `SinkFault`, if memory ran out while the text was stored: a prefix of the text of an outcome over the
+-- first lines of the input. `NoMemory`, if memory ran out for the answer: no text or, in a batch, the text of an outcome over the first lines of the
+-- input. `SourceFault`: impossible. Any other status: the whole text of an outcome of the words over the input.
 abbrev pub IsLeft : (words : List (List ℕ)) → (input text : List ℕ) → Status → Type 0
 IsLeft words input text Done = IsOutcome words input text done
 IsLeft words input text SomeRefused = RunsLines words × IsOutcome words input text some_refused
@@ -34,8 +34,8 @@ IsLeft words input text SinkFault =
 IsLeft words input text SourceFault = ⊥
 IsLeft words input text NoMemory = (text ≡ []) ⊎ (RunsLines words × IsTextOfFirst words input text)
 
--- A text was left, and `needed` is its length. If the buffer has room, the text is at its front and the bytes after it
--- are unchanged; if not, all bytes are unchanged.
+-- A call has produced a text (`IsLeft`), and `needed` is the length of this text. If the buffer has room for the text, it is at the front of the
+-- buffer, and the bytes after it are unchanged; if not, all bytes of the buffer are unchanged.
 pub record LeavesText (words : List (List ℕ)) (input : List ℕ) (needed : ℕ) (old_out out : List ℕ)
     (status : Status) : Type 0 where
   pub text : List ℕ
@@ -44,6 +44,6 @@ pub record LeavesText (words : List (List ℕ)) (input : List ℕ) (needed : ℕ
   pub stands : length text ≤ length out → out ≡ text ++ drop (length text) old_out
   pub untouched : length out < length text → out ≡ old_out
 
--- the line is at the front of the buffer, if the buffer has room for it
+-- if the buffer `out` has at least `needed` bytes, its first `needed` bytes are `line`
 abbrev pub StandsIn : (needed : ℕ) → (out line : List ℕ) → Type 0
 StandsIn needed out line = needed ≤ length out → take needed out ≡ line

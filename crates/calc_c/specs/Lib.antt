@@ -1,2 +1,2 @@
--- The definitions that the contracts of the C library cite.
+-- The module of definitions that the contracts of the C library refer to.
 pub mod Calls

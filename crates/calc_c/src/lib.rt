@@ -3,13 +3,13 @@
 //!
 //! What is proved:
 //!
-//! `calc_run`, the call of the C library, over the words of a line and the caller's buffer.
-//! `leaves`: with codes 0 to 4 the text is the whole one that is defined for the words; with 5 it
-//! is a prefix of that text; with 7 it is empty or, in a batch, the text of its first lines.
-//! `needed` is the length of the text. If the buffer has room, it begins with the text and is
-//! otherwise unchanged; if not, it is unchanged. `headline`, `lines` and `answers`: the clauses of
-//! `run` with these names, for the bytes in the buffer. The code is that of a status, and never
-//! that of a source that failed (`ends`).
+//! `calc_run`, the call of the C library, runs the words of a line and writes to the caller's
+//! buffer. `leaves`: with codes 0 to 4 the text is the whole text of an outcome of the words
+//! (`IsOutcome`); with 5 it is a prefix of the text of one; with 7 it is empty or, in a batch, the
+//! text of its first lines. `needed` is the length of the text. If the buffer has room, it begins
+//! with the text and is otherwise unchanged; if not, it is unchanged. `headline`, `lines` and
+//! `answers`: the clauses of `run` with these names, for the bytes in the buffer. The code is that
+//! of a status, and never that of a source that failed (`ends`).
 #![tactic(auto)]
 
 ghost use Rattle.std.specs.Prelude.{◌≡◌, ◌≢◌, ◌++◌, ◌<◌, ◌≤◌, [], Some, drop, length, take, map};
@@ -29,15 +29,15 @@ use calc_words::line_words;
 use slice_source::SliceSource;
 use std::alloc::Global;
 
-/// Runs the command that the line's words name (over the input if it is `batch`), and returns the
-/// code of its status, which is the exit status of the program.
+/// Runs the command that the words of the line spell (over the input if it is `batch`), and returns
+/// the code of its status, which is the exit status of the program.
 ///
 /// The words are separated by spaces and tabs. `needed` is set to the length of the text. If the
 /// buffer has room for the text, the text is at its front, and the bytes after it are unchanged. If
 /// not, the buffer is unchanged, and the call can be made again with more room. Code 5 says that
 /// memory ran out for the text, of which a prefix is left; 7 that memory ran out for the answer:
 /// then no text is left or, in a batch, that of its first lines. The other codes are those of the
-/// words; 6 is never returned.
+/// outcome of the words; 6 is never returned.
 #[unsafe(no_mangle)]
 pub extern "C" fn calc_run(
     alloc: Global,
@@ -46,7 +46,7 @@ pub extern "C" fn calc_run(
     out: &mut [u8],
     needed: &mut usize,
 ) -> u8
-    // The headline, for the bytes in the caller's buffer.
+    // The clauses `headline` and `lines` of `run`, for the bytes in the caller's buffer.
     ensures headline { result ≡ code_of Status.Done → needed.new ≤ length out.new
         → PrintsAnswerTo (map seen (words_of_line line.now)) [] (Some input.now)
         (Some (take needed.new out.new)) }
@@ -55,17 +55,18 @@ pub extern "C" fn calc_run(
         → needed.new ≤ length out.new
         → PrintsLines [] (Some input.now) (Some (take needed.new out.new)) }
 
-    // By cases on the status: the whole text that is defined for the words; if memory ran out for
-    // the text, a prefix of it; if memory ran out for the answer, nothing or, in a batch, the text
-    // of its first lines. `needed` is its length. If the buffer has room it begins with the text,
-    // and its other bytes are unchanged.
+    // By cases on the status: the whole text of an outcome of the words (`IsOutcome`); if memory
+    // ran out for the text, a prefix of the text of one; if memory ran out for the answer, nothing
+    // or, in a batch, the text of its first lines. `needed` is the length of the text that is left.
+    // If the buffer has room, it begins with this text, and its other bytes are unchanged.
     ensures leaves { IsCodeOf (LeavesText
         (map seen (words_of_line line.now)) input.now needed.new out.old out.new) result }
 
     // Words that spell a command without an error are answered, and refused only if a coefficient
-    // that is defined for them exceeds 2^127 - 1, or their weight, which bounds the numbers of the
-    // computation, is 2^127 or more. Words with a first error, and words that are no command, are
-    // refused by their own line.
+    // that the command defines (`IsDefinedCoefficient`) exceeds 2^127 - 1, or its weight, which
+    // bounds the numbers of the computation, is 2^127 or more. Words that spell a command with an
+    // error are refused by the line of their first error, and words that are no command by the line
+    // `! Syntax` with the place at which they first fail.
     ensures answers { IsCodeOf (AnswersWords (map seen (words_of_line line.now))
         (StandsIn needed.new out.new)) result }
 
@@ -81,7 +82,8 @@ pub extern "C" fn calc_run(
     run_words(alloc, &words, input, out, needed).code()
 }
 
-/// Runs the command that the words name.
+/// Runs the command that the words spell over the input, copies its text to the front of `out` if
+/// it fits, sets `needed` to its length, and returns the status.
 fn run_words(
     alloc: Global,
     words: &[String],
@@ -110,7 +112,7 @@ fn run_words(
     status
 }
 
-/// Copies the text to the front of the buffer if it fits, and returns the text's length.
+/// Copies the text to the front of the buffer if it fits there, and returns the length of the text.
 fn put_front(out: &mut [u8], text: &[u8]) -> usize
     ensures needed { result ≡ length text.now }
     ensures same { length out.new ≡ length out.old }

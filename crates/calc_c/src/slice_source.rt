@@ -19,13 +19,14 @@ impl Source for SliceSource<'_> {
     fn take(&mut self, buf: &mut [u8]) -> Result<usize, SourceFault>
         requires { 0 < length buf.old }
 
-        // Clauses of the trait.
+        // The clauses that the trait `Source` asks for.
         ensures ok { IfOk result (Takes (Some self.old.rest.now) (Some self.new.rest.now) buf.new) }
         ensures err { OnErr result (Keeps (Some self.old.rest.now) (Some self.new.rest.now)) }
         ensures spends { Spends (length self.old.rest.now) (length self.new.rest.now) result }
         ensures counts { CountsFaults 0 0 result }
 
-        // The clause of this source: a call gives all the bytes that fit.
+        // A clause of this source only: a call gives all bytes that are left, or those that fit
+        // into `buf`.
         ensures given { IfOk result (λ count. count
             ≡ min (length buf.new) (length self.old.rest.now)) }
     {

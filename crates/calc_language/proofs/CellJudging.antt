@@ -1,9 +1,8 @@
--- The numbers of a row, judged one after another by the rule of cells.
+-- The errors of the numbers of a row, tested one after another by the rule of cells (`cell_rule`).
 use Rattle.std.proofs.Common.{◌≡◌, ℕ, suc, ◌+◌, ◌-◌, ◌<◌, ◌≤◌, nat_le, Bool, true, false, ◌||◌, List, [], ◌∷◌, ◌++◌, map, length, take, drop, reverse, get_or, drop-cons, refl, sym, ap, ap₂, ◌∙◌, subst, arith, Option, Some, None, Ok, Err, inl, inr}
 use Rattle.std.specs.Prelude.{slice_get, slice_set}
 use Rattle.std.proofs.lemmas.List.{take_more, take_all, length-take-le, reverse-append, length-reverse}
 use Rattle.sym_model.specs.Sum.{Among}
-use Rattle.sym_model.proofs.Lists.{slice_get-within}
 use Rattle.sym_model.specs.ExpressionOffence.{OffenceKind, is_wide, literal, range, shape, rank}
 use Rattle.sym_model.specs.CommandOffence.{Offence, Rule, first_offence, offences_after, offences_by, left_of, falls, stays, entry_above, when, is_outside, greatest_letter}
 use Rattle.word_laws.specs.JudgedRows.{is_too_much, is_too_long, cell_rule, is_disordered}
@@ -16,8 +15,9 @@ use Rattle.expression_reading.specs.Offences.{kind_in}
 use Rattle.calc_language.specs.FoundOffences.{kind_by, entry_or, marked, is_taken, is_no_entry}
 use Rattle.calc_words.proofs.FirstOffences.{first-kind, first_of_three, lowest, Behind, within}
 use Rattle.word_laws.proofs.JudgedRows.{of_kind}
+use Rattle.std.proofs.lemmas.Option.{slice_get-get_or}
 
--- ---- the first error among the kinds of errors of a cell
+-- ---- the first of the errors of one number of a row
 
 range_shapes : (q : OffenceKind) → Among q (range ∷ shape ∷ shape ∷ []) → nat_le 1 (rank q) ≡ true
 range_shapes q (inl e) = ap (λ v. nat_le 1 (rank v)) e
@@ -69,7 +69,7 @@ by_kind k false true z rest = refl
 by_kind k false false true rest = refl
 by_kind k false false false rest = refl
 
--- ---- the numbers before a place in a row, the nearest first
+-- ---- the numbers before index i of a row, the nearest first
 
 abbrev pub before_of : List ℕ → ℕ → List ℕ
 before_of ns i = reverse (take i ns)
@@ -91,18 +91,19 @@ left_last (a ∷ ns) =
     let z : length row ≤ n + 1 = omega arith in
     ap (λ xs. left_of (reverse xs)) (sym (take_all (n + 1) row z))
     ∙ ap left_of (before_next row n (omega arith))
-    ∙ sym (slice_get-within row n (omega arith))
+    ∙ sym (slice_get-get_or row n 0 (omega arith))
 
--- the tests of a number against the last entry of its row and the entry above are those of `is_disordered`
+-- let `row` be the entries of a row that begins at column d, below the row `upper` that begins at column c: the next number a is smaller than the
+-- last entry of `row`, or not greater than the entry above a, if and only if `is_disordered` is true
 pub disordered_read : (c : ℕ) (upper : List ℕ) (d : ℕ) (row : List ℕ) (a : ℕ)
     → (falls (slice_get row (length row - 1)) a || stays (entry_above upper c (d + length row)) a) ≡ is_disordered c upper d (reverse row) a
 disordered_read c upper d row a =
     ap (λ o. falls o a || stays (entry_above upper c (d + length row)) a) (sym (left_last row))
     ∙ ap (λ n. falls (left_of (reverse row)) a || stays (entry_above upper c (d + n)) a) (sym (length-reverse row))
 
--- ---- the numbers of a row, judged one after another
+-- ---- the first error of the numbers of a row from index i on
 
--- the first error of the numbers from place i on, judged after the numbers before it
+-- the first error that the rule finds in the numbers from index i on, given the numbers before index i; number 0 is word `at`
 abbrev pub from_place : Rule → ℕ → List ℕ → ℕ → Option Offence
 from_place rule at ns i = first_offence (offences_after rule (before_of ns i) (at + i) (drop i ns))
 
@@ -125,14 +126,14 @@ next_place count most test at ns i kind h e =
     ∙ ap (λ n. first_offence (offences_after rule (before_of ns (i + 1)) n (drop (suc i) ns))) (let z : at + i + 1 ≡ at + (i + 1) = omega arith in z)
     ∙ ap (λ n. first_offence (offences_after rule (before_of ns (i + 1)) (at + (i + 1)) (drop n ns))) (let z : suc i ≡ i + 1 = omega arith in z))
 
--- if the first error is at word k and has the kind `kind`, the fault of this kind at word k is this error
+-- if the first error is at byte 0 of word k and of the kind `kind`, the fault of this kind at word k is this error
 pub kind_refused : (first : Option Offence) (k : ℕ) (kind : Kind) (fault : WordsFault) → first ≡ Some (k, 0, kind_in kind) → fault ≡ fault_of k kind
     → IsFirst first fault
 kind_refused first k Literal fault e h = subst (IsFirst first) (sym h) e
 kind_refused first k Range fault e h = subst (IsFirst first) (sym h) e
 kind_refused first k Shape fault e h = subst (IsFirst first) (sym h) e
 
--- ---- the entries of a row, read one after another
+-- ---- the state after the first i entries of a row have been read
 
 entry_err : (a : ℕ) (k : Option Kind) (kind : Kind) → Err kind ≡ entry_or a k → Some kind ≡ k
 entry_err a None kind e = cc
@@ -142,14 +143,14 @@ entry_ok : (a : ℕ) (k : Option Kind) (v : ℕ) → Ok v ≡ entry_or a k → (
 entry_ok a None v e = (refl, cc)
 entry_ok a (Some k) v e = cc
 
--- the first i numbers of a row have no error; `row` contains them, and `taken` is `flags` with theirs set
+-- the first i numbers of a row have no error; `row` lists them, and `taken` are the flags `flags` with those of these numbers set
 pub record ReadTo (count most : Option ℕ) (c : ℕ) (upper : List ℕ) (d : ℕ) (flags : List Bool) (at : ℕ) (ns : List ℕ) (i : ℕ) (row : List ℕ) (taken : List Bool) : Type 0 where
   pub first_is : first_offence (offences_by (cell_rule count most (is_no_entry c upper d flags)) at ns)
       ≡ from_place (cell_rule count most (is_no_entry c upper d flags)) at ns i
   pub row_is : row ≡ take i ns
   pub taken_is : taken ≡ marked (reverse row) flags
 
--- the kind of error of the next number a after the entries `row`, or none
+-- the kind of the error of the next number a after the entries `row`, if it has one
 abbrev pub next_kind : Option ℕ → Option ℕ → ℕ → List ℕ → ℕ → List ℕ → List Bool → ℕ → Option Kind
 next_kind count most c upper d row taken a =
     kind_by (is_wide a) (is_outside greatest_letter a || is_too_much count (length row))

@@ -1,4 +1,4 @@
--- Tableaux among the words of a command that have been cut into parts, and their rows.
+-- Words of a command that are divided into parts: the tableaux in them, and the rows of these tableaux.
 use Rattle.std.proofs.Common.{◌≡◌, ℕ, ◌<◌, List, [], ◌∷◌, ◌++◌, append_assoc, length, refl, sym, ap, ◌∙◌, subst, arith, inl, inr, flat_map}
 use Rattle.std.specs.Prelude.{codes}
 use Rattle.std.proofs.lemmas.List.{append-nil}
@@ -18,7 +18,7 @@ use Rattle.calc_language.specs.SkewWords.{AreSkewWords}
 use Rattle.calc_language.specs.TableauWords.{AreTwoTableaux}
 use Rattle.calc_language.specs.TabWords.{AreTabWords, from_text, from_rows}
 
--- ---- the words of rows as they are written
+-- ---- the words of the rows of a written tableau
 
 pub row_spelled : (x : Written row_words) → words_of row_words x ≡ row_text (written_row x)
 row_spelled (inl x) = refl
@@ -48,7 +48,7 @@ rows_numbers x m = (row_numbers x.0 m.0, further_numbers x.1 m.1)
 pub some_row : (x : Written tableau_words) → 0 < length (written_rows x)
 some_row x = omega arith
 
--- ---- the words of `unrsk`, `rect` and `tab` that have been cut into parts
+-- ---- the words of `unrsk`, `rect` and `tab`, divided into parts
 
 pub pair_cut : (words : Words) (places : List ℕ) (k : AreCut (codes "unrsk") (Tableau ∷ Minus ∷ Tableau ∷ []) places words) (first second : List Words)
     → first ≡ written_rows k.parts.0 → second ≡ written_rows k.parts.3.3.0 → AreTwoTableaux first second words
@@ -106,8 +106,8 @@ pub none_from : (x : Written (optional from_words)) (words : Words) → words �
 none_from (inl x) words e b = refl
 none_from (inr x) words e b = absurd (subst (BeginsOtherwise (λ t. t ≡ codes "-from")) e b refl)
 
--- if the words are `-from` and `more`, the tableau that they write has a row, its rows are lists of numbers, and `more`
--- are their words
+-- if the words of the part `-from` TABLEAU are `-from` and `more`, its tableau has a row, its rows are lists of numbers, and `more` are the words of
+-- the rows
 pub some_from : (x : Written (optional from_words)) (words more : Words) → May (optional from_words) x → words ≡ words_of (optional from_words) x → words ≡ codes "-from" ∷ more
     → (0 < length (from_rows x)) × EachOf (EachOf IsNumber) (from_rows x) × (more ≡ rows_text (from_rows x))
 some_from (inl x) words more m e f = let z = sym e ∙ f in cc
@@ -133,7 +133,7 @@ tab_cut words places k outer inner rows e f g =
       rows_numbers = from_numbers x k.parts.3.3.3.1;
     })))
 
--- ---- the rows of a tableau, cut one after another
+-- ---- the rows of a tableau, taken one after another from its words
 
 no_number : (rows : List Words) → BeginsOtherwise IsNumber (further_text rows)
 no_number [] = tt
@@ -150,7 +150,7 @@ pub number_row : (row words ns rest : Words) (rows : List Words) → EachOf IsNu
 number_row [] words ns rest rows n e d f m b = absurd (subst (BeginsOtherwise (λ t. t ≡ codes ".")) e d refl)
 number_row (t ∷ row) words ns rest rows n e d f m b = one_run IsNumber ns (t ∷ row) rest (further_text rows) m n b (no_number rows) (sym f ∙ e)
 
--- the tableau `all` has the rows `rows`, which have been read, and later rows, whose words are `rest`
+-- `all` are the rows `rows`, followed by later rows of numbers; the words of the later rows, each row after a `/`, are `rest`
 pub record FurtherLeft (rows : List Words) (rest : Words) (all : List Words) : Type 0 where
   pub later : List Words
   pub all_are : all ≡ rows ++ later

@@ -1,4 +1,4 @@
--- The commands by their names, and words that begin with none of them.
+-- The entries that `entry_named` finds for a name, and words whose first word is the name of no command.
 use Rattle.std.proofs.Common.{◌≡◌, ℕ, ◌<◌, Bool, true, false, cond, List, [], ◌∷◌, ◌++◌, length, refl, sym, ap, ◌∙◌, subst, arith, inl, inr, ◌⊎◌, Option, Some, None, Result, Ok, Err}
 use Rattle.std.specs.Prelude.{IfOk, codes}
 use Rattle.sym_model.specs.Sum.{Among}
@@ -23,14 +23,15 @@ use Rattle.calc_words.proofs.Joining.{joined_read}
 use Rattle.calc_words.proofs.WrittenCommands.{all_keep, some_keeps}
 use Rattle.calc_language.specs.BuiltCommands.{command_entries, batch_entries}
 use Rattle.calc_language.specs.Reading.{command_of, entry_named, IsReadAs, IsRead, IsWithinItsLimits}
-use Rattle.calc_language.proofs.NamedEntries.{IsLed, are_named_apart, each_among, one_named, led_named, unnamed, clash}
+use Rattle.calc_language.proofs.NamedEntries.{IsLed, are_named_apart, each_among, one_named, led_named, unnamed}
+use Rattle.std.proofs.lemmas.Bool.{both_ways}
 
--- ---- an entry is found by its name
+-- ---- the entry that is found for a name
 
 some_same : (e f : Entry) → Some f ≡ Some e → f ≡ e
 some_same e f h = cc
 
--- if an entry is found for the word w, it is in the list, and w is its name
+-- if the entry e is found for the word w, then e is in the list, and w is the name of e
 found : (w : List ℕ) (entries : List Entry) (e : Entry) → entry_named w entries ≡ Some e → Among e entries × (w ≡ e.name)
 found w [] e h = cc
 found w (f ∷ entries) e h = by (same w f.name) refl h (found w entries e)
@@ -40,7 +41,7 @@ found w (f ∷ entries) e h = by (same w f.name) refl h (found w entries e)
     by true s k later = let q = some_same e f k in (inl (sym q), same_true w f.name s ∙ ap (λ (x : Entry). x.name) q)
     by false s k later = let r = later k in (inr r.0, r.1)
 
--- if no entry is found, no entry of the list has the name
+-- if no entry is found for the word w, no entry of the list has the name w
 none_found : (w : List ℕ) (entries : List Entry) → entry_named w entries ≡ None → (e : Entry) → Among e entries → w ≡ e.name → ⊥
 none_found w [] h e m n = absurd m
 none_found w (f ∷ entries) h e m n = by (same w f.name) refl h m (λ k a. none_found w entries k e a n)
@@ -48,17 +49,17 @@ none_found w (f ∷ entries) h e m n = by (same w f.name) refl h m (λ k a. none
     by : (b : Bool) → same w f.name ≡ b → cond b (Some f) (entry_named w entries) ≡ None → Among e (f ∷ entries)
         → (entry_named w entries ≡ None → Among e entries → ⊥) → ⊥
     by true s k m later = cc
-    by false s k (inl q) later = clash (same w f.name) s (same_from w f.name (n ∙ ap (λ (x : Entry). x.name) q))
+    by false s k (inl q) later = absurd (both_ways (same w f.name) s (same_from w f.name (n ∙ ap (λ (x : Entry). x.name) q)))
     by false s k (inr m) later = later k m
 
--- if no entry of the list has the name w, none is found
+-- if no entry of the list has the name w, no entry is found for w
 pub none_named : (w : List ℕ) (entries : List Entry) → EachOf (λ (e : Entry). w ≡ e.name → ⊥) entries → entry_named w entries ≡ None
 none_named w [] h = refl
 none_named w (e ∷ entries) h = ap (λ b. cond b (Some e) (entry_named w entries)) (same_apart w e.name h.0) ∙ none_named w entries h.1
 
--- ---- commands that are distinguished by their names
+-- ---- commands that differ in their names
 
--- the commands are distinguished by their names: the words of each begin with its name, and the names are different
+-- the form of each command of the list begins with its name, and some words have this form; the names are different, and the list is not empty
 pub record AreTold (entries : List Entry) : Type 0 where
   pub led : EachOf IsLed entries
   pub can : CanBe (forms_of entries)
@@ -69,8 +70,9 @@ wrong_first : (entries : List Entry) (words : Words) (r : Result Command WordsFa
     → r ≡ Err (Syntax (record { word = 0; byte = 0 })) → IsReadBy entries words r
 wrong_first entries words r p h = subst (λ x. IsReadBy entries words x) (sym h) p
 
--- `entries` is a part of `all` that contains each entry of `all` with the name w: if r is a correct result for words
--- with the first word w by the entry that `all` has for w, or by its absence, r is correct for `entries`
+-- let `entries` be commands of `all` with different names (`AreTold`), among them each command of `all` with the name w, and let words begin with w.
+-- If r is a correct result of reading the words as those of the command of `all` with the name w (`IsReadAs`), then r is a correct result of reading
+-- them for `entries`
 pub named_among : (all entries : List Entry) → AreTold entries → (w : List ℕ) (words rest : Words) (r : Result Command WordsFault) → words ≡ w ∷ rest
     → ((e : Entry) → Among e all → w ≡ e.name → Among e entries) → ((e : Entry) → Among e entries → Among e all)
     → IsReadAs (entry_named w all) words r → IsReadBy entries words r
@@ -88,7 +90,7 @@ named_among all entries t w words rest r is here there h = by (entry_named w all
         (record { among = m; alone = λ f n q. one_named entries t.apart e f m n q; named = λ f n. led_named f (each_among IsLed entries t.led f n) })
         words rest (is ∙ ap (λ v. v ∷ rest) f.1) r k
 
--- ---- the names distinguish the commands of the command line, and those of a batch
+-- ---- the commands of the command line, and those of a line of a batch, have different names
 
 pub commands_told : AreTold command_entries
 commands_told = record {
@@ -137,13 +139,14 @@ read_in_line w words rest r is b k h = named_among command_entries batch_entries
         by (inr (inr (inl q))) = absurd (k (n ∙ ap (λ (x : Entry). x.name) q))
         by (inr (inr (inr q))) = absurd q
 
--- the refusal as no command at word 0 and byte 0 is the correct result of reading no words
+-- for commands with different names (`AreTold`), the refusal with an error of syntax at byte 0 of word 0 is a correct result of reading the empty
+-- list of words
 pub no_words : (words : Words) (r : Result Command WordsFault) (entries : List Entry) → AreTold entries → words ≡ [] → r ≡ Err (Syntax (record { word = 0; byte = 0 }))
     → IsReadBy entries words r
 no_words words r entries t is h =
     wrong_first entries words r (subst (λ ws. IsSyntaxPlace entries ws 0 0) (sym is) (unnamed entries t.led t.can t.some [] (λ e m b. let k = b.1 in cc))) h
 
--- the command that words without an error spell is within the limits
+-- a command that words spell without an error is within its limits
 pub kept_by_all : (words : Words) (c : PlainCommand) → SpellsWithoutOffence command_entries words c → KeepsLimits c
 kept_by_all words c h =
     some_keeps (entries_of all_bases) (all_keep all_bases) words c h
@@ -152,7 +155,8 @@ pub within : (words : Words) (result : Result Command WordsFault) → IsRead wor
 within words (Ok command) h = kept_by_all words (command_of command) h.0
 within words (Err fault) h = tt
 
--- if the first word is the name of no command of a line, the refusal as no command at word 0 and byte 0 is correct
+-- if the first word is the name of no command of a line, the refusal with an error of syntax at byte 0 of word 0 is a correct result of reading the
+-- words as a command of a line
 pub elsewhere : (w : List ℕ) (words rest : Words) (r : Result Command WordsFault) → words ≡ w ∷ rest
     → EachOf (λ (e : Entry). w ≡ e.name → ⊥) batch_entries → r ≡ Err (Syntax (record { word = 0; byte = 0 })) → IsReadBy batch_entries words r
 elsewhere w words rest r is apart h =
@@ -162,7 +166,7 @@ elsewhere w words rest r is apart h =
     (λ e m b. none_found w batch_entries (none_named w batch_entries apart) e m (first_text w e.name rest b.0 b.1)))) h
 
 not_it : (w a b : List ℕ) → w ≡ a → same a b ≡ false → w ≡ b → ⊥
-not_it w a b h s q = clash (same a b) s (same_from a b (sym h ∙ q))
+not_it w a b h s q = absurd (both_ways (same a b) s (same_from a b (sym h ∙ q)))
 
 of_no_line : (w a : List ℕ) → w ≡ a → EachOf (λ (e : Entry). same a e.name ≡ false) batch_entries → EachOf (λ (e : Entry). w ≡ e.name → ⊥) batch_entries
 of_no_line w a h k = all batch_entries k
@@ -180,7 +184,7 @@ none_same a (e ∷ entries) h = by (same a e.name) refl h (none_same a entries)
     by true s k later = cc
     by false s k later = (s, later k)
 
--- `batch` and `work` are no commands of a line
+-- the words `batch` and `work` are names of no command of a line
 pub runs_others : (w : List ℕ) → (w ≡ codes "batch") ⊎ (w ≡ codes "work") → EachOf (λ (e : Entry). w ≡ e.name → ⊥) batch_entries
 runs_others w (inl h) = of_no_line w (codes "batch") h (none_same (codes "batch") batch_entries refl)
 runs_others w (inr h) = of_no_line w (codes "work") h (none_same (codes "work") batch_entries refl)

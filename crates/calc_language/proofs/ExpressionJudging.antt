@@ -1,4 +1,4 @@
--- The first error of an expression at a word of a command, and the words of `expand`.
+-- The first error of an expression that is a word of a command, and the words of `expand`.
 use Rattle.std.proofs.Common.{◌≡◌, ℕ, ◌+◌, ◌==◌, nat_lt, Bool, true, false, ◌&&◌, ◌||◌, cond, List, [], ◌∷◌, length, map, refl, sym, ap, ◌∙◌, subst, arith, Option, Some, None, option_map, Ok, Err, inl, inr}
 use Rattle.std.specs.Prelude.{codes}
 use Rattle.std.proofs.lemmas.Bool.Decides.{nat_tests}
@@ -28,7 +28,7 @@ use Rattle.calc_words.proofs.Commands.{first_refused, read_standing}
 use Rattle.calc_words.proofs.CutCommands.{has_of}
 use Rattle.calc_language.specs.Reading.{placed}
 
--- an error of an expression, made an error of word k of the command; the order of errors stays the same
+-- an error of an expression, as an error of word k of the command
 abbrev pub at_word : ℕ → WordOffence → Offence
 at_word k o = (k, o.0, o.1)
 
@@ -51,13 +51,13 @@ pub first-placed : (k : ℕ) (os : List WordOffence) → first_offence (map (at_
 first-placed k [] = refl
 first-placed k (o ∷ os) = ap (earlier_of (at_word k o)) (first-placed k os) ∙ earlier-placed k o (first_of os)
 
--- if a word spells the expressions f and g, the first error of f, at word k of the command, is that of g
+-- if the word w spells the expressions f and g, the first error of f is that of g, both as errors of word k of the command
 placed_as : (k : ℕ) (offends : Phrase → List WordOffence) (w : List ℕ) (f g : Phrase) (first : Option WordOffence) → SpellsPhrase w f → SpellsPhrase w g
     → first_of (offends g) ≡ first → first_offence (offences_in_word k (offends f)) ≡ option_map (at_word k) first
 placed_as k offends w f g first s r h =
     first-placed k (offends f) ∙ ap (option_map (at_word k)) (ap (λ p. first_of (offends p)) (one_phrase w f g s r) ∙ h)
 
--- if a word that spells an expression is refused, the fault is the first error of the expression
+-- if the word w spells the expression f and is correctly refused with the fault e, then e at word k is the first error of f, as word k of the command
 pub placed_first : (k : ℕ) (offends : Phrase → List WordOffence) (w : List ℕ) (f : Phrase) (e : ExpressionFault) → SpellsPhrase w f → IsReadBy offends w (Err e)
     → IsFirst (first_offence (offences_in_word k (offends f))) (placed k e)
 placed_first k offends w f (Wrong byte) s h = h.0 f s
@@ -66,7 +66,7 @@ placed_first k offends w f (Past byte) s h = placed_as k offends w f h.0 _ s h.1
 placed_first k offends w f (Misshapen byte) s h = placed_as k offends w f h.0 _ s h.1 h.2
 placed_first k offends w f Full s h = tt
 
--- if a word is read as a formula, the expression that it spells has no error
+-- if the word w spells the expression f and is correctly read as a formula, f has no error
 pub none_placed : (k : ℕ) (offends : Phrase → List WordOffence) (w : List ℕ) (f : Phrase) (x : Formula) → SpellsPhrase w f → IsReadBy offends w (Ok x)
     → first_offence (offences_in_word k (offends f)) ≡ None
 none_placed k offends w f x s h = placed_as k offends w f h.0 None s h.1 h.2
@@ -74,7 +74,7 @@ none_placed k offends w f x s h = placed_as k offends w f h.0 None s h.1 h.2
 pub tree_read : (offends : Phrase → List WordOffence) (w : List ℕ) (f : Phrase) (x : Formula) → SpellsPhrase w f → IsReadBy offends w (Ok x) → tree_of x.tree ≡ tree f
 tree_read offends w f x s h = h.3 ∙ sym (ap tree (one_phrase w f h.0 s h.1))
 
--- ---- the words of `expand`, cut into parts
+-- ---- the words of `expand`, divided into parts
 
 abbrev pub expand_parts : List Part
 expand_parts = MaybeForm ∷ Target ∷ Expression ∷ []
@@ -103,7 +103,8 @@ expand_fine words places k b m x h i read =
       none_placed (2 + n) (offences k.parts.3.0) (spelling f) f x spells (subst (λ t. IsReadAs t (spelling f) (Ok x)) h read),
     )
 
--- words whose last word v was not looked at when they were cut are cut correctly if v spells an expression
+-- let words be divided into parts, of which the last may not have been tested (`AreCutUnread`); if the last part is the word v and v spells an
+-- expression, the words are the name and the parts (`AreCut`)
 pub cut_of : (name : List ℕ) (ps : List Part) (places : List ℕ) (words : Words) (v : List ℕ) → AreCutUnread name ps places words
     → ((u : IsUnread name ps places words) → v ≡ u.text) → (f : Phrase) → SpellsPhrase v f → AreCut name ps places words
 cut_of name ps places words v (inl a) e f s = a

@@ -1,9 +1,9 @@
--- Two tableaux without an error: the first is straight, the second is standard, and they have one shape.
+-- If the two tableaux of `unrsk` have no error, the first is straight, the second is standard, and they have the same shape.
 use Rattle.std.proofs.Common.{◌≡◌, ℕ, zero, suc, ◌+◌, ◌<◌, ◌≤◌, ◌==◌, nat_le, nat_lt, Bool, true, false, ◌||◌, cond, List, [], ◌∷◌, ◌++◌, map, length, replicate, refl, sym, ap, ◌∙◌, subst, arith, Option, Some, None}
-use Rattle.std.proofs.lemmas.Bool.{le-leb, leb-false, ltb-false, ltb-true, eqb-true, eqb-false}
+use Rattle.std.proofs.lemmas.Bool.{le-leb, leb-false, ltb-false, ltb-true, eqb-true, eqb-false, or_parts}
 use Rattle.std.proofs.lemmas.List.{length-map}
 use Rattle.sym_model.specs.Partition.{part, size, after, Falls, ArePositive}
-use Rattle.sym_model.specs.Schur.{row_lengths, letters_of, times_in, content}
+use Rattle.sym_model.specs.Schur.{letters_of, times_in, content}
 use Rattle.sym_model.specs.Tableau.{IsStraightTableau}
 use Rattle.sym_model.specs.ExpressionOffence.{shape, range, literal, is_wide}
 use Rattle.sym_model.specs.CommandOffence.{first_offence, offences_by, offences_after, entry_rule, row_offences, count_offences, length_offences, empty_row_offences, order_offences, standard_offences, when, is_outside, greatest_letter, falls, stays, left_of, stands_in, entry_above, most_letters, rows_in}
@@ -11,10 +11,9 @@ use Rattle.sym_model.specs.Grammar.{insertion_offences, filled_offences}
 use Rattle.sym_model.specs.WordForms.{numbers}
 use Rattle.sym_model.proofs.Contents.{times_in-append}
 use Rattle.sym_model.proofs.AfterLists.{length_after}
-use Rattle.sym_model.proofs.Tableaux.{length-letters_of}
+use Rattle.sym_model.proofs.Tableaux.{length-letters_of, row_lengths-none}
 use Rattle.sym_model.proofs.Parts.{size-map_add, size-map_none}
 use Rattle.sym_model.proofs.SortedParts.{Falls_tail}
-use Rattle.calc_words.proofs.Judging.{or_both}
 use Rattle.word_laws.specs.JudgedRows.{is_no_record}
 use Rattle.word_laws.specs.Words.{Words}
 use Rattle.word_laws.specs.WrittenRows.{row_text, rows_at, left_at}
@@ -24,18 +23,18 @@ use Rattle.calc_language.proofs.EmptyRows.{empties}
 use Rattle.calc_language.proofs.FaultlessRows.{faultless_letters, faultless_order, faultless_lengths}
 use Rattle.calc_language.proofs.PairJudging.{number_lengths}
 use Rattle.calc_words.proofs.WrittenLists.{inside}
-use Rattle.word_laws.proofs.NoOffences.{none_append, none_next, not_when}
-use Rattle.calc_words.proofs.WrittenCommands.{not_ninth}
+use Rattle.word_laws.proofs.NoOffences.{none_append, none_next}
 use Rattle.word_laws.proofs.EarlierOffences.{one_if}
+use Rattle.sym_model.proofs.Lists.{none_chosen}
 
--- ---- the first tableau: the lengths of its rows
+-- ---- the lengths of the rows of the first tableau, and the number of its entries
 
 row_short : (l : ℕ) (before : List ℕ) (k : ℕ) (ns : List ℕ) → 0 < length ns
     → offences_after (λ before a. when (nat_le l (length before)) shape) before k ns ≡ [] → length before + length ns ≤ l
 row_short l before k [] s h = absurd (omega (arith, s))
 row_short l before k (a ∷ []) s h =
     let n = none_next (λ before a. when (nat_le l (length before)) shape) before k a [] h in
-    let z = leb-false l (length before) (not_when (nat_le l (length before)) shape n.0) in
+    let z = leb-false l (length before) (none_chosen (nat_le l (length before)) shape n.0) in
     omega (arith, z)
 row_short l before k (a ∷ b ∷ ns) s h =
     let n = none_next (λ before a. when (nat_le l (length before)) shape) before k a (b ∷ ns) h in
@@ -56,12 +55,8 @@ all_some : (k : ℕ) (ws : List Words) → empties (rows_at k ws) ≡ [] → Are
 all_some k [] h = tt
 all_some k (w ∷ ws) h =
     let n = none_append (cond (length (numbers w) == 0) ((k, 0, shape) ∷ []) []) (empties (rows_at (k + length (row_text w) + 1) ws)) h in
-    let z = eqb-false (length (numbers w)) 0 (not_ninth (length (numbers w) == 0) (k, 0, shape) n.0) in
+    let z = eqb-false (length (numbers w)) 0 (none_chosen (length (numbers w) == 0) (k, 0, shape) n.0) in
     (omega (arith, z), all_some (k + length (row_text w) + 1) ws n.1)
-
-straight_lengths : (ls : List ℕ) → ls ≡ row_lengths ls []
-straight_lengths [] = refl
-straight_lengths (a ∷ ls) = ap (λ xs. a ∷ xs) (straight_lengths ls)
 
 empty_tableau : IsStraightTableau []
 empty_tableau = record {
@@ -79,18 +74,19 @@ straight k ws f p e d = record {
   outside = record { falls = f; positive = p };
   inside = record { falls = tt; positive = tt };
   holds = refl;
-  cells = straight_lengths (map length (map numbers ws));
+  cells = sym (row_lengths-none (map length (map numbers ws)));
   letters = faultless_letters k ws e;
   order = faultless_order 0 [] [] k ws tt d;
 }
 
--- if no entry is refused as the 257th, the number of entries is at most 256
+-- let `count` entries of earlier rows and the entries `before`, at most 256 in all, precede the numbers ns: if no number of ns is refused as the
+-- 257th entry, there are at most 256 entries with ns
 row_few : (count : ℕ) (before : List ℕ) (k : ℕ) (ns : List ℕ) → count + length before ≤ 256
     → offences_after (λ before a. when (count + length before == most_letters) range) before k ns ≡ [] → count + length before + length ns ≤ 256
 row_few count before k [] l h = omega (arith, l)
 row_few count before k (a ∷ ns) l h =
     let n = none_next (λ before a. when (count + length before == most_letters) range) before k a ns h in
-    let z = eqb-false (count + length before) 256 (not_when (count + length before == most_letters) range n.0) in
+    let z = eqb-false (count + length before) 256 (none_chosen (count + length before == most_letters) range n.0) in
     let r = row_few count (a ∷ before) (k + 1) ns (omega (arith, l, z)) n.1 in
     omega (arith, r)
 
@@ -103,7 +99,7 @@ all_few count k (w ∷ ws) l h =
     let m = all_few (count + length (numbers w)) (k + length (row_text w) + 1) ws (omega (arith, r)) n.1 in
     omega (arith, m)
 
--- ---- the second tableau: its rows and columns are increasing
+-- ---- the rows and the columns of the second tableau are increasing
 
 stays_falls : (left : Option ℕ) (a : ℕ) → stays left a ≡ false → falls left a ≡ false
 stays_falls None a h = refl
@@ -120,10 +116,10 @@ no_disorder cells earlier upper before k [] h = refl
 no_disorder cells earlier upper before k (a ∷ ns) h =
     let test = nat_lt cells a || stays (left_of before) a || stays (entry_above upper 0 (length before)) a || stands_in a before || stands_in a earlier in
     let n = none_next (λ before a. when (nat_lt cells a || stays (left_of before) a || stays (entry_above upper 0 (length before)) a || stands_in a before || stands_in a earlier) shape) before k a ns h in
-    let p = or_both (nat_lt cells a || stays (left_of before) a || stays (entry_above upper 0 (length before)) a || stands_in a before) (stands_in a earlier) (not_when test shape n.0) in
-    let q = or_both (nat_lt cells a || stays (left_of before) a || stays (entry_above upper 0 (length before)) a) (stands_in a before) p.0 in
-    let r = or_both (nat_lt cells a || stays (left_of before) a) (stays (entry_above upper 0 (length before)) a) q.0 in
-    let s = or_both (nat_lt cells a) (stays (left_of before) a) r.0 in
+    let p = or_parts (nat_lt cells a || stays (left_of before) a || stays (entry_above upper 0 (length before)) a || stands_in a before) (stands_in a earlier) (none_chosen test shape n.0) in
+    let q = or_parts (nat_lt cells a || stays (left_of before) a || stays (entry_above upper 0 (length before)) a) (stands_in a before) p.0 in
+    let r = or_parts (nat_lt cells a || stays (left_of before) a) (stays (entry_above upper 0 (length before)) a) q.0 in
+    let s = or_parts (nat_lt cells a) (stays (left_of before) a) r.0 in
     let here : part [] 1 + length before ≡ length before = omega arith in
     let z : (falls (left_of before) a || stays (entry_above upper 0 (part [] 1 + length before)) a) ≡ false =
     ap (λ b. b || stays (entry_above upper 0 (part [] 1 + length before)) a) (stays_falls (left_of before) a s.1) ∙ ap (λ m. stays (entry_above upper 0 m) a) here ∙ r.1 in
@@ -138,12 +134,12 @@ order_from cells earlier upper k (w ∷ ws) h =
     ap (λ os. os ++ order_offences 0 (numbers w) [] (rows_at (k + length (row_text w) + 1) ws)) (no_disorder cells earlier upper [] k (numbers w) n.0)
     ∙ order_from cells (numbers w ++ earlier) (numbers w) (k + length (row_text w) + 1) ws n.1
 
--- ---- the second tableau: each number occurs once
+-- ---- each number from 1 to the number of cells occurs once in the second tableau
 
 absent : (a : ℕ) (ns : List ℕ) → stands_in a ns ≡ false → times_in a ns ≡ 0
 absent a [] h = refl
 absent a (b ∷ ns) h =
-    let o = or_both (a == b) (stands_in a ns) h in
+    let o = or_parts (a == b) (stands_in a ns) h in
     let z = absent a ns o.1 in
     let y : (b == a) ≡ false = by (b == a) refl (eqb-false a b o.0) in
     let x : one_if (b == a) ≡ 0 = ap one_if y in
@@ -162,8 +158,8 @@ row_single : (cells : ℕ) (earlier upper before : List ℕ) (k : ℕ) (ns : Lis
 row_single cells earlier upper before k [] s h x = let z = s x in omega (arith, z)
 row_single cells earlier upper before k (a ∷ ns) s h x =
     let n = none_next (λ before a. when (is_no_record cells earlier upper before a) shape) before k a ns h in
-    let p = or_both (nat_lt cells a || stays (left_of before) a || stays (entry_above upper 0 (length before)) a || stands_in a before) (stands_in a earlier) (not_when (is_no_record cells earlier upper before a) shape n.0) in
-    let q = or_both (nat_lt cells a || stays (left_of before) a || stays (entry_above upper 0 (length before)) a) (stands_in a before) p.0 in
+    let p = or_parts (nat_lt cells a || stays (left_of before) a || stays (entry_above upper 0 (length before)) a || stands_in a before) (stands_in a earlier) (none_chosen (is_no_record cells earlier upper before a) shape n.0) in
+    let q = or_parts (nat_lt cells a || stays (left_of before) a || stays (entry_above upper 0 (length before)) a) (stands_in a before) p.0 in
     let next : Single (a ∷ before) earlier = λ y. one y (a == y) refl (absent a before q.1) (absent a earlier p.1) in
     let r = row_single cells earlier upper (a ∷ before) (k + 1) ns next n.1 x in
     omega (arith, r)
@@ -190,7 +186,7 @@ all_single cells earlier upper k (w ∷ ws) s h x =
     let f = times_in-append x (numbers w) (letters_of (map numbers ws)) in
     omega (arith, r, e, f)
 
--- all numbers of the list are from 1 to n
+-- each number of the list is from 1 to n
 abbrev AllIn : ℕ → List ℕ → Type 0
 AllIn n [] = Unit {0}
 AllIn n (a ∷ ns) = (1 ≤ a) × (a ≤ n) × AllIn n ns
@@ -204,13 +200,13 @@ row_in : (cells : ℕ) (earlier upper before heard : List ℕ) (k m : ℕ) (ns :
 row_in cells earlier upper before heard k m [] e h = tt
 row_in cells earlier upper before heard k m (a ∷ ns) e h =
     let n = none_next (λ before a. when (is_no_record cells earlier upper before a) shape) before k a ns h in
-    let p = or_both (nat_lt cells a || stays (left_of before) a || stays (entry_above upper 0 (length before)) a || stands_in a before) (stands_in a earlier) (not_when (is_no_record cells earlier upper before a) shape n.0) in
-    let q = or_both (nat_lt cells a || stays (left_of before) a || stays (entry_above upper 0 (length before)) a) (stands_in a before) p.0 in
-    let r = or_both (nat_lt cells a || stays (left_of before) a) (stays (entry_above upper 0 (length before)) a) q.0 in
-    let s = or_both (nat_lt cells a) (stays (left_of before) a) r.0 in
+    let p = or_parts (nat_lt cells a || stays (left_of before) a || stays (entry_above upper 0 (length before)) a || stands_in a before) (stands_in a earlier) (none_chosen (is_no_record cells earlier upper before a) shape n.0) in
+    let q = or_parts (nat_lt cells a || stays (left_of before) a || stays (entry_above upper 0 (length before)) a) (stands_in a before) p.0 in
+    let r = or_parts (nat_lt cells a || stays (left_of before) a) (stays (entry_above upper 0 (length before)) a) q.0 in
+    let s = or_parts (nat_lt cells a) (stays (left_of before) a) r.0 in
     let f = none_next entry_rule heard m a ns e in
     let o = none_append (when (is_wide a) literal) (when (is_outside greatest_letter a) range) f.0 in
-    let i = inside greatest_letter a (not_when (is_outside greatest_letter a) range o.1) in
+    let i = inside greatest_letter a (none_chosen (is_outside greatest_letter a) range o.1) in
     (i.0, ltb-false cells a s.0, row_in cells earlier upper (a ∷ before) (a ∷ heard) (k + 1) (m + 1) ns f.1 n.1)
 
 all_in : (cells : ℕ) (earlier upper : List ℕ) (k : ℕ) (ws : List Words) → row_offences entry_rule (rows_at k ws) ≡ []
@@ -223,7 +219,7 @@ all_in cells earlier upper k (w ∷ ws) e h =
     in_append cells (numbers w) (letters_of (map numbers ws)) (row_in cells earlier upper [] [] k k (numbers w) f.0 n.0)
     (all_in cells (numbers w ++ earlier) (numbers w) m ws f.1 n.1)
 
--- a number b ≤ a is not among a + 1, .., a + n
+-- a number b ≤ a is not one of a + 1, .., a + n
 place_none : (a n b : ℕ) → b ≤ a → size (map (λ k. cond (b == k) 1 0) (after a n)) ≡ 0
 place_none a zero b h = refl
 place_none a (suc n) b h =
@@ -286,7 +282,7 @@ each_once n ls l a o =
     let s = content_size n ls a in
     all_ones (content n ls) (at_most (λ k. times_in k ls) o (after 0 n)) (omega (arith, m, s, l)) ∙ ap (λ c. replicate c 1) m
 
--- ---- two tableaux without an error are a pair
+-- ---- two tableaux without an error are a straight tableau and a standard one of the same shape
 
 insertion_parts : (k : ℕ) (w : Words) (ws : List Words) → insertion_offences (rows_at k (w ∷ ws)) ≡ []
     → (row_offences entry_rule (rows_at k (w ∷ ws)) ≡ []) × (count_offences 0 (rows_at k (w ∷ ws)) ≡ [])

@@ -1,7 +1,7 @@
--- Rows without an error have positive letters; the rows are weakly increasing and the columns strictly.
+-- If the rows of a tableau have no error, its letters are positive, its rows weakly increasing and its columns strictly increasing.
 use Rattle.std.proofs.Common.{◌≡◌, ℕ, zero, suc, ◌+◌, ◌-◌, ◌<◌, ◌≤◌, ◌==◌, nat_le, nat_lt, min, Bool, true, false, ◌&&◌, cond, List, [], ◌∷◌, ◌++◌, map, length, drop, get_or, drop-cons, refl, sym, ap, ◌∙◌, arith, None}
 use Rattle.std.specs.Prelude.{slice_get}
-use Rattle.std.proofs.lemmas.Bool.{le-leb, lt-ltb, leb-false, ltb-false, ltb-true, eqb-true}
+use Rattle.std.proofs.lemmas.Bool.{le-leb, lt-ltb, leb-false, ltb-false, ltb-true, eqb-true, and_parts, or_parts}
 use Rattle.std.proofs.Math.ListN.{drop_of_length-le}
 use Rattle.sym_model.specs.Partition.{part, Falls}
 use Rattle.sym_model.specs.Schur.{row_rises, columns_rise, semistandard, letters_of}
@@ -11,31 +11,28 @@ use Rattle.sym_model.specs.ExpressionOffence.{shape, literal, range, is_wide}
 use Rattle.sym_model.specs.CommandOffence.{Offence, offences_by, offences_after, entry_rule, row_offences, order_offences, when, is_outside, greatest_letter, falls, stays, left_of, entry_above}
 use Rattle.sym_model.specs.WordForms.{numbers}
 use Rattle.sym_model.proofs.Parts.{part-drop, falls_after}
-use Rattle.calc_words.proofs.Judging.{or_both}
 use Rattle.word_laws.specs.JudgedRows.{is_disordered}
 use Rattle.word_laws.specs.Words.{Words}
 use Rattle.word_laws.specs.WrittenRows.{row_text, rows_at, left_at, left_behind}
 use Rattle.calc_words.proofs.WrittenLists.{inside}
-use Rattle.word_laws.proofs.NoOffences.{none_append, none_next, not_when}
+use Rattle.word_laws.proofs.NoOffences.{none_append, none_next}
+use Rattle.sym_model.proofs.Tableaux.{columns_rise-nothing}
+use Rattle.sym_model.proofs.Lists.{none_chosen}
 
--- ---- the letters are positive
+-- ---- the letters of rows without an error are positive
 
 every_append : (test : ℕ → Bool) (xs ys : List ℕ) → every test xs ≡ true → every test ys ≡ true → every test (xs ++ ys) ≡ true
 every_append test [] ys h k = k
 every_append test (x ∷ xs) ys h k =
-    let p = both (test x) (every test xs) h in
+    let p = and_parts (test x) (every test xs) h in
     ap (λ b. b && every test (xs ++ ys)) p.0 ∙ every_append test xs ys p.1 k
-  where
-    both : (a b : Bool) → (a && b) ≡ true → (a ≡ true) × (b ≡ true)
-    both true b h = (refl, h)
-    both false b h = cc
 
 letters_after : (before : List ℕ) (k : ℕ) (ns : List ℕ) → offences_after entry_rule before k ns ≡ [] → are_letters ns ≡ true
 letters_after before k [] h = refl
 letters_after before k (a ∷ ns) h =
     let n = none_next entry_rule before k a ns h in
     let o = none_append (when (is_wide a) literal) (when (is_outside greatest_letter a) range) n.0 in
-    let i = inside greatest_letter a (not_when (is_outside greatest_letter a) range o.1) in
+    let i = inside greatest_letter a (none_chosen (is_outside greatest_letter a) range o.1) in
     ap (λ b. b && are_letters ns) (le-leb 1 a i.0) ∙ letters_after (a ∷ before) (k + 1) ns n.1
 
 pub faultless_letters : (k : ℕ) (ws : List Words) → row_offences entry_rule (rows_at k ws) ≡ [] → are_letters (letters_of (map numbers ws)) ≡ true
@@ -45,7 +42,7 @@ faultless_letters k (w ∷ ws) h =
     every_append (λ a. nat_le 1 a) (numbers w) (letters_of (map numbers ws)) (letters_after [] k (numbers w) n.0)
     (faultless_letters (k + length (row_text w) + 1) ws n.1)
 
--- ---- the rows are weakly increasing, and the columns strictly
+-- ---- rows without an error are weakly increasing, and their columns strictly increasing
 
 not_less : (a b : ℕ) → nat_lt a b ≡ false → nat_le b a ≡ true
 not_less a b h = le-leb b a (ltb-false a b h)
@@ -58,7 +55,7 @@ rises_after : (c : ℕ) (upper : List ℕ) (d b : ℕ) (before : List ℕ) (k : 
 rises_after c upper d b before k [] h = refl
 rises_after c upper d b before k (a ∷ ns) h =
     let n = none_next (λ before a. when (is_disordered c upper d before a) shape) (b ∷ before) k a ns h in
-    let o = or_both (nat_lt a b) (stays (entry_above upper c (d + length (b ∷ before))) a) (not_when (is_disordered c upper d (b ∷ before) a) shape n.0) in
+    let o = or_parts (nat_lt a b) (stays (entry_above upper c (d + length (b ∷ before))) a) (none_chosen (is_disordered c upper d (b ∷ before) a) shape n.0) in
     ap (λ x. x && row_rises (a ∷ ns)) (not_less a b o.0) ∙ rises_after c upper d a (b ∷ before) (k + 1) ns n.1
 
 row_fine : (c : ℕ) (upper : List ℕ) (d k : ℕ) (ns : List ℕ) → offences_by (λ before a. when (is_disordered c upper d before a) shape) k ns ≡ [] → row_rises ns ≡ true
@@ -66,8 +63,8 @@ row_fine c upper d k [] h = refl
 row_fine c upper d k (a ∷ ns) h =
     let n = none_next (λ before a. when (is_disordered c upper d before a) shape) [] k a ns h in rises_after c upper d a [] (k + 1) ns n.1
 
--- if `stays` is false for an entry a and the entry b above it, at index j of the row `upper`, then b < a (and `rest`
--- holds, which is true if there is such an entry)
+-- let b be the entry at index j of the row `upper`, and let `stays` be false for this entry and a; then b < a, and `rest`, which is true by
+-- assumption, holds
 below_one : (upper : List ℕ) (j a : ℕ) (rest : Bool) → stays (slice_get upper j) a ≡ false
     → (j < length upper → rest ≡ true) → (b : ℕ) → b ≡ get_or upper j 0 → j < length upper → (nat_lt b a && rest) ≡ true
 below_one [] j a rest h r b e l = absurd (omega (arith, l))
@@ -77,14 +74,10 @@ below_one (u ∷ upper) (suc j) a rest h r b e l = below_one upper j a rest h (�
 columns_on : (c : ℕ) (upper : List ℕ) (d : ℕ) (before : List ℕ) (k : ℕ) (ns : List ℕ) → d ≤ c → c - d ≤ length before
     → offences_after (λ before a. when (is_disordered c upper d before a) shape) before k ns ≡ []
     → columns_rise (drop (length before - (c - d)) upper) ns ≡ true
-columns_on c upper d before k [] h l e = none (drop (length before - (c - d)) upper)
-  where
-    none : (xs : List ℕ) → columns_rise xs [] ≡ true
-    none [] = refl
-    none (x ∷ xs) = refl
+columns_on c upper d before k [] h l e = columns_rise-nothing (drop (length before - (c - d)) upper)
 columns_on c upper d before k (a ∷ ns) h l e =
     let n = none_next (λ before a. when (is_disordered c upper d before a) shape) before k a ns e in
-    let o = or_both (falls (left_of before) a) (stays (entry_above upper c (d + length before)) a) (not_when (is_disordered c upper d before a) shape n.0) in
+    let o = or_parts (falls (left_of before) a) (stays (entry_above upper c (d + length before)) a) (none_chosen (is_disordered c upper d before a) shape n.0) in
     let j = length before - (c - d) in
     let above : entry_above upper c (d + length before) ≡ slice_get upper j =
     ap (λ b. cond b (slice_get upper (d + length before - c)) None) (le-leb c (d + length before) (omega (arith, h, l)))
@@ -113,11 +106,7 @@ columns_from : (c : ℕ) (upper : List ℕ) (d : ℕ) (before : List ℕ) (k : �
     → offences_after (λ before a. when (is_disordered c upper d before a) shape) before k ns ≡ []
     → columns_rise upper (drop (c - d - length before) ns) ≡ true
 columns_from c upper d before k [] h l e =
-    ap (columns_rise upper) (drop_of_length-le [] (omega arith)) ∙ none upper
-  where
-    none : (xs : List ℕ) → columns_rise xs [] ≡ true
-    none [] = refl
-    none (x ∷ xs) = refl
+    ap (columns_rise upper) (drop_of_length-le [] (omega arith)) ∙ columns_rise-nothing upper
 columns_from c upper d before k (a ∷ ns) h l e =
     by (nat_lt (length before) (c - d)) refl
     (λ m. columns_from c upper d (a ∷ before) (k + 1) ns h m (none_next (λ before a. when (is_disordered c upper d before a) shape) before k a ns e).1)
@@ -171,7 +160,7 @@ faultless_order c upper inner k (w ∷ v ∷ ws) f h =
     all true false c h k l = cc
     all false b c h k l = cc
 
--- ---- the rows have the lengths of the shape
+-- ---- rows without an error of shape have the required lengths
 
 pub faultless_lengths : (k : ℕ) (lengths : List ℕ) (ws : List Words) → 0 < length lengths → 0 < length ws → left_at k lengths ws ≡ [] → map length ws ≡ lengths
 faultless_lengths k [] ws l s h = absurd (omega (arith, l))

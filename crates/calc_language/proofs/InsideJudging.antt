@@ -1,4 +1,4 @@
--- The test of the numbers of an inner partition, which must be inside an outer one.
+-- The test of the numbers of an inner partition: none may exceed the part of the outer partition in its row.
 use Rattle.std.proofs.Common.{◌≡◌, ℕ, suc, ◌+◌, ◌<◌, nat_lt, Bool, true, false, cond, List, [], ◌∷◌, ◌++◌, map, length, drop, get_or, drop-cons, refl, sym, ap, ◌∙◌, arith, Some}
 use Rattle.sym_model.specs.Partition.{part}
 use Rattle.sym_model.specs.ExpressionOffence.{shape}

@@ -1,4 +1,4 @@
--- The kind of a line of a batch, by its words as they are kept, and consequences of reading it.
+-- The kind of a line of a batch, from its words with `?` for each byte outside ASCII, and consequences of reading the line.
 use Rattle.std.proofs.Common.{◌≡◌, ℕ, ◌==◌, nat_lt, Bool, true, false, cond, List, [], ◌∷◌, ◌++◌, map, length, refl, sym, ap, ◌∙◌, subst, arith, Option, Some, None, Result, Ok, Err, inl, inr}
 use Rattle.std.specs.Prelude.{IfOk}
 use Rattle.std.proofs.lemmas.Bool.Decides.{nat_tests}
@@ -48,7 +48,7 @@ spoken_line line kept n k h =
     let words = words_of_line (without_return line) in
     line_is line (spoken words) n (some_words words (sym (ap is_passed_over k) ∙ h))
 
--- ---- reading the words of a line
+-- ---- correct results of reading the words of a line
 
 abbrev whole : Result Command WordsFault → Result (Option Command) WordsFault
 whole (Ok command) = Ok (Some command)
@@ -66,7 +66,7 @@ line_read line kept r n k h read =
     subst (λ l. IsLineRead l (whole r)) (sym (spoken_line line kept n k h))
     (words_line words r (seen_read batch_entries refl words r (subst (λ ws. IsRead batch_entries ws r) k read)))
 
--- ---- a line is accepted or refused as its command or its error requires
+-- ---- consequences of a correct result of reading a line
 
 some_append : (P : Entry → Type 0) (xs ys : List Entry) → SomeOf P xs → SomeOf P (xs ++ ys)
 some_append P [] ys h = absurd h

@@ -1,6 +1,6 @@
--- Lists of commands whose first word is the name: the name determines the command, and words with another first word
--- first fail there.
-use Rattle.std.proofs.Common.{◌≡◌, ℕ, zero, suc, take, ◌≤◌, ◌<◌, Bool, true, false, not, ◌&&◌, ◌||◌, List, [], ◌∷◌, ◌++◌, map, length, refl, sym, ap, ◌∙◌, subst, arith, ◌⊎◌, inl, inr}
+-- Lists of commands with different names, if the words of each command begin with its name: the name determines the command, and words that begin
+-- with the name of no command have their first error of syntax at the first word.
+use Rattle.std.proofs.Common.{◌≡◌, ℕ, zero, suc, take, ◌≤◌, ◌<◌, Bool, true, false, not, ◌&&◌, List, [], ◌∷◌, ◌++◌, map, length, refl, sym, ap, ◌∙◌, subst, arith, ◌⊎◌, inl, inr}
 use Rattle.sym_model.specs.Sum.{Among}
 use Rattle.sym_model.specs.GoodTableau.{is_among}
 use Rattle.sym_model.specs.Polynomial.{same}
@@ -14,24 +14,25 @@ use Rattle.word_laws.specs.Reading.{forms_of}
 use Rattle.word_laws.proofs.LongestPrefixes.{CanBe, some_words, some_out}
 use Rattle.calc_words.specs.Joined.{Named}
 use Rattle.calc_words.proofs.Joining.{first_spells, first_awaits}
+use Rattle.std.proofs.lemmas.Bool.{or_left, or_right, both_ways}
 
--- the second of two forms in sequence; of any other form, the form itself
+-- the form g, if the given form is f followed by g; otherwise the given form
 abbrev pub behind : Form → Form
 behind (sequence f g) = g
 behind f = f
 
--- the form of the command is its name, followed by another form or by nothing
+-- the form of the command e is the name of e, followed by another form or by nothing
 abbrev pub IsLed : Entry → Type 0
 IsLed e = (e.form ≡ sequence (the e.name) (behind e.form)) ⊎ (e.form ≡ the e.name)
 
--- ---- lists of entries: a property of all, or of some
+-- ---- a property of each entry of a list
 
 pub each_among : (P : Entry → Type 0) (entries : List Entry) → EachOf P entries → (e : Entry) → Among e entries → P e
 each_among P [] h e m = absurd m
 each_among P (f ∷ entries) h e (inl s) = subst P (sym s) h.0
 each_among P (f ∷ entries) h e (inr m) = each_among P entries h.1 e m
 
--- ---- names that distinguish the commands
+-- ---- commands with different names
 
 abbrev pub names_of : List Entry → List (List ℕ)
 names_of entries = map (λ (e : Entry). e.name) entries
@@ -40,22 +41,11 @@ abbrev pub are_named_apart : List Entry → Bool
 are_named_apart [] = true
 are_named_apart (e ∷ entries) = not (is_among e.name (names_of entries)) && are_named_apart entries
 
-pub or_left : (x y : Bool) → x ≡ true → (x || y) ≡ true
-or_left true y h = refl
-or_left false y h = cc
-
-or_right : (x y : Bool) → y ≡ true → (x || y) ≡ true
-or_right true y h = refl
-or_right false y h = h
-
 among_names : (name : List ℕ) (e : Entry) (entries : List Entry) → Among e entries → e.name ≡ name → is_among name (names_of entries) ≡ true
 among_names name e [] m h = absurd m
 among_names name e (f ∷ entries) (inl s) h =
     or_left (same name f.name) (is_among name (names_of entries)) (same_from name f.name (sym h ∙ ap (λ (x : Entry). x.name) s))
 among_names name e (f ∷ entries) (inr m) h = or_right (same name f.name) (is_among name (names_of entries)) (among_names name e entries m h)
-
-pub clash : {A : Type 0} (b : Bool) → b ≡ false → b ≡ true → A
-clash b h k = cc
 
 not_both : (x y : Bool) → (not x && y) ≡ true → (x ≡ false) × (y ≡ true)
 not_both true y h = cc
@@ -66,14 +56,14 @@ one_named [] h e f m n s = absurd m
 one_named (x ∷ entries) h e f (inl m) (inl n) s = n ∙ sym m
 one_named (x ∷ entries) h e f (inl m) (inr n) s =
     let p = not_both (is_among x.name (names_of entries)) (are_named_apart entries) h in
-    clash (is_among x.name (names_of entries)) p.0 (among_names x.name f entries n (s ∙ ap (λ (y : Entry). y.name) m))
+    absurd (both_ways (is_among x.name (names_of entries)) p.0 (among_names x.name f entries n (s ∙ ap (λ (y : Entry). y.name) m)))
 one_named (x ∷ entries) h e f (inr m) (inl n) s =
     let p = not_both (is_among x.name (names_of entries)) (are_named_apart entries) h in
-    clash (is_among x.name (names_of entries)) p.0 (among_names x.name e entries m (sym s ∙ ap (λ (y : Entry). y.name) n))
+    absurd (both_ways (is_among x.name (names_of entries)) p.0 (among_names x.name e entries m (sym s ∙ ap (λ (y : Entry). y.name) n)))
 one_named (x ∷ entries) h e f (inr m) (inr n) s =
     one_named entries (not_both (is_among x.name (names_of entries)) (are_named_apart entries) h).1 e f m n s
 
--- ---- words of a command begin with its name
+-- ---- the words of a command begin with its name
 
 abbrev BeginsAs : List ℕ → Words → Type 0
 BeginsAs name words = (rest : Words) × (words ≡ name ∷ rest)
@@ -96,7 +86,7 @@ led_named e (inr s) = record {
       subst P (sym s) (λ words h. absurd h);
 }
 
--- ---- words whose first word is no name, or that have no first word
+-- ---- words that begin with the name of no command
 
 pub unnamed : (entries : List Entry) → EachOf IsLed entries → CanBe (forms_of entries) → 0 < length entries → (words : Words)
     → ((e : Entry) → Among e entries → BeginsAs e.name words → ⊥) → IsSyntaxPlace entries words 0 0

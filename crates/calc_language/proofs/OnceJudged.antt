@@ -1,18 +1,19 @@
--- Rows whose numbers are judged once, with flags for the entries, have the same errors as the rows of insertion, recording and skew tableaux.
+-- Rows whose numbers are tested once, with flags for the entries (`judged`), have the errors that the rules of insertion, recording and skew tableaux
+-- find (`inserted`, `recorded`, `skewed`).
 use Rattle.std.proofs.Common.{◌≡◌, ℕ, zero, suc, ◌+◌, ◌<◌, ◌==◌, nat_le, nat_lt, Bool, true, false, ◌||◌, List, [], ◌∷◌, ◌++◌, map, length, drop, reverse, get_or, replicate, refl, sym, ap, ap₂, ◌∙◌, arith, Option, Some, None}
 use Rattle.std.specs.Prelude.{slice_set}
 use Rattle.std.proofs.lemmas.Bool.Decides.{nat_tests}
 use Rattle.std.proofs.lemmas.List.{reverse-append}
-use Rattle.std.proofs.Math.Bool.{or-false}
+use Rattle.std.proofs.Math.Bool.{or-false, or-true}
 use Rattle.std.proofs.Math.ListN.{set, length-set}
 use Rattle.sym_model.specs.Partition.{part}
 use Rattle.sym_model.specs.ExpressionOffence.{range, shape}
 use Rattle.sym_model.specs.CommandOffence.{PlacedRow, offences_after, stays, stands_in, entry_above, entry_rule, when}
 use Rattle.word_laws.specs.JudgedRows.{cell_rule, is_too_much, is_too_long, is_disordered, is_no_record, inserted, recorded, skewed}
 use Rattle.calc_language.specs.FoundOffences.{marked, is_taken, is_no_entry, judged}
-use Rattle.calc_words.proofs.FirstOffences.{or_true}
+use Rattle.sym_model.proofs.Numbers.{or_left_comm}
 
--- two rules of cells with the same limits find the same errors if their tests p and q agree
+-- two rules of cells (`cell_rule`) with the same limits find the same errors if their tests p and q agree
 rules_agree : (count most : Option ℕ) (p q : List ℕ → ℕ → Bool) → ((b : List ℕ) (a : ℕ) → p b a ≡ q b a) → (b : List ℕ) (k : ℕ) (ns : List ℕ)
     → offences_after (cell_rule count most p) b k ns ≡ offences_after (cell_rule count most q) b k ns
 rules_agree count most p q h b k [] = refl
@@ -21,7 +22,7 @@ rules_agree count most p q h b k (a ∷ ns) =
     (λ w os. map (λ kind. (k, 0, kind)) (entry_rule b a ++ (when (is_too_much count (length b)) range ++ (when (is_too_long most (length b)) shape ++ when w shape))) ++ os)
     (h b a) (rules_agree count most p q h (a ∷ b) (k + 1) ns)
 
--- ---- rows that are judged without flags
+-- ---- rows that are tested without flags
 
 unmarked : (ns : List ℕ) → marked ns [] ≡ []
 unmarked [] = refl
@@ -46,11 +47,11 @@ skewed_judged c upper inner (row ∷ rows) =
     ap₂ ◌++◌ (rules_agree None None (is_no_entry c upper d []) (is_disordered c upper d) (no_flags c upper d) [] row.0 row.1)
     (ap (λ flags. judged false None None d row.1 (drop 1 inner) flags rows) (unmarked (reverse row.1)) ∙ skewed_judged d row.1 (drop 1 inner) rows)
 
--- ---- flags for the numbers up to a greatest one
+-- ---- rows that are tested with flags for the entries that have occurred
 
 get_set : (flags : List Bool) (x a : ℕ) → get_or (set flags x true) a true ≡ (get_or flags a true || (a == x))
 get_set [] x a = refl
-get_set (f ∷ flags) zero zero = sym (or_true f)
+get_set (f ∷ flags) zero zero = sym (or-true f)
 get_set (f ∷ flags) zero (suc a) = sym (ap (λ b. get_or flags a true || b) (let z : (suc a == 0) ≡ false = grind (arith, nat_tests) in z) ∙ or-false (get_or flags a true))
 get_set (f ∷ flags) (suc x) zero = sym (ap (λ b. f || b) (let z : (0 == suc x) ≡ false = grind (arith, nat_tests) in z) ∙ or-false f)
 get_set (f ∷ flags) (suc x) (suc a) =
@@ -83,19 +84,15 @@ taken_marked (x ∷ ns) flags a h =
 
 stands_append : (a : ℕ) (xs ys : List ℕ) → stands_in a (xs ++ ys) ≡ (stands_in a ys || stands_in a xs)
 stands_append a [] ys = sym (or-false (stands_in a ys))
-stands_append a (x ∷ xs) ys = ap (λ b. (a == x) || b) (stands_append a xs ys) ∙ turned (a == x) (stands_in a ys) (stands_in a xs)
-  where
-    turned : (x y z : Bool) → (x || (y || z)) ≡ (y || (x || z))
-    turned true true z = refl
-    turned true false z = refl
-    turned false y z = refl
+stands_append a (x ∷ xs) ys = ap (λ b. (a == x) || b) (stands_append a xs ys) ∙ or_left_comm (a == x) (stands_in a ys) (stands_in a xs)
 
 stands_reverse : (a : ℕ) (ns : List ℕ) → stands_in a (reverse ns) ≡ stands_in a ns
 stands_reverse a [] = refl
 stands_reverse a (x ∷ ns) =
     ap (stands_in a) (reverse-append (x ∷ []) ns) ∙ stands_append a (reverse ns) (x ∷ []) ∙ ap₂ ◌||◌ (or-false (a == x)) (stands_reverse a ns)
 
--- a number is taken in `flags` if and only if it is greater than `cells` or among the entries `earlier`
+-- the list `flags` is not empty; by these flags (`is_taken`) a number is taken if and only if it is greater than `cells` or among the entries
+-- `earlier`
 pub record HasFlags (cells : ℕ) (earlier : List ℕ) (flags : List Bool) : Type 0 where
   pub some : 0 < length flags
   pub taken : (a : ℕ) → is_taken flags a ≡ (nat_lt cells a || stands_in a earlier)
@@ -114,8 +111,8 @@ row_flags cells earlier ns flags h = record {
     joined true y z = refl
     joined false y z = refl
 
--- with flags for the entries that have occurred, a number is out of order if and only if it is for the rule of recording
--- tableaux: a number that is equal to its left neighbour has occurred before
+-- let the flags be those of the entries `earlier` (`HasFlags`): the test with flags of a number a after the entries b agrees with the test of
+-- recording tableaux (`is_no_record`), which also refuses an a that equals its left neighbour
 record_test : (cells : ℕ) (earlier upper : List ℕ) (flags : List Bool) → HasFlags cells earlier flags → (b : List ℕ) (a : ℕ)
     → is_no_entry 0 upper 0 flags b a ≡ is_no_record cells earlier upper b a
 record_test cells earlier upper flags h b a =

@@ -1,4 +1,4 @@
--- The first error of two tableaux, which must be the insertion and the recording tableau of a word.
+-- The first error of the two tableaux of `unrsk`, an insertion tableau and a recording tableau.
 use Rattle.std.proofs.Common.{◌≡◌, ℕ, ◌+◌, ◌<◌, ◌≤◌, ◌==◌, Bool, true, false, cond, List, [], ◌∷◌, ◌++◌, map, length, refl, sym, ap, ◌∙◌, subst, arith, Option, Some, None, Result, ◌⊎◌, inl, inr}
 use Rattle.std.proofs.lemmas.List.{length-map, append-nil}
 use Rattle.sym_model.specs.Sum.{Among}
@@ -33,8 +33,9 @@ use Rattle.calc_words.proofs.FirstOffences.{within, no_later_word}
 use Rattle.word_laws.proofs.NoOffences.{none_judged}
 use Rattle.calc_language.proofs.WrittenTableaux.{rows_placed, rows_entered}
 use Rattle.calc_language.proofs.CutTableaux.{rows_spelled}
+use Rattle.std.proofs.lemmas.Simd.{map-map}
 
--- ---- the words of a command at which rows can have errors
+-- ---- the words at which the rows of a tableau can have errors
 
 abbrev pub After : ℕ → List Offence → Type 0
 After k os = (p : Offence) → Among p os → k ≤ p.0
@@ -119,7 +120,7 @@ first_before k ws o h =
     (inserted_before 0 None [] k ws) (empty_rows_before k ws) o
     (first-among (inserted 0 None [] (rows_at k ws) ++ empty_row_offences (rows_at k ws)) o (sym (inserted_first (rows_at k ws)) ∙ h))
 
--- ---- the first error of the two tableaux
+-- ---- the first error of the two tableaux of `unrsk`
 
 pub earlier_word : (o : Offence) (rest : Option Offence) → ((q : Offence) → rest ≡ Some q → o.0 < q.0) → earlier (Some o) rest ≡ Some o
 earlier_word o None h = refl
@@ -146,7 +147,8 @@ first_of_pair (w ∷ ws) second o s h =
     ∙ ap (λ x. earlier x (first_offence fills)) h
     ∙ earlier_word o (first_offence fills) (λ q e. let z = filled_after k second q (first-among fills q e) in omega (arith, before, z))
 
--- the errors against the shape of the first tableau are the same for its rows as read and as written
+-- let there be a row in `first`: the errors of `words` against the row lengths of `first` do not change if a single row without numbers is counted as
+-- no row (`rows_in`)
 shape_same : (k : ℕ) (first : List Words) (words : Words) → 0 < length first
     → shape_offences k (map length (rows_in [] (map numbers first))) words ≡ shape_offences k (map length (map numbers first)) words
 shape_same k [] words h = absurd (omega (arith, h))
@@ -190,8 +192,8 @@ second_of_pair first second k lengths s t e p q h =
     ∙ ap (λ os. first_offence ((os ++ filled_offences (rows_at m second)) ++ judged_against inserts (shape_offences m ls (rows_text second) ++ standard_offences (size ls) [] [] (rows_at m second))))
     (sym (first_none inserts h))
 
--- the first of the errors of the numbers, of the errors `lefts` of leaving the shape, and of those of standardness is the
--- earlier of the first error found row by row and of the first of `lefts`
+-- for the rows of a recording tableau: the first of the errors of their numbers, of the errors `lefts`, and of those of standardness, is the earlier
+-- of the first error found row by row (`recorded`) and the first of `lefts`
 pub recording_first : (cells : ℕ) (rows : List PlacedRow) (lefts : List Offence)
     → first_offence (filled_offences rows ++ (lefts ++ standard_offences cells [] [] rows)) ≡ earlier (first_offence (recorded cells 0 [] [] rows)) (first_offence lefts)
 recording_first cells rows lefts =
@@ -215,21 +217,17 @@ pub place_of_second : (ws : List Words) → 0 < length ws → 1 + length (furthe
 place_of_second [] h = absurd (omega (arith, h))
 place_of_second (w ∷ ws) h = omega arith
 
-pub map_twice : {A : Type 0} (f : A → Words) (g : Words → List ℕ) (rows : List A) → map g (map f rows) ≡ map (λ r. g (f r)) rows
-map_twice f g [] = refl
-map_twice f g (r ∷ rows) = ap (λ xs. g (f r) ∷ xs) (map_twice f g rows)
-
 each_length : {A : Type 0} (g : A → List ℕ) (xs : List A) → map (λ x. length (g x)) xs ≡ map length (map g xs)
 each_length g [] = refl
 each_length g (x ∷ xs) = ap (λ ns. length (g x) ∷ ns) (each_length g xs)
 
--- the lengths of rows as they were read are those of their words
+-- if the lists g x, for x in xs, are the numbers of the rows f r, for r in `rows`, then they have the lengths of these rows
 pub read_lengths : {A B : Type 0} (g : A → List ℕ) (f : B → Words) (xs : List A) (rows : List B) → map g xs ≡ map (λ r. numbers (f r)) rows
     → map (λ x. length (g x)) xs ≡ map length (map f rows)
 read_lengths g f xs rows h =
-    each_length g xs ∙ ap (map length) (h ∙ sym (map_twice f numbers rows)) ∙ number_lengths (map f rows)
+    each_length g xs ∙ ap (map length) (h ∙ sym (map-map numbers f rows)) ∙ number_lengths (map f rows)
 
--- ---- the reading of the words of `unrsk` is judged by its two tableaux
+-- ---- a correct result for the two tableaux is a correct result of reading the words of `unrsk`
 
 abbrev offends_so : List PlacedRow → List (List ℕ) → Words → Words → (ℕ → List PlacedRow) → List Offence
 offends_so first nss words more second = offences_of_pair first nss (2 + length words) more (second (2 + length words))
@@ -261,5 +259,5 @@ pub pair_read_rows : {A : Type 0} (f : A → Words) (words : Words) (xs ys : Lis
     → IsRead (unrsk_entry ∷ []) words r
 pair_read_rows f words xs ys r t j =
     pair_read words (map f xs) (map f ys) r t
-    (subst (λ ns. IsJudged (StandsFor (unrsk (rows_in [] ns) (rows_in [] (map numbers (map f ys))))) (first_offence (pair_offences (map f xs) (map f ys))) r) (sym (map_twice f numbers xs))
-    (subst (λ ns. IsJudged (StandsFor (unrsk (rows_in [] (map (λ r. numbers (f r)) xs)) (rows_in [] ns))) (first_offence (pair_offences (map f xs) (map f ys))) r) (sym (map_twice f numbers ys)) j))
+    (subst (λ ns. IsJudged (StandsFor (unrsk (rows_in [] ns) (rows_in [] (map numbers (map f ys))))) (first_offence (pair_offences (map f xs) (map f ys))) r) (sym (map-map numbers f xs))
+    (subst (λ ns. IsJudged (StandsFor (unrsk (rows_in [] (map (λ r. numbers (f r)) xs)) (rows_in [] ns))) (first_offence (pair_offences (map f xs) (map f ys))) r) (sym (map-map numbers f ys)) j))

@@ -1,7 +1,6 @@
 -- The first error of the two expressions of a `plethysm`.
 use Rattle.std.proofs.Common.{◌≡◌, ℕ, ◌*◌, ◌≤◌, ◌<◌, nat_lt, Bool, true, false, cond, List, [], ◌∷◌, ◌++◌, append_assoc, length, refl, sym, ap, ◌∙◌, subst, arith, Option, Some, None, option_map, Result, Ok, Err, inl, inr, ◌⊎◌}
 use Rattle.std.specs.Prelude.{codes}
-use Rattle.std.proofs.lemmas.Bool.Decides.{nat_tests}
 use Rattle.sym_model.specs.Sum.{Among}
 use Rattle.sym_model.proofs.Sums.{Among_from_append}
 use Rattle.sym_model.specs.Expansion.{Basis}
@@ -33,8 +32,9 @@ use Rattle.calc_words.specs.Commands.{StandsFor}
 use Rattle.calc_words.specs.declared.command.Command.{Command}
 use Rattle.calc_language.specs.Reading.{placed}
 use Rattle.calc_language.proofs.ExpressionJudging.{at_word, first-placed, same_order, placed_first, none_placed, tree_read}
+use Rattle.std.proofs.lemmas.Bool.{lt-ltb, le-ltb}
 
--- the errors of the first expression, f, which is word 2 of the command
+-- the errors of the outer expression f, which is word 2 of the command
 abbrev outer_found : Phrase → List Offence
 outer_found f = offences_in_word 2 (offences_within plethysm_degree_limit f)
 
@@ -50,7 +50,7 @@ too_high past g = cond past (end_of g ∷ []) []
 abbrev is_past : Phrase → Phrase → Bool
 is_past f g = nat_lt plethysm_degree_limit (degree (tree f) * degree (tree g))
 
--- the errors of a word have the number of that word
+-- each error of an expression, as an error of word k, is at word k
 in_word : (k : ℕ) (os : List WordOffence) (p : Offence) → Among p (offences_in_word k os) → p.0 ≡ k
 in_word k [] p m = absurd m
 in_word k (o ∷ os) p (inl h) = ap (λ (x : Offence). x.0) h
@@ -62,7 +62,7 @@ in_judged [] true g p (inr m) = absurd m
 in_judged [] false g p m = absurd m
 in_judged (x ∷ xs) past g p m = absurd m
 
--- each error of the first expression is before all errors of the second one and of the two together
+-- each error of the outer expression f is at an earlier word than the errors of the inner expression g and the error of the product of the degrees
 behind_outer : (f g : Phrase) → AllBefore (outer_found f) (inner_found g ++ judged_against (outer_found f) (too_high (is_past f g) g))
 behind_outer f g p q m n =
     let a = in_word 2 (offences_within plethysm_degree_limit f) p m in
@@ -81,14 +81,15 @@ outer_faulty w f g e s h =
     (judged_err (outer_found f) (inner_found g ++ last) (placed 2 e) (behind_outer f g)
     (placed_first 2 (offences_within plethysm_degree_limit) w f e s h))
 
--- if the first expression has no error, the first error is that of the second one or of the two together
+-- if the outer expression f has no error, the first error is the first one of the errors of the inner expression g and the error of the product of
+-- the degrees
 rest_only : (f g : Phrase) → first_offence (outer_found f) ≡ None
     → first_offence (plethysm_offences 2 f g) ≡ first_offence (inner_found g ++ too_high (is_past f g) g)
 rest_only f g n =
     ap (λ (os : List Offence). first_offence ((os ++ inner_found g) ++ judged_against os (too_high (is_past f g) g))) (first_none (outer_found f) n)
 
--- if an error o is no later than the end of the second expression g, it is the first of o and the error at this end, if
--- there is one
+-- if the error o is no later than the end of the expression g, then o is the earlier one of o and the error of the product of the degrees, an error
+-- at the end of g that exists if and only if `past` is true
 stays : (past : Bool) (g : Phrase) (o : Offence) → is_no_later o (end_of g) ≡ true → earlier_of o (first_offence (too_high past g)) ≡ Some o
 stays true g o h = ap (λ b. cond b (Some o) (Some (end_of g))) h
 stays false g o h = refl
@@ -113,7 +114,8 @@ inner_faulty v w f g x e r k s h =
     (judged_on (first_offence (inner_found g)) (first_offence (inner_found g ++ too_high (is_past f g) g)) (placed 3 e)
     (inner_first (is_past f g) g s.allowed) (placed_first 3 inner_offences w g e s h))
 
--- if neither expression has an error, the first error is that of the two together
+-- let the words v and w spell the expressions f and g of a plethysm, and let both be correctly read as formulas: the first error is that of the
+-- product of the degrees, if there is one
 both_judged : (v w : List ℕ) (f g : Phrase) (x y : Formula) → SpellsPhrase v f → IsReadBy (offences_within plethysm_degree_limit) v (Ok x)
     → SpellsPhrase w g → IsReadBy inner_offences w (Ok y) → first_offence (plethysm_offences 2 f g) ≡ first_offence (too_high (is_past f g) g)
 both_judged v w f g x y r k s h =
@@ -132,11 +134,8 @@ pub both_past : (v w : List ℕ) (f g : Phrase) (x y : Formula) → SpellsPhrase
 both_past v w f g x y r k s h past =
     let d = degrees_read v w f g x y r k s h in
     both_judged v w f g x y r k s h
-    ∙ ap (λ b. first_offence (too_high b g)) (over (degree (tree f) * degree (tree g)) (subst (λ n. plethysm_degree_limit < n) d past))
+    ∙ ap (λ b. first_offence (too_high b g)) (lt-ltb 10 (degree (tree f) * degree (tree g)) (subst (λ n. plethysm_degree_limit < n) d past))
     ∙ ap (λ n. Some (3, n, range)) (sym (ap length s.spelled))
-  where
-    over : (n : ℕ) → 10 < n → nat_lt 10 n ≡ true
-    over n l = grind (arith, nat_tests)
 
 pub both_fine : (v w : List ℕ) (f g : Phrase) (x y : Formula) → SpellsPhrase v f → IsReadBy (offences_within plethysm_degree_limit) v (Ok x)
     → SpellsPhrase w g → IsReadBy inner_offences w (Ok y) → degree (tree_of x.tree) * degree (tree_of y.tree) ≤ plethysm_degree_limit
@@ -144,10 +143,7 @@ pub both_fine : (v w : List ℕ) (f g : Phrase) (x y : Formula) → SpellsPhrase
 both_fine v w f g x y r k s h few =
     let d = degrees_read v w f g x y r k s h in
     both_judged v w f g x y r k s h
-    ∙ ap (λ b. first_offence (too_high b g)) (not_over (degree (tree f) * degree (tree g)) (subst (λ n. n ≤ plethysm_degree_limit) d few))
-  where
-    not_over : (n : ℕ) → n ≤ 10 → nat_lt 10 n ≡ false
-    not_over n l = grind (arith, nat_tests)
+    ∙ ap (λ b. first_offence (too_high b g)) (le-ltb 10 (degree (tree f) * degree (tree g)) (subst (λ n. n ≤ plethysm_degree_limit) d few))
 
 pub trees_said : (v w : List ℕ) (f g : Phrase) (x y : Formula) (t : Basis) → SpellsPhrase v f → IsReadBy (offences_within plethysm_degree_limit) v (Ok x)
     → SpellsPhrase w g → IsReadBy inner_offences w (Ok y) → plethysm t (tree_of x.tree) (tree_of y.tree) ≡ plethysm t (tree f) (tree g)
@@ -155,7 +151,7 @@ trees_said v w f g x y t r k s h =
     ap (λ e. plethysm t e (tree_of y.tree)) (tree_read (offences_within plethysm_degree_limit) v f x r k)
     ∙ ap (plethysm t (tree f)) (tree_read inner_offences w g y s h)
 
--- ---- the words of `plethysm`, cut into parts
+-- ---- the words of `plethysm`, divided into parts
 
 abbrev pub plethysm_parts : List Part
 plethysm_parts = Target ∷ Expression ∷ Expression ∷ []

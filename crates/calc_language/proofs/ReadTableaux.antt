@@ -1,5 +1,5 @@
--- The column reading of rows that were read, and the tableau that has it.
-use Rattle.std.proofs.Common.{◌≡◌, ◌≤◌, ◌<◌, ℕ, zero, suc, true, ◌&&◌, List, [], ◌∷◌, map, length, get_or, sym, ap, ◌∙◌, arith}
+-- The column reading of the rows that a command's words give, and the tableau that has this column reading.
+use Rattle.std.proofs.Common.{◌≡◌, ◌≤◌, ℕ, true, ◌&&◌, List, length, get_or, sym, ap, ◌∙◌, arith}
 use Rattle.partitions.specs.Limits.{IsWithinLimits}
 use Rattle.sym_model.proofs.SortedParts.{rows_within_size}
 use Rattle.sym_model.specs.CommandOffence.{most_letters}
@@ -17,7 +17,7 @@ is_tableau_back outer inner rows t =
     ap (λ rs. are_letters (letters_of rs) && semistandard inner rs) (filling_back outer inner rows t.outside.falls t.cells)
     ∙ ap (λ b. b && semistandard inner rows) t.letters ∙ t.order
 
--- ---- two straight tableaux of one shape
+-- ---- two straight tableaux of the same shape
 
 pub letters_as_shape : (first second : List (List ℕ)) → shape_of first ≡ shape_of second → length (letters_of first) ≡ length (letters_of second)
 letters_as_shape first second h = length-letters_of first ∙ ap size h ∙ sym (length-letters_of second)
@@ -31,9 +31,3 @@ few_letters rows t h = record {
 
 pub row_within : (rows : List (List ℕ)) (i : ℕ) → length (letters_of rows) ≤ most_letters → get_or (shape_of rows) i 0 ≤ 256
 row_within rows i h = omega (arith, get_or-le-size (shape_of rows) i, length-letters_of rows, h)
-
-pub row_length : {A : Type 0} (f : A → List ℕ) (xs : List A) (i : ℕ) (x : A) → i < length xs → x ≡ get_or xs i x
-    → length (f x) ≡ get_or (shape_of (map f xs)) i 0
-row_length f [] i x h e = absurd (omega (arith, h))
-row_length f (y ∷ xs) zero x h e = ap (λ z. length (f z)) e
-row_length f (y ∷ xs) (suc i) x h e = row_length f xs i x (omega (arith, h)) e

@@ -1,4 +1,4 @@
--- The rows of a tableau, read one after another.
+-- The first error of the rows of a tableau, read one row after another.
 use Rattle.std.proofs.Common.{◌≡◌, ℕ, zero, suc, ◌+◌, ◌-◌, ◌^◌, ◌<◌, ◌≤◌, ◌==◌, min, Bool, true, false, not, cond, List, [], ◌∷◌, ◌++◌, map, length, length-append, length-drop, take, drop, reverse, get_or, drop-cons, refl, sym, ap, ap₂, ◌∙◌, subst, arith, Option, Some, None, ◌⊎◌, inl, inr}
 use Rattle.std.proofs.lemmas.Bool.{eq-eqb, eqb-true}
 use Rattle.std.proofs.lemmas.List.{length-map, drop-drop, take_more, take_all}
@@ -22,7 +22,7 @@ use Rattle.calc_language.specs.declared.cells.Bounds.{Bounds}
 use Rattle.calc_words.proofs.Commands.{judged_on}
 use Rattle.calc_words.proofs.FirstOffences.{within, first-append, none-append}
 
--- the rows from place i on are the row at place i and those after it
+-- if x is element i of xs, the rows f y, for y in xs from index i on, are f x and the rows from index i + 1 on
 pub rows_next : {A : Type 0} (f : A → Words) (xs : List A) (i : ℕ) (x : A) → i < length xs → x ≡ get_or xs i x
     → drop i (map f xs) ≡ f x ∷ drop (i + 1) (map f xs)
 rows_next f [] i x h e = absurd (omega (arith, h))
@@ -42,7 +42,7 @@ pub numbers_fit : (w : Words) → length (numbers w) ≤ length (row_text w)
 numbers_fit [] = omega arith
 numbers_fit (t ∷ w) = let e = length-map w decimal_value in omega (arith, e)
 
--- the errors of the rows of a tableau are not before its first word
+-- each error of the rows of a tableau that begins at word k is at word k or later
 judged_from : (straight : Bool) (count most : Option ℕ) (c : ℕ) (upper inner : List ℕ) (flags : List Bool) (k : ℕ) (ws : List Words) (q : Offence)
     → Among q (judged straight count most c upper inner flags (rows_at k ws)) → k ≤ q.0
 judged_from straight count most c upper inner flags k [] q m = absurd m
@@ -63,7 +63,7 @@ judged_from straight count most c upper inner flags k (w ∷ ws) q m =
     by (inl a) again = (within rule [] k ns q a).0
     by (inr a) again = let z = again a in omega (arith, z)
 
--- if a number of the row w has an error, the first such error is the first error of w and the rows ws after it
+-- a fault that is the first error of the numbers of the row w is the first error of w and the rows ws after it
 pub row_fails : (straight : Bool) (count most : Option ℕ) (c : ℕ) (upper inner : List ℕ) (flags : List Bool) (k : ℕ) (w : Words) (ws : List Words) (fault : WordsFault)
     → IsFirst (first_offence (offences_by (cell_rule count most (is_no_entry c upper (part inner 1) flags)) k (numbers w))) fault
     → IsFirst (first_offence (judged straight count most c upper inner flags (rows_at k (w ∷ ws)))) fault
@@ -89,7 +89,7 @@ row_passes straight count most c upper inner flags k w ws e =
     (judged straight (counted_on count (numbers w)) (cond straight (Some (length (numbers w))) None) (part inner 1) (numbers w) (drop 1 inner)
     (marked (reverse (numbers w)) flags) (rows_at (k + length (row_text w) + 1) ws)) e
 
--- the rows w ∷ ws, each after a `/`, have the words of w, those of the rows ws, each after a `/`, and one word more
+-- the number of words of the rows w ∷ ws, each after a `/`, is that of w, plus that of the rows ws, each after a `/`, plus 1
 pub further_length : (w : Words) (ws : List Words) → length (further_text (w ∷ ws)) ≡ length (row_text w) + length (further_text ws) + 1
 further_length w ws = let e = length-append (row_text w) (further_text ws) in omega (arith, e)
 
@@ -108,7 +108,7 @@ part_there xs i h = sym (ap (λ ys. part ys 1) (drop-cons xs i 0 h))
 pub part_past : (xs : List ℕ) (i : ℕ) → length xs ≤ i → 0 ≡ part (drop i xs) 1
 part_past xs i h = sym (ap (λ ys. part ys 1) (drop_of_length-le xs h))
 
--- ---- the rows, read one after another
+-- ---- the state after the first i rows of a tableau have been read
 
 last_appended : (rows : List (List ℕ)) (row : List ℕ) → last_row (rows ++ row ∷ []) ≡ row
 last_appended [] row = refl
@@ -127,7 +127,8 @@ pub few_fit : (count : Option ℕ) (ns : List ℕ) (place : ℕ) → IfSome coun
 few_fit None ns place h l = h
 few_fit (Some n) ns place h l = omega (arith, h, l)
 
--- the first i rows are read and have no error; the next row begins at the word `place`, below a row that begins at column c
+-- the first i rows have been read and have no error; the next row begins at the word `place`, the row above it begins at column c, and `taken` are
+-- the flags
 pub record RowsTo {A : Type 0} (f : A → Words) (first : Option Offence) (inner : List ℕ) (rows : List A) (i : ℕ) (read : List (List ℕ)) (place : ℕ) (bounds : Bounds) (c : ℕ) (taken : List Bool) : Type 0 where
   pub first_is : first ≡ first_offence (judged bounds.is_straight bounds.counted bounds.most c (last_row read) (drop i inner) taken (rows_at place (drop i (map f rows))))
   pub read_is : read ≡ take i (map (λ r. numbers (f r)) rows)
@@ -142,7 +143,7 @@ row_room f first inner rows i read place bounds c taken x r h e =
     let y = row_width (f x) in
     (omega (arith, z), omega (arith, z, y))
 
--- the errors of the next row x, which begins at column d
+-- the errors of the next row x, which begins at the word `place` and at column d, below the row `upper`, which begins at column c
 abbrev pub next_offences : {A : Type 0} (f : A → Words) (upper : List ℕ) (place : ℕ) (bounds : Bounds) (c d : ℕ) (taken : List Bool) (x : A) → List Offence
 next_offences f upper place bounds c d taken x =
     offences_by (cell_rule bounds.counted bounds.most (is_no_entry c upper d taken)) place (numbers (f x))
@@ -195,7 +196,7 @@ rows_end f first inner rows i read place bounds c taken r h = (
   r.first_is ∙ ap (λ ds. first_offence (judged bounds.is_straight bounds.counted bounds.most c (last_row read) (drop i inner) taken (rows_at place ds))) (no_rows f rows i h),
 )
 
--- ---- the word at which rows leave a shape
+-- ---- the first word at which the lengths of rows differ from given lengths
 
 pub left_misses : (k n : ℕ) (ls : List ℕ) (w : Words) (ws : List Words) → (length w ≡ n → ⊥)
     → first_offence (left_at k (n ∷ ls) (w ∷ ws)) ≡ Some (k + min n (length w), 0, shape)
@@ -241,11 +242,6 @@ left_on k n (m ∷ ls) w (v ∷ ws) h e l = left_fits k n (m ∷ ls) w (v ∷ ws
 pub left_none : (k : ℕ) (ls : List ℕ) → first_offence (left_at k ls []) ≡ None
 left_none k [] = refl
 left_none k (n ∷ ls) = refl
-
-pub split_first : (xs : List ℕ) → 1 ≤ length xs → xs ≡ get_or xs 0 0 ∷ take (length xs - 1) (drop 1 xs)
-split_first [] h = absurd (omega (arith, h))
-split_first (x ∷ xs) h =
-    ap (λ ys. x ∷ ys) (sym (take_all (suc (length xs) - 1) xs (omega arith)))
 
 pub left_last : (k n : ℕ) (ls : List ℕ) (w : Words) (ws : List Words) (b : Bool) → length w ≡ n → length ls ≡ 0 → (b ≡ true → length ws ≡ 0) → (b ≡ false → 0 < length ws)
     → first_offence (left_at k (n ∷ ls) (w ∷ ws)) ≡ found_of (then_some (not b) (k + length (row_text w)))

@@ -1,4 +1,4 @@
--- The first error of two shapes and a tableau.
+-- The first error of the words of `rect`: two partitions and a tableau.
 use Rattle.std.proofs.Common.{◌≡◌, ℕ, zero, suc, ◌+◌, ◌-◌, ◌<◌, ◌||◌, nat_lt, ◌⊎◌, inl, inr, List, [], ◌∷◌, ◌++◌, map, length, drop, refl, sym, ap, ◌∙◌, subst, arith, Some, None, Result}
 use Rattle.std.proofs.lemmas.List.{length-map, append-nil}
 use Rattle.sym_model.specs.Sum.{Among}
@@ -30,11 +30,12 @@ use Rattle.calc_language.specs.SkewWords.{AreSkewWords, skew_offences}
 use Rattle.calc_words.proofs.Commands.{read_standing}
 use Rattle.calc_words.proofs.FirstOffences.{within}
 use Rattle.word_laws.proofs.NoOffences.{none_judged}
-use Rattle.calc_language.proofs.PairJudging.{After, entries_after, earlier_word, some_judged, left_shape_of, map_twice, after_append}
+use Rattle.calc_language.proofs.PairJudging.{After, entries_after, earlier_word, some_judged, left_shape_of, after_append}
 use Rattle.calc_language.proofs.WrittenTableaux.{rows_placed, rows_entered}
 use Rattle.calc_language.proofs.CutTableaux.{rows_spelled}
+use Rattle.std.proofs.lemmas.Simd.{map-map}
 
--- ---- the lengths of the rows of a skew shape
+-- ---- the lengths of the rows of a skew shape, and the first error of rows that must have these lengths
 
 pub asked_some : (outer inner : List ℕ) → 0 < length (asked_lengths outer inner)
 asked_some [] inner = omega arith
@@ -63,7 +64,7 @@ rows_first_offence k outer inner rows s e =
     ∙ first_of_both (fills ++ orders) lefts
     ∙ ap (λ x. earlier x (first_offence lefts)) (skewed_first inner (rows_at k rows))
 
--- ---- zeros at the end of a partition as it is written
+-- ---- zeros at the end of a written partition do not change the errors
 
 other_parts : (a : ℕ) (xs : List ℕ) → drop 1 (in_front a xs) ≡ xs
 other_parts zero [] = refl
@@ -91,7 +92,7 @@ inside_same xs before k (a ∷ ns) =
     ap (λ p. map (λ kind. (k, 0, kind)) (when (nat_lt p a) shape) ++ offences_after (inside_rule (without_last_zeros xs)) (a ∷ before) (k + 1) ns) (part_same xs (length before))
     ∙ ap (λ os. map (λ kind. (k, 0, kind)) (when (nat_lt (part xs (length before + 1)) a) shape) ++ os) (inside_same xs (a ∷ before) (k + 1) ns)
 
--- ---- the errors of the shapes come before those of the tableau
+-- ---- the errors of the partitions come before those of the tableau
 
 some_before : (found fills later : List Offence) (o : Offence) → first_offence found ≡ Some o → ((q : Offence) → Among q fills → o.0 < q.0)
     → first_offence (found ++ fills ++ judged_against found later) ≡ Some o
@@ -113,7 +114,7 @@ before_both k xs ys p a b m = by (Among_from_append p xs ys m)
     by (inl h) = a h
     by (inr h) = b h
 
--- the errors of the inner shape, for an outer one without an error
+-- the errors of the inner partition, which begins at word k, if the outer one has the parts `parts` and no error
 abbrev pub inner_alone : ℕ → List ℕ → Words → List Offence
 inner_alone k parts inner = part_offences k (numbers inner) ++ offences_by (inside_rule parts) k (numbers inner)
 
@@ -177,7 +178,7 @@ neither_first outer inner rows parts e n h =
     ∙ ap (λ os. first_offence (fills ++ os)) (sym (none_judged (outers ++ inners) later none))
     ∙ ap (λ os. first_offence ((os ++ fills) ++ judged_against (outers ++ inners) later)) (sym (first_none (outers ++ inners) none))
 
--- ---- the reading of the words of `rect` is judged by its two shapes and its tableau
+-- ---- a correct result for the two partitions and the tableau is a correct result of reading the words of `rect`
 
 pub skew_read : (words outer inner : Words) (rows : List Words) (r : Result Read WordsFault) → AreSkewWords outer inner rows words
     → IsJudged (StandsFor (rect (partition outer) (partition inner) (rows_in (partition outer) (map numbers rows)))) (first_offence (all_skew_offences outer inner rows)) r
@@ -205,4 +206,4 @@ pub skew_read_rows : {A : Type 0} (f : A → Words) (words outer inner : Words) 
 skew_read_rows f words outer inner xs r t j =
     skew_read words outer inner (map f xs) r t
     (subst (λ ns. IsJudged (StandsFor (rect (partition outer) (partition inner) (rows_in (partition outer) ns))) (first_offence (all_skew_offences outer inner (map f xs))) r)
-    (sym (map_twice f numbers xs)) j)
+    (sym (map-map numbers f xs)) j)

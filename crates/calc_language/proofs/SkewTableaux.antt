@@ -1,4 +1,4 @@
--- Rows of a skew shape that have no error are a tableau of this shape.
+-- If rows have no error for a skew shape, they are a tableau of this shape.
 use Rattle.std.proofs.Common.{◌≡◌, ℕ, zero, suc, ◌+◌, ◌-◌, ◌<◌, ◌≤◌, nat_lt, true, List, [], ◌∷◌, ◌++◌, map, length, get_or, refl, sym, ap, ◌∙◌, subst, arith, None}
 use Rattle.std.proofs.lemmas.Bool.{ltb-false}
 use Rattle.sym_model.specs.Partition.{part, IsPartition, without_last_zeros}
@@ -18,17 +18,18 @@ use Rattle.calc_language.specs.SkewWords.{skew_offences}
 use Rattle.calc_language.proofs.FaultlessRows.{faultless_letters, faultless_order, faultless_lengths}
 use Rattle.calc_language.proofs.PairJudging.{left_shape_of, number_lengths}
 use Rattle.calc_language.proofs.SkewJudging.{asked_shape, asked_some}
-use Rattle.word_laws.proofs.NoOffences.{none_append, none_next, not_when}
+use Rattle.word_laws.proofs.NoOffences.{none_append, none_next}
 use Rattle.strip_laws.proofs.Containment.{contains_from_places}
+use Rattle.sym_model.proofs.Lists.{none_chosen}
 
--- ---- an inner shape whose numbers do not exceed the outer parts
+-- ---- an inner partition whose numbers do not exceed the outer parts
 
 none_inside : (outer before : List ℕ) (k : ℕ) (ns : List ℕ) → offences_after (inside_rule outer) before k ns ≡ []
     → (j : ℕ) → get_or ns j 0 ≤ get_or outer (length before + j) 0
 none_inside outer before k [] h j = omega arith
 none_inside outer before k (a ∷ ns) h zero =
     let n = none_next (inside_rule outer) before k a ns h in
-    let l = ltb-false (part outer (length before + 1)) a (not_when (nat_lt (part outer (length before + 1)) a) shape n.0) in
+    let l = ltb-false (part outer (length before + 1)) a (none_chosen (nat_lt (part outer (length before + 1)) a) shape n.0) in
     let z : get_or outer (length before + 1 - 1) 0 ≡ get_or outer (length before + 0) 0 = (let y : length before + 1 - 1 ≡ length before + 0 = omega arith in ap (λ i. get_or outer i 0) y) in
     omega (arith, l, z)
 none_inside outer before k (a ∷ ns) h (suc j) =

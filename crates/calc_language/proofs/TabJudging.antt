@@ -1,6 +1,5 @@
--- The first error of two shapes and a tableau after `-from`.
+-- The first error of the words of `tab`: two partitions and, if it is given, a tableau after `-from`.
 use Rattle.std.proofs.Common.{◌≡◌, ℕ, ◌+◌, ◌<◌, ◌≤◌, nat_lt, ◌==◌, min, Bool, true, false, cond, ◌⊎◌, inl, inr, List, [], ◌∷◌, ◌++◌, map, length, refl, sym, ap, ap₂, ◌∙◌, subst, arith, append_assoc, Option, Some, None, Result, Ok}
-use Rattle.std.proofs.lemmas.Bool.{eqb-false}
 use Rattle.std.proofs.lemmas.Bool.Decides.{nat_tests}
 use Rattle.std.proofs.lemmas.List.{length-map}
 use Rattle.sym_model.specs.Sum.{Among}
@@ -29,9 +28,10 @@ use Rattle.calc_words.specs.declared.command.Command.{Command as Read}
 use Rattle.calc_words.specs.declared.command.Command.TheVariants.{Tab}
 use Rattle.calc_words.proofs.Commands.{read_judged, judged_err}
 use Rattle.calc_words.proofs.FirstOffences.{AllBefore, first-append, within}
-use Rattle.calc_language.proofs.PairJudging.{entries_after, map_twice}
+use Rattle.calc_language.proofs.PairJudging.{entries_after}
 use Rattle.calc_language.proofs.WrittenTableaux.{rows_placed, rows_entered}
 use Rattle.sym_model.specs.Bounded.{AreLetters as AreWithin}
+use Rattle.std.proofs.lemmas.Simd.{map-map}
 
 -- ---- a number from 1 to n, for n ≤ 512, has no error as an entry
 
@@ -52,7 +52,7 @@ rows_none n k [] f h = refl
 rows_none n k (w ∷ ws) f h =
     ap₂ (λ xs ys. xs ++ ys) (row_none n [] k (numbers w) f h.0) (rows_none n (k + length (row_text w) + 1) ws f h.1)
 
--- ---- replacing greater entries by 65,535 does not change which rows are a lattice tableau
+-- ---- replacing each entry over 65,535 by 65,535 does not change whether rows are a lattice tableau
 
 abbrev capped : List (List ℕ) → List (List ℕ)
 capped rows = map (map at_most_entry) rows
@@ -84,8 +84,8 @@ rows_in_capped [] ([] ∷ []) = refl
 rows_in_capped [] ([] ∷ row ∷ rows) = refl
 rows_in_capped [] ((a ∷ row) ∷ rows) = refl
 
--- the rows with entries capped at the greatest entry are a lattice tableau of outer/inner if and only if the rows
--- themselves are
+-- let outer be weakly decreasing, with at most 512 parts: the rows with each entry over 65,535 replaced by 65,535 are a lattice tableau of
+-- outer/inner if and only if the rows unchanged are one
 capped_listed : (outer inner : List ℕ) (rows : List (List ℕ)) → Falls outer → length outer ≤ 512
     → is_lattice_tableau outer inner (capped rows) ≡ is_lattice_tableau outer inner rows
 capped_listed outer inner rows f n =
@@ -97,8 +97,8 @@ capped_each : {A : Type 0} (f : A → Words) (xs : List A) → map (λ r. map at
 capped_each f [] = refl
 capped_each f (x ∷ xs) = ap (λ rs. map at_most_entry (numbers (f x)) ∷ rs) (capped_each f xs)
 
--- the rows that were read, with each entry over 65,535 replaced by 65,535, are a lattice tableau of outer/inner if and
--- only if the written rows are
+-- let outer be weakly decreasing, with at most 512 parts: the rows that were read, with each entry over 65,535 replaced by 65,535, are a lattice
+-- tableau of outer/inner if and only if the written rows are one
 pub read_listed : {A : Type 0} (f : A → Words) (outer inner : List ℕ) (xs : List A) (read : List (List ℕ)) → Falls outer → length outer ≤ 512
     → read ≡ rows_in outer (map (λ r. map at_most_entry (numbers (f r))) xs)
     → is_lattice_tableau outer inner read ≡ is_lattice_tableau outer inner (rows_in outer (map (λ r. numbers (f r)) xs))
@@ -117,17 +117,13 @@ read_same f outer inner xs read h n e l =
     ∙ rows_kept (length outer) (rows_in outer (map (λ r. numbers (f r)) xs)) n
     (rows_within outer inner (capped (rows_in outer (map (λ r. numbers (f r)) xs))) h (ap (is_lattice_tableau outer inner) (sym is) ∙ l))
 
--- ---- the tableau after `-from` is a lattice tableau or not
+-- ---- the test whether the rows after `-from` are a lattice tableau
 
-pub some_rows : {A : Type 0} (xs : List A) → (length xs == 0) ≡ false → 0 < length xs
-some_rows [] h = absurd (let e = eqb-false 0 0 h in omega (arith, e))
-some_rows (x ∷ xs) h = omega arith
-
--- the command c lists the tableaux of outer/inner: all, or those after the column reading `after`
+-- c is the command `tab` of outer/inner, which lists all lattice tableaux, or those after the one with the column reading `after`
 abbrev pub IsTab : List ℕ → List ℕ → Option (List ℕ) → Read → Type 0
 IsTab outer inner after c = c ≡ Tab outer inner after
 
--- if the rows are no lattice tableau of outer/inner, the error is at the word `-from`, word k
+-- if there are rows and they are no lattice tableau of outer/inner, the fault of shape at word k, the word `-from`, is their first error
 pub unlisted_last : {A : Type 0} (f : A → Words) (k : ℕ) (outer inner : List ℕ) (xs : List A) (fault : WordsFault) → 0 < length xs
     → is_lattice_tableau outer inner (rows_in outer (map (λ r. numbers (f r)) xs)) ≡ false → fault ≡ fault_of k Misshapen
     → IsFirst (first_offence (from_offences k outer inner (map f xs))) fault
@@ -135,7 +131,7 @@ unlisted_last f k outer inner [] fault l n e = absurd (omega (arith, l))
 unlisted_last f k outer inner (x ∷ xs) fault l n e =
     let entries = row_offences entry_rule (rows_at (k + 1) (map f (x ∷ xs))) in
     subst (λ y. IsFirst (first_offence (from_offences k outer inner (map f (x ∷ xs)))) y) (sym e)
-    (ap (λ rs. first_offence (cond (is_lattice_tableau outer inner (rows_in outer rs)) [] ((k, 0, shape) ∷ []) ++ row_offences entry_rule (rows_at (k + 1) (map f (x ∷ xs))))) (map_twice f numbers (x ∷ xs))
+    (ap (λ rs. first_offence (cond (is_lattice_tableau outer inner (rows_in outer rs)) [] ((k, 0, shape) ∷ []) ++ row_offences entry_rule (rows_at (k + 1) (map f (x ∷ xs))))) (map-map numbers f (x ∷ xs))
     ∙ ap (λ b. first_offence (cond b [] ((k, 0, shape) ∷ []) ++ row_offences entry_rule (rows_at (k + 1) (map f (x ∷ xs))))) n
     ∙ first-append ((k, 0, shape) ∷ []) entries (k, 0, shape) refl (λ p q m a. before p q m (entries_after (k + 1) (map f (x ∷ xs)) q a)))
   where
@@ -143,7 +139,7 @@ unlisted_last f k outer inner (x ∷ xs) fault l n e =
     before p q (inl m) h = let z = ap (λ (o : Offence). o.0) m in omega (arith, z, h)
     before p q (inr m) h = absurd m
 
--- if the rows are a lattice tableau of outer/inner, the command with its column reading is the right result
+-- if there are rows and they are a lattice tableau of outer/inner, the command `tab` with their column reading is a correct result
 pub listed_last : {A : Type 0} (f : A → Words) (k : ℕ) (outer inner : List ℕ) (xs : List A) (s : Read) → 0 < length xs → Falls outer → length outer ≤ 512
     → is_lattice_tableau outer inner (rows_in outer (map (λ r. numbers (f r)) xs)) ≡ true
     → IsTab outer inner (Some (column_reading outer inner (rows_in outer (map (λ r. numbers (f r)) xs)))) s
@@ -160,13 +156,13 @@ listed_last f k outer inner (x ∷ xs) s l h n t a = (a, first)
 
     first : first_offence (from_offences k outer inner (map f (x ∷ xs))) ≡ None
     first =
-        let twice = map_twice f numbers (x ∷ xs) in
+        let twice = map-map numbers f (x ∷ xs) in
         let all = ap (λ rs. is_lattice_tableau outer inner (rows_in outer rs)) twice ∙ t in
         ap₂ (λ (b : Bool) os. first_offence (cond b [] ((k, 0, shape) ∷ []) ++ os)) all
         (rows_none (length outer) (k + 1) (map f (x ∷ xs)) n
         (whole outer (map f (x ∷ xs)) (rows_within outer inner (rows_in outer (map numbers (map f (x ∷ xs)))) h all)))
 
--- ---- the errors of the shapes come before that of the tableau
+-- ---- the errors of the partitions come before that of the tableau
 
 after_shapes : (outer inner : Words) (rows : List Words)
     → AllBefore (two_partitions 1 outer inner)
@@ -207,7 +203,7 @@ after_shapes outer inner rows p q m n =
     later (inl a) = from_judged (two_partitions 1 outer inner) a
     later (inr a) = let z = entries_after (2 + length outer + length inner + 1) rows q a in omega (arith, z)
 
--- if the shapes have an error, the first one is the first error of all words
+-- if the two partitions have an error, a fault that is their first error is the first error of all words
 pub shapes_faulty : (outer inner : Words) (rows : List Words) (fault : WordsFault)
     → IsFirst (first_offence (two_partitions 1 outer inner)) fault → IsFirst (first_offence (all_tab_offences outer inner rows)) fault
 shapes_faulty outer inner rows fault h =
@@ -218,14 +214,14 @@ shapes_faulty outer inner rows fault h =
     subst (λ os. IsFirst (first_offence os) fault) (sym (append_assoc lists judged fills))
     (judged_err lists (judged ++ fills) fault (after_shapes outer inner rows) h)
 
--- ---- the reading of the words of `tab` is judged by its two shapes and its rows
+-- ---- a correct result for the two partitions and the rows is a correct result of reading the words of `tab`
 
 abbrev IsTabJudged : Words → Words → List Words → Result Read WordsFault → Type 0
 IsTabJudged outer inner rows r =
     IsJudged (IsTab (partition outer) (partition inner) (last_of (partition outer) (partition inner) (map numbers rows)))
     (first_offence (all_tab_offences outer inner rows)) r
 
--- the column reading of the tableau after `-from` is that of its rows
+-- the column reading of the tableau after `-from` is that of its rows of number words
 tab_said : (P Q : List ℕ) (x : Written (optional from_words)) → last_reading P Q x ≡ last_of P Q (map numbers (from_rows x))
 tab_said P Q (inl x) = refl
 tab_said P Q (inr x) = ap (λ ns. Some (column_reading P Q (rows_in P ns))) (rows_entered x.1)
@@ -261,4 +257,4 @@ tab_read_rows f words outer inner xs r t j =
     tab_read words outer inner (map f xs) r t
     (subst
     (λ ns. IsJudged (IsTab (partition outer) (partition inner) (last_of (partition outer) (partition inner) ns)) (first_offence (all_tab_offences outer inner (map f xs))) r)
-    (sym (map_twice f numbers xs)) j)
+    (sym (map-map numbers f xs)) j)

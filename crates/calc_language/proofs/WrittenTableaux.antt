@@ -1,4 +1,4 @@
--- The rows of a tableau as it is written: their places and their numbers.
+-- The rows of a written tableau: the words at which they begin, and their numbers.
 use Rattle.std.proofs.Common.{◌≡◌, ℕ, ◌+◌, List, [], ◌∷◌, map, length, refl, ap, ◌∙◌, inl, inr}
 use Rattle.std.specs.Prelude.{codes}
 use Rattle.sym_model.specs.Form.{Written, sequence, words_of}

@@ -1,12 +1,12 @@
--- The commands that are read, on the command line and in a line of a batch.
+-- The commands of the command line, and those of a line of a batch.
 use Rattle.std.specs.Prelude.{List}
 use Rattle.sym_model.specs.Entry.{Entry}
 use Rattle.sym_model.specs.Grammar.{entries_of, line_entries, all_bases}
 
--- the commands of the command line
+-- the entries of the commands of the command line
 abbrev pub command_entries : List Entry
 command_entries = entries_of all_bases
 
--- the commands of a line of a batch
+-- the entries of the commands of a line of a batch
 abbrev pub batch_entries : List Entry
 batch_entries = line_entries all_bases

@@ -1,4 +1,4 @@
--- Errors as they are found, and the tests of a number at its place in a row.
+-- The errors that the program finds, and the tests of a number at its place in a row of a tableau.
 use Rattle.std.specs.Prelude.{ℕ, ◌+◌, ◌-◌, min, Bool, true, false, ◌||◌, cond, List, [], ◌∷◌, ◌++◌, length}
 use Rattle.std.specs.Prelude.{drop, reverse, slice_index_or, slice_set, Option, Some, None, Result, Ok, Err}
 use Rattle.sym_model.specs.Partition.{part}
@@ -9,48 +9,49 @@ use Rattle.expression_reading.specs.declared.offence.Kind.{Kind}
 use Rattle.expression_reading.specs.declared.offence.Kind.TheVariants.{Literal}
 use Rattle.calc_words.specs.PartRules.{range_or_shape}
 
--- the error of shape at the word, if one was found
+-- an error of shape at byte 0 of the word, if a word is given
 abbrev pub found_of : Option ℕ → Option Offence
 found_of None = None
 found_of (Some word) = Some (word, 0, shape)
 
--- the kind of a number with the tests x (over 2^127 - 1), y (outside a limit) and z (wrong shape)
+-- the kind of the error of a number: `Literal` if x (it is over 2^127 - 1), otherwise `Range` if y (it is outside a limit), otherwise `Shape` if z
+-- (it is out of order or its row too long), otherwise no error
 abbrev pub kind_by : Bool → Bool → Bool → Option Kind
 kind_by x y z = cond x (Some Literal) (range_or_shape y z)
 
--- the number, unless an error of it is given
+-- the number a, or the error of the given kind, if a kind is given
 abbrev pub entry_or : ℕ → Option Kind → Result ℕ Kind
 entry_or a None = Ok a
 entry_or a (Some kind) = Err kind
 
--- the flags after the flag of each number of the list is set
+-- the flags, with the flag at the index a set for each number a of the list
 abbrev pub marked : List ℕ → List Bool → List Bool
 marked [] flags = flags
 marked (a ∷ ns) flags = slice_set (marked ns flags) a true
 
--- whether there are flags, and the flag of the number is missing or set
+-- whether there are flags, and the flag at index a is missing or set
 abbrev pub is_taken : List Bool → ℕ → Bool
 is_taken [] a = false
 is_taken (f ∷ flags) a = slice_index_or (f ∷ flags) a true
 
--- whether a number of a row that begins at column d, after the entries `before` of that row and below a row that begins at
--- column c, is out of order, or its flag is set once those of `before` are
+-- A row of a tableau begins at column d with the entries `before`, below the row `upper`, which begins at column c. Whether the number a cannot be
+-- its next entry: a is out of order (`is_disordered`), or there are flags and, once the flags of `before` are set, the flag of a is set or missing.
 abbrev pub is_no_entry : ℕ → List ℕ → ℕ → List Bool → List ℕ → ℕ → Bool
 is_no_entry c upper d flags before a =
     is_disordered c upper d before a || is_taken (marked before flags) a
 
--- the last row, or no number if there is no row
+-- the last of the rows, or the empty list if there is no row
 abbrev pub last_row : List (List ℕ) → List ℕ
 last_row rows = slice_index_or rows (length rows - 1) []
 
--- the count, if one is given, after the numbers `ns` are counted, too
+-- the count, if one is given, plus the length of ns
 abbrev pub counted_on : Option ℕ → List ℕ → Option ℕ
 counted_on None ns = None
 counted_on (Some count) ns = Some (count + length ns)
 
--- the errors of the rows of a tableau, which begin at the columns `inner`, below a row of the numbers `upper` that begins
--- at column c. If entries are counted, `count` were counted before; the first row has at most `most` numbers, if that is
--- given, and if `straight`, no row is longer than the one above it; no number may have its flag set.
+-- The errors of the rows of a tableau that follow its row `upper`; that row begins at column c, and these rows begin at the columns `inner`. If
+-- `count` is given, entries are counted, and `count` precede these rows; if `most` is given, the first of these rows has at most `most` numbers; if
+-- `straight`, no later row is longer than the one above it; and if there are flags, no entry may have its flag set or missing.
 abbrev pub judged : Bool → Option ℕ → Option ℕ → ℕ → List ℕ → List ℕ → List Bool → List PlacedRow → List Offence
 judged straight count most c upper inner flags [] = []
 judged straight count most c upper inner flags (row ∷ rows) =

@@ -1,4 +1,4 @@
--- The reading of a line of a batch.
+-- Correct results of reading a line of a batch.
 use Rattle.std.specs.Prelude.{◌≡◌, Option, Some, None, Result, Ok, Err}
 use Rattle.sym_model.specs.BatchLine.{BatchLine, too_long, passed_over, spoken, too_long_offence}
 use Rattle.sym_model.specs.Command.{Command as PlainCommand}
@@ -11,8 +11,8 @@ use Rattle.calc_words.specs.Commands.{IsSound}
 use Rattle.calc_words.specs.declared.command.Command.{Command}
 use Rattle.calc_language.specs.Reading.{command_of, IsWithinItsLimits}
 
--- A line that is too long is refused with its error, one that is skipped gives no command, and the words of any other
--- line are read as a command of a line. Nothing is required if memory runs out.
+-- the result of reading a line is correct: the error of a line that is too long, no command for a line that is skipped, and otherwise a correct
+-- result of reading its words as a command of a line; nothing is required if memory runs out
 abbrev pub IsLineRead : BatchLine → Result (Option Command) WordsFault → Type 0
 IsLineRead too_long (Ok answer) = ⊥
 IsLineRead too_long (Err NoMemory) = Unit {0}
@@ -26,18 +26,18 @@ IsLineRead (spoken words) (Ok (Some command)) =
     SpellsWithoutOffence batch_entries words (command_of command) × IsSound command
 IsLineRead (spoken words) (Err fault) = IsRefusal batch_entries words fault
 
--- the command of a line, if there is one, is within the limits of words
+-- the command of a line, if there is one, is within its limits (`KeepsLimits`)
 abbrev pub KeepsItsLimits : Option Command → Type 0
 KeepsItsLimits None = Unit {0}
 KeepsItsLimits (Some command) = IsWithinItsLimits command
 
--- no command is read, unless memory runs out
+-- the result is no command, unless memory runs out
 abbrev pub IsPassedOver : Result (Option Command) WordsFault → Type 0
 IsPassedOver (Ok None) = Unit {0}
 IsPassedOver (Ok (Some command)) = ⊥
 IsPassedOver (Err fault) = fault ≡ NoMemory
 
--- the command is accepted, unless memory runs out
+-- the result is a command that stands for c, unless memory runs out
 abbrev pub AcceptsInLine : PlainCommand → Result (Option Command) WordsFault → Type 0
 AcceptsInLine c (Ok None) = ⊥
 AcceptsInLine c (Ok (Some command)) = command_of command ≡ c

@@ -1,4 +1,4 @@
--- The errors of two tableaux that are a pair, by their rows.
+-- The errors of the two tableaux of `unrsk`, from their rows.
 use Rattle.std.specs.Prelude.{ℕ, ◌+◌, List, [], ◌++◌, map, length}
 use Rattle.sym_model.specs.Partition.{size}
 use Rattle.sym_model.specs.CommandOffence.{Offence, PlacedRow, judged_against, standard_offences}
@@ -7,8 +7,8 @@ use Rattle.sym_model.specs.Grammar.{insertion_offences, filled_offences}
 use Rattle.sym_model.specs.WordForms.{numbers, shape_offences}
 use Rattle.word_laws.specs.WrittenRows.{rows_text, rows_at}
 
--- the errors from the rows of the first tableau and their entries, and from the words and rows of the second, which
--- begin at word k
+-- the errors of the two tableaux of `unrsk`, from the rows `first` of the first tableau and their numbers nss, and from the words and the rows of the
+-- second tableau, which begins at word k
 abbrev pub offences_of_pair : List PlacedRow → List (List ℕ) → ℕ → List (List ℕ) → List PlacedRow
     → List Offence
 offences_of_pair first nss k words second =
@@ -18,7 +18,7 @@ offences_of_pair first nss k words second =
     (shape_offences k (map length (rows_in [] nss)) words
     ++ standard_offences (size (map length (rows_in [] nss))) [] [] second)
 
--- the errors of two tableaux, given the number words of their rows; the first tableau begins at the second word
+-- the errors of the two tableaux of `unrsk` with these rows of number words; the first tableau begins at the second word
 abbrev pub pair_offences : List (List (List ℕ)) → List (List (List ℕ)) → List Offence
 pair_offences first second =
     let k = 2 + length (rows_text first) in

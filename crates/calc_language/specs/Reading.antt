@@ -1,4 +1,4 @@
--- The reading of the words of a command.
+-- Correct results of reading the words of a command.
 use Rattle.std.specs.Prelude.{◌≡◌, ℕ, cond, List, [], ◌∷◌, Option, Some, None, Result, Err}
 use Rattle.sym_model.specs.Entry.{Entry}
 use Rattle.sym_model.specs.Polynomial.{same}
@@ -18,27 +18,27 @@ use Rattle.calc_words.specs.declared.command.Command.{Command}
 pub use Rattle.calc_words.specs.Commands.{command_of}
 pub use Rattle.calc_words.specs.Reading.{IsFaultOf, Accepts, Refuses, GoesWrong}
 
--- the first entry of this name
+-- the first entry of the list that has this name
 abbrev pub entry_named : List ℕ → List Entry → Option Entry
 entry_named name [] = None
 entry_named name (e ∷ entries) = cond (same name e.name) (Some e) (entry_named name entries)
 
--- the words are read as those of the entry, if there is one, and otherwise first fail at the first word
+-- the result of reading the words is correct for the entry, if there is one; without an entry, it is the refusal with an error of syntax at byte 0 of
+-- word 0
 abbrev pub IsReadAs : Option Entry → List (List ℕ) → Result Command WordsFault → Type 0
 IsReadAs None words result = result ≡ Err (Syntax (record { word = 0; byte = 0 }))
 IsReadAs (Some e) words result = IsReadBy (e ∷ []) words result
 
--- the command is within the limits of words
+-- the command is within its limits (`KeepsLimits`)
 abbrev pub IsWithinItsLimits : Command → Type 0
 IsWithinItsLimits command = KeepsLimits (command_of command)
 
--- If the result is a command, the words spell it without error, and it is sound; if it is an
--- error, that is their first error or the place where they first fail. Nothing is required if
--- memory runs out.
+-- the result of reading the words as a command of the command line is correct: a sound command (`IsSound`) that they spell without an error, their
+-- first error, or the place of their first error of syntax; nothing is required if memory runs out
 abbrev pub IsRead : List (List ℕ) → Result Command WordsFault → Type 0
 IsRead words result = IsReadBy command_entries words result
 
--- the refusal of the expression at word `word`
+-- the refusal of a command whose word `word` is an expression with this fault
 abbrev pub placed : ℕ → ExpressionFault → WordsFault
 placed word (Wrong byte) = Syntax (record { word = word; byte = byte })
 placed word (Wide byte) = Literal (record { word = word; byte = byte })

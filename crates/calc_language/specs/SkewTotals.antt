@@ -1,4 +1,4 @@
--- The errors of two shapes and a tableau, by their words.
+-- The errors of the words of `rect`: two partitions and a tableau.
 use Rattle.std.specs.Prelude.{ℕ, ◌+◌, List, [], ◌++◌, length}
 use Rattle.sym_model.specs.Schur.{row_lengths}
 use Rattle.sym_model.specs.CommandOffence.{Offence, PlacedRow, part_offences, judged_against}
@@ -7,7 +7,8 @@ use Rattle.sym_model.specs.Grammar.{inner_offences}
 use Rattle.sym_model.specs.WordForms.{numbers, partition, shape_offences}
 use Rattle.word_laws.specs.WrittenRows.{rows_text, rows_at}
 
--- the errors from the words of the shapes, and from the words and rows of the tableau, which begin at word k
+-- the errors of the words of `rect`, from the number words of the two partitions, and from the words and the rows of the tableau, which begins at
+-- word k
 abbrev pub offences_of_skew : List (List ℕ) → List (List ℕ) → ℕ → List (List ℕ) → List PlacedRow
     → List Offence
 offences_of_skew outer inner k words rows =
@@ -19,7 +20,7 @@ offences_of_skew outer inner k words rows =
     (shape_offences k (row_lengths (partition outer) (partition inner)) words
     ++ order_offences 0 [] (numbers inner) rows)
 
--- the errors from the number words of the shapes and rows; the first shape begins at the second word
+-- the errors of the words of `rect` with these number words of the two partitions and of the rows; the outer partition begins at the second word
 abbrev pub all_skew_offences : List (List ℕ) → List (List ℕ) → List (List (List ℕ)) → List Offence
 all_skew_offences outer inner rows =
     let k = 3 + length outer + length inner in

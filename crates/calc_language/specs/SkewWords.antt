@@ -1,4 +1,4 @@
--- Two shapes and a tableau among the words of a command.
+-- The words of `rect`: two partitions and a tableau.
 use Rattle.std.specs.Prelude.{◌≡◌, ℕ, ◌<◌, List, [], ◌∷◌, ◌++◌, length, codes}
 use Rattle.sym_model.specs.CommandOffence.{Offence, row_offences, entry_rule, order_offences}
 use Rattle.sym_model.specs.Form.{EachOf, Has}
@@ -8,8 +8,7 @@ use Rattle.sym_model.specs.WordForms.{shape_offences}
 use Rattle.word_laws.specs.WrittenRows.{rows_text, rows_at, written_rows}
 use Rattle.calc_words.specs.NumberRuns.{IsNumber}
 
--- the words are `rect` and two lists of numbers with `/` between them and, after `-`,
--- a tableau of these rows
+-- the words are `rect`, the number words `outer` and `inner` with `/` between them and, after `-`, a tableau with these rows of number words
 pub record AreSkewWords (outer inner : List (List ℕ)) (rows : List (List (List ℕ)))
     (words : List (List ℕ)) : Type 0 where
   pub has : Has rect_words words
@@ -21,7 +20,7 @@ pub record AreSkewWords (outer inner : List (List ℕ)) (rows : List (List (List
   pub rows_some : 0 < length rows
   pub rows_numbers : EachOf (EachOf IsNumber) rows
 
--- the errors of the rows of a tableau of shape outer/inner, the first of which begins at word k
+-- the errors of a tableau of shape outer/inner with these rows of number words, the first of which begins at word k
 abbrev pub skew_offences : ℕ → List ℕ → List ℕ → List (List (List ℕ)) → List Offence
 skew_offences k outer inner rows =
     row_offences entry_rule (rows_at k rows)

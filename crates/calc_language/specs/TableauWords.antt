@@ -1,11 +1,11 @@
--- The rows of a tableau among the words of a command.
+-- The words of `unrsk`: two tableaux.
 use Rattle.std.specs.Prelude.{◌≡◌, ℕ, ◌<◌, List, ◌∷◌, ◌++◌, length, codes}
 use Rattle.sym_model.specs.Form.{EachOf, Has}
 use Rattle.sym_model.specs.Grammar.{unrsk_words}
 use Rattle.word_laws.specs.WrittenRows.{rows_text, written_rows}
 use Rattle.calc_words.specs.NumberRuns.{IsNumber}
 
--- the words are `unrsk` and two tableaux of these rows with `-` between them
+-- the words are `unrsk` and two tableaux with these rows of number words, with `-` between them
 pub record AreTwoTableaux (first second : List (List (List ℕ)))
     (words : List (List ℕ)) : Type 0 where
   pub has : Has unrsk_words words

@@ -1,4 +1,4 @@
-//! The words of the command that their first word names.
+//! Reading of words as those of the command with a given name.
 ghost use Rattle.std.specs.Prelude.{map, string_bytes};
 ghost use Rattle.calc_language.specs.BuiltCommands.{command_entries};
 ghost use Rattle.calc_language.specs.Reading.{IsReadAs, entry_named};
@@ -19,8 +19,8 @@ use calc_words::reductions::{read_fusion, read_quantum};
 use calc_words::syntax;
 use std::alloc::Global;
 
-/// Reads the words as those of the command of this name; if there is no such command, they first
-/// fail at the first word.
+/// Reads the words as those of the command of this name; if there is no such command, refuses them
+/// with an error of syntax at byte 0 of the first word.
 pub(crate) fn by_name(alloc: Global, name: &str, words: &[String]) -> Result<Command, WordsFault>
     ensures { IsReadAs (entry_named name.now command_entries) (map string_bytes words.now) result }
 {

@@ -1,4 +1,5 @@
-//! The numbers of a row of a tableau, each read once and judged at its place.
+//! Reads the numbers of a row of a tableau, each once, and tests whether each is allowed at its
+//! place.
 ghost use Rattle.std.specs.Prelude.{◌≡◌, ◌<◌, ◌≤◌, ◌+◌, ◌-◌, ◌^◌, ◌||◌, ℕ, map, length, IfOk};
 ghost use Rattle.std.specs.Prelude.{string_bytes, reverse, slice_get, slice_set, true};
 ghost use Rattle.sym_model.specs.CommandOffence.{first_offence, offences_by, is_outside};
@@ -15,13 +16,15 @@ use calc_base::WordsFault;
 use calc_words::{Kind, refused as offence, value_of};
 use std::alloc::Global;
 
-/// The greatest entry, and the greatest number of entries of a tableau whose entries are counted.
+/// Entries of tableaux are at most 65,535; if entries are counted, a tableau has at most 256
+/// entries.
 const GREATEST_ENTRY: u128 = 65_535;
 
 const MOST_ENTRIES: usize = 256;
 
-/// The number of entries in the rows before, if entries are counted; the greatest length of the
-/// row, if that is bounded; and whether the length of each row bounds that of the next one.
+/// The bounds for a row: `counted` is the number of entries in the rows before this row, if entries
+/// are counted; `most` is the greatest length of the row, if its length is bounded; `is_straight`
+/// says whether each later row must be at most as long as the row above it.
 #[derive(Clone, Copy, Debug)]
 pub(crate) struct Bounds {
     pub(crate) counted: Option<usize>,
@@ -29,15 +32,15 @@ pub(crate) struct Bounds {
     pub(crate) is_straight: bool,
 }
 
-/// The columns at which the row above and a row begin, counted from 0.
+/// The columns, counted from 0, at which a row (`here`) and the row above it (`above`) begin.
 #[derive(Clone, Copy, Debug)]
 pub(crate) struct Columns {
     pub(crate) above: usize,
     pub(crate) here: usize,
 }
 
-/// Whether entries are counted, and the number after `place` entries of its row is the 257th of the
-/// tableau.
+/// Whether the number after `place` entries of its row is the 257th of the tableau, with `counted`
+/// entries in the rows before; false if entries are not counted.
 fn is_past_the_most(counted: Option<usize>, place: usize) -> bool
     ensures { result ≡ is_too_much counted place }
 {
@@ -47,7 +50,8 @@ fn is_past_the_most(counted: Option<usize>, place: usize) -> bool
     }
 }
 
-/// Whether the number after `place` entries of its row makes the row too long.
+/// Whether a row with a number after `place` entries is longer than `most`; false if `most` is not
+/// given.
 fn makes_too_long(most: Option<usize>, place: usize) -> bool
     ensures { result ≡ is_too_long most place }
 {
@@ -57,7 +61,7 @@ fn makes_too_long(most: Option<usize>, place: usize) -> bool
     }
 }
 
-/// Whether there is a number at this place that is at least `value`.
+/// Whether there is a number at index `place`, and it is at least `value`.
 fn is_not_greater(numbers: &[u16], place: usize, value: u128) -> bool
     ensures { result ≡ stays (slice_get numbers.now place) value }
 {
@@ -67,7 +71,7 @@ fn is_not_greater(numbers: &[u16], place: usize, value: u128) -> bool
     }
 }
 
-/// Whether a value is smaller than the last of the numbers, if there is one.
+/// Whether `value` is smaller than the last of the numbers; false if there are no numbers.
 fn is_smaller(numbers: &[u16], value: u128) -> bool
     ensures { result ≡ falls (slice_get numbers.now (length numbers.now - 1)) value }
 {
@@ -77,16 +81,16 @@ fn is_smaller(numbers: &[u16], value: u128) -> bool
     }
 }
 
-/// Whether a value in a column is not greater than the entry above it, which is in a row that
-/// begins at the column `first`.
+/// Whether the row `above`, which begins at the column `first`, has an entry in the column
+/// `column`, and `value` is not greater than this entry.
 fn is_not_below(above: &[u16], first: usize, column: usize, value: u128) -> bool
     ensures { result ≡ stays (entry_above above.now first column) value }
 {
     column >= first && is_not_greater(above, column - first, value)
 }
 
-/// Whether a value after the entries of its row is smaller than the last of them, or not greater
-/// than the entry above.
+/// Whether `value`, as the next entry after `row`, is smaller than the entry to its left or not
+/// greater than the entry above it in the row `above`, if there are such entries.
 fn is_out_of_order(row: &[u16], above: &[u16], columns: Columns, value: u128) -> bool
     requires { columns.here + length row.now < 2 ^ 64 }
     ensures { result ≡ is_disordered columns.above above.now columns.here (reverse row.now) value }
@@ -94,8 +98,8 @@ fn is_out_of_order(row: &[u16], above: &[u16], columns: Columns, value: u128) ->
     is_smaller(row, value) || is_not_below(above, columns.above, columns.here + row.len(), value)
 }
 
-/// Whether there are flags, which say which entries have occurred, and the flag of the value is
-/// missing or set.
+/// Whether the entry `value` is taken: the flag at index `value` is set or missing. A flag is set
+/// if the entry with its index has occurred. If there are no flags at all, no entry is taken.
 fn is_taken(taken: &[bool], value: u128) -> bool
     requires { value < 2 ^ 64 }
     ensures { result ≡ is_taken_of taken.now value }
@@ -109,7 +113,7 @@ fn is_taken(taken: &[bool], value: u128) -> bool
     }
 }
 
-/// Sets the flag of an entry that has one.
+/// Sets the flag at index `entry`, if there is one.
 fn take(taken: &mut [bool], entry: u16)
     ensures { taken.new ≡ slice_set taken.old entry true }
 {
@@ -118,8 +122,9 @@ fn take(taken: &mut [bool], entry: u16)
     }
 }
 
-/// The entry that is the number after the entries `row`, below the row `above`; or its error. Its
-/// flag must not be set.
+/// The entry with the value `number`, after the entries `row` and below the row `above`; or the
+/// kind of its error. `number` is `None` if the value is over 2^127 - 1. If there are flags, an
+/// entry whose flag is set or missing is an error.
 fn entry_of(
     number: Option<u128>,
     row: &[u16],
@@ -150,8 +155,9 @@ fn entry_of(
     Ok(value as u16)
 }
 
-/// The entries of a row that begins at the word `at`, below the row `above`, or its first error. An
-/// entry must not have its flag set, and sets it.
+/// The entries of a row that begins at the word `at`, below the row `above`, or the first error. If
+/// there are flags, an entry is an error if its flag is set or missing, and its flag is set after
+/// it is read.
 pub(crate) fn read_row(
     alloc: Global,
     at: u64,

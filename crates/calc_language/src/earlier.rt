@@ -9,8 +9,8 @@ ghost use Rattle.calc_words.specs.Reading.{IsFirst};
 use calc_base::{Place, WordsFault};
 use calc_words::{Kind, refused as offence};
 
-/// Whether an error is no later than an error of shape at byte 0 of the word `word`. Among the
-/// errors at one place, those of shape are the last.
+/// Whether an error at the place `at` is no later than an error of shape at byte 0 of the word
+/// `word`. Of the errors at one place, those of shape are the last.
 fn stands_first(at: Place, word: u64) -> bool
     ensures literal { result ≡ is_no_later (at.word, at.byte, literal) (word, 0, shape) }
     ensures range { result ≡ is_no_later (at.word, at.byte, range) (word, 0, shape) }
@@ -19,7 +19,8 @@ fn stands_first(at: Place, word: u64) -> bool
     at.word < word || (at.word == word && at.byte == 0)
 }
 
-/// The refusal of an error or of an error of shape that was found at a word, whichever is earlier.
+/// The refusal with the earlier one of two errors: that of `fault`, and an error of shape at the
+/// word `found`, if one was found.
 pub(crate) fn earlier_refusal(fault: WordsFault, found: Option<u64>) -> WordsFault
     ensures { (first : Option Offence) → IsFirst first fault
         → IsFirst (earlier_of_both first (found_of found)) result }

@@ -1,4 +1,4 @@
-//! The words of `expand`.
+//! Reading of the words of `expand`.
 ghost use Rattle.std.specs.Prelude.{[], ◌∷◌, map, string_bytes};
 ghost use Rattle.sym_model.specs.Grammar.{all_bases, expand_entry};
 ghost use Rattle.calc_words.specs.Reading.{IsRead as IsReadBy};
@@ -10,8 +10,8 @@ use calc_words::{Part, cut_unread, maybe_form_of, piece_at, target_of, text_of};
 use expression_reading::read_expression;
 use std::alloc::Global;
 
-/// Reads the words of `expand`: that word, `-m` for an answer on one line, the letter of a target,
-/// and an expression.
+/// Reads the words of `expand`: that word, optionally `-m` for an answer on one line, the letter of
+/// a target basis, and an expression.
 pub(crate) fn read_expand(alloc: Global, words: &[String]) -> Result<Command, WordsFault>
     ensures { IsReadBy (expand_entry all_bases ∷ []) (map string_bytes words.now) result }
 {

@@ -1,4 +1,4 @@
-//! The words of an inner partition, which must be inside an outer one.
+//! Reading of an inner partition, which must be inside an outer one.
 ghost use Rattle.std.specs.Prelude.{◌≡◌, ◌<◌, ◌+◌, ◌++◌, ◌^◌, nat_lt, true, IfOk};
 ghost use Rattle.std.specs.Prelude.{map, length, string_bytes};
 ghost use Rattle.sym_model.specs.CommandOffence.{first_offence, offences_by, inside_rule};
@@ -17,7 +17,7 @@ use calc_words::{Kind, read_partition, refused as offence, value_of};
 use partitions::Partition;
 use std::alloc::Global;
 
-/// Whether the number is greater than the part at this place, counted from 0.
+/// Whether the number `word` is greater than part `place` of `outer`, counted from 0.
 fn exceeds(outer: &[u16], place: usize, word: &String) -> bool
     ensures { result ≡ nat_lt (part outer.now (place + 1)) (decimal_value (string_bytes word.now)) }
 {
@@ -27,7 +27,8 @@ fn exceeds(outer: &[u16], place: usize, word: &String) -> bool
     }
 }
 
-/// The word of the first number that is greater than the outer part of the same row.
+/// The index of the first word whose number is greater than the part of `outer` in the same row, if
+/// there is such a word; the first of `words` is word `at`, and has the number for row 1.
 fn outside_offence(at: u64, outer: &[u16], words: &[String]) -> Option<u64>
     requires { at + length words.now < 2 ^ 64 }
     ensures { found_of result ≡ first_offence
@@ -41,8 +42,8 @@ fn outside_offence(at: u64, outer: &[u16], words: &[String]) -> Option<u64>
     None
 }
 
-/// Reads words as an inner partition, or returns their first error; the first of them is word
-/// `at` of the command.
+/// Reads words as a partition inside `outer`, or returns the first error; the first of the words is
+/// word `at` of the command.
 pub(crate) fn read_inner(
     alloc: Global,
     at: u64,

@@ -4,13 +4,15 @@
 //!
 //! What is proved:
 //!
-//! `read_words` returns a command, which is sound, if and only if the words are a command of the
-//! grammar without an error, and otherwise the first error with its word and byte; the command is
-//! within the limits of words. `read_line` does the same for a line of a batch.
+//! Unless memory runs out, `read_words` returns a command if and only if the words spell this
+//! command of the grammar without an error; the command is sound and within its limits. If the
+//! words spell a command with an error, `read_words` returns the first error; if they spell no
+//! command, it returns the place of the first error of syntax, that is, a word and a byte.
+//! `read_line` does the same for a line of a batch.
 //!
-//! The words of `tab`, `unrsk` and `rect`, with the rows of tableaux, are read in the same way: an
-//! entry that is out of order is refused at its word, and a tableau after `-from` that is no
-//! lattice tableau of the shape, at the word `-from`.
+//! This is proved also for the words of `unrsk`, `rect` and `tab`, with the rows of tableaux. In
+//! `unrsk` and `rect`, an entry that is out of order is refused at its word; in `tab`, a tableau
+//! after `-from` that is no lattice tableau of the shape is refused at the word `-from`.
 #![tactic(auto)]
 
 mod by_name;

@@ -1,4 +1,4 @@
-//! The reading of a line of a batch.
+//! Reading of a line of a batch.
 ghost use Rattle.std.specs.Prelude.{◌≡◌, ℕ, List, Some, IfOk, map, string_bytes};
 ghost use Rattle.sym_model.specs.BatchLine.{batch_line, too_long, too_long_offence, passed_over};
 ghost use Rattle.sym_model.specs.BatchLine.{spoken};
@@ -17,7 +17,7 @@ use calc_base::{Place, WordsFault};
 use calc_words::{are_passed_over, line_words, syntax, without_return};
 use std::alloc::Global;
 
-/// The most bytes of a line before its line feed.
+/// The greatest number of bytes of a line before its line feed.
 const MOST_BYTES: usize = 4096;
 
 /// Reads a line of a batch without its line feed: its command, or `None` if it has no word or its
@@ -26,7 +26,7 @@ const MOST_BYTES: usize = 4096;
 /// One carriage return at its end is dropped, and words are separated by spaces and tabs. A line of
 /// more than 4,096 bytes, with that carriage return, is refused as `Range` at byte 4,096 of word 0.
 /// The words of any other line are read as by `read_words`, except that `batch` and `work` are no
-/// commands of a line. `read_words` reads them.
+/// commands of a line.
 pub fn read_line(alloc: Global, line: &[u8]) -> Result<Option<Command>, WordsFault>
     ensures read { IsLineRead (batch_line line.now) result }
     ensures within { IfOk result KeepsItsLimits }
@@ -45,7 +45,8 @@ pub fn read_line(alloc: Global, line: &[u8]) -> Result<Option<Command>, WordsFau
     read(alloc, line)
 }
 
-/// Reads the line; the public call states what this implies for each kind of line.
+/// Reads a line of a batch. `read_line` does the same, and its contract also states what this
+/// implies for each kind of line.
 fn read(alloc: Global, line: &[u8]) -> Result<Option<Command>, WordsFault>
     ensures { IsLineRead (batch_line line.now) result }
 {
@@ -65,7 +66,7 @@ fn read(alloc: Global, line: &[u8]) -> Result<Option<Command>, WordsFault>
     Ok(Some(command))
 }
 
-/// Reads the words as a command of a line.
+/// Reads the words as a command of a line: any command but `batch` and `work`.
 fn read_in_line(alloc: Global, words: &[String]) -> Result<Command, WordsFault>
     ensures { IsReadBy batch_entries (map string_bytes words.now) result }
 {

@@ -1,4 +1,4 @@
-//! The words of `unrsk`.
+//! Reading of the words of `unrsk`.
 ghost use Rattle.std.specs.Prelude.{◌≡◌, ◌≤◌, ◌<◌, ◌+◌, ◌++◌, ◌^◌, IfOk, IfErr, [], ◌∷◌, Some};
 ghost use Rattle.std.specs.Prelude.{length, map, string_bytes};
 ghost use Rattle.sym_model.specs.Command.{unrsk};
@@ -29,7 +29,7 @@ use partitions::Partition;
 use skew_shapes::{Standard, Tableau};
 use std::alloc::Global;
 
-/// The rows of an insertion tableau that begins at the second word, or its first error.
+/// The rows of the first tableau of `unrsk`, which begins at the second word, or its first error.
 fn read_insertion(alloc: Global, rows: &[&[String]]) -> Result<Vec<Vec<u16>>, WordsFault>
     requires { 1 + length (further_text (map (λ r. map string_bytes r.now) rows.now)) < 2 ^ 64 }
     ensures { IsJudged (λ v. map (λ r. r.items) v.items
@@ -45,8 +45,8 @@ fn read_insertion(alloc: Global, rows: &[&[String]]) -> Result<Vec<Vec<u16>>, Wo
     read_rows(alloc, 1, rows, first, &[], &mut [], empty_row(1, rows))
 }
 
-/// The rows of a recording tableau that begins at the word `at`, for a shape with rows of these
-/// lengths, or its first error.
+/// The rows of the second tableau of `unrsk`, which begins at the word `at` and must be standard
+/// with rows of these lengths; or its first error.
 fn read_recording(
     alloc: Global,
     at: u64,
@@ -74,7 +74,7 @@ fn read_recording(
     read_rows(alloc, at, rows, first, &[], taken.as_mut_slice(), left)
 }
 
-/// The rows of a tableau; one row without numbers counts as no row.
+/// The rows of a tableau; a single row without numbers counts as no row.
 pub(crate) fn without_dot(rows: Vec<Vec<u16>>) -> Vec<Vec<u16>>
     ensures { map (λ r. r.items) result.items ≡ rows_in [] (map (λ r. r.items) rows.items) }
 {
@@ -87,7 +87,7 @@ pub(crate) fn without_dot(rows: Vec<Vec<u16>>) -> Vec<Vec<u16>>
     rows
 }
 
-/// The tableaux with these rows.
+/// The straight tableau with the rows `first`, and the standard tableau with the rows `second`.
 fn tableaux_of(
     alloc: Global,
     first: &[Vec<u16>],
@@ -105,7 +105,8 @@ fn tableaux_of(
     Ok((p, q))
 }
 
-/// The two tableaux, of which the first begins at the second word; or the first error.
+/// The command `unrsk` of the two tableaux with the rows of number words `first` and `second`; or
+/// the first error. The first tableau begins at the second word of the command.
 fn read_tableaux(
     alloc: Global,
     first: &[&[String]],
@@ -133,7 +134,7 @@ fn read_tableaux(
     Ok(Command::Unrsk { p, q })
 }
 
-/// The straight tableau with these rows.
+/// The straight tableau with these rows; its outer partition has the row lengths as parts.
 fn straight(alloc: Global, rows: &[Vec<u16>]) -> Result<Tableau, NoMemory>
     requires tableau { IsStraightTableau (map (λ r. r.items) rows.now) }
     requires few { length (letters_of (map (λ r. r.items) rows.now)) ≤ most_letters }
@@ -153,7 +154,8 @@ fn straight(alloc: Global, rows: &[Vec<u16>]) -> Result<Tableau, NoMemory>
     tableau_of(alloc, outer, inner, rows)
 }
 
-/// The rows of the two tableaux of an `unrsk`; otherwise the place of the first failure.
+/// If the words have the form of `unrsk`, the rows of number words of its two tableaux; otherwise
+/// the refusal at the place of the first error of syntax.
 fn two_tableaux(
     alloc: Global,
     words: &[String],
@@ -176,14 +178,14 @@ fn two_tableaux(
 /// Reads the words of `unrsk`: that word and two tableaux with `-` between them. The rows of a
 /// tableau are separated by words `/`; `.` is a row without numbers.
 ///
-/// Words that are no such command are refused as `Syntax`, at the word where they first fail.
-/// Otherwise the first error is refused: a number over 2^127 - 1 as `Literal`; an entry that is 0
-/// or over 65,535, and the 257th of a tableau, as `Range`; as `Shape`, in the first tableau, a
-/// number that makes its row longer than the row above, a `.` that is not the whole tableau, and a
-/// number smaller than its left neighbour or not greater than the entry above it; and as `Shape`,
-/// in the second one, the word at which it leaves the shape of the first, and a number that is
-/// greater than the number of cells, not greater than its left neighbour or the entry above it, or
-/// equal to an earlier one.
+/// Words that do not have this form are refused as `Syntax`, at the place of the first error of
+/// syntax. Otherwise the first error is refused: a number over 2^127 - 1 as `Literal`; an entry
+/// that is 0 or over 65,535, and the 257th of a tableau, as `Range`; as `Shape`, in the first
+/// tableau, a number that makes its row longer than the row above, a `.` that is not the whole
+/// tableau, and a number smaller than its left neighbour or not greater than the entry above it;
+/// and as `Shape`, in the second tableau, the word at which its rows depart from the shape of the
+/// first one, and a number that is greater than the number of cells, not greater than its left
+/// neighbour or the entry above it, or equal to an earlier one.
 pub fn read_unrsk(alloc: Global, words: &[String]) -> Result<Command, WordsFault>
     ensures { IsRead (unrsk_entry ∷ []) (map string_bytes words.now) result }
 {

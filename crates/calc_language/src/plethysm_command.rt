@@ -1,4 +1,4 @@
-//! The words of `plethysm`.
+//! Reading of the words of `plethysm`.
 ghost use Rattle.std.specs.Prelude.{[], ◌∷◌, map, string_bytes};
 ghost use Rattle.sym_model.specs.CommandOffence.{first_offence, plethysm_offences};
 ghost use Rattle.sym_model.specs.Command.{plethysm};
@@ -15,7 +15,8 @@ use calc_words::{Part, cut, piece_at, target_of, text_of};
 use expression_reading::{ExpressionFault, PLETHYSM_DEGREE, read_inner, read_outer};
 use std::alloc::Global;
 
-/// The command of the two expressions, or their first error.
+/// The command `plethysm` of the two expressions with the texts `outer` and `inner`, which are
+/// words 2 and 3 of the command; or their first error.
 fn judged(alloc: Global, target: Basis, outer: &[u8], inner: &[u8]) -> Result<Command, WordsFault>
     ensures { (f g : Phrase) → SpellsPhrase outer.now f → SpellsPhrase inner.now g
         → IsJudged (StandsFor (plethysm (basis_of target) (tree f) (tree g)))
@@ -42,8 +43,8 @@ fn judged(alloc: Global, target: Basis, outer: &[u8], inner: &[u8]) -> Result<Co
     }
 }
 
-/// Reads the words of `plethysm`: that word, the letter of a target, the outer expression and the
-/// inner one.
+/// Reads the words of `plethysm`: that word, the letter of a target basis, the outer expression,
+/// and the inner expression.
 pub(crate) fn read_plethysm(alloc: Global, words: &[String]) -> Result<Command, WordsFault>
     ensures { IsReadBy (plethysm_entry all_bases ∷ []) (map string_bytes words.now) result }
 {

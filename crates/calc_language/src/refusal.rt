@@ -1,4 +1,4 @@
-//! Refusals of the words of a command.
+//! The refusal of a command for the fault of an expression.
 ghost use Rattle.std.specs.Prelude.{◌≡◌};
 ghost use Rattle.calc_language.specs.Reading.{placed as placed_at};
 
@@ -6,7 +6,7 @@ use calc_base::{Place, WordsFault};
 use calc_words::syntax;
 use expression_reading::ExpressionFault;
 
-/// The error of an expression, at the word that has it.
+/// The refusal of a command whose word `word` is an expression with this fault.
 pub(crate) fn placed(word: u64, fault: ExpressionFault) -> WordsFault
     ensures { result ≡ placed_at word fault }
 {

@@ -1,4 +1,4 @@
-//! The numbers of written rows.
+//! The numbers of the rows of a tableau, each replaced by 65,535 if it is greater.
 ghost use Rattle.std.specs.Prelude.{◌≡◌, map, string_bytes, IfOk};
 ghost use Rattle.sym_model.specs.PrintedBlock.{decimal_value};
 ghost use Rattle.sym_model.specs.WordForms.{numbers as numbers_of};
@@ -8,10 +8,10 @@ use calc_base::NoMemory;
 use calc_words::value_of;
 use std::alloc::Global;
 
-/// The greatest entry.
+/// The greatest entry of a tableau.
 const GREATEST_ENTRY: u128 = 65_535;
 
-/// The number, or the greatest entry if the number is greater.
+/// The value of the number word, or 65,535 if the value is greater.
 fn entry(word: &String) -> u16
     ensures { result ≡ at_most_entry (decimal_value (string_bytes word.now)) }
 {

@@ -1,4 +1,4 @@
-//! The rows of a tableau, read row after row.
+//! Reading of the rows of a tableau, one row after another.
 ghost use Rattle.std.specs.Prelude.{◌≡◌, ◌<◌, ◌≤◌, ◌+◌, ◌^◌, map, length, drop, cond};
 ghost use Rattle.std.specs.Prelude.{string_bytes, [], Some, None, IfOk, IfSome};
 ghost use Rattle.sym_model.specs.Partition.{part, size};
@@ -25,7 +25,8 @@ fn width(row: &[String]) -> u64
     row.len() as u64
 }
 
-/// The word of the first row without numbers in a tableau that has other rows.
+/// In a tableau with two or more rows, the word of the first row without numbers, if there is such
+/// a row; otherwise `None`. The first row of the tableau begins at word `at`.
 pub(crate) fn empty_row(at: u64, rows: &[&[String]]) -> Option<u64>
     requires { at + length (further_text (map (λ r. map string_bytes r.now) rows.now)) < 2 ^ 64 }
     ensures { found_of result ≡ first_offence
@@ -44,7 +45,7 @@ pub(crate) fn empty_row(at: u64, rows: &[&[String]]) -> Option<u64>
     None
 }
 
-/// The part at this place, counted from 0; 0 after the last.
+/// Part `place` of the list, counted from 0; 0 after the last part.
 pub(crate) fn part_at(parts: &[u16], place: usize) -> usize
     ensures value { result ≡ part (drop place parts.now) 1 }
     ensures small { result < 2 ^ 16 }
@@ -55,7 +56,7 @@ pub(crate) fn part_at(parts: &[u16], place: usize) -> usize
     usize::from(parts[place])
 }
 
-/// The bounds of a row after a row of this length.
+/// The bounds (`Bounds`) for the row after `row`, from those for `row`.
 fn bounds_after(bounds: Bounds, row: &[u16]) -> Bounds
     requires { IfSome bounds.counted (λ count. count + length row.now < 2 ^ 64) }
     ensures { result ≡ record {
@@ -75,7 +76,7 @@ fn bounds_after(bounds: Bounds, row: &[u16]) -> Bounds
     }
 }
 
-/// The numbers of the last row, none if there is no row.
+/// The numbers of the last row; no number if there is no row.
 fn last_of(rows: &[Vec<u16>]) -> &[u16]
     ensures { result.now ≡ last_row (map (λ r. r.items) rows.now) }
 {
@@ -86,7 +87,8 @@ fn last_of(rows: &[Vec<u16>]) -> &[u16]
 }
 
 /// The rows of a tableau, the first of which begins at the word `at`, or the first error of a
-/// number. If there are flags, an entry must not have its flag set, and sets it.
+/// number. If there are flags, an entry is an error if its flag is set or missing, and its flag is
+/// set after it is read.
 fn numbers_of_rows(
     alloc: Global,
     at: u64,
@@ -121,9 +123,9 @@ fn numbers_of_rows(
     Ok(read)
 }
 
-/// The rows of a tableau, the first of which begins at the word `at`; or the earlier one of the
-/// first error of a number and the error of shape at the word `found`, if that is given. If there
-/// are flags, an entry must not have its flag set, and sets it.
+/// The rows of a tableau, the first of which begins at the word `at`; or the earlier one of two
+/// errors: the first error of a number (as in `numbers_of_rows`), and an error of shape at the word
+/// `found`, if that is given.
 pub(crate) fn read_rows(
     alloc: Global,
     at: u64,
@@ -151,7 +153,12 @@ pub(crate) fn read_rows(
     }
 }
 
-/// The word at which the rows leave the shape with rows of these lengths.
+/// The word at which the rows depart from the given lengths, if they do; the first row begins at
+/// word `at`. If a row does not have the length that is given for it, then for the first such row
+/// it is the word of the first extra number or, if the row is too short, the word after its last
+/// number (the word `.` for a row without numbers). Otherwise, if rows are missing, it is the word
+/// after the last row, and if there are more rows than lengths, the word after the last row for
+/// which a length is given.
 pub(crate) fn left_shape(at: u64, lengths: &[usize], rows: &[&[String]]) -> Option<u64>
     requires some { 0 < length lengths.now }
     requires room { at + length (further_text (map (λ r. map string_bytes r.now) rows.now))
@@ -182,7 +189,7 @@ pub(crate) fn left_shape(at: u64, lengths: &[usize], rows: &[&[String]]) -> Opti
     None
 }
 
-/// The number of entries of each row.
+/// The lengths of the rows: the number of entries of each.
 pub(crate) fn row_lengths(alloc: Global, rows: &[Vec<u16>]) -> Result<Vec<usize>, NoMemory>
     ensures { IfOk result (λ v. v.items ≡ map (λ r. length r.items) rows.now) }
 {
@@ -193,7 +200,7 @@ pub(crate) fn row_lengths(alloc: Global, rows: &[Vec<u16>]) -> Result<Vec<usize>
     Ok(lengths)
 }
 
-/// The sum of lengths.
+/// The sum of the lengths.
 pub(crate) fn total(lengths: &[usize]) -> usize
     requires { size lengths.now < 2 ^ 64 }
     ensures { result ≡ size lengths.now }
@@ -205,7 +212,7 @@ pub(crate) fn total(lengths: &[usize]) -> usize
     sum
 }
 
-/// The number of words of the rows, with one more word for each row.
+/// The number of words of the rows, with a separator counted for each row.
 pub(crate) fn text_length(rows: &[&[String]]) -> u64
     requires { length (further_text (map (λ r. map string_bytes r.now) rows.now)) < 2 ^ 64 }
     ensures { result ≡ length (further_text (map (λ r. map string_bytes r.now) rows.now)) }

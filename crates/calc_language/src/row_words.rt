@@ -1,4 +1,4 @@
-//! The rows of a tableau, cut out of the words of a command.
+//! The rows of a tableau, taken from the words of a command.
 ghost use Rattle.std.specs.Prelude.{◌≡◌, ◌++◌, ◌<◌, ◌≤◌, List, ℕ, map, length, string_bytes, IfOk};
 ghost use Rattle.sym_model.specs.Form.{EachOf};
 ghost use Rattle.word_laws.specs.WrittenRows.{row_text, further_text, rows_text};
@@ -8,7 +8,7 @@ use calc_base::NoMemory;
 use calc_words::{behind, numbers_first as numbers};
 use std::alloc::Global;
 
-/// The numbers of the first row that the words write, and the words after that row.
+/// The number words of the row at the front of the words, and the words after that row.
 fn row_first(words: &[String]) -> (&[String], &[String])
     ensures is { (row : List (List ℕ)) (rows : List (List (List ℕ))) → EachOf IsNumber row
         → map string_bytes words.now ≡ row_text row ++ further_text rows
@@ -22,7 +22,7 @@ fn row_first(words: &[String]) -> (&[String], &[String])
     }
 }
 
-/// The numbers of each row of the tableau that these words write.
+/// The number words of each row of the tableau that these words write.
 pub(crate) fn rows_of_words(alloc: Global, words: &[String]) -> Result<Vec<&[String]>, NoMemory>
     ensures { (rows : List (List (List ℕ))) → 0 < length rows → EachOf (EachOf IsNumber) rows
         → map string_bytes words.now ≡ rows_text rows

@@ -1,4 +1,4 @@
-//! The words of `rect`.
+//! Reading of the words of `rect`.
 ghost use Rattle.std.specs.Prelude.{◌≡◌, ◌<◌, ◌+◌, ◌^◌, IfOk, IfErr, true, [], ◌∷◌, Some, length};
 ghost use Rattle.std.specs.Prelude.{map, string_bytes};
 ghost use Rattle.sym_model.specs.Schur.{contains};
@@ -27,8 +27,8 @@ use calc_words::{Command, Part, cut, piece_at, read_partition};
 use partitions::Partition;
 use std::alloc::Global;
 
-/// The number of entries in each row of the skew shape outer/inner; one row of length 0 if outer
-/// has no row.
+/// The number of cells in each row of the skew shape outer/inner; if outer has no part, one row of
+/// length 0.
 fn skew_lengths(alloc: Global, outer: &[u16], inner: &[u16]) -> Result<Vec<usize>, NoMemory>
     ensures { IfOk result (λ v. v.items ≡ asked_lengths outer.now inner.now) }
 {
@@ -42,8 +42,8 @@ fn skew_lengths(alloc: Global, outer: &[u16], inner: &[u16]) -> Result<Vec<usize
     Ok(lengths)
 }
 
-/// The rows of a tableau with the outer shape; for the empty shape, one row without numbers counts
-/// as no row.
+/// The rows of a tableau with the outer partition `outer`; if that is empty, a single row without
+/// numbers counts as no row.
 pub(crate) fn rows_of_shape(outer: &[u16], rows: Vec<Vec<u16>>) -> Vec<Vec<u16>>
     ensures { map (λ r. r.items) result.items ≡ rows_in outer.now (map (λ r. r.items) rows.items) }
 {
@@ -54,7 +54,7 @@ pub(crate) fn rows_of_shape(outer: &[u16], rows: Vec<Vec<u16>>) -> Vec<Vec<u16>>
     }
 }
 
-/// The rows of a tableau of shape outer/inner, the first of which begins at the word `at`; or the
+/// The rows of a tableau of shape outer/inner, the first of which begins at the word `at`; or their
 /// first error.
 fn judge_rows(
     alloc: Global,
@@ -85,7 +85,9 @@ fn judge_rows(
     Ok(rows_of_shape(outer.parts(), read))
 }
 
-/// The tableau of two shapes, the first of which begins at the second word; or the first error.
+/// The command `rect` of the tableau whose outer partition, inner partition and rows have the
+/// number words `outer`, `inner` and `rows`; or the first error. The outer partition begins at the
+/// second word.
 fn read_skew_tableau(
     alloc: Global,
     outer: &[String],
@@ -112,8 +114,8 @@ fn read_skew_tableau(
     Ok(Command::Rect { tableau })
 }
 
-/// The numbers of the two shapes of a `rect`, and the rows of its tableau; otherwise the place of
-/// the first failure.
+/// If the words have the form of `rect`, the number words of its two partitions and of the rows of
+/// its tableau; otherwise the refusal at the place of the first error of syntax.
 fn skew_parts(
     alloc: Global,
     words: &[String],
@@ -143,12 +145,12 @@ fn skew_parts(
 /// after `-`, a tableau of shape outer/inner. The rows of the tableau are separated by words `/`;
 /// `.` is a row without numbers.
 ///
-/// Words that are no such command are refused as `Syntax`, at the word where they first fail.
-/// Otherwise the first error is refused: a number over 2^127 - 1 as `Literal`; the 65th number of a
-/// partition, the one at which its sum exceeds 512, and an entry that is 0 or over 65,535, as
-/// `Range`; as `Shape` a number of a partition greater than the one before it, an inner number
-/// greater than the outer part of its row, the word at which the tableau leaves the shape, an entry
-/// smaller than its left neighbour, and one not greater than the entry above it.
+/// Words that do not have this form are refused as `Syntax`, at the place of the first error of
+/// syntax. Otherwise the first error is refused: a number over 2^127 - 1 as `Literal`; the 65th
+/// number of a partition, the one at which its sum exceeds 512, and an entry that is 0 or over
+/// 65,535, as `Range`; as `Shape` a number of a partition greater than the one before it, an inner
+/// number greater than the outer part of its row, the word at which the tableau leaves the shape,
+/// an entry smaller than its left neighbour, and one not greater than the entry above it.
 pub fn read_rect(alloc: Global, words: &[String]) -> Result<Command, WordsFault>
     ensures { IsRead (rect_entry ∷ []) (map string_bytes words.now) result }
 {

@@ -1,4 +1,4 @@
-//! The words of `tab`.
+//! Reading of the words of `tab`.
 ghost use Rattle.std.specs.Prelude.{◌≡◌, ◌<◌, ◌+◌, ◌^◌, [], ◌∷◌, Some, IfOk, IfErr, length, map};
 ghost use Rattle.std.specs.Prelude.{string_bytes};
 ghost use Rattle.sym_model.specs.CommandOffence.{first_offence};
@@ -19,9 +19,10 @@ use partitions::Partition;
 use std::alloc::Global;
 use tableau_iter::lattice_reading;
 
-/// The command `tab` of the shapes and of the tableau of these rows, which follows the word
-/// `-from`, word `at`; or an error at that word, if it is no lattice tableau of outer/inner.
-/// Without rows, the command has no tableau.
+/// The command `tab` for the shape outer/inner and the rows of number words after `-from`, which is
+/// word `at`. If there are no rows, the command lists all lattice tableaux of the shape. If the
+/// rows are one of these tableaux, the command lists those after it. Otherwise there is an error at
+/// the word `at`.
 fn judge_last(
     alloc: Global,
     at: u64,
@@ -54,8 +55,9 @@ fn judge_last(
     }
 }
 
-/// The two shapes, of which the first begins at the second word, and the tableau after `-from`; or
-/// the first error.
+/// The command `tab` of the two partitions with the number words `outer` and `inner`, and of the
+/// rows of number words after `-from`, of which there may be none; or the first error. The outer
+/// partition begins at the second word.
 fn judge_tab(
     alloc: Global,
     outer: &[String],
@@ -76,8 +78,9 @@ fn judge_tab(
     judge_last(alloc, at, outer, inner, rows)
 }
 
-/// The numbers of the two shapes of a `tab`, and the rows after `-from`, none if that is missing;
-/// otherwise the place of the first failure.
+/// If the words have the form of `tab`, the number words of its two partitions and of the rows
+/// after `-from`, with no row if `-from` is missing; otherwise the refusal at the place of the
+/// first error of syntax.
 fn tab_parts(
     alloc: Global,
     words: &[String],
@@ -101,14 +104,14 @@ fn tab_parts(
 }
 
 /// Reads the words of `tab`: that word, an outer and an inner partition with `/` between them and,
-/// for the list after a given tableau, `-from` and that tableau. The rows of the tableau are
-/// separated by words `/`; `.` is a row without numbers.
+/// for the tableaux that are listed after a given one, `-from` and that tableau. The rows of the
+/// tableau are separated by words `/`; `.` is a row without numbers.
 ///
-/// Words that are no such command are refused as `Syntax`, at the word where they first fail.
-/// Otherwise the first error is refused: a number of a partition over 2^127 - 1 as `Literal`; the
-/// 65th number of a partition, and the one at which its sum exceeds 512, as `Range`; as `Shape`, a
-/// number of a partition greater than the one before it, and, at the word `-from`, a tableau that
-/// is not one of the list of the lattice tableaux of the outer over the inner partition.
+/// Words that do not have this form are refused as `Syntax`, at the place of the first error of
+/// syntax. Otherwise the first error is refused: a number of a partition over 2^127 - 1 as
+/// `Literal`; the 65th number of a partition, and the one at which its sum exceeds 512, as `Range`;
+/// as `Shape`, a number of a partition greater than the one before it, and, at the word `-from`, a
+/// tableau that is not one of the lattice tableaux of the shape outer/inner.
 pub fn read_tab(alloc: Global, words: &[String]) -> Result<Command, WordsFault>
     ensures { IsRead (tab_entry ∷ []) (map string_bytes words.now) result }
 {

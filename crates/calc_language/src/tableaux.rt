@@ -1,4 +1,4 @@
-//! Tableaux of rows that were read.
+//! A tableau of rows that have been read.
 ghost use Rattle.std.specs.Prelude.{◌≡◌, IfOk, map};
 ghost use Rattle.sym_model.specs.Tableau.{IsTableau};
 

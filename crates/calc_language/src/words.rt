@@ -1,4 +1,4 @@
-//! The reading of the words of a command.
+//! Reading of the words of a command.
 ghost use Rattle.std.specs.Prelude.{◌≡◌, ℕ, IfOk, map, string_bytes};
 ghost use Rattle.sym_model.specs.Command.{Command as PlainCommand};
 ghost use Rattle.sym_model.specs.CommandOffence.{Offence};
@@ -14,15 +14,15 @@ use calc_base::WordsFault;
 use calc_words::syntax;
 use std::alloc::Global;
 
-/// Reads the words of a command: its name, and then the words that the entry of that name asks for
-/// (`sym_model/specs/Grammar.antt`).
+/// Reads the words of a command: its name, followed by words of the form that the grammar has for
+/// this name (`sym_model/specs/Grammar.antt`).
 ///
-/// Words that are no command are refused as `Syntax`, at the word where they first fail, and within
-/// the word of an expression at the byte after its longest prefix that begins an expression.
-/// Otherwise the first error is refused, as the reader of the command (in `calc_words` or here) or
-/// of the expression (`expression_reading::{read_expression, read_outer, read_inner}`) says. Two
-/// expressions of a `plethysm` whose degrees have a product over 10 are refused as `Range` at the
-/// end of the second.
+/// Words that spell no command are refused as `Syntax`, at the place of the first error of syntax;
+/// in a word at which an expression is expected, this is the byte after the longest prefix of the
+/// word that begins an expression. Otherwise the first error is refused, as the reader of the
+/// command (in `calc_words` or here) or of the expression (`expression_reading::{read_expression,
+/// read_outer, read_inner}`) says. Two expressions of a `plethysm` whose degrees have a product
+/// over 10 are refused as `Range` at the end of the second.
 pub fn read_words(alloc: Global, words: &[String]) -> Result<Command, WordsFault>
     ensures read { IsRead (map string_bytes words.now) result }
     ensures within { IfOk result IsWithinItsLimits }
@@ -39,7 +39,8 @@ pub fn read_words(alloc: Global, words: &[String]) -> Result<Command, WordsFault
     read(alloc, words)
 }
 
-/// Reads the words; the public call states what this implies for each command and error.
+/// Reads the words of a command. `read_words` does the same, and its contract also states what this
+/// implies for each command and error.
 fn read(alloc: Global, words: &[String]) -> Result<Command, WordsFault>
     ensures { IsRead (map string_bytes words.now) result }
 {

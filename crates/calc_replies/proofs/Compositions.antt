@@ -12,7 +12,8 @@ use Rattle.plethysm_laws.proofs.NonnegativeTerms.{denominator-one}
 use Rattle.expression_reading.proofs.WeightFacts.{Positive}
 use Rattle.plethysm_laws.proofs.PathWeights.{weight-outer, weight-product}
 
--- for K, N and D of at least 1, N and D those of the outer expression, its weight in m is at most that of the plethysm
+-- let the numerator N and the denominator D of the outer expression e, and K, be at least 1; the weight of e for the basis m is at most the weight of
+-- the plethysm of e and an inner expression with the numerator K and the degree b
 pub outer-weight : (e : Tree) (K b : ℕ) → 1 ≤ numerator e → 1 ≤ denominator e → 1 ≤ K
     → weight monomials e ≤ plethysm_weight (numerator e) (denominator e) (degree e) K b
 outer-weight e K b n d k =
@@ -22,8 +23,8 @@ outer-weight e K b n d k =
       weight-outer (numerator e) (denominator e) (degree e) K b n d k,
     )
 
--- the weight of the inner expression in m is at most that of the plethysm, if it has no fraction and the outer one is
--- not constant
+-- let the outer expression have a numerator N, a denominator D and a degree a of at least 1, and the inner one e a numerator of at least 1 and the
+-- denominator 1; the weight of e for the basis m is at most the weight of the plethysm
 pub inner-weight : (N D a : ℕ) (e : Tree) → 1 ≤ N → 1 ≤ D → 1 ≤ a → 1 ≤ numerator e → denominator e ≡ 1
     → weight monomials e ≤ plethysm_weight N D a (numerator e) (degree e)
 inner-weight N D a e n d h k one =
@@ -38,18 +39,18 @@ inner-weight N D a e n d h k one =
     let wide = mul-le (K * 1) (growth monomials b) (K * (b + 1)) (growth monomials b) some (omega arith) in
     subst (λ x. K * x * growth monomials b ≤ plethysm_weight N D a K b) (sym one) (omega (arith, wide, u))
 
--- if the weight of the outer expression in m is 2^127 or more, so is that of the plethysm
+-- if the weight of the outer expression e for the basis m is 2^127 or more, so is the weight of the plethysm of e and f
 pub outer-large : (e f : Tree) → Positive e → Positive f → 2 ^ 127 ≤ weight monomials e
     → 2 ^ 127 ≤ plethysm_weight (numerator e) (denominator e) (degree e) (numerator f) (degree f)
 outer-large e f p q h = omega (arith, h, outer-weight e (numerator f) (degree f) (omega (arith, p.0)) (omega (arith, p.1)) (omega (arith, q.0)))
 
--- if the inner expression has no minus and no fraction, its weight in m is 2^127 or more, and the outer one is not constant, the
--- weight of the plethysm is 2^127 or more
+-- if the inner expression f has no minus sign and no fraction, its weight for the basis m is 2^127 or more, and the outer expression e is not
+-- constant, then the weight of the plethysm of e and f is 2^127 or more
 pub inner-large : (e f : Tree) → Positive e → Positive f → 1 ≤ degree e → HasNoSigns f → 2 ^ 127 ≤ weight monomials f
     → 2 ^ 127 ≤ plethysm_weight (numerator e) (denominator e) (degree e) (numerator f) (degree f)
 inner-large e f p q some h heavy =
     omega (arith, heavy, inner-weight (numerator e) (denominator e) (degree e) f (omega (arith, p.0)) (omega (arith, p.1)) some (omega (arith, q.0)) (denominator-one f h))
 
--- for a constant outer expression the weight does not depend on the numerator K of the inner expression
+-- if the outer expression is constant (of degree 0), the weight of the plethysm does not depend on the numerator K of the inner expression
 pub constant-weight : (N D K b : ℕ) → plethysm_weight N D 0 1 b ≡ plethysm_weight N D 0 K b
 constant-weight N D K b = rw (pow-zero (1 * (b + 1)), pow-zero (K * (b + 1))) refl

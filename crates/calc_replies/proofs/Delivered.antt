@@ -1,4 +1,5 @@
--- Printers that return whether they succeeded, and a text that is written in front of another.
+-- Texts that are written to a sink one after another (`Puts`; its truth values say whether no call of the sink has failed, before and after the
+-- text), and the results of printers as such texts.
 use Rattle.std.proofs.Common.{◌≡◌, ℕ, List, ◌++◌, Bool, true, false, sym, ◌∙◌, subst}
 use Rattle.std.specs.Prelude.{Result, Ok, Err, is_ok}
 use Rattle.calc_base.proofs.PutsLaws.{Puts-then}
@@ -27,7 +28,8 @@ Puts-from_prints (Err e) prints is = record {
   ill = λ ill. let clash : true ≡ false = ill in cc;
 }
 
--- if `front` was written whole and then `text`, or a prefix of it if `now` is false, so was `front` followed by `text`
+-- if `front` was written whole, and then `text` (or a prefix of it, if `now` is false), then `front` followed by `text` was written (or a prefix of
+-- it)
 pub Puts-behind : {well now : Bool} {old mid new : SinkSeen} {front text : List ℕ} → well ≡ true
     → Puts true old well mid front → Puts true mid now new text
     → Puts true old now new (front ++ text)

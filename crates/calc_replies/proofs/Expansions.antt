@@ -1,4 +1,4 @@
--- Bounds for expansions in other bases from the expansion in m.
+-- The weight of an expression for the target m is at most its weight for any other target.
 use Rattle.std.proofs.Common.{◌*◌, ◌^◌, ◌≤◌, ℕ, zero, suc, arith}
 use Rattle.std.proofs.Math.Nat.{mul-le-mul_left}
 use Rattle.monomial_laws.proofs.Growths.{growth-most}
@@ -6,7 +6,7 @@ use Rattle.sym_model.specs.Expansion.{Basis, monomials, elementaries, completes,
 use Rattle.sym_model.specs.Expression.{Tree, degree, denominator}
 use Rattle.sym_model.specs.Weight.{numerator, growth, weight}
 
--- the growth into m is at most that into any other basis
+-- `growth b d`, a factor of the weight of an expression of degree d for the basis b, is smallest for the basis m
 least_growth : (b : Basis) (d : ℕ) → growth monomials d ≤ growth b d
 least_growth b zero = omega arith
 least_growth monomials (suc d) = omega arith

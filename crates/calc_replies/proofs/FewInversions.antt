@@ -1,4 +1,4 @@
--- The inversions of permutations of few letters.
+-- A bound on the letters and inversions of two permutations of at most 16 letters.
 use Rattle.std.proofs.Common.{◌≡◌, ◌≤◌, ◌+◌, ℕ, Bool, true, false, cond, List, length, refl, arith}
 use Rattle.std.specs.Prelude.{max, nat_le}
 use Rattle.std.proofs.Math.Nat.{max-le}

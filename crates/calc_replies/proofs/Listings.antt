@@ -1,4 +1,4 @@
--- The lines of the tableaux that are listed.
+-- The tableaux that `tab` lists, and the text of the list.
 use Rattle.std.proofs.Common.{◌≡◌, ℕ, List, [], ◌∷◌, ◌++◌, Bool, true, false, cond, refl, sym, ◌∙◌, ap, Option, Some, None, filter}
 use Rattle.std.specs.Prelude.{map, length, nat_le}
 use Rattle.std.specs.List.{flat_map}
@@ -9,7 +9,7 @@ use Rattle.sym_model.specs.Outcome.{readings_after}
 use Rattle.sym_model.specs.TableauList.{filling_of, later_than}
 use Rattle.sym_model.specs.TableauText.{tableau_line, readings_text}
 
--- the line of a tableau of outer/inner with this column reading
+-- the printed line of the tableau of shape outer/inner with a given column reading
 abbrev pub line : List ℕ → List ℕ → List ℕ → List ℕ
 line outer inner w = tableau_line (filling_of outer inner w)
 
@@ -42,7 +42,8 @@ pub none_after : (outer inner : List ℕ) (after : Option (List ℕ)) → contai
 none_after outer inner None h = none_outside outer inner h
 none_after outer inner (Some last) h = ap (later_than last) (none_outside outer inner h)
 
--- with an empty start and as many letters as the outer shape has rows, the readings to be listed are those of the lattice tableaux
+-- let `start` be empty, and k the number of rows of the outer shape: the good readings with letters up to k are the readings of the lattice tableaux
+-- of outer/inner
 pub all_listed : (outer inner start : List ℕ) (k : ℕ) (rest : List (List ℕ)) → k ≡ rows outer → start ≡ [] → rest ≡ good_readings k start outer inner
     → rest ≡ lattice_readings outer inner
 all_listed outer inner start k rest l e is = is ∙ ap (λ j. good_readings j start outer inner) l ∙ ap (λ s. good_readings (rows outer) s outer inner) e
@@ -52,7 +53,8 @@ pub later_listed : (outer inner start last w : List ℕ) (k : ℕ) (rest : List 
 later_listed outer inner start last w k rest l e s is =
     is ∙ ap (later_than last) (all_listed outer inner start k (good_readings k start outer inner) l e refl) ∙ ap (λ v. later_than v (lattice_readings outer inner)) s
 
--- if the shape is outer/inner and `rest` has the readings to be listed, the text of the list is the one that is defined for outer/inner
+-- if `shape` is (outer, inner), and `rest` are its lattice readings after the reading `after`, then the text of the tableaux of `shape` with the
+-- readings `rest` is the text of the tableaux of outer/inner with these readings
 pub listed-lines : (outer inner : List ℕ) (shape : List ℕ × List ℕ) (after : Option (List ℕ)) (rest : List (List ℕ))
     → shape ≡ (outer, inner) → rest ≡ readings_after shape.0 shape.1 after
     → readings_text shape.0 shape.1 rest ≡ readings_text outer inner (readings_after outer inner after)

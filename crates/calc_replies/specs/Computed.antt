@@ -38,12 +38,13 @@ use Rattle.calc_replies.specs.declared.outcome.Task.TheVariants.{Lines, Workload
 use Rattle.calc_replies.specs.declared.outcome.Outcome.{Outcome}
 use Rattle.calc_replies.specs.declared.outcome.Outcome.TheVariants.{Answered, Refused, Large, Told}
 
--- the text of a list of tableaux: a line for each tableau that is still to be listed, or the line 0 if there is none
+-- the text of the answer to `tab`: a line for each tableau that is still to be listed, or the line 0 if there is no
+-- such tableau
 abbrev pub listing_text : Option Listing → List ℕ
 listing_text None = codes "0\n"
 listing_text (Some l) = readings_text l.order.0 l.order.1 l.lattice.rest
 
--- the text of the answer to a command on tableaux
+-- the text of the answer to a command on tableaux (`tab`, `rsk`, `unrsk`, `rect` or `growth`)
 abbrev pub lines_text : TableauAnswer → List ℕ
 lines_text (Listed list) = listing_text list
 lines_text (Paired p q) = pair_text p.rows q.rows
@@ -51,7 +52,7 @@ lines_text (Spelled word) = word_line word
 lines_text (Straight t) = tableau_line t.rows
 lines_text (Grown w) = grid_text w
 
--- the command is one on tableaux, and the text is its answer
+-- the command is `tab`, `rsk`, `unrsk`, `rect` or `growth`, and the text is that of its answer
 abbrev pub Tells : PlainCommand → List ℕ → Type 0
 Tells (tab outer inner last) text =
     text ≡ readings_text outer inner (readings_after outer inner last)
@@ -62,14 +63,16 @@ Tells (rect outer inner rows) text =
 Tells (growth w) text = text ≡ grid_text w
 Tells _ text = ⊥
 
--- the outcome of a command that asks for an expansion, by the result that was computed for it
+-- the outcome of a command that asks for an expansion: the answer that was computed, to be printed in the given form,
+-- or `Large`, or out of memory
 abbrev pub reply_of : Result Answer SumFault → Form → Result Outcome NoMemory
 reply_of (Ok answer) form = Ok (Answered answer form)
 reply_of (Err sums.Large) form = Ok Large
 reply_of (Err sums.NoMemory) form = Err (record {})
 
--- The outcome of a command: the answer to the command, in the form that it asks for, if the command need not be refused
--- as too large; or `Large`, if it may be refused. Nothing is required if memory runs out.
+-- The outcome of a command: either the answer to the command in the form that the command asks for, and the command
+-- need not be refused as too large (`MustBeLarge`); or `Large`, and the command may be refused as too large
+-- (`MayBeLarge`). Nothing is required if memory runs out.
 abbrev pub IsReplyTo : PlainCommand → Result Outcome NoMemory → Type 0
 IsReplyTo command (Ok (Answered answer form)) =
     (MustBeLarge command → ⊥) × Meets command (plain_answer answer)
@@ -79,19 +82,21 @@ IsReplyTo command (Ok Large) = MayBeLarge command
 IsReplyTo command (Ok (Told lines)) = Tells command (lines_text lines)
 IsReplyTo command (Err e) = Unit {0}
 
--- the words spell this command of the list without an error, and the outcome is that of the command
+-- the words spell a command of the list `entries` without an error, and the result is an outcome of that command
+-- (`IsReplyTo`)
 pub record RepliesTo (entries : List Entry) (words : List (List ℕ))
     (result : Result Outcome NoMemory) : Type 0 where
   pub command : PlainCommand
   pub spelled : SpellsWithoutOffence entries words command
   pub reply : IsReplyTo command result
 
--- the words are refused for this reason, and the reason is not out of memory
+-- `reason` is a correct reason for refusing the words, if the commands are those of the list `entries` (`IsRefusal`), and it is not that memory ran
+-- out
 abbrev pub AreRefused : List Entry → List (List ℕ) → WordsFault → Type 0
 AreRefused entries words reason = IsRefusal entries words reason × (reason ≢ fault.NoMemory)
 
--- The outcome of the words: that of the command of the list that they spell, or their refusal. Nothing is required if
--- memory runs out.
+-- The outcome of words: either they spell a command of the list `entries` without an error, and the outcome is one of
+-- this command (`RepliesTo`); or they are refused (`AreRefused`). Nothing is required if memory runs out.
 abbrev pub Computes : List Entry → List (List ℕ) → Result Outcome NoMemory → Type 0
 Computes entries words (Ok (Answered answer form)) =
     RepliesTo entries words (Ok (Answered answer form))
@@ -100,8 +105,8 @@ Computes entries words (Ok Large) = RepliesTo entries words (Ok Large)
 Computes entries words (Ok (Told lines)) = RepliesTo entries words (Ok (Told lines))
 Computes entries words (Err e) = Unit {0}
 
--- words that spell the command without an error are refused only as too large, and only if the command may be refused
--- as too large
+-- the outcome of words that spell the command without an error: they are refused only as too large, and only if the
+-- command may be refused as too large
 abbrev pub Accepts : PlainCommand → Result Outcome NoMemory → Type 0
 Accepts command (Ok (Answered answer form)) = Unit {0}
 Accepts command (Ok (Refused reason)) = ⊥
@@ -109,7 +114,7 @@ Accepts command (Ok Large) = MayBeLarge command
 Accepts command (Ok (Told lines)) = Unit {0}
 Accepts command (Err e) = Unit {0}
 
--- words whose first error is `offence` are refused with it
+-- the outcome of words whose first error is `offence`: the refusal that names this error, unless memory runs out
 abbrev pub Refuses : Offence → Result Outcome NoMemory → Type 0
 Refuses offence (Ok (Answered answer form)) = ⊥
 Refuses offence (Ok (Refused reason)) = IsFaultOf offence reason
@@ -117,7 +122,8 @@ Refuses offence (Ok Large) = ⊥
 Refuses offence (Ok (Told lines)) = ⊥
 Refuses offence (Err e) = Unit {0}
 
--- words that first fail at this word and byte are refused there
+-- the outcome of words that are no command and first fail at byte `byte` of word `word`: the refusal `Syntax` with
+-- this place, unless memory runs out
 abbrev pub GoesWrong : ℕ → ℕ → Result Outcome NoMemory → Type 0
 GoesWrong word byte (Ok (Answered answer form)) = ⊥
 GoesWrong word byte (Ok (Refused reason)) =
@@ -128,7 +134,7 @@ GoesWrong word byte (Err e) = Unit {0}
 
 -- ---- the task for words: lines to be run, or an outcome to be written
 
--- the command does not run other commands
+-- the command is neither `batch` nor `work`, so it does not run other commands
 abbrev pub RunsNoOther : PlainCommand → Type 0
 RunsNoOther batch = ⊥
 RunsNoOther (work lines seed) = ⊥
@@ -149,28 +155,31 @@ IsTaskFor words (Ok (Workload lines seed)) =
 IsTaskFor words (Ok (Put outcome)) = Computes command_entries words (Ok outcome)
 IsTaskFor words (Err e) = Unit {0}
 
--- a command without an error is not refused, except as too large; `batch` runs lines, and `work` runs generated lines
+-- The task for words that spell the command without an error: to run lines, only if the command is `batch`; to run generated lines, only if it is
+-- `work`; or, if it is not `batch`, to write an outcome, which is no refusal except as too large (`Accepts`). Nothing is required if memory runs out.
 abbrev pub AcceptsTask : PlainCommand → Result Task NoMemory → Type 0
 AcceptsTask command (Ok Lines) = command ≡ batch
 AcceptsTask command (Ok (Workload lines seed)) = command ≡ work lines seed
 AcceptsTask command (Ok (Put outcome)) = Accepts command (Ok outcome) × (command ≢ batch)
 AcceptsTask command (Err e) = Unit {0}
 
--- words whose first error is `offence` are refused with it
+-- the task for words whose first error is `offence`: to write the refusal that names this error, unless memory runs
+-- out
 abbrev pub RefusesTask : Offence → Result Task NoMemory → Type 0
 RefusesTask offence (Ok Lines) = ⊥
 RefusesTask offence (Ok (Workload lines seed)) = ⊥
 RefusesTask offence (Ok (Put outcome)) = Refuses offence (Ok outcome)
 RefusesTask offence (Err e) = Unit {0}
 
--- words that first fail at this word and byte are refused there
+-- the task for words that are no command and first fail at byte `byte` of word `word`: to write the refusal `Syntax`
+-- with this place, unless memory runs out
 abbrev pub TaskGoesWrong : ℕ → ℕ → Result Task NoMemory → Type 0
 TaskGoesWrong word byte (Ok Lines) = ⊥
 TaskGoesWrong word byte (Ok (Workload lines seed)) = ⊥
 TaskGoesWrong word byte (Ok (Put outcome)) = GoesWrong word byte (Ok outcome)
 TaskGoesWrong word byte (Err e) = Unit {0}
 
--- ---- the text that is written
+-- ---- the text that is written for an outcome, and its status
 
 -- the text of an outcome: the answer in its form, or the line of the refusal
 abbrev pub text_of : Outcome → List ℕ
@@ -193,7 +202,7 @@ HasBlock (Refused reason) = Unit {0}
 HasBlock Large = Unit {0}
 HasBlock (Told lines) = Unit {0}
 
--- the status of words that are refused
+-- the status of words that are refused for the given reason
 abbrev pub refusal_status : WordsFault → Status
 refusal_status (fault.Syntax at) = status.Syntax
 refusal_status (fault.Literal at) = status.Past
@@ -201,7 +210,7 @@ refusal_status (fault.Range at) = status.Range
 refusal_status (fault.Shape at) = status.Range
 refusal_status fault.NoMemory = status.NoMemory
 
--- the status after the outcome, if the sink does not fail
+-- the status with which a run ends after the outcome is written, if no call of the sink fails
 abbrev pub status_for : Outcome → Status
 status_for (Answered answer form) = status.Done
 status_for (Refused reason) = refusal_status reason

@@ -1,3 +1,3 @@
--- The definitions that the contracts cite.
+-- The modules of definitions that the contracts of `calc_replies` refer to.
 pub mod Forms
 pub mod Computed

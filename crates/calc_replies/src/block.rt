@@ -1,4 +1,4 @@
-//! The text that is written for an outcome, and the status of the outcome.
+//! Writes the text of an outcome to a sink, and computes the status with which the run then ends.
 
 ghost use Rattle.std.specs.Prelude.{◌≡◌, ◌++◌, true};
 ghost use Rattle.calc_base.specs.Puts.{Puts};
@@ -11,8 +11,8 @@ use crate::tableau_answer::put_told;
 use calc_base::{Sink, Status, WordsFault};
 use expansion_printer::{print_large, print_refusal};
 
-/// Writes the text `front` and then the block of the answer or the line of the refusal. It returns
-/// whether all calls of the sink succeeded.
+/// Writes the text `front` to the sink, followed by the text of the outcome (`text_of`): its answer
+/// or the line of its refusal. Returns whether all calls of the sink succeeded.
 pub fn put_text<K: Sink>(front: &[u8], outcome: &mut Outcome, sink: &mut K) -> bool
     requires { HasText outcome.old }
     ensures goes { Puts true (K.seen sink.old) result (K.seen sink.new)
@@ -27,14 +27,15 @@ pub fn put_text<K: Sink>(front: &[u8], outcome: &mut Outcome, sink: &mut K) -> b
     }
 }
 
-/// Writes the text `front`, unless it is empty, and returns whether the sink did not fail.
+/// Writes the text `front` to the sink, unless it is empty, and returns whether the call of the
+/// sink succeeded.
 fn put_front<K: Sink>(front: &[u8], sink: &mut K) -> bool
     ensures { Puts true (K.seen sink.old) result (K.seen sink.new) front.now }
 {
     front.is_empty() || sink.put(front).is_ok()
 }
 
-/// The status at the end for this outcome, if the sink does not fail.
+/// The status with which a run ends after the outcome is written, if no call of the sink fails.
 pub fn status_if_put(outcome: &Outcome) -> Status
     ensures { result ≡ status_for outcome.now }
 {
@@ -45,7 +46,7 @@ pub fn status_if_put(outcome: &Outcome) -> Status
     }
 }
 
-/// The status of words that are refused.
+/// The status of words that are refused for the reason `fault`.
 fn refused(fault: WordsFault) -> Status
     ensures { result ≡ refusal_status fault }
 {

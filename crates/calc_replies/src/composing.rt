@@ -1,4 +1,4 @@
-//! The answer to `plethysm`.
+//! The answer to the command `plethysm`.
 ghost use Rattle.std.specs.Prelude.{◌≡◌, ℕ, ◌^◌, ◌≤◌, IfOk, IsErrOf};
 ghost use Rattle.sym_model.specs.Command as commands;
 ghost use Rattle.sym_model.specs.Expansion.{monomials, IsExpansionOf};
@@ -21,10 +21,11 @@ use linear_combinations::{Lin, Terms};
 use partitions::Partition;
 use std::alloc::Global;
 
-/// The bound for a list without terms.
+/// The bound (`IsBounded`) for the coefficients of the empty list.
 const NOTHING: Weight = Weight { num: 1, den: 1 };
 
-/// The plethysm of two formulas in the target basis.
+/// The outcome of `plethysm`: the plethysm F[G] of F = `outer` and G = `inner` in the basis
+/// `target`, or `Large` if it is too large.
 pub(crate) fn composed(
     alloc: Global,
     target: Basis,
@@ -43,7 +44,8 @@ pub(crate) fn composed(
     }
 }
 
-/// The plethysm in the target, in the printed order.
+/// The plethysm F[G] of F = `outer` and G = `inner` in the basis `target`, as a list of terms in
+/// the printed order.
 fn composition(
     alloc: Global,
     target: Basis,
@@ -65,7 +67,8 @@ fn composition(
     Ok(terms)
 }
 
-/// The plethysm in the target, unordered.
+/// The plethysm F[G] of F = `outer` and G = `inner` in the basis `target`, as an unordered list of
+/// terms.
 fn in_target(
     alloc: Global,
     target: Basis,
@@ -87,13 +90,14 @@ fn in_target(
     };
     let list = to_monomial(alloc, outer)?;
     if outer.degree() == 0 {
-        // The answer does not depend on the inner expression, which is not expanded.
+        // If F = `outer` is constant, F[G] does not depend on G = `inner`, which is not expanded.
         return plethysm::plethysm(alloc, &list, bound, &Lin::new(alloc), NOTHING, target);
     }
     substituted(alloc, target, outer, &list, bound, inner)
 }
 
-/// The plethysm of a formula of positive degree, given its expansion in m with the bound.
+/// The plethysm F[G] of F = `outer` and G = `inner` in the basis `target`, for F of positive
+/// degree. `list` is the expansion of F in m, and `bound` a bound for its coefficients.
 fn substituted(
     alloc: Global,
     target: Basis,

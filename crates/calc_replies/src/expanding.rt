@@ -1,4 +1,4 @@
-//! The answer to `expand`.
+//! The answer to the command `expand`.
 ghost use Rattle.std.specs.Prelude.{◌≡◌, ℕ, ◌*◌, ◌^◌, ◌≤◌, IfOk, IsErrOf};
 ghost use Rattle.sym_model.specs.Command.{expand};
 ghost use Rattle.sym_model.specs.Expansion.{IsExpansionOf};
@@ -23,7 +23,8 @@ use partitions::Partition;
 use sparse_polys::Family;
 use std::alloc::Global;
 
-/// The expansion of a formula in the target basis.
+/// The outcome of `expand`: the expansion of a formula in the basis `target`, or `Large` if it is
+/// too large.
 pub(crate) fn expanded(
     alloc: Global,
     target: Basis,
@@ -43,7 +44,7 @@ pub(crate) fn expanded(
     }
 }
 
-/// The expansion in the target, in the printed order.
+/// The expansion of a formula in the basis `target`, as a list of terms in the printed order.
 fn expansion(
     alloc: Global,
     target: Basis,
@@ -60,7 +61,7 @@ fn expansion(
     Ok(terms)
 }
 
-/// The expansion in the target, unordered.
+/// The expansion of a formula in the basis `target`, as an unordered list of terms.
 fn in_target(
     alloc: Global,
     target: Basis,
@@ -81,8 +82,9 @@ fn in_target(
     }
 }
 
-/// The expansion in e, h or p, unordered: node by node in the target and, if a number is then too
-/// large, by way of m.
+/// The expansion of a formula in e, h or p, as an unordered list of terms. Each subexpression is
+/// expanded in this basis; if a number is then too large, the formula is expanded in m, and the
+/// result is converted to the basis.
 fn by_family(
     alloc: Global,
     target: Basis,
@@ -103,7 +105,8 @@ fn by_family(
     }
 }
 
-/// The expansion of the formula in the target, by way of that in m; unordered.
+/// The expansion of a formula in the basis `target`, as an unordered list of terms: the formula is
+/// expanded in m, and the result is converted to the basis.
 fn by_monomials(
     alloc: Global,
     target: Basis,

@@ -1,4 +1,4 @@
-//! The printed forms of answers.
+//! The printed forms of answers: a block of lines, or one line.
 
 ghost use Rattle.std.specs.Prelude.{◌≡◌, ◌++◌, true};
 ghost use Rattle.calc_base.specs.Puts.{Puts};
@@ -15,11 +15,12 @@ use expansion_printer::{Answer, print_after, print_one_line_after};
 pub enum Form {
     /// A block, with a line for each term.
     Block,
-    /// One line, with the atoms of a basis.
+    /// One line, an expression with the atoms of a basis, such as `s[2,1]`.
     Line { basis: Basis },
 }
 
-/// The one-line form with the atoms of the basis, if it is asked for, and otherwise the block.
+/// The printed form that a command asks for: one line with the atoms of the basis if `one_line` is
+/// true, and otherwise the block.
 pub(crate) fn asked_form(one_line: bool, basis: Basis) -> Form
     ensures { result ≡ form_asked one_line basis }
 {
@@ -30,8 +31,8 @@ pub(crate) fn asked_form(one_line: bool, basis: Basis) -> Form
     }
 }
 
-/// Writes the text `front` and then the answer in the form. It returns whether all calls of the
-/// sink succeeded.
+/// Writes the text `front` to the sink, followed by the answer in the given form. Returns whether
+/// all calls of the sink succeeded.
 pub(crate) fn put_answer<K: Sink>(front: &[u8], answer: &Answer, form: Form, sink: &mut K) -> bool
     ensures goes { Puts true (K.seen sink.old) result (K.seen sink.new)
         (front.now ++ answer_text_in (plain_form form) (plain_answer answer.now)) }

@@ -1,4 +1,4 @@
-//! The answer to `growth`.
+//! The answer to the command `growth`.
 ghost use Rattle.std.specs.Prelude.{◌≡◌, true};
 ghost use Rattle.calc_base.specs.Puts.{Puts};
 ghost use Rattle.sym_model.specs.Command as commands;
@@ -13,7 +13,7 @@ use growth_diagrams::{Grid, grow};
 use perm_codes::Perm;
 use std::alloc::Global;
 
-/// The growth diagram of a permutation.
+/// The outcome of `growth`: the growth diagram of a permutation.
 pub(crate) fn growth(alloc: Global, perm: &Perm) -> Result<Outcome, NoMemory>
     ensures { IsReplyTo (commands.growth perm.now) result }
 {
@@ -21,7 +21,8 @@ pub(crate) fn growth(alloc: Global, perm: &Perm) -> Result<Outcome, NoMemory>
     Ok(told(TableauAnswer::Grown { grid }))
 }
 
-/// Writes the lines of a growth diagram until the sink fails; returns whether it did not.
+/// Writes the lines of a growth diagram to the sink, until a call of the sink fails. Returns
+/// whether all calls succeeded.
 pub(crate) fn put_grid<K: Sink>(grid: &Grid, sink: &mut K) -> bool
     ensures { Puts true (K.seen sink.old) result (K.seen sink.new) (grid_text grid.now) }
 {

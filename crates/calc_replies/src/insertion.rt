@@ -1,4 +1,4 @@
-//! The answers to `rsk`, `unrsk` and `rect`.
+//! The answers to the commands `rsk`, `unrsk` and `rect`.
 ghost use Rattle.sym_model.specs.Command as commands;
 ghost use Rattle.calc_words.specs.Pairs.{IsPair};
 ghost use Rattle.calc_words.specs.WrittenLimits.{KeepsLimits};
@@ -12,7 +12,7 @@ use row_insertion::{insert_word, word_of_pair};
 use skew_shapes::{Standard, Tableau};
 use std::alloc::Global;
 
-/// The insertion tableau and the recording tableau of a word.
+/// The outcome of `rsk`: the insertion tableau and the recording tableau of a word.
 pub(crate) fn rsk(alloc: Global, letters: &Word) -> Result<Outcome, NoMemory>
     requires { KeepsLimits (commands.rsk letters.now) }
     ensures { IsReplyTo (commands.rsk letters.now) result }
@@ -21,7 +21,8 @@ pub(crate) fn rsk(alloc: Global, letters: &Word) -> Result<Outcome, NoMemory>
     Ok(told(TableauAnswer::Paired { p, q }))
 }
 
-/// The word whose insertion gives a pair of tableaux.
+/// The outcome of `unrsk`: the word that row insertion takes to the pair of an insertion tableau P
+/// and a recording tableau Q.
 pub(crate) fn unrsk(alloc: Global, p: &Tableau, q: &Standard) -> Result<Outcome, NoMemory>
     requires { IsPair p.now q.now }
     ensures { IsReplyTo (commands.unrsk p.now.rows q.now.rows) result }
@@ -30,7 +31,7 @@ pub(crate) fn unrsk(alloc: Global, p: &Tableau, q: &Standard) -> Result<Outcome,
     Ok(told(TableauAnswer::Spelled { word }))
 }
 
-/// The rectification of a tableau.
+/// The outcome of `rect`: the rectification of a skew tableau.
 pub(crate) fn rect(tableau: &Tableau) -> Result<Outcome, NoMemory>
     ensures { IsReplyTo (commands.rect tableau.now.outer tableau.now.inner tableau.now.rows)
         result }

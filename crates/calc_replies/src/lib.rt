@@ -3,10 +3,12 @@
 //!
 //! What is proved:
 //!
-//! `task_of`: the task for words: the whole answer to their command, `Large` if the answer is too
-//! large, or their refusal. `reply_to` and `reply_by`: the outcome of a command, without and with a
-//! store of Schubert polynomials. `put_text` writes a given text and then the text that is defined
-//! for an outcome, whose block can be read back; `status_if_put` is its status.
+//! `task_of` returns the task for words: to write the whole answer to their command, `Large` if the
+//! answer is too large, or the refusal of the words; or to run the lines of `batch` or `work`.
+//! `reply_to` and `reply_by` return the outcome of a command, without and with a store of Schubert
+//! polynomials. `put_text` writes a given text, followed by the text of an outcome (`text_of`); if
+//! the outcome is an answer, its text can be read back. `status_if_put` is the status with which a
+//! run ends after the outcome is written.
 #![tactic(auto)]
 
 mod block;

@@ -1,4 +1,4 @@
-//! The list of `tab`, of which each tableau is written when it is found.
+//! The tableaux that the command `tab` lists. Each tableau is written as soon as it is found.
 ghost use Rattle.std.specs.Prelude.{◌≡◌, ◌≤◌, true, length, IfOk};
 ghost use Rattle.std.specs.List.{flat_map};
 ghost use Rattle.calc_base.specs.Puts.{Puts};
@@ -19,7 +19,7 @@ use skew_shapes::Skew;
 use std::alloc::Global;
 use tableau_iter::{Lattice, ResumeFault};
 
-/// The lattice tableaux of a skew shape.
+/// The lattice tableaux of a skew shape that have not been listed yet.
 #[derive(Drop)]
 pub struct Listing {
     /// The skew shape, with the order in which its cells are printed.
@@ -28,8 +28,8 @@ pub struct Listing {
     pub lattice: Lattice,
 }
 
-/// A lister of the lattice tableaux of a shape: of all of them, or of those after the tableau with
-/// the column reading `after`, which must be in the list.
+/// The lister (`Lattice`) of the column readings of the lattice tableaux of a shape: of all of
+/// them, or of those after the tableau with the column reading `after`, which must be in the list.
 fn listed(alloc: Global, shape: &Skew, after: &Option<Word>) -> Result<Lattice, NoMemory>
     requires small { size shape.now.0 ≤ 512 }
     requires listed { IsInList shape.now.0 shape.now.1 after.now }
@@ -47,9 +47,9 @@ fn listed(alloc: Global, shape: &Skew, after: &Option<Word>) -> Result<Lattice, 
     }
 }
 
-/// The lattice tableaux of shape outer/inner: all of them, or those after the tableau with the
-/// column reading `after`, which must be in the list. If the outer shape does not contain the inner
-/// one, there is no tableau.
+/// The outcome of `tab`: the lattice tableaux of shape outer/inner, all of them, or those after the
+/// tableau with the column reading `after`, which must be in the list. If the outer shape does not
+/// contain the inner one, there is no tableau.
 pub(crate) fn tab(
     alloc: Global,
     outer: &Partition,
@@ -69,8 +69,8 @@ pub(crate) fn tab(
     }))
 }
 
-/// Writes the list: a line for each tableau, or the line `0` if there is none. It returns whether
-/// all calls of the sink succeeded.
+/// Writes the tableaux of the list to the sink, a line for each, or the line `0` if there is no
+/// tableau. Returns whether all calls of the sink succeeded.
 pub(crate) fn put_listed<K: Sink>(list: &mut Option<Listing>, sink: &mut K) -> bool
     ensures { Puts true (K.seen sink.old) result (K.seen sink.new) (listing_text list.old) }
 {
@@ -80,7 +80,8 @@ pub(crate) fn put_listed<K: Sink>(list: &mut Option<Listing>, sink: &mut K) -> b
     }
 }
 
-/// Writes the lines of the tableaux, or the line `0` if there is none.
+/// Writes a line to the sink for each tableau not listed yet, or the line `0` if there is no such
+/// tableau. Returns whether all calls of the sink succeeded.
 fn put_listing<K: Sink>(list: &mut Listing, sink: &mut K) -> bool
     ensures { Puts true (K.seen sink.old) result (K.seen sink.new)
         (readings_text list.old.order.0 list.old.order.1 list.old.lattice.rest) }
@@ -92,7 +93,8 @@ fn put_listing<K: Sink>(list: &mut Listing, sink: &mut K) -> bool
     put_lines(well, &list.order, &mut list.lattice, sink)
 }
 
-/// If `well`, writes a line for each tableau not listed yet, until the sink fails.
+/// If `well` is true, that is, if no call of the sink has failed so far, writes a line for each
+/// tableau not listed yet, until a call fails. Returns whether all calls of the sink succeeded.
 fn put_lines<K: Sink>(well: bool, order: &ReadingOrder, lattice: &mut Lattice, sink: &mut K) -> bool
     ensures { Puts well (K.seen sink.old) result (K.seen sink.new)
         (flat_map (λ w. tableau_line (filling_of order.now.0 order.now.1 w)) lattice.old.rest) }

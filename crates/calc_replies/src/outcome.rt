@@ -1,4 +1,4 @@
-//! The outcome of the words of a command, before anything is written.
+//! The outcome of the words of a command, which is computed before anything is written.
 ghost use Rattle.std.specs.Prelude.{◌≡◌, ℕ, Some, map, string_bytes};
 ghost use Rattle.sym_model.specs.Command.{Command as PlainCommand};
 ghost use Rattle.sym_model.specs.CommandOffence.{Offence};
@@ -23,13 +23,13 @@ use std::alloc::Global;
 
 /// The outcome of the words of a command.
 pub enum Outcome {
-    /// The whole answer, and the form in which it is printed.
+    /// The command is answered: the whole answer, and the form in which it is printed.
     Answered { answer: Answer, form: Form },
-    /// The words are no command that can be run. The fault is not that memory ran out.
+    /// The words are refused, for the reason `fault`, which is not that memory ran out.
     Refused { fault: WordsFault },
-    /// The answer is too large.
+    /// The command is refused, since its answer is too large.
     Large,
-    /// The answer of a command on tableaux.
+    /// The answer of a command on tableaux: `tab`, `rsk`, `unrsk`, `rect` or `growth`.
     Told { lines: TableauAnswer },
 }
 
@@ -46,14 +46,15 @@ impl Drop for Outcome {
     }
 }
 
-/// The task for the words of a command.
+/// The task that the words of a command set: to run lines, or to write an outcome.
 #[derive(Drop)]
 pub enum Task {
-    /// The lines of the input are to be run.
+    /// The lines of the input are to be run (`batch`).
     Lines,
-    /// Lines of the generator are to be run: `lines` of them, from the seed on.
+    /// Generated lines are to be run (`work`): the first `lines` lines that are generated from
+    /// `seed`.
     Workload { lines: u16, seed: u32 },
-    /// The outcome of the words is to be written.
+    /// The outcome of the words is to be written (every other command, and refused words).
     Put { outcome: Outcome },
 }
 
@@ -67,8 +68,8 @@ pub(crate) fn as_block(answer: Answer) -> Outcome
     }
 }
 
-/// The outcome of a command that asks for an expansion: its answer, which is printed in the form
-/// `form`, or `Large`.
+/// The outcome of a command that asks for an expansion: `answer`, which is to be printed in the
+/// form `form`, or `Large` if the answer is too large.
 pub(crate) fn answered(answer: Result<Answer, SumFault>, form: Form) -> Result<Outcome, NoMemory>
     ensures { result ≡ reply_of answer form }
 {
@@ -79,8 +80,8 @@ pub(crate) fn answered(answer: Result<Answer, SumFault>, form: Form) -> Result<O
     }
 }
 
-/// The task for the words: the whole answer or the refusal to be written, or lines to be run. Fails
-/// only if memory runs out.
+/// The task for the words of a command: to write the whole answer or the refusal, or to run lines.
+/// Fails only if memory runs out.
 pub fn task_of(alloc: Global, words: &[String]) -> Result<Task, NoMemory>
     ensures computes { IsTaskFor (map string_bytes words.now) result }
     ensures accepts { (command : PlainCommand)
@@ -108,7 +109,7 @@ pub fn task_of(alloc: Global, words: &[String]) -> Result<Task, NoMemory>
     }
 }
 
-/// The task of a command.
+/// The task for a command: to write its outcome, or to run lines.
 fn task_for(alloc: Global, command: &Command) -> Result<Task, NoMemory>
     requires limits { IsWithinItsLimits command.now }
     requires sound { IsSound command.now }
@@ -127,8 +128,9 @@ fn task_for(alloc: Global, command: &Command) -> Result<Task, NoMemory>
     }
 }
 
-/// The outcome of a command of a line, with a store of Schubert polynomials of earlier lines. The
-/// command must be within its limits, and not be `batch` or `work`. Fails only if memory runs out.
+/// The outcome of a command that is a line of a batch. Schubert polynomials of earlier lines are
+/// taken from the store `memo`. The command must be within its limits, and not be `batch` or
+/// `work`. Fails only if memory runs out.
 pub fn reply_by(alloc: Global, memo: &mut Memo, command: &Command) -> Result<Outcome, NoMemory>
     requires limits { IsWithinItsLimits command.now }
     requires sound { IsSound command.now }
@@ -141,8 +143,8 @@ pub fn reply_by(alloc: Global, memo: &mut Memo, command: &Command) -> Result<Out
     }
 }
 
-/// The outcome of a command: its answer, or that it is too large. The command must be within its
-/// limits, and not be `batch` or `work`. Fails only if memory runs out.
+/// The outcome of a command: its answer, or `Large` if it is too large. The command must be within
+/// its limits, and not be `batch` or `work`. Fails only if memory runs out.
 pub fn reply_to(alloc: Global, command: &Command) -> Result<Outcome, NoMemory>
     requires limits { IsWithinItsLimits command.now }
     requires sound { IsSound command.now }

@@ -1,4 +1,4 @@
-//! The answers to `schubert`, `schubmult`, `dschubmult` and `stanley`.
+//! The answers to the commands `schubert`, `schubmult`, `dschubmult` and `stanley`.
 ghost use Rattle.sym_model.specs.Command as commands;
 ghost use Rattle.calc_words.specs.WrittenLimits.{KeepsLimits};
 ghost use Rattle.calc_replies.specs.Computed.{IsReplyTo};
@@ -10,7 +10,8 @@ use perm_codes::Perm;
 use schubert_transition::{Memo, schubert_terms};
 use std::alloc::Global;
 
-/// The Schubert polynomial of a permutation.
+/// The outcome of `schubert`: the Schubert polynomial of a permutation, or `Large` if it is too
+/// large.
 pub(crate) fn schubert(alloc: Global, perm: &Perm) -> Result<Outcome, NoMemory>
     ensures { IsReplyTo (commands.schubert perm.now) result }
 {
@@ -21,7 +22,8 @@ pub(crate) fn schubert(alloc: Global, perm: &Perm) -> Result<Outcome, NoMemory>
     }
 }
 
-/// The Schubert polynomial of a permutation, taken from the store if it is there.
+/// The outcome of `schubert`: the Schubert polynomial of a permutation, or `Large` if it is too
+/// large. If the store `memo` has the polynomial, it is taken from there.
 pub(crate) fn schubert_by(memo: &mut Memo, perm: &Perm) -> Result<Outcome, NoMemory>
     ensures { IsReplyTo (commands.schubert perm.now) result }
 {
@@ -32,7 +34,8 @@ pub(crate) fn schubert_by(memo: &mut Memo, perm: &Perm) -> Result<Outcome, NoMem
     }
 }
 
-/// The product of two Schubert polynomials.
+/// The outcome of `schubmult`: the product of two Schubert polynomials, or `Large` if it is too
+/// large.
 pub(crate) fn schubmult(alloc: Global, left: &Perm, right: &Perm) -> Result<Outcome, NoMemory>
     requires { KeepsLimits (commands.schubmult left.now right.now) }
     ensures { IsReplyTo (commands.schubmult left.now right.now) result }
@@ -44,7 +47,8 @@ pub(crate) fn schubmult(alloc: Global, left: &Perm, right: &Perm) -> Result<Outc
     }
 }
 
-/// The product of two double Schubert polynomials.
+/// The outcome of `dschubmult`: the product of two double Schubert polynomials, or `Large` if it is
+/// too large.
 pub(crate) fn dschubmult(alloc: Global, left: &Perm, right: &Perm) -> Result<Outcome, NoMemory>
     requires { KeepsLimits (commands.dschubmult left.now right.now) }
     ensures { IsReplyTo (commands.dschubmult left.now right.now) result }
@@ -56,7 +60,8 @@ pub(crate) fn dschubmult(alloc: Global, left: &Perm, right: &Perm) -> Result<Out
     }
 }
 
-/// The Stanley polynomial of a permutation, in `rows` variables.
+/// The outcome of `stanley`: the Stanley polynomial of a permutation, in `rows` variables, or
+/// `Large` if it is too large.
 pub(crate) fn stanley(alloc: Global, rows: u16, perm: &Perm) -> Result<Outcome, NoMemory>
     requires { KeepsLimits (commands.stanley rows perm.now) }
     ensures { IsReplyTo (commands.stanley rows perm.now) result }

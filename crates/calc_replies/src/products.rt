@@ -1,4 +1,4 @@
-//! The answers to `mult`, `skew`, `coef` and `coprod`.
+//! The answers to the commands `mult`, `skew`, `coef` and `coprod`.
 ghost use Rattle.sym_model.specs.Command as commands;
 ghost use Rattle.calc_words.specs.WrittenLimits.{KeepsLimits};
 ghost use Rattle.calc_replies.specs.Computed.{IsReplyTo};
@@ -11,7 +11,8 @@ use lr_product::mult_all;
 use partitions::{Factors, Partition};
 use std::alloc::Global;
 
-/// The product of Schur functions, in `rows` variables if a number of rows is given.
+/// The outcome of `mult`: the product of Schur functions, or `Large` if it is too large. If a
+/// number of rows is given, the product is in `rows` variables.
 pub(crate) fn mult(
     alloc: Global,
     rows: Option<u16>,
@@ -27,7 +28,8 @@ pub(crate) fn mult(
     )
 }
 
-/// A skew Schur function in Schur functions, in `rows` variables if a number of rows is given.
+/// The outcome of `skew`: a skew Schur function as a sum of Schur functions, or `Large` if it is
+/// too large. If a number of rows is given, it is in `rows` variables.
 pub(crate) fn skew(
     alloc: Global,
     rows: Option<u16>,
@@ -44,7 +46,8 @@ pub(crate) fn skew(
     )
 }
 
-/// The coefficient of one Schur function in the product of two others.
+/// The outcome of `coef`: the coefficient of one Schur function in the product of two others, or
+/// `Large` if it is too large.
 pub(crate) fn coef(
     alloc: Global,
     outer: &Partition,
@@ -60,7 +63,7 @@ pub(crate) fn coef(
     )
 }
 
-/// The coproduct of a Schur function.
+/// The outcome of `coprod`: the coproduct of a Schur function, or `Large` if it is too large.
 pub(crate) fn coprod(alloc: Global, shape: &Partition) -> Result<Outcome, NoMemory>
     ensures { IsReplyTo (commands.coprod shape.now) result }
 {

@@ -1,4 +1,4 @@
-//! The answers to `quantum` and `fusion`.
+//! The answers to the commands `quantum` and `fusion`.
 ghost use Rattle.sym_model.specs.Command as commands;
 ghost use Rattle.calc_words.specs.WrittenLimits.{KeepsLimits};
 ghost use Rattle.calc_replies.specs.Computed.{IsReplyTo};
@@ -10,7 +10,8 @@ use expansion_printer::Answer;
 use partitions::Factors;
 use std::alloc::Global;
 
-/// The product of the classes of shapes in the quantum cohomology of Gr(rows, rows + cols).
+/// The outcome of `quantum`: the quantum product of shapes for `rows` rows and `cols` columns, or
+/// `Large` if it is too large.
 pub(crate) fn quantum(
     alloc: Global,
     rows: u16,
@@ -26,7 +27,8 @@ pub(crate) fn quantum(
     )
 }
 
-/// The fusion product of shapes, for partitions with at most `rows` rows, at level `level`.
+/// The outcome of `fusion`: the fusion product of shapes for partitions with at most `rows` rows,
+/// at level `level`, or `Large` if it is too large.
 pub(crate) fn fusion(
     alloc: Global,
     rows: u16,

@@ -1,4 +1,5 @@
-//! The answers of the commands on tableaux, and their text.
+//! The answers to the commands on tableaux, `tab`, `rsk`, `unrsk`, `rect` and `growth`, and their
+//! text.
 ghost use Rattle.std.specs.Prelude.{◌≡◌, true};
 ghost use Rattle.calc_base.specs.Puts.{Puts};
 ghost use Rattle.sym_model.specs.TableauText.{tableau_line, pair_text};
@@ -12,29 +13,30 @@ use expansion_printer::{print_letters, print_tableau};
 use growth_diagrams::Grid;
 use skew_shapes::{Standard, Tableau};
 
-/// The answer of a command on tableaux. Such a command asks for no expansion.
+/// The answer to a command on tableaux: `tab`, `rsk`, `unrsk`, `rect` or `growth`. It is not a list
+/// of terms.
 #[derive(Drop)]
 pub enum TableauAnswer {
-    /// The tableaux to be listed; `None` if the shape is not a skew shape.
+    /// The tableaux that `tab` lists; `None` if the outer shape does not contain the inner one.
     Listed { list: Option<Listing> },
-    /// The insertion tableau and the recording tableau of a word.
+    /// For `rsk`: the insertion tableau and the recording tableau of a word.
     Paired { p: Tableau, q: Standard },
-    /// The letters of a word.
+    /// For `unrsk`: the letters of a word.
     Spelled { word: Word },
-    /// A tableau of a straight shape.
+    /// For `rect`: a tableau of a straight shape.
     Straight { tableau: Tableau },
-    /// The growth diagram of a permutation.
+    /// For `growth`: the growth diagram of a permutation.
     Grown { grid: Grid },
 }
 
-/// The outcome with these lines.
+/// The outcome of a command on tableaux, with the answer `lines`.
 pub(crate) fn told(lines: TableauAnswer) -> Outcome
     ensures { result ≡ Outcome.Told lines }
 {
     Outcome::Told { lines }
 }
 
-/// Writes the lines, and returns whether all calls of the sink succeeded.
+/// Writes the text of the answer to the sink, and returns whether all calls of the sink succeeded.
 pub(crate) fn put_told<K: Sink>(lines: &mut TableauAnswer, sink: &mut K) -> bool
     ensures { Puts true (K.seen sink.old) result (K.seen sink.new) (lines_text lines.old) }
 {
@@ -47,7 +49,8 @@ pub(crate) fn put_told<K: Sink>(lines: &mut TableauAnswer, sink: &mut K) -> bool
     }
 }
 
-/// Writes the lines of two tableaux, each with its name in front.
+/// Writes the lines of the tableaux P and Q, each with its name in front, and returns whether all
+/// calls of the sink succeeded.
 fn put_pair<K: Sink>(p: &Tableau, q: &Tableau, sink: &mut K) -> bool
     ensures { Puts true (K.seen sink.old) result (K.seen sink.new)
         (pair_text p.now.rows q.now.rows) }
@@ -58,7 +61,8 @@ fn put_pair<K: Sink>(p: &Tableau, q: &Tableau, sink: &mut K) -> bool
     put_tableau(second, q, sink)
 }
 
-/// Writes the line of a tableau if all calls of the sink succeeded so far.
+/// Writes the line of a tableau if `well` is true, that is, if no call of the sink has failed so
+/// far. Returns whether all calls of the sink succeeded.
 fn put_tableau<K: Sink>(well: bool, tableau: &Tableau, sink: &mut K) -> bool
     ensures { Puts well (K.seen sink.old) result (K.seen sink.new) (tableau_line tableau.now.rows) }
 {

@@ -1,4 +1,4 @@
--- Words that have been read: the command that they spell, and the first error of two lists.
+-- Correct results of reading the words of one command, and the first error of two lists of errors, one after the other.
 use Rattle.std.proofs.Common.{◌≡◌, ℕ, ◌+◌, ◌-◌, map, arith, Option, List, [], ◌∷◌, ◌++◌, length, sym, ap, ◌∙◌, subst, Some, None, Result, Ok, Err, inl}
 use Rattle.std.proofs.lemmas.List.{length-map}
 use Rattle.sym_model.specs.PrintedBlock.{decimal_value}
@@ -27,8 +27,8 @@ first_refused e words has (Range at) h = inl (record { has = has; first_is = sym
 first_refused e words has (Shape at) h = inl (record { has = has; first_is = sym h })
 first_refused e words has NoMemory h = tt
 
--- if words have the form of the command e and spell the command `said`, a result that is correct for `said` and the
--- first error of the words is a correct result of reading them
+-- if words have the form of the command e and spell the command `said`, a result that is correct for `said` and for the first error of the words
+-- (`IsJudged`) is a correct result of reading them (`IsRead`)
 pub read_standing : (e : Entry) (words : Words) (has : Has e.form words) (said : Command) → said ≡ e.says has.written → (r : Result Read WordsFault)
     → IsJudged (StandsFor said) (first_offence (e.offends has.written)) r → IsRead (e ∷ []) words r
 read_standing e words has said is (Ok command) h = (inl (record { has = has; says_it = h.0.0 ∙ is; no_offence = h.1 }), h.0.1)
@@ -40,7 +40,7 @@ read_judged e words has x is sound (Ok command) h =
     (inl (record { has = has; says_it = ap command_of h.0 ∙ is; no_offence = h.1 }), subst IsSound (sym h.0) sound)
 read_judged e words has x is sound (Err fault) h = first_refused e words has fault h
 
--- if `later` is `first` whenever `first` is an error, a fault that is the error `first` is the error `later`
+-- if `later` equals `first` whenever `first` is an error, a fault that is the error `first` is the error `later`
 pub judged_on : (first later : Option Offence) (fault : WordsFault) → ((o : Offence) → first ≡ Some o → later ≡ Some o)
     → IsFirst first fault → IsFirst later fault
 judged_on first later (Syntax at) f h = h
@@ -49,7 +49,7 @@ judged_on first later (Range at) f h = f (at.word, at.byte, range) h
 judged_on first later (Shape at) f h = f (at.word, at.byte, shape) h
 judged_on first later NoMemory f h = h
 
--- if all errors of xs are before those of ys, a fault that is the first error of xs is the first error of xs ++ ys
+-- if each error of xs is at an earlier word than each error of ys, a fault that is the first error of xs is the first error of xs ++ ys
 pub judged_err : (xs ys : List Offence) (fault : WordsFault) → AllBefore xs ys
     → IsFirst (first_offence xs) fault → IsFirst (first_offence (xs ++ ys)) fault
 judged_err xs ys fault b h = judged_on (first_offence xs) (first_offence (xs ++ ys)) fault (λ o e. first-append xs ys o e b) h
@@ -69,14 +69,14 @@ parts_before k left right p q m n =
     let l = length-map left decimal_value in
     omega (arith, a.1, b.0, l)
 
--- if the first of two partitions has an error, it is the first error of both
+-- if the left partition has an error, a fault that is its first error is the first error of the two partitions
 pub first_faulty : (k : ℕ) (left right : Words) (fault : WordsFault)
     → IsFirst (first_offence (part_offences k (numbers left))) fault
     → IsFirst (first_offence (two_partitions k left right)) fault
 first_faulty k left right fault h =
     judged_err (part_offences k (numbers left)) (part_offences (k + length left + 1) (numbers right)) fault (parts_before k left right) h
 
--- if the first of two partitions has no error, the first error of the second is the first of both
+-- if the left partition has no error, a fault that is the first error of the right one is the first error of the two partitions
 pub second_faulty : (k m : ℕ) (left right : Words) (fault : WordsFault) → m ≡ k + length left + 1 → first_offence (part_offences k (numbers left)) ≡ None
     → IsFirst (first_offence (part_offences m (numbers right))) fault → IsFirst (first_offence (two_partitions k left right)) fault
 second_faulty k m left right fault e n h =
@@ -89,7 +89,7 @@ both_fine k m left right e n h =
     none-append (part_offences k (numbers left)) (part_offences (k + length left + 1) (numbers right)) n
     ∙ (ap (λ j. first_offence (part_offences j (numbers right))) (sym e) ∙ h)
 
--- if words ws begin at word k, the word after them and a separator has the same number, whether ws or their texts f w
--- are counted
+-- let ws be the words from word k on, with the texts f w: the index of the word after ws and a separator is the same if the texts are counted instead
+-- of ws
 pub second_place : {A : Type 0} (f : A → List ℕ) (k : ℕ) (ws : List A) → k + length ws + 1 ≡ k + length (map f ws) + 1
 second_place f k ws = ap (λ n. k + n + 1) (sym (length-map ws f))

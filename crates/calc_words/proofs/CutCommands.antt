@@ -1,4 +1,4 @@
--- Words that have been cut into the parts of a command: the command that they spell, and its errors.
+-- Words that are divided into the parts of a command (`AreCut`): the command that they spell, and its errors.
 use Rattle.std.proofs.Common.{◌≡◌, ℕ, true, ◌+◌, List, [], ◌∷◌, ◌++◌, append_assoc, drop, length, refl, sym, ap, ◌∙◌, subst, arith, Ok, flat_map}
 use Rattle.std.proofs.lemmas.List.{append-nil, length-map}
 use Rattle.sym_model.specs.Command.{Command}
@@ -19,8 +19,9 @@ use Rattle.calc_words.specs.declared.word_parts.Part.TheVariants.{Minus, Slash, 
 use Rattle.calc_words.proofs.CutWords.{dropped}
 use Rattle.calc_words.proofs.Commands.{first_refused, read_judged}
 use Rattle.calc_words.proofs.PartOffences.{parts_faulty, parts_fine}
+use Rattle.std.proofs.Math.Nat.{add_assoc}
 
--- the values that the words of a command write, from those of its parts
+-- the values of the words of a command, from the values x of its parts
 abbrev pub said_of : (name : List ℕ) (ps : List Part) → Written (form_of ps) → Written (command_form name ps)
 said_of name [] x = tt
 said_of name (p ∷ ps) x = (tt, x)
@@ -62,8 +63,8 @@ has_of name ps places words k = record {
       ∙ said_spelled name ps (written_of ps 0 1 places words k.parts);
 }
 
--- if the errors of the command are those of its parts, of which none but the last is a list of factors, a fault that is
--- the first error of the first part that has one is a correct refusal of the words
+-- let words be divided into the parts of a command whose errors are those of its parts, and let no part but the last be a list of factors; then a
+-- fault that is the first error of the first part with an error is a correct refusal of the words
 pub faulty : (name : List ℕ) (ps : List Part) (places : List ℕ) (words : Words) (k : AreCut name ps places words)
     (says : Written (command_form name ps) → Command) (offends : Written (command_form name ps) → List Offence) (fault : WordsFault)
     → offends (said_of name ps (written_of ps 0 1 places words k.parts)) ≡ parts_offend ps 1 (written_of ps 0 1 places words k.parts)
@@ -73,8 +74,8 @@ faulty name ps places words k says offends fault o b h =
     first_refused (record { name = name; form = command_form name ps; says = says; offends = offends }) words (has_of name ps places words k) fault
     (subst (λ os. IsFirst (first_offence os) fault) (sym o) (parts_faulty ps 1 (written_of ps 0 1 places words k.parts) fault b h))
 
--- if the errors of the command are those of its parts and no part has an error, the command that the parts spell is the
--- correct result of reading the words
+-- let words be divided into the parts of a command whose errors are those of its parts, and let no part have an error; then a sound command d that
+-- the parts spell is a correct result of reading the words
 pub fine : (name : List ℕ) (ps : List Part) (places : List ℕ) (words : Words) (k : AreCut name ps places words)
     (says : Written (command_form name ps) → Command) (offends : Written (command_form name ps) → List Offence) (c d : Read)
     → offends (said_of name ps (written_of ps 0 1 places words k.parts)) ≡ parts_offend ps 1 (written_of ps 0 1 places words k.parts)
@@ -84,16 +85,13 @@ fine name ps places words k says offends c d o h e s i =
     read_judged (record { name = name; form = command_form name ps; says = says; offends = offends }) words (has_of name ps places words k) d s i (Ok c)
     (e, ap first_offence o ∙ parts_fine ps 1 (written_of ps 0 1 places words k.parts) h)
 
--- ---- the errors of each command are those of its parts
-
-counts : (a b : ℕ) → 1 + (a + b) ≡ 1 + a + b
-counts a b = omega arith
+-- ---- proofs that the errors of each command are those of its parts
 
 pub mult_parts : (limit : Written (optional rows_words)) (form : Written (optional form_words)) (x : Written factors_words)
     → mult_offends (tt, (limit, (form, x))) ≡ parts_offend (MaybeRows ∷ MaybeForm ∷ Factors ∷ []) 1 (limit, (form, x))
 mult_parts limit form x =
     ap (λ k. row_limit_offences 1 limit ++ factor_offences 0 k (factor_numbers x))
-    (counts (length (words_of (optional rows_words) limit)) (length (words_of (optional form_words) form)))
+    (sym (add_assoc 1 (length (words_of (optional rows_words) limit)) (length (words_of (optional form_words) form))))
 
 behind_list : (k : ℕ) (list : Words) → k + length list + 1 ≡ k + length (flat_map (λ t. t ∷ []) list) + 1
 behind_list k list = ap (λ ws. k + length ws + 1) (sym (singles list))
@@ -104,7 +102,7 @@ pub skew_parts : (limit : Written (optional rows_words)) (form : Written (option
 skew_parts limit form outer inner =
     let a = length (words_of (optional rows_words) limit) in
     let b = length (words_of (optional form_words) form) in
-    ap (λ k. row_limit_offences 1 limit ++ (part_offences k (numbers outer) ++ part_offences (k + length outer + 1) (numbers inner))) (counts a b)
+    ap (λ k. row_limit_offences 1 limit ++ (part_offences k (numbers outer) ++ part_offences (k + length outer + 1) (numbers inner))) (sym (add_assoc 1 a b))
     ∙ ap (λ k. row_limit_offences 1 limit ++ (part_offences (1 + a + b) (numbers outer) ++ part_offences k (numbers inner))) (behind_list (1 + a + b) outer)
 
 pub coef_parts : (outer left right : Words)
@@ -122,7 +120,8 @@ reduction_parts name rows bound x =
     append_assoc (offences_by rows_rule 1 (decimal_value rows ∷ [])) (offences_by rows_rule 2 (decimal_value bound ∷ []))
     (factor_offences 0 3 (factor_numbers x))
 
--- the errors of two permutations are those of the first and then those of the second
+-- the errors of two permutations with a word between them are the same, whether the letters or the words of the left one are counted to find the
+-- first word of the right one
 two_permutations : (most : ℕ) (left right : Written permutation_words)
     → permutation_offences_within most 1 (letters left) ++ permutation_offences_within most (2 + length (letters left)) (letters right)
     ≡ permutation_offences_within most 1 (letters left)

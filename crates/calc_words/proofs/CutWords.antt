@@ -1,4 +1,4 @@
--- Words that are cut into the parts of a command, part by part.
+-- Words that are divided into the parts of a command, one part after another.
 use Rattle.std.proofs.Common.{◌≡◌, ℕ, ◌+◌, ◌-◌, ◌<◌, ◌≤◌, true, List, [], ◌∷◌, ◌++◌, map, take, drop, length, length-append, refl, sym, ap, ◌∙◌, subst, arith, inr}
 use Rattle.std.specs.Prelude.{slice_index_or}
 use Rattle.std.proofs.lemmas.Bool.{and_parts, and_from}
@@ -26,7 +26,7 @@ use Rattle.calc_words.specs.Reading.{IsRefusal}
 use Rattle.calc_words.specs.declared.word_parts.Part.{Part}
 use Rattle.calc_words.specs.declared.word_parts.Part.TheVariants.{Expression}
 
--- if the form g fails with all words left, their number may be counted in the words instead of their texts
+-- if `StopsIn` holds with the number of the texts f w, for w in `words`, it holds with the number of `words`, which is the same
 pub counted : {A : Type 0} (f : A → List ℕ) (g : Form) (words : List A) → StopsIn g (map f words) (length (map f words)) → StopsIn g (map f words) (length words)
 counted f g words w = subst (StopsIn g (map f words)) (length-map words f) w
 
@@ -47,12 +47,13 @@ can_be_parts [] = refl
 can_be_parts (p ∷ []) = can_be_part p
 can_be_parts (p ∷ q ∷ ps) = and_from (can_be (form_of_part p)) (can_be (form_of (q ∷ ps))) (can_be_part p) (can_be_parts (q ∷ ps))
 
--- after words of a part, no further words lead to a place where its form has an expression
+-- if `piece` are all the words of the part p at the front of a list (`IsTaken`), then in the form of p no expression can follow `piece`, nor `piece`
+-- followed by any words
 settled : (p : Part) (piece rest words : Words) → IsTaken (form_of_part p) piece rest words → IsSettled (form_of_part p) piece
 settled Expression piece rest words t us a = let k = sym (ap (λ ws. ws ++ us) t.piece_is) ∙ a in cc
 settled p piece rest words t us a = none_awaited (form_of_part p) (piece ++ us) refl a
 
--- ---- words cut part by part
+-- ---- the division of words into parts, one part after another
 
 part_apart : (p q : Part) (ps : List Part) → is_clear (p ∷ q ∷ ps) ≡ true → are_apart (continuing (form_of_part p)) (firsts (form_of (q ∷ ps))) ≡ true
 part_apart p q ps h = (and_parts (are_apart (continuing (form_of_part p)) (firsts (form_of (q ∷ ps)))) (is_clear (q ∷ ps)) h).0
@@ -153,7 +154,7 @@ pub cut_done : (parts : List Part) (i at : ℕ) (places : List ℕ) (words : Wor
 cut_done parts i at places words s l e =
     s.cut places (λ j k. refl) (subst (λ ps. IsCut ps i at places words) (sym (drop_of_length-le parts l)) (drop_of_length-le words e))
 
--- ---- words cut into the name of a command and its parts
+-- ---- the division of words into the name of a command and its parts
 
 refused : (e : Entry) (name : List ℕ) (ps : List Part) (words : Words) (left byte place : ℕ) (fault : WordsFault) → e.form ≡ command_form name ps
     → IsWrongAt (command_form name ps) words left byte → place ≡ length words - left → fault ≡ Syntax (record { word = place; byte = byte })
@@ -193,7 +194,7 @@ parts_refused e name ps words rest left byte place fault f n w k h =
     by [] w = left_over_at (the name) (name ∷ []) rest words left byte taken awaited w
     by (p ∷ ps) w = wrong_at_right (the name) (form_of (p ∷ ps)) (name ∷ []) rest words left byte refl taken awaited w
 
--- ---- words whose last part is an expression, which is not read here
+-- ---- words of a command whose last part is one word for an expression, which is not tested here
 
 pub some_part : (ps : List Part) → drop (length ps - 1) ps ≡ Expression ∷ [] → 0 < length ps
 some_part [] e = cc
@@ -254,8 +255,8 @@ unread name ps at places words s all five n one = record { at = at; text = t; pi
         (subst (λ us. IsWrongAt (word formula) us 1 byte) (sym last.1) (stops.0, here))))
         (omega (arith, one)) refl
 
--- if the form g fails in the words after the first one, the number `left` of words from the first wrong one on is at
--- most the number of all words
+-- if the texts after the first one do not have the form g, the number `left` of texts from the first wrong one to the end is at most the number of
+-- all words
 pub left_within : {A : Type 0} (f : A → List ℕ) (g : Form) (words : List A) (left byte : ℕ) → IsWrongAt g (drop 1 (map f words)) left byte → left ≤ length words
 left_within f g words left byte (w, b) =
     let a = ap length w.words_are in
@@ -265,8 +266,8 @@ left_within f g words left byte (w, b) =
     let e = w.left_is in
     omega (arith, a, b, c, d, e)
 
--- the i-th part of the words f w, for w in `words`, is the image under f of a slice of `words`, the one between the
--- places i and i + 1 of `places`
+-- let `us` be part i of the texts f w, for w in `words`, and let `at` and `end` be the entries i and i + 1 of `places`: then `us` are the texts of
+-- the words from index `at` on and before index `end`
 pub piece_is : {A : Type 0} (f : A → List ℕ) (words : List A) (places : List ℕ) (i k at end : ℕ) (us : Words) → IsPiece places (map f words) i k us
     → slice_index_or places i 0 ≡ at → slice_index_or places (i + 1) 0 ≡ end
     → (at ≤ end) × (end ≤ length words) × (at ≡ k) × (map f (take (end - at) (drop at words)) ≡ us)

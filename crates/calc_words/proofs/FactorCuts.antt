@@ -1,4 +1,4 @@
--- Words of factors, cut at each `-`.
+-- The words of factors, divided at each `-`.
 use Rattle.std.proofs.Common.{◌≡◌, ℕ, true, false, List, [], ◌∷◌, ◌++◌, map, refl, sym, ap, ◌∙◌, subst, inl, inr, flat_map}
 use Rattle.std.specs.Prelude.{codes}
 use Rattle.std.proofs.lemmas.Bool.{and_parts}
@@ -10,7 +10,7 @@ use Rattle.calc_words.specs.NumberRuns.{IsNumber, BeginsOtherwise}
 use Rattle.calc_words.proofs.Commands.{may_be, singles}
 use Rattle.calc_words.specs.FactorWords.{IsPieceWord, next_text, BeginsWithDigit}
 
--- the words are the numbers `second` of the second factor, and the further factors `others`, each after a `-`
+-- the words are the numbers `second`, followed by the lists of numbers `others`, each after a `-`
 pub record Cut (words : Words) : Type 0 where
   pub second : Words
   pub others : List Words
@@ -40,7 +40,6 @@ cut (t ∷ words) e = by e.0 (cut words e.1)
           other_numbers = (k.second_numbers, k.other_numbers);
         }
 
--- a number begins with a digit
 number_begins : (t : List ℕ) → IsNumber t → BeginsWithDigit t
 number_begins [] h = cc
 number_begins (byte ∷ text) h = (and_parts (is_digit byte) (are_digits text) h).0
@@ -61,7 +60,8 @@ abbrev behind_first : Words → Words
 behind_first [] = []
 behind_first (t ∷ words) = words
 
--- the longest run of words with the property P at the front of a list of words is determined by the list
+-- if each of `ps` and `qs` has the property P, the first of `us` and the first of `vs`, if any, do not have it, and ps ++ us equals qs ++ vs, then ps
+-- = qs and us = vs
 pub one_run : (P : List ℕ → Type 0) (ps qs us vs : Words) → EachOf P ps → EachOf P qs → BeginsOtherwise P us → BeginsOtherwise P vs
     → ps ++ us ≡ qs ++ vs → (ps ≡ qs) × (us ≡ vs)
 one_run P [] [] us vs m n b d e = (refl, e)
@@ -71,14 +71,14 @@ one_run P (p ∷ ps) (q ∷ qs) us vs m n b d e =
     let r = one_run P ps qs us vs m.1 n.1 b d (ap behind_first e) in
     (ap (λ t. t ∷ ps) (ap (first_of []) e) ∙ ap (λ ws. q ∷ ws) r.0, r.1)
 
--- if words are the numbers `second` and further factors, each after a `-`, then `second` is the longest run at their
--- front of words that begin with a digit
+-- if words are the numbers `second` followed by the lists `others`, each after a `-`, then `second` is the longest run at their front of words that
+-- begin with a digit
 pub run_cut : (words second list rest : Words) (others : List Words) → words ≡ second ++ next_text others → EachOf IsNumber second
     → words ≡ list ++ rest → EachOf BeginsWithDigit list → BeginsOtherwise BeginsWithDigit rest → (second ≡ list) × (rest ≡ next_text others)
 run_cut words second list rest others e n f m b =
     let r = one_run BeginsWithDigit second list (next_text others) rest (all_begin second n) m (next_begins others) b (sym e ∙ f) in (r.0, sym r.1)
 
--- of the factors `others`, the numbers `list` are the next one, and `more` are the later ones, whose words are `rest`
+-- `list` is the first of the lists `others`, and `more` are those after it; `rest` are the words of `more`, each list after a `-`
 pub record NextCut (others : List Words) (list rest : Words) : Type 0 where
   pub more : List Words
   pub others_are : others ≡ list ∷ more
@@ -92,12 +92,12 @@ next_cut words later list rest (l ∷ more) e n f g m b =
     let r = run_cut later l list rest more (ap behind_first (sym f ∙ e)) n.0 g m b in
     record { more = more; others_are = ap (λ x. x ∷ more) r.0; rest_are = r.1; more_numbers = n.1 }
 
--- if the words of the factors `others`, each after a `-`, do not begin with `-`, there are no such factors
+-- if the words of the lists `others`, each after a `-`, do not begin with `-`, there are no such lists
 pub nothing_behind : (words : Words) (others : List Words) → words ≡ next_text others → BeginsOtherwise (λ t. t ≡ codes "-") words → others ≡ []
 nothing_behind words [] e b = refl
 nothing_behind words (l ∷ others) e b = absurd (subst (BeginsOtherwise (λ t. t ≡ codes "-")) e b refl)
 
--- further factors, each with the `-` before it
+-- for each of these lists of number words, the value of the words `-` and the list (`next_words`)
 abbrev as_next : List Words → List (Written next_words)
 as_next [] = []
 as_next (list ∷ others) = (tt, list) ∷ as_next others
@@ -116,7 +116,7 @@ pub all_partitions : (others : List Words) → map without_last_zeros (map numbe
 all_partitions [] = refl
 all_partitions (list ∷ others) = ap (λ ps. partition list ∷ ps) (all_partitions others)
 
--- the words are two factors and further factors, as the grammar writes them
+-- the words have the form of the factors of a product (`factors_words`): two or more lists of numbers with `-` between them
 pub record AreWritten (words first second : Words) (others : List Words) : Type 0 where
   pub written : Written factors_words
   pub allowed : May factors_words written

@@ -1,4 +1,4 @@
--- The first error of factors that are read one after another.
+-- The first error of a list of factors, read one factor after another.
 use Rattle.std.proofs.Common.{◌≡◌, ℕ, ◌+◌, ◌-◌, ◌<◌, ◌≤◌, ◌==◌, Bool, true, false, cond, List, [], ◌∷◌, ◌++◌, append_assoc, map, length, length-append, sym, ap, ◌∙◌, subst, arith, ◌⊎◌, inl, inr, Result, Some, None}
 use Rattle.std.proofs.lemmas.List.{length-map}
 use Rattle.sym_model.specs.Sum.{Among}
@@ -15,7 +15,6 @@ use Rattle.calc_words.proofs.FirstOffences.{within, AllBefore, first-head, no_la
 use Rattle.calc_words.proofs.Commands.{judged_err, judged_next}
 use Rattle.calc_words.specs.ReadProducts.{ninth_offences}
 
--- the only error in front of a factor is that of a ninth factor
 the_ninth : (ninth : Bool) (o p : Offence) → Among p (cond ninth (o ∷ []) []) → p ≡ o
 the_ninth true o p (inl e) = e
 the_ninth true o p (inr m) = absurd m
@@ -24,7 +23,7 @@ the_ninth false o p m = absurd m
 ninth_word : (count word : ℕ) (p : Offence) → Among p (ninth_offences count word) → p.0 ≡ word
 ninth_word count word p m = ap (λ (q : Offence). q.0) (the_ninth (count == most_factors) (word, 0, range) p m)
 
--- the errors of factors are not before the word in front of the first factor
+-- if the first of the factors begins at word k, each error of the factors is at word k - 1 or later
 factor_within : (count k : ℕ) (ns : List (List ℕ)) (p : Offence) → Among p (factor_offences count k ns) → k ≤ p.0 + 1
 factor_within count k [] p m = absurd m
 factor_within count k (n ∷ ns) p m =
@@ -40,7 +39,7 @@ factor_within count k (n ∷ ns) p m =
     by (inl a) r = here (Among_from_append p (ninth_offences count (k - 1)) (part_offences k n) a)
     by (inr a) r = let w = r a in omega (arith, w)
 
--- the errors of all factors are not before the first word
+-- if the first factor of a product begins at word k, each error of its factors is at word k or later
 pub factors_from : (k : ℕ) (n : List ℕ) (ns : List (List ℕ)) (p : Offence) → Among p (factor_offences 0 k (n ∷ ns)) → k ≤ p.0
 factors_from k n ns p m = by (Among_from_append p (part_offences k n) (factor_offences 1 (k + length n + 1) ns) m)
   where
@@ -48,7 +47,8 @@ factors_from k n ns p m = by (Among_from_append p (part_offences k n) (factor_of
     by (inl a) = (within part_rule [] k n p a).0
     by (inr a) = let w = factor_within 1 (k + length n + 1) ns p a in omega (arith, w)
 
--- the errors of the next factor, which follows the word `at`
+-- the errors of the factor with the number words `list`, which follows `count` other factors: the error of a ninth factor, at the word `at` in front
+-- of `list`, and the errors of the numbers
 abbrev next_offences : ℕ → ℕ → Words → List Offence
 next_offences count at list = ninth_offences count at ++ part_offences (at + 1) (numbers list)
 
@@ -71,14 +71,15 @@ next_is count at list more =
     let e : at + 1 - 1 ≡ at = omega arith in
     ap (λ w. (ninth_offences count w ++ part_offences (at + 1) (numbers list)) ++ rest_offences count at list more) e
 
--- the first error of a ninth factor is at the word `at` in front of it
+-- if `count`, the number of earlier factors, is 8, the first error of the factor `list` is that of a ninth factor, at the word `at` in front of
+-- `list`
 pub ninth_first : (count at : ℕ) (list : Words) → (count == most_factors) ≡ true → first_offence (next_offences count at list) ≡ Some (at, 0, range)
 ninth_first count at list h =
     ap (λ b. first_offence (cond b ((at, 0, range) ∷ []) [] ++ part_offences (at + 1) (numbers list))) h
     ∙ first-head (at, 0, range) (part_offences (at + 1) (numbers list))
     (λ p m. no_later_word (at, 0, range) p (let w = within part_rule [] (at + 1) (numbers list) p m in let l = w.0 in omega (arith, l)))
 
--- if the next factor has an error, its first error is the first error of this factor and the later ones
+-- if the next factor, `list`, has an error, a fault that is its first error is the first error of this factor and the factors `more` after it
 pub next_faulty : (count at : ℕ) (list : Words) (more : List Words) (fault : WordsFault)
     → IsFirst (first_offence (next_offences count at list)) fault
     → IsFirst (first_offence (factor_offences count (at + 1) (map numbers (list ∷ more)))) fault
@@ -86,7 +87,7 @@ next_faulty count at list more fault h =
     subst (λ os. IsFirst (first_offence os) fault) (sym (next_is count at list more))
     (judged_err (next_offences count at list) (rest_offences count at list more) fault (next_before count at list more) h)
 
--- if the next factor has no error, a correct result for the factors after it is correct for all factors from it on
+-- if the next factor, `list`, has no error, a correct result of reading the factors `more` after it is a correct result of reading `list` and `more`
 pub next_fine : (factors next : List (List ℕ)) (at after : ℕ) (list : Words) (more : List Words) (r : Result (List (List ℕ)) WordsFault)
     → next ≡ factors ++ partition list ∷ [] → after ≡ at + 1 + length list → first_offence (next_offences (length factors) at list) ≡ None
     → IsJudged (λ f. f ≡ next ++ map partition more) (first_offence (factor_offences (length next) (after + 1) (map numbers more))) r
@@ -104,7 +105,7 @@ next_fine factors next at after list more r e f n h =
     (subst (λ m. IsJudged Q (first_offence (factor_offences m (after + 1) (map numbers more))) r) c
     (subst (λ (fs : List (List ℕ)). IsJudged (λ (g : List (List ℕ)). g ≡ fs) (first_offence (factor_offences (length next) (after + 1) (map numbers more))) r) whole h))))
 
--- the errors of the factors are those of the first two and those of the factors after them
+-- the errors of two factors and the factors `others` after them are the errors of two partitions, followed by those of `others` after two factors
 pub two_are : (at : ℕ) (first second : Words) (others : List Words)
     → factor_offences 0 at (numbers first ∷ numbers second ∷ map numbers others)
     ≡ two_partitions at first second ++ factor_offences 2 (at + length first + 1 + length second + 1) (map numbers others)

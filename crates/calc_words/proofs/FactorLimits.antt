@@ -1,4 +1,4 @@
--- Factors each of which is within its limits are within the limits of a list of factors.
+-- If each factor is within its limits, the list of factors is within the limits of such a list.
 use Rattle.std.proofs.Common.{◌≡◌, ℕ, ◌+◌, ◌*◌, ◌<◌, ◌≤◌, List, [], ◌∷◌, ◌++◌, length, length-append, arith, inl, inr, None}
 use Rattle.sym_model.specs.Form.{EachOf}
 use Rattle.sym_model.specs.CommandOffence.{first_offence, part_offences}
@@ -9,7 +9,7 @@ use Rattle.calc_words.proofs.WrittenLists.{written}
 use Rattle.word_laws.proofs.NoOffences.{none_first}
 use Rattle.calc_words.specs.ReadProducts.{ninth_offences}
 
--- factors within their limits have together at most 512 cells and 64 rows for each factor
+-- n factors within their limits have together at most 512·n cells and at most 64·n rows
 bounded : (ps : List (List ℕ)) → EachOf IsWritten ps → (cells_of ps ≤ 512 * length ps) × (rows_of ps ≤ 64 * length ps)
 bounded [] e = (omega arith, omega arith)
 bounded (p ∷ ps) e =
@@ -32,7 +32,7 @@ pub fits_more : (ps : List (List ℕ)) (p : List ℕ) → EachOf IsWritten ps �
 fits_more ps p e w n h =
     let l = length-append ps (p ∷ []) in fits (ps ++ p ∷ []) (each_more ps p e w) (omega (arith, n, l)) h
 
--- if the factors are within their limits and the next one has no error, the factors with it appended are within theirs
+-- if the factors are within their limits and the next one, `list`, has no error, the factors with its partition appended are within their limits
 pub next_written : (factors : List (List ℕ)) (count at : ℕ) (list : List (List ℕ)) → EachOf IsWritten factors
     → first_offence (ninth_offences count at ++ part_offences (at + 1) (numbers list)) ≡ None → EachOf IsWritten (factors ++ partition list ∷ [])
 next_written factors count at list e h =

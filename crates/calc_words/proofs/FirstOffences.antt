@@ -1,4 +1,4 @@
--- The first error of a list of numbers, and of two lists, the second of which is later in the words.
+-- The first error of a list of numbers, and of two lists of errors, the second of which is at later words.
 use Rattle.std.proofs.Common.{◌≡◌, ℕ, ◌+◌, ◌<◌, ◌≤◌, ◌==◌, nat_le, nat_lt, Bool, true, false, ◌&&◌, ◌||◌, cond, List, [], ◌∷◌, ◌++◌, append_assoc, map, length, refl, sym, ap, ◌∙◌, subst, arith, Option, Some, None, ◌⊎◌, inl, inr, eq-eqb}
 use Rattle.std.proofs.lemmas.Bool.{lt-ltb}
 use Rattle.sym_model.specs.Sum.{Among}
@@ -7,8 +7,9 @@ use Rattle.sym_model.specs.ExpressionOffence.{OffenceKind, literal, range, shape
 use Rattle.sym_model.specs.CommandOffence.{Offence, is_no_later, earlier_of, first_offence, when, Rule, offences_after}
 use Rattle.word_laws.proofs.FirstOffences.{first-among, first_none}
 use Rattle.word_laws.proofs.JudgedRows.{of_kind}
+use Rattle.std.proofs.Math.Bool.{or-true}
 
--- if no error of os is before o, the first error of o and os is o
+-- if o is no later than each error of os, the first error of o and os is o
 pub first-head : (o : Offence) (os : List Offence) → ((p : Offence) → Among p os → is_no_later o p ≡ true) → first_offence (o ∷ os) ≡ Some o
 first-head o os h = by (first_offence os) refl
   where
@@ -19,15 +20,11 @@ first-head o os h = by (first_offence os) refl
 pub no_later_word : (o p : Offence) → o.0 < p.0 → is_no_later o p ≡ true
 no_later_word o p h = ap (λ x. x || ((o.0 == p.0) && (nat_lt o.1 p.1 || ((o.1 == p.1) && nat_le (rank o.2) (rank p.2))))) (lt-ltb o.0 p.0 h)
 
-pub or_true : (b : Bool) → (b || true) ≡ true
-or_true true = refl
-or_true false = refl
-
 no_later_kind : (k : ℕ) (a b : OffenceKind) → nat_le (rank a) (rank b) ≡ true → is_no_later (k, 0, a) (k, 0, b) ≡ true
 no_later_kind k a b h =
     ap (λ x. nat_lt k k || (x && nat_le (rank a) (rank b))) (eq-eqb k k refl)
     ∙ ap (λ x. nat_lt k k || x) h
-    ∙ or_true (nat_lt k k)
+    ∙ or-true (nat_lt k k)
 
 -- each error of the list is at a word after word k
 abbrev pub Behind : ℕ → List Offence → Type 0
@@ -45,8 +42,7 @@ first-kind k kind kinds rest h l =
         subst (λ q. is_no_later (k, 0, kind) q ≡ true) (sym b.2) (no_later_kind k kind b.0 (h b.0 b.1))
     by p (inr a) = no_later_word (k, 0, kind) p (l p a)
 
--- the error at word k of kind `literal` if x, otherwise of kind `range` if y, otherwise of kind `shape` if z, otherwise
--- `rest`
+-- the error at byte 0 of word k, of kind `literal` if x, otherwise of kind `range` if y, otherwise of kind `shape` if z; otherwise `rest`
 abbrev pub first_of_three : ℕ → Bool → Bool → Bool → Option Offence → Option Offence
 first_of_three k x y z rest =
     cond x (Some (k, 0, literal)) (cond y (Some (k, 0, range)) (cond z (Some (k, 0, shape)) rest))
@@ -74,7 +70,7 @@ three_kinds_left k x y z rest l =
     ap (λ kinds. first_offence (map (of_kind k) kinds ++ rest)) (append_assoc (when x literal) (when y range) (when z shape))
     ∙ three_kinds k x y z rest l
 
--- the errors of a list of numbers that begins at word k are at its words
+-- if the first number of a list is word k, each error that a rule finds in the list is at the word of one of its numbers
 pub within : (rule : Rule) (before : List ℕ) (k : ℕ) (ns : List ℕ) (p : Offence) → Among p (offences_after rule before k ns)
     → (k ≤ p.0) × (p.0 < k + length ns)
 within rule before k [] p m = absurd m

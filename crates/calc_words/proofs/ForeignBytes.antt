@@ -1,4 +1,4 @@
--- Words are read like the same words with `?` in the place of each byte outside ASCII.
+-- A result of reading words in which each byte outside ASCII is replaced by `?` is a result of reading the words unchanged.
 use Rattle.std.proofs.Common.{◌≡◌, ℕ, zero, suc, ◌<◌, ◌≤◌, ◌==◌, nat_lt, Bool, true, false, not, ◌&&◌, cond, List, [], ◌∷◌, ◌++◌, map, length, length-append, take, refl, sym, ap, ◌∙◌, subst, arith, ◌⊎◌, inl, inr, Result, Ok, Err}
 use Rattle.std.specs.Prelude.{slice_index_or}
 use Rattle.std.proofs.lemmas.Bool.{ltb-true, ltb-false}
@@ -17,7 +17,8 @@ use Rattle.calc_words.specs.LineBytes.{seen_byte, seen}
 use Rattle.calc_words.specs.Reading.{IsRead}
 use Rattle.calc_words.proofs.PlainBytes.{is_plain, are_plain, all_plain, entries_plain, not_plain, not_all_plain, expression_plain, begins_plain, spells_plain, freely_plain, first_plain}
 
--- ---- if two lists agree up to a place and no longer prefix of either has a property, the longest prefixes with the property agree
+-- ---- lists pre ++ x ∷ xs and pre ++ y ∷ ys: if no list that begins with pre ++ [x] or with pre ++ [y] has the property P, their longest prefixes
+-- with P are the same
 
 abbrev Stops : {A : Type 0} → (List A → Type 0) → List A → A → Type 0
 Stops {A} P pre x = (ys : List A) → P (pre ++ x ∷ ys) → ⊥
@@ -53,7 +54,7 @@ longest_same P pre x y xs ys k s t h =
           h.longest j (let n = length-append pre (x ∷ xs) in omega (arith, m, n)) (subst P (same_front pre (y ∷ ys) (x ∷ xs) j m) b);
     }
 
--- ---- the place where words first fail
+-- ---- the place of the first error of syntax in two lists of words that agree up to a byte
 
 stops_words : (entries : List Entry) (before : Words) (w : List ℕ) → entries_plain entries ≡ true → (are_plain w ≡ true → ⊥) → Stops (BeginsCommand entries) before w
 stops_words entries before w p n ys h = not_all_plain before ys w n (begins_plain entries (before ++ w ∷ ys) p h)
@@ -92,8 +93,8 @@ moved_byte before u v x b c rest more k byte n m h l = by (at_most k (length bef
         subst (λ t. IsLongestPrefix BeginsExpression t byte) (sym new)
         (longest_same BeginsExpression u b c v x byte (stops_bytes u b n) (stops_bytes u c m) (subst (λ t. IsLongestPrefix BeginsExpression t byte) old l))
 
--- if two lists of words agree up to a byte that in neither is plain (ASCII other than `?`), they first fail at the same
--- place, for commands whose words are plain
+-- if the fixed words of all commands are plain (ASCII without `?`), and two lists of words agree up to a byte that is plain in neither, then they
+-- have the same place of the first error of syntax
 moved_place : (entries : List Entry) → entries_plain entries ≡ true → (before : Words) (u v x : List ℕ) (b c : ℕ) (rest more : Words) (k byte : ℕ)
     → is_plain b ≡ false → is_plain c ≡ false → IsSyntaxPlace entries (before ++ (u ++ b ∷ v) ∷ rest) k byte
     → IsSyntaxPlace entries (before ++ (u ++ c ∷ x) ∷ more) k byte
@@ -112,7 +113,7 @@ moved_place entries p before u v x b c rest more k byte n m h =
         inl (moved_word entries before (u ++ b ∷ v) (u ++ c ∷ x) rest more k few e.0, moved_byte before u v x b c rest more k byte n m few e.1)
     by few (inr e) = inr ((λ w. e.0 (moved_word entries before (u ++ c ∷ x) (u ++ b ∷ v) more rest k few w)), e.1)
 
--- ---- words that have a byte of at least 128, and words that have none
+-- ---- words with a byte outside ASCII, and words without such a byte
 
 record Foreign (w : List ℕ) : Type 0 where
   front : List ℕ
@@ -194,8 +195,8 @@ foreign_place entries p words f k byte h =
     (moved_place entries p f.before g.front (seen g.behind) g.behind 63 g.byte (map seen f.rest) f.rest k byte refl (not_ascii g.byte g.foreign)
     (subst (λ ws. IsSyntaxPlace entries ws k byte) (seen_words words f) h))
 
--- for commands whose words are plain, a result of reading the words with each byte outside ASCII replaced by `?` is a
--- result of reading the words themselves
+-- if the fixed words of all commands are ASCII without `?`, then a result of reading the given words, each byte outside
+-- ASCII replaced by `?`, is also a result of reading them unchanged
 pub seen_read : (entries : List Entry) → entries_plain entries ≡ true → (words : Words) (r : Result Read WordsFault)
     → IsRead entries (map seen words) r → IsRead entries words r
 seen_read entries p words r h = by (told_words words)

@@ -1,5 +1,5 @@
--- A command in a list of commands with different names: reading its words for the list has the same result as reading them
--- for this command.
+-- A command in a list of commands with different names: for words that begin with its name, a result of reading them for this command is a result for
+-- the list.
 use Rattle.std.proofs.Common.{◌≡◌, ℕ, zero, suc, ◌≤◌, List, [], ◌∷◌, ◌++◌, length, take, ap, ◌∙◌, subst, arith, Option, Some, Result, Ok, Err, inl, inr}
 use Rattle.sym_model.specs.Sum.{Among}
 use Rattle.sym_model.specs.Form.{Form, sequence, SomeOf, Has, Begins, Awaits, words_of}
@@ -18,7 +18,7 @@ use Rattle.calc_words.specs.declared.command.Command.{Command as Read}
 use Rattle.calc_words.specs.Joined.{Joined}
 use Rattle.calc_words.specs.Reading.{IsRead}
 
--- words of a form that begins with a text are this text and further words
+-- words that have the form of the word `text` followed by g are `text` and further words
 pub first_spells : (text : List ℕ) (g : Form) (words : Words) → Has (sequence (the text) g) words → (rest : Words) × (words ≡ text ∷ rest)
 first_spells text g words h = (words_of g h.written.1, h.spelled)
 
@@ -29,8 +29,8 @@ first_awaits text g words (inr h) = (h.1, h.2 ∙ ap (λ ws. ws ++ h.1) h.3.spel
 same_first : (a b : List ℕ) (xs ys words : Words) → words ≡ a ∷ xs → words ≡ b ∷ ys → b ≡ a
 same_first a b xs ys words h k = cc
 
--- if the words begin with the name of e, and with that of each command of the list that has P, and some command of the list
--- has P, then e has P
+-- let e be in a list of commands with different names (`Joined`), and let words begin with the name of e. If some command of the list has the
+-- property P, and the words begin with the name of each command of the list that has P, then e has P
 own : (e : Entry) (entries : List Entry) → Joined e entries → (P : Entry → Type 0) (words rest : Words) → words ≡ e.name ∷ rest
     → ((f : Entry) → Among f entries → P f → (more : Words) × (words ≡ f.name ∷ more)) → SomeOf P entries → P e
 own e entries j P words rest w n s =
@@ -106,7 +106,8 @@ longest_of_all e entries j words rest word w l zero k b = omega arith
 longest_of_all e entries j words rest word w l (suc n) k b =
     l (suc n) k (own_begins e entries j (take (suc n) words) (take n rest) (ap (take (suc n)) w) b)
 
--- words that begin with the name of a command have the same place of first failure for the list as for that command
+-- let e be in a list of commands with different names (`Joined`), and let words begin with the name of e: the place of their first error of syntax
+-- for the list that has only e is also that for the whole list
 pub joined_syntax : (e : Entry) (entries : List Entry) → Joined e entries → (words rest : Words) (word byte : ℕ) → words ≡ e.name ∷ rest
     → IsSyntaxPlace (e ∷ []) words word byte → IsSyntaxPlace entries words word byte
 joined_syntax e entries j words rest word byte w p = record {
@@ -119,7 +120,8 @@ joined_syntax e entries j words rest word byte w p = record {
   byte_is = joined_byte e entries j words rest word byte w p.byte_is;
 }
 
--- if words begin with the name of e, a correct result of reading them for e alone is correct for the list
+-- let e be in a list of commands with different names (`Joined`), and let words begin with the name of e: a correct result of reading them for the
+-- list that has only e is correct for the whole list
 pub joined_read : (e : Entry) (entries : List Entry) → Joined e entries → (words rest : Words) → words ≡ e.name ∷ rest
     → (r : Result Read WordsFault) → IsRead (e ∷ []) words r → IsRead entries words r
 joined_read e entries j words rest w (Ok command) h = (joined_freely e entries j words (command_of command) h.0, h.1)

@@ -1,6 +1,6 @@
--- The test of the letters of a permutation, one after another.
-use Rattle.std.proofs.Common.{◌≡◌, ℕ, suc, ◌+◌, ◌<◌, ◌≤◌, ◌==◌, nat_lt, Bool, true, false, ◌||◌, List, [], ◌∷◌, ◌++◌, map, length, length-append, take, drop, get_or, drop-cons, refl, sym, ap, ◌∙◌, subst, arith, Some, None}
-use Rattle.std.proofs.lemmas.Bool.{eqb-false}
+-- The test of the letters of a permutation, one letter after another.
+use Rattle.std.proofs.Common.{◌≡◌, ℕ, suc, ◌+◌, ◌<◌, ◌≤◌, ◌==◌, nat_lt, false, ◌||◌, List, [], ◌∷◌, ◌++◌, map, length, length-append, take, drop, get_or, drop-cons, refl, sym, ap, ◌∙◌, subst, arith, Some, None}
+use Rattle.std.proofs.lemmas.Bool.{eqb-false, or_parts}
 use Rattle.std.proofs.Math.ListN.{drop_of_length-le, set, length-set}
 use Rattle.std.proofs.lemmas.List.{take_all, take_more, take_more_set}
 use Rattle.sym_model.specs.ExpressionOffence.{is_wide}
@@ -14,10 +14,10 @@ use Rattle.calc_words.specs.NumberRuns.{narrow}
 use Rattle.calc_words.specs.Reading.{IsFirst}
 use Rattle.calc_words.proofs.FirstOffences.{first_of_three, three_kinds_left, within}
 use Rattle.word_laws.proofs.JudgedRows.{of_kind}
-use Rattle.calc_words.proofs.Judging.{narrow_none, narrow_some, kind_judged, no_kinds, none_kinds, or_both}
+use Rattle.calc_words.proofs.Judging.{narrow_none, narrow_some, kind_judged, no_kinds, none_kinds}
+use Rattle.sym_model.proofs.Numbers.{or_left_comm}
 
--- the state after the first i letters of a list that begins at the word `at`: `heard` contains these letters, the last one
--- first
+-- the first i letters of ns, which begin at word `at`, have no error and are stored in `letters`; `heard` lists them, the last one first
 pub record Hearing (most at : ℕ) (ns : List ℕ) (i : ℕ) (letters : List ℕ) : Type 0 where
   pub heard : List ℕ
   pub count_is : length heard ≡ i
@@ -28,7 +28,8 @@ pub record Hearing (most at : ℕ) (ns : List ℕ) (i : ℕ) (letters : List ℕ
   pub length_is : length (take i letters) ≡ i
   pub room : length letters ≡ 16
 
--- the first error of the list is given by the three tests of the next letter, or it is that of the letters after it
+-- if the first i letters have no error, the first error of the list is that of the next letter a, by the tests of `first_of_three`; if a has no
+-- error, it is the first error of the letters after a
 judged : (most at : ℕ) (ns : List ℕ) (i a : ℕ) (letters : List ℕ) (j : Hearing most at ns i letters) → i < length ns → get_or ns i 0 ≡ a
     → first_offence (permutation_offences_within most at ns)
     ≡ first_of_three (at + i) (is_wide a) (nat_lt most a || (length (take i letters) == most))
@@ -45,7 +46,7 @@ judged most at ns i a letters j h e =
     ∙ ap (λ b. first_of_three (at + i) (is_wide a) (nat_lt most a || (length (take i letters) == most)) (is_outside (length ns) a || b) (first_offence more))
     (j.heard_are a)
 
--- if the letters before it have no error, a letter over 2^127 - 1 is the first error
+-- if the first i letters have no error and the next letter a exceeds 2^127 - 1, the fault `Literal` at the word of a is the first error
 pub wide_letter : (most at : ℕ) (ns : List ℕ) (i a : ℕ) (letters : List ℕ) → Hearing most at ns i letters → i < length ns → get_or ns i 0 ≡ a
     → narrow a ≡ None → (fault : WordsFault) → fault ≡ fault_of (at + i) Literal
     → IsFirst (first_offence (permutation_offences_within most at ns)) fault
@@ -55,7 +56,8 @@ wide_letter most at ns i a letters j h e w fault f =
     ∙ ap (λ b. first_of_three (at + i) b (nat_lt most a || (length (take i letters) == most)) (is_outside (length ns) a || stands_in a (take i letters))
     (first_offence (offences_after (permutation_rule_within most (length ns)) (a ∷ j.heard) (at + i + 1) (drop (suc i) ns)))) (narrow_none a w))
 
--- if a letter of at most 2^127 - 1 has an error, and the letters before it have none, this error is the first error
+-- if the first i letters have no error, and the next letter is at most 2^127 - 1 and has an error of a kind, the fault of this kind at its word is
+-- the first error
 pub letter_first : (most at : ℕ) (ns : List ℕ) (i a v : ℕ) (letters : List ℕ) → Hearing most at ns i letters → i < length ns → get_or ns i 0 ≡ a
     → Some v ≡ narrow a → (kind : Kind) → Some kind ≡ letter_kind most (length ns) (take i letters) v → (fault : WordsFault) → fault ≡ fault_of (at + i) kind
     → IsFirst (first_offence (permutation_offences_within most at ns)) fault
@@ -71,22 +73,17 @@ letter_first most at ns i a v letters j h e w kind k fault f =
 
 stands_last : (a v : ℕ) (xs : List ℕ) → stands_in a (xs ++ v ∷ []) ≡ ((a == v) || stands_in a xs)
 stands_last a v [] = refl
-stands_last a v (x ∷ xs) = ap (λ b. (a == x) || b) (stands_last a v xs) ∙ turned (a == x) (a == v) (stands_in a xs)
-  where
-    turned : (p q r : Bool) → (p || (q || r)) ≡ (q || (p || r))
-    turned true true r = refl
-    turned true false r = refl
-    turned false true r = refl
-    turned false false r = refl
+stands_last a v (x ∷ xs) = ap (λ b. (a == x) || b) (stands_last a v xs) ∙ or_left_comm (a == x) (a == v) (stands_in a xs)
 
--- after a letter without an error the state has one letter more
+-- if most ≤ 16, and the first i letters and the next letter v have no error, then the first i + 1 letters have no error, with v stored after the
+-- first i
 pub letter_goes_on : (most at : ℕ) (ns : List ℕ) (i a v : ℕ) (letters : List ℕ) → most ≤ 16 → Hearing most at ns i letters → i < length ns → get_or ns i 0 ≡ a
     → Some v ≡ narrow a → letter_kind most (length ns) (take i letters) v ≡ None → Hearing most at ns (i + 1) (set letters i v)
 letter_goes_on most at ns i a v letters low j h e w k =
     let n = narrow_some a v w in
     let rule = permutation_rule_within most (length ns) in
     let r = none_kinds (nat_lt most v || (length (take i letters) == most)) (is_outside (length ns) v || stands_in v (take i letters)) k in
-    let here_few = or_both (nat_lt most v) (length (take i letters) == most) r.0 in
+    let here_few = or_parts (nat_lt most v) (length (take i letters) == most) r.0 in
     let few : i + 1 ≤ most = let x = j.few in let l = j.length_is in let m = eqb-false (length (take i letters)) most here_few.1 in omega (arith, x, l, m) in
     let room = j.room in
     let here : i < length letters = omega (arith, room, few, low) in
@@ -112,7 +109,7 @@ letter_goes_on most at ns i a v letters low j h e w k =
       room = length-set letters i v ∙ j.room;
     }
 
--- when all letters have been tested, the list has no error
+-- if all letters of the list have been tested without an error, the list has no error
 pub letters_end : (most at : ℕ) (ns : List ℕ) (i : ℕ) (letters : List ℕ) → Hearing most at ns i letters → length ns ≤ i
     → first_offence (permutation_offences_within most at ns) ≡ None
 letters_end most at ns i letters j h =

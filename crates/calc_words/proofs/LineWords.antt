@@ -1,4 +1,4 @@
--- The words of a line, read byte by byte.
+-- The words of a line, read one byte after another.
 use Rattle.std.proofs.Common.{◌≡◌, ℕ, zero, suc, ◌+◌, ◌<◌, ◌≤◌, ◌==◌, nat_lt, Bool, true, false, ◌||◌, cond, List, [], ◌∷◌, ◌++◌, append_assoc, map, length, drop, get_or, drop-cons, refl, sym, ap, ◌∙◌, arith, filter, flat_map}
 use Rattle.std.proofs.lemmas.Bool.Decides.{nat_tests}
 use Rattle.std.proofs.lemmas.List.{append-nil, length-map, map-append}
@@ -8,12 +8,12 @@ use Rattle.sym_model.specs.NumberText.{split_at, before_first}
 use Rattle.word_laws.specs.Words.{Words}
 use Rattle.calc_words.specs.LineBytes.{seen_byte, seen, word_with_bytes, is_space}
 
--- the words of the bytes `word`, read of the current word, and the rest of the line
+-- the words of the text that consists of `word`, which has no space or tab, and the rest of a line
 abbrev pub words_from : List ℕ → List ℕ → Words
 words_from word [] = word_with_bytes word
 words_from word (byte ∷ line) = cond (is_space byte) (word_with_bytes word ++ words_from [] line) (words_from (word ++ byte ∷ []) line)
 
--- ---- the words read byte by byte are the words of the definition
+-- ---- proof that the words read byte by byte are those of the definition (`words_of_line`)
 
 abbrev continued : List ℕ → Words → Words
 continued word [] = word ∷ []
@@ -31,7 +31,7 @@ split_some s (b ∷ line) = by (b == s) refl (split_some s line)
     by false e r =
         (b ∷ r.0, r.1, ap (λ x. cond x ([] ∷ split_at s line) (before_first b (split_at s line))) e ∙ ap (before_first b) r.2)
 
--- the list of the pieces of a line has a first piece
+-- the list of the pieces of a line, between spaces and tabs, is not empty
 some_pieces : (line : List ℕ) → (p : List ℕ) × (ps : Words) × (pieces_of line ≡ p ∷ ps)
 some_pieces line =
     let r = split_some 32 line in
@@ -118,7 +118,7 @@ words_read line =
     let s = some_pieces line in
     ap (filter is_some_text) (continued_nothing (pieces_of line) s.0 s.1 s.2) ∙ words_continued [] line
 
--- ---- the words of a line whose bytes outside ASCII are kept as `?`
+-- ---- the words of a line in which each byte outside ASCII is replaced by `?`
 
 some_seen : (w : List ℕ) → is_some_text (seen w) ≡ is_some_text w
 some_seen w = ap (λ n. nat_lt 0 n) (length-map w seen_byte)
@@ -154,12 +154,11 @@ words_seen w (b ∷ line) = ap (λ t. cond t (word_with_bytes (seen w) ++ words_
         ∙ sym (map-append seen (word_with_bytes w) (words_from [] line))
     by false r q = ap (λ v. words_from v (seen line)) (sym (map-append seen_byte w (b ∷ []))) ∙ q
 
--- the words of `seen line`, the line with `?` for each byte outside ASCII, are the words of the line, changed in the
--- same way
+-- replacing each byte outside ASCII by `?` (`seen`) before a line is divided into words gives the same words as replacing it in the words of the line
 pub kept_words : (line : List ℕ) → words_from [] (seen line) ≡ map seen (words_of_line line)
 kept_words line = words_seen [] line ∙ ap (map seen) (sym (words_read line))
 
--- ---- reading a line one byte after another
+-- ---- the words of a line of which the bytes before a place have been read
 
 get_seen : (line : List ℕ) (i : ℕ) → i < length line → get_or (seen line) i 0 ≡ seen_byte (get_or line i 0)
 get_seen [] i h = absurd (omega (arith, h))
@@ -172,8 +171,8 @@ byte_at line i h =
     ∙ ap (λ b. b ∷ drop (suc i) (seen line)) (get_seen line i h)
     ∙ ap (λ j. seen_byte (get_or line i 0) ∷ drop j (seen line)) (let e : suc i ≡ i + 1 = omega arith in e)
 
--- `words` are the words that end before place i of the line, and `word` is the part before place i of a word that continues
--- there
+-- for the line with `?` in place of each byte outside ASCII: `words` are its words that end before place i, and `word` are the bytes before place i
+-- of the word that may go on at place i
 abbrev pub AreWordsSo : List ℕ → ℕ → Words → List ℕ → Type 0
 AreWordsSo line i words word = words_from [] (seen line) ≡ words ++ words_from word (drop i (seen line))
 
@@ -206,7 +205,7 @@ all_read line i words more word h m a =
     ∙ sym a
     ∙ kept_words line
 
--- ---- a carriage return at the end of a line is dropped
+-- ---- the line without a carriage return at its end
 
 pub return_dropped : (front : List ℕ) (last : ℕ) → (last == 13) ≡ true → without_return (front ++ last ∷ []) ≡ front
 return_dropped [] last h = ap (λ t. cond t [] (last ∷ [])) h

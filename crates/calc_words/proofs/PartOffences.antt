@@ -1,4 +1,4 @@
--- The first error of parts: that of the first part that has one.
+-- The first error of the words of parts: that of the first part that has one.
 use Rattle.std.proofs.Common.{◌≡◌, ℕ, true, ◌+◌, ◌<◌, ◌≤◌, List, [], ◌∷◌, map, length, refl, sym, ap, ◌∙◌, arith, None, ◌⊎◌, inl, inr, flat_map}
 use Rattle.std.proofs.lemmas.Bool.{and_parts}
 use Rattle.std.proofs.lemmas.List.{length-map}
@@ -21,7 +21,7 @@ use Rattle.calc_words.proofs.Commands.{singles, judged_err, judged_later}
 number_count : (ns : Words) → length (numbers ns) ≡ length (flat_map (λ t. t ∷ []) ns)
 number_count ns = length-map ns decimal_value ∙ ap length (sym (singles ns))
 
--- the errors of a part are not before its first word
+-- each error of a part whose first word is word k is at word k or later
 part_from : (p : Part) (k : ℕ) (x : Written (form_of_part p)) (o : Offence) → Among o (part_offends p k x) → k ≤ o.0
 part_from Rows k x o m = let w = (within rows_rule [] (k + 1) (decimal_value x.1 ∷ []) o m).0 in omega (arith, w)
 part_from MaybeRows k (inl x) o m = absurd m
@@ -74,8 +74,8 @@ parts_from (p ∷ q ∷ ps) k x o m =
     by (inl a) r = part_from p k x.0 o a
     by (inr a) r = let w = r a in omega (arith, w)
 
--- if no part but the last is a list of factors, a fault that is the first error of the first part with an error is the
--- first error of all parts
+-- if no part but the last is a list of factors (`are_bounded`), a fault that is the first error of the first part with an error is the first error of
+-- all parts
 pub parts_faulty : (ps : List Part) (k : ℕ) (x : Written (form_of ps)) (fault : WordsFault) → are_bounded ps ≡ true → IsFirstOf ps k x fault
     → IsFirst (first_offence (parts_offend ps k x)) fault
 parts_faulty [] k x fault b h = absurd h

@@ -1,7 +1,6 @@
 -- The values of the parts of a command, from the words of these parts.
-use Rattle.std.proofs.Common.{◌≡◌, ℕ, zero, suc, ◌<◌, ◌==◌, Bool, false, not, List, [], ◌∷◌, ◌++◌, map, length, refl, sym, ap, ◌∙◌, subst, arith, Result, inl, inr, flat_map}
+use Rattle.std.proofs.Common.{◌≡◌, ℕ, ◌==◌, Bool, not, List, [], ◌∷◌, ◌++◌, map, length, refl, sym, ap, ◌∙◌, subst, arith, Result, inl, inr, flat_map}
 use Rattle.std.specs.Prelude.{codes}
-use Rattle.std.proofs.lemmas.Bool.Decides.{nat_tests}
 use Rattle.sym_model.specs.Partition.{without_last_zeros}
 use Rattle.sym_model.specs.Permutation.{kept}
 use Rattle.sym_model.specs.CommandOffence.{first_offence, offences_by, letter_rule, part_offences, permutation_offences_within, factor_offences}
@@ -15,6 +14,7 @@ use Rattle.calc_words.specs.Reading.{IsJudged}
 use Rattle.calc_words.specs.FactorWords.{next_text, BeginsWithDigit}
 use Rattle.calc_words.proofs.Commands.{singles}
 use Rattle.calc_words.proofs.FactorCuts.{all_begin, next_begins, one_run, all_partitions}
+use Rattle.sym_model.proofs.Numbers.{positive-test}
 
 pub shape_judged : (at k : ℕ) (ws : Words) (x : Written partition_words) (r : Result (List ℕ) WordsFault) → at ≡ k → ws ≡ words_of partition_words x
     → IsJudged (λ p. p ≡ partition ws) (first_offence (part_offences at (numbers ws))) r
@@ -38,7 +38,7 @@ word_judged at k ws x r a e h =
     subst (λ n. IsJudged (λ (w : List ℕ). w ≡ numbers x) (first_offence (offences_by letter_rule n (numbers x))) r) a
     (subst (λ us. IsJudged (λ (w : List ℕ). w ≡ numbers us) (first_offence (offences_by letter_rule at (numbers us))) r) (e ∙ singles x) h)
 
--- ---- the factors that words write
+-- ---- the factors that the words of a part denote
 
 abbrev lists_of : List (Written next_words) → List Words
 lists_of [] = []
@@ -88,14 +88,10 @@ factors_judged at k ws first rest later (one, (second, others)) r m a e f n b l 
     (subst (λ us. IsJudged (λ (g : List (List ℕ)). g ≡ partition us ∷ partition two ∷ map partition lists)
     (first_offence (factor_offences 0 at (numbers us ∷ numbers two ∷ map numbers lists))) r) runs.0 judged)))
 
--- the word for the one-line form is there if and only if the part of the words for it is not empty
+-- let ws be the words of the option `-m`, or no word if it is not given: the option is given if and only if ws is not empty
 pub form_said : {A : Type 0} (f : A → List ℕ) (ws : List A) (x : Written (optional form_words)) (b : Bool) → map f ws ≡ words_of (optional form_words) x
     → b ≡ (length ws == 0) → not b ≡ is_one_line x
 form_said f [] (inl y) b e h = ap not h
 form_said f [] (inr y) b e h = cc
 form_said f (w ∷ ws) (inl y) b e h = cc
-form_said f (w ∷ ws) (inr y) b e h = ap not (h ∙ no (length (w ∷ ws)) (omega arith))
-  where
-    no : (n : ℕ) → 0 < n → (n == 0) ≡ false
-    no zero l = absurd (omega (arith, l))
-    no (suc n) l = grind (arith, nat_tests)
+form_said f (w ∷ ws) (inr y) b e h = ap not (h ∙ positive-test (length (w ∷ ws)) (omega arith))

@@ -1,4 +1,5 @@
--- Words are read in one way: one command, one first error, one place where they first fail.
+-- For unambiguous commands, all correct results of reading given words are the same, unless memory runs out: a command, a first error, or a place of
+-- the first error of syntax.
 use Rattle.std.proofs.Common.{◌≡◌, ℕ, ◌<◌, ◌==◌, true, false, List, [], ◌∷◌, map, length, arith, refl, sym, ap, ◌∙◌, Option, Some, None, Result, Ok, Err, inl, inr}
 use Rattle.std.proofs.lemmas.Bool.{eqb-true, eqb-false}
 use Rattle.sym_model.specs.Command.{Command}
@@ -17,11 +18,11 @@ use Rattle.word_laws.specs.OneReading.{are_unambiguous}
 use Rattle.word_laws.specs.Reading.{forms_of}
 use Rattle.word_laws.proofs.EntryLists.{one_command, one_offence, one_place}
 
--- no words are of the forms of two of the commands, or of one form in two ways
+-- the commands are unambiguous: no words have the forms of two of them, or one form in two ways
 abbrev pub Clear : List Entry → Type 0
 Clear entries = are_unambiguous (forms_of entries) ≡ true
 
--- words that spell c without an error spell c
+-- if words spell c without an error, they spell c
 freely_spells : (entries : List Entry) (words : Words) (c : Command) → SpellsWithoutOffence entries words c → SpellsCommand entries words c
 freely_spells [] words c h = h
 freely_spells (e ∷ entries) words c (inl x) = inl (record { has = x.has; says_it = x.says_it })
@@ -70,8 +71,8 @@ same_syntax : (at : Place) (w b : ℕ) → at.word ≡ w → at.byte ≡ b → S
 same_syntax at w b h k =
     ap (λ n. Syntax (record { word = n; byte = at.byte })) h ∙ ap (λ n. Syntax (record { word = w; byte = n })) k
 
--- for unambiguous commands (`Clear`): if words are no command, each correct result of reading them is the refusal at
--- the place where they first fail, unless memory runs out
+-- for unambiguous commands (`Clear`): if the place of the first error of syntax in words is byte b of word w, each correct result of reading them is
+-- the refusal with an error of syntax there, unless memory runs out
 pub goes_wrong : (entries : List Entry) → Clear entries → (words : Words) (r : Result Read WordsFault)
     → IsRead entries words r → (w b : ℕ) → IsSyntaxPlace entries words w b → GoesWrong w b r
 goes_wrong entries u words (Ok k) h w b s = s.no_command (command_of k) (freely_spells entries words (command_of k) h.0)

@@ -1,4 +1,4 @@
--- Factors at the front of other words.
+-- The words of factors at the front of a list of words.
 use Rattle.std.proofs.Common.{◌≡◌, ℕ, ◌-◌, ◌≤◌, List, ◌∷◌, ◌++◌, append_assoc, map, length, length-append, refl, sym, ap, ◌∙◌, subst, arith, inl, inr}
 use Rattle.std.specs.Prelude.{codes}
 use Rattle.std.proofs.lemmas.List.{length-map}
@@ -20,7 +20,7 @@ factors_wrong words ns rest e n b d =
     (stops_left next_words (many next_words) rest (length rest) refl refl
     (stops_left (the (codes "-")) partition_words rest (length rest) refl refl (the_wrong (codes "-") rest d)))
 
--- a word with which the words of factors can continue is a number or `-`
+-- a word with which the words of factors can go on is a number or `-`
 of_piece : (t : List ℕ) → OfOne (continuing factors_words) t → IsPieceWord t
 of_piece t o = elim (o.among) as (λ m. IsPieceWord t) [
   | inl e ↦ inr (o.spelled ∙ is_exact o.class o.written (codes "-") e)
@@ -43,7 +43,7 @@ factors_taken words ns after later ps rest e n d l p o =
       ends = ends_unlike factors_words refl w.written w.allowed rest (unlike_kind IsPieceWord (continuing factors_words) rest of_piece o);
     }
 
--- the number of words of the factors is that of all words minus that of the words after the factors
+-- if the words are `piece` followed by `rest`, the number of words of `piece` is the number of all words minus that of `rest`
 pub factors_count : {A : Type 0} (f : A → List ℕ) (words rest : List A) (piece : Words) → map f words ≡ piece ++ map f rest
     → length words - length rest ≡ length piece
 factors_count f words rest piece e =

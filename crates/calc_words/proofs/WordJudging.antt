@@ -1,6 +1,6 @@
--- The test of the letters of a word, one after another.
+-- The test of the letters of a word, one letter after another.
 use Rattle.std.proofs.Common.{◌≡◌, ℕ, suc, ◌+◌, ◌<◌, ◌≤◌, ◌==◌, Bool, true, false, ◌||◌, List, [], ◌∷◌, ◌++◌, map, length, take, drop, get_or, drop-cons, refl, sym, ap, ◌∙◌, subst, arith, Some, None, inl, inr}
-use Rattle.std.proofs.lemmas.Bool.{eqb-false}
+use Rattle.std.proofs.lemmas.Bool.{eqb-false, or_parts}
 use Rattle.std.proofs.Math.ListN.{set, length-set}
 use Rattle.std.proofs.lemmas.List.{take_more, take_more_set}
 use Rattle.sym_model.specs.Sum.{Among}
@@ -15,9 +15,10 @@ use Rattle.calc_words.specs.Reading.{IsFirst}
 use Rattle.calc_words.specs.WrittenLimits.{IsWrittenWord}
 use Rattle.calc_words.proofs.FirstOffences.{first-kind, first_of_three, lowest, Behind, within}
 use Rattle.word_laws.proofs.JudgedRows.{of_kind}
-use Rattle.calc_words.proofs.Judging.{narrow_none, narrow_some, or_both}
+use Rattle.calc_words.proofs.Judging.{narrow_none, narrow_some}
 use Rattle.calc_words.proofs.WrittenLists.{inside}
-use Rattle.word_laws.proofs.NoOffences.{none_append, none_next, not_when}
+use Rattle.word_laws.proofs.NoOffences.{none_append, none_next}
+use Rattle.sym_model.proofs.Lists.{none_chosen}
 
 two_kinds : (k : ℕ) (x y : Bool) (rest : List Offence) → Behind k rest
     → first_offence (map (of_kind k) (when x literal ++ when y range) ++ rest) ≡ first_of_three k x y false (first_offence rest)
@@ -25,8 +26,7 @@ two_kinds k true y rest l = first-kind k literal (when y range) rest (λ q m. lo
 two_kinds k false true rest l = first-kind k range [] rest (λ q m. absurd m) l
 two_kinds k false false rest l = refl
 
--- the state after the first i letters of a list that begins at the word `at`: `heard` contains these letters, the last one
--- first
+-- the first i letters of ns, which begin at word `at`, have no error and are stored in `letters`; `heard` lists them, the last one first
 pub record Spelling (at : ℕ) (ns : List ℕ) (i : ℕ) (letters : List ℕ) : Type 0 where
   pub heard : List ℕ
   pub count_is : length heard ≡ i
@@ -73,7 +73,7 @@ pub word_goes_on : (at : ℕ) (ns : List ℕ) (i a v : ℕ) (letters : List ℕ)
     → Some v ≡ narrow a → (is_outside greatest_letter v || (i == most_letters)) ≡ false → Spelling at ns (i + 1) (set letters i v)
 word_goes_on at ns i a v letters j h e w o =
     let n = narrow_some a v w in
-    let m = eqb-false i 256 (or_both (is_outside greatest_letter v) (i == most_letters) o).1 in
+    let m = eqb-false i 256 (or_parts (is_outside greatest_letter v) (i == most_letters) o).1 in
     let few : i + 1 ≤ 256 = let x = j.few in omega (arith, x, m) in
     let room = j.room in
     let here : i < length letters = omega (arith, room, few) in
@@ -98,7 +98,7 @@ word_goes_on at ns i a v letters j h e w o =
       room = length-set letters i v ∙ j.room;
     }
 
--- ---- letters without an error are within the limits
+-- ---- letters of a word without an error: they are within the limits
 
 record Fit (before ns : List ℕ) : Type 0 where
   letters : (b : ℕ) → Among b ns → (1 ≤ b) × (b ≤ greatest_letter)
@@ -110,7 +110,7 @@ letters_fit before k (a ∷ ns) f h =
     let n = none_next letter_rule before k a ns h in
     let y = is_outside greatest_letter a || (length before == most_letters) in
     let p = none_append (when (is_wide a) literal) (when y range) n.0 in
-    let o = or_both (is_outside greatest_letter a) (length before == most_letters) (not_when y range p.1) in
+    let o = or_parts (is_outside greatest_letter a) (length before == most_letters) (none_chosen y range p.1) in
     let more = eqb-false (length before) 256 o.1 in
     let r = letters_fit (a ∷ before) (k + 1) ns (omega (arith, more, f)) n.1 in
     record { letters = λ b m. by b (inside greatest_letter a o.0) r.letters m; few = (let x = r.few in omega (arith, x)) }

@@ -1,4 +1,4 @@
--- Words without an error keep the limits of their command.
+-- If the words of a command have no error, the command is within its limits.
 use Rattle.std.proofs.Common.{◌≡◌, ℕ, ◌+◌, ◌-◌, ◌*◌, ◌≤◌, ◌==◌, nat_lt, Bool, true, false, cond, List, [], ◌∷◌, ◌++◌, map, length, refl, sym, ap, subst, ◌∙◌, arith, inl, inr, None}
 use Rattle.std.proofs.lemmas.Bool.{and_parts, eqb-false}
 use Rattle.std.proofs.lemmas.List.{length-map}
@@ -26,8 +26,9 @@ use Rattle.calc_words.proofs.WordJudging.{written_word}
 use Rattle.calc_words.proofs.WrittenExpressions.{no_signs}
 use Rattle.calc_words.proofs.WrittenLists.{written, two_written, row_number, lines_number, seed_number}
 use Rattle.word_laws.proofs.NoOffences.{none_append, none_first, none_judged, not_past, none_in_word, within_limit, within_degree}
+use Rattle.sym_model.proofs.Lists.{none_chosen}
 
--- each command that words of the form of the entry spell without an error is within the limits
+-- each command that words of the form of the entry e spell without an error is within the limits (`KeepsLimits`)
 abbrev pub Keeps : Entry → Type 0
 Keeps e = (x : Written e.form) → first_offence (e.offends x) ≡ None → KeepsLimits (e.says x)
 
@@ -38,12 +39,8 @@ limit_kept : (k : ℕ) (x : Written (optional rows_words)) → first_offence (ro
 limit_kept k (inl x) h = tt
 limit_kept k (inr x) h = row_number (k + 1) (decimal_value x.1) h
 
--- if there is no error in front of a factor, it is not the ninth
-pub not_ninth : (ninth : Bool) (o : Offence) → cond ninth (o ∷ []) [] ≡ [] → ninth ≡ false
-not_ninth true o h = cc
-not_ninth false o h = refl
-
--- further factors without an error are within the limits, and at most eight with those before
+-- let at most eight factors, `count`, precede the factors ns: if ns have no error, there are at most eight factors in all, and each partition of ns
+-- is within the limits
 factors_keep : (count k : ℕ) (ns : List (List ℕ)) → count ≤ 8 → factor_offences count k ns ≡ []
     → (count + length ns ≤ 8) × EachOf IsWritten (map without_last_zeros ns)
 factors_keep count k [] c h = (omega arith, tt)
@@ -51,7 +48,7 @@ factors_keep count k (n ∷ ns) c h =
     let ninth : List Offence = cond (count == most_factors) ((k - 1, 0, range) ∷ []) [] in
     let p = none_append (ninth ++ part_offences k n) (factor_offences (count + 1) (k + length n + 1) ns) h in
     let q = none_append ninth (part_offences k n) p.0 in
-    let e = eqb-false count 8 (not_ninth (count == most_factors) (k - 1, 0, range) q.0) in
+    let e = eqb-false count 8 (none_chosen (count == most_factors) (k - 1, 0, range) q.0) in
     let r = factors_keep (count + 1) (k + length n + 1) ns (omega (arith, c, e)) p.1 in
     let l = r.0 in
     (omega (arith, l), (written k n (ap first_offence q.1), r.1))
@@ -99,7 +96,7 @@ quantum_keeps (name, (rows, (columns, x))) h = reduction_keeps rows columns x h
 fusion_keeps : Keeps fusion_entry
 fusion_keeps (name, (rows, (level, x))) h = reduction_keeps rows level x h
 
--- if the words have no error, the tableau after which a list continues is a lattice tableau of outer/inner
+-- if there is a tableau after `-from`, and it has no error at the word `-from`, it is a lattice tableau of outer/inner
 last_kept : (k : ℕ) (outer inner : List ℕ) (after : Written (optional from_words)) → first_offence (not_listed k outer inner after) ≡ None
     → IsInList outer inner (last_reading outer inner after)
 last_kept k outer inner (inl x) h = tt
@@ -181,7 +178,7 @@ work_keeps (name, (lines, seed)) h =
     let l = lines_number 1 (decimal_value lines) p.0 in
     (l.0, l.1, seed_number 2 (decimal_value seed) p.1)
 
--- if each entry of a list keeps the limits, so do the commands that words without an error spell
+-- if each entry of a list has the property `Keeps`, a command that words spell without an error is within the limits
 pub some_keeps : (entries : List Entry) → EachOf Keeps entries → (words : Words) (c : Command) → SpellsWithoutOffence entries words c → KeepsLimits c
 some_keeps [] k words c h = absurd h
 some_keeps (e ∷ entries) k words c (inl h) = kept e k.0 words c h

@@ -5,7 +5,7 @@ use Rattle.sym_model.specs.ExpressionOffence.{WordOffence, shape, sign_offences}
 use Rattle.plethysm_laws.specs.PositiveExpression.{HasNoSigns}
 use Rattle.word_laws.proofs.NoOffences.{none_append}
 
--- an expression with no error for a minus or a fraction has no minus and no fraction
+-- if the phrase e has no error for a minus or a fraction, its expression has no minus and no fraction
 pub no_signs : (b : ℕ) (e : Phrase) → sign_offences b e ≡ [] → HasNoSigns (tree e)
 no_signs b (numeral digits) h = tt
 no_signs b (ratio num den) h = cc

@@ -1,20 +1,20 @@
--- Letters without an error are those of a permutation of at most `most` letters.
+-- If a list of letters has no error, it is a permutation of at most `most` letters.
 use Rattle.std.proofs.Common.{◌≡◌, ℕ, ◌+◌, ◌<◌, ◌≤◌, ◌==◌, nat_lt, false, ◌||◌, List, [], ◌∷◌, ◌++◌, length, refl, ap, ◌∙◌, arith, None, inl, inr, eq-eqb}
-use Rattle.std.proofs.lemmas.Bool.{eqb-false}
+use Rattle.std.proofs.lemmas.Bool.{eqb-false, or_parts}
 use Rattle.sym_model.specs.Sum.{Among, Once}
 use Rattle.sym_model.specs.ExpressionOffence.{is_wide, literal, range, shape}
 use Rattle.sym_model.specs.CommandOffence.{first_offence, permutation_offences, permutation_offences_within, permutation_rule_within, offences_after, when, is_outside, stands_in, most_permuted}
 use Rattle.sym_model.specs.Permutation.{kept}
-use Rattle.calc_words.proofs.Judging.{or_both}
 use Rattle.perm_codes.specs.Limits.{IsShortPermutation}
 use Rattle.perm_codes.proofs.WithinLimits.{kept_limits}
 use Rattle.word_laws.proofs.FirstOffences.{first_none}
 use Rattle.calc_words.specs.WrittenLimits.{IsPermutationWithin, IsWrittenPermutation}
 use Rattle.calc_words.proofs.WrittenLists.{inside}
-use Rattle.word_laws.proofs.NoOffences.{none_append, none_next, not_when}
+use Rattle.word_laws.proofs.NoOffences.{none_append, none_next}
 use Rattle.schubert_laws.proofs.Members.{fewer_kept}
+use Rattle.sym_model.proofs.Lists.{none_chosen}
 
--- letters from 1 to `count` that differ from each other and from those before
+-- the letters ns are from 1 to `count`, differ from each other and from the letters `before`, and with these are at most `most` letters
 record AreLetters (most count : ℕ) (before ns : List ℕ) : Type 0 where
   letters : (b : ℕ) → Among b ns → (1 ≤ b) × (b ≤ count)
   new : (b : ℕ) → Among b ns → stands_in b before ≡ false
@@ -30,8 +30,8 @@ letters_fine most count before k (a ∷ ns) f h =
     let z = is_outside count a || stands_in a before in
     let p = none_append (when (is_wide a) literal ++ when y range) (when z shape) n.0 in
     let q = none_append (when (is_wide a) literal) (when y range) p.0 in
-    let room = or_both (nat_lt most a) (length before == most) (not_when y range q.1) in
-    let own = or_both (is_outside count a) (stands_in a before) (not_when z shape p.1) in
+    let room = or_parts (nat_lt most a) (length before == most) (none_chosen y range q.1) in
+    let own = or_parts (is_outside count a) (stands_in a before) (none_chosen z shape p.1) in
     let more = eqb-false (length before) most room.1 in
     let r = letters_fine most count (a ∷ before) (k + 1) ns (omega (arith, more, f)) n.1 in
     let bound = inside count a own.0 in
@@ -48,12 +48,12 @@ letters_fine most count before k (a ∷ ns) f h =
 
     new_of : (b : ℕ) → stands_in a before ≡ false → ((c : ℕ) → Among c ns → stands_in c (a ∷ before) ≡ false) → Among b (a ∷ ns) → stands_in b before ≡ false
     new_of b i r (inl e) = ap (λ c. stands_in c before) e ∙ i
-    new_of b i r (inr m) = (or_both (b == a) (stands_in b before) (r b m)).1
+    new_of b i r (inr m) = (or_parts (b == a) (stands_in b before) (r b m)).1
 
     itself : stands_in a (a ∷ before) ≡ false → ⊥
-    itself e = let x = (or_both (a == a) (stands_in a before) e).0 in let y = eq-eqb a a refl in cc
+    itself e = let x = (or_parts (a == a) (stands_in a before) e).0 in let y = eq-eqb a a refl in cc
 
--- if most ≤ 16, one letter or more without an error are those of a permutation of at most `most` letters
+-- if most ≤ 16, and ns has at least one letter and no error, ns is a permutation of at most `most` letters
 pub short_within : (most k : ℕ) (ns : List ℕ) → most ≤ 16 → 0 < length ns → first_offence (permutation_offences_within most k ns) ≡ None
     → IsShortPermutation ns × (length ns ≤ most)
 short_within most k ns m s h =
@@ -61,8 +61,8 @@ short_within most k ns m s h =
     let few = f.few in
     (record { one_line = record { letters = f.letters; once = f.once }; some = s; few = omega (arith, m, few) }, omega (arith, few))
 
--- if most ≤ 16, one letter or more without an error, with the fixed ones at the end removed, are a permutation of at
--- most `most` letters
+-- if most ≤ 16, and ns has at least one letter and no error, ns without the fixed letters at its end (`kept`) is a permutation of at most `most`
+-- letters
 pub letters_within : (most k : ℕ) (ns : List ℕ) → most ≤ 16 → 0 < length ns → first_offence (permutation_offences_within most k ns) ≡ None
     → IsPermutationWithin most (kept ns)
 letters_within most k ns m s h = let l = short_within most k ns m s h in

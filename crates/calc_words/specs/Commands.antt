@@ -1,4 +1,4 @@
--- The plain command that a command stands for.
+-- The command of the definitions (`PlainCommand`) that a command of the program stands for.
 use Rattle.std.specs.Prelude.{◌≡◌}
 use Rattle.sym_model.specs.Command.{Command as PlainCommand, mult, skew, coef, coprod, quantum}
 use Rattle.sym_model.specs.Command.{fusion, expand, schubert, schubmult, tab, rsk, unrsk, rect}
@@ -13,7 +13,7 @@ use Rattle.calc_words.specs.declared.command.Command.TheVariants.{Unrsk, Rect, G
 use Rattle.calc_words.specs.declared.command.Command.TheVariants.{Dschubmult, Stanley, Batch}
 use Rattle.calc_words.specs.declared.command.Command.TheVariants.{Work}
 
--- the plain command, by the definitions, that a command of the calculator stands for
+-- the command of the definitions that a command of the program stands for
 abbrev pub command_of : Command → PlainCommand
 command_of (Mult rows one_line factors) = mult rows one_line factors
 command_of (Skew rows one_line outer inner) = skew rows one_line outer inner
@@ -37,11 +37,11 @@ command_of (Stanley rows perm) = stanley rows perm
 command_of Batch = batch
 command_of (Work lines seed) = work lines seed
 
--- the two tableaux of `unrsk` are a pair; there is no condition on other commands
+-- the command is sound: the tableaux p and q of `unrsk` are a pair (`IsPair`); there is no condition on other commands
 abbrev pub IsSound : Command → Type 0
 IsSound (Unrsk p q) = IsPair p q
 IsSound _ = Unit {0}
 
--- `command` stands for the plain command, and is sound
+-- `command` stands for the command `plain` of the definitions, and is sound
 abbrev pub StandsFor : PlainCommand → Command → Type 0
 StandsFor plain command = (command_of command ≡ plain) × IsSound command

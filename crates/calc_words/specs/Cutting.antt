@@ -1,17 +1,17 @@
--- Words at the front of other words that have a form, and the place of the first failure of words that do not.
+-- The words of a form at the front of a list of words, and the place of the first error of syntax in words that do not have the form.
 use Rattle.std.specs.Prelude.{◌≡◌, ℕ, true, List, length}
 use Rattle.sym_model.specs.Form.{Form, is_letter_of}
 use Rattle.sym_model.specs.Grammar.{all_bases}
 use Rattle.word_laws.proofs.Cuts.{IsTaken}
 pub use Rattle.word_laws.proofs.Cuts.{StopsIn, IsByte, IsWrongAt}
 
--- the first `count` words have the form, and the words after them do not continue it
+-- the first `count` words have the form f, and the words of this form end there (`IsTaken`)
 abbrev pub Takes : Form → List (List ℕ) → ℕ → Type 0
 Takes f words count =
     (piece : List (List ℕ)) × (rest : List (List ℕ)) × IsTaken f piece rest words
     × (count ≡ length piece)
 
--- the words are words of the form, which the words after them do not continue, followed by the words `rest`
+-- the words are words of the form f followed by `rest`, and the words of this form end before `rest` (`IsTaken`)
 abbrev pub StandsBehind : Form → List (List ℕ) → List (List ℕ) → Type 0
 StandsBehind f rest words = (piece : List (List ℕ)) × IsTaken f piece rest words
 

@@ -1,4 +1,4 @@
--- The words of the factors of a product.
+-- The words of the factors of a product: the numbers of each factor, and `-` between two factors.
 use Rattle.std.specs.Prelude.{◌≡◌, ℕ, Bool, true, false, List, [], ◌∷◌, ◌++◌, codes, ◌⊎◌}
 use Rattle.sym_model.specs.Form.{is_digit}
 use Rattle.calc_words.specs.NumberRuns.{IsNumber}
@@ -7,7 +7,7 @@ use Rattle.calc_words.specs.NumberRuns.{IsNumber}
 abbrev pub IsPieceWord : List ℕ → Type 0
 IsPieceWord text = IsNumber text ⊎ (text ≡ codes "-")
 
--- the words of further factors, each after a `-`
+-- the words of these lists of numbers, each list after a word `-`
 abbrev pub next_text : List (List (List ℕ)) → List (List ℕ)
 next_text [] = []
 next_text (list ∷ lists) = codes "-" ∷ (list ++ next_text lists)

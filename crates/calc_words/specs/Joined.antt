@@ -1,17 +1,19 @@
--- A command in a list of commands that have different names.
+-- A command in a list of commands with different names.
 use Rattle.std.specs.Prelude.{◌≡◌, ℕ, List, ◌∷◌}
 use Rattle.sym_model.specs.Sum.{Among}
 use Rattle.sym_model.specs.Form.{Has, Awaits}
 use Rattle.sym_model.specs.Entry.{Entry}
 
--- words that have the form of the command, or that an expression can continue to such words, begin with its name
+-- words that have the form of the command e begin with the name of e, and so do words after which, in this form, the next word may be an expression
+-- (`Awaits`)
 pub record Named (e : Entry) : Type 0 where
   pub spells : (words : List (List ℕ)) → Has e.form words
       → (rest : List (List ℕ)) × (words ≡ e.name ∷ rest)
   pub awaits : (words : List (List ℕ)) → Awaits e.form words
       → (rest : List (List ℕ)) × (words ≡ e.name ∷ rest)
 
--- the command is in the list, and no other command of the list has its name
+-- the command e is in the list, no other command of the list has the name of e, and words of each command of the list begin with the name of this
+-- command (`Named`)
 pub record Joined (e : Entry) (entries : List Entry) : Type 0 where
   pub among : Among e entries
   pub alone : (f : Entry) → Among f entries → f.name ≡ e.name → f ≡ e

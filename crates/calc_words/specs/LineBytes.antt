@@ -1,17 +1,17 @@
--- The bytes of a line as they are kept in its words: a byte outside ASCII, which no word of a command has, is kept as
--- `?`, which no word of a command has either.
+-- The bytes of a line as they are kept in its words: each byte outside ASCII is replaced by `?`. No word of a command has a byte outside ASCII or a
+-- `?`.
 use Rattle.std.specs.Prelude.{ℕ, ◌==◌, nat_lt, Bool, true, false, ◌||◌, cond, List, [], ◌∷◌, map}
 use Rattle.sym_model.specs.BatchLine.{is_some_text}
 
--- the byte that is kept for `byte`: `?` for one outside ASCII
+-- `?` for a byte outside ASCII, and any other byte itself
 abbrev pub seen_byte : ℕ → ℕ
 seen_byte byte = cond (nat_lt byte 128) byte 63
 
--- the bytes that are kept for those of a text
+-- the text with `?` for each byte outside ASCII
 abbrev pub seen : List ℕ → List ℕ
 seen text = map seen_byte text
 
--- the list of this word, or the empty list if the word has no byte
+-- the list that has only this word, or the empty list if the word has no byte
 abbrev pub word_with_bytes : List ℕ → List (List ℕ)
 word_with_bytes word = cond (is_some_text word) (word ∷ []) []
 

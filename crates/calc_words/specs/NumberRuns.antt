@@ -1,8 +1,8 @@
--- Values of number words that are at most 2^127 - 1.
+-- The value of a number word, if it is at most 2^127 - 1.
 use Rattle.std.specs.Prelude.{ℕ, cond, Option, Some, None}
 use Rattle.sym_model.specs.ExpressionOffence.{is_wide}
 pub use Rattle.word_laws.specs.FirstWords.{IsNumber, BeginsOtherwise}
 
--- the number, if it is at most 2^127 - 1
+-- `Some n` if n is at most 2^127 - 1, and otherwise `None`
 abbrev pub narrow : ℕ → Option ℕ
 narrow n = cond (is_wide n) None (Some n)

@@ -1,11 +1,11 @@
--- Pairs of tableaux.
+-- The pair of tableaux of a sound command `unrsk`.
 use Rattle.std.specs.Prelude.{◌≡◌, ◌≤◌, [], length}
 use Rattle.sym_model.specs.CommandOffence.{most_letters}
 use Rattle.sym_model.specs.Schur.{letters_of}
 use Rattle.sym_model.specs.StandardTableau.{IsStandard}
 use Rattle.sym_model.specs.Tableau.{SkewFilling}
 
--- a straight tableau and a standard one of its shape, of at most 256 cells
+-- p and q are tableaux of the same straight shape, q is standard, and p has at most 256 entries
 pub record IsPair (p q : SkewFilling) : Type 0 where
   pub straight : p.inner ≡ []
   pub standard_straight : q.inner ≡ []

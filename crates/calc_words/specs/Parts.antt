@@ -1,4 +1,4 @@
--- The parts of the words of a command: their forms, their errors, and words that are cut into them.
+-- The parts of the words of a command: their forms, their errors, and the division of a list of words into parts.
 use Rattle.std.specs.Prelude.{◌≡◌, ◌⊎◌, ℕ, ◌≤◌, ◌<◌, ◌+◌, ◌-◌, Bool, true, false, ◌&&◌, List, []}
 use Rattle.std.specs.Prelude.{◌∷◌, ◌++◌, drop, length, codes, slice_index_or, None}
 use Rattle.sym_model.specs.PrintedBlock.{decimal_value}
@@ -27,7 +27,7 @@ use Rattle.calc_words.specs.declared.word_parts.Part.TheVariants.{Shape, Word, L
 use Rattle.calc_words.specs.declared.word_parts.Part.TheVariants.{Factors, Tableau, MaybeFrom}
 use Rattle.calc_words.specs.declared.word_parts.Part.TheVariants.{Target, Expression}
 
--- the form of a part
+-- the form of the words of a part
 abbrev pub form_of_part : Part → Form
 form_of_part Minus = the (codes "-")
 form_of_part Slash = the (codes "/")
@@ -47,24 +47,24 @@ form_of_part MaybeFrom = optional from_words
 form_of_part Target = word (target all_bases)
 form_of_part Expression = word formula
 
--- the form of parts, one after another
+-- the form of the words of these parts, one part after another
 abbrev pub form_of : List Part → Form
 form_of [] = empty
 form_of (p ∷ []) = form_of_part p
 form_of (p ∷ q ∷ ps) = sequence (form_of_part p) (form_of (q ∷ ps))
 
--- the form of the words of a command: its name, and its parts
+-- the form of the words of a command: its name, followed by its parts
 abbrev pub command_form : List ℕ → List Part → Form
 command_form name [] = the name
 command_form name (p ∷ ps) = sequence (the name) (form_of (p ∷ ps))
 
--- whether the first word after each part shows that the part has ended
+-- whether, for each part p of the list, the words that can continue the words of p are different from the words with which the parts after p can
+-- begin
 abbrev pub is_clear : List Part → Bool
 is_clear [] = true
 is_clear (p ∷ ps) = are_apart (continuing (form_of_part p)) (firsts (form_of ps)) && is_clear ps
 
--- the errors of a part that begins at word k; tableaux and expressions are tested together with other parts, and have
--- no error here
+-- the errors of a part whose first word is word k; tableaux and expressions are tested together with other parts, and have no error here
 abbrev pub part_offends : (p : Part) → ℕ → Written (form_of_part p) → List Offence
 part_offends Rows k x = offences_by rows_rule (k + 1) (decimal_value x.1 ∷ [])
 part_offends MaybeRows k x = row_limit_offences k x
@@ -78,22 +78,23 @@ part_offends Doubled k x = permutation_offences_within most_doubled k (letters x
 part_offends Factors k x = factor_offences 0 k (factor_numbers x)
 part_offends p k x = []
 
--- the errors of parts, the first of which begins at word k
+-- the errors of these parts, if the first part begins at word k
 abbrev pub parts_offend : (ps : List Part) → ℕ → Written (form_of ps) → List Offence
 parts_offend [] k x = []
 parts_offend (p ∷ []) k x = part_offends p k x
 parts_offend (p ∷ q ∷ ps) k x =
     part_offends p k x.0 ++ parts_offend (q ∷ ps) (k + length (words_of (form_of_part p) x.0)) x.1
 
--- the i-th part begins at word k and has these words; the places are those of the first words of the parts, and of the
--- word after the last
+-- `piece` is the list of the words of part i, counted from 0, and begins at word k: entry i of `places` is k, and entry i + 1 is the index of the
+-- word after `piece`
 abbrev pub IsPiece : List ℕ → List (List ℕ) → ℕ → ℕ → List (List ℕ) → Type 0
 IsPiece places words i k piece =
     (slice_index_or places i 0 ≡ k) × (slice_index_or places (i + 1) 0 ≡ k + length piece)
     × (k ≤ length words)
     × (rest : List (List ℕ)) × (drop k words ≡ piece ++ rest)
 
--- the words from word k on are words of the parts, and the places from the i-th on are those of the parts
+-- the words from word k on are the words of these parts, and `places` has, from entry i on, the index of the first word of each part and, at last,
+-- the index after the last word
 abbrev pub IsCut : List Part → ℕ → ℕ → List ℕ → List (List ℕ) → Type 0
 IsCut [] i k places words = drop k words ≡ []
 IsCut (p ∷ ps) i k places words =
@@ -101,7 +102,7 @@ IsCut (p ∷ ps) i k places words =
     × IsPiece places words i k (words_of (form_of_part p) x)
     × IsCut ps (i + 1) (k + length (words_of (form_of_part p) x)) places words
 
--- the values that the words of the parts write
+-- the values that the words of the parts denote
 abbrev pub written_of : (ps : List Part) (i k : ℕ) (places : List ℕ) (words : List (List ℕ))
     → IsCut ps i k places words → Written (form_of ps)
 written_of [] i k places words h = tt
@@ -109,13 +110,14 @@ written_of (p ∷ []) i k places words h = h.0
 written_of (p ∷ q ∷ ps) i k places words h =
     (h.0, written_of (q ∷ ps) (i + 1) (k + length (words_of (form_of_part p) h.0)) places words h.3)
 
--- the words are the name of a command and its parts
+-- the words are the name and the words of the parts, and `places` has the indices of the first words of the parts (`IsCut`)
 pub record AreCut (name : List ℕ) (ps : List Part) (places : List ℕ)
     (words : List (List ℕ)) : Type 0 where
   pub named : words ≡ name ∷ drop 1 words
   pub parts : IsCut ps 0 1 places words
 
--- whether the errors of a part are all at its own words; `are_bounded` asks this for all parts but the last
+-- false for a list of factors, and true for any other part, as all errors of such a part are at its own words; `are_bounded` says that this is true
+-- for all parts but the last
 abbrev pub is_bounded : Part → Bool
 is_bounded Factors = false
 is_bounded p = true
@@ -125,7 +127,7 @@ are_bounded [] = true
 are_bounded (p ∷ []) = true
 are_bounded (p ∷ q ∷ ps) = is_bounded p && are_bounded (q ∷ ps)
 
--- the fault is the first error of a part, and the parts before it have no error
+-- the refusal `fault` reports the first error of some part (`IsFirst`), and the parts before that part have no error; the first part begins at word k
 abbrev pub IsFirstOf : (ps : List Part) → ℕ → Written (form_of ps) → WordsFault → Type 0
 IsFirstOf [] k x fault = ⊥
 IsFirstOf (p ∷ []) k x fault = IsFirst (first_offence (part_offends p k x)) fault
@@ -134,7 +136,7 @@ IsFirstOf (p ∷ q ∷ ps) k x fault =
     ⊎ ((first_offence (part_offends p k x.0) ≡ None)
     × IsFirstOf (q ∷ ps) (k + length (words_of (form_of_part p) x.0)) x.1 fault)
 
--- no part has an error
+-- no part has an error; the first part begins at word k
 abbrev pub AreFine : (ps : List Part) → ℕ → Written (form_of ps) → Type 0
 AreFine [] k x = Unit {0}
 AreFine (p ∷ []) k x = first_offence (part_offends p k x) ≡ None
@@ -142,9 +144,9 @@ AreFine (p ∷ q ∷ ps) k x =
     (first_offence (part_offends p k x.0) ≡ None)
     × AreFine (q ∷ ps) (k + length (words_of (form_of_part p) x.0)) x.1
 
--- The parts before the i-th have been read, and their places are stored; the i-th begins at word `at`. A first
--- failure of the words from there on is the first failure of all words, and a cut of these words into the parts from
--- the i-th on gives a cut of all words.
+-- The parts before part i, counted from 0, have been read, and part i begins at word `at`. The first error of syntax in the words from `at` on, for
+-- the parts from i on, is that of all words after the name. A list of places that has the entries 0 to i of `places`, and divides the words from `at`
+-- on into the parts from i on, divides all words after the name into the parts (`IsCut`).
 pub record IsCutTo (parts : List Part) (i at : ℕ) (places : List ℕ)
     (words : List (List ℕ)) : Type 0 where
   pub within : at ≤ length words
@@ -157,8 +159,9 @@ pub record IsCutTo (parts : List Part) (i at : ℕ) (places : List ℕ)
       → IsCut (drop i parts) i at q words
       → IsCut parts 0 1 q words
 
--- if the last part spells an expression, the words are the name of a command and its parts; otherwise they first fail
--- in the last part
+-- The last part is one word, `text`, which is word `at`. If `text` spells an expression, the words are the name and the parts (`AreCut`); if it
+-- spells none, and its longest prefix that begins an expression has the length `byte`, the first error of syntax in the words is at this byte of word
+-- `at`.
 pub record IsUnread (name : List ℕ) (ps : List Part) (places : List ℕ)
     (words : List (List ℕ)) : Type 0 where
   pub at : ℕ
@@ -168,6 +171,7 @@ pub record IsUnread (name : List ℕ) (ps : List Part) (places : List ℕ)
   pub wrong : (byte : ℕ) → IsWrongByte text byte → (e : Entry) → e.form ≡ command_form name ps
       → IsSyntaxPlace (e ∷ []) words at byte
 
--- the words are the name of a command and its parts, the last of which may not have been looked at
+-- the words are the name of a command and its parts (`AreCut`); or this is known but for the last word, which has not been tested: they are so if it
+-- spells an expression (`IsUnread`)
 abbrev pub AreCutUnread : List ℕ → List Part → List ℕ → List (List ℕ) → Type 0
 AreCutUnread name ps places words = AreCut name ps places words ⊎ IsUnread name ps places words

@@ -1,4 +1,4 @@
--- The limits that a command keeps if its words have no error.
+-- The limits that hold for the values of a command whose words have no error.
 use Rattle.std.specs.Prelude.{◌≡◌, ◌≤◌, ℕ, ◌*◌, true, List, length, Option, Some, None}
 use Rattle.sym_model.specs.Partition.{IsPartition, size, rows}
 use Rattle.sym_model.specs.GoodTableau.{is_among, lattice_readings}
@@ -45,7 +45,7 @@ abbrev pub IsRowLimit : Option ℕ → Type 0
 IsRowLimit None = Unit {0}
 IsRowLimit (Some n) = IsRowNumber n
 
--- the tableau after which a list continues, if there is one, is a lattice tableau of outer/inner
+-- the column reading after which a list of tableaux continues, if one is given, is that of a lattice tableau of outer/inner
 abbrev pub IsInList : List ℕ → List ℕ → Option (List ℕ) → Type 0
 IsInList outer inner None = Unit {0}
 IsInList outer inner (Some w) = is_among w (lattice_readings outer inner) ≡ true
@@ -56,7 +56,7 @@ pub record AreWrittenFactors (factors : List (List ℕ)) : Type 0 where
   pub few : length factors ≤ most_factors
   pub written : EachOf IsWritten factors
 
--- the command is within the limits of words
+-- the values of the command are within the limits for commands that are given by words
 abbrev pub KeepsLimits : Command → Type 0
 KeepsLimits (mult limit one_line factors) = IsRowLimit limit × AreWrittenFactors factors
 KeepsLimits (skew limit one_line outer inner) = IsRowLimit limit × IsWritten outer × IsWritten inner

@@ -1,4 +1,4 @@
-//! The words of `batch` and `work`.
+//! Reading of the words of the commands `batch` and `work`.
 ghost use Rattle.std.specs.Prelude.{[], ◌∷◌, map, string_bytes};
 ghost use Rattle.sym_model.specs.Grammar.{batch_entry, work_entry};
 ghost use Rattle.calc_words.specs.Reading.{IsRead};
@@ -9,8 +9,8 @@ use crate::part_values::{lines_of, seed_of};
 use crate::word_parts::Part;
 use calc_base::WordsFault;
 
-/// Reads the words of `batch`, which is only that word. Other words are refused as `Syntax`, at the
-/// word where they first fail.
+/// Reads the words of the command `batch`: only the word `batch`. Other words are refused as
+/// `Syntax`, at the place of the first error of syntax.
 pub fn read_batch(words: &[String]) -> Result<Command, WordsFault>
     ensures { IsRead (batch_entry ∷ []) (map string_bytes words.now) result }
 {
@@ -20,9 +20,9 @@ pub fn read_batch(words: &[String]) -> Result<Command, WordsFault>
 
 /// Reads the words of `work`: that word, a number of lines and a seed.
 ///
-/// Words that are no such command are refused as `Syntax`, at the word where they first fail.
-/// Otherwise the first error is refused: a number over 2^127 - 1 as `Literal`; a number of lines
-/// that is not from 1 to 10,000, and a seed over 65,536, as `Range`.
+/// Words that do not have this form are refused as `Syntax`, at the place of the first error of
+/// syntax. Otherwise the first error is refused: a number over 2^127 - 1 as `Literal`; a number of
+/// lines that is not from 1 to 10,000, and a seed over 65,536, as `Range`.
 pub fn read_work(words: &[String]) -> Result<Command, WordsFault>
     ensures { IsRead (work_entry ∷ []) (map string_bytes words.now) result }
 {

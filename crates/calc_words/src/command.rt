@@ -6,48 +6,49 @@ use partitions::{Factors, Partition};
 use perm_codes::Perm;
 use skew_shapes::{Standard, Tableau};
 
-/// A command of the calculator, with the values that its words write.
+/// A command of the calculator, with the values that its words denote.
 #[derive(Drop)]
 pub enum Command {
-    /// The product of the Schur functions of two to eight shapes, in `rows` variables if that is
-    /// given, on one line if `one_line` is true.
+    /// The product of the Schur functions of two to eight partitions: in `rows` variables if `rows`
+    /// is given, and on one line if `one_line` is true.
     Mult {
         rows: Option<u16>,
         one_line: bool,
         factors: Factors,
     },
-    /// The skew Schur function of a shape over another, in `rows` variables if that is given, on
-    /// one line if `one_line` is true.
+    /// The skew Schur function of the shape outer/inner: in `rows` variables if `rows` is given,
+    /// and on one line if `one_line` is true.
     Skew {
         rows: Option<u16>,
         one_line: bool,
         outer: Partition,
         inner: Partition,
     },
-    /// The coefficient of the Schur function of a shape in the product of those of two others.
+    /// The coefficient of the Schur function of `outer` in the product of the Schur functions of
+    /// `left` and `right`.
     Coef {
         outer: Partition,
         left: Partition,
         right: Partition,
     },
-    /// The coproduct of the Schur function of a shape.
+    /// The coproduct of the Schur function of the partition `shape`.
     Coprod {
         shape: Partition,
     },
-    /// The lattice tableaux of a shape over another: all of them, or those after the one with this
-    /// column reading, which is one of them.
+    /// The lattice tableaux of the shape outer/inner: all of them or, if `after` is given, only
+    /// those listed after the lattice tableau with the column reading `after`.
     Tab {
         outer: Partition,
         inner: Partition,
         after: Option<Word>,
     },
-    /// The product in the quantum cohomology of the Grassmannian Gr(rows, rows + cols).
+    /// The quantum product of the factors, for the Grassmannian Gr(rows, rows + cols).
     Quantum {
         rows: u16,
         cols: u16,
         factors: Factors,
     },
-    /// The fusion product for partitions with at most `rows` rows, at a level.
+    /// The fusion product of the factors at level `level`, for partitions with at most `rows` rows.
     Fusion {
         rows: u16,
         level: u16,
@@ -62,18 +63,19 @@ pub enum Command {
         left: Perm,
         right: Perm,
     },
-    /// The expression in the basis of the target, on one line if `one_line` is true.
+    /// The expansion of the expression in the target basis, on one line if `one_line` is true.
     Expand {
         target: Basis,
         one_line: bool,
         formula: Formula,
     },
-    /// The pair of tableaux that the insertion of a word of letters makes.
+    /// The insertion tableau and the recording tableau of a word under row insertion.
     Rsk {
         letters: Word,
     },
-    /// The word whose insertion makes the two tableaux. In a sound command they have one straight
-    /// shape of at most 256 cells.
+    /// The word with the insertion tableau `p` and the recording tableau `q`. In a sound command
+    /// (`IsSound`) `p` and `q` have the same straight shape, of at most 256 cells, and `q` is
+    /// standard.
     Unrsk {
         p: Tableau,
         q: Standard,
@@ -82,12 +84,12 @@ pub enum Command {
     Rect {
         tableau: Tableau,
     },
-    /// The growth grid of a permutation.
+    /// The growth diagram of a permutation: its grid of shapes.
     Growth {
         perm: Perm,
     },
-    /// The outer expression with its variables replaced by the monomials of the inner one,
-    /// in the basis of the target.
+    /// The plethysm of two expressions: the outer one with the monomials of the inner one in place
+    /// of its variables, expanded in the target basis.
     Plethysm {
         target: Basis,
         outer: Formula,
@@ -103,9 +105,10 @@ pub enum Command {
         rows: u16,
         perm: Perm,
     },
-    /// Each line of the input, run as a command.
+    /// The batch: each line of the input is run as a command.
     Batch,
-    /// The lines that the generator makes from a seed: `lines` of them.
+    /// The numbers of lines, terms and bytes in the answers to `lines` commands that are generated
+    /// from `seed`.
     Work {
         lines: u16,
         seed: u32,

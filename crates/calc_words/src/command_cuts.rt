@@ -1,4 +1,4 @@
-//! The words of a command, cut into its parts.
+//! The division of the words of a command into its parts (`Part`).
 ghost use Rattle.std.specs.Prelude.{◌≡◌, ◌≤◌, ◌<◌, ◌+◌, ◌-◌, ◌^◌, ℕ, true, slice_index_or, List};
 ghost use Rattle.std.specs.Prelude.{[], ◌∷◌, map, length, drop, string_bytes, IfOk, IfErr};
 ghost use Rattle.sym_model.specs.Entry.{Entry};
@@ -13,21 +13,24 @@ use crate::splitting::behind;
 use crate::word_parts::{Part, byte_of, taken};
 use calc_base::WordsFault;
 
-/// The words at which the parts of a command begin, the first at the word after its name, and the
-/// word after each part; no command has more than five.
+/// Entry i is the index of the first word of part i of a command, both counted from 0; the entry
+/// after the last part is the index of the word after that part. Entry 0 is 1, as word 0 is the
+/// name. No command has more than five parts.
 pub type Places = [usize; 6];
 
-/// The place where words first fail.
+/// The place of the first error of syntax in a list of words.
 #[derive(Clone, Copy)]
 struct Wrong {
-    /// The number of words from the wrong one on.
+    /// The number of words from the first wrong word to the end of the list; 0 if no word is wrong,
+    /// but a word is missing at the end.
     left: usize,
-    /// The byte at which the wrong word fails.
+    /// The index, in the first wrong word, of the byte at which the error is.
     byte: u64,
 }
 
-/// The places of the first `count` parts of words after a name; otherwise the place of the first
-/// failure.
+/// If the words after word 0 (the name) begin with the first `count` parts, the indices (`Places`)
+/// of the first words of these parts and of the word after them; otherwise the place of the first
+/// error of syntax.
 #[inline(always)]
 fn places_of(words: &[String], parts: &[Part], count: usize) -> Result<Places, Wrong>
     requires some { 0 < length words.now }
@@ -56,8 +59,8 @@ fn places_of(words: &[String], parts: &[Part], count: usize) -> Result<Places, W
     Ok(places)
 }
 
-/// The places of the parts after the name of a command, if the words are the name and words of
-/// these parts; otherwise the refusal of the words, at the word where they first fail.
+/// If the words are the name and the words of the parts, the indices (`Places`) of the first words
+/// of the parts; otherwise the refusal at the place of the first error of syntax.
 pub fn cut(words: &[String], name: &str, parts: &[Part]) -> Result<Places, WordsFault>
     requires few { length parts.now ≤ 5 }
     requires clear { is_clear parts.now ≡ true }
@@ -80,9 +83,10 @@ pub fn cut(words: &[String], name: &str, parts: &[Part]) -> Result<Places, Words
     }
 }
 
-/// The places of the parts after the name of a command, of which the last is an expression;
-/// otherwise the refusal of the words, at the word where they first fail. If one word is left for
-/// the expression, it is not read here, but by the reader of expressions.
+/// If the words are the name and the words of the parts, the last of which is an expression, the
+/// indices (`Places`) of the first words of the parts; otherwise the refusal at the place of the
+/// first error of syntax. If exactly one word is left for the expression, the word is not tested
+/// here: the reader of expressions tests it.
 pub fn cut_unread(words: &[String], name: &str, parts: &[Part]) -> Result<Places, WordsFault>
     requires few { length parts.now ≤ 5 }
     requires clear { is_clear parts.now ≡ true }
@@ -109,7 +113,7 @@ pub fn cut_unread(words: &[String], name: &str, parts: &[Part]) -> Result<Places
     }
 }
 
-/// The words of a part.
+/// The words of one part of a command.
 #[derive(Clone, Copy)]
 pub struct Piece<'a> {
     /// The index of the first word of the part among the words of the command.
@@ -118,7 +122,7 @@ pub struct Piece<'a> {
     pub words: &'a [String],
 }
 
-/// The words of the i-th part.
+/// The words of part i of a command, counted from 0.
 #[inline(always)]
 pub fn piece_at<'a>(words: &'a [String], places: &Places, i: usize) -> Piece<'a>
     requires { i < 5 }

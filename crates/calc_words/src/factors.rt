@@ -1,4 +1,4 @@
-//! Factors as they are written, one after another.
+//! Reading of the factors of a product.
 ghost use Rattle.std.specs.Prelude.{◌≡◌, ◌<◌, ◌+◌, ◌^◌, ℕ, List, [], ◌∷◌, ◌++◌, length, map};
 ghost use Rattle.std.specs.Prelude.{string_bytes};
 ghost use Rattle.sym_model.specs.CommandOffence.{first_offence, part_offences, factor_offences};
@@ -17,10 +17,10 @@ use calc_base::{Place, WordsFault};
 use partitions::{Factors, FactorsFault, Partition};
 use std::alloc::Global;
 
-/// The most factors.
+/// The greatest number of factors of a product.
 const MOST_FACTORS: usize = 8;
 
-/// Appends a factor; the list has at most seven before.
+/// Appends the factor `next` to a list of at most seven factors.
 fn pushed(factors: Factors, next: Partition) -> Result<Factors, WordsFault>
     requires room { length factors < 8 }
     requires written { EachOf IsWritten factors }
@@ -36,8 +36,9 @@ fn pushed(factors: Factors, next: Partition) -> Result<Factors, WordsFault>
     }
 }
 
-/// Adds the next factor, which follows word `at` of the command, or returns its first error; a
-/// ninth factor is an error at that word.
+/// Appends to the factors the partition with the numbers `list`, which follow word `at` of the
+/// command, or returns its first error. If there are eight factors already, the error is at word
+/// `at`.
 fn next_factor(
     alloc: Global,
     at: u64,
@@ -59,8 +60,8 @@ fn next_factor(
     pushed(factors, next)
 }
 
-/// Adds further factors, each after a `-`, or returns the first error; the first `-` is word `at`
-/// of the command.
+/// Appends the partitions of further lists of numbers, each after a `-`, to the factors, or returns
+/// the first error; the first `-` is word `at` of the command.
 fn read_later(
     alloc: Global,
     at: u64,
@@ -83,7 +84,7 @@ fn read_later(
     read_later(alloc, after, factors, rest)
 }
 
-/// The list of two factors.
+/// The list of the two factors `left` and `right`.
 fn paired(alloc: Global, left: Partition, right: Partition) -> Result<Factors, WordsFault>
     requires left { IsWritten left }
     requires right { IsWritten right }
@@ -97,8 +98,8 @@ fn paired(alloc: Global, left: Partition, right: Partition) -> Result<Factors, W
     }
 }
 
-/// Reads the first factor, which begins at word `at` of the command, and the later ones, each
-/// after a `-`, or returns the first error.
+/// Reads the first factor, whose numbers `first` begin at word `at` of the command, and the later
+/// ones, which are separated by `-`; or returns the first error.
 pub(crate) fn read_factors(
     alloc: Global,
     at: u64,

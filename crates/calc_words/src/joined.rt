@@ -1,4 +1,4 @@
-//! A command in a list of commands.
+//! The meaning of words for one command, and for a list of commands that contains it.
 ghost use Rattle.std.specs.Prelude.{◌≡◌, ℕ, List, [], ◌∷◌, Option};
 ghost use Rattle.sym_model.specs.Command.{Command};
 ghost use Rattle.sym_model.specs.CommandOffence.{Offence};
@@ -6,9 +6,12 @@ ghost use Rattle.sym_model.specs.Entry.{Entry, HasFirstOffence, SpellsWithoutOff
 ghost use Rattle.sym_model.specs.SyntaxPlace.{IsSyntaxPlace};
 ghost use Rattle.calc_words.specs.Joined.{Joined};
 
-/// Let a command be in a list of commands, and let no other command of the list have its name. Then
-/// words that begin with this name mean the same for the whole list as for that one command, have
-/// the same first error, and fail at the same place. A law: it does nothing when it runs.
+/// Let e be in a list of commands; let no other command of the list have the name of e, and let the
+/// words of each command begin with its name (`Joined`). Then words that spell a command without an
+/// error by e spell it without an error by the list. If words have the form of e, their first error
+/// by e, if there is one, is also their first error by the list. If words begin with the name of e,
+/// the place of their first error of syntax by e is also that by the list. A law: it does nothing
+/// when it runs.
 pub fn joined_commands_law()
     ensures says { (e : Entry) (entries : List Entry) → Joined e entries
         → (words : List (List ℕ)) (command : Command)

@@ -1,4 +1,4 @@
-//! Words of letters as they are written.
+//! Reading of the letters of the word of `rsk`.
 ghost use Rattle.std.specs.Prelude.{◌≡◌, ◌<◌, ◌+◌, ◌^◌, ◌==◌, ◌||◌, IfOk, IfErr, length, map};
 ghost use Rattle.std.specs.Prelude.{string_bytes};
 ghost use Rattle.sym_model.specs.CommandOffence.{first_offence, offences_by, letter_rule};
@@ -11,19 +11,20 @@ use crate::offence::{Kind, offence};
 use calc_base::{Word, WordsFault};
 use std::alloc::Global;
 
-/// The most letters, and the greatest of them.
+/// A word has at most 256 letters, each of them at most 65,535.
 const MOST_LETTERS: usize = 256;
 
 const GREATEST_LETTER: u128 = 65_535;
 
-/// Whether a letter after `count` other letters exceeds a limit.
+/// Whether the letter `value`, after `count` other letters, is not from 1 to 65,535 or is the
+/// 257th.
 fn is_past(count: usize, value: u128) -> bool
     ensures { result ≡ (is_outside greatest_letter value || (count == most_letters)) }
 {
     value == 0 || value > GREATEST_LETTER || count == MOST_LETTERS
 }
 
-/// The word of letters that have been tested.
+/// The word with these letters, which have been tested.
 fn word_of(alloc: Global, letters: &[u16]) -> Result<Word, WordsFault>
     ensures ok { IfOk result (λ w. w ≡ letters.now) }
     ensures err { IfErr result (λ fault. fault ≡ WordsFault.NoMemory) }
@@ -31,8 +32,8 @@ fn word_of(alloc: Global, letters: &[u16]) -> Result<Word, WordsFault>
     Ok(Word::from_slice(alloc, letters)?)
 }
 
-/// Reads words as letters, or returns their first error; the first of them is word `at` of the
-/// command.
+/// Reads words as the letters of a word, or returns the first error; the first of the words is word
+/// `at` of the command.
 pub(crate) fn read_letters(alloc: Global, at: u64, words: &[String]) -> Result<Word, WordsFault>
     requires { at + length words.now < 2 ^ 64 }
     ensures { IsJudged (λ w. w ≡ numbers_of (map string_bytes words.now))

@@ -3,15 +3,16 @@
 //!
 //! What is proved:
 //!
-//! The words of each command that names partitions, factors, permutations, letters or lines: its
-//! reader returns a `Command` if and only if the grammar takes the words to this command without an
-//! error, and otherwise the place where they first fail or the first error.
-//! `joined_commands_law`: the same holds in a list of commands with different names.
-//! `written_limits_law`: a command whose words have no error is within the limits.
+//! Unless memory runs out, the reader of the words of each of these commands returns a `Command` if
+//! and only if the words spell it without an error. If they spell it with an error, the reader
+//! returns the first error; if they do not have the form of the command, it returns the place of
+//! the first error of syntax. `joined_commands_law`: the same holds in a list of commands with
+//! different names. `written_limits_law`: the values of a command whose words have no error are
+//! within the limits.
 //!
-//! `Command`, a command as it is read and replied to; the plain command that it stands for
-//! (`command_of`), and when it is sound (`IsSound`): the two tableaux of `unrsk` have one straight
-//! shape, the second is standard, and there are at most 256 cells.
+//! `Command` is a command of the program, and `command_of` the command of the definitions that it
+//! stands for. Each command but `unrsk` is sound (`IsSound`); `unrsk` is sound if its two tableaux
+//! have the same straight shape, the second is standard, and there are at most 256 cells.
 #![tactic(auto)]
 
 pub mod batches;

@@ -1,4 +1,4 @@
-//! The words of a line of a batch.
+//! The words of a line of a batch, and the lines that are skipped.
 ghost use Rattle.std.specs.Prelude.{◌≡◌, ◌++◌, ◌∷◌, [], IfOk, OnOk, map, string_bytes};
 ghost use Rattle.sym_model.specs.BatchLine.{words_of_line, without_return as line_without_return};
 ghost use Rattle.calc_words.specs.LineBytes.{seen, seen_byte, word_with_bytes};
@@ -14,14 +14,15 @@ fn is_space(byte: u8) -> bool
     byte == b' ' || byte == b'\t'
 }
 
-/// The byte that is kept for a byte: `?` for one outside ASCII. No word of a command has either.
+/// `?` for a byte outside ASCII, and any other byte itself. No word of a command has a byte outside
+/// ASCII or a `?`.
 fn kept_byte(byte: u8) -> u8
     ensures { result ≡ seen_byte byte }
 {
     if byte < 128 { byte } else { b'?' }
 }
 
-/// Appends the byte that is kept for `byte` to a word.
+/// Appends `byte` to a word, or `?` if the byte is outside ASCII.
 fn add_byte(word: &mut String, byte: u8) -> Result<(), NoMemory>
     ensures { OnOk result (string_bytes word.new ≡ string_bytes word.old ++ seen_byte byte ∷ []) }
 {
@@ -40,8 +41,8 @@ fn end_word(words: &mut Vec<String>, word: String) -> Result<(), NoMemory>
     Ok(())
 }
 
-/// The words of a line, which are separated by spaces and tabs. Bytes outside ASCII, which no word
-/// of a command has, are kept as `?`, which no word of a command has either.
+/// The words of a line, separated by spaces and tabs, with `?` for each byte outside ASCII. No word
+/// of a command has a byte outside ASCII or a `?`.
 pub fn line_words(alloc: Global, line: &[u8]) -> Result<Vec<String>, NoMemory>
     ensures { IfOk result (λ words. map string_bytes words.items
         ≡ map seen (words_of_line line.now)) }
@@ -60,7 +61,7 @@ pub fn line_words(alloc: Global, line: &[u8]) -> Result<Vec<String>, NoMemory>
     Ok(words)
 }
 
-/// The line without a carriage return at its end.
+/// The line without the carriage return at its end, if there is one.
 pub fn without_return(line: &[u8]) -> &[u8]
     ensures { result.now ≡ line_without_return line.now }
 {

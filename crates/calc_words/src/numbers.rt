@@ -4,7 +4,7 @@ ghost use Rattle.sym_model.specs.PrintedBlock.{decimal_value};
 ghost use Rattle.sym_model.specs.Form.{is_number_word, is_digit};
 ghost use Rattle.calc_words.specs.NumberRuns.{narrow};
 
-/// One more than the greatest number allowed.
+/// 2^127, which is 1 more than the greatest value that is read.
 const WIDE: u128 = 1 << 127;
 
 /// Whether the byte is an ASCII digit.

@@ -5,7 +5,7 @@ ghost use Rattle.calc_words.specs.Faults.{fault_of};
 use calc_base::{Place, WordsFault};
 pub use expression_reading::Kind;
 
-/// The error of words that are no command, at this byte of this word.
+/// The refusal of words with an error of syntax, at this byte of this word.
 pub fn syntax(word: u64, byte: u64) -> WordsFault
     ensures { result ≡ WordsFault.Syntax (record { word = word; byte = byte }) }
 {
@@ -14,7 +14,7 @@ pub fn syntax(word: u64, byte: u64) -> WordsFault
     }
 }
 
-/// The error of a number, at the word that has it.
+/// The refusal for an error of this kind, at byte 0 of this word.
 pub fn offence(word: u64, kind: Kind) -> WordsFault
     ensures { result ≡ fault_of word kind }
 {

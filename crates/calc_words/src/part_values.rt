@@ -1,4 +1,4 @@
-//! The values of the parts of a command, or their first error.
+//! The values that the words of each part of a command denote, or their first error.
 ghost use Rattle.std.specs.Prelude.{◌≡◌, ◌≤◌, ◌<◌, ◌+◌, ◌^◌, [], ◌∷◌, ℕ, List, map, length};
 ghost use Rattle.std.specs.Prelude.{string_bytes, codes, slice_get, Some};
 ghost use Rattle.sym_model.specs.CommandOffence.{first_offence, offences_by, rows_rule};
@@ -36,13 +36,13 @@ use std::alloc::Global;
 /// The greatest number of rows or columns, and the greatest level.
 const MOST_ROWS: u128 = 64;
 
-/// The greatest number of lines.
+/// The greatest number of lines of `work`.
 const MOST_LINES: u128 = 10_000;
 
-/// The greatest seed.
+/// The greatest seed of `work`.
 const GREATEST_SEED: u128 = 65_536;
 
-/// Whether the word for the one-line form, `-m`, is present.
+/// Whether the words are the option `-m`; they must be this option or no word.
 pub fn maybe_form_of(words: &[String]) -> bool
     ensures { (x : Written (optional form_words))
         → map string_bytes words.now ≡ words_of (optional form_words) x → result ≡ is_one_line x }
@@ -50,7 +50,7 @@ pub fn maybe_form_of(words: &[String]) -> bool
     !words.is_empty()
 }
 
-/// The target whose letter is the word.
+/// The target basis whose letter is the first word.
 pub fn target_of(words: &[String]) -> Basis
     ensures { (x : Written (word (target all_bases)))
         → map string_bytes words.now ≡ words_of (word (target all_bases)) x
@@ -62,7 +62,7 @@ pub fn target_of(words: &[String]) -> Basis
     }
 }
 
-/// The text of an expression.
+/// The text of an expression, which is the first word.
 pub fn text_of(words: &[String]) -> &[u8]
     ensures { (text : List ℕ) → map string_bytes words.now ≡ text ∷ [] → result.now ≡ text }
 {
@@ -72,7 +72,7 @@ pub fn text_of(words: &[String]) -> &[u8]
     }
 }
 
-/// The number that is the word at this place, as `value_of` reads it; `None` also if there is no
+/// The value of the number word at this place, or `None` if it exceeds 2^127 - 1 or there is no
 /// such word.
 fn number_at(words: &[String], place: usize) -> Option<u128>
     ensures { (w : List ℕ) → slice_get (map string_bytes words.now) place ≡ Some w
@@ -88,8 +88,8 @@ fn is_outside(value: u128) -> bool
     value == 0 || value > MOST_ROWS
 }
 
-/// Checks the value of a word as a number of rows or columns, or a level, and returns it or its
-/// error.
+/// Returns `number`, which is a number of rows or columns or a level, or its error. It is the word
+/// `word` of the command, and `None` if it is over 2^127 - 1.
 fn rows_number(word: u64, number: Option<u128>) -> Result<u16, WordsFault>
     ensures { (a : ℕ) → number ≡ narrow a
         → IsJudged (λ n. n ≡ a) (first_offence (offences_by rows_rule word (a ∷ []))) result }
@@ -103,7 +103,7 @@ fn rows_number(word: u64, number: Option<u128>) -> Result<u16, WordsFault>
     Ok(value as u16)
 }
 
-/// Reads `-r` and a number of rows, of which `-r` is word `at` of the command.
+/// Reads the words `-r` and a number of rows; `-r` is word `at` of the command.
 pub(crate) fn rows_of(at: u64, words: &[String]) -> Result<u16, WordsFault>
     requires { at + length words.now + 1 < 2 ^ 64 }
     ensures { (k : ℕ) (x : Written rows_words)
@@ -113,7 +113,7 @@ pub(crate) fn rows_of(at: u64, words: &[String]) -> Result<u16, WordsFault>
     rows_number(at + 1, number_at(words, 1))
 }
 
-/// Reads `-r` and a number of rows, of which `-r` is word `at` of the command, or no word.
+/// Reads the words `-r` and a number of rows, or no word; `-r` is word `at` of the command.
 pub(crate) fn maybe_rows_of(at: u64, words: &[String]) -> Result<Option<u16>, WordsFault>
     requires { at + length words.now + 1 < 2 ^ 64 }
     ensures { (k : ℕ) (x : Written (optional rows_words))
@@ -127,7 +127,7 @@ pub(crate) fn maybe_rows_of(at: u64, words: &[String]) -> Result<Option<u16>, Wo
     Ok(Some(rows))
 }
 
-/// Reads word `at` of the command as a number of rows or columns, or a level.
+/// Reads word `at` of the command as a number of rows or columns, or a level, from 1 to 64.
 pub(crate) fn bound_of(at: u64, words: &[String]) -> Result<u16, WordsFault>
     ensures { (k : ℕ) (x : Written (word number))
         → (at ≡ k) × (map string_bytes words.now ≡ words_of (word number) x)
@@ -136,7 +136,7 @@ pub(crate) fn bound_of(at: u64, words: &[String]) -> Result<u16, WordsFault>
     rows_number(at, number_at(words, 0))
 }
 
-/// Reads word `at` of the command as a number of lines.
+/// Reads word `at` of the command as the number of lines of `work`, from 1 to 10,000.
 pub(crate) fn lines_of(at: u64, words: &[String]) -> Result<u16, WordsFault>
     ensures { (k : ℕ) (x : Written (word number))
         → (at ≡ k) × (map string_bytes words.now ≡ words_of (word number) x)
@@ -151,7 +151,7 @@ pub(crate) fn lines_of(at: u64, words: &[String]) -> Result<u16, WordsFault>
     Ok(value as u16)
 }
 
-/// Reads word `at` of the command as a seed.
+/// Reads word `at` of the command as the seed of `work`, at most 65,536.
 pub(crate) fn seed_of(at: u64, words: &[String]) -> Result<u32, WordsFault>
     ensures { (k : ℕ) (x : Written (word number))
         → (at ≡ k) × (map string_bytes words.now ≡ words_of (word number) x)
@@ -216,7 +216,7 @@ pub(crate) fn doubled_of(alloc: Global, at: u64, words: &[String]) -> Result<Per
     read_permutation(alloc, MOST_DOUBLED, at, words)
 }
 
-/// The words after the first.
+/// The words after the first word, or no word if there is no first word.
 fn behind_first(words: &[String]) -> &[String]
     ensures later { (more : List (List ℕ)) → map string_bytes words.now ≡ codes "-" ∷ more
         → map string_bytes result.now ≡ more }
@@ -228,7 +228,8 @@ fn behind_first(words: &[String]) -> &[String]
     }
 }
 
-/// Reads words as factors; the first of them is word `at` of the command.
+/// Reads words as factors with `-` between them; the first of the words is word `at` of the
+/// command.
 pub(crate) fn factors_of(alloc: Global, at: u64, words: &[String]) -> Result<Factors, WordsFault>
     requires { at + length words.now + 1 < 2 ^ 64 }
     ensures { (k : ℕ) (x : Written factors_words) → May factors_words x

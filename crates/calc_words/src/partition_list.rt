@@ -1,4 +1,4 @@
-//! Partitions as they are written.
+//! Reading of the numbers of a partition.
 ghost use Rattle.std.specs.Prelude.{◌≡◌, ◌≤◌, ◌<◌, ◌+◌, ◌^◌, map, length, string_bytes, IfOk};
 ghost use Rattle.std.specs.Prelude.{IfErr};
 ghost use Rattle.sym_model.specs.Partition.{without_last_zeros};
@@ -14,13 +14,13 @@ use calc_base::WordsFault;
 use partitions::Partition;
 use std::alloc::Global;
 
-/// The most numbers of a partition that is written, and the most cells.
+/// At most 64 numbers are allowed in the words of a partition, and at most 512 cells.
 const MOST_PARTS: usize = 64;
 
 const MOST_CELLS: u128 = 512;
 
-/// The error of a number in the list of a partition, given the number of numbers before it, their
-/// sum, and the last of them.
+/// The kind of the error of the number `value` in the list of a partition, or `None` if it has no
+/// error. Before it there are `count` numbers with the sum `cells`, the last of which is `last`.
 fn part_offence(count: usize, cells: u16, last: Option<u16>, value: u128) -> Option<Kind>
     requires { value < 2 ^ 127 }
     ensures { result ≡ part_kind count cells last value }
@@ -34,7 +34,7 @@ fn part_offence(count: usize, cells: u16, last: Option<u16>, value: u128) -> Opt
     }
 }
 
-/// The partition of numbers that have been tested.
+/// The partition with these numbers, which have been tested, without the zeros at their end.
 fn partition_of(alloc: Global, numbers: &[u16]) -> Result<Partition, WordsFault>
     requires { IsWithinLimits (without_last_zeros numbers.now) }
     ensures ok { IfOk result (λ p. p ≡ without_last_zeros numbers.now) }
@@ -43,7 +43,8 @@ fn partition_of(alloc: Global, numbers: &[u16]) -> Result<Partition, WordsFault>
     Ok(Partition::from_valid_numbers(alloc, numbers)?)
 }
 
-/// Parses the words, from word `at` on, as a partition; otherwise returns their first error.
+/// Reads words as the numbers of a partition, or returns the first error; the first of the words is
+/// word `at` of the command.
 pub fn read_partition(alloc: Global, at: u64, words: &[String]) -> Result<Partition, WordsFault>
     requires { at + length words.now < 2 ^ 64 }
     ensures { IsJudged (λ p. p ≡ partition (map string_bytes words.now))

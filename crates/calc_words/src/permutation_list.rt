@@ -1,4 +1,4 @@
-//! Permutations as they are written.
+//! Reading of the letters of a permutation.
 ghost use Rattle.std.specs.Prelude.{◌≡◌, ◌≤◌, ◌<◌, ◌+◌, ◌^◌, map, length, string_bytes, IfOk};
 ghost use Rattle.std.specs.Prelude.{IfErr};
 ghost use Rattle.perm_codes.specs.Limits.{IsShortPermutation};
@@ -15,22 +15,22 @@ use calc_base::WordsFault;
 use perm_codes::Perm;
 use std::alloc::Global;
 
-/// The most letters of a permutation that is written, and the greatest of them.
+/// The greatest number of letters of a written permutation, and its greatest letter.
 pub(crate) const MOST_PERMUTED: usize = 16;
 
-/// The most letters of a permutation whose double Schubert polynomial is a factor, and the greatest
-/// of them.
+/// The greatest number of letters of a permutation in a product of double Schubert polynomials, and
+/// its greatest letter.
 pub(crate) const MOST_DOUBLED: usize = 8;
 
-/// Whether the letter is among these letters.
+/// Whether the letter occurs in the list.
 fn stands_in(letter: u16, letters: &[u16]) -> bool
     ensures { result ≡ stands_in_list letter letters.now }
 {
     letters.contains(&letter)
 }
 
-/// The error of a letter that follows the letters `before` in a list of `count` letters, of which
-/// at most `most` may be written.
+/// The kind of the error of the letter `value` in a permutation of `count` letters, or `None` if it
+/// has no error. The letters before it are `before`, and at most `most` letters are allowed.
 fn letter_offence(most: usize, count: usize, before: &[u16], value: u128) -> Option<Kind>
     requires { most ≤ 16 }
     ensures { result ≡ letter_kind most count before.now value }
@@ -44,7 +44,8 @@ fn letter_offence(most: usize, count: usize, before: &[u16], value: u128) -> Opt
     None
 }
 
-/// The permutation of letters that have been tested.
+/// The permutation with these letters, which have been tested, without the fixed letters at its end
+/// (`kept`).
 fn permutation_of(alloc: Global, letters: &[u16]) -> Result<Perm, WordsFault>
     requires { IsShortPermutation letters.now }
     ensures ok { IfOk result (λ w. w ≡ kept letters.now) }
@@ -53,8 +54,8 @@ fn permutation_of(alloc: Global, letters: &[u16]) -> Result<Perm, WordsFault>
     Ok(Perm::from_valid_letters(alloc, letters)?)
 }
 
-/// Reads words as a permutation of at most `most` letters, or returns their first error; the
-/// first of them is word `at` of the command.
+/// Reads words as a permutation of at most `most` letters, or returns the first error; the first of
+/// the words is word `at` of the command.
 pub(crate) fn read_permutation(
     alloc: Global,
     most: usize,

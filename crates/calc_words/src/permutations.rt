@@ -1,4 +1,4 @@
-//! The words of the commands on permutations and words of letters: `schubert`, `growth`,
+//! Reading of the words of the commands on permutations and words of letters: `schubert`, `growth`,
 //! `schubmult`, `dschubmult`, `stanley` and `rsk`.
 ghost use Rattle.std.specs.Prelude.{[], ◌∷◌, map, string_bytes};
 ghost use Rattle.sym_model.specs.Grammar.{schubert_entry, growth_entry, schubmult_entry};
@@ -14,10 +14,10 @@ use std::alloc::Global;
 
 /// Reads the words of `schubert`: that word and the letters of a permutation.
 ///
-/// Words that are no such command are refused as `Syntax`, at the word where they first fail.
-/// Otherwise the first error of the letters is refused: one over 2^127 - 1 as `Literal`; one over
-/// 16, or the 17th, as `Range`; one that is 0, greater than the number of letters, or equal to an
-/// earlier one, as `Shape`.
+/// Words that do not have this form are refused as `Syntax`, at the place of the first error of
+/// syntax. Otherwise the first error of the letters is refused: one over 2^127 - 1 as `Literal`;
+/// one over 16, or the 17th, as `Range`; one that is 0, greater than the number of letters, or
+/// equal to an earlier one, as `Shape`.
 pub fn read_schubert(alloc: Global, words: &[String]) -> Result<Command, WordsFault>
     ensures { IsRead (schubert_entry ∷ []) (map string_bytes words.now) result }
 {
@@ -29,10 +29,10 @@ pub fn read_schubert(alloc: Global, words: &[String]) -> Result<Command, WordsFa
 
 /// Reads the words of `growth`: that word and the letters of a permutation.
 ///
-/// Words that are no such command are refused as `Syntax`, at the word where they first fail.
-/// Otherwise the first error is refused: a letter over 2^127 - 1 as `Literal`; one over 16, or the
-/// 17th of a permutation, as `Range`; one that is 0, greater than the number of letters of its
-/// permutation, or equal to an earlier one of it, as `Shape`.
+/// Words that do not have this form are refused as `Syntax`, at the place of the first error of
+/// syntax. Otherwise the first error is refused: a letter over 2^127 - 1 as `Literal`; one over 16,
+/// or the 17th of a permutation, as `Range`; one that is 0, greater than the number of letters of
+/// its permutation, or equal to an earlier one of it, as `Shape`.
 pub fn read_growth(alloc: Global, words: &[String]) -> Result<Command, WordsFault>
     ensures { IsRead (growth_entry ∷ []) (map string_bytes words.now) result }
 {
@@ -44,10 +44,10 @@ pub fn read_growth(alloc: Global, words: &[String]) -> Result<Command, WordsFaul
 
 /// Reads the words of `schubmult`: that word and two permutations with `-` between them.
 ///
-/// Words that are no such command are refused as `Syntax`, at the word where they first fail.
-/// Otherwise the first error is refused: a letter over 2^127 - 1 as `Literal`; one over 16, or the
-/// 17th of a permutation, as `Range`; one that is 0, greater than the number of letters of its
-/// permutation, or equal to an earlier one of it, as `Shape`.
+/// Words that do not have this form are refused as `Syntax`, at the place of the first error of
+/// syntax. Otherwise the first error is refused: a letter over 2^127 - 1 as `Literal`; one over 16,
+/// or the 17th of a permutation, as `Range`; one that is 0, greater than the number of letters of
+/// its permutation, or equal to an earlier one of it, as `Shape`.
 pub fn read_schubmult(alloc: Global, words: &[String]) -> Result<Command, WordsFault>
     ensures { IsRead (schubmult_entry ∷ []) (map string_bytes words.now) result }
 {
@@ -62,10 +62,10 @@ pub fn read_schubmult(alloc: Global, words: &[String]) -> Result<Command, WordsF
 
 /// Reads the words of `dschubmult`: that word and two permutations with `-` between them.
 ///
-/// Words that are no such command are refused as `Syntax`, at the word where they first fail.
-/// Otherwise the first error is refused: a letter over 2^127 - 1 as `Literal`; one over 8, or the
-/// ninth of a permutation, as `Range`; one that is 0, greater than the number of letters of its
-/// permutation, or equal to an earlier one of it, as `Shape`.
+/// Words that do not have this form are refused as `Syntax`, at the place of the first error of
+/// syntax. Otherwise the first error is refused: a letter over 2^127 - 1 as `Literal`; one over 8,
+/// or the ninth of a permutation, as `Range`; one that is 0, greater than the number of letters of
+/// its permutation, or equal to an earlier one of it, as `Shape`.
 pub fn read_dschubmult(alloc: Global, words: &[String]) -> Result<Command, WordsFault>
     ensures { IsRead (dschubmult_entry ∷ []) (map string_bytes words.now) result }
 {
@@ -81,8 +81,8 @@ pub fn read_dschubmult(alloc: Global, words: &[String]) -> Result<Command, Words
 /// Reads the words of `stanley`: that word, `-r` and a number of variables, and the letters of a
 /// permutation.
 ///
-/// Words that are no such command are refused as `Syntax`, at the word where they first fail.
-/// Otherwise the first error is refused: a number over 2^127 - 1 as `Literal`; a number of
+/// Words that do not have this form are refused as `Syntax`, at the place of the first error of
+/// syntax. Otherwise the first error is refused: a number over 2^127 - 1 as `Literal`; a number of
 /// variables that is not from 1 to 64, a letter over 16, and the 17th letter, as `Range`; a letter
 /// that is 0, greater than the number of letters, or equal to an earlier one, as `Shape`.
 pub fn read_stanley(alloc: Global, words: &[String]) -> Result<Command, WordsFault>
@@ -98,9 +98,9 @@ pub fn read_stanley(alloc: Global, words: &[String]) -> Result<Command, WordsFau
 
 /// Reads the words of `rsk`: that word and the letters of a word.
 ///
-/// Words that are no such command are refused as `Syntax`, at the word where they first fail.
-/// Otherwise the first error is refused: a letter over 2^127 - 1 as `Literal`; one that is 0 or
-/// over 65,535, and the 257th, as `Range`.
+/// Words that do not have this form are refused as `Syntax`, at the place of the first error of
+/// syntax. Otherwise the first error is refused: a letter over 2^127 - 1 as `Literal`; one that is
+/// 0 or over 65,535, and the 257th, as `Range`.
 pub fn read_rsk(alloc: Global, words: &[String]) -> Result<Command, WordsFault>
     ensures { IsRead (rsk_entry ∷ []) (map string_bytes words.now) result }
 {

@@ -1,4 +1,4 @@
-//! The words of `mult`, `skew`, `coef` and `coprod`.
+//! Reading of the words of `mult`, `skew`, `coef` and `coprod`.
 ghost use Rattle.std.specs.Prelude.{[], ◌∷◌, map, string_bytes};
 ghost use Rattle.sym_model.specs.Grammar.{mult_entry, skew_entry, coef_entry, coprod_entry};
 ghost use Rattle.calc_words.specs.Reading.{IsRead};
@@ -10,14 +10,14 @@ use crate::word_parts::Part;
 use calc_base::WordsFault;
 use std::alloc::Global;
 
-/// Reads the words of `mult`: that word, `-r` and a number for a bound on the rows, `-m` for an
-/// answer on one line, and two to eight partitions with `-` between them.
+/// Reads the words of `mult`: that word, optionally `-r` and a bound on the number of rows,
+/// optionally `-m` for an answer on one line, and two to eight partitions with `-` between them.
 ///
-/// Words that are no such command are refused as `Syntax`, at the word where they first fail.
-/// Otherwise the first error is refused: a number over 2^127 - 1 as `Literal`; a number of rows
-/// that is not from 1 to 64, the 65th number of a partition, the one at which its sum exceeds 512,
-/// and the `-` before a ninth partition, as `Range`; a number of a partition greater than the one
-/// before it as `Shape`.
+/// Words that do not have this form are refused as `Syntax`, at the place of the first error of
+/// syntax. Otherwise the first error is refused: a number over 2^127 - 1 as `Literal`; a number of
+/// rows that is not from 1 to 64, the 65th number of a partition, the one at which its sum exceeds
+/// 512, and the `-` before a ninth partition, as `Range`; a number of a partition greater than the
+/// one before it as `Shape`.
 pub fn read_mult(alloc: Global, words: &[String]) -> Result<Command, WordsFault>
     ensures { IsRead (mult_entry ∷ []) (map string_bytes words.now) result }
 {
@@ -36,13 +36,13 @@ pub fn read_mult(alloc: Global, words: &[String]) -> Result<Command, WordsFault>
     })
 }
 
-/// Reads the words of `skew`: that word, `-r` and a number for a bound on the rows, `-m` for an
-/// answer on one line, and two partitions with `/` between them.
+/// Reads the words of `skew`: that word, optionally `-r` and a bound on the number of rows,
+/// optionally `-m` for an answer on one line, and two partitions with `/` between them.
 ///
-/// Words that are no such command are refused as `Syntax`, at the word where they first fail.
-/// Otherwise the first error is refused: a number over 2^127 - 1 as `Literal`; a number of rows
-/// that is not from 1 to 64, the 65th number of a partition, and the one at which its sum exceeds
-/// 512, as `Range`; a number of a partition greater than the one before it as `Shape`.
+/// Words that do not have this form are refused as `Syntax`, at the place of the first error of
+/// syntax. Otherwise the first error is refused: a number over 2^127 - 1 as `Literal`; a number of
+/// rows that is not from 1 to 64, the 65th number of a partition, and the one at which its sum
+/// exceeds 512, as `Range`; a number of a partition greater than the one before it as `Shape`.
 pub fn read_skew(alloc: Global, words: &[String]) -> Result<Command, WordsFault>
     ensures { IsRead (skew_entry ∷ []) (map string_bytes words.now) result }
 {
@@ -72,10 +72,10 @@ pub fn read_skew(alloc: Global, words: &[String]) -> Result<Command, WordsFault>
 
 /// Reads the words of `coef`: that word and three partitions with `-` between them.
 ///
-/// Words that are no such command are refused as `Syntax`, at the word where they first fail.
-/// Otherwise the first error is refused: a number over 2^127 - 1 as `Literal`; the 65th number of a
-/// partition, and the one at which its sum exceeds 512, as `Range`; a number of a partition greater
-/// than the one before it as `Shape`.
+/// Words that do not have this form are refused as `Syntax`, at the place of the first error of
+/// syntax. Otherwise the first error is refused: a number over 2^127 - 1 as `Literal`; the 65th
+/// number of a partition, and the one at which its sum exceeds 512, as `Range`; a number of a
+/// partition greater than the one before it as `Shape`.
 pub fn read_coef(alloc: Global, words: &[String]) -> Result<Command, WordsFault>
     ensures { IsRead (coef_entry ∷ []) (map string_bytes words.now) result }
 {
@@ -98,10 +98,10 @@ pub fn read_coef(alloc: Global, words: &[String]) -> Result<Command, WordsFault>
 
 /// Reads the words of `coprod`: that word and the numbers of a partition.
 ///
-/// Words that are no such command are refused as `Syntax`, at the word where they first fail.
-/// Otherwise the first error is refused: a number over 2^127 - 1 as `Literal`; the 65th number of a
-/// partition, and the one at which its sum exceeds 512, as `Range`; a number of a partition greater
-/// than the one before it as `Shape`.
+/// Words that do not have this form are refused as `Syntax`, at the place of the first error of
+/// syntax. Otherwise the first error is refused: a number over 2^127 - 1 as `Literal`; the 65th
+/// number of a partition, and the one at which its sum exceeds 512, as `Range`; a number of a
+/// partition greater than the one before it as `Shape`.
 pub fn read_coprod(alloc: Global, words: &[String]) -> Result<Command, WordsFault>
     ensures { IsRead (coprod_entry ∷ []) (map string_bytes words.now) result }
 {

@@ -1,4 +1,5 @@
-//! Words at the front of other words: a given word, a number, a list of numbers.
+//! Tests of the first words of a list: a given word, a number, the letter of a basis, or a run of
+//! numbers.
 ghost use Rattle.std.specs.Prelude.{◌≡◌, false, ◌++◌, ◌∷◌, map, string_bytes, MatchOption};
 ghost use Rattle.sym_model.specs.Form.{EachOf, is_letter_of};
 ghost use Rattle.sym_model.specs.Grammar.{all_bases};
@@ -12,7 +13,7 @@ ghost use Rattle.calc_words.specs.NumberRuns.{IsNumber, BeginsOtherwise};
 use crate::numbers::{is_digit_byte, is_number};
 use calc_base::Basis;
 
-/// The words after the first, if the first is `text`.
+/// The words after the first one, if the first one is `text`; otherwise `None`.
 pub fn behind<'a>(words: &'a [String], text: &str) -> Option<&'a [String]>
     ensures { MatchOption result (BeginsOtherwise (λ t. t ≡ text.now) (map string_bytes words.now))
         (λ rest. map string_bytes words.now ≡ text.now ∷ map string_bytes rest.now) }
@@ -45,7 +46,7 @@ pub(crate) fn first_number(words: &[String]) -> Option<(&String, &[String])>
     Some((first, rest))
 }
 
-/// The target that has this word as its letter, if there is one.
+/// The target basis whose letter is this word, if there is one.
 fn target_named(word: &str) -> Option<Basis>
     ensures { MatchOption result (is_letter_of all_bases word.now ≡ false)
         (λ target. word.now ≡ letter (basis_of target)) }
@@ -60,8 +61,7 @@ fn target_named(word: &str) -> Option<Basis>
     }
 }
 
-/// The target that has the first word as its letter, if there is one, and the words after that
-/// word.
+/// The target basis whose letter is the first word, if there is one, and the words after that word.
 pub(crate) fn first_target(words: &[String]) -> Option<(Basis, &[String])>
     ensures { MatchOption result (BeginsOtherwise IsLetter (map string_bytes words.now))
         (λ p. map string_bytes words.now ≡ letter (basis_of p.0) ∷ map string_bytes p.1.now) }
@@ -75,7 +75,7 @@ pub(crate) fn first_target(words: &[String]) -> Option<(Basis, &[String])>
     Some((target, rest))
 }
 
-/// The longest run of numbers at the front, and the words after it.
+/// The longest run of number words at the front of the list, and the words after it.
 pub fn numbers(words: &[String]) -> (&[String], &[String])
     ensures parts { map string_bytes words.now
         ≡ map string_bytes result.0.now ++ map string_bytes result.1.now }
@@ -90,7 +90,7 @@ pub fn numbers(words: &[String]) -> (&[String], &[String])
     words.split_at(words.len())
 }
 
-/// Whether the word begins with a digit; numbers do, and the `-` between them does not.
+/// Whether the word begins with a digit, as numbers do and `-` does not.
 fn begins_with_digit(word: &[u8]) -> bool
     ensures { result ≡ begins_with_digit_of word.now }
 {
@@ -100,7 +100,8 @@ fn begins_with_digit(word: &[u8]) -> bool
     is_digit_byte(*byte)
 }
 
-/// The longest run of words at the front that begin with a digit, and the words after it.
+/// The longest run of words that begin with a digit, at the front of the list, and the words after
+/// it.
 pub(crate) fn list_first(words: &[String]) -> (&[String], &[String])
     ensures parts { map string_bytes words.now
         ≡ map string_bytes result.0.now ++ map string_bytes result.1.now }

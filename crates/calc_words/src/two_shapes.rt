@@ -1,4 +1,4 @@
-//! Two partitions with a word between them.
+//! Reading of two partitions with one word between them.
 ghost use Rattle.std.specs.Prelude.{◌≡◌, ◌<◌, ◌+◌, ◌^◌, length, map, string_bytes};
 ghost use Rattle.sym_model.specs.CommandOffence.{first_offence};
 ghost use Rattle.sym_model.specs.Grammar.{two_partitions};
@@ -10,8 +10,8 @@ use calc_base::WordsFault;
 use partitions::Partition;
 use std::alloc::Global;
 
-/// The partitions of two lists with a word between them, the first of which begins at the word
-/// `at`, or the first error.
+/// Reads two partitions with one word between them, or returns the first error; the first partition
+/// begins at word `at` of the command.
 pub fn read_two(
     alloc: Global,
     at: u64,

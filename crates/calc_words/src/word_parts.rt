@@ -1,5 +1,5 @@
-//! The parts of the words of a command, and the number of words at the front of a list that each
-//! part takes.
+//! The parts of the words of commands, and for each part the number of words at the front of a list
+//! that belong to it.
 ghost use Rattle.std.specs.Prelude.{ℕ, ◌≡◌, ◌++◌, ◌<◌, map, length, string_bytes, IfOk, IfErr};
 ghost use Rattle.std.specs.Prelude.{IsTrue, ◌↔◌};
 ghost use Rattle.sym_model.specs.Form.{EachOf, word, number, target, formula};
@@ -19,43 +19,44 @@ use expression_reading::wrong_byte;
 /// A part of the words of a command.
 #[derive(Clone, Copy, Debug)]
 pub enum Part {
-    /// `-`.
+    /// The word `-`.
     Minus,
-    /// `/`.
+    /// The word `/`.
     Slash,
-    /// `-m`, or no word.
+    /// The option `-m`, or no word.
     MaybeForm,
-    /// `-r` and a number of rows.
+    /// The words `-r` and a number of rows.
     Rows,
-    /// `-r` and a number of rows, or no word.
+    /// The words `-r` and a number of rows, or no word.
     MaybeRows,
-    /// A number of rows or columns, or a level.
+    /// A number of rows or columns, or a level, in one word.
     Bound,
-    /// A number of lines.
+    /// The number of lines of `work`.
     Lines,
-    /// A seed.
+    /// The seed of `work`.
     Seed,
-    /// The numbers of a partition.
+    /// The numbers of a partition; there may be none.
     Shape,
-    /// The letters of a word.
+    /// The letters of the word of `rsk`; there may be none.
     Word,
-    /// The letters of a permutation, one at least.
+    /// The letters of a permutation, at least one.
     Letters,
-    /// The letters of a permutation whose double Schubert polynomial is a factor.
+    /// The letters of a permutation in a product of double Schubert polynomials, at least one.
     Doubled,
-    /// Two or more partitions, separated by `-`.
+    /// Two or more partitions with `-` between them.
     Factors,
-    /// The rows of a tableau, separated by `/`; `.` is a row without numbers.
+    /// The rows of a tableau with `/` between them; `.` is a row without numbers.
     Tableau,
     /// `-from` and the rows of a tableau, or no word.
     MaybeFrom,
-    /// The letter of a target.
+    /// The letter of a target basis.
     Target,
-    /// An expression.
+    /// An expression in one word.
     Expression,
 }
 
-/// Returns 1 if the first word is `text`. The error is the number of words from the wrong one on.
+/// Returns 1 if the first word is `text`. The error is the number of words from the first wrong
+/// word to the end.
 fn the_word(words: &[String], text: &str) -> Result<usize, usize>
     ensures ok { IfOk result (λ n. Takes (the text.now) (map string_bytes words.now) n) }
     ensures wrong { IfErr result (λ left.
@@ -78,7 +79,7 @@ fn maybe_form(words: &[String]) -> usize
 }
 
 /// Returns 2 if the words begin with `-r` and a number. The error is the number of words from the
-/// wrong one on.
+/// first wrong word to the end.
 fn rows(words: &[String]) -> Result<usize, usize>
     ensures ok { IfOk result (λ n. Takes rows_words (map string_bytes words.now) n) }
     ensures wrong { IfErr result (λ left. StopsIn rows_words (map string_bytes words.now) left) }
@@ -92,8 +93,8 @@ fn rows(words: &[String]) -> Result<usize, usize>
     }
 }
 
-/// The number of words at the front that are `-r` and a number: two, or none if `-r` is not there.
-/// The error is the number of words from the wrong one on.
+/// Returns 2 if the words begin with `-r` and a number, and 0 if they do not begin with `-r`. The
+/// error is the number of words from the first wrong word to the end.
 fn maybe_rows(words: &[String]) -> Result<usize, usize>
     ensures ok { IfOk result (λ n. Takes (optional rows_words) (map string_bytes words.now) n) }
     ensures wrong { IfErr result (λ left.
@@ -108,7 +109,8 @@ fn maybe_rows(words: &[String]) -> Result<usize, usize>
     }
 }
 
-/// Returns 1 if the first word is a number. The error is the number of words from the wrong one on.
+/// Returns 1 if the first word is a number. The error is the number of words from the first wrong
+/// word to the end.
 fn one_number(words: &[String]) -> Result<usize, usize>
     ensures ok { IfOk result (λ n. Takes (word number) (map string_bytes words.now) n) }
     ensures wrong { IfErr result (λ left. StopsIn (word number) (map string_bytes words.now) left) }
@@ -119,7 +121,7 @@ fn one_number(words: &[String]) -> Result<usize, usize>
     }
 }
 
-/// The number of words at the front that are numbers.
+/// The number of words in the longest run of numbers at the front.
 fn list(words: &[String]) -> usize
     ensures { Takes partition_words (map string_bytes words.now) result }
 {
@@ -127,8 +129,8 @@ fn list(words: &[String]) -> usize
     list.len()
 }
 
-/// The number of words at the front that are numbers, at least one. The error is the number of
-/// words from the wrong one on.
+/// The number of words in the longest run of numbers at the front, at least one. The error is the
+/// number of words from the first wrong word to the end.
 fn letters(words: &[String]) -> Result<usize, usize>
     ensures ok { IfOk result (λ n. Takes permutation_words (map string_bytes words.now) n) }
     ensures wrong { IfErr result (λ left.
@@ -148,7 +150,7 @@ fn is_piece(word: &String) -> bool
     is_number(word.as_bytes()) || word.as_str() == "-"
 }
 
-/// The longest run of numbers and `-` at the front, and the words after it.
+/// The longest run of words at the front that are numbers or `-`, and the words after it.
 fn pieces(words: &[String]) -> (&[String], &[String])
     ensures parts { map string_bytes words.now
         ≡ map string_bytes result.0.now ++ map string_bytes result.1.now }
@@ -163,8 +165,8 @@ fn pieces(words: &[String]) -> (&[String], &[String])
     words.split_at(words.len())
 }
 
-/// The number of words at the front that are two or more lists of numbers, separated by `-`. The
-/// error is the number of words from the wrong one on.
+/// The number of words at the front that are two or more lists of numbers with `-` between them.
+/// The error is the number of words from the first wrong word to the end.
 fn factors(words: &[String]) -> Result<usize, usize>
     ensures ok { IfOk result (λ n. Takes factors_words (map string_bytes words.now) n) }
     ensures wrong { IfErr result (λ left. StopsIn factors_words (map string_bytes words.now) left) }
@@ -177,7 +179,8 @@ fn factors(words: &[String]) -> Result<usize, usize>
     Ok(words.len() - rest.len())
 }
 
-/// The words after the row at the front; otherwise the number of words from the wrong one on.
+/// If the words begin with a row of a tableau, the words after this row; otherwise the number of
+/// words from the first wrong word to the end.
 fn behind_row(words: &[String]) -> Result<&[String], usize>
     ensures ok { IfOk result (λ rest.
         StandsBehind row_words (map string_bytes rest.now) (map string_bytes words.now)) }
@@ -195,7 +198,8 @@ fn behind_row(words: &[String]) -> Result<&[String], usize>
 }
 
 /// The number of words at the front that are the rows of a tableau. The error is the number of
-/// words from the wrong one on. It is not inlined, so that `taken` stays small for the other parts.
+/// words from the first wrong word to the end. This function is not inlined, so that `taken` stays
+/// small for the other parts.
 #[inline(never)]
 fn tableau(words: &[String]) -> Result<usize, usize>
     ensures ok { IfOk result (λ n. Takes tableau_words (map string_bytes words.now) n) }
@@ -208,8 +212,8 @@ fn tableau(words: &[String]) -> Result<usize, usize>
     Ok(words.len() - rest.len())
 }
 
-/// The number of words at the front that are `-from` and the rows of a tableau, none if `-from` is
-/// not there. The error is the number of words from the wrong one on.
+/// The number of words at the front that are `-from` and the rows of a tableau; 0 if the first word
+/// is not `-from`. The error is the number of words from the first wrong word to the end.
 fn maybe_from(words: &[String]) -> Result<usize, usize>
     ensures ok { IfOk result (λ n. Takes (optional from_words) (map string_bytes words.now) n) }
     ensures wrong { IfErr result (λ left.
@@ -222,8 +226,8 @@ fn maybe_from(words: &[String]) -> Result<usize, usize>
     Ok(1 + rows)
 }
 
-/// Returns 1 if the first word is the letter of a target. The error is the number of words from the
-/// wrong one on.
+/// Returns 1 if the first word is the letter of a target basis. The error is the number of words
+/// from the first wrong word to the end.
 fn letter(words: &[String]) -> Result<usize, usize>
     ensures ok { IfOk result (λ n. Takes (word (target all_bases)) (map string_bytes words.now) n) }
     ensures wrong { IfErr result (λ left.
@@ -235,8 +239,8 @@ fn letter(words: &[String]) -> Result<usize, usize>
     }
 }
 
-/// Returns 1 if the first word is an expression. The error is the number of words from the wrong
-/// one on.
+/// Returns 1 if the first word is an expression. The error is the number of words from the first
+/// wrong word to the end.
 #[inline(never)]
 fn expression(words: &[String]) -> Result<usize, usize>
     ensures ok { IfOk result (λ n. Takes (word formula) (map string_bytes words.now) n) }
@@ -252,7 +256,8 @@ fn expression(words: &[String]) -> Result<usize, usize>
     }
 }
 
-/// The byte at which the first word is no expression.
+/// The byte of the error in the first word, which is no expression: the length of its longest
+/// prefix that begins an expression. If there is no word, 0.
 fn expression_byte(words: &[String]) -> u64
     ensures { (left : ℕ) (w : StopsIn (word formula) (map string_bytes words.now) left)
         → IsByte (word formula) w.0.before w.0.after result }
@@ -266,8 +271,8 @@ fn expression_byte(words: &[String]) -> u64
     }
 }
 
-/// The byte at which the first word fails, if these words are not of the part: 0 unless the part is
-/// an expression.
+/// If the words do not begin with words of the part, the byte of the error in the first wrong word:
+/// 0 unless the part is an expression.
 #[inline(never)]
 pub(crate) fn byte_of(part: Part, words: &[String]) -> u64
     ensures { (left : ℕ) (w : StopsIn (form_of_part part) (map string_bytes words.now) left)
@@ -279,8 +284,8 @@ pub(crate) fn byte_of(part: Part, words: &[String]) -> u64
     }
 }
 
-/// The number of words at the front that are of the part; otherwise the number of words from the
-/// wrong one on.
+/// If the words begin with words of the part, the number of these words; otherwise the number of
+/// words from the first wrong word to the end.
 pub(crate) fn taken(part: Part, words: &[String]) -> Result<usize, usize>
     ensures ok { IfOk result (λ n. Takes (form_of_part part) (map string_bytes words.now) n) }
     ensures wrong { IfErr result (λ left.

@@ -1,10 +1,13 @@
--- The values of checked results of 128 bits.
-use Rattle.std.proofs.Common.{◌≡◌, ◌^◌, ◌≤◌, Bool, true, false, sym, ap, refl, subst, ℤ}
+-- The values of results that are checked integers of 128 bits.
+use Rattle.std.proofs.Common.{◌≡◌, ℕ, ◌%◌, ◌^◌, ◌≤◌, Bool, true, false, sym, ap, ◌∙◌, refl, subst, arith, ℤ, neg_ℤ, ◌*ℤ◌}
+use Rattle.std.proofs.lemmas.Int.{ints}
 use Rattle.std.specs.Prelude.{Option, Some, None, Result, MatchOption, MatchResult, nat_abs}
 use Rattle.std.specs.Option.{ok_or}
 use Rattle.coeff_rings.specs.Checked.{checked_i128, where_fits}
 use Rattle.coeff_rings.proofs.Sizes.{refused_size}
 use Rattle.sym_model.specs.Canonical.{fits_128_bits}
+use Rattle.sym_model.specs.PlaceOrders.{minus_one_to}
+use Rattle.sym_model.proofs.Signs.{odd_sign}
 
 pub checked-tells : (z : ℤ) → MatchOption (checked_i128 z) (2 ^ 127 ≤ nat_abs z) (λ w. w ≡ z)
 checked-tells z = by (fits_128_bits z) refl
@@ -13,7 +16,8 @@ checked-tells z = by (fits_128_bits z) refl
     by true e = refl
     by false e = refused_size z (ap (λ b. where_fits b z) e)
 
--- if r is the checked z as an `Ok`, or else the error e, then an `Ok` holds z, and an error means that |z| ≥ 2^127
+-- let r be `Ok z` if the integer z fits in 128 bits, and otherwise the error e: if r is an `Ok`, its value is z, and
+-- if r is an error, then |z| ≥ 2^127
 pub checked-answers : {E : Type 0} (z : ℤ) (o : Option ℤ) (e : E) (r : Result ℤ E) → o ≡ checked_i128 z → r ≡ ok_or o e
     → MatchResult r (λ w. w ≡ z) (λ _. 2 ^ 127 ≤ nat_abs z)
 checked-answers {E} z o e r is answer =
@@ -23,3 +27,11 @@ checked-answers {E} z o e r is answer =
     by : (p : Option ℤ) → MatchOption p (2 ^ 127 ≤ nat_abs z) (λ w. w ≡ z) → MatchResult (ok_or p e) (λ w. w ≡ z) (λ _. 2 ^ 127 ≤ nat_abs z)
     by None h = h
     by (Some w) h = h
+
+-- for odd m, -z as a checked integer of 128 bits is (-1)^m·z, or it does not exist and |z| ≥ 2^127
+pub negated_number : (m : ℕ) (z : ℤ) (o : Option ℤ) → o ≡ checked_i128 (neg_ℤ z) → (m % 2 ≡ 0 → ⊥) → MatchOption o (2 ^ 127 ≤ nat_abs z) (λ v. v ≡ minus_one_to m *ℤ z)
+negated_number m z o h n = by o (subst (λ p. MatchOption p (2 ^ 127 ≤ nat_abs (neg_ℤ z)) (λ w. w ≡ neg_ℤ z)) (sym h) (checked-tells (neg_ℤ z)))
+  where
+    by : (p : Option ℤ) → MatchOption p (2 ^ 127 ≤ nat_abs (neg_ℤ z)) (λ w. w ≡ neg_ℤ z) → MatchOption p (2 ^ 127 ≤ nat_abs z) (λ v. v ≡ minus_one_to m *ℤ z)
+    by None r = omega (arith, ints)
+    by (Some v) r = r ∙ odd_sign m z n

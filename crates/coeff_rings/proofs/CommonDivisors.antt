@@ -1,5 +1,6 @@
--- A common divisor of the sum of two fractions over their least common denominator and of that denominator divides
--- the greatest common divisor of the two denominators (Knuth, The Art of Computer Programming, 4.5.1).
+-- Let two fractions have the numerators x and y over their least common denominator D. Then each common divisor of D
+-- and x + y, and each common divisor of D and x - y, divides the greatest common divisor of the denominators of the
+-- two fractions (Knuth, The Art of Computer Programming, 4.5.1).
 use Rattle.std.proofs.Common.{◌≡◌, ℕ, suc, ◌*◌, ◌/◌, ◌<◌, sym, refl, ap, ◌∙◌, subst, arith, ℤ, pos, negsuc, ◌+ℤ◌, ◌-ℤ◌, ◌*ℤ◌, neg_ℤ, unsigned_abs}
 use Rattle.std.specs.Int.{IsGcd, ◌∣◌}
 use Rattle.std.proofs.lemmas.Int.{ints, unsigned_abs-mul}
@@ -13,7 +14,7 @@ use Rattle.coeff_rings.specs.Proved.Divisors.{divides_other_factor, coprime_from
 use Rattle.coeff_rings.specs.Proved.Fractions.{unsigned_abs-negation}
 use Rattle.coeff_rings.specs.Proved.FractionAnswers.{greatest_common_divisor_comm}
 
--- ---- three numbers, one the sum or the difference of the other two, and their common divisors
+-- ---- common divisors of three numbers, of which one is the sum or the difference of the other two
 
 -- z is a multiple of d
 record Multiple (z : ℤ) (d : ℕ) : Type 0 where
@@ -43,7 +44,7 @@ divides_sum d x y z e p q =
     let is : z ≡ x -ℤ neg_ℤ y = omega (arith, ints) in
     divides_difference d x (neg_ℤ y) z is p (subst (λ (n : ℕ). d ∣ n) (sym (unsigned_abs-negation y)) q)
 
--- a common divisor of total and left divides right, and one of total and right divides left
+-- each common divisor of total and left divides right, and each common divisor of total and right divides left
 pub record Balances (left right total : ℤ) : Type 0 where
   pub to_right : (d : ℕ) → d ∣ unsigned_abs total → d ∣ unsigned_abs left → d ∣ unsigned_abs right
   pub to_left : (d : ℕ) → d ∣ unsigned_abs total → d ∣ unsigned_abs right → d ∣ unsigned_abs left
@@ -60,10 +61,10 @@ Balances-difference left right total e = record {
   to_left = λ d p q. divides_sum d total right left (omega (arith, ints)) p q;
 }
 
--- ---- common divisors of the sum and the least common denominator
+-- ---- common divisors of the numerator that the sum of two fractions has over their least common denominator, and of this denominator
 
--- let left = n·v and right = m·u, with u a divisor of den, n coprime to den, and u coprime to v: a divisor d of u that
--- divides left if it divides right is 1
+-- let left = n·v and right = m·u, with u a divisor of den, n coprime to den, and u coprime to v. If d is a divisor of
+-- u that divides left in case it divides right, then d divides 1.
 half : (n m den u v left right : ℕ) → IsGcd n den 1 → u ∣ den → IsGcd u v 1 → left ≡ n * v → right ≡ m * u
     → (d : ℕ) → d ∣ u → (d ∣ right → d ∣ left) → d ∣ 1
 half n m den u v left right lowest whole apart l r d p balances =
@@ -96,14 +97,14 @@ common_divisors a b total la lb balances d p q =
     let first : d ∣ a.1 = divides_other_factor d v a.1 with_right (subst (λ (n : ℕ). d ∣ n) (mul_comm a.1 v) q) in
     divides_other_factor d u g with_left (subst (λ (n : ℕ). d ∣ n) (sym (div-mul_cancel g is.0)) first)
 
--- the greatest common divisor of the denominators divides the least common denominator
+-- the greatest common divisor of the denominators of a and b divides their least common denominator
 pub divisor_divides : (a b : Fraction) → 0 < b.1 → greatest_common_divisor a.1 b.1 ∣ common_denominator a b
 divisor_divides a b some =
     let g = greatest_common_divisor a.1 b.1 in
     dvd_trans g (IsGcd-greatest a.1 b.1).0 (dvd-mul_right a.1 (b.1 / g))
 
--- if all common divisors of a number and a denominator divide a factor of the denominator, the number has the same
--- greatest common divisor with the factor as with the denominator
+-- if `factor` divides den, and each common divisor of |n| and den divides `factor`, then a greatest common divisor g
+-- of |n| and `factor` is one of |n| and den
 pub IsGcd-by_factor : (n : ℤ) (size den factor g : ℕ) → size ≡ unsigned_abs n → factor ∣ den
     → ((d : ℕ) → d ∣ unsigned_abs n → d ∣ den → d ∣ factor) → IsGcd size factor g → IsGcd size den g
 IsGcd-by_factor n size den factor g e h common is =

@@ -1,4 +1,5 @@
--- Least common multiples, and the computation of the least common denominator.
+-- Least common multiples of two numbers, and the steps of `common_denominator`, which computes the least common
+-- multiple of two denominators.
 use Rattle.std.proofs.Common.{◌≡◌, ℕ, ◌*◌, ◌/◌, ◌^◌, ◌<◌, ◌≤◌, sym, ◌∙◌, ap, subst, arith, pos, to_z, of_z, to_z-of_z, ℤ, FitsSigned}
 use Rattle.std.specs.Int.{w128}
 use Rattle.std.proofs.lemmas.Int.{to_z_pos, ints}
@@ -12,7 +13,7 @@ use Rattle.monomial_laws.proofs.WeightBounds.{lcm-positive}
 pub times-positive : (a b : ℕ) → 0 < a → 0 < b → 0 < a * b
 times-positive a b h k = omega (arith, times-more a b k)
 
--- d and k are multiples of their greatest common divisor; it and both quotients are positive
+-- d and k are multiples of gcd(d, k), and gcd(d, k), d/gcd(d, k) and k/gcd(d, k) are positive
 pub record Parts (d k : ℕ) : Type 0 where
   pub first : d / gcd d k * gcd d k ≡ d
   pub second : k / gcd d k * gcd d k ≡ k
@@ -58,7 +59,7 @@ pub lcm-at_least_second : (d k : ℕ) → 0 < d → 0 < k → k ≤ lcm d k
 lcm-at_least_second d k hd hk =
     let p = parts_of d k hd hk in omega (arith, times-more k (d / gcd d k) p.first_positive)
 
--- a quotient of a number below 2^127 is unchanged by conversion to 128 bits
+-- if a < 2^127, the conversion of a/g to an integer of 128 bits with a sign does not change it
 cast_quotient : (a g : ℕ) → a < 2 ^ 127 → to_z w128 (a / g) ≡ pos (a / g)
 cast_quotient a g h = to_z_pos w128 (a / g) (let l = div-le_self a g in omega arith)
 
@@ -74,7 +75,7 @@ common_denominator-is a b g den p h q k e d l =
       cast_quotient a g h ∙ ap pos (ap (λ n. a / n) e ∙ sym (lcm-over_second a b p q)),
     )
 
--- a number below 2^127 is unchanged by conversion to 128 bits and back
+-- if n < 2^127, the conversion of n to an unsigned number of 128 bits and back to one with a sign does not change it
 small_again : (z : ℤ) (n : ℕ) → z ≡ pos n → n < 2 ^ 127 → to_z w128 (of_z w128 z) ≡ z
 small_again z n e h = to_z-of_z (subst (FitsSigned w128) (sym e) (fits n h))
   where

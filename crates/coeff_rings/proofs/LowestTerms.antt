@@ -1,4 +1,5 @@
--- A 128-bit integer divided by a positive number below 2^127, in lowest terms, is a fraction that `Frac` can hold.
+-- An integer of 128 bits divided by a positive number below 2^127, in lowest terms, is a fraction that `Frac` can
+-- hold.
 use Rattle.std.proofs.Common.{◌≡◌, ℕ, ◌*◌, ◌<◌, ◌^◌, Bool, true, false, cond, ◌∙◌, ap₂, refl, arith, ℤ, pos, ◌*ℤ◌}
 use Rattle.std.specs.Prelude.{FitsSigned, Some, None}
 use Rattle.std.specs.Int.{w128}

@@ -1,4 +1,5 @@
--- Fractions by sign and absolute values: the results of the steps in the functions of `Frac`.
+-- Fractions given by a sign and the absolute values of numerator and denominator, and the results of the functions
+-- that compute with these.
 use Rattle.std.proofs.Common.{◌≡◌, ◌≢◌, ℕ, zero, suc, ◌*◌, ◌/◌, ◌<◌, ◌≤◌, ◌^◌, sym, refl, ap, ◌∙◌, subst, arith, ℤ, pos, negsuc, ◌*ℤ◌, neg_ℤ, unsigned_abs, int_div, int_lt, Bool, true, false, FitsSigned, Option, Some, None, nat_lt, cond, IfSome, nat_eq, IsTrue, ◌↔◌, inl, inr, ◌⊎◌}
 use Rattle.std.specs.Int.{w128, cast_unsigned, IsGcd, ◌∣◌}
 use Rattle.std.specs.Ordering.{int_eq}
@@ -36,7 +37,7 @@ signed_quotient true zero g = ap pos (zero-div g) ∙ sym (ap (λ (n : ℕ). neg
 signed_quotient true (suc n) g = refl
 signed_quotient false n g = refl
 
--- an integer is determined by its sign and its absolute value
+-- the integer with the sign and the absolute value of z is z
 pub signed_self : (z : ℤ) → signed (int_lt z (pos 0)) (unsigned_abs z) ≡ z
 signed_self (pos n) = not_below (int_lt (pos n) (pos 0)) n (λ t. let below : n < 0 = ltb-true n 0 t in omega arith)
   where
@@ -62,7 +63,7 @@ pub den-turned_over : (n : ℤ) (d : ℕ) → (turned_over n d).1 ≡ unsigned_a
 den-turned_over (pos n) d = refl
 den-turned_over (negsuc n) d = refl
 
--- ---- absolute values that do not fit
+-- ---- fractions whose numerator or denominator does not fit in 128 bits
 
 pub checked_fraction-num : (r : Fraction) → fits_128_bits r.0 ≡ false → None ≡ checked_fraction r
 checked_fraction-num r e = ap (λ (t : Bool). where_fits t r) (sym (and_left (fits_128_bits r.0) (nat_lt r.1 (2 ^ 127)) e))
@@ -70,7 +71,7 @@ checked_fraction-num r e = ap (λ (t : Bool). where_fits t r) (sym (and_left (fi
 pub checked_fraction-den : (r : Fraction) → 2 ^ 127 ≤ r.1 → None ≡ checked_fraction r
 checked_fraction-den r h = ap (λ (t : Bool). where_fits t r) (sym (and_right (fits_128_bits r.0) (nat_lt r.1 (2 ^ 127)) (le-ltb r.1 (2 ^ 127) h)))
 
--- a number with an absolute value over 2^127 does not fit 128 bits, whatever its sign
+-- an integer with an absolute value over 2^127 does not fit in 128 bits, whatever its sign
 pub signed-large : (s : Bool) (n : ℕ) → 2 ^ 127 < n → fits_128_bits (signed s n) ≡ false
 signed-large s n h = false_from_ne_true (fits_128_bits (signed s n)) (λ t. too_large s n (fits_from_test (signed s n) t) h)
   where
@@ -83,9 +84,9 @@ checked_i128-some z w e =
     let parts = cond_some (fits_128_bits z) z w (sym e) in
     (sym parts.1, fits_from_test z parts.0)
 
--- ---- fractions in lowest terms, by sign and absolute values
+-- ---- fractions in lowest terms, given by their sign and absolute values
 
--- the fraction of a sign and two absolute values
+-- `of_sizes s n d`: the fraction n/d, with the sign - if s is true
 abbrev pub of_sizes : Bool → ℕ → ℕ → Fraction
 of_sizes s n d = (signed s n, d)
 
@@ -111,7 +112,7 @@ coprime-parts : (a b x y : ℕ) → IsGcd a b 1 → x ∣ a → y ∣ b → IsGc
 coprime-parts a b x y c p q = coprime_from x y (λ k u v. c.2 k (dvd_trans k u p) (dvd_trans k v q))
 
 -- if n/d and m/e are in lowest terms, g = gcd(n, e) and h = gcd(m, d), then (n/g)·(m/h) and (d/h)·(e/g) are coprime,
--- and the latter is positive
+-- and (d/h)·(e/g) is positive
 cancelled_parts : (n d m e g h : ℕ) → 0 < d → 0 < e → IsGcd n d 1 → IsGcd m e 1 → IsGcd n e g → IsGcd m d h
     → (0 < (d / h) * (e / g)) × IsGcd ((n / g) * (m / h)) ((d / h) * (e / g)) 1
 cancelled_parts n d m e g h sd se nd me ne md = (
@@ -145,7 +146,7 @@ IsFraction-sizes s n d w e f some small h = record {
   lowest = record { positive = some; coprime = subst (λ (m : ℕ). IsGcd m d 1) (sym (ap unsigned_abs e ∙ unsigned_abs-signed s n)) h };
 }
 
--- ---- the results of the steps of a product and of `Frac::new`
+-- ---- the results of the functions `product` and `Frac::new`
 
 pub product_num-large : (s : Bool) (n d m e g h : ℕ) → 0 < d → 0 < e → IsGcd n d 1 → IsGcd m e 1 → IsGcd n e g → IsGcd m d h
     → 2 ^ 127 < (n / g) * (m / h) → None ≡ checked_fraction (lowest_terms (signed s (n * m)) (d * e))
@@ -159,7 +160,8 @@ product_den-large s n d m e g h sd se nd me ne md large =
     checked_fraction-den (of_sizes s ((n / g) * (m / h)) ((d / h) * (e / g))) large
     ∙ ap checked_fraction (lowest_terms-product s n d m e g h sd se nd me ne md)
 
--- for den ≠ 0, the fraction ±|num|/|den|, with - if the signs differ, is num/den
+-- for den ≠ 0, the checked fraction |num|/|den| in lowest terms, with the sign - if the signs of num and den differ,
+-- is the checked fraction num/den
 pub checked_fraction_of-sizes : (num den : ℤ) → den ≢ pos 0
     → checked_fraction (lowest_terms (signed (signs_differ num den) (unsigned_abs num)) (unsigned_abs den)) ≡ checked_fraction_of num den
 checked_fraction_of-sizes num den other =
@@ -179,7 +181,7 @@ quotient-sizes a b some =
     ap (λ (z : ℤ). lowest_terms z (a.1 * unsigned_abs b.0)) (signed_turned_over a.0 b.0 b.1 some)
     ∙ ap (λ (n : ℕ). lowest_terms (a.0 *ℤ (reciprocal b).0) (a.1 * n)) (sym (den-turned_over b.0 b.1))
 
--- if b is not 0, the absolute value of its numerator is positive
+-- if the fraction b is not 0, the absolute value of its numerator is positive
 pub size_positive : (b : Fraction) → InLowestTerms b → b ≢ whole (pos 0) → 0 < unsigned_abs b.0
 size_positive b l other = from b.0 (λ e. other (num-zero b l e))
   where
@@ -204,8 +206,8 @@ product-answer s n d m e g h num den sd se nd me ne md en ed =
     ap (λ (k : ℕ). checked_fraction (of_sizes s k den)) en ∙ ap (λ (k : ℕ). checked_fraction (of_sizes s ((n / g) * (m / h)) k)) ed
     ∙ ap checked_fraction (lowest_terms-product s n d m e g h sd se nd me ne md)
 
--- if |a| = n/d and |b| = m/e, and s says whether the signs differ, then the checked fraction ±(n·m)/(d·e) is the checked
--- product of a and b
+-- if |a| = n/d and |b| = m/e, and s says whether the signs of a and b differ, then the checked fraction ±(n·m)/(d·e)
+-- in lowest terms, with - if s is true, is the checked product of a and b
 pub product-steps : (a b : Fraction) (s : Bool) (n d m e : ℕ) (answer : Option Fraction) → s ≡ signs_differ a.0 b.0
     → n ≡ unsigned_abs a.0 → d ≡ a.1 → m ≡ unsigned_abs b.0 → e ≡ b.1
     → answer ≡ checked_fraction (lowest_terms (signed s (n * m)) (d * e)) → answer ≡ checked_fraction_product a b
@@ -228,7 +230,7 @@ quotient-steps a b s n d m e answer some ps pn pd pm pe is =
     ∙ ap (λ (x : ℕ). value t size a.1 x e) pm ∙ ap (λ (x : ℕ). value t size a.1 b.1 x) pe
     ∙ ap checked_fraction (quotient-sizes a b some)
 
--- a number whose bits are all 0 is 0
+-- an integer of 128 bits whose bits are all 0 is 0
 bits_zero : (z : ℤ) → FitsSigned w128 z → cast_unsigned w128 z ≡ 0 → z ≡ pos 0
 bits_zero (pos n) f e = ap pos e
 bits_zero (negsuc n) f e = absurd (omega (arith, f.sfits))
@@ -240,7 +242,8 @@ zero-tells n d r h e = (
   λ z. eq-eqb (cast_unsigned w128 n) 0 (ap (λ (q : Fraction). cast_unsigned w128 q.0) (e ∙ z)),
 )
 
--- if n = |num| and d = |den| ≠ 0, and s says whether the signs differ, then the checked fraction ±n/d is num/den checked
+-- if n = |num| and d = |den| ≠ 0, and s says whether the signs of num and den differ, then the checked fraction ±n/d
+-- in lowest terms, with - if s is true, is the checked fraction num/den
 pub new-steps : (num den : ℤ) (s : Bool) (n d : ℕ) (answer : Option Fraction) → (cast_unsigned w128 den ≡ 0 → ⊥) → s ≡ signs_differ num den
     → n ≡ unsigned_abs num → d ≡ unsigned_abs den → answer ≡ checked_fraction (lowest_terms (signed s n) d) → answer ≡ checked_fraction_of num den
 new-steps num den s n d answer other ps pn pd is =
@@ -270,10 +273,3 @@ refused_size (negsuc n) e = by (cases_lt n (2 ^ 127))
     by : (n < 2 ^ 127) ⊎ (2 ^ 127 ≤ n) → 2 ^ 127 ≤ nat_abs (negsuc n)
     by (inl l) = absurd (let some = where_fits-true (nat_lt n (2 ^ 127)) (negsuc n) (lt-ltb n (2 ^ 127) l) in let none : where_fits (nat_lt n (2 ^ 127)) (negsuc n) ≡ None = e in cc)
     by (inr l) = omega (arith, ints)
-
-pub answered_is : (z s : ℤ) → Some s ≡ checked_i128 z → s ≡ z
-answered_is z s e = by (fits_128_bits z) e
-  where
-    by : (b : Bool) → Some s ≡ where_fits b z → s ≡ z
-    by true h = cc
-    by false h = absurd (cc)

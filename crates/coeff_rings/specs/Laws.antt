@@ -1,12 +1,12 @@
--- The laws of rings and fields (school algebra), over the values of a type of scalars.
+-- The laws of rings and fields for the values of a type of scalars.
 use Rattle.std.specs.Prelude.{◌≡◌, ◌≢◌, ℕ, ◌*◌, ◌<◌, pos, ◌+ℤ◌, ◌*ℤ◌}
 use Rattle.std.specs.Int.{◌∣◌}
 use Rattle.sym_model.specs.Expansion.{Fraction}
 use Rattle.coeff_rings.specs.Fractions.{whole, scaled, fraction_sum, fraction_difference}
 use Rattle.coeff_rings.specs.Fractions.{fraction_product, fraction_negation, fraction_quotient}
 
--- sums commute and associate, 0 is neutral, and a sum times a common denominator is the sum of the two summands times
--- that denominator
+-- the laws of sums of values: sums commute and associate, 0 is neutral, and, for a common denominator d of a and b,
+-- (a + b)·d = a·d + b·d as integers
 pub record SumLaws {A : Type 0} (held : A → Type 0) (value : A → Fraction) : Type 0 where
   pub commutes : (a b : A) → fraction_sum (value a) (value b) ≡ fraction_sum (value b) (value a)
   pub associates : (a b c : A) → held a → held b → held c
@@ -17,8 +17,9 @@ pub record SumLaws {A : Type 0} (held : A → Type 0) (value : A → Fraction) :
       → ((fraction_sum (value a) (value b)).1 ∣ d)
       × (scaled d (fraction_sum (value a) (value b)) ≡ scaled d (value a) +ℤ scaled d (value b))
 
--- products commute, associate and distribute over sums, 1 is neutral, a negation cancels, a difference adds a negation,
--- and a·b times d·e is (a·d)·(b·e), for a multiple d of the denominator of a and a multiple e of that of b
+-- the laws of rings for values: products commute, associate and distribute over sums; 1 is neutral; a + (-a) = 0 and
+-- a - b = a + (-b); and, for a multiple d of the denominator of a and a multiple e of that of b,
+-- (a·b)·(d·e) = (a·d)·(b·e) as integers
 pub record RingLaws {A : Type 0} (held : A → Type 0) (value : A → Fraction) : Type 0 where
   pub commutes : (a b : A) → fraction_product (value a) (value b)
       ≡ fraction_product (value b) (value a)
@@ -41,7 +42,7 @@ pub record RingLaws {A : Type 0} (held : A → Type 0) (value : A → Fraction) 
       × (scaled (d * e) (fraction_product (value a) (value b))
       ≡ scaled d (value a) *ℤ scaled e (value b))
 
--- a quotient by b, which is not 0, times b is the dividend
+-- the law of fields for values: (a/b)·b = a, if b is not 0
 pub record FieldLaws {A : Type 0} (held : A → Type 0) (value : A → Fraction) : Type 0 where
   pub quotient_cancels : (a b : A) → held a → held b → value b ≢ whole (pos 0)
       → fraction_product (fraction_quotient (value a) (value b)) (value b) ≡ value a

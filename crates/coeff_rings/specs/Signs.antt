@@ -1,7 +1,7 @@
 -- Signs and absolute values of integers.
 use Rattle.std.specs.Prelude.{ℕ, ℤ, pos, negsuc, neg_ℤ, Bool, true, false}
 
--- the integer with the absolute value n, negative if the sign is true
+-- the integer with the absolute value n: -n if the first argument is true, and n if it is false
 abbrev pub signed : Bool → ℕ → ℤ
 signed true n = neg_ℤ (pos n)
 signed false n = pos n

@@ -1,4 +1,4 @@
-//! Natural numbers of 128 bits.
+//! Natural numbers below 2^128 as coefficients, with checked operations.
 ghost use Rattle.std.specs.Prelude.{refl, ◌≡◌, ℕ, ◌+◌, ◌*◌, ◌^◌, ◌<◌, pos};
 ghost use Rattle.std.proofs.Common.{sym};
 ghost use Rattle.coeff_rings.specs.Fractions.{whole_count};
@@ -28,21 +28,21 @@ impl Model for Count {
 }
 
 impl Count {
-    /// The scalar with the value `v`.
+    /// The number `v` as a scalar.
     pub fn new(v: u128) -> Count
         ensures { result ≡ v }
     {
         Count { number: v }
     }
 
-    /// The number.
+    /// The value of the scalar, as a `u128`.
     pub fn get(&self) -> u128
         ensures { result ≡ self.now }
     {
         self.number
     }
 
-    /// The product; `None` if and only if it is 2^128 or more.
+    /// The product of the two numbers; `None` if and only if the product is 2^128 or more.
     pub fn mul(self, other: Count) -> Option<Count>
         ensures { result ≡ checked_u128 (self * other) }
     {

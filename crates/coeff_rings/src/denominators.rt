@@ -1,27 +1,27 @@
-//! Common denominators and products of denominators.
+//! The least common multiple and the product of two denominators.
 ghost use Rattle.std.specs.Prelude.{◌≡◌, ◌/◌, ◌*◌, ◌<◌, ◌≤◌, ◌^◌, pos, IfOk, IfErr, OkIff};
 ghost use Rattle.sym_model.specs.Expression.{lcm};
 
 use crate::divisors::gcd;
 use calc_base::Large;
 
-/// Denominators are below this limit.
+/// The limit 2^127: every denominator is less.
 const LIMIT: u128 = 1 << 127;
 
-/// The least common multiple of two denominators, and its quotients by them.
+/// The least common multiple of two denominators, and its quotients by these denominators.
 #[derive(Clone, Copy)]
 pub struct Common {
-    /// The least common multiple.
+    /// The least common multiple of the two denominators.
     pub den: u128,
-    /// The multiple divided by the left denominator.
+    /// The least common multiple divided by the left denominator.
     pub from_left: i128,
-    /// The multiple divided by the right denominator.
+    /// The least common multiple divided by the right denominator.
     pub from_right: i128,
 }
 
-/// The least common multiple of two positive denominators below 2^127.
+/// The least common multiple of two positive denominators below 2^127, and its quotients by them.
 ///
-/// Returns an error if and only if it is 2^127 or more.
+/// Returns an error if and only if the least common multiple is 2^127 or more.
 pub fn common_denominator(a: u128, b: u128) -> Result<Common, Large>
     requires left { (0 < a) × (a < 2 ^ 127) }
     requires right { (0 < b) × (b < 2 ^ 127) }
@@ -40,7 +40,7 @@ pub fn common_denominator(a: u128, b: u128) -> Result<Common, Large>
     })
 }
 
-/// The product of two denominators. Returns an error if and only if it is 2^127 or more.
+/// The product of two denominators. Returns an error if and only if the product is 2^127 or more.
 pub fn denominator_product(a: u128, b: u128) -> Result<u128, Large>
     ensures { OkIff result (a * b < 2 ^ 127) (a * b) }
 {

@@ -8,7 +8,8 @@ use std::marker::Model;
 /// The greatest length of the text of a scalar: a sign, two numbers of 39 digits and a slash.
 const CAPACITY: usize = 80;
 
-/// A buffer of 80 bytes with a length. In contracts, it is the list of the bytes that it holds.
+/// A buffer of 80 bytes, of which the first `len` are in use. In contracts, it is the list of the
+/// bytes in use.
 #[derive(Drop)]
 pub struct Digits {
     bytes: [u8; CAPACITY],
@@ -34,7 +35,7 @@ impl Digits {
         }
     }
 
-    /// The bytes that the buffer holds.
+    /// The bytes of the buffer that are in use.
     pub fn as_bytes(&self) -> &[u8]
         ensures { result.now ≡ self.now }
     {
@@ -47,8 +48,8 @@ impl Digits {
         self.len = 0;
     }
 
-    /// Appends the number's decimal text. At most 40 bytes may be in the buffer, so that there is
-    /// room for every number.
+    /// Appends the decimal text of the integer `number`. The buffer may have at most 40 bytes in
+    /// use before the call, so that there is room for the text of every integer.
     pub(crate) fn put_signed(&mut self, number: i128)
         requires { length self.old ≤ 40 }
         ensures text { self.new ≡ self.old ++ signed_decimal number }
@@ -58,8 +59,8 @@ impl Digits {
         self.put(buffer.format(number).as_bytes());
     }
 
-    /// Appends the number's decimal text. At most 41 bytes may be in the buffer, so that there is
-    /// room for every number.
+    /// Appends the decimal text of the natural number `number`. The buffer may have at most 41
+    /// bytes in use before the call, so that there is room for the text of every number.
     pub(crate) fn put_unsigned(&mut self, number: u128)
         requires { length self.old ≤ 41 }
         ensures text { self.new ≡ self.old ++ decimal number }
@@ -68,7 +69,7 @@ impl Digits {
         self.put(buffer.format(number).as_bytes());
     }
 
-    /// Appends bytes for which there is room.
+    /// Appends the bytes of `text`. The buffer must have room for them: it holds at most 80 bytes.
     pub(crate) fn put(&mut self, text: &[u8])
         requires { length self.old + length text.now ≤ 80 }
         ensures { self.new ≡ self.old ++ text.now }

@@ -1,4 +1,4 @@
-//! Fractions of integers of 128 bits, in lowest terms.
+//! Fractions in lowest terms, whose numerators and denominators are integers of 128 bits.
 ghost use Rattle.std.specs.Prelude.{refl, ◌≡◌, ℕ, ℤ, pos, neg_ℤ, ◌+◌, ◌*◌, ◌<◌, ◌^◌, ◌*ℤ◌, Bool};
 ghost use Rattle.std.specs.Prelude.{unsigned_abs, FitsSigned, SomeIff, IfSome};
 ghost use Rattle.std.specs.Int.{w128, IsGcd, ◌∣◌};
@@ -53,8 +53,8 @@ impl Model for Frac {
 }
 
 impl Frac {
-    /// The fraction `num/den`; `None` if and only if `den` is 0 or the reduced fraction with a
-    /// positive denominator does not fit.
+    /// The fraction `num/den` in lowest terms; `None` if and only if `den` is 0 or, in lowest terms
+    /// and with a positive denominator, its numerator or denominator is not an `i128`.
     pub fn new(num: i128, den: i128) -> Option<Frac>
         ensures value { result ≡ checked_fraction_of num den }
         ensures held { IfSome result IsFraction }
@@ -69,7 +69,7 @@ impl Frac {
         )
     }
 
-    /// The numerator.
+    /// The numerator of the fraction.
     pub fn num(&self) -> i128
         ensures value { result ≡ self.now.0 }
         ensures held { IsFraction self.now }
@@ -77,7 +77,7 @@ impl Frac {
         self.num
     }
 
-    /// The denominator, which is positive.
+    /// The denominator of the fraction, which is positive.
     pub fn den(&self) -> i128
         ensures value { result ≡ pos self.now.1 }
         ensures held { IsFraction self.now }
@@ -248,7 +248,7 @@ struct Common {
     divisor: u128,
 }
 
-/// The greatest common divisor, by Euclid's algorithm.
+/// The greatest common divisor of `a` and `b`, for `b` not 0, by Euclid's algorithm.
 #[inline(never)]
 fn common_divisor(a: u128, b: u128) -> u128
     requires { 0 < b }
@@ -263,14 +263,14 @@ fn common_divisor(a: u128, b: u128) -> u128
     x
 }
 
-/// Whether one number is negative and the other is not.
+/// Whether one of the two numbers is negative and the other is not.
 fn differ_in_sign(a: i128, b: i128) -> bool
     ensures { result ≡ signs_differ a b }
 {
     (a < 0) != (b < 0)
 }
 
-/// The number times a factor below 2^127; `None` if it does not fit.
+/// The product of an integer and a factor below 2^127; `None` if and only if it is not an `i128`.
 fn scaled(number: i128, factor: u128) -> Option<i128>
     requires { factor < 2 ^ 127 }
     ensures { SomeIff result (FitsSigned w128 (number *ℤ pos factor)) (number *ℤ pos factor) }
@@ -278,8 +278,9 @@ fn scaled(number: i128, factor: u128) -> Option<i128>
     CheckedMul::checked_mul(&number, &(factor as i128))
 }
 
-/// Two fractions over their least common denominator; `None` if one of the three numbers does not
-/// fit.
+/// The numerators of two fractions over their least common denominator, that denominator, and the
+/// greatest common divisor of the two denominators; `None` if and only if one of these numerators
+/// is not an `i128` or the least common denominator is 2^127 or more.
 #[inline(always)]
 fn over_common(a: Frac, b: Frac) -> Option<Common>
     ensures held { IsFraction a × IsFraction b }
@@ -315,7 +316,8 @@ fn over_common(a: Frac, b: Frac) -> Option<Common>
     })
 }
 
-/// The integer with a sign and an absolute value; `None` if it does not fit.
+/// The integer with the absolute value `size`, negative if `negative` is true; `None` if and only
+/// if it is not an `i128`.
 fn with_sign(negative: bool, size: u128) -> Option<i128>
     ensures { result ≡ checked_i128 (signed negative size) }
 {
@@ -329,7 +331,8 @@ fn with_sign(negative: bool, size: u128) -> Option<i128>
     None
 }
 
-/// The fraction `num/den` with a sign, for coprime numbers; `None` if it does not fit.
+/// The fraction `num/den` for coprime numbers, negative if `negative` is true; `None` if and only
+/// if its numerator is not an `i128` or its denominator is 2^127 or more.
 fn from_sizes(negative: bool, num: u128, den: u128) -> Option<Frac>
     requires positive { 0 < den }
     requires coprime { IsGcd num den 1 }
@@ -342,7 +345,8 @@ fn from_sizes(negative: bool, num: u128, den: u128) -> Option<Frac>
     Some(Frac { num, den })
 }
 
-/// The fraction `num/den` with a sign, in lowest terms; `None` if it does not fit.
+/// The fraction `num/den` in lowest terms, negative if `negative` is true; `None` if and only if
+/// its numerator is then not an `i128` or its denominator is 2^127 or more.
 fn reduced(negative: bool, num: u128, den: u128) -> Option<Frac>
     requires { 0 < den }
     ensures { result ≡ checked_fraction (lowest_terms (signed negative num) den) }
@@ -351,9 +355,10 @@ fn reduced(negative: bool, num: u128, den: u128) -> Option<Frac>
     from_sizes(negative, num / divisor, den / divisor)
 }
 
-/// The fraction `num/den` in lowest terms; `None` if it does not fit. Each common divisor of the
-/// two numbers divides `divisor`: if that is 1, nothing cancels, and if it is small, the search for
-/// the greatest common divisor is short.
+/// The fraction `num/den` in lowest terms, for `den` from 1 to 2^127 - 1; it is never `None`.
+/// `divisor` must divide `den`, and each common divisor of `num` and `den` must divide `divisor`:
+/// if `divisor` is 1, nothing cancels, and if it is small, the search for the greatest common
+/// divisor is short.
 #[inline(always)]
 fn quotient(num: i128, den: u128, divisor: u128) -> Option<Frac>
     requires positive { 0 < den }
@@ -370,9 +375,11 @@ fn quotient(num: i128, den: u128, divisor: u128) -> Option<Frac>
     from_sizes(num < 0, size / shared, den / shared)
 }
 
-/// The product of two fractions in lowest terms, given by their absolute values, with a sign;
-/// `None` if it does not fit. Common factors are cancelled before the numbers are multiplied, so a
-/// product is too large only if the answer is.
+/// The product of two fractions in lowest terms, which are given by their absolute values; the
+/// product is negative if `negative` is true. `None` if and only if the product in lowest terms has
+/// a numerator that is not an `i128` or a denominator of 2^127 or more. Common factors are
+/// cancelled before the numbers are multiplied, so a number of the computation is too large only if
+/// a number of the result is.
 fn product(negative: bool, left: Sizes, right: Sizes) -> Option<Frac>
     requires left { (0 < left.den) × IsGcd left.num left.den 1 }
     requires right { (0 < right.den) × IsGcd right.num right.den 1 }

@@ -1,4 +1,4 @@
-//! Integers of 128 bits.
+//! Integers of 128 bits with a sign as coefficients, with checked operations.
 ghost use Rattle.std.specs.Prelude.{refl, ◌≡◌, ℤ, pos, ◌+ℤ◌, ◌-ℤ◌, ◌*ℤ◌, neg_ℤ, FitsSigned};
 ghost use Rattle.std.specs.Int.{w128};
 ghost use Rattle.std.proofs.Common.{sym};
@@ -32,14 +32,14 @@ impl Model for Int {
 }
 
 impl Int {
-    /// The scalar with the value `v`.
+    /// The integer `v` as a scalar.
     pub fn new(v: i128) -> Int
         ensures { result ≡ v }
     {
         Int { number: v }
     }
 
-    /// The number.
+    /// The value of the scalar, as an `i128`.
     pub fn get(&self) -> i128
         ensures { result ≡ self.now }
     {

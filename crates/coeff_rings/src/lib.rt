@@ -1,6 +1,7 @@
-//! Exact coefficients: integers, counts and fractions of 128 bits. Each operation gives the exact
-//! value or `None`. The crate also has greatest common divisors, factorials, products, common
-//! denominators and quotients of integers. Nothing here allocates memory.
+//! Exact coefficients: integers, natural numbers (`Count`) and fractions of 128 bits. Each
+//! operation gives the exact value or `None`. The crate also has greatest common divisors,
+//! factorials, products, common denominators and quotients of integers. Nothing here allocates
+//! memory.
 //!
 //! What is proved:
 //!
@@ -9,8 +10,9 @@
 //! numbers under which an operation has a result.
 //!
 //! `gcd`, `factorial`, `common_denominator` and `denominator_product` agree with their definitions;
-//! the last two return an error if and only if the value is 2^127 or more, and `product_of` only if
-//! the absolute value is; `quotient_of` is the fraction in lowest terms.
+//! the last two return an error if and only if the value is 2^127 or more. `product_of` is the
+//! product, and returns an error only if its absolute value is 2^127 or more. `quotient_of` is the
+//! fraction in lowest terms.
 #![tactic(auto)]
 
 mod count;

@@ -1,4 +1,4 @@
-//! Factorials, and products of two numbers.
+//! Factorials, and products of two integers.
 ghost use Rattle.std.specs.Prelude.{◌≡◌, ◌^◌, ◌≤◌, ◌*ℤ◌, nat_abs, MatchResult};
 ghost use Rattle.sym_model.specs.Weight.{factorial};
 
@@ -6,7 +6,7 @@ use crate::int::Int;
 use crate::scalar::Ring;
 use calc_base::Large;
 
-/// d!, the product of the numbers from 1 to d, which is at most 20.
+/// d!, the product of the numbers from 1 to d, for d ≤ 20.
 pub fn factorial(d: u16) -> u128
     requires { d ≤ 20 }
     ensures { result ≡ factorial d }
@@ -18,7 +18,8 @@ pub fn factorial(d: u16) -> u128
     product
 }
 
-/// The product. Returns an error only if its absolute value is 2^127 or more.
+/// The product of the integers x and y. Returns an error only if the absolute value of the product
+/// is 2^127 or more.
 pub fn product_of(x: Int, y: Int) -> Result<Int, Large>
     ensures { MatchResult result (λ z. z ≡ x *ℤ y) (λ _. 2 ^ 127 ≤ nat_abs (x *ℤ y)) }
 {

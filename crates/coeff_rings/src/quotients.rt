@@ -1,11 +1,12 @@
-//! Quotients of integers.
+//! Quotients of two integers as fractions.
 ghost use Rattle.std.specs.Prelude.{◌≡◌, ◌<◌, ◌^◌};
 ghost use Rattle.coeff_rings.specs.Fractions.{lowest_terms};
 
 use crate::frac::Frac;
 use crate::int::Int;
 
-/// An integer divided by a positive number below 2^127, in lowest terms.
+/// The integer `num` divided by the positive number `den` below 2^127, as a fraction in lowest
+/// terms.
 pub fn quotient_of(num: Int, den: u128) -> Frac
     requires { (0 < den) × (den < 2 ^ 127) }
     ensures { result ≡ lowest_terms num den }

@@ -1,11 +1,12 @@
 //! Traits of coefficients. A scalar has a value, a fraction in lowest terms, and each of its
-//! operations gives the exact value or `None`. A contract states which by a ghost function of the
-//! scalars, such as `checked_sum`, so that code over any scalar can state when its ring refuses.
-//! The exact result, whether it fits or not, has a name too, such as `sum`.
+//! operations gives the exact value or `None`. The contract of an operation states its result by a
+//! ghost function of the type, such as `checked_sum`, so that a contract of code over any scalar
+//! can state when an operation gives `None`. The exact result, whether the type can hold it or not,
+//! is also a ghost function, such as `sum`.
 //!
-//! The laws below a trait's functions are for code over any scalar. Some of them require `is_held`,
-//! which is true of every scalar in a program: each function states it of its arguments and of its
-//! result.
+//! The laws after the functions of a trait are for code over any scalar. Some of them require
+//! `is_held`, which is true of every scalar in a program: each function states it of its arguments
+//! and of its result.
 ghost use Rattle.std.specs.Prelude.{◌≡◌, ◌≢◌, ◌↔◌, ℕ, ℤ, pos, List, Option, Some, IsTrue, IfSome};
 ghost use Rattle.sym_model.specs.Expansion.{Fraction};
 ghost use Rattle.coeff_rings.specs.Fractions.{whole, InLowestTerms, fraction_sum, fraction_product};
@@ -16,9 +17,9 @@ ghost use Rattle.coeff_rings.specs.Text.{decimal_text};
 
 use crate::digits::Digits;
 
-/// Numbers that are added, tested for 0 and printed.
+/// Numbers that can be added, tested for 0 and printed.
 pub trait Scalar: Copy {
-    // The value of a scalar, as a fraction.
+    // The value of a scalar, as a fraction in lowest terms.
     ghost value: { Self → Fraction };
 
     // The two constants 0 and 1 of the type.
@@ -26,13 +27,14 @@ pub trait Scalar: Copy {
 
     ghost one: { Self };
 
-    // A property of every scalar of the type in a program.
+    // A property that every scalar of the type has in a program, such as being in lowest terms.
     ghost is_held: { Self → Type 0 };
 
-    // The exact sum, whether it fits or not.
+    // The exact sum of two scalars, whether the type can hold it or not.
     ghost sum: { Self → Self → Self };
 
-    // The result of `add`: `None` if the type cannot hold the sum.
+    // The result of `add`: the exact sum, or `None` if the type cannot hold it or a number of its
+    // computation.
     ghost checked_sum: { Self → Self → Option Self };
 
     /// The scalar 0.
@@ -47,22 +49,22 @@ pub trait Scalar: Copy {
         ensures value { value result ≡ whole (pos 1) }
         ensures held { is_held result };
 
-    /// Whether the value is 0.
+    /// Whether the value of the scalar is 0.
     fn is_zero(&self) -> bool
         ensures zero { IsTrue result ↔ (value self.now ≡ whole (pos 0)) }
         ensures held { is_held self.now };
 
-    /// The sum, or `None` if the type cannot hold it. It has a result if one of the scalars is 0,
-    /// or if over some common denominator below 2^127 the absolute values of the numerators add up
-    /// to less than 2^127.
+    /// The sum, or `None` if the type cannot hold it or a number of its computation. It is not
+    /// `None` if one of the scalars is 0, or if the two values are n/d and m/d for integers n and m
+    /// and a positive d such that d and |n| + |m| are below 2^127.
     fn add(self, other: Self) -> Option<Self>
         ensures sum { result ≡ checked_sum self other }
         ensures answer { AnswersSum value self other result }
         ensures held { is_held self × is_held other }
         ensures held_sum { IfSome result is_held };
 
-    /// Replaces the contents of the buffer by the value's decimal text: `NUM/DEN` in lowest terms,
-    /// and an integer without a denominator.
+    /// Replaces the contents of the buffer by the decimal text of the scalar's value: `NUM/DEN` in
+    /// lowest terms, or only the number if the value is an integer.
     fn digits(&self, out: &mut Digits)
         ensures text { out.new ≡ decimal_text (value self.now) }
         ensures held { is_held self.now };
@@ -89,40 +91,42 @@ pub trait Scalar: Copy {
 
 /// Scalars that can also be negated, subtracted and multiplied.
 pub trait Ring: Scalar {
-    // The results of `neg`, of `sub` and of `mul`: `None` if the type cannot hold them.
+    // The results of `neg` and of `sub` here, and of `mul` below: the exact value, or `None` if the
+    // type cannot hold it or a number of its computation.
     ghost checked_negation: { Self → Option Self };
 
     ghost checked_difference: { Self → Self → Option Self };
 
-    // The exact product, whether it fits or not.
+    // The exact product of two scalars, whether the type can hold it or not.
     ghost product: { Self → Self → Self };
 
     ghost checked_product: { Self → Self → Option Self };
 
-    /// The scalar of an integer.
+    /// The scalar whose value is the integer `v`.
     fn from_whole(v: i128) -> Self
         ensures value { Self.value result ≡ whole v }
         ensures held { Self.is_held result };
 
-    /// The negation, or `None` if the type cannot hold it. It has a result if the absolute value
-    /// times its denominator is below 2^127.
+    /// The negation, or `None` if the type cannot hold it. It is not `None` if the absolute value
+    /// of the numerator is below 2^127.
     fn neg(self) -> Option<Self>
         ensures negation { result ≡ checked_negation self }
         ensures answer { AnswersNegation Self.value self result }
         ensures held { Self.is_held self }
         ensures held_negation { IfSome result Self.is_held };
 
-    /// The difference, or `None` if the type cannot hold it. It has a result if over some common
-    /// denominator below 2^127 the absolute values of the numerators add up to less than 2^127.
+    /// The difference, or `None` if the type cannot hold it or a number of its computation. It is
+    /// not `None` if the two values are n/d and m/d for integers n and m and a positive d such that
+    /// d and |n| + |m| are below 2^127.
     fn sub(self, other: Self) -> Option<Self>
         ensures difference { result ≡ checked_difference self other }
         ensures answer { AnswersDifference Self.value self other result }
         ensures held { Self.is_held self × Self.is_held other }
         ensures held_difference { IfSome result Self.is_held };
 
-    /// The product, or `None` if the type cannot hold it. It has a result if, over some multiples
-    /// of the two denominators whose product is below 2^127, the product of the absolute values of
-    /// the numerators is below 2^127.
+    /// The product, or `None` if the type cannot hold it. It is not `None` if the two values are
+    /// n/d and m/e for integers n and m and positive d and e such that d·e and |n·m| are below
+    /// 2^127.
     fn mul(self, other: Self) -> Option<Self>
         ensures product { result ≡ checked_product self other }
         ensures answer { AnswersProduct Self.value self other result }
@@ -154,14 +158,14 @@ pub trait Ring: Scalar {
     ghost ring_laws: { RingLaws Self.is_held Self.value };
 }
 
-/// A ring with quotients by scalars other than 0.
+/// Scalars that can also be divided by scalars other than 0.
 pub trait Field: Ring {
-    // The result of `div`: `None` if the type cannot hold it.
+    // The result of `div`: the exact quotient, or `None` if the type cannot hold it.
     ghost checked_quotient: { Self → Self → Option Self };
 
-    /// The quotient, or `None` if the type cannot hold it. It has a result if, for some positive
-    /// multiples d of the denominator of `self` and e of the numerator of `other`, both d·e and d·e
-    /// times the absolute value of the quotient are below 2^127.
+    /// The quotient of `self` by `other`, which must not be 0, or `None` if the type cannot hold
+    /// it. It is not `None` if the values of `self` and 1/`other` are n/d and m/e for integers n
+    /// and m and positive d and e such that d·e and |n·m| are below 2^127.
     fn div(self, other: Self) -> Option<Self>
         requires { Self.value other ≢ whole (pos 0) }
         ensures quotient { result ≡ checked_quotient self other }

@@ -1,4 +1,4 @@
--- The terms that a list of terms y^e·S_w gains by a product with x_r - y_c.
+-- The terms that are added to a list when (x_r - y_c)·y^e·S_w is computed, and the product of a list of terms y^e·S_w and x_r - y_c.
 use Rattle.std.proofs.Common.{◌≡◌, ℕ, ◌+◌, ◌*◌, ◌^◌, ◌≤◌, max, List, [], ◌∷◌, ◌++◌, length, refl, sym, ap, ap₂, ◌∙◌, subst, inl, inr, arith, ℤ, pos, negsuc, ◌*ℤ◌}
 use Rattle.std.specs.Prelude.{nat_abs, neg_ℤ, ◌&&◌}
 use Rattle.std.specs.Cmp.{IsEquivalence}
@@ -37,14 +37,15 @@ label_laws = record {
       ap₂ (λ s t. s && t) (nat_list_eq_equiv.congr x.0 y.0 z.0 p.0) (nat_list_eq_equiv.congr x.1 y.1 z.1 p.1);
 }
 
--- ---- the terms of one product, as they are added
+-- ---- the terms of (x_r - y_c)·y^e·S_w, as four lists that are added one after another
 
 scaled_beside : (k a : ℤ) (e : List ℕ) (vs : List (List ℕ)) → scaled k (each_beside a e vs) ≡ each_beside (k *ℤ a) e vs
 scaled_beside k a e [] = refl
 scaled_beside k a e (v ∷ vs) = ap (λ (l : ShiftedSum). ((v, e), k *ℤ a) ∷ l) (scaled_beside k a e vs)
 
--- the terms that one product adds for a label (w, e): k at (v, e) for v in `up`, `minus` at (v, e) for v in `down`, k
--- at (w, more), and `minus` at (w, less)
+-- for a label (w, e), the list of the terms k at (v, e) for v in `up`, `minus` at (v, e) for v in `down`, k at (w, more), and `minus` at (w, less);
+-- it is k times (x_r - y_c)·y^e·S_w if minus = -k, `up` and `down` are the covers of w at r, y^more = y_w(r)·y^e and y^less = y_c·y^e
+-- (`factor_scaled`)
 abbrev pub added : ℤ → ℤ → List ℕ × List ℕ → List (List ℕ) → List (List ℕ) → List ℕ → List ℕ → ShiftedSum
 added k minus label up down more less =
     each_beside k label.1 up ++ (each_beside minus label.1 down ++ (((label.0, more), k) ∷ ((label.0, less), minus) ∷ []))
@@ -66,7 +67,7 @@ factor_scaled k minus r c letter_is label up down more less m l u d a b =
     rest : ShiftedSum
     rest = ((label.0, raised (letter label.0 r) label.1), pos 1) ∷ ((label.0, raised c label.1), negsuc 0) ∷ []
 
--- a table that gains the four parts of a term's product one after another gains the product
+-- if the four lists of terms of which `added` consists are added to the table s0 one after another, the result is s0 with `added` added
 module _ (k minus : ℤ) (label : List ℕ × List ℕ) (up down : List (List ℕ)) (more less : List ℕ) (s0 s1 s2 s3 : ShiftedSum) where
   pub added_gains : (s4 : ShiftedSum) → Gains s0 (each_beside k label.1 up) s1 → Gains s1 (each_beside minus label.1 down) s2
       → Gains s2 (((label.0, more), k) ∷ []) s3 → Gains s3 (((label.0, less), minus) ∷ []) s4 → Gains s0 (added k minus label up down more less) s4
@@ -111,13 +112,13 @@ overflow_negative old k r c label large =
     let q = mass_at_append equal x (each_beside (neg_ℤ k) label.1 (covers_down r label.0)) (((label.0, raised (letter label.0 r) label.1), k) ∷ ((label.0, raised c label.1), neg_ℤ k) ∷ []) in
     omega arith) a)
 
--- ---- the terms of lists of permutations, each with one monomial y^e, appended
+-- ---- `each_beside` for a list of permutations appended to another
 
 pub beside_append : (k : ℤ) (e : List ℕ) (vs ws : List (List ℕ)) → each_beside k e (vs ++ ws) ≡ each_beside k e vs ++ each_beside k e ws
 beside_append k e [] ws = refl
 beside_append k e (v ∷ vs) ws = ap (λ (l : ShiftedSum). ((v, e), k) ∷ l) (beside_append k e vs ws)
 
--- ---- the product of a list and x_r - y_c
+-- ---- the product of a list of terms y^e·S_w and x_r - y_c
 
 module _ (r c : ℕ) (first : 1 ≤ r) (list : ShiftedSum) where
   pub over_product : (φ : List ℕ × List ℕ → ℤ) → over φ (replaced (factor_terms r c) list) ≡ over (over_factor r c φ) list
@@ -139,7 +140,8 @@ module _ (r c : ℕ) (first : 1 ≤ r) (list : ShiftedSum) where
       labels_gained label_laws same_pair old (replaced (factor_terms r c) list) new is gains (IsWithin (letters + 1) (degree + 1)) was
       (labels_replaced (factor_terms r c) (IsWithin (letters + 1) (degree + 1)) list (λ t m. labels_terms r c letters degree t.0 first last (within t m)))
 
-  -- if each label of the list is multiplied by Monk's rule, the result is the list's polynomial times x_r - y_c
+  -- if each label (w, e) of the list is replaced by the terms of (x_r - y_c)·y^e·S_w in Monk's rule, the polynomial of the result is that of the list
+  -- times x_r - y_c
   pub pair_product : (n : ℕ) (φ : List ℕ → ℤ) → IsShiftedTable list
       → over (over_factor r c (λ label. pair (shifted_in label n) φ)) list ≡ pair (times (difference_in r c n) (combined (λ label. shifted_in label n) list)) φ
   pair_product n φ is =

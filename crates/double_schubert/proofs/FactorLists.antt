@@ -1,10 +1,9 @@
--- The lists that a sum of double Schubert polynomials, with a polynomial in y at each permutation, gains by a product
--- with x_r - y_c (specs/ByPermutations).
---     difference_none, difference_both    what a polynomial in y gains by a product with y_a - y_c
---     each_next, each_all                 one list at each of some permutations, place by place
---     lists_value, all_value              the value of the lists of one term, and of all terms
---     lists_growth, all_growth            the sum of their absolute coefficients
---     lists_waiting, all_waiting          their bounds
+-- The entries that are added to a sum of terms f_w·S_w when (x_r - y_c)·f_w·S_w is computed (`factor_lists` of specs/ByPermutations).
+--     difference_none, difference_both    the product of a polynomial in y and y_a - y_c
+--     each_next, each_all                 the same polynomial in y added at each permutation of a list, one after another
+--     lists_value, all_value              the value of the entries for one term, and for all terms
+--     lists_growth, all_growth            the sum of the absolute values of the coefficients of these entries
+--     lists_waiting, all_waiting          the bounds on letters, inversions and degrees of these entries
 use Rattle.std.proofs.Common.{◌≡◌, ℕ, suc, ◌+◌, ◌-◌, ◌*◌, ◌^◌, ◌<◌, ◌≤◌, ◌==◌, max, List, [], ◌∷◌, ◌++◌, length, take, drop, get_or, refl, sym, ap, ap₂, ◌∙◌, subst, inl, inr, arith, append_assoc, append-nil, ℤ, pos, negsuc, ◌+ℤ◌, ◌-ℤ◌, ◌*ℤ◌, map, flat_map}
 use Rattle.std.specs.Prelude.{neg_ℤ}
 use Rattle.std.proofs.lemmas.Bool.{eqb-true}
@@ -15,11 +14,11 @@ use Rattle.sym_model.specs.Permutation.{IsOneLine, letter, times_swap, covers_up
 use Rattle.sym_model.specs.PlaceOrders.{inversions}
 use Rattle.sym_model.specs.Sum.{total, Among}
 use Rattle.sym_model.proofs.Integers.{product-neg_one}
-use Rattle.sym_model.proofs.Lists.{take-read, split-read, each-append}
+use Rattle.sym_model.proofs.Lists.{take-read, split-read}
 use Rattle.sym_model.proofs.NumberSums.{sum_by-append}
 use Rattle.sym_model.proofs.Polynomials.{pair_ext, pair_add, pair_total}
-use Rattle.sym_model.proofs.Ring.{ring, product-one}
-use Rattle.sym_model.proofs.Sums.{total_append, total_ext, total_among, Among_from_append, Among_from_select, Among_from_each}
+use Rattle.sym_model.proofs.Ring.{product-one, negation-product}
+use Rattle.sym_model.proofs.Sums.{total_append, total_ext, total_among, Among_from_append, Among_from_select, Among_from_each, total_neg}
 use Rattle.schubert_laws.proofs.Members.{cover_inversions}
 use Rattle.linear_combinations.specs.Gains.{over, mass, weighed, scaled, each_with, replaced, Gains}
 use Rattle.linear_combinations.proofs.Gains.{gains_both, replaced_over}
@@ -32,10 +31,11 @@ use Rattle.transition_walk.proofs.JoinedLists.{joins_both, overflows_both, each_
 use Rattle.double_schubert_laws.specs.Factors.{over_factor}
 use Rattle.double_schubert.specs.ByPermutations.{InY, at_pairs, one_each, plus_terms, minus_terms, difference_terms, factor_lists}
 use native.Mathlib.Nat.{mul-le-mul_left}
+use Rattle.std.proofs.lemmas.Grind.{flat_map-append}
 
--- ---- a polynomial in y
+-- ---- the product of a polynomial in y and y_a - y_c
 
--- the product with y_a - y_a is 0
+-- if a = c, adding k times the product of y^e and y_a - y_c, which is 0, leaves `sum` unchanged
 pub difference_none : (a c : ℕ) (e : List ℕ) (k : ℤ) (sum : InY) → a ≡ c → Gains sum (scaled k (difference_terms a c e)) sum
 difference_none a c e k sum same =
     subst (λ j. Gains sum (scaled k (difference_terms a j e)) sum) same
@@ -45,12 +45,9 @@ difference_none a c e k sum same =
           let q = product-neg_one k in
           let r = ap (λ z. z *ℤ φ (raised a e)) p in
           let s = ap (λ z. z *ℤ φ (raised a e)) q in
-          let n = negated k (φ (raised a e)) in
+          let n = negation-product k (φ (raised a e)) in
           omega (arith, ints);
     })
-  where
-    negated : (k x : ℤ) → neg_ℤ k *ℤ x ≡ neg_ℤ (k *ℤ x)
-    negated k x = simp ring
 
 pub difference_both : (a c : ℕ) (e more less : List ℕ) (k : ℤ) (sum mid new : InY) → more ≡ raised a e → less ≡ raised c e
     → Gains sum ((more, k) ∷ []) mid → Gains mid (each_with (neg_ℤ k) (less ∷ [])) new → Gains sum (scaled k (difference_terms a c e)) new
@@ -59,7 +56,7 @@ difference_both a c e more less k sum mid new m l first second =
     (ap₂ (λ x z. (x, z) ∷ (less, neg_ℤ k) ∷ []) m (sym (product-one k)) ∙ ap₂ (λ x z. (raised a e, k *ℤ pos 1) ∷ (x, z) ∷ []) l (sym (product-neg_one k)))
     (gains_both sum ((more, k) ∷ []) mid (each_with (neg_ℤ k) (less ∷ [])) new first second)
 
--- ---- one list at each of some permutations, place by place
+-- ---- the same polynomial in y added at each permutation of a list, one after another
 
 pub each_next : (list : InY) (xs : List (List ℕ)) (i : ℕ) (x : List ℕ) → i < length xs → x ≡ get_or xs i x
     → each_waits list (take i xs) ++ (record { perm = x; factor = list }) ∷ [] ≡ each_waits list (take (i + 1) xs)
@@ -72,7 +69,7 @@ each_all list xs i x inside is =
     ∙ sym (each_append list (take i xs) (x ∷ drop (suc i) xs))
     ∙ ap (each_waits list) (split-read xs i x inside is)
 
--- ---- the value of the lists
+-- ---- the value of the entries `factor_lists` for a term, and for all terms
 
 over_plus : (φ : List ℕ → ℤ) (f : InY) → over φ (replaced plus_terms f) ≡ over φ f
 over_plus φ f = replaced_over plus_terms φ f ∙ pair_ext f (λ e. pos 1 *ℤ φ e +ℤ pos 0) φ (λ e. omega (arith, ints))
@@ -109,12 +106,8 @@ lists_value r c φ term =
     let k =
     pair_ext f (λ e. total (λ x. φ (x, e)) up +ℤ (total (λ x. neg_ℤ (φ (x, e))) down +ℤ (φ (w, raised (letter w r) e) -ℤ φ (w, raised c e))))
     (λ e. over_factor r c φ (w, e))
-    (λ e. let n = negated (λ x. φ (x, e)) down in omega (arith, ints)) in
+    (λ e. let n = total_neg (λ x. φ (x, e)) down in omega (arith, ints)) in
     omega (arith, ints)
-  where
-    negated : (ψ : List ℕ → ℤ) (xs : List (List ℕ)) → total (λ x. neg_ℤ (ψ x)) xs ≡ neg_ℤ (total ψ xs)
-    negated ψ [] = refl
-    negated ψ (x ∷ xs) = let h = negated ψ xs in omega (arith, ints)
 
 pub all_value : (r c : ℕ) (φ : List ℕ × List ℕ → ℤ) (terms : List (WithList (List ℕ)))
     → value_of (at_pairs φ) (flat_map (factor_lists r c) terms) ≡ value_of (at_pairs (over_factor r c φ)) terms
@@ -123,7 +116,7 @@ all_value r c φ (term ∷ terms) =
     total_append (λ (x : WithList (List ℕ)). over (at_pairs φ x.perm) x.factor) (factor_lists r c term) (flat_map (factor_lists r c) terms)
     ∙ ap₂ (λ x y. x +ℤ y) (lists_value r c φ term) (all_value r c φ terms)
 
--- ---- the sum of the absolute coefficients
+-- ---- the sum of the absolute values of the coefficients of the entries `factor_lists`
 
 growth_each : (list : InY) (xs : List (List ℕ)) → growth one_each (each_waits list xs) ≡ mass list * length xs
 growth_each list [] = omega arith
@@ -185,19 +178,19 @@ all_growth r c n (term ∷ terms) first last few =
     ≡ weighed (one_each term.perm) term.factor * (n + 2) + growth one_each terms * (n + 2) = omega arith in
     omega arith
 
--- the sum of the absolute coefficients in the lists of the terms `done` and of one more term is at most that in the
--- lists of all terms
+-- let `all` be the terms `done`, one more term, and `rest`: the sum of the absolute values of the coefficients in `factor_lists` of `done` and of
+-- this term is at most that for `all`
 pub growth_part : (r c : ℕ) (done rest all : List (WithList (List ℕ))) (term : WithList (List ℕ)) → done ++ term ∷ rest ≡ all
     → growth one_each (flat_map (factor_lists r c) done ++ factor_lists r c term) ≤ growth one_each (flat_map (factor_lists r c) all)
 growth_part r c done rest all term is =
     let a = ap (λ (l : List (WithList (List ℕ))). growth one_each (flat_map (factor_lists r c) l)) is in
-    let b = ap (growth one_each) (each-append (factor_lists r c) done (term ∷ rest)) in
+    let b = ap (growth one_each) (flat_map-append (factor_lists r c) done (term ∷ rest)) in
     let d = sum_by-append (λ (x : WithList (List ℕ)). weighed (one_each x.perm) x.factor) (flat_map (factor_lists r c) done) (factor_lists r c term ++ flat_map (factor_lists r c) rest) in
     let e = sum_by-append (λ (x : WithList (List ℕ)). weighed (one_each x.perm) x.factor) (factor_lists r c term) (flat_map (factor_lists r c) rest) in
     let f = sum_by-append (λ (x : WithList (List ℕ)). weighed (one_each x.perm) x.factor) (flat_map (factor_lists r c) done) (factor_lists r c term) in
     omega arith
 
--- ---- the bounds of the lists
+-- ---- the bounds on letters, inversions and degrees of the entries `factor_lists`
 
 cover_up_inversions : (r : ℕ) (w x : List ℕ) → Among x (covers_up r w) → inversions x ≡ inversions w + 1
 cover_up_inversions r w x m =
@@ -260,7 +253,7 @@ all_waiting r c n top terms first last are x m =
     let f = Among_from_each (factor_lists r c) x terms m in
     lists_waiting r c n top f.0 first last (are f.0 f.1) x f.2
 
--- ---- the lists of one term, and those of all terms, added
+-- ---- the entries `factor_lists` of one term, and of all terms, added to a sum
 
 pub lists_as : (r c letter_is : ℕ) (term : WithList (List ℕ)) (up down : List (List ℕ)) → up ≡ covers_up r term.perm → down ≡ covers_down r term.perm → letter_is ≡ letter term.perm r
     → each_waits (replaced plus_terms term.factor) up
@@ -274,13 +267,13 @@ lists_as r c letter_is term up down u d l =
     ∙ ap (λ (a : ℕ). each_waits (replaced plus_terms term.factor) (covers_up r term.perm)
     ++ (each_waits (replaced minus_terms term.factor) (covers_down r term.perm) ++ (record { perm = term.perm; factor = replaced (difference_terms a c) term.factor }) ∷ [])) l
 
--- if the lists of one more term are added to those of the terms `done`, the result is the sum of the lists of `done`
--- and this term
+-- if `cur` is the sum of the entries `factor_lists` of the terms `done`, and those of one more term are added to it, the result is the sum of the
+-- entries of `done` and this term
 module _ (r c : ℕ) (done : List (WithList (List ℕ))) (term : WithList (List ℕ)) (cur : List (WithList (List ℕ))) (so_far : Joins [] (flat_map (factor_lists r c) done) cur) where
   pub term_joins : (new : List (WithList (List ℕ))) → Joins cur (factor_lists r c term) new → Joins [] (flat_map (factor_lists r c) (done ++ term ∷ [])) new
   term_joins new more =
       subst (λ l. Joins [] l new)
-      (ap (λ l. flat_map (factor_lists r c) done ++ l) (sym (append-nil (factor_lists r c term))) ∙ sym (each-append (factor_lists r c) done (term ∷ [])))
+      (ap (λ l. flat_map (factor_lists r c) done ++ l) (sym (append-nil (factor_lists r c term))) ∙ sym (flat_map-append (factor_lists r c) done (term ∷ [])))
       (joins_both [] (flat_map (factor_lists r c) done) cur (factor_lists r c term) new so_far more)
 
   pub term_overflows : (rest all : List (WithList (List ℕ))) (n top : ℕ) → done ++ term ∷ rest ≡ all → 1 ≤ r → r ≤ n → AreWaiting size n top all
@@ -292,7 +285,7 @@ module _ (r c : ℕ) (done : List (WithList (List ℕ))) (term : WithList (List 
       let d = all_growth r c n all first last (λ x m. (are x m).few) in
       omega arith
 
--- the value and the bounds after the lists of all terms are added
+-- the value and the bounds of `new`, the sum of the entries `factor_lists` of all terms
 module _ (r c : ℕ) (terms new : List (WithList (List ℕ))) (all : Joins [] (flat_map (factor_lists r c) terms) new) where
   pub whole_value : (φ ψ : List ℕ × List ℕ → ℤ) → ((x : WithList (List ℕ)) → Among x terms → IsOneLine x.perm)
       → ((label : List ℕ × List ℕ) → IsOneLine label.0 → ψ label ≡ over_factor r c φ label)

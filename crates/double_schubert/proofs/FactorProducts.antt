@@ -1,4 +1,5 @@
--- The product of factors x_r - y_c with a double Schubert polynomial: its start, one factor, and its end.
+-- The product of factors x_r - y_c and a double Schubert polynomial, one factor after another: before the first factor, after one more factor, and
+-- after the last.
 use Rattle.std.proofs.Common.{◌≡◌, ℕ, suc, ◌+◌, ◌*◌, ◌^◌, ◌<◌, ◌≤◌, Bool, List, [], ◌∷◌, ◌++◌, length, length-append, refl, sym, ap, ap₂, ◌∙◌, subst, inl, inr, arith, ℤ, pos, ◌+ℤ◌, ◌*ℤ◌, replicate}
 use Rattle.std.specs.Prelude.{nat_abs}
 use Rattle.std.specs.Cmp.Lexicographic.{pointwise, nat_list_eq_equiv}
@@ -30,7 +31,7 @@ use Rattle.double_schubert.specs.LinearFactors.{AreWithin, product_in}
 use Rattle.double_schubert.proofs.LinearProducts.{trailing}
 use native.Mathlib.Nat.{mul-le-mul_left, pow-suc}
 
--- ---- the sum of one double Schubert polynomial
+-- ---- the sum whose only term is the double Schubert polynomial of `perm`
 
 module _ (perm copy zeros : List ℕ) (one : ℤ) (nothing factor : InY) (before items : List (WithList (List ℕ))) (same : copy ≡ perm) (empty : nothing ≡ [])
     (gains : Gains nothing ((zeros, one) ∷ []) factor) (is : one ≡ pos 1) (none : before ≡ []) (pushed : items ≡ before ++ (record { perm = copy; factor = factor }) ∷ []) where
@@ -72,9 +73,10 @@ module _ (perm copy zeros : List ℕ) (one : ℤ) (nothing factor : InY) (before
       | inr k ↦ absurd k
     ]
 
--- ---- bounds after one factor x_r - y_c more
+-- ---- bounds on letters, degrees and coefficients after one more factor x_r - y_c
 
--- if inv ≤ 28 and k < 24, the bounds on letters and degrees after k factors leave room for the next factor
+-- if inv ≤ 28 and k < 24, terms with at most 8 + k letters and degrees of at most 8 + inv + 2k have room for the next factor: at most 31 letters, and
+-- degrees of at most 254
 pub room : (k inv : ℕ) (items : List (WithList (List ℕ))) → k < 24 → inv ≤ 28 → AreWaiting size (8 + k) (8 + inv + (k + k)) items → AreWaiting size 31 254 items
 room k inv items few small are x m =
     let w = are x m in
@@ -82,7 +84,7 @@ room k inv items few small are x m =
     let i = w.inside in
     record { few = omega arith; inside = omega arith; labels = λ t j. let l = w.labels t j in omega arith }
 
--- the bounds on letters and degrees after n = k + 1 factors, from those after k factors and one more
+-- the bounds after k factors and one more, written for n = k + 1 factors
 pub next_bounds : (m k inv n : ℕ) (items : List (WithList (List ℕ))) → n ≡ k + 1 → AreWaiting size (m + k + 1) (m + inv + (k + k) + 2) items → AreWaiting size (m + n) (m + inv + (n + n)) items
 next_bounds m k inv n items e are x i =
     let w = are x i in
@@ -132,7 +134,7 @@ within_more few most factors le h f m =
     let b = w.last_column in
     record { first = w.first; last = omega arith; column = w.column; last_column = omega arith }
 
--- ---- the loop over the factors
+-- ---- the loop over the factors: bounds before the first one, the factors visited so far, and the value after the last one
 
 pub first_bounds : (m inv : ℕ) (items : List (WithList (List ℕ))) → AreWaiting size m (m + inv) items → AreWaiting size (m + 0) (m + inv + (0 + 0)) items
 first_bounds m inv items are x i =
@@ -155,9 +157,6 @@ counted done rest left all f e h =
     let d = ap (λ (l : List (ℕ × ℕ)). length l) h in
     omega arith
 
-pub one_more : (done : List (ℕ × ℕ)) (f : ℕ × ℕ) → length (done ++ f ∷ []) ≡ length done + 1
-one_more done f = length-append done (f ∷ [])
-
 one_value : (n : ℕ) (φ : List ℕ → ℤ) (label : List ℕ × List ℕ) → pair (times (one (n + n)) (shifted_in label n)) φ ≡ pair (shifted_in label n) φ
 one_value n φ label =
     let s = shifted_in label n in
@@ -174,7 +173,7 @@ last_value n φ items =
     (λ x. pair_ext x.factor (at_pairs (λ label. pair (shifted_in label n) φ) x.perm) (at_pairs (λ label. pair (times (product_in n []) (shifted_in label n)) φ) x.perm)
     (λ e. sym (one_value n φ (x.perm, e)))) items
 
--- ---- the terms that are written
+-- ---- the list of the written terms, after the terms of one more permutation are appended
 
 pub written_next : (φ : List ℕ × List ℕ → ℤ) (old new : ShiftedSum) (done : List (WithList (List ℕ))) (term : WithList (List ℕ))
     → over φ old ≡ value_of (at_general φ) done → over φ new ≡ over φ old +ℤ over (at_general φ term.perm) term.factor

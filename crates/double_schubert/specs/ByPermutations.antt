@@ -1,5 +1,5 @@
--- Sums of double Schubert polynomials with a polynomial in y at each permutation: lists of permutations, each with a
--- list of monomials with 32 exponents and integer coefficients.
+-- Sums of terms f_w·S_w, with S_w a double Schubert polynomial and f_w a polynomial in y: lists of permutations w,
+-- each with f_w, a list of monomials with 32 exponents and integer coefficients.
 use Rattle.std.specs.Prelude.{ℕ, ◌≤◌, ◌<◌, ℤ, pos, negsuc, List, [], ◌∷◌, ◌++◌}
 use Rattle.sym_model.specs.DividedDifference.{raised}
 use Rattle.sym_model.specs.Partition.{size, without_last_zeros}
@@ -7,23 +7,25 @@ use Rattle.sym_model.specs.Permutation.{letter, covers_up, covers_down}
 use Rattle.linear_combinations.specs.Gains.{WholeTermsOf, replaced}
 use Rattle.transition_walk.specs.Waiting.{WithList, each_waits}
 
--- a polynomial in y, by the exponents of its monomials
+-- a polynomial in y: a list of terms, each with the exponents of its monomial and an integer coefficient
 abbrev pub InY : Type 0
 InY = WholeTermsOf (List ℕ)
 
--- a test function on pairs of a permutation and a monomial, as a function of two arguments
+-- a function φ of pairs (w, e) of a permutation and a monomial, as a function of the two arguments w and e
 abbrev pub at_pairs : (List ℕ × List ℕ → ℤ) → List ℕ → List ℕ → ℤ
 at_pairs φ w e = φ (w, e)
 
--- a test function on pairs, as a function of a permutation and a monomial whose last zeros are dropped
+-- `at_general φ w e`: the value of φ at the pair (w, e'), with e' the list e without the zeros at its end
 abbrev pub at_general : (List ℕ × List ℕ → ℤ) → List ℕ → List ℕ → ℤ
 at_general φ w e = φ (w, without_last_zeros e)
 
--- the weight 1 of each monomial at each permutation
+-- the function of a permutation and a monomial that is always 1; with it, `growth` is the sum of the absolute values
+-- of all coefficients
 abbrev pub one_each : List ℕ → List ℕ → ℕ
 one_each w e = 1
 
--- the products of y^e with 1, -1 and y_a - y_c
+-- the product of y^e with 1 (`plus_terms`), with -1 (`minus_terms`) and with y_a - y_c (`difference_terms`), each as
+-- a list of terms
 abbrev pub plus_terms : List ℕ → InY
 plus_terms e = (e, pos 1) ∷ []
 

@@ -1,5 +1,5 @@
--- Lemmas that the implementations of `Factor` and `Rule` by `TimesFactor` cite: a product under the transition rule,
--- and the terms of its factor.
+-- Lemmas for the implementations of the traits `Factor` and `Rule` by `TimesFactor`: the transition rule for a
+-- product of double Schubert polynomials, and the terms of (x_r - y_c)·y^e·S_w.
 use Rattle.std.proofs.Common.{◌≡◌, ℕ, ◌+◌, ◌≤◌, max, true, List, [], ◌∷◌, ◌++◌, length, refl, sym}
 use Rattle.std.proofs.Common.{ap, ◌∙◌, subst, inl, inr, arith, ℤ, pos, negsuc, ◌+ℤ◌, ◌*ℤ◌}
 use Rattle.std.specs.Prelude.{nat_abs}
@@ -13,7 +13,7 @@ use Rattle.sym_model.specs.Permutation.{IsOneLine, IsTransition, letter, times_s
 use Rattle.sym_model.specs.Permutation.{covers_down}
 use Rattle.sym_model.specs.Polynomial.{pair}
 use Rattle.sym_model.specs.Sum.{Among, total}
-use Rattle.sym_model.proofs.Ring.{ring}
+use Rattle.sym_model.proofs.Ring.{distributes_left}
 use Rattle.schubert_laws.proofs.Members.{place_within}
 use Rattle.schubert_laws.proofs.Ranks.{letter_counts}
 use Rattle.double_schubert_laws.specs.Factors.{over_factor, acted}
@@ -36,10 +36,7 @@ over_beside : (k : ℤ) (φ : List ℕ × List ℕ → ℤ) (e : List ℕ) (vs :
 over_beside k φ e [] = sym (*ℤ-zero k)
 over_beside k φ e (v ∷ vs) =
     ap (λ z. k *ℤ φ (v, e) +ℤ z) (over_beside k φ e vs)
-    ∙ factor k (φ (v, e)) (total (λ (v : List ℕ). φ (v, e)) vs)
-  where
-    factor : (c a d : ℤ) → c *ℤ a +ℤ c *ℤ d ≡ c *ℤ (a +ℤ d)
-    factor c a d = simp ring
+    ∙ sym (distributes_left k (φ (v, e)) (total (λ (v : List ℕ). φ (v, e)) vs))
 
 mass_beside : (k : ℤ) (e : List ℕ) (vs : List (List ℕ)) → nat_abs k ≡ 1
     → mass (each_beside k e vs) ≡ length vs
@@ -88,8 +85,8 @@ mass_terms r c label h =
     let n = count_covers r label.0 h in
     omega arith
 
--- for a label (w, e) of at most `letters` letters and of at most the degree `degree`, and r from 1 to `letters`, the
--- terms of its product with x_r - y_c have at most one letter and one degree more
+-- if w has at most `letters` letters and y^e a degree of at most `degree`, and r is from 1 to `letters`, then in each
+-- term y^f·S_v of (x_r - y_c)·y^e·S_w, v has at most `letters` + 1 letters and y^f a degree of at most `degree` + 1
 pub labels_terms : (r c letters degree : ℕ) (label : List ℕ × List ℕ) → 1 ≤ r → r ≤ letters
     → IsWithin letters degree label
     → HaveLabels (IsWithin (letters + 1) (degree + 1)) (factor_terms r c label)

@@ -1,4 +1,4 @@
--- The definitions that the contracts cite.
+-- The modules of definitions that the contracts of `double_schubert` refer to.
 pub mod Shifts
 pub mod FactorLaws
 pub mod ShortMonomials

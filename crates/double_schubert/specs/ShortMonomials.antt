@@ -1,4 +1,5 @@
--- The order of monomials with the same number of exponents.
+-- The decreasing lexicographic order of lists of exponents, as the order of monomials of the same number of
+-- exponents.
 use Rattle.std.proofs.Common.{◌≡◌, ℕ, true, List, sym}
 use Rattle.std.specs.Prelude.{IsTrue}
 use Rattle.std.specs.Cmp.{IsTotalOrder, back_total}
@@ -11,7 +12,7 @@ use Rattle.std.proofs.Common.{◌∙◌, ap}
 use Rattle.std.proofs.lemmas.Map.Text.{is_eq-slice_cmp}
 use Rattle.std.proofs.lemmas.Slice.Eq.{bytes_eq-Decides}
 
--- decreasing lexicographic order
+-- the decreasing lexicographic order of lists of exponents: a lexicographically greater list comes first
 abbrev pub falling_order : List ℕ → List ℕ → Ordering
 falling_order e f = slice_cmp nat_cmp f e
 

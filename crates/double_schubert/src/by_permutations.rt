@@ -1,5 +1,5 @@
-//! Sums of double Schubert polynomials with a polynomial in y at each permutation, and their
-//! products with x_r - y_c.
+//! Sums of terms f_w·S_w, with S_w a double Schubert polynomial and f_w a polynomial in y, stored
+//! as one polynomial in y for each permutation w; and the products of such sums with x_r - y_c.
 ghost use Rattle.std.specs.Prelude.{ℕ, ◌+◌, ◌*◌, ◌^◌, ◌<◌, ◌≤◌, max, [], ◌∷◌, ◌++◌, List, length};
 ghost use Rattle.std.specs.Prelude.{IfOk, OnOk, IsErrOf, ℤ, ◌≡◌};
 ghost use Rattle.sym_model.specs.Permutation.{IsOneLine, covers_down, covers_up};
@@ -21,19 +21,19 @@ use transition_walk::{Waiting, add_waiting_by};
 /// A polynomial in y with integer coefficients.
 pub(crate) type InY = Lin<ShortMonomial, Int>;
 
-/// A sum of double Schubert polynomials: permutations, each with the polynomial in y by which its
-/// double Schubert polynomial is multiplied.
+/// A sum of terms f_w·S_w, with S_w the double Schubert polynomial of w: a list of different
+/// permutations w, each with its polynomial f_w in y.
 pub(crate) type ByPermutations = Vec<Waiting<InY>>;
 
-/// The rule that multiplies by 1.
+/// The rule that multiplies a polynomial in y by 1.
 #[derive(Drop)]
 struct Plus;
 
-/// The rule that multiplies by -1.
+/// The rule that multiplies a polynomial in y by -1.
 #[derive(Drop)]
 struct Minus;
 
-/// The rule that multiplies by y_a - y_c.
+/// The rule that multiplies a polynomial in y by y_a - y_c.
 #[derive(Drop)]
 struct Difference {
     a: u16,
@@ -84,7 +84,8 @@ impl Rule<ShortMonomial, ShortMonomial> for Difference {
     }
 }
 
-/// Adds the image of a polynomial under a rule at each of some permutations.
+/// For each permutation of `perms`, adds the image of `poly` under `rule` to the polynomial in y
+/// that `sum` has for this permutation.
 fn add_at_each<T: Rule<ShortMonomial, ShortMonomial>>(
     alloc: Global,
     sum: &mut ByPermutations,
@@ -104,8 +105,8 @@ fn add_at_each<T: Rule<ShortMonomial, ShortMonomial>>(
     Ok(())
 }
 
-/// Adds the product of x_r - y_c and a double Schubert polynomial that is multiplied by a
-/// polynomial in y, by Monk's rule.
+/// Adds to `sum` the product of x_r - y_c and f·S_w, by Monk's rule; w is the permutation of `term`
+/// and f its polynomial in y.
 fn add_product(
     alloc: Global,
     sum: &mut ByPermutations,
@@ -135,7 +136,7 @@ fn add_product(
     add_waiting_by(alloc, sum, perm, &factor, &difference)
 }
 
-/// The product of a sum of double Schubert polynomials and x_r - y_c.
+/// The product of x_r - y_c and a sum of terms f_w·S_w.
 pub(crate) fn times_factor(
     alloc: Global,
     sum: ByPermutations,

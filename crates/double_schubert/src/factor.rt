@@ -1,4 +1,5 @@
-//! Lists of terms y^e·S_w, and their products with x_r - y_c.
+//! Lists of terms y^e·S_w, with S_w a double Schubert polynomial, and the products of such lists
+//! with x_r - y_c.
 ghost use Rattle.std.specs.Prelude.{ℕ, ◌+◌, ◌*◌, ◌^◌, ◌≤◌, max, [], ◌∷◌, length, IfOk, OnOk};
 ghost use Rattle.std.specs.Prelude.{IsErrOf};
 ghost use Rattle.sym_model.specs.DoubleSchubert.{difference_in, shifted_in};
@@ -17,7 +18,7 @@ use sparse_polys::{Monomial, Shifted};
 use std::alloc::Global;
 use transition_walk::Factor;
 
-/// A list of terms y^e·S_w with integer coefficients.
+/// A list of terms y^e·S_w with integer coefficients; S_w is a double Schubert polynomial.
 pub(crate) type Shifts = Lin<Shifted, Int>;
 
 /// The rule that multiplies by x_r - y_c: by Monk's rule, (x_r - y_c)·y^e·S_w is the sum of the
@@ -49,7 +50,7 @@ impl Rule<Shifted, Shifted> for TimesFactor {
     }
 }
 
-/// Adds `k` to the coefficient at the label of the permutation `perm` and the monomial `y`.
+/// Adds `k` to the coefficient of the term y^e·S_w in `sum`, for w = `perm` and y^e = `y`.
 fn add_one(sum: &mut Shifts, perm: &Perm, y: Monomial, k: Int) -> Result<(), SumFault>
     ensures gains { OnOk result (Gains sum.old (((perm.now, y), k) ∷ []) sum.new) }
     ensures large { IsErrOf result SumFault.Large
@@ -59,7 +60,8 @@ fn add_one(sum: &mut Shifts, perm: &Perm, y: Monomial, k: Int) -> Result<(), Sum
     sum.add_owned(Shifted { perm, y }, k)
 }
 
-/// Adds `k` to the coefficient at the label of each permutation and the monomial `y`.
+/// Adds `k` to the coefficient of the term y^e·S_w in `sum`, for each permutation w of `perms` and
+/// for y^e = `y`.
 fn add_beside(sum: &mut Shifts, perms: &[Perm], y: &Monomial, k: Int) -> Result<(), SumFault>
     ensures gains { OnOk result (Gains sum.old (each_beside k y.now perms.now) sum.new) }
     ensures large { IsErrOf result SumFault.Large
@@ -105,14 +107,14 @@ impl Factor<Shifted> for TimesFactor {
     ghost grows = { factor_grows };
 }
 
-/// The product of a sum of terms y^e·S_w and x_r - y_c, by Monk's rule and x_r·S_w = (x_r -
+/// The sum `list` of terms y^e·S_w is multiplied by x_r - y_c, by Monk's rule and x_r·S_w = (x_r -
 /// y_w(r))·S_w + y_w(r)·S_w (Lascoux and Schützenberger). The places r and c are from 1 to 254,
-/// each permutation has at most 254 letters, and each monomial in y a degree below 32,385.
+/// each permutation has at most 254 letters, and each monomial in y has a degree below 32,385.
 ///
-/// With m the greater of r and the greatest number of letters of a permutation, the weight of the
-/// product is at most that of the list times m + 2. The weight of a list is the sum of the absolute
-/// values of its coefficients, or 1 for the empty list. Returns `Large` only if that bound is 2^127
-/// or more.
+/// The weight of a list is the sum of the absolute values of its coefficients, or 1 for the empty
+/// list. The weight of the product is at most the weight of `list` times m + 2, with m the greater
+/// of r and the greatest number of letters of a permutation. Returns `Large` only if that bound is
+/// 2^127 or more.
 pub fn times_factor(
     alloc: Global,
     list: Lin<Shifted, Int>,

@@ -13,9 +13,10 @@ use perm_codes::Perm;
 use std::alloc::Global;
 use transition_walk::transition_places;
 
-/// The factors x_r - y_c whose product is the double Schubert polynomial of a permutation, as the
-/// pairs of r and c, if at no step the transition rule has terms beside the one with a factor (for
-/// example if the code is weakly decreasing); otherwise None.
+/// The pairs (r, c) of factors x_r - y_c whose product is the double Schubert polynomial of `w`.
+/// Each step of the transition rule from `w` to the identity writes S_u as (x_r - y_c)·S_v plus a
+/// sum over covers; the pairs are found if all of these sums are empty (for example if the code of
+/// `w` is weakly decreasing). Otherwise None.
 pub(crate) fn linear_factors(alloc: Global, w: &Perm) -> Result<Option<Vec<(u16, u16)>>, NoMemory>
     ensures value { IfOk result (λ found. IfSome found (λ factors. (n : ℕ)
         → Same (double_schubert_in w.now n) (product_in n factors.items))) }
@@ -36,8 +37,8 @@ pub(crate) fn linear_factors(alloc: Global, w: &Perm) -> Result<Option<Vec<(u16,
     Ok(Some(factors))
 }
 
-/// The permutation v = w·t_rs of the transition rule, if the rule has no other terms, that is, if v
-/// has no cover v·t_ir with i < r. Otherwise None.
+/// The permutation v = w·t_rs, if v has no cover v·t_ir with i < r; then S_w is S_v times a factor
+/// x_r - y_c, by the transition rule. Otherwise None.
 fn only_lower(w: &Perm, r: u16, s: u16) -> Result<Option<Perm>, NoMemory>
     requires places { IsTransition w.now r s }
     requires short { IsShort 255 w.now }

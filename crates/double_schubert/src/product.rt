@@ -28,8 +28,9 @@ use sparse_polys::{Monomial, Shifted};
 use std::alloc::Global;
 use transition_walk::{Waiting, product_of};
 
-/// The greatest number of factors x_r - y_c: with permutations of at most 8 letters, no variable of
-/// their product with a double Schubert polynomial comes after y_32.
+/// The greatest number of factors x_r - y_c for `act_by_factors`. If r and c are at most 8, and w
+/// has at most 8 letters, the product of 24 such factors and S_w is a sum of terms f_v·S_v with
+/// polynomials f_v in y_1, .., y_32.
 const MOST_FACTORS: u16 = 24;
 
 /// The product of the double Schubert polynomials of two permutations of at most 8 letters, as a
@@ -52,8 +53,8 @@ pub fn dschubmult(alloc: Global, u: &Perm, v: &Perm) -> Result<Terms<Shifted, In
     }
 }
 
-/// The product of the double Schubert polynomials of `w` and `other`, computed by factors x_r - y_c
-/// if that of `w` is a product of such factors, and otherwise by the transition rule on `w`.
+/// The product of the double Schubert polynomials of `w` and `other`, computed by `act_by_factors`
+/// if that returns it, and otherwise by the transition rule on `w`.
 fn act(alloc: Global, w: &Perm, other: &Perm) -> Result<Terms<Shifted, Int>, SumFault>
     requires first { length w.now ≤ 8 }
     requires second { length other.now ≤ 8 }
@@ -70,8 +71,8 @@ fn act(alloc: Global, w: &Perm, other: &Perm) -> Result<Terms<Shifted, Int>, Sum
     }
 }
 
-/// The product of the double Schubert polynomials of `w` and `other`, by the transition rule on `w`
-/// with that of `other` as its label.
+/// The product of the double Schubert polynomials of `w` and `other`, by the transition rule on
+/// `w`.
 fn act_by_transitions(
     alloc: Global,
     w: &Perm,
@@ -93,8 +94,10 @@ fn act_by_transitions(
     Ok(sum.sorted_terms()?)
 }
 
-/// The product of the double Schubert polynomials of `w` and `other`, computed factor by factor if
-/// that of `w` is a product of at most 24 factors x_r - y_c; otherwise None.
+/// The product of the double Schubert polynomials of `w` and `other`: if that of `w` is found to be
+/// a product of at most 24 factors x_r - y_c, that of `other` is multiplied by one factor after
+/// another. Returns None if no such factors are found, or if the resulting terms fail the test for
+/// the printed order.
 fn act_by_factors(
     alloc: Global,
     w: &Perm,
@@ -119,7 +122,8 @@ fn act_by_factors(
     Ok(terms_of(alloc, sum)?)
 }
 
-/// The product of factors x_r - y_c and a double Schubert polynomial.
+/// The product of the factors x_r - y_c, given by the pairs (r, c), and the double Schubert
+/// polynomial of `perm`.
 fn times_factors(
     alloc: Global,
     factors: Vec<(u16, u16)>,
@@ -161,8 +165,9 @@ fn single(alloc: Global, perm: &Perm) -> Result<ByPermutations, SumFault>
     Ok(sum)
 }
 
-/// The terms y^e·S_w of a sum in the printed order of their labels. The sum is sorted for this, and
-/// the order is tested: None if it is not the printed one.
+/// The terms y^e·S_w of a sum in the printed order of their labels (w, e). The permutations of the
+/// sum are sorted for this, and the order of the terms is tested: None if it is not the printed
+/// order.
 fn terms_of(alloc: Global, sum: ByPermutations) -> Result<Option<Terms<Shifted, Int>>, NoMemory>
     ensures { IfOk result (λ found. IfSome found (λ terms. (φ : List ℕ × List ℕ → ℤ)
         → over φ terms ≡ value_of (at_general φ) sum.items)) }
@@ -176,7 +181,8 @@ fn terms_of(alloc: Global, sum: ByPermutations) -> Result<Option<Terms<Shifted, 
     Ok(Terms::from_pairs(pairs))
 }
 
-/// Appends the terms of a double Schubert polynomial that is multiplied by a polynomial in y.
+/// Appends to `pairs` the terms k·y^e·S_w of f·S_w, with w the permutation of `term` and f its
+/// polynomial in y.
 fn write_out(
     alloc: Global,
     pairs: &mut Vec<(Shifted, Int)>,

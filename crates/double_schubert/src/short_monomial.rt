@@ -1,4 +1,4 @@
-//! Monomials in 32 variables with small exponents, which are copied, compared and hashed as a whole.
+//! Monomials in 32 variables with small exponents, copied, compared and hashed as a whole.
 ghost use Rattle.std.specs.Prelude.{◌≡◌, ◌<◌, ◌≤◌, [], ◌∷◌, length, nat_eq, replicate, true, IfOk};
 ghost use Rattle.std.specs.Cmp.{partial_equiv_from_equiv};
 ghost use Rattle.std.specs.Cmp.Lexicographic.{pointwise, nat_list_eq_equiv};
@@ -18,8 +18,8 @@ use std::marker::Model;
 /// The number of variables of a short monomial.
 pub(crate) const VARIABLES: usize = 32;
 
-/// A monomial in 32 variables with exponents of at most 255. It allocates no memory. A contract
-/// sees its 32 exponents.
+/// A monomial in 32 variables with exponents of at most 255. It allocates no memory. In contracts,
+/// its value is the list of its 32 exponents.
 #[derive(Drop)]
 pub(crate) struct ShortMonomial {
     exponents: [u8; VARIABLES],
@@ -45,7 +45,8 @@ impl ShortMonomial {
         }
     }
 
-    /// The product with the variable y_i, for i from 1 to 32 and a degree of at most 254.
+    /// The product of this monomial and the variable y_i. The index i is from 1 to 32, and the
+    /// monomial has a degree of at most 254.
     pub fn times_var(&self, i: u16) -> ShortMonomial
         requires first { 1 ≤ i }
         requires last { i ≤ 32 }
@@ -57,7 +58,7 @@ impl ShortMonomial {
         ShortMonomial { exponents }
     }
 
-    /// The same monomial in the general type. Fails only if memory runs out.
+    /// This monomial in the type `Monomial`. Fails only if memory runs out.
     pub fn monomial(&self, alloc: Global) -> Result<Monomial, NoMemory>
         ensures { IfOk result (λ m. m ≡ without_last_zeros self.now) }
     {

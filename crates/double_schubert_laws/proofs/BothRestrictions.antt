@@ -1,14 +1,13 @@
--- Double Schubert polynomials in n variables of each kind: they do not depend on the number m of variables from which they
--- are restricted, and restriction to fewer variables is compatible with products and sums.
-use Rattle.std.proofs.Common.{◌≡◌, ℕ, zero, suc, ◌+◌, ◌<◌, ◌≤◌, List, [], ◌∷◌, ◌++◌, ◌==◌, ◌&&◌, take, drop, length, replicate, refl, sym, ◌∙◌, ap, ap₂, subst, arith, inl, inr, ◌⊎◌, cond, Bool, true, false, None, ℤ, pos, ◌-ℤ◌, ◌*ℤ◌, filter}
+-- Double Schubert polynomials in n variables x and n variables y: they do not depend on the number m of variables from which they are restricted, and
+-- restriction to fewer variables is compatible with products and sums.
+use Rattle.std.proofs.Common.{◌≡◌, ℕ, zero, suc, ◌+◌, ◌<◌, ◌≤◌, List, [], ◌∷◌, ◌++◌, ◌&&◌, take, drop, length, replicate, refl, sym, ◌∙◌, ap, ap₂, subst, arith, inl, inr, ◌⊎◌, cond, Bool, true, false, None, ℤ, pos, ◌-ℤ◌, ◌*ℤ◌, filter}
 use Rattle.std.proofs.lemmas.List.{replicate-append-replicate, length-replicate}
-use lib.IntN.{*ℤ-zero}
-use Rattle.sym_model.specs.Polynomial.{Term, Poly, Same, In, times, pair, join, resize, all_zero, fits_in}
+use Rattle.sym_model.specs.Polynomial.{Term, Poly, Same, In, times, pair, join, resize, fits_in}
 use Rattle.sym_model.specs.Alternant.{staircase}
 use Rattle.sym_model.specs.BetaList.{rising_pairs}
 use Rattle.sym_model.specs.Permutation.{first_ascent}
 use Rattle.sym_model.proofs.Sums.{total_ext, total_map, total_select}
-use Rattle.sym_model.proofs.Exponents.{fits_in_zeros, fits_in-join, resize-join, length-resize, and_exchange}
+use Rattle.sym_model.proofs.Exponents.{fits_in-join, resize-join, length-resize, and_exchange}
 use Rattle.sym_model.proofs.Polynomials.{pair_ext, pair_in, pair_zero, pair_times, same_from_pair, Same_trans}
 use Rattle.schubert_laws.proofs.Differences.{along}
 use Rattle.schubert_laws.proofs.Exchanges.{exchange_at, raise, length-raise, Rises, IsFirstAscent, first_ascent_cases, rises_within, rising_pairs_exchange, length-exchange_at}
@@ -16,8 +15,10 @@ use Rattle.schubert_laws.proofs.Paths.{over_top}
 use Rattle.sym_model.specs.DoubleSchubert.{difference_product, double_schubert, restrict_both, double_schubert_in}
 use Rattle.double_schubert_laws.proofs.DiagramProducts.{less, row, diagram}
 use Rattle.double_schubert_laws.proofs.DoubleDominant.{pair_double_ascent, pair_difference_product, In_double}
+use Rattle.sym_model.proofs.Integers.{times_chosen}
+use Rattle.schubert_laws.proofs.FixedLetters.{resize_added, fits_in_added}
 
--- ---- the test function after restriction to fewer variables
+-- ---- the sum of c·φ(α) over the terms c·x^α of a polynomial restricted to n variables x and n variables y
 
 abbrev pub both : ℕ → ℕ → (List ℕ → ℤ) → List ℕ → ℤ
 both m n φ α = cond (fits_in n (take m α) && fits_in n (drop m α)) (φ (resize n (take m α) ++ resize n (drop m α))) (pos 0)
@@ -27,13 +28,9 @@ pair_restrict_both m n f φ =
     total_map (λ (t : Term). t.1 *ℤ φ t.0) (λ (t : Term). (resize n (take m t.0) ++ resize n (drop m t.0), t.1)) (filter (λ (t : Term). fits_in n (take m t.0) && fits_in n (drop m t.0)) f)
     ∙ total_select (λ (t : Term). t.1 *ℤ φ (resize n (take m t.0) ++ resize n (drop m t.0))) (λ (t : Term). fits_in n (take m t.0) && fits_in n (drop m t.0)) f
     ∙ total_ext (λ (t : Term). cond (fits_in n (take m t.0) && fits_in n (drop m t.0)) (t.1 *ℤ φ (resize n (take m t.0) ++ resize n (drop m t.0))) (pos 0)) (λ (t : Term). t.1 *ℤ both m n φ t.0)
-    (λ t. inside (fits_in n (take m t.0) && fits_in n (drop m t.0)) t.1 (φ (resize n (take m t.0) ++ resize n (drop m t.0)))) f
-  where
-    inside : (b : Bool) (c x : ℤ) → cond b (c *ℤ x) (pos 0) ≡ c *ℤ cond b x (pos 0)
-    inside true c x = refl
-    inside false c x = sym (*ℤ-zero c)
+    (λ t. times_chosen (fits_in n (take m t.0) && fits_in n (drop m t.0)) t.1 (φ (resize n (take m t.0) ++ resize n (drop m t.0)))) f
 
--- ---- one more variable x and one more variable y
+-- ---- exponents with one more variable x and one more variable y, both with the exponent 0
 
 abbrev wide : ℕ → List ℕ → List ℕ
 wide zero α = 0 ∷ (α ++ (0 ∷ []))
@@ -86,7 +83,7 @@ along_wide zero (suc (suc m)) φ (a ∷ []) h l = absurd (omega arith)
 along_wide zero (suc (suc m)) φ (a ∷ b ∷ α) h l = refl
 along_wide (suc k) (suc m) φ (a ∷ α) h l = along_wide k m (λ β. φ (a ∷ β)) α (omega arith) (omega arith)
 
--- operators of rows and diagrams, on test functions that agree at lists of n places
+-- ---- the operators `row` and `diagram`, on functions of exponents that agree at all lists of n exponents (`AgreeIn`)
 
 abbrev AgreeIn : ℕ → (List ℕ → ℤ) → (List ℕ → ℤ) → Type 0
 AgreeIn n φ ψ = (α : List ℕ) → length α ≡ n → φ α ≡ ψ α
@@ -112,7 +109,7 @@ diagram_wide m r (suc k) φ h α e =
     diagram_wide m (suc r) k (row r (suc m) k φ) (omega arith) α e
     ∙ diagram_in (m + m) m (suc r) (staircase k) (λ β. row r (suc m) k φ (wide m β)) (row r m k (λ β. φ (wide m β))) (row_wide m r m k φ (omega arith) (omega arith) (omega arith)) α e
 
--- ---- the double Schubert polynomial does not depend on the number m of variables
+-- ---- the double Schubert polynomial, restricted to n variables x and n variables y, does not depend on the number m of variables
 
 wider_within : (n m : ℕ) (w : List ℕ) (φ : List ℕ → ℤ) → rising_pairs w < n → length w ≤ m → pair (double_schubert w (suc m)) φ ≡ pair (double_schubert w m) (λ α. φ (wide m α))
 wider_within zero m w φ b h = absurd (omega arith)
@@ -140,20 +137,6 @@ wider_within (suc n) m w φ b h = by (first_ascent_cases w) (λ v ψ c l. wider_
         ∙ diagram_wide m 0 (length w) φ (omega arith) (replicate (m + m) 0) z
         ∙ sym (ap (λ u. pair u (λ α. φ (wide m α))) (over_top (difference_product (length w) m) (rising_pairs w) w none.0) ∙ pair_difference_product m (length w) (λ α. φ (wide m α)) h)
 
-all_zero_added : (α : List ℕ) → all_zero (α ++ (0 ∷ [])) ≡ all_zero α
-all_zero_added [] = refl
-all_zero_added (a ∷ α) = ap (λ b. (a == 0) && b) (all_zero_added α)
-
-fits_in_added : (m : ℕ) (α : List ℕ) → fits_in m (α ++ (0 ∷ [])) ≡ fits_in m α
-fits_in_added zero α = all_zero_added α
-fits_in_added (suc m) [] = fits_in_zeros m 0
-fits_in_added (suc m) (a ∷ α) = fits_in_added m α
-
-resize_added : (m : ℕ) (α : List ℕ) → resize m (α ++ (0 ∷ [])) ≡ resize m α
-resize_added zero α = refl
-resize_added (suc m) [] = refl
-resize_added (suc m) (a ∷ α) = ap (λ β. a ∷ β) (resize_added m α)
-
 both_wide : (m n : ℕ) (φ : List ℕ → ℤ) (α : List ℕ) → m ≤ length α → both (suc m) n φ (wide m α) ≡ both m n φ α
 both_wide m n φ α h =
     ap₂ (λ β γ. cond (fits_in n β && fits_in n γ) (φ (resize n β ++ resize n γ)) (pos 0)) (take_wide m α h) (drop_wide m α h)
@@ -168,7 +151,8 @@ wider m n w h =
     ∙ pair_in (m + m) (double_schubert w m) (λ α. both (suc m) n φ (wide m α)) (both m n φ) (In_double m w) (λ α l. both_wide m n φ α (omega arith))
     ∙ sym (pair_restrict_both m n (double_schubert w m) φ))
 
--- the double Schubert polynomial of w in m variables of each kind, restricted to n of each, does not depend on m, if m is at least the length of w
+-- if m is at least the length of w, the double Schubert polynomial of w in m variables x and m variables y, restricted to n of each, is
+-- `double_schubert_in w n`, which does not depend on m
 pub in_any : (d m n : ℕ) (w : List ℕ) → m ≡ d + length w → Same (restrict_both m n (double_schubert w m)) (double_schubert_in w n)
 in_any zero m n w e = let f : m ≡ length w = omega arith in subst (λ i. Same (restrict_both i n (double_schubert w i)) (double_schubert_in w n)) (sym f) (λ α. refl)
 in_any (suc d) zero n w e = absurd (omega arith)
@@ -176,7 +160,7 @@ in_any (suc d) (suc m) n w e =
     Same_trans (restrict_both (suc m) n (double_schubert w (suc m))) (restrict_both m n (double_schubert w m)) (double_schubert_in w n)
     (wider m n w (omega arith)) (in_any d m n w (omega arith))
 
--- ---- restriction is compatible with products
+-- ---- restriction to fewer variables is compatible with products
 
 take-join : (m : ℕ) (α β : List ℕ) → length α ≡ length β → take m (join α β) ≡ join (take m α) (take m β)
 take-join zero α β e = refl
@@ -198,7 +182,7 @@ join_append [] β (c ∷ γ) δ e = absurd (omega arith)
 join_append (a ∷ α) β [] δ e = absurd (omega arith)
 join_append (a ∷ α) β (c ∷ γ) δ e = ap (λ l. (a + c) ∷ l) (join_append α β γ δ (omega arith))
 
--- whether exponents are in n variables of each kind
+-- for the exponents of m variables x, followed by those of variables y: whether the exponents of each of the two kinds are 0 after the first n
 abbrev fits : ℕ → ℕ → List ℕ → Bool
 fits m n α = fits_in n (take m α) && fits_in n (drop m α)
 

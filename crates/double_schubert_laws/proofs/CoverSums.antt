@@ -1,5 +1,5 @@
--- From sums over places of a long list to sums over covers of a permutation, for any function that does not change if
--- fixed letters are added: Monk's rule and the transition rule for every kind of Schubert polynomial.
+-- From sums over places of a long list to sums over covers of a permutation, for any function of lists that does not change if fixed letters are
+-- added: for Monk's rule and the transition rule.
 --     covers_sum      the sum over the places, with signs, is the sum over `covers_up` minus the sum over `covers_down`
 --     only_up         for w·t_rs of the transition rule, w is the only member of `covers_up`
 use Rattle.std.proofs.Common.{◌≡◌, ℕ, suc, ◌+◌, ◌-◌, ◌<◌, ◌≤◌, max, List, ◌++◌, map, length, refl, sym, ◌∙◌, ap, ap₂, subst, arith, cond, ◌==◌, ℤ, pos, ◌-ℤ◌, neg_ℤ, length-append, eqb-true, eq-eqb}
@@ -21,7 +21,7 @@ use Rattle.schubert_laws.proofs.MonkStep.{is_cover, signed, signed_up, signed_do
 use Rattle.schubert_laws.proofs.MonkFromOne.{swap_is, one_line_swap, longer, longer_split, swap_added, sum_split}
 use Rattle.schubert_laws.proofs.Transition.{IsStep, no_other, swap_there, raises_by_one, rises_chain, strict_get}
 
--- adding fixed letters to a permutation w, up to m letters in all, does not change `val w`
+-- for each permutation w, adding fixed letters to w, up to m letters in all, does not change `val w`
 pub record IsStable (m : ℕ) (val : List ℕ → ℤ) : Type 0 where
   pub added : (w : List ℕ) (k : ℕ) → IsOneLine w → length w + k ≤ m → val (w ++ after (length w) k) ≡ val w
 
@@ -34,11 +34,11 @@ kept_value m val w s o h =
     let lb = length_after (length (kept w)) t.0 in
     sym (s.added (kept w) t.0 (one_line_kept w o) (omega arith)) ∙ ap val (sym e)
 
--- the value at the list v, if v has one inversion more than w; otherwise 0
+-- `val v` if v has one inversion more than w, otherwise 0
 abbrev pub at_cover : (List ℕ → ℤ) → List ℕ → List ℕ → ℤ
 at_cover val w v = cond (inversions v == inversions w + 1) (val v) (pos 0)
 
--- the value at the list w with places a and b swapped, if that is a cover; otherwise 0
+-- the value of `val` at the list w with the letters at the indices a and b exchanged, if this list is a cover of w; otherwise 0
 abbrev pub at_swap : (List ℕ → ℤ) → List ℕ → ℕ → ℕ → ℤ
 at_swap val w a b = cond (is_cover w a b) (val (swap_at a b w)) (pos 0)
 
@@ -51,8 +51,8 @@ cover_tests val w long v x o p l e f q =
     (λ t. let a = eqb-true (inversions x) (inversions w + 1) t in eq-eqb (rising_pairs long) (suc (rising_pairs v)) (one_less_rising long v o p l (omega arith))))
     q
 
--- if fixed letters do not change `val`, and u and w have the same number of inversions, `at_swap` for the places a and b of u with t fixed letters added
--- is `at_cover` of u with the letters at a and b exchanged, without the fixed letters at its end
+-- let u and w have the same number of inversions, and let adding fixed letters not change `val`: `at_swap` at the places a and b of u with t fixed
+-- letters added is `at_cover` at u with the letters at a and b exchanged, without the fixed letters at its end
 term_added : (m : ℕ) (val : List ℕ → ℤ) (w u : List ℕ) (t a b : ℕ) → IsStable m val → IsOneLine u → a < length u → b < length u → inversions u ≡ inversions w → length u + t ≤ m
     → at_swap val (u ++ after (length u) t) a b ≡ at_cover val w (kept (swap u a b))
 term_added m val w u t a b s o h l e n =
@@ -79,7 +79,7 @@ cover_term m val w k i j s o c h l n =
     (term_added m val w (w ++ after (length w) (j - length w)) (k + 1 - (j - length w)) (i - 1) (j - 1) s
     (one_line_added (j - length w) w o) (omega arith) (omega arith) (inversions_added (j - length w) w o) (omega arith))
 
--- the sum of the values at those of the lists f j that have one inversion more than w is the sum of `at_cover` over all of the lists
+-- the sum of `val` over those of the lists f(j), for j in `js`, that have one inversion more than w is the sum of `at_cover` over all f(j)
 covers_total : (val : List ℕ → ℤ) (w : List ℕ) (f : ℕ → List ℕ) (js : List ℕ) → total val (covers_among w (map f js)) ≡ total (λ j. at_cover val w (f j)) js
 covers_total val w f js =
     total_select val (λ (v : List ℕ). inversions v == inversions w + 1) (map f js) ∙ total_map (at_cover val w) f js
@@ -117,7 +117,7 @@ covers_sum m val w k q s o e n =
     let d = ap (λ t. total (λ i. at_cover val w (times_swap i (suc q) w)) (after 0 t)) s3 in
     omega (arith, ints)
 
--- ---- in the transition rule w is the only member of `covers_up` of w·t_rs
+-- ---- for the list w·t_rs of the transition rule for w, w is the only member of `covers_up` at r
 
 pub only_up : (m : ℕ) (val : List ℕ → ℤ) (w : List ℕ) (q b : ℕ) → IsStable m val → IsOneLine w → IsStep w q b → length w + 1 ≤ m → total val (covers_up (suc q) (swap_at q b w)) ≡ val w
 only_up m val w q b st o s n =

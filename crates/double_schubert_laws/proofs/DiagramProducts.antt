@@ -1,7 +1,9 @@
--- Products with differences of two variables, as operators on test functions.
---     less r s φ            the pairing of φ with (x - y)·x^α, for the variables x at place r and y at place s
---     row r s c φ           the pairing of φ with x^α times the x - y, for the variable x at place r and c variables y from place s on
---     diagram s r cs φ      the pairing of φ with x^α times a product of rows, one for each variable from place r on
+-- Products with differences of two variables, as operators on functions φ of exponents. The pairing of φ with a polynomial is the sum of c·φ(α) over
+-- its terms c·x^α. Variables are counted from 0.
+--     less r s φ            the pairing of φ with (x - y)·x^α, for x the variable r and y the variable s
+--     row r s c φ           the pairing of φ with x^α times the product of all x - y, for x the variable r and y the c variables from s on
+--     diagram s r cs φ      the pairing of φ with x^α times a product of rows, one of c factors for each c in the list cs: the first row for the
+--                           variable r, the next one for the variable r + 1, and so on
 use Rattle.std.proofs.Common.{◌≡◌, ℕ, zero, suc, ◌+◌, ◌<◌, List, [], ◌∷◌, ◌++◌, length, get_or, replicate, refl, sym, ◌∙◌, ap, ap₂, arith, ℤ, pos, ◌+ℤ◌, ◌-ℤ◌, neg_ℤ}
 use Rattle.std.proofs.lemmas.Int.{ints}
 use Rattle.schubert_laws.proofs.Differences.{along, along_ext, along_add, along_neg}
@@ -20,7 +22,7 @@ abbrev pub diagram : ℕ → ℕ → List ℕ → (List ℕ → ℤ) → List �
 diagram s r [] φ = φ
 diagram s r (c ∷ cs) φ = diagram s (suc r) cs (row r s c φ)
 
--- ---- raising exponents in two orders gives the same exponents
+-- ---- the operators of this file commute, and depend only on the values of φ
 
 raise_raise : (r s : ℕ) (α : List ℕ) → raise r (raise s α) ≡ raise s (raise r α)
 raise_raise r s [] = refl
@@ -60,7 +62,7 @@ diagram_less s r (c ∷ cs) p q φ α =
     diagram_ext s (suc r) cs (row r s c (less p q φ)) (less p q (row r s c φ)) (row_less r s c p q φ) α
     ∙ diagram_less s (suc r) cs p q (row r s c φ) α
 
--- ---- a row with one more factor, and a diagram with one more empty row
+-- ---- a row with one more factor at its end, and a diagram with one more empty row
 
 pub row_last : (r s c : ℕ) (φ : List ℕ → ℤ) (α : List ℕ) → row r s (suc c) φ α ≡ less r (s + c) (row r s c φ) α
 row_last r s zero φ α = let e : s ≡ s + 0 = omega arith in ap (λ t. less r t φ α) e
@@ -85,7 +87,7 @@ diagram_added s r (c ∷ cs) φ α = diagram_added s (suc r) cs (row r s c φ) �
 
 -- ---- divided differences of products of x_i - y_j
 
--- place r is neither k nor k + 1
+-- the place r is neither k nor k + 1
 abbrev pub Apart : ℕ → ℕ → Type 0
 Apart zero zero = ⊥
 Apart zero (suc zero) = ⊥
@@ -127,7 +129,8 @@ pub along_less : (k r s : ℕ) (φ : List ℕ → ℤ) (α : List ℕ) → Apart
 along_less k r s φ α p q =
     along_minus k (λ γ. φ (raise r γ)) (λ γ. φ (raise s γ)) α ∙ ap₂ ◌-ℤ◌ (along_raised k r φ α p) (along_raised k s φ α q)
 
--- multiplication by x·y and by x + y commutes with ∂, for the variables x and y at places k and k + 1
+-- let x and y be the variables at the places k and k + 1: multiplication by x·y commutes with the divided difference along k; in `along_either`
+-- below, multiplication by x + y does
 along_both : (k : ℕ) (φ : List ℕ → ℤ) (α : List ℕ) → along k (λ γ. φ (raise k (raise (suc k) γ))) α ≡ along k φ (raise k (raise (suc k) α))
 along_both zero φ [] = refl
 along_both (suc k) φ [] = refl
@@ -149,7 +152,8 @@ along_either zero φ (a ∷ b ∷ α) =
     omega (arith, ints)
 along_either (suc k) φ (a ∷ α) = along_either k (λ β. φ (a ∷ β)) α
 
--- multiplying by both factors x_k - y and x_(k+1) - y with one y commutes with ∂ along k
+-- let x, y and z be the variables at the places k, k + 1 and s, with s another place: multiplication by (x - z)·(y - z) commutes with the divided
+-- difference along k
 along_two : (k s : ℕ) (φ : List ℕ → ℤ) (α : List ℕ) → Apart k s → along k (less (suc k) s (less k s φ)) α ≡ less (suc k) s (less k s (along k φ)) α
 along_two k s φ α p =
     let b = along_both k φ α in
@@ -189,9 +193,10 @@ diagram_along k s r (c ∷ cs) φ α h l =
     diagram_ext s (suc r) cs (row r s c (along k φ)) (along k (row r s c φ)) (λ γ. row_along k r s c φ γ (apart_after k r h) l) α
     ∙ diagram_along k s (suc r) cs (row r s c φ) α (omega arith) l
 
--- ---- ∂ takes one factor out of a diagram
+-- ---- a divided difference removes one factor from the product over a diagram
 
--- ∂ of a diagram whose first row has one factor more than its second is the diagram with both rows equal times ∂ of that factor
+-- `along r` is the divided difference of a function φ: the diagram with the rows c + 1, c, cs of `along r φ` is `less r (s + c)` of `along r` of the
+-- diagram with the rows c, c, cs of φ
 along_rows : (s r c : ℕ) (cs : List ℕ) (φ : List ℕ → ℤ) (α : List ℕ) → suc r < s
     → diagram s r (suc c ∷ c ∷ cs) (along r φ) α ≡ less r (s + c) (along r (diagram s r (c ∷ c ∷ cs) φ)) α
 along_rows s r c cs φ α h =
@@ -220,7 +225,7 @@ along_diagram s r (suc k) i (a ∷ c) (b ∷ d) φ α u e h =
     ∙ diagram_ext s (suc r) d (row r s a (along i φ)) (along i (row r s a φ)) (λ γ. row_along i r s a φ γ (apart_before i r (omega arith)) h) α
     ∙ along_diagram s (suc r) k i c d (row r s a φ) α u.1 (omega arith) h
 
--- ---- the value of a divided difference at the exponents 0
+-- ---- the values at the exponents 0, .., 0 of `along k φ`, the divided difference of φ along k
 
 along_none : (k n : ℕ) (φ : List ℕ → ℤ) → along k φ (replicate n 0) ≡ pos 0
 along_none zero zero φ = refl
@@ -242,7 +247,8 @@ less_along k s n φ h l =
     let c = along_none k n (λ γ. φ (raise s γ)) in
     omega (arith, ints)
 
--- if d is c with the first of two equal entries at places k and k + 1, counted from 0, increased by 1, ∂ takes the diagram of d to that of c
+-- if c has equal entries at the places k and k + 1, counted from 0, and d is c with the first of them increased by 1, the divided difference along k
+-- takes the product over the diagram of d to that over the diagram of c
 pub diagram_one_up : (s k n : ℕ) (c d : List ℕ) (φ : List ℕ → ℤ) → IsOneUp k c d → suc k < s → suc k < n → diagram s 0 d (along k φ) (replicate n 0) ≡ diagram s 0 c φ (replicate n 0)
 diagram_one_up s k n c d φ u h l =
     along_diagram s 0 k k c d φ (replicate n 0) u (omega arith) h

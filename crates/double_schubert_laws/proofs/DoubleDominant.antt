@@ -1,5 +1,5 @@
--- The double Schubert polynomial of a dominant list is the product over the diagram of its code, and a last letter that
--- is greater than all others changes nothing.
+-- The double Schubert polynomial of a list with a weakly decreasing code is the product of the x_i - y_j over the diagram of its code; and a last
+-- letter that is greater than all others does not change a double Schubert polynomial.
 use Rattle.std.proofs.Common.{◌≡◌, ℕ, zero, suc, ◌+◌, ◌-◌, ◌<◌, ◌≤◌, List, [], ◌∷◌, ◌++◌, map, length, get_or, replicate, refl, sym, ◌∙◌, ap, ap₂, subst, arith, inl, inr, ◌⊎◌, cond, None, ℤ, pos, ◌+ℤ◌, ◌-ℤ◌, neg_ℤ, length-append, flat_map}
 use Rattle.std.proofs.lemmas.Simd.{map-map}
 use Rattle.std.proofs.lemmas.List.{map-append, length-replicate, replicate-append-replicate, append-nil}
@@ -27,7 +27,7 @@ use Rattle.schubert_laws.proofs.MonkStep.{pair_ascent, pair_factor_sum}
 use Rattle.sym_model.specs.DoubleSchubert.{product_of, difference_in, difference_product, double_schubert}
 use Rattle.double_schubert_laws.proofs.DiagramProducts.{less, row, diagram, diagram_one_up, diagram_added}
 
--- ---- x_r - y_s times a polynomial
+-- ---- the pairing of φ with x_r - y_s times a polynomial
 
 pair_minus : (f : Poly) (φ ψ : List ℕ → ℤ) → pair f (λ α. φ α -ℤ ψ α) ≡ pair f φ -ℤ pair f ψ
 pair_minus f φ ψ =
@@ -47,7 +47,7 @@ pair_less N r s f φ i h l =
     let g = pair_minus f (λ α. φ (raise r α)) (λ α. φ (raise s α)) in
     omega (arith, ints)
 
--- the exponents of x_(r+1) in m variables
+-- the exponents, in m variables, of the monomial x_(r+1)
 abbrev pub unit : ℕ → ℕ → List ℕ
 unit r m = resize m (replicate r 0 ++ (1 ∷ []))
 
@@ -63,7 +63,7 @@ pair_variable_in r m φ h =
     ∙ ap (λ i. cond (fits_in m (replicate i 0 ++ (1 ∷ []))) (φ (resize m (replicate i 0 ++ (1 ∷ [])))) (pos 0)) e
     ∙ ap (λ b. cond b (φ (unit r m)) (pos 0)) (fits_in_length m (replicate r 0 ++ (1 ∷ [])) (omega arith))
 
--- the pairing of φ with x_(r+1) - y_(s+1) is φ at the exponents of x_(r+1) less φ at those of y_(s+1)
+-- the pairing of φ with x_(r+1) - y_(s+1) is φ at the exponents of x_(r+1) minus φ at those of y_(s+1), for m variables x and m variables y
 pub pair_difference_in : (r s m : ℕ) (φ : List ℕ → ℤ) → r < m → s < m
     → pair (difference_in (suc r) (suc s) m) φ ≡ φ (unit r m ++ replicate m 0) -ℤ φ (replicate m 0 ++ unit s m)
 pair_difference_in r s m φ h l =
@@ -110,7 +110,7 @@ In_difference_in i j m =
     (In_beside m m (variable_in i m) (one m) (In_restrict m (variable i)) (In_one m))
     (In_negate (m + m) (beside (one m) (variable_in j m)) (In_beside m m (one m) (variable_in j m) (In_one m) (In_restrict m (variable j))))
 
--- ---- the product of all x_i - y_j
+-- ---- the product of all x_i - y_j with i + j ≤ n, row by row
 
 abbrev factors : ℕ → ℕ → ℕ → ℕ → List Poly
 factors m i j c = map (λ b. difference_in i b m) (after j c)
@@ -132,7 +132,7 @@ pair_factors m r i j (suc c) fs φ d h l n =
     ∙ pair_factors m r i (j + 1) c fs (less r (m + j) φ) d h (omega arith) n
     ∙ ap (λ x. pair (product_of (m + m) fs) (row r x c (less r (m + j) φ))) s
 
--- the factors of the k rows after row r, row i having c(i) factors
+-- the factors x_i - y_j for the rows i from r + 1 to r + k, in each row i for j from 1 to c(i)
 abbrev rows_from : ℕ → (ℕ → ℕ) → ℕ → ℕ → List Poly
 rows_from m c r k = flat_map (λ i. map (λ j. difference_in i j m) (after 0 (c i))) (after r k)
 
@@ -166,7 +166,7 @@ In_difference_product m n = In_rows m (λ i. n - i) 0 n
 pub In_double : (m : ℕ) (w : List ℕ) → In (m + m) (double_schubert w m)
 In_double m w = In_descended (difference_product (length w) m) (m + m) (rising_pairs w) w (In_difference_product m (length w))
 
--- ---- the polynomial of a dominant list is the product of the x_i - y_j over the diagram of its code
+-- ---- if the code of a list is weakly decreasing, its double Schubert polynomial is the product of the x_i - y_j over the diagram of the code
 
 pub pair_double_ascent : (m : ℕ) (w : List ℕ) (k : ℕ) (φ : List ℕ → ℤ) → Rises k w → pair (double_schubert w m) φ ≡ pair (double_schubert (exchange_at k w) m) (along k φ)
 pair_double_ascent m w k φ r =
@@ -199,7 +199,7 @@ pub double_dominant : (m : ℕ) (w : List ℕ) (φ : List ℕ → ℤ) → lengt
     → pair (double_schubert w m) φ ≡ diagram m 0 (code w) φ (replicate (m + m) 0)
 double_dominant m w φ h o f = double_dominant_within (suc (rising_pairs w)) m w φ (omega arith) h o f
 
--- ---- a last letter that is greater than all others does not change the polynomial
+-- ---- a last letter that is greater than all others does not change the double Schubert polynomial
 
 last_within : (n m p : ℕ) (w : List ℕ) (φ : List ℕ → ℤ) → rising_pairs w < n → length w < m → Once w → ((a : ℕ) → Among a w → a < p)
     → pair (double_schubert (w ++ (p ∷ [])) m) φ ≡ pair (double_schubert w m) φ
@@ -233,7 +233,7 @@ pub last_letter_double : (m p : ℕ) (w : List ℕ) → length w < m → Once w 
 last_letter_double m p w h o l =
     same_from_pair (double_schubert (w ++ (p ∷ [])) m) (double_schubert w m) (λ φ. last_within (suc (rising_pairs w)) m p w φ (omega arith) h o l)
 
--- ---- the product of the x_i - y_j over the cells of a diagram
+-- ---- pairing with the product of the x_i - y_j over the cells of a diagram
 
 pub pair_cells : (m : ℕ) (cs : List ℕ) (φ : List ℕ → ℤ) → length cs ≤ m → ((i : ℕ) → get_or cs i 0 ≤ m)
     → pair (product_of (m + m) (map (λ cell. difference_in cell.0 cell.1 m) (cells cs []))) φ ≡ diagram m 0 cs φ (replicate (m + m) 0)
@@ -257,7 +257,7 @@ pair_cells m cs φ h b =
         let y : get_or γ (a + 1 - 1) 0 - 0 ≡ c = omega arith in
         ap₂ ◌∷◌ y (parts_after γ (a + 1) β (λ i. let d : a + 1 + i ≡ a + suc i = omega arith in ap (λ k. get_or γ k 0) d ∙ e (suc i)))
 
--- an entry of a code is at most the length of the list
+-- each entry of the code of a list is at most the length of the list
 entry_small : (w : List ℕ) (i : ℕ) → get_or (code w) i 0 ≤ length w
 entry_small [] i = omega arith
 entry_small (a ∷ w) zero = let s = (code_is_code (a ∷ w)).0 in let l = length-code w in omega arith

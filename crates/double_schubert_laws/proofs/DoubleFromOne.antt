@@ -2,7 +2,7 @@
 use Rattle.std.proofs.Common.{◌≡◌, ℕ, zero, suc, ◌+◌, ◌-◌, ◌<◌, ◌≤◌, max, List, [], ◌∷◌, ◌++◌, length, get_or, refl, sym, ◌∙◌, ap, ap₂, subst, arith, inl, inr, cond, ℤ, pos, ◌-ℤ◌, length-append, flat_map}
 use Rattle.std.proofs.lemmas.Int.{ints}
 use Rattle.std.proofs.lemmas.Bool.{cases_lt}
-use Rattle.std.proofs.lemmas.List.{append-nil}
+use Rattle.std.proofs.lemmas.List.{append-nil, get_or_past, get_or_default}
 use Rattle.sym_model.specs.Sum.{total}
 use Rattle.sym_model.specs.Polynomial.{Poly, Same, In, plus, times, pair, coefficient}
 use Rattle.sym_model.specs.Partition.{after}
@@ -10,7 +10,6 @@ use Rattle.sym_model.specs.Permutation.{IsOneLine, IsTransition, letter, kept, t
 use Rattle.sym_model.specs.Schubert.{schubert_over}
 use Rattle.sym_model.proofs.Polynomials.{pair_plus, pair_each, pair_determined, same_from_pair, Same_refl, Same_sym, plus_respects, times_respects}
 use Rattle.sym_model.proofs.AfterLists.{length_after}
-use Rattle.sym_model.proofs.Lists.{get_or-any}
 use Rattle.schubert_laws.proofs.DifferenceLaws.{variable_after}
 use Rattle.schubert_laws.proofs.FixedTails.{one_line_added, one_line_next, next_after}
 use Rattle.schubert_laws.proofs.PathsFromOne.{below_next}
@@ -21,13 +20,13 @@ use Rattle.schubert_laws.proofs.PlaceSums.{sum_below_ext}
 use Rattle.schubert_laws.proofs.MonkStep.{is_cover, signed, value, IsMonk}
 use Rattle.schubert_laws.proofs.MonkFromOne.{longer, whole_longer, one_line_swap}
 use Rattle.schubert_laws.proofs.Transition.{IsStep}
-use Rattle.schubert_laws.proofs.TransitionFromOne.{get_past, step_of, kept_swap, covers_down_kept}
+use Rattle.schubert_laws.proofs.TransitionFromOne.{step_of, kept_swap, covers_down_kept}
 use Rattle.sym_model.specs.DoubleSchubert.{difference_in, difference_product, double_schubert}
 use Rattle.double_schubert_laws.proofs.DoubleDominant.{last_letter_double, In_double, pair_less, pair_difference}
 use Rattle.double_schubert_laws.proofs.DoubleMonk.{minus_y, monk_double_last}
 use Rattle.double_schubert_laws.proofs.CoverSums.{IsStable, kept_value, at_swap, covers_sum, only_up}
 
--- ---- the polynomial of a permutation with fixed letters added
+-- ---- the double Schubert polynomial of a permutation with fixed letters added
 
 pub double_added : (m k : ℕ) (w : List ℕ) (φ : List ℕ → ℤ) → IsOneLine w → length w + k ≤ m → pair (double_schubert (w ++ after (length w) k) m) φ ≡ pair (double_schubert w m) φ
 double_added m zero w φ o h = ap (λ v. pair (double_schubert v m) φ) (append-nil w)
@@ -37,7 +36,7 @@ double_added m (suc k) w φ o h =
     ∙ double_added m k (w ++ ((length w + 1) ∷ [])) φ (one_line_next w o) (omega arith)
     ∙ pair_determined (double_schubert (w ++ ((length w + 1) ∷ [])) m) (double_schubert w m) φ (last_letter_double m (length w + 1) w (omega arith) o.once (below_next w o))
 
--- the pairing of φ with the double Schubert polynomial of a list
+-- the sum of c·φ(α) over the terms c·x^α of the double Schubert polynomial of a list in m variables x and m variables y
 abbrev pub paired : ℕ → (List ℕ → ℤ) → List ℕ → ℤ
 paired m φ w = pair (double_schubert w m) φ
 
@@ -47,18 +46,18 @@ stable m φ = record { added = λ w k o h. double_added m k w φ o h }
 pub double_kept : (m : ℕ) (w : List ℕ) → IsOneLine w → length w ≤ m → Same (double_schubert (kept w) m) (double_schubert w m)
 double_kept m w o h = same_from_pair (double_schubert (kept w) m) (double_schubert w m) (λ φ. kept_value m (paired m φ) w (stable m φ) o h)
 
--- ---- the letters of a list with fixed letters added
+-- ---- the letters of a permutation with fixed letters added
 
 letter_longer : (w : List ℕ) (k q : ℕ) → q < length w + (k + 1) → get_or (longer w k) q 0 ≡ letter w (suc q)
 letter_longer w k q h =
     let i : q ≡ suc q - 1 = omega arith in
     let la = length-append w (after (length w) (k + 1)) in
     let lb = length_after (length w) (k + 1) in
-    get_or-any (longer w k) q 0 (suc q) (omega arith) ∙ ap (λ j. get_or (longer w k) j (suc q)) i ∙ letter_added (k + 1) w (suc q) (omega arith)
+    get_or_default (longer w k) q 0 (suc q) (omega arith) ∙ ap (λ j. get_or (longer w k) j (suc q)) i ∙ letter_added (k + 1) w (suc q) (omega arith)
 
--- ---- Monk's rule for a permutation in m variables of each kind
+-- ---- Monk's rule for a permutation in m variables x and m variables y
 
--- the sum of the double Schubert polynomials of permutations
+-- the sum of the double Schubert polynomials, in m variables x and m variables y, of the permutations of a list
 abbrev pub doubles : ℕ → List (List ℕ) → Poly
 doubles m ws = flat_map (λ w. double_schubert w m) ws
 
@@ -79,13 +78,13 @@ monk_long m k q w o h n =
 pub letter_small : (w : List ℕ) (i : ℕ) → IsOneLine w → 1 ≤ i → letter w i ≤ max (length w) i
 letter_small w i o h = elim (cases_lt (i - 1) (length w)) [
   | inl l ↦
-      let d = get_or-any w (i - 1) i 0 l in
+      let d = get_or_default w (i - 1) i 0 l in
       let m = (o.letters (get_or w (i - 1) 0) (among_get (i - 1) 0 w l)).1 in
       omega arith
-  | inr l ↦ let p = get_past w (i - 1) i l in omega arith
+  | inr l ↦ let p = get_or_past w (i - 1) i l in omega arith
 ]
 
--- a product with x_(q+1) - y_b is the product with the sum of x_(q+1) and -y_a, if a is b
+-- if a = b, pairing φ with (x_(q+1) - y_b)·f is pairing φ with (x_(q+1) + (-y_a))·f
 factor_pairs : (m q a b : ℕ) (f : Poly) (φ : List ℕ → ℤ) → In (m + m) f → q < m → a ≡ b → 1 ≤ b → b ≤ m
     → pair (times (difference_in (suc q) b m) f) φ ≡ pair (times (plus (variable_after q) (minus_y m a)) f) φ
 factor_pairs m q a b f φ i h e c l =
@@ -113,7 +112,7 @@ pair_double_monk m q k w φ o e n =
 pub pair_doubles : (m : ℕ) (ws : List (List ℕ)) (φ : List ℕ → ℤ) → pair (doubles m ws) φ ≡ total (paired m φ) ws
 pair_doubles m ws φ = pair_each (λ (w : List ℕ). double_schubert w m) ws φ
 
--- ---- the transition rule for a permutation in m variables of each kind
+-- ---- the transition rule for a permutation in m variables x and m variables y
 
 abbrev pub DoubleRule : ℕ → List ℕ → ℕ → List ℕ → Type 0
 DoubleRule m w r v = Same (double_schubert w m) (plus (times (difference_in r (letter v r) m) (double_schubert v m)) (doubles m (covers_down r v)))

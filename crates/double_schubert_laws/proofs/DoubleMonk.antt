@@ -1,4 +1,4 @@
--- Monk's rule for double Schubert polynomials, for the lists that end in a letter greater than all others.
+-- Monk's rule for double Schubert polynomials of lists whose last letter is greater than all others.
 use Rattle.std.proofs.Common.{◌≡◌, ℕ, zero, suc, ◌+◌, ◌-◌, ◌<◌, ◌≤◌, List, [], ◌∷◌, ◌++◌, length, get_or, replicate, refl, sym, ◌∙◌, ap, ap₂, subst, arith, inl, inr, ℤ, neg_ℤ, length-append}
 use Rattle.std.proofs.Math.ListN.{get_or-append}
 use Rattle.sym_model.specs.Sum.{Among, Once}
@@ -42,7 +42,7 @@ along_joined zero (suc (suc s)) φ (a ∷ b ∷ α) h l =
 along_joined (suc k) zero φ (a ∷ α) h l = absurd (omega arith)
 along_joined (suc k) (suc s) φ (a ∷ α) h l = along_joined k s (λ β. φ ((0 + a) ∷ β)) α (omega arith) (omega arith)
 
--- -y_a, in m variables of each kind
+-- the polynomial -y_a in m variables x and m variables y
 abbrev pub minus_y : ℕ → ℕ → Poly
 minus_y m a = negate (variable_after (m + (a - 1)))
 
@@ -61,7 +61,7 @@ y_passes m n a l k f h i =
     (λ α e. along_joined k (m + (a - 1)) φ α (omega arith) (omega arith)))
     ∙ sym (pair_differences k (times (minus_y m a) f) φ ∙ pair_minus_y m a f (along k φ)))
 
--- ---- the letters of a permutation without an ascent
+-- ---- a permutation of n letters without an ascent has the letters n, .., 1
 
 abbrev AreFrom : ℕ → List ℕ → Type 0
 AreFrom n v = (a : ℕ) → Among a v → (1 ≤ a) × (a ≤ n)
@@ -83,7 +83,7 @@ falling_letters (suc (suc n)) (a ∷ v) e o h i zero l =
 falling_letters (suc n) (a ∷ v) e o h i (suc r) l =
     falling_letters n v (omega arith) o.1 (λ k. h (suc k)) (below_next_letter n a v i (greater_head a v o h)) r (omega arith)
 
--- ---- the lists without an ascent before the last letter
+-- ---- permutations v of n letters with n + 1 added at the end, and Monk's rule for these if v has no ascent
 
 pub record IsStart (n : ℕ) (v : List ℕ) : Type 0 where
   pub size : length v ≡ n
@@ -126,14 +126,14 @@ monk_falling m n r v s h l k φ =
     ∙ sym (sum_below_only (length (v ++ (suc n ∷ []))) (length v) (value (difference_product (length (v ++ (suc n ∷ []))) m) φ (v ++ (suc n ∷ [])) r) (omega arith)
     (λ j q d. falling_elsewhere (difference_product (length (v ++ (suc n ∷ []))) m) φ (suc n) r j v s.once h (omega arith) (omega arith)))
   where
-    -- the letter at place r is at most n, so there is a variable y with this index
+    -- the letter at the index r of v, a permutation of n letters, is at most n
     get_small : r < length v → get_or (v ++ (suc n ∷ [])) r 0 - 1 ≡ get_or (code (v ++ (suc n ∷ []))) r 0 → code (v ++ (suc n ∷ [])) ≡ staircase n ++ (0 ∷ []) → get_or (v ++ (suc n ∷ [])) r 0 ≤ n
     get_small q e f =
         let a = get_or-append v (suc n ∷ []) 0 r q in
         let b = (s.letters (get_or v r 0) (among_get r 0 v q)).1 in
         omega arith
 
--- ---- Monk's rule, if the last letter is the greatest
+-- ---- Monk's rule for a permutation of n letters with the letter n + 1 added at the end
 
 pub monk_double_last : (m n r : ℕ) (v : List ℕ) → IsStart n v → r < n → suc n ≤ m → IsMonk (difference_product (suc n) m) (minus_y m) (v ++ (suc n ∷ [])) r
 monk_double_last m n r v s h k =

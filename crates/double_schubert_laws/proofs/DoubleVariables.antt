@@ -33,7 +33,7 @@ use Rattle.schubert_laws.proofs.Ranks.{letter_counts}
 use Rattle.double_schubert_laws.proofs.DoubleFromOne.{paired, pair_double_monk, letter_small, double_kept, double_transition, doubles, pair_doubles}
 use Rattle.std.proofs.Math.Bool.{and-true}
 
--- ---- x_i - y_j in fewer or more variables
+-- ---- the restriction of x_i - y_j from m variables x and m variables y to n variables x and n variables y
 
 resize_again : (n m : ℕ) (α : List ℕ) → length α ≤ m → resize n (resize m α) ≡ resize n α
 resize_again n m [] h = ap (resize n) (resize-nil m) ∙ resize_zeros n m ∙ sym (resize-nil n)
@@ -97,7 +97,7 @@ difference_fewer r s m n h l =
     ∙ ap₂ ◌-ℤ◌ (both_x r m n φ h) (both_y s m n φ l)
     ∙ sym (pair_difference_any r s n φ))
 
--- ---- bounds for the lengths of covers
+-- ---- bounds for the numbers of letters of covers
 
 length_times_swap : (i j : ℕ) (w : List ℕ) → length (times_swap i j w) ≤ max (length w) j
 length_times_swap i j w =
@@ -129,7 +129,7 @@ down_length r w v m =
     let e = ap length c.2 in
     omega arith
 
--- ---- double Schubert polynomials and their products in n variables, restricted from m variables
+-- ---- double Schubert polynomials, and their products with x_i - y_j, in n variables x and n variables y, as restrictions from m variables
 
 in_variables : (m n : ℕ) (w : List ℕ) (φ : List ℕ → ℤ) → length w ≤ m → pair (double_schubert w m) (both m n φ) ≡ pair (double_schubert_in w n) φ
 in_variables m n w φ h =
@@ -141,7 +141,8 @@ in_sum m n ws φ h =
     total_among (paired m (both m n φ)) (λ w. pair (double_schubert_in w n) φ) ws (λ w i. in_variables m n w φ (h w i))
     ∙ sym (pair_each (λ (w : List ℕ). double_schubert_in w n) ws φ)
 
--- the product with x_i - y_j in n variables is the restriction of the product in m variables
+-- the product of x_(r+1) - y_(s+1) and the double Schubert polynomial of w, in n variables x and n variables y, is the restriction of their product
+-- in m variables x and m variables y
 in_product : (r s m n : ℕ) (w : List ℕ) (φ : List ℕ → ℤ) → r < m → s < m → length w ≤ m
     → pair (times (difference_in (suc r) (suc s) n) (double_schubert_in w n)) φ ≡ pair (times (difference_in (suc r) (suc s) m) (double_schubert w m)) (both m n φ)
 in_product r s m n w φ h l k =
@@ -168,7 +169,8 @@ monk_in_letter q s n w o e =
     let g = pair_negate (double_schuberts_in (covers_down (suc q) w) n) φ in
     omega (arith, ints))
 
--- Monk's rule: (x_r - y_w(r))·S_w is the sum of S_v over the covers v = w·t_rj with j > r minus that over the covers v = w·t_ir with i < r
+-- Monk's rule: for a permutation w, (x_r - y_w(r))·S_w is the sum of S_v over the covers v = w·t_rj with j > r minus that over the covers v = w·t_ir
+-- with i < r
 pub double_monk_in : (r n : ℕ) (w : List ℕ) → IsOneLine w → 1 ≤ r
     → Same (times (difference_in r (letter w r) n) (double_schubert_in w n)) (plus (double_schuberts_in (covers_up r w) n) (negate (double_schuberts_in (covers_down r w) n)))
 double_monk_in zero n w o h = λ α. absurd (omega arith)
@@ -195,7 +197,8 @@ transition_in_letter q l n r s w v o t e f g h k i =
     let z = pair_plus (times (difference_in (suc q) (suc l) n) (double_schubert_in v n)) (double_schuberts_in (covers_down r v) n) φ in
     omega (arith, ints))
 
--- for v = w·t_rs, S_w is (x_r - y_v(r))·S_v plus the sum of S_u over the covers u = v·t_ir with i < r
+-- the transition rule: for the places r and s of the rule and v = w·t_rs, S_w is (x_r - y_v(r))·S_v plus the sum of S_u over the covers u = v·t_ir
+-- with i < r
 pub double_transition_in : (r s n : ℕ) (w : List ℕ) → IsOneLine w → IsTransition w r s
     → Same (double_schubert_in w n) (plus (times (difference_in r (letter (times_swap r s w) r) n) (double_schubert_in (times_swap r s w) n)) (double_schuberts_in (covers_down r (times_swap r s w)) n))
 double_transition_in r s n w o t =

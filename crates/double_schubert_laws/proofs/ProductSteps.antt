@@ -1,8 +1,8 @@
--- The product of S_p and a term y^e·S_w, by the transition rule.
+-- The product of S_p and a term y^e·S_w of double Schubert polynomials, by the transition rule.
 --     factor_step        the product of the term with x_r - y_c
---     product_step       the product as a sum of products, by the rule for p
---     product_identity   if p is the identity, the product is the term
---     product_start      if e is empty, it is the product of two double Schubert polynomials
+--     product_step       the product of S_p and the term as a sum of products, by the transition rule for p
+--     product_identity   if p is the identity, the product of S_p and the term is the term
+--     product_start      if e is empty, the product of S_p and the term is S_p·S_w
 use Rattle.std.proofs.Common.{◌≡◌, ℕ, ◌+◌, ◌≤◌, List, [], ◌++◌, ◌&&◌, take, drop, length, replicate, cond, sym, ◌∙◌, ap, arith, length-append, None, ℤ, pos, ◌+ℤ◌, filter}
 use Rattle.std.proofs.lemmas.Int.{ints}
 use Rattle.std.proofs.lemmas.List.{replicate-append-replicate}
@@ -58,7 +58,7 @@ product_step n r s φ p w e o t q h =
     let l = total_ext (λ (x : List ℕ). pair (times (shifted_in (w, e) n) (double_schubert_in x n)) φ) (λ (x : List ℕ). acted n φ x (w, e)) (λ x. pair_times_comm (shifted_in (w, e) n) (double_schubert_in x n) φ) (covers_down r (times_swap r s p)) in
     omega (arith, ints)
 
--- ---- the product if p is the identity, and the product if e is empty
+-- ---- the product of S_p and y^e·S_w if p is the identity, and if e is empty
 
 In_double_in : (n : ℕ) (w : List ℕ) → In (n + n) (double_schubert_in w n)
 In_double_in n w =
@@ -81,7 +81,7 @@ product_identity n φ p w e o d =
     (times_respects (double_schubert_in p n) (one (n + n)) term term (identity_double p n o d) (Same_refl term))
     ∙ pair_determined (times (one (n + n)) term) term φ (one-times (n + n) term (In_shifted n w e))
 
--- y^0 is 1
+-- y^e is 1 for the empty list e of exponents
 nothing_in_y : (n : ℕ) → Same (beside (one n) (x_to_in [] n)) (one (n + n))
 nothing_in_y n =
     same_from_pair (beside (one n) (x_to_in [] n)) (one (n + n)) (λ φ.

@@ -1,4 +1,4 @@
--- The product of y^e·S_w with x_r - y_c as a sum of products y^d·S_v.
+-- The product of y^e·S_w with x_r - y_c as a sum of products y^d·S_v, for double Schubert polynomials.
 use Rattle.std.proofs.Common.{◌≡◌, ℕ, ◌≤◌, List, ◌++◌, replicate, refl, sym, ◌∙◌, ap, ℤ, ◌+ℤ◌, ◌-ℤ◌, flat_map}
 use Rattle.std.proofs.lemmas.Int.{ints}
 use Rattle.std.proofs.lemmas.List.{length-replicate}
@@ -15,7 +15,7 @@ use Rattle.sym_model.specs.DoubleSchubert.{difference_in, double_schubert_in, sh
 use Rattle.double_schubert_laws.proofs.BothRestrictions.{join_append}
 use Rattle.double_schubert_laws.proofs.DoubleVariables.{double_monk_in}
 
--- a polynomial in the variables y only
+-- the polynomial f(y_1, .., y_n), as a polynomial in n variables x and n variables y
 abbrev in_y : ℕ → Poly → Poly
 in_y n f = beside (one n) f
 
@@ -56,14 +56,14 @@ pair_y_next n j w e φ =
     ∙ pair_determined (times (times y p) s) (times (in_y n (x_to_in (raised j e) n)) s) φ
     (times_respects (times y p) (in_y n (x_to_in (raised j e) n)) s s (Same_trans (times y p) (times p y) (in_y n (x_to_in (raised j e) n)) (times_comm y p) (y_next n j e)) (Same_refl s))
 
--- two factors of a product can be exchanged
+-- the pairing of φ with d·(p·s) is its pairing with p·(d·s)
 pair_swapped : (d p s : Poly) (φ : List ℕ → ℤ) → pair (times d (times p s)) φ ≡ pair (times p (times d s)) φ
 pair_swapped d p s φ =
     pair_determined (times d (times p s)) (times (times d p) s) φ (Same_sym (times (times d p) s) (times d (times p s)) (times_assoc d p s))
     ∙ pair_determined (times (times d p) s) (times (times p d) s) φ (times_respects (times d p) (times p d) s s (times_comm d p) (Same_refl s))
     ∙ pair_determined (times (times p d) s) (times p (times d s)) φ (times_assoc p d s)
 
--- f times x_r - y_c is f times x_r - y_l, plus f times y_l, minus f times y_c, by pairings with φ
+-- f·(x_r - y_c) is f·(x_r - y_l) plus f·y_l minus f·y_c, stated for the pairings with φ
 pair_other_y : (n r c l : ℕ) (f : Poly) (φ : List ℕ → ℤ) → pair (times (difference_in r c n) f) φ
     ≡ (pair (times (difference_in r l n) f) φ +ℤ pair (times (in_y n (variable_in l n)) f) φ) -ℤ pair (times (in_y n (variable_in c n)) f) φ
 pair_other_y n r c l f φ =
@@ -102,7 +102,7 @@ shifted_step n r c w e φ o h =
     let v = pair_times_each p (λ (v : List ℕ). double_schubert_in v n) (covers_down r w) φ in
     omega (arith, ints)
 
--- the sum of y^e·S_v over permutations
+-- the sum of y^e·S_v over the permutations v of a list, in n variables x and n variables y
 abbrev pub shifts_in : List (List ℕ) → List ℕ → ℕ → Poly
 shifts_in ws e n = flat_map (λ v. shifted_in (v, e) n) ws
 

@@ -1,5 +1,5 @@
-//! Double Schubert polynomials do not depend on the path of divided differences,
-//! nor on fixed letters.
+//! Double Schubert polynomials do not depend on the path of divided differences nor on fixed
+//! letters at the end of the permutation.
 
 ghost use Rattle.std.specs.Prelude.{◌≡◌, ℕ, ◌+◌, ◌≤◌, List, [], None, map, length};
 ghost use Rattle.sym_model.specs.Sum.{Once};
@@ -11,14 +11,15 @@ ghost use Rattle.sym_model.specs.DividedDifference.{divided_difference};
 ghost use Rattle.sym_model.specs.DoubleSchubert.{product_of, difference_in, double_schubert};
 ghost use Rattle.sym_model.specs.DoubleSchubert.{double_schubert_in, restrict_both};
 
-/// Every path of divided differences in x gives the same: ∂_i takes S(w; x, y) to S(w·s_i; x, y)
-/// for each descent i of a list w. S(w; x, y) in m variables of each kind is a polynomial in 2m
-/// variables.
+/// Every path of divided differences in x gives the same polynomial: for each descent i of a list
+/// w, ∂_i takes S(w; x, y) to S(w·s_i; x, y). S(w; x, y) in m variables x and m variables y is a
+/// polynomial in 2m variables.
 ///
-/// If the letters of w are different and its code is decreasing, S(w; x, y) is the product of the
-/// x_i - y_j over the cells (i, j) of the diagram of the code. In n variables of each kind it does
-/// not depend on the number of variables that it is made with, nor on fixed letters at the end of
-/// w; for the identity it is 1.
+/// If the letters of w are different and its code is weakly decreasing, S(w; x, y) is the product
+/// of the x_i - y_j over the cells (i, j) of the diagram of the code. For every w, the restriction
+/// of S(w; x, y) to n variables x and n variables y is the same for all numbers m of variables that
+/// are at least the length of w. If w is a permutation, the restriction does not depend on fixed
+/// letters at the end of w, and for the identity it is 1.
 ///
 /// Example: ∂_2 takes (x_1 - y_1)(x_1 - y_2)(x_2 - y_1) = S(3,2,1; x, y) to (x_1 - y_1)(x_1 - y_2)
 /// = S(3,1,2; x, y).

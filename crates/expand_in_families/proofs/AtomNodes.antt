@@ -1,4 +1,4 @@
--- The node of an atom: a list in the target, the denominator 1 and the degree of the atom.
+-- The value in a target e, h or p of an atom: a list in the target, the denominator 1 and the degree of the atom.
 use Rattle.std.proofs.Common.{◌≡◌, ℕ, ◌*◌, ◌^◌, ◌≤◌, List, subst, arith}
 use Rattle.sym_model.specs.Polynomial.{Poly}
 use Rattle.sym_model.specs.Partition.{size}
@@ -14,8 +14,8 @@ use Rattle.basis_change_laws.specs.JoinedLists.{Stands}
 use Rattle.expand_in_families.specs.Nodes.{ClearsTo}
 use Rattle.basis_change_laws.proofs.GrowthBounds.{grown}
 
--- in any basis, also m and s, a node whose terms are k! times the polynomial of an atom with k cells, within the growth at k, with
--- the denominator 1 and the degree k, represents the atom
+-- let k be the number of cells of an atom in any of the five bases: a value c with the denominator 1 and the degree k represents the atom
+-- (`ClearsTo`) if its terms are k! times the polynomial of the atom, and the absolute values of their coefficients add up to at most `grown k`
 pub clears-atom : (P : ℕ → ℕ → Poly) (basis : Basis) (parts : List ℕ) (c : Node) → c.den ≡ 1 → c.degree ≡ size parts
     → Stands P (factorial (size parts)) (grown (size parts)) (size parts) (λ n. basis_polynomial basis parts n) c.terms → ClearsTo P (atom basis parts) c
 clears-atom P basis parts c d g s =
@@ -26,7 +26,8 @@ clears-atom P basis parts c d g s =
       stands = subst (λ m. Stands P (factorial (size parts)) m (size parts) (λ n. basis_polynomial basis parts n) c.terms) e s;
     }
 
--- the polynomials of the basis of a family are products over the parts, so a node for the product is one for the atom
+-- let k be the size of `parts`: a value c with the denominator 1 and the degree k represents the atom of `parts` in the basis e, h or p (`ClearsTo`)
+-- if its terms are k! times the product of e_j, h_j or p_j over `parts`, and the absolute values of their coefficients add up to at most `grown k`
 pub family-atom : (P : ℕ → ℕ → Poly) (family : Family) (parts : List ℕ) (c : Node) → c.den ≡ 1 → c.degree ≡ size parts
     → Stands P (factorial (size parts)) (grown (size parts)) (size parts) (product_over (polynomial_of family) parts) c.terms → ClearsTo P (atom (basis_in family) parts) c
 family-atom P Elementary parts c d g s = clears-atom P elementaries parts c d g s

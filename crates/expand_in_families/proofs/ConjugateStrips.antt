@@ -1,4 +1,4 @@
--- Conjugate shapes: the conjugate of the conjugate, and horizontal strips that become vertical ones.
+-- Conjugate shapes: the conjugate of the conjugate, and the conjugates of horizontal strips, which are vertical strips.
 use Rattle.std.proofs.Common.{◌≡◌, ℕ, zero, suc, ◌+◌, ◌-◌, ◌<◌, ◌≤◌, List, map, get_or, refl, sym, ◌∙◌, ap, subst, inl, inr, arith}
 use Rattle.std.proofs.lemmas.Bool.{cases_lt}
 use Rattle.sym_model.specs.Sum.{Among}
@@ -6,13 +6,13 @@ use Rattle.sym_model.specs.Partition.{Falls, IsPartition, IsCell, Holds, part, c
 use Rattle.sym_model.specs.Conjugate.{count_from, conjugate}
 use Rattle.sym_model.specs.Strip.{IsHorizontalStrip, IsVerticalStrip}
 use Rattle.sym_model.proofs.Sums.{Among-map, Among_from_map, Once-map}
-use Rattle.sym_model.proofs.Parts.{past_end, positive_within}
+use Rattle.sym_model.proofs.Parts.{positive_within, rows_held}
 use Rattle.strip_laws.proofs.Containment.{Holds-get_or}
 use Rattle.alternant_laws.proofs.FailingColumns.{at_letter}
 use Rattle.alternant_laws.proofs.StraightShapes.{same_places}
 use Rattle.product_laws.specs.StripLists.{ListsEach, AddsHorizontalStrip, AddsVerticalStrip}
-use Rattle.product_laws.proofs.StripShapes.{rows_held}
 use Rattle.sym_model.proofs.Conjugates.{count_from-most, count_from-least, IsPartition-conjugate, rows-conjugate, size-conjugate}
+use Rattle.std.proofs.lemmas.List.{get_or_past}
 
 -- ---- the rows of the conjugate are the columns of the shape
 
@@ -21,7 +21,7 @@ column_at parts k f = elim (cases_lt k (columns parts)) [
   | inl l ↦ at_letter (λ j. count_from j parts) 0 (columns parts) k l ∙ ap (λ j. count_from j parts) (let e : 0 + suc k ≡ suc k = omega arith in e)
   | inr l ↦
       let r = rows-conjugate parts in
-      let past = past_end (conjugate parts) k (omega arith) in
+      let past = get_or_past (conjugate parts) k 0 (omega arith) in
       let none = count_from-most (suc k) parts 0 f (omega arith) in
       omega arith
 ]
@@ -111,7 +111,8 @@ conjugate_of_vertical outer inner p q s = record {
   once = λ i k column c d. s.once column i k (cell_back outer inner column i p q c) (cell_back outer inner column k p q d);
 }
 
--- a list of the shapes with one more horizontal strip gives one of the conjugate shapes with one more vertical strip
+-- if a list has exactly the partitions that add a horizontal strip of k cells to `inner`, their conjugates are exactly the partitions that add a
+-- vertical strip of k cells to the conjugate of `inner`
 pub conjugate_listed : (k : ℕ) (inner : List ℕ) (list : List (List ℕ)) → IsPartition inner → ListsEach (AddsHorizontalStrip k inner) list
     → ListsEach (AddsVerticalStrip k (conjugate inner)) (map conjugate list)
 conjugate_listed k inner list p l = record { once = Once-map conjugate list apart l.once; members = λ ν. (tells ν, lists ν) }

@@ -1,10 +1,11 @@
--- The list of an expression in the target, divided at the end, expands the expression.
+-- At the end, the list that represents an expression is divided by its denominator times the factorial of its degree: the result expands the
+-- expression in the basis of the target.
 use Rattle.std.proofs.Common.{◌≡◌, ℕ, ◌*◌, ◌<◌, List, sym, ap, ◌∙◌, ℤ, pos, ◌*ℤ◌}
 use Rattle.sym_model.specs.Polynomial.{Poly, coefficient}
 use Rattle.sym_model.specs.Bases.{product_over}
 use Rattle.sym_model.specs.Expansion.{Terms, denominators, value_by, Represents}
 use Rattle.sym_model.specs.WholeTerms.{WholeTerms, combined}
-use Rattle.sym_model.proofs.Ring.{ring}
+use Rattle.sym_model.proofs.Ring.{ring, product_turned}
 use Rattle.sym_model.proofs.Polynomials.{at_only, coefficient_pair, coefficient_scale}
 use Rattle.sym_model.proofs.WholeTerms.{pair_of_combined}
 use Rattle.sparse_polys.specs.Tables.{IsFractionTable}
@@ -34,10 +35,7 @@ expansion-divided P q A d den f W terms some positive s is quotients n =
     }
   where
     crossed : (d q r v w f : ℤ) → (d *ℤ q) *ℤ v ≡ r *ℤ w → w ≡ q *ℤ f → (d *ℤ v) *ℤ q ≡ (r *ℤ f) *ℤ q
-    crossed d q r v w f a b = one d v q ∙ a ∙ ap (λ z. r *ℤ z) b ∙ two r q f
+    crossed d q r v w f a b = one d v q ∙ a ∙ ap (λ z. r *ℤ z) b ∙ sym (product_turned r f q)
       where
         one : (d v q : ℤ) → (d *ℤ v) *ℤ q ≡ (d *ℤ q) *ℤ v
         one d v q = simp ring
-
-        two : (r q f : ℤ) → r *ℤ (q *ℤ f) ≡ (r *ℤ f) *ℤ q
-        two r q f = simp ring

@@ -1,12 +1,12 @@
--- Special rim hooks are rim hooks, from a row of the shape down to its last row, and their signs are those of their heights.
+-- The special rim hooks of a shape are rim hooks that occupy the rows from some row to the last one, and their signs are those of their heights.
 use Rattle.std.proofs.Common.{◌≡◌, ℕ, zero, suc, ◌+◌, ◌-◌, ◌<◌, ◌≤◌, List, [], ◌∷◌, map, length, get_or, refl, sym, ◌∙◌, ap, subst, inl, inr, arith}
-use Rattle.std.proofs.lemmas.List.{length-map}
+use Rattle.std.proofs.lemmas.List.{length-map, get_or_past}
 use Rattle.sym_model.specs.Sum.{Among}
 use Rattle.sym_model.specs.Partition.{ArePositive, IsPartition, part, rows}
 use Rattle.sym_model.specs.PlaceOrders.{minus_one_to}
 use Rattle.sym_model.specs.Strip.{IsRimHook, height}
 use Rattle.sym_model.proofs.Sums.{Among_from_map}
-use Rattle.sym_model.proofs.Parts.{get_or-without_last_zeros, length-without_last_zeros, past_end, positive-at}
+use Rattle.sym_model.proofs.Parts.{get_or-without_last_zeros, length-without_last_zeros, positive-at}
 use Rattle.sym_model.proofs.SortedParts.{IsPartition_tail}
 use Rattle.strip_laws.specs.HookRows.{IsHookRows}
 use Rattle.strip_laws.proofs.RimHooks.{hook_from_rows, height_of_rows}
@@ -34,15 +34,15 @@ first_hook_rows a parts p = record {
   ordered = omega arith;
   above = λ i h l. absurd (omega arith);
   below = λ i l.
-      let u = past_end (a ∷ parts) (i - 1) (omega arith) in
-      let v = past_end (shortened parts) (i - 1) (omega (arith, short)) in
+      let u = get_or_past (a ∷ parts) (i - 1) 0 (omega arith) in
+      let v = get_or_past (shortened parts) (i - 1) 0 (omega (arith, short)) in
       omega (arith, u, v);
   chained = chained;
   end =
       let d : suc (length parts) - 1 ≡ length parts = omega arith in
       let u = ap (λ j. get_or (a ∷ parts) j 0) d in
       let v = ap (λ j. get_or (shortened parts) j 0) d in
-      let w = past_end (shortened parts) (length parts) short in
+      let w = get_or_past (shortened parts) (length parts) 0 short in
       let t = positive-at (a ∷ parts) (length parts) p (omega arith) in
       omega (arith, u, v, w, t);
 }
@@ -90,7 +90,7 @@ lower_hook_rows a outer inner first last h = record {
         let d : suc k + 1 ≡ suc (k + 1) = omega arith in
         ap (part (a ∷ outer)) d ∙ row_below a outer (k + 1) (omega arith) ∙ h.chained k (omega arith) (omega arith) ∙ ap (λ n. n + 1) (sym (row_below a inner k (omega arith)))
 
--- the hook h occupies the rows from `first` to the last row of the shape, and its sign is (-1)^(rows - first)
+-- the special rim hook h occupies the rows from `first` to the last row of the shape, and its sign is (-1)^(rows - first)
 record EndsIn (parts : List ℕ) (h : SpecialHook) : Type 0 where
   first : ℕ
   hook : IsHookRows parts h.rest first (rows parts)

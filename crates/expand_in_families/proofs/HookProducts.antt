@@ -1,18 +1,17 @@
--- A Schur polynomial added up over the special rim hooks of its shape.
+-- A Schur polynomial as a sum over the special rim hooks of its shape: the summand of a hook is the product of its sign, h_k or e_k and the Schur
+-- polynomial of the remaining shape.
 --     hook-law         the polynomial is the sum over the hooks
 --     hook-product     the summand of one hook, as a list
 --     hooks-next       the sum with the summand of one more hook
 --     hooks-done       the sum over all hooks
-use Rattle.std.proofs.Common.{◌≡◌, ℕ, zero, suc, ◌+◌, ◌-◌, ◌*◌, ◌^◌, ◌<◌, ◌≤◌, List, [], ◌∷◌, ◌++◌, map, length, get_or, take, drop, take_all, Some, slice_get, refl, sym, ap, ap₂, ◌∙◌, subst, inl, inr, arith, ℤ, pos, ◌*ℤ◌, append-nil, append_assoc, pow-suc, flat_map}
+use Rattle.std.proofs.Common.{◌≡◌, ℕ, zero, suc, ◌+◌, ◌-◌, ◌*◌, ◌^◌, ◌<◌, ◌≤◌, List, [], ◌∷◌, ◌++◌, map, length, get_or, take, drop, take_all, Some, slice_get, refl, sym, ap, ap₂, ◌∙◌, subst, arith, ℤ, pos, ◌*ℤ◌, append-nil, append_assoc, pow-suc, flat_map}
 use Rattle.std.specs.Prelude.{nat_abs, ◌≢◌}
 use Rattle.std.proofs.lemmas.Nat.{mul-le, pow-add}
-use Rattle.sym_model.specs.Sum.{Among}
 use Rattle.sym_model.specs.Polynomial.{Poly, In, Same, scale, times, plus}
 use Rattle.sym_model.specs.Partition.{IsPartition, size, rows}
 use Rattle.sym_model.specs.PlaceOrders.{minus_one_to}
 use Rattle.sym_model.specs.Weight.{factorial}
 use Rattle.sym_model.specs.WholeTerms.{WholeTerms}
-use Rattle.sym_model.proofs.Numbers.{power-base}
 use Rattle.sym_model.proofs.Polynomials.{Same_refl, Same_sym}
 use Rattle.sym_model.proofs.PolynomialLaws.{scale-times}
 use Rattle.sym_model.proofs.SortedParts.{rows_within_size}
@@ -28,8 +27,10 @@ use Rattle.sparse_polys.specs.declared.family.Family.TheVariants.{Elementary, Co
 use Rattle.sparse_polys.specs.Families.{polynomial_of}
 use Rattle.expand_in_families.specs.SchurLists.{schur_in}
 use native.Mathlib.Nat.{mul-le-mul_left}
+use Rattle.std.proofs.Math.Nat.{mul_comm, pow-le-pow_left}
+use Rattle.family_lists.proofs.KeptLists.{among-slice}
 
--- ---- the hooks of a shape by their first rows
+-- ---- the special rim hook that ends in row i, counted from 0
 
 abbrev pub hook_of : List ℕ → ℕ → SpecialHook
 hook_of parts i = record {
@@ -54,15 +55,10 @@ hook-at (a ∷ parts) (suc i) h =
     slice_get-map (below_row a) (special_hooks parts) i (hook_of parts i) (hook-at parts i (omega arith))
     ∙ ap₂ (λ m k. Some (record { sign = minus_one_to m; cells = get_or parts i 0 + m; rest = a ∷ take i parts ++ shortened (drop k (a ∷ parts)) })) e j
 
-among-at : (hs : List SpecialHook) (i : ℕ) (h : SpecialHook) → slice_get hs i ≡ Some h → Among h hs
-among-at [] i h e = cc
-among-at (g ∷ hs) zero h e = inl (let same : h ≡ g = cc in same)
-among-at (g ∷ hs) (suc i) h e = inr (among-at hs i h e)
-
 pub hook-rest : (parts : List ℕ) (i : ℕ) → IsPartition parts → i < length parts → IsRest parts (hook_of parts i)
-hook-rest parts i p h = hook_rest parts (hook_of parts i) p (among-at (special_hooks parts) i (hook_of parts i) (hook-at parts i h))
+hook-rest parts i p h = hook_rest parts (hook_of parts i) p (among-slice (special_hooks parts) i (hook_of parts i) (hook-at parts i h))
 
--- ---- the sum over the special rim hooks
+-- ---- the polynomial of a shape as the sum over its special rim hooks
 
 abbrev pub hook_term : Family → ℕ → SpecialHook → Poly
 hook_term family n h = scale h.sign (times (polynomial_of family h.cells n) (schur_in family h.rest n))
@@ -77,7 +73,7 @@ each-more f [] i h e = cc
 each-more f (g ∷ hs) zero h e = let same : g ≡ h = cc in append-nil (f g) ∙ ap f same
 each-more f (g ∷ hs) (suc i) h e = ap (λ l. f g ++ l) (each-more f hs i h e) ∙ sym (append_assoc (f g) (flat_map f (take i hs)) (f h))
 
--- ---- bounds: the sum over d hooks, each within its bound, is within the growth
+-- ---- the bound `peeled d` for the summand of one hook of a shape of d cells; for d > 0, d·(`peeled d`) is `grown d`
 
 abbrev pub peeled : ℕ → ℕ
 peeled d = factorial d * (2 * (2 * d) ^ (d - 1))
@@ -88,13 +84,10 @@ peeled-all (suc e) h =
     let one : suc e - 1 ≡ e = omega arith in
     ap (λ k. suc e * (factorial (suc e) * (2 * (2 * suc e) ^ k))) one
     ∙ grouped (suc e) (factorial (suc e)) ((2 * suc e) ^ e)
-    ∙ ap (λ x. factorial (suc e) * x) (turned (2 * suc e) ((2 * suc e) ^ e) ∙ sym (pow-suc (2 * suc e) e))
+    ∙ ap (λ x. factorial (suc e) * x) (mul_comm (2 * suc e) ((2 * suc e) ^ e) ∙ sym (pow-suc (2 * suc e) e))
   where
     grouped : (d f x : ℕ) → d * (f * (2 * x)) ≡ f * (2 * d * x)
     grouped d f x = omega arith
-
-    turned : (x y : ℕ) → x * y ≡ y * x
-    turned x y = omega arith
 
 pub peeled-part : (k s c : ℕ) → 0 < k → c * (factorial k * factorial s) ≡ factorial (k + s) → c * ((factorial k * 2 ^ k) * grown s) ≤ peeled (k + s)
 peeled-part zero s c h e = absurd (omega arith)
@@ -102,7 +95,7 @@ peeled-part (suc j) s c h e =
     let d = suc j + s in
     let y = (2 * s) ^ s in
     let p = two-up j (suc j + s) (omega arith) in
-    let q = power-base (2 * s) (2 * (suc j + s)) s (omega arith) in
+    let q = pow-le-pow_left {n = (2 * s)} {m = (2 * (suc j + s))} (omega arith) s in
     let r = mul-le (2 ^ j) ((2 * s) ^ s) ((2 * (suc j + s)) ^ j) ((2 * (suc j + s)) ^ s) p q in
     let a = pow-add (2 * (suc j + s)) j s in
     let b : j + s ≡ suc j + s - 1 = omega arith in
@@ -114,12 +107,12 @@ peeled-part (suc j) s c h e =
     rw (grown-is s, pow-suc 2 j) (omega arith)
   where
     two-up : (k d : ℕ) → 1 ≤ d → 2 ^ k ≤ (2 * d) ^ k
-    two-up k d h = power-base 2 (2 * d) k (omega arith)
+    two-up k d h = pow-le-pow_left {n = 2} {m = (2 * d)} (omega arith) k
 
     grouped : (c o x v y : ℕ) → c * ((o * (2 * x)) * (v * y)) ≡ (c * (o * v)) * (2 * (x * y))
     grouped c o x v y = omega arith
 
--- ---- the lists of the summands of the hooks, added one by one
+-- ---- the lists of the summands of the hooks, added one after another
 
 module _ (P : ℕ → ℕ → Poly) (places : (n k : ℕ) → In n (P k n)) where
   pub hook-product : (k s c : ℕ) (σ z : ℤ) (f g : ℕ → Poly) (W V : WholeTerms) → 0 < k → nat_abs σ ≡ 1 → z ≡ pos c *ℤ σ → c * (factorial k * factorial s) ≡ factorial (k + s)
@@ -133,7 +126,8 @@ module _ (P : ℕ → ℕ → Poly) (places : (n k : ℕ) → In n (P k n)) wher
       (λ n. Same_sym (scale σ (times (f n) (g n))) (times (scale σ (f n)) (g n)) (scale-times σ (f n) (g n)))
       (stands-product P places (factorial k) (factorial k * 2 ^ k) k (factorial s) (grown s) s (factorial (k + s)) (peeled (k + s)) c (λ n. scale σ (f n)) g (scale σ W) V signed v e (peeled-part k s c some e))))
 
--- the sum over i + 1 hooks is that over the first i and the summand of h
+-- if S is q times the sum of the summands of the first i hooks, and T is q times the summand of the next hook h, then S ++ T is q times the sum of
+-- the summands of the first i + 1 hooks
 pub hooks-next : (P : ℕ → ℕ → Poly) (q B d : ℕ) (f : ℕ → SpecialHook → Poly) (hs : List SpecialHook) (i : ℕ) (h : SpecialHook) (S T : WholeTerms) → slice_get hs i ≡ Some h
     → Stands P q (i * B) d (λ n. flat_map (f n) (take i hs)) S → Stands P q B d (λ n. f n h) T → Stands P q ((i + 1) * B) d (λ n. flat_map (f n) (take (i + 1) hs)) (S ++ T)
 hooks-next P q B d f hs i h S T e s t =
@@ -145,8 +139,8 @@ hooks-next P q B d f hs i h S T e s t =
     one_more : (i x : ℕ) → i * x + x ≤ (i + 1) * x
     one_more i x = omega arith
 
--- the sum over all hooks is k! times the polynomial of the shape, k its size; it is within the growth, since there are at most as
--- many hooks as cells
+-- if S is d! times the sum of the summands of all special rim hooks of a shape of d cells, and its absolute values add up to at most `peeled d` times
+-- the number of these hooks, then S is d! times the polynomial of the shape, and its absolute values add up to at most `grown d`
 pub hooks-done : (P : ℕ → ℕ → Poly) (family : Family) → family ≢ PowerSum → (parts : List ℕ) (i : ℕ) (S : WholeTerms) → IsPartition parts → 1 ≤ length parts → length parts ≡ i
     → Stands P (factorial (size parts)) (i * peeled (size parts)) (size parts) (λ n. flat_map (hook_term family n) (take i (special_hooks parts))) S
     → Stands P (factorial (size parts)) (grown (size parts)) (size parts) (schur_in family parts) S

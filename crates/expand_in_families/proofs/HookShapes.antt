@@ -9,7 +9,7 @@ use Rattle.sym_model.proofs.SortedParts.{IsPartition-without_last_zeros, size-wi
 use Rattle.strip_laws.proofs.Strips.{falls_get}
 use Rattle.expand_in_families.specs.SpecialHooks.{SpecialHook, shortened, below_row, special_hooks}
 
--- ---- rows shortened by one cell
+-- ---- the rows of a shape, each shortened by one cell
 
 lowered_falls : (parts : List ℕ) → Falls parts → Falls (map (λ a. a - 1) parts)
 lowered_falls [] f = tt
@@ -29,7 +29,7 @@ shortened_first parts = omega (arith, get_or-without_last_zeros (map (λ a. a - 
 
 -- ---- the shape that remains after a special rim hook is removed
 
--- no row of a remaining shape is longer than the first row of the shape
+-- if a shape remains after a special rim hook of `parts` is removed, its first row is at most as long as the first row of `parts`
 hook_first : (parts : List ℕ) (h : SpecialHook) → Falls parts → Among h (special_hooks parts) → get_or h.rest 0 0 ≤ get_or parts 0 0
 hook_first [] h f m = absurd m
 hook_first (a ∷ parts) h f (inl e) =
@@ -38,7 +38,8 @@ hook_first (a ∷ parts) h f (inr m) =
     let found = Among_from_map (below_row a) h (special_hooks parts) m in
     subst (λ (g : SpecialHook). get_or g.rest 0 0 ≤ a) (sym found.2) (omega arith)
 
--- the remaining shape is a partition of the number of cells that are not in the hook, and has fewer rows
+-- the special rim hook h of the shape `parts` has at least one cell, and the shape that remains without h is a partition of the number of cells of
+-- `parts` outside h, with fewer rows than `parts`
 pub record IsRest (parts : List ℕ) (h : SpecialHook) : Type 0 where
   pub partition : IsPartition h.rest
   pub some : 1 ≤ h.cells

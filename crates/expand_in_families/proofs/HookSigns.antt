@@ -1,5 +1,5 @@
--- The signs of the special rim hooks whose remaining shapes a given shape covers by a horizontal strip: they cancel
--- unless that is the shape of the hooks.
+-- A partition covers another one if it is obtained from it by adding a horizontal strip. Let ν be a partition of the size of a nonempty shape λ: the
+-- signs of those special rim hooks h of λ for which ν covers the shape that remains without h have the sum 1 if ν = λ, and 0 otherwise.
 use Rattle.std.proofs.Common.{◌≡◌, ℕ, suc, ◌+◌, ◌-◌, ◌<◌, ◌≤◌, Bool, true, false, ◌&&◌, not, cond, nat_le, List, [], ◌∷◌, map, length, refl, sym, ◌∙◌, ap, ap₂, inl, inr, arith, ℤ, pos, ◌+ℤ◌, ◌*ℤ◌, neg_ℤ, filter}
 use Rattle.std.proofs.lemmas.Int.{ints}
 use Rattle.std.proofs.lemmas.Bool.{true≢false, false≢true, not-true, and_parts, and_from, le-leb, lt-leb, leb-true, leb-false, cases_lt}
@@ -20,16 +20,15 @@ use Rattle.expand_in_families.specs.SpecialHooks.{SpecialHook, below_row, specia
 use Rattle.expand_in_families.proofs.HookShapes.{lowered_size}
 use lib.IntN.{+ℤ_idl, +ℤ_idr, *ℤ-zero}
 
--- ---- two lists of rows that interlace
+-- ---- lists x₁, x₂, .. and y₁, y₂, .. that interlace: x₁ ≥ y₁ ≥ x₂ ≥ y₂ ≥ ..
 
--- whether x and the numbers of the two lists in turn are weakly decreasing: those of the second list lie between x and those
--- of the first
+-- whether x, the first number κ₁ of the second list, the first number y₁ of the first list, κ₂, y₂ and so on are weakly decreasing
 abbrev pub between : ℕ → List ℕ → List ℕ → Bool
 between x [] κ = true
 between x (y ∷ ys) [] = true
 between x (y ∷ ys) (c ∷ κ) = nat_le c x && (nat_le y c && between y ys κ)
 
--- whether the numbers of the two lists in turn, the first list first, are weakly decreasing
+-- whether the numbers of the two lists, alternating and beginning with the first list, are weakly decreasing
 abbrev pub interlaces : List ℕ → List ℕ → Bool
 interlaces [] κ = true
 interlaces (x ∷ xs) κ = between x xs κ
@@ -38,11 +37,11 @@ interlaces (x ∷ xs) κ = between x xs κ
 abbrev pub indicator : Bool → ℤ
 indicator b = cond b (pos 1) (pos 0)
 
--- the sum of the signs of the hooks of a ∷ bs whose remaining shapes the row x and the rows xs interlace
+-- the sum of the signs of the special rim hooks of a ∷ bs whose remaining shapes interlace with the rows x ∷ xs
 abbrev pub signs_over : ℕ → List ℕ → ℕ → List ℕ → ℤ
 signs_over x xs a bs = total (λ (h : SpecialHook). h.sign *ℤ indicator (between x xs (resize (length bs) h.rest))) (special_hooks (a ∷ bs))
 
--- ---- the sum of the signs of the special rim hooks
+-- ---- the sum of the signs of the special rim hooks whose remaining shapes interlace with given rows
 
 combined_signs : (s z v : ℤ) → neg_ℤ s *ℤ v +ℤ (z +ℤ s *ℤ v) ≡ z +ℤ neg_ℤ s *ℤ pos 0
 combined_signs s z v = simp ring (omega (arith, ints))
@@ -77,8 +76,8 @@ turned_test y b h = elim (cases_lt y b) [
   | inr l ↦ rw (lt-leb y (b - 1) (omega arith), le-leb b y l) refl
 ]
 
--- the sum of the signs is 1 if a ≤ x and a, bs and ys interlace; it is (-1)^(length bs) if x < a and x, ys and the numbers
--- of bs less 1 interlace; otherwise it is 0
+-- let cs be the numbers of bs, each less 1. The sum of the signs of the special rim hooks of a ∷ bs whose remaining shapes interlace with x ∷ ys
+-- (`signs_over`) is 1 if a ≤ x and `between a bs ys`; it is (-1)^(length bs) if x < a and `between x ys cs`; otherwise it is 0
 pub sum_of_signs : (a x : ℕ) (bs ys : List ℕ) → Falls (a ∷ bs) → ArePositive bs → length ys ≡ length bs
     → signs_over x ys a bs
     ≡ indicator (nat_le a x && between a bs ys) +ℤ minus_one_to (length bs) *ℤ indicator (not (nat_le a x) && between x ys (map (λ b. b - 1) bs))
@@ -102,7 +101,7 @@ sum_of_signs a x (b ∷ bs) (y ∷ ys) f p e =
     (λ t. le-leb y a (omega (arith, leb-true y (b - 1) t, f.0)))
     (turned_test y b p.0)
 
--- ---- the sizes of interlacing lists
+-- ---- the sizes of two lists that interlace
 
 held_size : (x : ℕ) (ys κ : List ℕ) → length ys ≡ length κ → between x ys κ ≡ true → size ys ≤ size κ
 held_size x [] κ e t = omega arith
@@ -165,13 +164,13 @@ signs_elsewhere a x bs ys f p e s other =
         let low = lowered_size bs p in
         absurd (omega arith)
 
--- ---- interlacing rows as a horizontal strip of partitions
+-- ---- whether the rows of two partitions interlace (`covers`), as the test for a horizontal strip
 
--- whether outer has at most m + 1 rows, and outer/inner is a horizontal strip, for inner with at most m rows
+-- for inner with at most m rows: whether outer has at most m + 1 rows and outer/inner is a horizontal strip, as a test of interlacing rows
 abbrev pub covers : ℕ → List ℕ → List ℕ → Bool
 covers m outer inner = nat_le (rows outer) (suc m) && interlaces (resize (suc m) outer) (resize m inner)
 
--- the sum of the signs of the hooks of a ∷ bs whose remaining shapes `outer` covers (`covers`: by a horizontal strip)
+-- the sum of the signs of the special rim hooks of a ∷ bs to whose remaining shapes `outer` adds a horizontal strip (`covers`)
 abbrev pub signs_covered : List ℕ → ℕ → List ℕ → ℤ
 signs_covered outer a bs = total (λ (h : SpecialHook). h.sign *ℤ indicator (covers (length bs) outer h.rest)) (special_hooks (a ∷ bs))
 
@@ -203,13 +202,14 @@ covered_elsewhere outer a bs o p s other = elim (cases_lt (suc (length bs)) (row
         ∙ signs_elsewhere a x bs ys p.falls p.positive.1 (omega arith) (omega arith)
         (λ g. other (sym (without_last_zeros-resize (suc (length bs)) outer o.positive l) ∙ ap without_last_zeros (e ∙ g) ∙ without_last_zeros-positive (a ∷ bs) p.positive))
 
--- ---- the signed sum over all shapes of the size of the given shape
+-- ---- the sum over the special rim hooks h of a shape, with signs, of sums over the partitions of its size that cover the shape without h
 
 factor_out : (s : ℤ) (b : Bool) (z : ℤ) → s *ℤ cond b z (pos 0) ≡ z *ℤ (s *ℤ indicator b)
 factor_out s true z = simp ring (omega (arith, ints))
 factor_out s false z = simp ring (omega (arith, ints))
 
--- the signed sum of F over the shapes that cover each hook's remaining shape is F of the shape itself
+-- the sum, over the special rim hooks of a shape, of the sign of the hook times the sum of F over the partitions of the size of the shape that cover
+-- the remaining shape (`covers`), is F of the shape itself
 pub signed_sum : (F : List ℕ → ℤ) (a : ℕ) (bs : List ℕ) → IsPartition (a ∷ bs)
     → total (λ (h : SpecialHook). h.sign *ℤ total F (filter (λ ν. covers (length bs) ν h.rest) (partitions_of (size (a ∷ bs))))) (special_hooks (a ∷ bs))
     ≡ F (a ∷ bs)

@@ -1,4 +1,4 @@
--- The shapes that cover a hook's remaining shape are those that add a horizontal strip to it.
+-- The partitions that cover the remaining shape of a special rim hook (`covers`) are those that add a horizontal strip to it.
 use Rattle.std.proofs.Common.{◌≡◌, ℕ, zero, suc, ◌+◌, ◌-◌, ◌≤◌, true, ◌&&◌, nat_le, List, [], ◌∷◌, length, get_or, refl, sym, ◌∙◌, ap, inl, inr, arith, filter}
 use Rattle.std.proofs.lemmas.Bool.{and_parts, and_from, le-leb, leb-true, cases_lt}
 use Rattle.sym_model.specs.Sum.{Among}
@@ -8,19 +8,20 @@ use Rattle.sym_model.specs.Polynomial.{resize}
 use Rattle.sym_model.specs.Strip.{IsHorizontalStrip}
 use Rattle.sym_model.proofs.Sums.{Among-select, Among_from_select, Once-select}
 use Rattle.sym_model.proofs.Exponents.{length-resize}
-use Rattle.sym_model.proofs.Parts.{get_or-without_last_zeros, past_end, positive-at}
+use Rattle.sym_model.proofs.Parts.{positive-at}
 use Rattle.sym_model.proofs.PartitionLists.{partitions_of-tells, Among-partitions_of, Once-partitions_of}
 use Rattle.strip_laws.proofs.Strips.{horizontal_from_rows, horizontal_rows}
 use Rattle.strip_laws.proofs.Containment.{Holds-get_or}
-use Rattle.alternant_laws.proofs.FallingAlternants.{without_last_zeros-resize}
 use Rattle.product_laws.specs.StripLists.{ListsEach, AddsHorizontalStrip}
 use Rattle.expand_in_families.specs.SpecialHooks.{SpecialHook, special_hooks}
 use Rattle.expand_in_families.proofs.HookShapes.{hook_rest}
 use Rattle.expand_in_families.proofs.HookSigns.{between, interlaces, covers}
+use Rattle.std.proofs.lemmas.List.{get_or_past}
+use Rattle.product_laws.proofs.StripShapes.{get-padded}
 
--- ---- lists of rows that interlace, place by place
+-- ---- two lists of rows that interlace, as a condition on each row
 
--- each row of inner is at most that of outer, and at least the next one of outer
+-- for each i, row i of inner is at most row i of outer, and at least row i + 1 of outer
 abbrev IsInterlaced : List ℕ → List ℕ → Type 0
 IsInterlaced outer inner = (k : ℕ) → (get_or inner k 0 ≤ get_or outer k 0) × (get_or outer (suc k) 0 ≤ get_or inner k 0)
 
@@ -50,10 +51,7 @@ interlaces_from : (r κ : List ℕ) → IsInterlaced r κ → interlaces r κ �
 interlaces_from [] κ h = refl
 interlaces_from (x ∷ xs) κ h = between_from x xs κ h
 
-padded_row : (n : ℕ) (parts : List ℕ) → IsPartition parts → rows parts ≤ n → (k : ℕ) → get_or (resize n parts) k 0 ≡ get_or parts k 0
-padded_row n parts p l k = sym (get_or-without_last_zeros (resize n parts) k) ∙ ap (λ u. get_or u k 0) (without_last_zeros-resize n parts p.positive l)
-
--- ---- a horizontal strip is a pair of interlacing shapes
+-- ---- outer/inner is a horizontal strip if and only if the rows of outer and inner interlace
 
 strip_tells : (outer inner : List ℕ) → Falls outer → Falls inner → IsHorizontalStrip outer inner → IsInterlaced outer inner
 strip_tells outer inner f g s k =
@@ -85,9 +83,9 @@ covers_tells m outer inner p q few t =
     let h = interlaces_tells (resize (suc m) outer) (resize m inner) long b.1 in
     strip_from outer inner p.falls
     (λ k.
-    let u = padded_row (suc m) outer p l k in
-    let v = padded_row (suc m) outer p l (suc k) in
-    let w = padded_row m inner q few k in
+    let u = get-padded (suc m) outer k l in
+    let v = get-padded (suc m) outer (suc k) l in
+    let w = get-padded m inner k few in
     (omega (arith, u, w, (h k).0), omega (arith, v, w, (h k).1)))
 
 covers_from : (m : ℕ) (outer inner : List ℕ) → IsPartition outer → IsPartition inner → rows inner ≤ m → IsHorizontalStrip outer inner
@@ -96,9 +94,9 @@ covers_from m outer inner p q few s =
     and_from (nat_le (rows outer) (suc m)) (interlaces (resize (suc m) outer) (resize m inner)) (le-leb (rows outer) (suc m) short)
     (interlaces_from (resize (suc m) outer) (resize m inner)
     (λ k.
-    let u = padded_row (suc m) outer p short k in
-    let v = padded_row (suc m) outer p short (suc k) in
-    let w = padded_row m inner q few k in
+    let u = get-padded (suc m) outer k short in
+    let v = get-padded (suc m) outer (suc k) short in
+    let w = get-padded m inner k few in
     (omega (arith, u, w, (h k).0), omega (arith, v, w, (h k).1))))
   where
     h : IsInterlaced outer inner
@@ -108,14 +106,14 @@ covers_from m outer inner p q few s =
     short = elim (cases_lt (suc m) (rows outer)) [
       | inl l ↦
           let a = positive-at outer (suc m) p.positive l in
-          let b = past_end inner m few in
+          let b = get_or_past inner m 0 few in
           absurd (omega (arith, a, b, (h m).1))
       | inr l ↦ l
     ]
 
--- ---- the list of the shapes that cover a remaining shape
+-- ---- the list of the partitions that cover the remaining shape of a hook
 
--- the shapes that cover the remaining shape of a hook of a ∷ bs, among all shapes of the size of a ∷ bs
+-- the partitions of the size of a ∷ bs that cover the remaining shape of the special rim hook h of a ∷ bs (`covers`)
 abbrev pub covering : ℕ → List ℕ → SpecialHook → List (List ℕ)
 covering a bs h = filter (λ ν. covers (length bs) ν h.rest) (partitions_of (size (a ∷ bs)))
 

@@ -1,4 +1,4 @@
--- A monomial symmetric polynomial, changed into the target.
+-- A monomial symmetric polynomial, changed into the target e, h or p.
 use Rattle.std.proofs.Common.{ℕ, ◌*◌, ◌≤◌, List, [], ◌∷◌, sym, ◌∙◌, arith, pos}
 use Rattle.sym_model.specs.Partition.{size}
 use Rattle.sym_model.specs.Polynomial.{Poly, Same, scale}
@@ -24,7 +24,8 @@ use Rattle.basis_change.specs.ClearedAnswer.{IsMultiplied}
 use Rattle.basis_change.proofs.Bounds.{same_growth}
 use Rattle.basis_change.proofs.ClearedAnswers.{bounded-terms}
 
--- a list that represents f over q by products over the parts is an expansion of f over q in the basis of the family
+-- a list that represents f divided by q, with its labels read as products of e_k, h_k or p_k over their parts, is an expansion of f divided by q in
+-- the basis e, h or p
 pub expansion-family : (family : Family) (terms : Terms (List ℕ)) (n : ℕ) (f : Poly) (q : ℕ) → Represents (λ label. product_over (polynomial_of family) label n) terms f q → IsExpansionOf (basis_in family) terms n f q
 expansion-family Elementary terms n f q h = h
 expansion-family Complete terms n f q h = h
@@ -40,7 +41,7 @@ multiple-family Elementary q list terms h = h
 multiple-family Complete q list terms h = h
 multiple-family PowerSum q list terms h = h
 
--- a list with the single term m_label
+-- `list` is the list in m with the one term m_label
 module _ (label : List ℕ) (list : WholeTerms) (table : IsWholeTable list) (same : Same list ((label, pos 1) ∷ [])) where
   is-list : IsList list (monomial label)
   is-list = list_respects ((label, pos 1) ∷ []) list (monomial label) (Same_sym list ((label, pos 1) ∷ []) same) (list-monomial label)
@@ -48,7 +49,8 @@ module _ (label : List ℕ) (list : WholeTerms) (table : IsWholeTable list) (sam
   pub bounded-monomial : IsBoundedBy 1 list
   bounded-monomial = bounded-terms 1 (size label) list (monomial label) table is-list (bounded-atom Basis.monomials label)
 
-  -- the list changed into the target is d! times m_label, d the size of the label, and is within the growth at d
+  -- let d be the size of the label: if `terms` is d! times `list`, changed into the target, and its absolute values add up to at most the growth into
+  -- the target at d, then `terms` is d! times m_label, with absolute values that add up to at most `grown d` (`Stands`)
   pub monomial-stands : (target : Family) (terms : WholeTerms) → IsWholeTable terms → AreWithin (size label) terms → IsMultipleIn (basis_in target) (factorial (size label)) list terms
       → absolute_total terms ≤ 1 * growth (basis_in target) (size label)
       → Stands (polynomial_of target) (factorial (size label)) (grown (size label)) (size label) (monomial label) terms

@@ -1,4 +1,4 @@
--- The node (a list, a denominator and a degree) of a sum of two expressions.
+-- The value (a list, a denominator and a degree) of a sum of two expressions, in a target e, h or p.
 use Rattle.std.proofs.Common.{◌≡◌, ◌⊎◌, ℕ, ◌+◌, ◌*◌, ◌/◌, ◌^◌, ◌<◌, ◌≤◌, max, sym, ◌∙◌, ap, ap₂, subst, inl, inr, arith, ℤ, pos, ◌*ℤ◌}
 use Rattle.std.specs.Prelude.{nat_abs}
 use Rattle.std.proofs.lemmas.Nat.{mul-le}
@@ -22,8 +22,10 @@ use Rattle.family_lists.proofs.TableLists.{table-stands}
 use Rattle.expand_in_families.proofs.Nodes.{growth-within_weight, denominator-within_weight}
 use Rattle.sym_model.proofs.WholeTerms.{absolute-append}
 use native.Mathlib.Nat.{mul-le-mul_left, mul-pos}
+use Rattle.std.proofs.Math.Nat.{mul_assoc, add-mul}
 
--- if p·A + q·B is refused as too large, |p| times the sum of the absolute values of A plus |q| times that of B is at least 2^127
+-- if p·A, q·B or p·A + q·B has a coefficient of absolute value 2^127 or more (`SumIsLarge`), then |p| times the sum of the absolute values of A plus
+-- |q| times that of B is at least 2^127
 sum-large : (A B : WholeTerms) (p q : ℤ) → SumIsLarge A B p q → 2 ^ 127 ≤ nat_abs p * absolute_total A + nat_abs q * absolute_total B
 sum-large A B p q (inl l) =
     let a = coefficient-few (scale p A) l.label in let b = absolute-scale p A in let g = l.large in omega arith
@@ -37,8 +39,7 @@ sum-large A B p q (inr (inr l)) =
     let g = l.large in
     omega arith
 
--- if degree e ≤ d and k·(degree e)! = d!, then l·k·N times the growth at degree e is at most N·l times the growth at d, N the
--- numerator of e
+-- let N be the numerator of e: if degree e ≤ d and k·(degree e)! = d!, then l·k·N·`grown`(degree e) is at most N·l·`grown`(d)
 part-bound : (e : Tree) (l k d : ℕ) → degree e ≤ d → k * factorial (degree e) ≡ factorial d → (l * k) * (numerator e * grown (degree e)) ≤ (numerator e * l) * grown d
 part-bound e l k d h w =
     let g = grown-raised (degree e) d k h w in
@@ -57,14 +58,12 @@ part-stands P e c l k d h w i =
     stands-raised P (factorial (degree e)) (numerator e * grown (degree e)) (k * (numerator e * grown (degree e))) (degree e) (factorial d) k (cleared_value e) c.terms i.stands w (omega arith) in
     let wide = stands-weaken P (factorial d) (k * (numerator e * grown (degree e))) (k * (numerator e * grown (degree e))) (degree e) d (cleared_value e) (scale (pos k) c.terms) raised (omega arith) h in
     let b = part-bound e l k d h w in
-    let g : l * (k * (numerator e * grown (degree e))) ≡ (l * k) * (numerator e * grown (degree e)) = grouped l k (numerator e * grown (degree e)) in
+    let g : l * (k * (numerator e * grown (degree e))) ≡ (l * k) * (numerator e * grown (degree e)) = sym (mul_assoc l k (numerator e * grown (degree e))) in
     subst (λ W. Stands P (factorial d) ((numerator e * l) * grown d) d (λ n. scale (pos l) (cleared_value e n)) W) (scale-scale (pos l) (pos k) c.terms)
     (stands-scale P (factorial d) (k * (numerator e * grown (degree e))) ((numerator e * l) * grown d) d (pos l) (cleared_value e) (scale (pos k) c.terms) wide (omega arith))
-  where
-    grouped : (x y z : ℕ) → x * (y * z) ≡ (x * y) * z
-    grouped x y z = omega arith
 
--- a sum of e and f, whose nodes are multiplied by the factors k and j
+-- let c and d be values of e and f (`ClearsTo`), and k and j the factors by which the factorials of the degrees of e and f are multiplied to give the
+-- factorial of the greater degree
 module _ (P : ℕ → ℕ → Poly) (e f : Tree) (c d : Node) (k j : ℕ) (he : HasDenominators e) (hf : HasDenominators f) (x : ClearsTo P e c) (y : ClearsTo P f d)
     (kw : k * factorial c.degree ≡ factorial (max c.degree d.degree)) (jw : j * factorial d.degree ≡ factorial (max c.degree d.degree)) where
   kd : k * factorial (degree e) ≡ factorial (max (degree e) (degree f))
@@ -101,19 +100,17 @@ module _ (P : ℕ → ℕ → Poly) (e f : Tree) (c d : Node) (k j : ℕ) (he : 
       spread : (a b g : ℕ) → a * g + b * g ≤ (a + b) * g
       spread a b g = omega arith
 
-  -- the bounds of l·k times the left list and of r·j times the right list add up to at most the weight
+  -- let l and r be the least common multiple of the denominators of e and f, divided by that of e and by that of f: l·k times the bound of the list
+  -- of e and r·j times the bound of the list of f add up to at most the weight of e + f
   met : (l r : ℕ) → l ≡ lcm (denominator e) (denominator f) / denominator e → r ≡ lcm (denominator e) (denominator f) / denominator f
       → (l * k) * (numerator e * grown (degree e)) + (r * j) * (numerator f * grown (degree f)) ≤ weight Basis.completes (sum e f)
   met l r li ri =
       let a = part-bound e l k (max (degree e) (degree f)) (omega arith) kd in
       let b = part-bound f r j (max (degree e) (degree f)) (omega arith) jd in
       let w = growth-within_weight (sum e f) (he, hf) in
-      let s = spread (numerator e * l) (numerator f * r) (grown (max (degree e) (degree f))) in
+      let s = add-mul (numerator e * l) (numerator f * r) (grown (max (degree e) (degree f))) in
       let t = ap₂ (λ u v. (numerator e * u + numerator f * v) * grown (max (degree e) (degree f))) li ri in
       omega arith
-    where
-      spread : (a b g : ℕ) → (a + b) * g ≡ a * g + b * g
-      spread a b g = omega arith
 
   pub large-factors : (p q : ℤ) → p ≡ pos (lcm c.den d.den / c.den) *ℤ pos k → q ≡ pos (lcm c.den d.den / d.den) *ℤ pos j
       → (2 ^ 127 ≤ nat_abs p) ⊎ (2 ^ 127 ≤ nat_abs q) → 2 ^ 127 ≤ weight Basis.completes (sum e f)

@@ -1,15 +1,15 @@
--- The nodes (a list, a denominator and a degree) of numbers, negations and products, and the expressions that they represent.
-use Rattle.std.proofs.Common.{◌≡◌, ℕ, ◌+◌, ◌*◌, ◌^◌, ◌≤◌, max, [], ◌∷◌, sym, ◌∙◌, ap, ap₂, refl, arith, ℤ, pos, negsuc, neg_ℤ, ◌*ℤ◌, ◌+ℤ◌}
+-- The values (a list, a denominator and a degree) of numbers, negations and products, in a target e, h or p.
+use Rattle.std.proofs.Common.{◌≡◌, ℕ, ◌+◌, ◌*◌, ◌^◌, ◌≤◌, max, [], ◌∷◌, sym, ◌∙◌, ap, ap₂, refl, arith, ℤ, pos, negsuc, ◌*ℤ◌, ◌+ℤ◌}
 use Rattle.std.specs.Prelude.{nat_abs}
 use Rattle.std.proofs.lemmas.Int.{ints}
 use Rattle.std.proofs.lemmas.Nat.{mul-le}
-use Rattle.sym_model.specs.Polynomial.{Poly, In, Same, coefficient, negate, scale, one, pair}
+use Rattle.sym_model.specs.Polynomial.{Poly, In, Same, scale, one, pair}
 use Rattle.sym_model.specs.Expansion.{Basis}
 use Rattle.sym_model.specs.Expression.{Tree, number, fraction, negation, product, degree, denominator, cleared_value}
 use Rattle.sym_model.specs.Weight.{factorial, numerator, weight}
 use Rattle.sym_model.specs.WholeTerms.{absolute_total}
 use Rattle.sym_model.proofs.Numbers.{times-more}
-use Rattle.sym_model.proofs.Polynomials.{coefficient_scale, coefficient_negate, pair_scale}
+use Rattle.sym_model.proofs.Polynomials.{pair_scale}
 use Rattle.monomial_laws.specs.ExpressionTerms.{HasDenominators}
 use Rattle.monomial_laws.proofs.WeightBounds.{denominator-positive, numerator-positive}
 use Rattle.sparse_polys.specs.MonomialProducts.{greatest_size}
@@ -28,20 +28,22 @@ use Rattle.family_lists.proofs.PartLists.{one_label}
 use Rattle.family_lists.proofs.RowSteps.{large-products}
 use Rattle.family_lists.proofs.TableLists.{stands-greatest, table-stands}
 use native.Mathlib.Nat.{mul-le-mul_left, mul-le-mul_right}
+use Rattle.std.proofs.Math.Nat.{mul_assoc}
+use Rattle.basis_expand.proofs.Conversions.{minus_once}
 
--- ---- the numbers of a node are at most the weight of its expression
+-- ---- the bound of the list of an expression, and its denominator, are at most the weight of the expression
 
 pub growth-within_weight : (e : Tree) → HasDenominators e → numerator e * grown (degree e) ≤ weight Basis.completes e
 growth-within_weight e h = mul-le (numerator e) (grown (degree e)) (numerator e * denominator e) (grown (degree e)) (times-more (numerator e) (denominator e) (denominator-positive e h)) (omega arith)
 
--- if the denominators of e are positive, its denominator times the factorial of its degree, by which the list is divided at the
--- end, is at most the weight
+-- if the denominators in e are positive, the denominator of e times the factorial of its degree, by which the list is divided at the end, is at most
+-- the weight of e
 pub denominator-within_weight : (e : Tree) → HasDenominators e → denominator e * factorial (degree e) ≤ weight Basis.completes e
 denominator-within_weight e h =
     let p : 1 * denominator e ≤ numerator e * denominator e = mul-le-mul_right (denominator e) (numerator-positive e h) in
     mul-le (denominator e) (factorial (degree e)) (numerator e * denominator e) (grown (degree e)) (omega arith) (factorial-within (degree e))
 
--- ---- the node of a number
+-- ---- the value of a number
 
 stands-number : (P : ℕ → ℕ → Poly) (a : ℕ) → Stands P 1 (max 1 a * 1) 0 (λ n. scale (pos a) (one n)) (([], pos a) ∷ [])
 stands-number P a = record {
@@ -59,13 +61,7 @@ clears-number P a c d g h = record { den_is = d; degree_is = g; stands = table-s
 pub clears-fraction : (P : ℕ → ℕ → Poly) (a b : ℕ) (c : Node) → c.den ≡ b → c.degree ≡ 0 → Same c.terms (([], pos a) ∷ []) → ClearsTo P (fraction a b) c
 clears-fraction P a b c d g h = record { den_is = d; degree_is = g; stands = table-stands c.terms (([], pos a) ∷ []) c.table h P 1 (max 1 a * 1) 0 (cleared_value (fraction a b)) (stands-number P a) }
 
--- ---- the node of a negation
-
-negated-is : (f : Poly) → Same (scale (negsuc 0) f) (negate f)
-negated-is f α = coefficient_scale (negsuc 0) f α ∙ minus (coefficient f α) ∙ sym (coefficient_negate f α)
-  where
-    minus : (z : ℤ) → negsuc 0 *ℤ z ≡ neg_ℤ z
-    minus z = omega (arith, ints)
+-- ---- the value of a negation
 
 pub clears-negation : (P : ℕ → ℕ → Poly) (e : Tree) (c d : Node) → d.den ≡ c.den → d.degree ≡ c.degree → Same d.terms (scale (negsuc 0) c.terms) → ClearsTo P e c → ClearsTo P (negation e) d
 clears-negation P e c d i j h k =
@@ -75,7 +71,7 @@ clears-negation P e c d i j h k =
       degree_is = j ∙ k.degree_is;
       stands =
           table-stands d.terms (scale (negsuc 0) c.terms) d.table h P (factorial (degree e)) (numerator e * grown (degree e)) (degree e) (cleared_value (negation e))
-          (stands-same P (factorial (degree e)) (numerator e * grown (degree e)) (degree e) (λ n. scale (negsuc 0) (cleared_value e n)) (cleared_value (negation e)) (scale (negsuc 0) c.terms) (λ n. negated-is (cleared_value e n))
+          (stands-same P (factorial (degree e)) (numerator e * grown (degree e)) (degree e) (λ n. scale (negsuc 0) (cleared_value e n)) (cleared_value (negation e)) (scale (negsuc 0) c.terms) (λ n. minus_once (cleared_value e n))
           (stands-scale P (factorial (degree e)) (numerator e * grown (degree e)) (numerator e * grown (degree e)) (degree e) (negsuc 0) (cleared_value e) c.terms k.stands
           (let u : nat_abs (negsuc 0) ≡ 1 = refl in let v : 1 * (numerator e * grown (degree e)) ≡ numerator e * grown (degree e) = omega arith in omega arith)));
     }
@@ -91,12 +87,13 @@ large-negation P e c d h l =
     let v : 1 * absolute_total c.terms ≡ absolute_total c.terms = omega arith in
     omega arith
 
--- ---- the node of a product
+-- ---- the value of a product
 
 pub node-greatest : (P : ℕ → ℕ → Poly) (e : Tree) (c : Node) → ClearsTo P e c → greatest_size c.terms ≤ degree e
 node-greatest P e c h = stands-greatest P (factorial (degree e)) (numerator e * grown (degree e)) (degree e) (cleared_value e) c.terms h.stands
 
--- k times the product of the bounds of both factors is within the bound of the product, if k is (d + d')!/(d!·d'!) for the degrees d and d'
+-- let d and d' be the degrees of e and f, and k = (d + d')!/(d!·d'!): then k times the bound of the list of e times that of the list of f is at most
+-- the bound of the list of the product
 joined-bound : (e f : Tree) (k : ℕ) → k * (factorial (degree e) * factorial (degree f)) ≡ factorial (degree e + degree f)
     → k * ((numerator e * grown (degree e)) * (numerator f * grown (degree f))) ≤ (numerator e * numerator f) * grown (degree e + degree f)
 joined-bound e f k h =
@@ -139,11 +136,8 @@ large-product P e f c d k z he hf zk w i j large =
     let t : k * absolute_total c.terms ≤ k * (numerator e * grown (degree e)) = mul-le-mul_left k a in
     let r : k * absolute_total c.terms * (numerator f * grown (degree f)) ≤ k * (numerator e * grown (degree e)) * (numerator f * grown (degree f)) = mul-le-mul_right (numerator f * grown (degree f)) t in
     let n : nat_abs z * absolute_total c.terms * (numerator f * grown (degree f)) ≡ k * absolute_total c.terms * (numerator f * grown (degree f)) = ap (λ p. p * absolute_total c.terms * (numerator f * grown (degree f))) u in
-    let o = grouped k (numerator e * grown (degree e)) (numerator f * grown (degree f)) in
+    let o = mul_assoc k (numerator e * grown (degree e)) (numerator f * grown (degree f)) in
     omega arith
-  where
-    grouped : (x y z : ℕ) → x * y * z ≡ x * (y * z)
-    grouped x y z = omega arith
 
 pub large-product_denominator : (P : ℕ → ℕ → Poly) (e f : Tree) (c d : Node) → HasDenominators e → HasDenominators f → ClearsTo P e c → ClearsTo P f d → 2 ^ 127 ≤ c.den * d.den → 2 ^ 127 ≤ weight Basis.completes (product e f)
 large-product_denominator P e f c d i j h k l =

@@ -1,5 +1,5 @@
--- The steps that compute the list of a shape: the shape that remains after a hook, and the hook's summand.
---     left-numbers, left-limits      the numbers of the remaining shape
+-- The loop over the special rim hooks that computes the list of a shape: the shape that remains without a hook, and the summand of a hook.
+--     left-numbers, left-limits      the rows of the remaining shape
 --     left-rest                      the remaining shape is a partition of the cells outside the hook
 --     peeled-term, peeled-next, peeled-large      the summand of the hook
 use Rattle.std.proofs.Common.{◌≡◌, ℕ, zero, suc, ◌+◌, ◌-◌, ◌*◌, ◌^◌, ◌<◌, ◌≤◌, List, [], ◌∷◌, ◌++◌, map, length, get_or, take, drop, refl, sym, ap, ◌∙◌, subst, arith, ℤ, pos, ◌*ℤ◌, Ok, Err, flat_map}
@@ -7,7 +7,7 @@ use Rattle.std.specs.Prelude.{nat_abs, ◌≢◌, Result, IfOk}
 use Rattle.calc_base.specs.declared.faults.SumFault.{SumFault}
 use Rattle.sym_model.specs.Conjugate.{conjugate}
 use Rattle.sym_model.specs.Schur.{schur}
-use Rattle.sym_model.proofs.Conjugates.{size-conjugate}
+use Rattle.sym_model.proofs.Conjugates.{size-conjugate, under_columns}
 use Rattle.expand_in_families.proofs.ConjugateStrips.{conjugate_twice}
 use Rattle.std.proofs.lemmas.Int.{unsigned_abs-mul}
 use Rattle.std.proofs.lemmas.Nat.{mul-le}
@@ -42,6 +42,7 @@ use Rattle.family_lists.proofs.PlacedLists.{list_at-index}
 use Rattle.family_lists.proofs.TableLists.{table-stands}
 use Rattle.sym_model.proofs.Integers.{sign_size}
 use native.Mathlib.Nat.{mul-le-mul_left, mul-le-mul_right}
+use Rattle.std.proofs.Math.Nat.{mul_assoc}
 
 -- ---- the shape that remains after a special rim hook is removed
 
@@ -60,7 +61,8 @@ left_by parts i rest = record { sign = minus_one_to (length parts - 1 - i); cell
 pub left-rest : (parts : List ℕ) (i : ℕ) (rest : List ℕ) → IsPartition parts → i < length parts → rest ≡ take i parts ++ shortened (drop (i + 1) parts) → IsRest parts (left_by parts i rest)
 left-rest parts i rest p h e = subst (λ (r : List ℕ). IsRest parts (left_by parts i r)) (sym e) (hook-rest parts i p h)
 
--- the numbers of cells of the hook and of the remaining shape add up to the size of the shape
+-- the number of cells of the special rim hook that ends in row i, counted from 0, and the size of the remaining shape `rest` add up to the size of
+-- `parts`
 pub left-sized : (parts : List ℕ) (i : ℕ) (rest : List ℕ) → IsPartition parts → i < length parts → rest ≡ take i parts ++ shortened (drop (i + 1) parts)
     → get_or parts i 0 + (length parts - 1 - i) + size rest ≡ size parts
 left-sized parts i rest p h e = let s = (left-rest parts i rest p h e).sized in omega arith
@@ -74,18 +76,12 @@ left-limits parts i numbers p h low e =
     let s = r.sized in
     record { partition = r.partition; few = omega arith; small = omega arith }
 
--- ---- the numbers of cells of the hooks
+-- ---- the number of cells of a special rim hook
 
-below-first : (parts : List ℕ) (i : ℕ) → Falls parts → get_or parts i 0 ≤ columns parts
-below-first [] i f = omega arith
-below-first (a ∷ parts) zero f = omega arith
-below-first (a ∷ []) (suc i) f = omega arith
-below-first (a ∷ b ∷ parts) (suc i) f = let h = below-first (b ∷ parts) i f.1 in let g = f.0 in omega arith
-
--- if the columns and rows of the shape are together at most m, each hook has fewer than m cells
+-- if the numbers of columns and of rows of `parts` add up to at most m, each special rim hook has fewer than m cells
 pub cells-within : (parts : List ℕ) (i m : ℕ) → IsPartition parts → i < length parts → columns parts + length parts ≤ m
     → get_or parts i 0 + (length parts - 1 - i) < m
-cells-within parts i m p h e = let b = below-first parts i p.falls in omega arith
+cells-within parts i m p h e = let b = under_columns parts p.falls i in omega arith
 
 first : (parts : List ℕ) → columns parts ≡ get_or parts 0 0
 first [] = refl
@@ -106,12 +102,12 @@ left-columns : (parts : List ℕ) (i : ℕ) → Falls parts → i < length parts
 left-columns [] i f h = absurd (omega arith)
 left-columns (a ∷ parts) zero f h =
     let s = shorter-columns parts in
-    let b = below-first (a ∷ parts) 1 f in
+    let b = under_columns (a ∷ parts) f 1 in
     let e = first parts in
     omega arith
 left-columns (a ∷ parts) (suc i) f h = omega arith
 
--- if the columns and rows of a shape are together at most m, so are those of the remaining shape
+-- if the numbers of columns and of rows of `parts` add up to at most m, so do those of the shape that remains without a special rim hook
 pub left-within : (parts : List ℕ) (i m : ℕ) (rest : List ℕ) → IsPartition parts → i < length parts
     → rest ≡ take i parts ++ shortened (drop (i + 1) parts) → columns parts + length parts ≤ m
     → columns rest + length rest ≤ m
@@ -121,7 +117,7 @@ left-within parts i m rest p h e w =
     let s = ap columns e in
     omega arith
 
--- ---- the list of h_k or e_k for the k cells of the hook
+-- ---- the list of h_k or e_k, for k the number of cells of the hook
 
 pub factor-at : (P : ℕ → ℕ → Poly) (family : Family) → family ≢ PowerSum → (lists : List WholeTerms) → AreFactors P family (length lists) lists → (k i : ℕ) (d W : WholeTerms) → 0 < k → k < length lists → i ≡ k → W ≡ get_or lists i d
     → Stands P (factorial k) (factorial k * 2 ^ k) k (λ n. polynomial_of family k n) W
@@ -134,7 +130,7 @@ factor-at P family f lists are k i d W some h e is =
     by Complete g a = a k some h
     by PowerSum g a = absurd (g refl)
 
--- ---- the summand of the hook
+-- ---- the summand of the hook that ends in row i: its sign, h_k or e_k, and the Schur polynomial of the remaining shape
 
 module _ (target family : Family) (newton : family ≢ PowerSum) (parts : List ℕ) (i c : ℕ) (z : ℤ) (rest : List ℕ) (W V : WholeTerms) (p : IsPartition parts) (lo : i < length parts)
     (e : rest ≡ take i parts ++ shortened (drop (i + 1) parts)) (many : c * (factorial (get_or parts i 0 + (length parts - 1 - i)) * factorial (size rest)) ≡ factorial (get_or parts i 0 + (length parts - 1 - i) + size rest))
@@ -164,7 +160,7 @@ module _ (target family : Family) (newton : family ≢ PowerSum) (parts : List �
       (hooks-next (polynomial_of target) (factorial (size parts)) (peeled (size parts)) (size parts) (hook_term family) (special_hooks parts) i (hook_of parts i) S (joined (scale z W) V)
       (hook-at parts i lo) s peeled-term)
 
-  -- if adding the summand of the hook overflows, the growth at the size of the shape is 2^127 or more
+  -- if adding the summand of the hook to S, the sum over the first i hooks, overflows, `grown` at the size of the shape is 2^127 or more
   pub peeled-large : (S : WholeTerms) → absolute_total S ≤ i * peeled (size parts)
       → Overflows equal S (joined (scale z W) V) → 2 ^ 127 ≤ grown (size parts)
   peeled-large S s large =
@@ -175,7 +171,7 @@ module _ (target family : Family) (newton : family ≢ PowerSum) (parts : List �
       let t = mul-le-mul_left c w.few in
       let r = mul-le-mul_right (grown (size rest)) t in
       let n : nat_abs z * absolute_total W * grown (size rest) ≡ c * absolute_total W * grown (size rest) = ap (λ x. x * absolute_total W * grown (size rest)) u in
-      let g = grouped c (factorial (get_or parts i 0 + (length parts - 1 - i)) * 2 ^ (get_or parts i 0 + (length parts - 1 - i))) (grown (size rest)) in
+      let g = mul_assoc c (factorial (get_or parts i 0 + (length parts - 1 - i)) * 2 ^ (get_or parts i 0 + (length parts - 1 - i))) (grown (size rest)) in
       let q = ap peeled sized in
       let rows = rows_within_size parts p.positive in
       let m : (i + 1) * peeled (size parts) ≤ size parts * peeled (size parts) = mul-le (i + 1) (peeled (size parts)) (size parts) (peeled (size parts)) (omega arith) (omega arith) in
@@ -183,9 +179,6 @@ module _ (target family : Family) (newton : family ≢ PowerSum) (parts : List �
       let o = one_more i (peeled (size parts)) in
       omega arith
     where
-      grouped : (x y z : ℕ) → x * y * z ≡ x * (y * z)
-      grouped x y z = omega arith
-
       one_more : (i x : ℕ) → (i + 1) * x ≡ i * x + x
       one_more i x = omega arith
 
@@ -201,7 +194,7 @@ nothing-list P family [] terms e is h =
     stands-same P 1 1 0 (λ n. one n) (schur_in family []) terms (λ n. subst (Same (one n)) (sym (nothing-schur family n)) (Same_refl (one n))) (parts-none P P terms is h)
 nothing-list P family (a ∷ parts) terms e is h = absurd (omega arith)
 
--- ---- the list of a shape, read with e_k, is that of the conjugate shape
+-- ---- the list of a shape for the factors e_k, as the list of the Schur polynomial of the conjugate shape
 
 pub conjugate-list : (P : ℕ → ℕ → Poly) (parts shape : List ℕ) (r : Result WholeTerms SumFault) → IsPartition parts → shape ≡ conjugate parts → IfOk r (IsSchurList P Elementary shape)
     → IfOk r (λ terms. Stands P (factorial (size parts)) (grown (size parts)) (size parts) (λ n. schur parts n) terms)

@@ -4,7 +4,7 @@ use Rattle.std.specs.Prelude.{ℕ, ◌+◌, ◌-◌, ℤ, List, [], ◌∷◌, m
 use Rattle.sym_model.specs.Partition.{rows, without_last_zeros}
 use Rattle.sym_model.specs.PlaceOrders.{minus_one_to}
 
--- a special rim hook of a shape: the sign (-1)^(height - 1), the number of its cells, and the remaining shape
+-- a special rim hook of a shape: the sign (-1)^(height - 1), the number of its cells, and the shape that remains without these cells
 pub record SpecialHook : Type 0 where
   pub sign : ℤ
   pub cells : ℕ
@@ -14,13 +14,14 @@ pub record SpecialHook : Type 0 where
 abbrev pub shortened : List ℕ → List ℕ
 shortened parts = without_last_zeros (map (λ a. a - 1) parts)
 
--- the hook h as a hook of the shape with one more row, of a cells, above all others
+-- the special rim hook h of a shape, as a special rim hook of the shape with a row of a cells added above the other rows: the remaining shape gets
+-- this row too
 abbrev pub below_row : ℕ → SpecialHook → SpecialHook
 below_row a h = record { sign = h.sign; cells = h.cells; rest = a ∷ h.rest }
 
--- the special rim hooks of a shape, one for each row in which the hook can end, from the first row down; the one that
--- ends in the first row has the cells of that row and one for each row below, and the remaining shape has these rows,
--- each shortened by one cell
+-- the special rim hooks of a shape, one for each row in which the hook can end, from the first row to the last. For the hook that ends in the first
+-- row, the number of cells is the length of this row plus the number of rows below it, and the remaining shape has the rows below it, each shortened
+-- by one cell.
 abbrev pub special_hooks : List ℕ → List SpecialHook
 special_hooks [] = []
 special_hooks (a ∷ parts) =

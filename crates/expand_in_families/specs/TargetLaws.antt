@@ -1,5 +1,5 @@
--- Laws of conversions into e, h and p: what represents the sum of e and -f represents e - f, and the weight
--- increases weakly with the numerator, the denominator and the degree.
+-- Laws of the values in e, h and p: each value that represents e + (-f) represents e - f, and the weight increases weakly with the numerator, the
+-- denominator and the degree.
 use Rattle.std.specs.Prelude.{ℕ, ◌*◌}
 use Rattle.sym_model.specs.Polynomial.{Poly}
 use Rattle.sym_model.specs.Expansion.{Basis}
@@ -12,7 +12,7 @@ use Rattle.basis_expand.specs.TargetLaws.{difference-value, heavy-more}
 use Rattle.expand_in_families.specs.declared.node.Node.{Node}
 use Rattle.expand_in_families.specs.Nodes.{ClearsTo, IsHeavyInFamilies}
 
--- a node that represents e + (-f) represents e - f
+-- each value that represents e + (-f) (`ClearsTo`) also represents e - f
 pub clears-difference : (P : ℕ → ℕ → Poly) (e f : Tree) (c : Node)
     → ClearsTo P (sum e (negation f)) c → ClearsTo P (difference e f) c
 clears-difference P e f c h = record {

@@ -1,4 +1,4 @@
-//! The basis polynomials of a partition in the five bases, as lists of terms in the target.
+//! The polynomials m_λ, e_λ, h_λ, p_λ and s_λ as lists of terms in the target e, h or p.
 ghost use Rattle.std.specs.Prelude.{◌≡◌, ◌+◌, ◌*◌, ◌<◌, ◌≤◌, ◌^◌, IfOk, IsErrOf};
 ghost use Rattle.sym_model.specs.Bases.{product_over};
 ghost use Rattle.sym_model.specs.Expansion.{completes, monomials, schurs};
@@ -25,8 +25,8 @@ use partitions::Partition;
 use sparse_polys::{Family, Whole, single};
 use std::alloc::Global;
 
-/// (k + size)!/(q·size!), with q the factor of the list of `factor_list` for k: k! for e_k and h_k,
-/// and 1 for p_k.
+/// (k + size)!/(q·size!), with q the factor by which `factor_list` multiplies e_k, h_k or p_k: k!
+/// for e_k and h_k, and 1 for p_k.
 fn ways(family: Family, k: u16, size: u16) -> u128
     requires { k + size ≤ 20 }
     ensures value { result * (over_number family k * factorial size) ≡ factorial (k + size) }
@@ -39,8 +39,8 @@ fn ways(family: Family, k: u16, size: u16) -> u128
     }
 }
 
-/// The product of e_k, h_k or p_k, by `family`, over the parts k, times the factorial of the sum of
-/// the parts, as a list in the target; and that sum.
+/// A list in the target, and the sum d of the parts. The list is d! times the product of e_k, h_k
+/// or p_k (`family` says which) over the parts k.
 fn over_parts(
     alloc: Global,
     target: Family,
@@ -69,8 +69,8 @@ fn over_parts(
     Ok((product, *k + size))
 }
 
-/// The product of e_k, h_k or p_k, by `family`, over the parts k of a partition, as a list in
-/// another family, from the lists of the factors.
+/// The product of e_k, h_k or p_k (`family` says which) over the parts k of `label`, as a list in
+/// the basis of `target`, computed from the lists of e_k, h_k or p_k.
 fn by_parts(
     alloc: Global,
     target: Family,
@@ -88,7 +88,7 @@ fn by_parts(
     })
 }
 
-/// A partition in the basis of the target itself, as the list of that one label.
+/// The basis polynomial of `label` in the basis of the target, as a list in the target: one term.
 fn itself(alloc: Global, label: &Partition) -> Result<Node, SumFault>
     requires { size label.now ≤ 20 }
     ensures { (target : Family) → IsConverted (polynomial_of target)
@@ -103,7 +103,7 @@ fn itself(alloc: Global, label: &Partition) -> Result<Node, SumFault>
     })
 }
 
-/// A partition in e, h or p, as a list in the target.
+/// The basis polynomial of `label` in the basis e, h or p of `family`, as a list in the target.
 fn from_family(
     alloc: Global,
     target: Family,
@@ -119,9 +119,9 @@ fn from_family(
     by_parts(alloc, target, family, label)
 }
 
-/// Whether a Schur polynomial is computed from e_k and the special rim hooks of the conjugate
-/// shape, instead of h_k and those of its own shape: for the target e, and for the target p if the
-/// shape has fewer columns than rows.
+/// Whether the Schur polynomial of `label` is computed from e_k and the special rim hooks of the
+/// conjugate shape, and not from h_k and the special rim hooks of the shape itself: for the target
+/// e, and for the target p if the shape has fewer columns than rows.
 fn is_by_columns(target: Family, label: &Partition) -> bool {
     match target {
         Family::Elementary => true,
@@ -130,8 +130,8 @@ fn is_by_columns(target: Family, label: &Partition) -> bool {
     }
 }
 
-/// A partition in s, by the special rim hooks of its shape, with the factors h_k, or by those
-/// of the conjugate shape, with the factors e_k.
+/// The Schur polynomial of `label`, as a list in the target: by the special rim hooks of its shape,
+/// with the factors h_k, or by those of the conjugate shape, with the factors e_k.
 fn by_hooks(alloc: Global, target: Family, label: &Partition) -> Result<Node, SumFault>
     requires { size label.now ≤ 15 }
     ensures { IsConverted (polynomial_of target) (atom schurs label.now) result }
@@ -145,7 +145,7 @@ fn by_hooks(alloc: Global, target: Family, label: &Partition) -> Result<Node, Su
     })
 }
 
-/// The list in the target of a Schur polynomial times the factorial of its degree.
+/// The list in the target of d! times the Schur polynomial of `label`, with d its degree.
 fn schur_terms(alloc: Global, target: Family, label: &Partition) -> Result<Whole, SumFault>
     requires partition { IsPartition label.now }
     requires low { size label.now ≤ 15 }
@@ -163,7 +163,7 @@ fn schur_terms(alloc: Global, target: Family, label: &Partition) -> Result<Whole
     schur_list(alloc, target, Family::Complete, label)
 }
 
-/// A partition in m, as a list in the target.
+/// The monomial symmetric polynomial of `label`, as a list in the target.
 fn from_monomial(alloc: Global, target: Family, label: &Partition) -> Result<Node, SumFault>
     requires { size label.now ≤ 15 }
     ensures { IsConverted (polynomial_of target) (atom monomials label.now) result }
@@ -178,7 +178,7 @@ fn from_monomial(alloc: Global, target: Family, label: &Partition) -> Result<Nod
     })
 }
 
-/// A partition in any basis, as a list in the target.
+/// The polynomial of λ = `label` in `basis` (m_λ, e_λ, h_λ, p_λ or s_λ), as a list in the target.
 pub(crate) fn atom(
     alloc: Global,
     target: Family,

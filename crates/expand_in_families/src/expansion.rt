@@ -16,8 +16,8 @@ use partitions::Partition;
 use sparse_polys::{Family, divided};
 use std::alloc::Global;
 
-/// The expansion of a formula of degree at most 15 in the basis of a family, in every number of
-/// variables.
+/// The expansion of a formula of degree at most 15 in the basis e, h or p of the family `target`,
+/// in every number of variables.
 ///
 /// Returns `Large` only if N·D·d!·(2d)^d is 2^127 or more, with N and D the two numbers of
 /// `Formula::weight`, and d the degree of the formula (0^0 is 1).

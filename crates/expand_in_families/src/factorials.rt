@@ -1,4 +1,4 @@
-//! Quotients of factorials.
+//! Quotients of factorials: binomial coefficients, and d!/a!.
 ghost use Rattle.std.specs.Prelude.{◌≡◌, ◌+◌, ◌*◌, ◌<◌, ◌≤◌, ◌^◌};
 ghost use Rattle.sym_model.specs.Weight.{factorial};
 

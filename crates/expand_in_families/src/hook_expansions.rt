@@ -1,4 +1,5 @@
-//! A Schur polynomial by products of one h_k or e_k and Schur polynomials of fewer rows or columns.
+//! A Schur polynomial as a sum of products of one h_k or e_k and a Schur polynomial of fewer rows
+//! or columns.
 
 ghost use Rattle.std.specs.Prelude.{◌≡◌, ℕ, ◌+◌, ◌-◌, ◌<◌, ◌≤◌, List, length, flat_map};
 ghost use Rattle.sym_model.specs.Sum.{Among};
@@ -11,14 +12,14 @@ ghost use Rattle.sym_model.specs.PlaceOrders.{minus_one_to};
 ghost use Rattle.sym_model.specs.Strip.{IsRimHook, height};
 ghost use Rattle.expand_in_families.specs.SpecialHooks.{SpecialHook, special_hooks};
 
-/// In every number n of variables, for a partition λ with at least one row: s_λ is the sum of
-/// ±h_k·s_μ over the special rim hooks of λ, where k is the number of cells of the hook and μ the
-/// remaining shape, and the sign is (-1)^(height - 1) (Jacobi and Trudi's determinant expanded
-/// along its last column; Egecioglu and Remmel). With e in place of h and each shape conjugated,
-/// the sum is that of the conjugate of λ.
+/// In every number n of variables, for a partition λ with at least one row: s_λ is the sum, over
+/// the special rim hooks of λ, of (-1)^(height - 1)·h_k·s_μ, with k the number of cells of the hook
+/// and μ the remaining shape (the Jacobi-Trudi determinant expanded along its last column;
+/// Egecioglu and Remmel). With e_k in place of h_k and the conjugate of μ in place of μ, the sum is
+/// the Schur polynomial of the conjugate of λ.
 ///
-/// The remaining shape is a partition, and the hook has the other cells, at least one. It is a rim
-/// hook with the whole last row, and λ has one special rim hook for each row.
+/// The remaining shape is a partition. The hook has the other cells, at least one, and is a rim
+/// hook that contains the whole last row of λ. There is one special rim hook for each row of λ.
 ///
 /// Example: the hooks of (2,1) have 3 cells, with the empty shape remaining, and 1 cell, with (2)
 /// remaining: s_(2,1) = -h_3 + h_1·s_(2).

@@ -1,18 +1,20 @@
-//! Expressions expanded in e, h and p, node by node in the target; and Schur polynomials by special
-//! rim hooks: the determinant of Jacobi and Trudi, expanded along its last column.
+//! Expands expressions in e, h and p, one node after another; Schur polynomials are expanded by
+//! special rim hooks, that is, by the Jacobi-Trudi determinant, expanded along its last column.
 //!
 //! What is proved:
 //!
 //! `to_family`: the list is the expression of degree at most 15 in e, h or p, in every number of
-//! variables, computed node by node in the target: products join the parts of labels, atoms in
-//! another of these bases are products of the lists of their parts, those in s are expanded by
-//! special rim hooks, and those in m are changed by `to_basis`; `Large` is returned only if the
-//! weight for the target (`Formula::weight_below`) is 2^127 or more.
+//! variables. It is computed node by node as a list in the target: in a product the parts of labels
+//! are joined, an atom in another one of the bases e, h and p is a product over its parts, an atom
+//! in s is expanded by special rim hooks, and an atom in m is changed by `in_family` of
+//! basis_change. `Large` is returned only if the weight for the target (`Formula::weight_below`) is
+//! 2^127 or more.
 //!
-//! `special_hooks_law`: a Schur polynomial as the sum of ±h_k times the Schur polynomial of the
-//! remaining shape, over the special rim hooks of its shape, in every number of variables, and with
-//! e_k and conjugate shapes; the remaining shape is a partition, the hook is a rim hook with the
-//! whole last row, and its sign is that of its height.
+//! `special_hooks_law`: in every number of variables, s_λ is the sum, over the special rim hooks of
+//! λ, of ±h_k times the Schur polynomial of the remaining shape, with k the number of cells of the
+//! hook; and the same with e_k and conjugate shapes. The remaining shape is a partition, each
+//! special rim hook is a rim hook that contains the whole last row, and its sign is (-1)^(height -
+//! 1).
 #![tactic(auto)]
 
 mod atoms;

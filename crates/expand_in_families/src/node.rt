@@ -1,12 +1,12 @@
-//! Expressions with their fractions cleared, as lists of terms in the target.
+//! The values of expressions in the target e, h or p: lists of terms with integer coefficients.
 ghost use Rattle.std.specs.Prelude.{◌<◌, ◌^◌};
 ghost use Rattle.std.proofs.Props.{props};
 ghost use Rattle.sparse_polys.specs.Tables.{IsWholeTable};
 
 use sparse_polys::Whole;
 
-/// A list of terms in the target that is an expression times its denominator and the factorial of
-/// its degree.
+/// The value of an expression of degree d = `degree` with the denominator `den`: the list `terms`
+/// in the target is the expression times `den`·d!.
 #[derive(Drop)]
 pub(crate) struct Node {
     pub(crate) terms: Whole,

@@ -1,6 +1,10 @@
-//! The targets e, h and p: numbers, atoms, negations, sums and products as lists in the target.
+//! The targets e, h and p: the values of numbers, atoms, negations, sums and products, as lists in
+//! the target.
 ghost use Rattle.std.specs.Prelude.{◌≡◌, ◌<◌, ◌≤◌, ◌^◌, ◌*ℤ◌, pos, nat_abs, MatchResult};
+ghost use Rattle.std.specs.Prelude.{IsErrOf};
+ghost use Rattle.sym_model.specs.Expression.{lcm, sum};
 ghost use Rattle.sparse_polys.specs.Families.{polynomial_of};
+ghost use Rattle.basis_expand.specs.Values.{AreOperands, IsMadeOf};
 ghost use Rattle.expand_in_families.specs.Nodes.{ClearsTo, IsHeavyInFamilies};
 ghost use Rattle.expand_in_families.specs.TargetLaws.{clears-difference, heavy-whole};
 
@@ -17,13 +21,13 @@ use partitions::Partition;
 use sparse_polys::{Family, single, sum_of};
 use std::alloc::Global;
 
-/// The target of a family.
+/// The target e, h or p, the basis of `family`.
 #[derive(Clone, Copy)]
 pub(crate) struct InFamily {
     pub(crate) family: Family,
 }
 
-/// The product of two numbers. Returns an error only if its absolute value is 2^127 or more.
+/// The product `from`·`by`. Returns an error only if its absolute value is 2^127 or more.
 fn times(from: i128, by: u128) -> Result<Int, Large>
     requires { by < 2 ^ 127 }
     ensures { MatchResult result (λ p. p ≡ from *ℤ pos by)
@@ -60,8 +64,15 @@ impl Target for InFamily {
         Ok(Node { terms, den, degree })
     }
 
-    /// The sum, over the least common denominator and the factorial of the greater degree.
-    fn added(&self, _: Global, left: Node, right: Node) -> Result<Node, SumFault> {
+    /// The value of the sum of two expressions with the values `left` and `right`: the list is the
+    /// sum times m and d!, with m the least common multiple of their denominators and d the greater
+    /// one of their degrees. If m is 2^127 or more, returns `Large`, and no memory is allocated.
+    fn added(&self, _: Global, left: Node, right: Node) -> Result<Node, SumFault>
+        requires { AreOperands sum 15 (ClearsTo (polynomial_of self.now.family)) left right }
+        ensures made { IsMadeOf sum 15 (ClearsTo (polynomial_of self.now.family)) IsHeavyInFamilies
+            left right result }
+        ensures past { 2 ^ 127 ≤ lcm left.den right.den → IsErrOf result SumFault.Large }
+    {
         let common = common_denominator(left.den, right.den)?;
         let degree = left.degree.max(right.degree);
         let by_left = rise(left.degree, degree);

@@ -1,5 +1,5 @@
 //! Schur polynomials as lists in e, h and p, by special rim hooks (Egecioglu and Remmel). The list
-//! of each shape is computed once and kept in a store.
+//! of each shape is computed once and stored.
 ghost use Rattle.std.specs.Prelude.{◌≡◌, ◌≢◌, ℕ, ◌+◌, ◌-◌, ◌*◌, ◌<◌, ◌≤◌, ◌^◌, ◌*ℤ◌, ◌++◌, pos};
 ghost use Rattle.std.specs.Prelude.{length, take, drop, vec_len, IfOk, OnOk, IsErrOf};
 ghost use Rattle.sym_model.specs.Expansion.{completes};
@@ -23,8 +23,9 @@ use partitions::Partition;
 use sparse_polys::{Family, Whole, single};
 use std::alloc::Global;
 
-/// The partition that remains after removing the special rim hook from a row, counted from 0, to
-/// the last row: the rows above, and each row below shortened by one cell.
+/// The partition that remains if the special rim hook in the rows from `row` (counted from 0) to
+/// the last row is removed from `shape`: the rows above `row`, and each row below `row` shortened
+/// by one cell.
 fn left_by_hook(alloc: Global, shape: &[u16], row: usize) -> Result<Partition, NoMemory>
     requires within { row < length shape.now }
     requires partition { IsPartition shape.now }
@@ -40,10 +41,11 @@ fn left_by_hook(alloc: Global, shape: &[u16], row: usize) -> Result<Partition, N
     Partition::from_valid_numbers(alloc, &parts)
 }
 
-/// The list of a shape, which has the factor size!: the sum over its special rim hooks of the list
-/// of the hook's number of cells times the list of the remaining shape, with the hook's sign and
-/// the binomial coefficient that makes the factor of the product size!. The list of the empty shape
-/// is 1.
+/// The list in the target of d! times the Schur polynomial of `shape`, or of its conjugate if
+/// `family` is e, with d the number of cells of `shape`. For the empty shape it is 1. Otherwise it
+/// is the sum, over the special rim hooks of `shape`, of the product of the sign of the hook, the
+/// binomial coefficient d!/(k!·(d-k)!), the list `lists[k]` and the list of the remaining shape,
+/// with k the number of cells of the hook.
 #[cycle(peeling)]
 fn list_of(
     alloc: Global,
@@ -81,7 +83,8 @@ fn list_of(
     Ok(sum)
 }
 
-/// The index of the list of a shape, which is computed if it is not in the store.
+/// The index in `store` of the list of `shape`, which is computed and stored if it is not there
+/// yet.
 #[cycle(peeling)]
 fn index_of(
     alloc: Global,
@@ -107,10 +110,10 @@ fn index_of(
     Ok(keep(store, shape, list)?)
 }
 
-/// The list in the target of the Schur polynomial of a shape, times the factorial of its size, if a
-/// special rim hook of k cells gives the factor h_k; if it gives the factor e_k, that of the
-/// conjugate shape. Returns `Large` only if `growth`, the factor by which a conversion into the
-/// target can raise the coefficients at this size, is 2^127 or more.
+/// The list in the target of d! times the Schur polynomial of `shape` if `family` is h, and of the
+/// conjugate of `shape` if `family` is e, with d the number of cells of `shape`. It is computed by
+/// the special rim hooks of `shape`: a hook of k cells gives the factor h_k or e_k. Returns `Large`
+/// only if d!·(2d)^d is 2^127 or more.
 pub(crate) fn schur_list(
     alloc: Global,
     target: Family,

@@ -1,6 +1,5 @@
--- Laws of `Gathers`, which says that a text was collected, that is, appended to the bytes in a buffer and in the sink:
--- `Gathers-then` for two texts, `Gathers-as` for an equal text, `Gathers-nothing` for no text, and `Gathers-prints` for the end of
--- a printer.
+-- Laws of `Gathers`, which says that a text was collected, that is, appended to what was written to a sink and to the bytes in a buffer. They are on
+-- texts that are collected one after another, on equal texts, on the empty text, and on the text that a printer has collected at its end.
 use Rattle.std.proofs.Common.{◌≡◌, ℕ, List, [], ◌++◌, Bool, true, false, refl, sym, ◌∙◌, ap, subst, append_assoc, append-nil}
 use Rattle.std.specs.Prelude.{Result, is_ok}
 use Rattle.calc_base.specs.Puts.{Puts, Prints}
@@ -8,8 +7,7 @@ use Rattle.calc_base.specs.Sink.{SinkSeen}
 use Rattle.calc_base.proofs.PutsLaws.{Puts-then, Puts-as, Puts-nothing, Puts-prints}
 use Rattle.expansion_printer.specs.Gathering.{Waiting, HasPut, Gathers}
 
--- `Puts` for the text a implies `Puts` for b if a and b are equal, or if a write failed before, since nothing is written
--- after that
+-- `Puts` for the text a implies `Puts` for the text b, if a and b are equal or a write has failed before; after a failed write nothing is written
 Puts-else : {before now : Bool} {old new : SinkSeen} {a b : List ℕ} → (before ≡ true → a ≡ b)
     → Puts before old now new a → Puts before old now new b
 Puts-else {before = before} {now = now} {old = old} {new = new} {b = b} same goes =
@@ -29,7 +27,7 @@ Puts-else {before = before} {now = now} {old = old} {new = new} {b = b} same goe
 
 -- ---- the text so far: what was written to the sink, and the bytes in the buffer
 
--- at the start the text so far is empty
+-- at the start, with an empty buffer, the empty text has been collected
 HasPut-nothing : (start : SinkSeen)
     → HasPut start [] (record { bytes = []; well = true }) start
 HasPut-nothing start = record {
@@ -40,13 +38,13 @@ HasPut-nothing start = record {
   goes = Puts-nothing true start;
 }
 
--- if the bytes in the buffer are now written, the text so far has been written whole
+-- if a text has been collected and the bytes in the buffer are written now, the whole text has been written since the state `start`
 HasPut-ends : {start sink new : SinkSeen} {text : List ℕ} {old : Waiting} {now : Bool}
     → HasPut start text old sink → Puts old.well sink now new old.bytes
     → Puts true start now new text
 HasPut-ends h goes = Puts-as h.joined (Puts-then h.goes (Puts-else h.waits goes))
 
--- if a piece was appended to the bytes in the buffer, it was collected
+-- if a piece was appended to the bytes in the buffer and nothing was written, the piece was collected
 pub Gathers-kept : {old new : Waiting} (sink : SinkSeen)
     {piece : List ℕ} → new ≡ record { bytes = old.bytes ++ piece; well = old.well } → Gathers old sink new sink piece
 Gathers-kept {old = old} {new = new} sink {piece = piece} kept = record {
@@ -61,7 +59,7 @@ Gathers-kept {old = old} {new = new} sink {piece = piece} kept = record {
       });
 }
 
--- if the bytes in the buffer were written and the buffer is empty, the empty text was collected
+-- if the bytes in the buffer were written to the sink and the buffer is now empty, the empty text was collected
 pub Gathers-flushed : {old new : Waiting}
     {first second : SinkSeen} → new.bytes ≡ [] → Puts old.well first new.well second old.bytes
     → Gathers old first new second []
@@ -75,7 +73,7 @@ Gathers-flushed empty goes = record {
   };
 }
 
--- if the buffer is empty and a piece was written directly, the piece was collected
+-- if the buffer was empty and still is, and a piece was written to the sink directly, the piece was collected
 pub Gathers-straight : {old new : Waiting}
     {first second : SinkSeen} {piece : List ℕ} → old.bytes ≡ [] → new.bytes ≡ []
     → Puts old.well first new.well second piece → Gathers old first new second piece
@@ -92,7 +90,7 @@ Gathers-straight {piece = piece} before_empty empty goes = record {
 
 -- ---- texts that are collected one after another
 
--- if two texts were collected one after the other, the two together were collected
+-- if the text a was collected and then the text b, the text a ++ b was collected
 pub Gathers-then : {old mid new : Waiting}
     {first second third : SinkSeen} {a b : List ℕ} → Gathers old first mid second a
     → Gathers mid second new third b → Gathers old first new third (a ++ b)
@@ -102,7 +100,7 @@ Gathers-then {new = new} {third = third} {a = a} {b = b} front back = record {
       subst P (append_assoc before a b) (back.behind start (before ++ a) (front.behind start before h));
 }
 
--- if a text was collected, so was any text that is equal to it
+-- if a text a was collected, a text b that is equal to a was collected
 pub Gathers-as : {old new : Waiting}
     {first second : SinkSeen} {a b : List ℕ} → a ≡ b → Gathers old first new second a
     → Gathers old first new second b
@@ -116,7 +114,7 @@ pub Gathers-from : {other old new : Waiting}
 Gathers-from {new = new} {first = first} {second = second} {text = text} same goes =
     let P : Waiting → Type 0 = λ w. Gathers w first new second text in subst P same goes
 
--- if nothing changes, the empty text was collected
+-- if the buffer and the sink do not change, the empty text was collected
 pub Gathers-nothing : (now : Waiting) (sink : SinkSeen)
     → Gathers now sink now sink []
 Gathers-nothing now sink = record {
@@ -124,7 +122,7 @@ Gathers-nothing now sink = record {
       let P : List ℕ → Type 0 = λ t. HasPut start t now sink in subst P (sym (append-nil before)) h;
 }
 
--- if a text was collected from an empty buffer on, and the bytes in the buffer are written at the end, the text was printed
+-- if a text was collected, beginning with an empty buffer, and the bytes in the buffer are written at the end, the text was printed
 pub Gathers-prints : {E : Type 0} {old now : Waiting}
     {start sink new : SinkSeen} {text : List ℕ} (result : Result (Unit {0}) E) → old ≡ record { bytes = []; well = true }
     → Gathers old start now sink text → Puts now.well sink (is_ok result) new now.bytes

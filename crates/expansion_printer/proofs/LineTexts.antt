@@ -17,7 +17,7 @@ not_unit num den size e other = by (is_unit (num, den)) refl
         absurd (other (e ∙ eqb-true (nat_abs num) 1 p.0) (eqb-true den 1 p.1))
     by false h = refl
 
--- if a coefficient is neither 1 nor -1, its absolute value followed by `*` is its text in a line
+-- if the coefficient num/den is neither 1 nor -1, its text in a one-line form is its absolute value followed by `*`
 pub coefficient-printed : (num : ℤ) (den size : ℕ) → size ≡ nat_abs num → (size ≡ 1 → den ≡ 1 → ⊥)
     → decimal size ++ (cond (eqb den 1) [] (47 ∷ decimal den) ++ codes "*") ≡ coefficient_text (num, den)
 coefficient-printed num den size e other =
@@ -30,7 +30,7 @@ coefficient-printed num den size e other =
     by true = refl
     by false = sym (append_assoc (decimal (nat_abs num)) (47 ∷ decimal den) (codes "*"))
 
--- the text written for a coefficient is that of the fraction
+-- the sign of num, its absolute value and, unless den is 1, `/` and den are the text of the fraction num/den
 pub fraction-printed : (num : ℤ) (den : ℕ)
     → sign_text true num ++ (decimal (nat_abs num) ++ cond (eqb den 1) [] (47 ∷ decimal den)) ≡ fraction_text (num, den)
 fraction-printed num den = by (eqb den 1) num
@@ -42,7 +42,7 @@ fraction-printed num den = by (eqb den 1) num
     by false (pos n) = refl
     by false (negsuc n) = refl
 
--- ---- the terms of a one-line form, one after another
+-- ---- the texts of the terms of a one-line form, one after another
 
 later_text-push : (basis : Basis) (terms : Terms (List ℕ)) (t : List ℕ × Fraction) → later_text basis terms ++ signed_text basis false t ≡ later_text basis (terms ++ t ∷ [])
 later_text-push basis [] t =
@@ -53,7 +53,7 @@ later_text-push basis (u ∷ terms) t =
     (append_assoc (unsigned_text basis u) (later_text basis terms) (signed_text basis false t)
     ∙ ap (λ text. unsigned_text basis u ++ text) (later_text-push basis terms t))
 
--- the text of a list with one more term is the text of the list followed by the signed term
+-- the text of signed terms, followed by that of one more signed term, is the text of the list with this term appended
 pub signed_terms-push : (basis : Basis) (terms : Terms (List ℕ)) (is_first : Bool) (t : List ℕ × Fraction) → is_first ≡ is_empty terms
     → signed_terms basis terms ++ signed_text basis is_first t ≡ signed_terms basis (terms ++ t ∷ [])
 signed_terms-push basis [] is_first t e = ap (λ b. signed_text basis b t) e ∙ sym (append-nil (signed_text basis true t))
@@ -67,7 +67,7 @@ pub is_empty-push : (terms : Terms (List ℕ)) (t : List ℕ × Fraction) → fa
 is_empty-push [] t = refl
 is_empty-push (u ∷ terms) t = refl
 
--- the signed terms and a line feed are the one-line form
+-- if there is a term, the text of the signed terms and a line feed are the one-line form
 pub one_line-some : (basis : Basis) (terms : Terms (List ℕ)) → 0 < length terms → signed_terms basis terms ++ codes "\n" ≡ one_line basis terms
 one_line-some basis [] some = absurd (omega arith)
 one_line-some basis (t ∷ terms) some =

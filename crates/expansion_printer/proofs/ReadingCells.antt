@@ -1,33 +1,30 @@
--- The letter of a cell in a column reading.
+-- The index of a cell's letter in a column reading.
 use Rattle.std.proofs.Common.{zero-add, ◌≡◌, ◌≢◌, ℕ, zero, suc, ◌+◌, ◌-◌, ◌≤◌, ◌<◌, inl, inr, ◌⊎◌, max, length, arith, Bool, true, false, ◌&&◌, List, [], ◌∷◌, ◌++◌, refl, sym, ◌∙◌, ap, ap₂, map, drop, cond, ◌==◌, nat_lt, nat_le, reverse, filter, flat_map}
 use Rattle.std.specs.Prelude.{slice_index}
-use Rattle.std.proofs.lemmas.Bool.{eq-eqb, ne_eqb, cases_eq, cond-true, cond-false, lt-ltb, le-leb, and_from, and_right}
+use Rattle.std.proofs.lemmas.Bool.{eq-eqb, ne_eqb, cases_eq, cond-true, cond-false, lt-ltb, le-leb, and_from, and_right, le-ltb}
 use Rattle.std.proofs.lemmas.Bool.Decides.{nat_tests}
 use Rattle.std.proofs.lemmas.List.{reverse-append, length-map, get_or-drop}
 use Rattle.std.specs.List.{sum_by, count_by}
-use Rattle.std.proofs.lemmas.List.Sums.{sum_by-cons, sum_by-append, sum_by-le-sum_by}
+use Rattle.std.proofs.lemmas.List.Sums.{sum_by-cons, sum_by-append, sum_by-le-sum_by, length-filter}
 use Rattle.sym_model.specs.Partition.{after, part, rows, columns, IsCell, Falls}
 use Rattle.sym_model.specs.TableauList.{column_cells, reading_cells, letter_of_cell}
-use Rattle.sym_model.proofs.Numbers.{nat_lt-false}
 use Rattle.skew_shapes.specs.Rows.{reaches}
 use Rattle.sym_model.specs.Partition.{size}
 use Rattle.skew_shapes.specs.CellFillings.{filled_with}
-use Rattle.skew_shapes.proofs.CellRows.{letter-rows_by}
+use Rattle.skew_shapes.proofs.CellRows.{letter-rows_by, cell_row}
 use Rattle.expansion_printer.specs.ReadingPlaces.{HasReadingPlaces, before_in_row}
-use Rattle.expansion_printer.proofs.RowTexts.{after-push}
 use Rattle.expansion_printer.proofs.TableauRows.{parts-told}
+use Rattle.std.proofs.Math.Numerals.{one-add}
+use Rattle.sym_model.proofs.AfterLists.{after-more}
 
--- the number of cells of outer/inner in the rows `numbers` that are read before the cell in this row and column
+-- the number of cells of outer/inner in the rows `numbers` that come before the cell (row, column) in a column reading
 abbrev pub cells_in_rows : List ℕ → List ℕ → ℕ → ℕ → List ℕ → ℕ
 cells_in_rows outer inner row column numbers =
     sum_by (λ i. before_in_row (part inner i) (part outer i) column (nat_lt i row)) numbers
 
--- the number of cells of outer/inner that are read before the cell in this row and column
+-- the number of cells of outer/inner that come before the cell (row, column) in a column reading
 abbrev pub cells_before : List ℕ → List ℕ → ℕ → ℕ → ℕ
 cells_before outer inner row column = cells_in_rows outer inner row column (after 0 (rows outer))
-
-one-add : (k : ℕ) → 1 + k ≡ suc k
-one-add k = omega arith
 
 -- ---- sums of natural numbers over lists
 
@@ -43,18 +40,9 @@ sum_by-ext f h [] same = refl
 sum_by-ext f h (x ∷ xs) same =
     sum_by-cons f x xs ∙ (ap₂ ◌+◌ (same x) (sum_by-ext f h xs same) ∙ sym (sum_by-cons h x xs))
 
-length-select : {A : Type 0} (test : A → Bool) (xs : List A) → length (filter test xs) ≡ count_by test xs
-length-select test [] = refl
-length-select {A} test (x ∷ xs) = by (test x) (length-select test xs) ∙ sym (sum_by-cons (λ (y : A). cond (test y) 1 0) x xs)
-  where
-    by : (b : Bool) → length (filter test xs) ≡ count_by test xs
-        → length (cond b (x ∷ filter test xs) (filter test xs)) ≡ cond b 1 0 + count_by test xs
-    by true e = omega arith
-    by false e = omega arith
-
 -- ---- the letter of a cell in a list of cells
 
--- none of the cells is in the column
+-- no cell of the list is in the column
 abbrev NotIn : ℕ → List (ℕ × ℕ) → Type 0
 NotIn column [] = Unit {0}
 NotIn column (c ∷ cells) = (c.1 ≢ column) × NotIn column cells
@@ -63,7 +51,8 @@ letter-nothing : (row column : ℕ) (cells : List (ℕ × ℕ)) → letter_of_ce
 letter-nothing row column [] = refl
 letter-nothing row column (c ∷ cells) = refl
 
--- if none of the cells in front is in the column, the letter of a cell of that column is found after their letters
+-- let w be letters for the cells of `cells ++ others`, in this order: if no cell of `cells` is in the column, the letter of a cell of this column is
+-- found in w after the letters of `cells`
 letter-past : (row column : ℕ) (cells others : List (ℕ × ℕ)) (w : List ℕ) → NotIn column cells
     → letter_of_cell row column (cells ++ others) w ≡ letter_of_cell row column others (drop (length cells) w)
 letter-past row column [] others w n = refl
@@ -77,29 +66,28 @@ not_in-column : (column j : ℕ) (is : List ℕ) → j ≢ column → NotIn colu
 not_in-column column j [] other = tt
 not_in-column column j (i ∷ is) other = (other, not_in-column column j is other)
 
--- the number of rows above `row` that pass a test
+-- the number of rows of the list that are above `row` and pass the test
 abbrev rows_above : ℕ → (ℕ → Bool) → List ℕ → ℕ
 rows_above row test = count_by (λ i. nat_lt i row && test i)
 
--- if a row i is added in front, it counts if it is above `row` and passes the test
 rows_above-cons : (row : ℕ) (test : ℕ → Bool) (i : ℕ) (is : List ℕ)
     → rows_above row test (i ∷ is) ≡ cond (nat_lt i row && test i) 1 0 + rows_above row test is
 rows_above-cons row test i is = sum_by-cons (λ k. cond (nat_lt k row && test k) 1 0) i is
 
--- none of the rows from `row` on is above `row`
+-- if row ≤ a + 1, no row of a + 1, .., a + m is above `row`
 rows_above-past : (row : ℕ) (test : ℕ → Bool) (a m : ℕ) → row ≤ a + 1 → rows_above row test (after a m) ≡ 0
 rows_above-past row test a zero far = refl
 rows_above-past row test a (suc m) far =
     rows_above-cons row test (a + 1) (after (a + 1) m)
-    ∙ ap (λ b. cond (b && test (a + 1)) 1 0 + rows_above row test (after (a + 1) m)) (nat_lt-false (a + 1) row far)
+    ∙ ap (λ b. cond (b && test (a + 1)) 1 0 + rows_above row test (after (a + 1) m)) (le-ltb (a + 1) row far)
     ∙ zero-add (rows_above row test (after (a + 1) m)) ∙ rows_above-past row test (a + 1) m (omega arith)
 
--- the cells of the column in the rows `is`, followed by the cells `others`
+-- the cells of the column in the rows of the list `is`, followed by the cells `others`
 abbrev cells_then : ℕ → List ℕ → List (ℕ × ℕ) → List (ℕ × ℕ)
 cells_then column is others = map (λ (i : ℕ). (i, column)) is ++ others
 
--- if w begins with the letters of a column in those of the rows a + 1 to a + m that pass the test, the letter of its cell in `row` is
--- at the index given by the number of these rows above it
+-- let w begin with the letters of a column in those of the rows a + 1 to a + m that pass the test: if `row` is one of these rows, the letter in `row`
+-- is at the index given by the number of these rows above `row`
 in-column : (row column : ℕ) (test : ℕ → Bool) (others : List (ℕ × ℕ)) (a m : ℕ) → a < row → row ≤ a + m → test row ≡ true → (w : List ℕ)
     → letter_of_cell row column (cells_then column (filter test (after a m)) others) w ≡ slice_index w (rows_above row test (after a m))
 in-column row column test others a zero high low h w = absurd (omega arith)
@@ -118,7 +106,7 @@ in-column row column test others a (suc m) high low h w =
     by true c t [] ih = refl
     by true (inl e) t (x ∷ w) ih =
         cond-true ((a + 1 == row) && (column == column)) x _ (and_from (a + 1 == row) (column == column) (eq-eqb (a + 1) row e) (eq-eqb column column refl))
-        ∙ ap (slice_index (x ∷ w)) (sym (ap (λ b. cond (b && true) 1 0 + rows_above row test (after (a + 1) m)) (nat_lt-false (a + 1) row (omega arith))
+        ∙ ap (slice_index (x ∷ w)) (sym (ap (λ b. cond (b && true) 1 0 + rows_above row test (after (a + 1) m)) (le-ltb (a + 1) row (omega arith))
         ∙ zero-add (rows_above row test (after (a + 1) m)) ∙ rows_above-past row test (a + 1) m (omega arith)))
     by true (inr n) t (x ∷ w) ih =
         let far : a + 1 < row = omega arith in
@@ -129,34 +117,19 @@ in-column row column test others a (suc m) high low h w =
 moved : (long before above : ℕ) → long + (before + above) ≡ (before + (0 + long)) + above
 moved long before above = omega arith
 
--- an index with a positive entry is below the length of the list
-inside : (k : ℕ) (xs : List ℕ) → 0 < slice_index xs k → k < length xs
-inside k [] some = absurd (omega arith)
-inside zero (x ∷ xs) some = omega arith
-inside (suc k) (x ∷ xs) some = let h = inside k xs some in omega arith
-
--- ---- the columns from the rightmost to the leftmost
+-- ---- the letter of a cell in the list of the columns, from the rightmost to the leftmost
 
 reverse-after : (k : ℕ) → reverse (after 0 (suc k)) ≡ suc k ∷ reverse (after 0 k)
 reverse-after k =
     let long : suc k ≡ k + 1 = omega arith in
     let last : 0 + k + 1 ≡ suc k = omega arith in
-    ap (λ n. reverse (after 0 n)) long ∙ ap reverse (sym (after-push 0 k)) ∙ reverse-append (after 0 k) ((0 + k + 1) ∷ [])
+    ap (λ n. reverse (after 0 n)) long ∙ ap reverse (sym (sym (after-more 0 k))) ∙ reverse-append (after 0 k) ((0 + k + 1) ∷ [])
     ∙ ap (λ n. n ∷ reverse (after 0 k)) last
 
 module _ (outer inner : List ℕ) (row column : ℕ) (cell : IsCell outer inner row column) where
-  -- the number of cells of the column above the cell
+  -- the number of cells above the given cell in its column
   abbrev above : ℕ
   above = rows_above row (reaches outer inner column) (after 0 (rows outer))
-
-  row_within : row ≤ rows outer
-  row_within =
-      let low = cell.outside in
-      let high = cell.within in
-      let one = cell.row_counts in
-      let some : 0 < slice_index outer (row - 1) = omega arith in
-      let h = inside (row - 1) outer some in
-      omega arith
 
   read_from : (k : ℕ) → column ≤ k → (w : List ℕ)
       → letter_of_cell row column (flat_map (column_cells outer inner) (reverse (after 0 k))) w
@@ -177,7 +150,7 @@ module _ (outer inner : List ℕ) (row column : ℕ) (cell : IsCell outer inner 
       by (inl e) ih =
           let none : suc k - column ≡ 0 = omega arith in
           ap (λ j. letter_of_cell row column (column_cells outer inner j ++ flat_map (column_cells outer inner) (reverse (after 0 k))) w) (sym e)
-          ∙ in-column row column (reaches outer inner column) (flat_map (column_cells outer inner) (reverse (after 0 k))) 0 (rows outer) cell.row_counts (omega (arith, row_within))
+          ∙ in-column row column (reaches outer inner column) (flat_map (column_cells outer inner) (reverse (after 0 k))) 0 (rows outer) cell.row_counts (omega (arith, cell_row outer inner row column cell))
           (and_from _ _ (lt-ltb _ _ cell.outside) (le-leb _ _ cell.within)) w
           ∙ ap (slice_index w) (sym (ap (λ n. sum_by (λ j. length (column_cells outer inner j)) (after column n) + above) none ∙ zero-add above))
       by (inr n) ih =
@@ -191,11 +164,11 @@ module _ (outer inner : List ℕ) (row column : ℕ) (cell : IsCell outer inner 
           ∙ get_or-drop long w (before + above) 0
           ∙ ap (slice_index w) (moved long before above
           ∙ ap (λ n. n + above) (sym (ap (λ n. sum_by (λ j. length (column_cells outer inner j)) (after column n)) more
-          ∙ ap (sum_by (λ j. length (column_cells outer inner j))) (sym (after-push column (k - column)))
+          ∙ ap (sum_by (λ j. length (column_cells outer inner j))) (sym (sym (after-more column (k - column))))
           ∙ sum_by-append (λ j. length (column_cells outer inner j)) (after column (k - column)) ((column + (k - column) + 1) ∷ [])
           ∙ ap (λ j. before + (0 + length (column_cells outer inner j))) last)))
 
--- ---- the cells of the columns further right, row by row
+-- ---- the number of cells in the columns right of a column, counted row by row
 
 sum_by-none : {A : Type 0} (xs : List A) → sum_by (λ x. 0) xs ≡ 0
 sum_by-none [] = refl
@@ -205,14 +178,14 @@ one_column : (left right c : ℕ) → cond (nat_lt left (c + 1) && nat_le (c + 1
 one_column left right c = grind (arith, nat_tests)
 
 module _ (outer inner : List ℕ) where
-  -- the number of cells right of column c
+  -- the number of cells of outer/inner in the columns right of column c
   abbrev right_of : ℕ → ℕ
   right_of c = sum_by (λ i. part outer i - max (part inner i) c) (after 0 (rows outer))
 
   column_long : (c : ℕ) → length (column_cells outer inner (c + 1)) + right_of (c + 1) ≡ right_of c
   column_long c =
       ap (λ n. n + right_of (c + 1))
-      (length-map (filter (reaches outer inner (c + 1)) (after 0 (rows outer))) (λ (i : ℕ). (i, c + 1)) ∙ length-select (reaches outer inner (c + 1)) (after 0 (rows outer)))
+      (length-map (filter (reaches outer inner (c + 1)) (after 0 (rows outer))) (λ (i : ℕ). (i, c + 1)) ∙ length-filter (reaches outer inner (c + 1)) (after 0 (rows outer)))
       ∙ sym (sum_by-add (λ i. cond (reaches outer inner (c + 1) i) 1 0) (λ i. part outer i - max (part inner i) (c + 1)) (after 0 (rows outer)))
       ∙ sum_by-ext _ _ (after 0 (rows outer)) (λ i. one_column (part inner i) (part outer i) c)
 
@@ -231,7 +204,8 @@ first_greatest (a ∷ []) falls (suc k) = omega arith
 first_greatest (a ∷ b ∷ parts) falls zero = omega arith
 first_greatest (a ∷ b ∷ parts) falls (suc k) = let h = first_greatest (b ∷ parts) falls.1 k in omega (arith, falls.0)
 
--- the letter of a cell in a column reading w is at the index given by the number of cells read before it
+-- if outer is weakly decreasing, the letter of a cell in a column reading w is at the index given by the number of cells that come before it
+-- (`cells_before`)
 pub letter-is : (outer inner : List ℕ) (row column : ℕ) → Falls outer → IsCell outer inner row column → (w : List ℕ)
     → slice_index w (cells_before outer inner row column) ≡ letter_of_cell row column (reading_cells outer inner) w
 letter-is outer inner row column falls cell w =
@@ -241,7 +215,7 @@ letter-is outer inner row column falls cell w =
     ∙ ap (slice_index w) (ap (λ n. n + above outer inner row column cell) (columns_long outer inner (columns outer - column) column every)
     ∙ sym (sum_by-add (λ i. part outer i - max (part inner i) column) (λ i. cond (nat_lt i row && reaches outer inner column i) 1 0) (after 0 (rows outer)))))
 
--- ---- a filling whose column reading is 0, 1, 2, ..: the number in each cell is its place in the reading
+-- ---- the filling with the column reading 0, 1, 2, ..: the number in each cell is the index of its letter in a column reading
 
 before-few : (left right column : ℕ) (is_above : Bool) → before_in_row left right column is_above ≤ right
 before-few left right column false = grind (arith, nat_tests)
@@ -251,7 +225,7 @@ sum_by-size : (f : ℕ → ℕ) (xs : List ℕ) → sum_by f xs ≡ size (map f 
 sum_by-size f [] = refl
 sum_by-size f (x ∷ xs) = sum_by-cons f x xs ∙ ap (λ n. f x + n) (sum_by-size f xs)
 
--- with one more row, the number of cells read before a cell increases by the cells of that row that are read before it
+-- the number of cells in the rows 1 to at + 1 that come before a cell is that for the rows 1 to `at`, plus that for the row at + 1
 pub cells_in_rows-more : (outer inner : List ℕ) (row column at : ℕ)
     → cells_in_rows outer inner row column (after 0 at) + before_in_row (part inner (at + 1)) (part outer (at + 1)) column (nat_lt (at + 1) row)
     ≡ cells_in_rows outer inner row column (after 0 (at + 1))
@@ -260,16 +234,16 @@ cells_in_rows-more outer inner row column at =
     let so_far : ℕ = cells_in_rows outer inner row column (after 0 at) in
     let here : at + 1 ≡ 0 + at + 1 = omega arith in
     ap (λ n. so_far + n) (sym (zero-add (count (at + 1)))) ∙ ap (λ i. so_far + (0 + count i)) here
-    ∙ sym (sum_by-append count (after 0 at) ((0 + at + 1) ∷ [])) ∙ ap (sum_by count) (after-push 0 at)
+    ∙ sym (sum_by-append count (after 0 at) ((0 + at + 1) ∷ [])) ∙ ap (sum_by count) (sym (after-more 0 at))
 
--- the number of cells read before a cell is at most the size of the outer partition
+-- the number of cells that come before a cell in a column reading is at most the size of outer
 before-within : (outer inner : List ℕ) (row column : ℕ) → cells_before outer inner row column ≤ size outer
 before-within outer inner row column =
     let most = sum_by-le-sum_by (λ i. before_in_row (part inner i) (part outer i) column (nat_lt i row)) (part outer) (after 0 (rows outer))
     (λ i. before-few (part inner i) (part outer i) column (nat_lt i row)) in
     omega (arith, most, sum_by-size (part outer) (after 0 (rows outer)) ∙ ap size (parts-told outer))
 
--- a filling whose column reading is 0, 1, 2, .. has in each cell the place of the cell's letter
+-- if outer is weakly decreasing, the filling with the column reading 0, 1, 2, .. has in each cell the index of its letter in a column reading
 pub places-told : (outer inner numbers : List ℕ) → Falls outer → ((i : ℕ) → i < size outer + 1 → slice_index numbers i ≡ i)
     → HasReadingPlaces (filled_with outer inner numbers)
 places-told outer inner numbers falls count = record {

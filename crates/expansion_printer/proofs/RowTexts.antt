@@ -1,36 +1,29 @@
--- Texts of rows, entry by entry.
+-- The texts of the rows of a filling, entry by entry.
 use Rattle.std.proofs.Common.{◌≡◌, ℕ, zero, suc, ◌+◌, ◌-◌, ◌<◌, arith, List, [], ◌∷◌, ◌++◌, refl, sym, ◌∙◌, ap, map, cond, ◌==◌}
 use Rattle.std.specs.Prelude.{codes, decimal}
 use Rattle.std.proofs.lemmas.List.{length-map, map-append}
 use Rattle.std.proofs.lemmas.Simd.{map-map}
 use Rattle.sym_model.specs.Partition.{after, part, rows}
 use Rattle.sym_model.specs.TableauText.{separated, spaced, row_text, tableau_text}
-use Rattle.sym_model.proofs.AfterLists.{length_after}
+use Rattle.sym_model.proofs.AfterLists.{length_after, after-more}
 use Rattle.skew_shapes.specs.Rows.{row_by, rows_by}
 use Rattle.expansion_printer.proofs.Texts.{separated-push}
 
--- a + 1, .., a + k with a + k + 1 appended are the k + 1 numbers after a
-pub after-push : (a k : ℕ) → after a k ++ (a + k + 1) ∷ [] ≡ after a (k + 1)
-after-push a zero = let e : a + 0 + 1 ≡ a + 1 = omega arith in ap (λ n. n ∷ []) e
-after-push a (suc k) =
-    let e : a + suc k + 1 ≡ (a + 1) + k + 1 = omega arith in
-    let long : suc (k + 1) ≡ suc k + 1 = omega arith in
-    ap (λ n. (a + 1) ∷ (after (a + 1) k ++ n ∷ [])) e ∙ ap (λ ns. (a + 1) ∷ ns) (after-push (a + 1) k) ∙ ap (after a) long
-
--- appending the text of the next number, with the separator unless it is the first, gives the text of one more number
+-- the separated texts of a + 1, .., a + at, then the separator unless at = 0, and then the text of the next number, are the separated texts of the at
+-- + 1 numbers after a
 pub pieces-more : (separator : List ℕ) (text : ℕ → List ℕ) (a at next : ℕ) → next ≡ a + at + 1
     → separated separator (map text (after a at)) ++ cond (at == 0) (text next) (separator ++ text next)
     ≡ separated separator (map text (after a (at + 1)))
 pieces-more separator text a at next e =
     ap (λ n. separated separator (map text (after a at)) ++ cond (at == 0) (text n) (separator ++ text n)) e
     ∙ separated-push separator (map text (after a at)) (text (a + at + 1)) at (length-map (after a at) text ∙ length_after a at)
-    ∙ ap (separated separator) (sym (map-append text (after a at) ((a + at + 1) ∷ [])) ∙ ap (map text) (after-push a at))
+    ∙ ap (separated separator) (sym (map-append text (after a at) ((a + at + 1) ∷ [])) ∙ ap (map text) (sym (after-more a at)))
 
 -- the texts of the values of f, with spaces between them, are the text of the list of values
 pub spaced-map : (f : ℕ → ℕ) (columns : List ℕ) → separated (codes " ") (map (λ column. decimal (f column)) columns) ≡ spaced (map f columns)
 spaced-map f columns = ap (separated (codes " ")) (sym (map-map decimal f columns))
 
--- the text of a row with cells is that of its entries, with spaces between them
+-- if a row has cells, its text is that of its entries, with spaces between them
 pub row_text-some : (f : ℕ → ℕ → ℕ) (outer inner : List ℕ) (row : ℕ) → part inner row < part outer row
     → spaced (row_by f outer inner row) ≡ row_text (row_by f outer inner row)
 row_text-some f outer inner row some = by (part outer row - part inner row) (omega arith)
@@ -39,7 +32,7 @@ row_text-some f outer inner row some = by (part outer row - part inner row) (ome
     by zero h = absurd (omega arith)
     by (suc k) h = refl
 
--- the text of a tableau with k > 0 rows is made of the texts of the rows 1, .., k, with ` / ` between them
+-- the text of a tableau with k > 0 rows consists of the texts of the rows 1, .., k, with ` / ` between them
 pub tableau_text-some : (f : ℕ → ℕ → ℕ) (outer inner : List ℕ) (k : ℕ) → k ≡ rows outer → 0 < k
     → separated (codes " / ") (map (λ row. row_text (row_by f outer inner row)) (after 0 k)) ≡ tableau_text (rows_by f outer inner)
 tableau_text-some f [] inner k e some = absurd (omega arith)

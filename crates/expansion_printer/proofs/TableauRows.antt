@@ -1,4 +1,4 @@
--- A filling is determined by its entries.
+-- A filling of a skew shape is determined by its entries.
 use Rattle.std.proofs.Common.{◌≡◌, ℕ, zero, suc, ◌+◌, ◌-◌, ◌<◌, length, arith, List, [], ◌∷◌, refl, sym, ◌∙◌, ap, ap₂, map, drop, get_or}
 use Rattle.std.specs.Prelude.{slice_index}
 use Rattle.std.proofs.Math.Seq.{drop-cons, drop-length}
@@ -9,7 +9,7 @@ use Rattle.sym_model.proofs.Tableaux.{length-row_lengths}
 use Rattle.skew_shapes.specs.CellFillings.{row_of, place_in_row}
 use Rattle.skew_shapes.specs.Rows.{row_by, rows_by}
 
--- if g(s + i + 1) is the item at place i of the list, the values of g list its items from place j on
+-- if g(s + i + 1) is element i of xs, for each i, then the values of g at s + j + 1, s + j + 2, .. are the elements of xs from index j on
 tabulated : {A : Type 0} (default : A) (g : ℕ → A) (xs : List A) (s j m : ℕ) → j + m ≡ length xs
     → ((i : ℕ) → i < length xs → g (s + i + 1) ≡ get_or xs i default) → map g (after (s + j) m) ≡ drop j xs
 tabulated default g xs s j zero long is =
@@ -32,7 +32,7 @@ index-lengths [] i = refl
 index-lengths (row ∷ filling) zero = refl
 index-lengths (row ∷ filling) (suc i) = index-lengths filling i
 
--- if the rows of a filling have the lengths of the shape, the filling is the list of its rows by entries
+-- if the rows of a filling have the lengths of the rows of outer/inner, the filling is the list of its rows, each read entry by entry
 pub rows-told : (outer inner : List ℕ) (filling : List (List ℕ)) → map length filling ≡ row_lengths outer inner
     → rows_by (λ row column. slice_index (row_of filling row) (place_in_row inner row column)) outer inner ≡ filling
 rows-told outer inner filling cells =
@@ -63,7 +63,7 @@ rows-told outer inner filling cells =
         (λ k low. let place : (left + k + 1) - (left + 1) ≡ k = omega arith in
         ap (slice_index (row_of filling r)) place ∙ ap (λ (w : List ℕ). slice_index w k) same)
 
--- a partition is the list of its parts in the rows 1, 2, ..
+-- the parts of a partition in the rows 1, 2, .. are the partition
 pub parts-told : (parts : List ℕ) → map (part parts) (after 0 (rows parts)) ≡ parts
 parts-told parts =
     tabulated 0 (part parts) parts 0 0 (rows parts) (omega arith) (λ i below. let at : 0 + i + 1 - 1 ≡ i = omega arith in ap (slice_index parts) at)

@@ -1,4 +1,4 @@
--- Texts of lists, item by item: numbers with a separator, and lines.
+-- The texts of lists, item by item: numbers with a separator, and lines.
 use Rattle.std.proofs.Common.{◌≡◌, ℕ, ◌+◌, ◌<◌, ◌≤◌, length, get_or, take, take_all, arith, List, [], ◌∷◌, ◌++◌, refl, sym, ◌∙◌, ap, append_assoc, append-nil, map, cond, ◌==◌, zero, suc}
 use Rattle.std.specs.Prelude.{codes, decimal, ℤ, pos, negsuc, nat_lt}
 use Rattle.std.specs.Fmt.{digits, signed_decimal}
@@ -20,7 +20,8 @@ numbers_text-separated [] = refl
 numbers_text-separated (a ∷ []) = refl
 numbers_text-separated (a ∷ b ∷ numbers) = ap (λ t. decimal a ++ (codes "," ++ t)) (numbers_text-separated (b ∷ numbers))
 
--- appending a separator and a piece appends the piece to the separated pieces
+-- if a list of pieces is not empty, its separated text, followed by the separator and a piece, is the separated text of the list with this piece
+-- appended
 separated-behind : (separator piece : List ℕ) (first : List ℕ) (pieces : List (List ℕ))
     → separated separator (first ∷ pieces) ++ (separator ++ piece) ≡ separated separator ((first ∷ pieces) ++ piece ∷ [])
 separated-behind separator piece first [] = refl
@@ -29,7 +30,8 @@ separated-behind separator piece first (next ∷ pieces) =
     ∙ ap (λ t. first ++ t) (append_assoc separator (separated separator (next ∷ pieces)) (separator ++ piece)
     ∙ ap (λ t. separator ++ t) (separated-behind separator piece next pieces))
 
--- a piece appended to a list of pieces: the separator is in front of it unless the list is empty
+-- the separated text of a list, then the separator unless the list is empty, and then a piece, are the separated text of the list with this piece
+-- appended
 pub separated-push : (separator : List ℕ) (pieces : List (List ℕ)) (piece : List ℕ) (at : ℕ) → length pieces ≡ at
     → separated separator pieces ++ cond (at == 0) piece (separator ++ piece) ≡ separated separator (pieces ++ piece ∷ [])
 separated-push separator [] piece at first =
@@ -38,7 +40,8 @@ separated-push separator (other ∷ pieces) piece at later =
     ap (λ t. separated separator (other ∷ pieces) ++ t) (cond-false (at == 0) piece (separator ++ piece) (ne_eqb at 0 (λ e. omega arith)))
     ∙ separated-behind separator piece other pieces
 
--- one more item appends its text, after the separator unless it is the first item
+-- the separated texts of the first `at` items, then the separator unless at = 0, and then the text of the next item, are the separated texts of the
+-- first at + 1 items
 pub texts-more : {N : Type 0} (separator : List ℕ) (text : N → List ℕ) (items : List N) (at : ℕ) (item : N)
     → at < length items → item ≡ get_or items at item
     → separated separator (map text (take at items)) ++ cond (at == 0) (text item) (separator ++ text item)
@@ -49,7 +52,7 @@ texts-more separator text items at item below is =
     ∙ ap (separated separator) (sym (ap (map text) (take_more items at item below ∙ ap (λ y. take at items ++ y ∷ []) (sym is))
     ∙ map-append text (take at items) (item ∷ [])))
 
--- one more number appends its text, after the separator unless it is the first number
+-- the first `at` numbers in decimal, separated, then the separator unless at = 0, and then the next number, are the first at + 1 numbers, separated
 pub numerals-more : {N : Type 0} (separator : List ℕ) (number : N → ℕ) (numbers : List N) (at : ℕ) (item : N)
     → at < length numbers → item ≡ get_or numbers at item
     → separated separator (map decimal (map number (take at numbers)))
@@ -61,7 +64,7 @@ numerals-more separator number numbers at item below is =
     ∙ texts-more separator (λ n. decimal (number n)) numbers at item below is
     ∙ ap (separated separator) (sym (map-map decimal number (take (at + 1) numbers)))
 
--- when no number is left, the text has all numbers
+-- if there are at most `at` numbers, the separated text of the first `at` numbers is that of all numbers
 pub numerals-all : {N : Type 0} (separator : List ℕ) (number : N → ℕ) (numbers : List N) (at : ℕ) → length numbers ≤ at
     → separated separator (map decimal (map number (take at numbers))) ≡ separated separator (map decimal (map number numbers))
 numerals-all separator number numbers at all = ap (λ xs. separated separator (map decimal (map number xs))) (take_all at numbers all)
@@ -91,7 +94,7 @@ pub block_by-nothing : {Label : Type 0} (rules : LabelRules Label) (terms : Term
 block_by-nothing rules [] none = refl
 block_by-nothing rules (t ∷ terms) none = absurd (omega arith)
 
--- the line of a number is the text of its answer
+-- the integer `value` in decimal and a line feed are the text of the answer `value`
 pub number_line : (value : ℤ) → signed_decimal value ++ codes "\n" ≡ answer_text (answer kinds.number (number_terms value))
 unfolding digits
 number_line (pos zero) = refl

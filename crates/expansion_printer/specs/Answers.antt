@@ -12,7 +12,7 @@ use Rattle.expansion_printer.specs.declared.answer.Answer.TheVariants.{Number, E
 use Rattle.expansion_printer.specs.declared.answer.Answer.TheVariants.{Pairs, Powers, Permutations}
 use Rattle.expansion_printer.specs.declared.answer.Answer.TheVariants.{Polynomial, Shifts}
 
--- the kind of answer in the definitions for a kind of the program
+-- the kind of the definitions for a kind of answer of the program
 abbrev pub kind_of : Kind → PlainKind
 kind_of kinds.Number = number
 kind_of kinds.Expansion = expansion
@@ -23,12 +23,11 @@ kind_of kinds.Permutations = permutations
 kind_of kinds.Polynomial = polynomial
 kind_of kinds.Shifts = shifts
 
--- the one term of a number, and no term for 0
+-- the terms of the number `value`: one term, and no term for 0
 abbrev pub number_terms : ℤ → Terms (Label number)
 number_terms value = cond (nat_lt 0 (nat_abs value)) ((tt, (value, 1)) ∷ []) []
 
--- the answer in the definitions for an answer of the program: its kind and its terms, with integer coefficients as
--- fractions
+-- the answer of the definitions for an answer of the program: its kind and its terms, with integer coefficients as fractions
 abbrev pub plain_answer : Answer → PlainAnswer
 plain_answer (Number value) = answer number (number_terms value)
 plain_answer (Expansion terms) = answer expansion terms
@@ -39,7 +38,7 @@ plain_answer (Permutations terms) = answer permutations (as_fractions terms)
 plain_answer (Polynomial terms) = answer polynomial (as_fractions terms)
 plain_answer (Shifts terms) = answer shifts (as_fractions terms)
 
--- the kind in the definitions for an answer of the program
+-- the kind of the definitions for the kind of an answer of the program
 abbrev pub kind_of_answer : Answer → PlainKind
 kind_of_answer (Number value) = number
 kind_of_answer (Expansion terms) = expansion

@@ -1,4 +1,4 @@
--- The definitions that the contracts cite.
+-- The definitions that the contracts of this crate cite.
 pub mod Answers
 pub mod Refusal
 pub mod ReadingPlaces

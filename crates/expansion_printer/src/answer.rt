@@ -11,42 +11,43 @@ use sparse_polys::{Monomial, Pair, Power, Shifted};
 /// The kinds of answers.
 #[derive(Clone, Copy, Debug, PartialEq, Eq, Hash)]
 pub enum Kind {
-    /// One number.
+    /// One integer.
     Number,
-    /// Partitions with fractions.
+    /// Terms: partitions with fractions as coefficients.
     Expansion,
-    /// Partitions with integer coefficients.
+    /// Terms: partitions with integer coefficients.
     Product,
-    /// Pairs of partitions.
+    /// Terms: pairs of partitions with integer coefficients.
     Pairs,
-    /// Partitions with a power of q.
+    /// Terms: partitions with a power of q and integer coefficients.
     Powers,
-    /// Permutations.
+    /// Terms: permutations with integer coefficients.
     Permutations,
-    /// Monomials.
+    /// Terms: monomials with integer coefficients.
     Polynomial,
-    /// Permutations, each with a monomial in the variables y.
+    /// Terms: permutations, each with a monomial in the variables y, with integer coefficients.
     Shifts,
 }
 
 /// An answer: a number, or a list of terms in the printed order.
 #[derive(Drop)]
 pub enum Answer {
-    /// A number.
+    /// An integer.
     Number { value: Int },
     /// The expansion of a symmetric function in a basis.
     Expansion { terms: Terms<Partition, Frac> },
     /// A product, or another combination of Schur functions with integer coefficients.
     Product { terms: Terms<Partition, Int> },
-    /// A coproduct.
+    /// The coproduct of a Schur function.
     Pairs { terms: Terms<Pair, Int> },
-    /// A quantum product.
+    /// A quantum product of Schur functions, with powers of q.
     Powers { terms: Terms<Power, Int> },
     /// A combination of Schubert polynomials with integer coefficients.
     Permutations { terms: Terms<Perm, Int> },
-    /// A polynomial.
+    /// A polynomial with integer coefficients.
     Polynomial { terms: Terms<Monomial, Int> },
-    /// A combination of double Schubert polynomials, with monomials in the variables y.
+    /// A combination of double Schubert polynomials; the coefficients are polynomials in the
+    /// variables y.
     Shifts { terms: Terms<Shifted, Int> },
 }
 

@@ -18,16 +18,16 @@ use calc_base::{Sink, SinkFault};
 use coeff_rings::Int;
 use linear_combinations::Terms;
 
-/// Prints the block of the answer: a line for each term, and the line `0` if there is none. A
-/// number is one line.
+/// Prints the block of the answer: a line for each term, or the line `0` if there is no term. The
+/// block of a number is one line.
 ///
-/// Returns `SinkFault` if and only if a write failed. There is no write after that, and what was
-/// written is a prefix of the block.
+/// Returns `SinkFault` if and only if a write failed. No write follows a failed one, and what was
+/// written is then a prefix of the block.
 pub fn print<K: Sink>(answer: &Answer, sink: &mut K) -> Result<(), SinkFault>
     ensures prints { Prints (K.seen sink.old) (K.seen sink.new)
         (answer_text (plain_answer answer.now)) result }
 
-    // Every answer is canonical, with numbers of 128 bits, so that its block can be read back.
+    // The answer is canonical and has numbers of at most 128 bits, so its block can be read back.
     ensures printable { IsPrintable (plain_answer answer.now) }
 {
     print_after(b"", answer, sink)
@@ -36,13 +36,13 @@ pub fn print<K: Sink>(answer: &Answer, sink: &mut K) -> Result<(), SinkFault>
 /// Prints the text `front` and then the block of the answer. If `front` is empty, the sink is not
 /// called for it.
 ///
-/// Returns `SinkFault` if and only if a write failed. There is no write after that, and what was
-/// written is a prefix of the two texts.
+/// Returns `SinkFault` if and only if a write failed. No write follows a failed one, and what was
+/// written is then a prefix of the two texts, one after the other.
 pub fn print_after<K: Sink>(front: &[u8], answer: &Answer, sink: &mut K) -> Result<(), SinkFault>
     ensures prints { Prints (K.seen sink.old) (K.seen sink.new)
         (front.now ++ answer_text (plain_answer answer.now)) result }
 
-    // Every answer is canonical, with numbers of 128 bits, so that its block can be read back.
+    // The answer is canonical and has numbers of at most 128 bits, so its block can be read back.
     ensures printable { IsPrintable (plain_answer answer.now) }
 {
     let mut text = TextBuffer::new();
@@ -69,7 +69,7 @@ fn put_block<K: Sink>(answer: &Answer, text: &mut TextBuffer, sink: &mut K)
     }
 }
 
-/// Writes the line of a number.
+/// Writes the line of the number `value`.
 fn put_value<K: Sink>(value: Int, text: &mut TextBuffer, sink: &mut K)
     ensures goes { Gathers text.old (K.seen sink.old) text.new (K.seen sink.new)
         (answer_text (answer number (number_terms value))) }
@@ -80,7 +80,7 @@ fn put_value<K: Sink>(value: Int, text: &mut TextBuffer, sink: &mut K)
     text.put_byte(b'\n', sink);
 }
 
-/// Writes the block of the terms.
+/// Writes the block of the terms: a line for each term, or the line `0` if there is no term.
 fn put_terms<L: Named, R: Ratio, K: Sink>(terms: &Terms<L, R>, text: &mut TextBuffer, sink: &mut K)
     ensures goes { Gathers text.old (K.seen sink.old) text.new (K.seen sink.new)
         (block_by L.line_rules (terms_of R.value terms.now)) }

@@ -1,4 +1,4 @@
-//! The signs and the absolute values of coefficients.
+//! The texts of coefficients: their signs and their absolute values.
 ghost use Rattle.std.specs.Prelude.{◌≡◌, [], ◌++◌, ◌==◌, cond, codes, decimal, if◌then◌else◌};
 ghost use Rattle.std.specs.Prelude.{FitsSigned};
 ghost use Rattle.std.specs.Int.{w128};
@@ -13,7 +13,7 @@ use coeff_rings::{Frac, Int, Scalar};
 
 /// Coefficients that are given as a numerator and a denominator.
 pub(crate) trait Ratio: Scalar {
-    /// The numerator and the denominator.
+    /// The numerator and the denominator of the coefficient.
     fn parts(&self) -> (i128, u128)
         ensures parts { Self.value self.now ≡ result }
         ensures fits { FitsSigned w128 result.0 }
@@ -32,8 +32,8 @@ impl Ratio for Frac {
     }
 }
 
-/// Writes the sign in front of a term: `-` for a negative numerator, otherwise `+` except for the
-/// first term.
+/// Writes the sign in front of a term: `-` if the numerator is negative. Otherwise it writes `+`,
+/// or nothing if the term is the first one.
 pub(crate) fn put_sign<K: Sink>(is_first: bool, num: i128, text: &mut TextBuffer, sink: &mut K)
     ensures { Gathers text.old (K.seen sink.old) text.new (K.seen sink.new)
         (sign_text is_first num) }
@@ -47,7 +47,7 @@ pub(crate) fn put_sign<K: Sink>(is_first: bool, num: i128, text: &mut TextBuffer
     text.put_byte(b'+', sink);
 }
 
-/// Writes the absolute value of a coefficient and `*`, or nothing if that value is 1.
+/// Writes the absolute value of a coefficient and `*`, or nothing if the absolute value is 1.
 pub(crate) fn put_coefficient<K: Sink>(num: i128, den: u128, text: &mut TextBuffer, sink: &mut K)
     ensures { Gathers text.old (K.seen sink.old) text.new (K.seen sink.new)
         (coefficient_text (num, den)) }
@@ -61,7 +61,7 @@ pub(crate) fn put_coefficient<K: Sink>(num: i128, den: u128, text: &mut TextBuff
     text.put_byte(b'*', sink);
 }
 
-/// Writes a coefficient: `NUM/DEN`, or a whole one without its denominator.
+/// Writes a coefficient as `NUM/DEN`, or as `NUM` if the denominator is 1.
 pub(crate) fn put_fraction<K: Sink>(num: i128, den: u128, text: &mut TextBuffer, sink: &mut K)
     ensures { Gathers text.old (K.seen sink.old) text.new (K.seen sink.new)
         (fraction_text (num, den)) }
@@ -71,7 +71,7 @@ pub(crate) fn put_fraction<K: Sink>(num: i128, den: u128, text: &mut TextBuffer,
     put_denominator(den, text, sink);
 }
 
-/// Writes `/` and the denominator of a fraction, or nothing if that is 1.
+/// Writes `/` and the denominator of a fraction, or nothing if the denominator is 1.
 fn put_denominator<K: Sink>(den: u128, text: &mut TextBuffer, sink: &mut K)
     ensures { Gathers text.old (K.seen sink.old) text.new (K.seen sink.new)
         (if den == 1 then [] else (codes "/" ++ decimal den)) }

@@ -2,19 +2,18 @@
 //! form, the line of a refusal, and the line of an answer that is too large; the lines of words,
 //! tableaux and shapes, and single labels.
 //!
-//! A printer collects its text in a buffer of fixed size, which is written to the sink when it is
-//! full and at the end. After a write that fails there is no other, and what was written is a
-//! prefix of the text. No memory is allocated.
+//! A printer collects its text in a buffer of fixed size, which is written to the sink when a
+//! further piece does not fit, and at the end. No write follows a failed one, and what was written
+//! is then a prefix of the text. Printing allocates no memory.
 //!
 //! What is proved:
 //!
 //! `print` writes the block of an answer of any kind, `print_refusal` and `print_large` the line of
-//! a refusal, `print_label`, `print_letters`, `print_shapes`, `print_reading`, `print_in_order` and
-//! `print_tableau` their lines: the whole text, or after a fault a prefix, with no further write.
-//! Every answer is canonical with numbers of 128 bits. `print_one_line`: an expansion or a product
-//! on one line with the atoms of a basis, written to any sink, with the fault clauses of `print`;
-//! any other answer gets its block. `print_after`, `print_one_line_after`: the same after a given
-//! text.
+//! a refusal, and `print_label`, `print_letters`, `print_shapes`, `print_reading`, `print_in_order`
+//! and `print_tableau` the texts that they are named for: the whole text, or a prefix of it if a
+//! write fails. Every answer is canonical and has numbers of at most 128 bits. `print_one_line`
+//! writes an expansion or a product on one line with the atoms of a basis, and any other answer as
+//! its block. `print_after` and `print_one_line_after` write a given text first.
 #![tactic(auto)]
 
 mod answer;

@@ -23,16 +23,16 @@ use linear_combinations::Terms;
 use partitions::Partition;
 
 /// Prints an expansion, or a product, on one line with the atoms of the basis, as
-/// `-1/3*p[3]+1/3*p[1,1,1]`: the terms in their order, and `0` if there is none. An answer of
+/// `-1/3*p[3]+1/3*p[1,1,1]`: the terms in their order, or `0` if there is no term. An answer of
 /// another kind, whose labels are not partitions, has no such line: its block is printed.
 ///
-/// Returns `SinkFault` if and only if a write failed. There is no write after that, and what was
-/// written is a prefix of the line.
+/// Returns `SinkFault` if and only if a write failed. No write follows a failed one, and what was
+/// written is then a prefix of the line.
 pub fn print_one_line<K: Sink>(answer: &Answer, basis: Basis, sink: &mut K) -> Result<(), SinkFault>
     ensures prints { Prints (K.seen sink.old) (K.seen sink.new)
         (answer_text_in (as_line (basis_of basis)) (plain_answer answer.now)) result }
 
-    // Every answer is canonical, with numbers of 128 bits, so that its line can be read back.
+    // The answer is canonical and has numbers of at most 128 bits, so its line can be read back.
     ensures printable { IsPrintable (plain_answer answer.now) }
 {
     print_one_line_after(b"", answer, basis, sink)
@@ -41,8 +41,8 @@ pub fn print_one_line<K: Sink>(answer: &Answer, basis: Basis, sink: &mut K) -> R
 /// Prints the text `front` and then the answer on one line with the atoms of the basis, or its
 /// block if its labels are not partitions. If `front` is empty, the sink is not called for it.
 ///
-/// Returns `SinkFault` if and only if a write failed. There is no write after that, and what was
-/// written is a prefix of the two texts.
+/// Returns `SinkFault` if and only if a write failed. No write follows a failed one, and what was
+/// written is then a prefix of the two texts, one after the other.
 pub fn print_one_line_after<K: Sink>(
     front: &[u8],
     answer: &Answer,
@@ -52,7 +52,7 @@ pub fn print_one_line_after<K: Sink>(
     ensures prints { Prints (K.seen sink.old) (K.seen sink.new)
         (front.now ++ answer_text_in (as_line (basis_of basis)) (plain_answer answer.now)) result }
 
-    // Every answer is canonical, with numbers of 128 bits, so that its line can be read back.
+    // The answer is canonical and has numbers of at most 128 bits, so its line can be read back.
     ensures printable { IsPrintable (plain_answer answer.now) }
 {
     match answer {
@@ -62,7 +62,7 @@ pub fn print_one_line_after<K: Sink>(
     }
 }
 
-/// Prints the text `front` and then the one-line form of the terms.
+/// Prints the text `front` and then the one-line form of the terms with the atoms of the basis.
 fn print_terms<R: Ratio, K: Sink>(
     front: &[u8],
     basis: Basis,
@@ -80,7 +80,7 @@ fn print_terms<R: Ratio, K: Sink>(
     text.finish(sink)
 }
 
-/// Writes the one-line form of the terms.
+/// Writes the one-line form of the terms with the atoms of the basis.
 fn put_line<R: Ratio, K: Sink>(
     basis: Basis,
     terms: &Terms<Partition, R>,

@@ -1,4 +1,4 @@
-//! The labels of lines.
+//! The labels of the terms in a block.
 ghost use Rattle.std.specs.Prelude.{List, ℕ, codes};
 ghost use Rattle.expansion_printer.specs.Gathering.{Gathers};
 ghost use Rattle.sym_model.specs.Kind.{LabelRules, label_rules, expansion, pairs, powers};
@@ -12,7 +12,7 @@ use partitions::Partition;
 use perm_codes::Perm;
 use sparse_polys::{Monomial, Pair, Power, Shifted};
 
-/// Labels that follow a coefficient on a line.
+/// Labels that follow a coefficient on a line of a block.
 pub(crate) trait Named: Label {
     // The rules by which these labels are printed in a block and read back.
     ghost line_rules: { LabelRules Self };

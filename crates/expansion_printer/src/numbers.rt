@@ -8,7 +8,7 @@ use crate::text_buffer::TextBuffer;
 use calc_base::Sink;
 use itoa::{Buffer, Integer};
 
-/// Numbers of at most 64 bits, of which the list of a label consists.
+/// Numbers of at most 64 bits, as in the list of a label.
 pub(crate) trait Numeral {
     ghost number: { Self → ℕ };
 
@@ -57,8 +57,8 @@ pub(crate) fn put_separated<N: Numeral, K: Sink>(
     }
 }
 
-/// Writes the number at a place, counted from 0, and in front of it the separator, except at the
-/// first place.
+/// Writes `number`, which is item `at` of a list, counted from 0; the separator is written in front
+/// of it unless `at` is 0.
 #[inline]
 pub(crate) fn put_piece<K: Sink>(
     separator: u8,

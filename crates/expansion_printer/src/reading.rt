@@ -1,4 +1,4 @@
-//! Fillings that are given by their column readings.
+//! Fillings of skew shapes that are given by their column readings.
 ghost use Rattle.std.specs.Prelude.{◌≡◌, ◌≤◌, ◌<◌, ℕ, List, slice_index, IfOk};
 ghost use Rattle.sym_model.specs.Partition.{IsCell};
 ghost use Rattle.sym_model.specs.TableauList.{filling_of, letter_of_cell, reading_cells};
@@ -11,8 +11,8 @@ use skew_shapes::{Filled, Skew, filling_with_reading};
 use std::alloc::{AllocError, Global};
 use std::marker::Model;
 
-/// A skew shape with the place of each cell in the column reading. It is made once for all fillings
-/// of the shape that are printed by their readings.
+/// A skew shape and, for each of its cells, the index of the cell's letter in a column reading. It
+/// is computed once for all fillings of the shape that are printed by their readings.
 #[derive(Drop)]
 pub struct ReadingOrder {
     places: Filled,
@@ -30,7 +30,8 @@ impl Model for ReadingOrder {
 }
 
 impl ReadingOrder {
-    /// The order of the cells of a shape. Fails only if memory runs out.
+    /// The indices, in a column reading, of the letters of the cells of a shape. Fails only if
+    /// memory runs out.
     pub fn new(alloc: Global, shape: Skew) -> Result<ReadingOrder, NoMemory>
         ensures { IfOk result (λ order. order ≡ shape) }
     {
@@ -51,7 +52,7 @@ impl ReadingOrder {
         self.places.shape().inner()
     }
 
-    /// The place of the letter of a cell.
+    /// The index of a cell's letter in a column reading.
     fn place(&self, row: u16, column: u16) -> usize
         requires { IsCell self.now.0 self.now.1 row column }
         ensures { (w : List ℕ) → slice_index w result
@@ -61,7 +62,7 @@ impl ReadingOrder {
     }
 }
 
-/// The first `count` numbers from 0 on.
+/// The numbers from 0 to `count` - 1.
 fn numbers_below(alloc: Global, count: u16) -> Result<Vec<u16>, AllocError>
     ensures { IfOk result (λ numbers. (i : ℕ) → i < count → slice_index numbers.items i ≡ i) }
 {
@@ -72,8 +73,8 @@ fn numbers_below(alloc: Global, count: u16) -> Result<Vec<u16>, AllocError>
     Ok(numbers)
 }
 
-/// The cells of a shape with the letters of a column reading: the columns from the rightmost to the
-/// leftmost, each from top to bottom.
+/// A filling of a shape, given by its column reading: the letters of the columns from the rightmost
+/// to the leftmost, each from top to bottom. The indices of the cells are stored in `order`.
 #[derive(Drop)]
 pub(crate) struct Reading<'a> {
     pub(crate) order: &'a ReadingOrder,
@@ -104,8 +105,8 @@ impl Entries for Reading<'_> {
     }
 }
 
-/// The cells of a shape with the letters of a column reading, whose places are computed when they
-/// are needed. No memory is allocated.
+/// A filling of a shape, given by its column reading. The index of a cell's letter is computed when
+/// it is needed. No memory is allocated.
 #[derive(Drop)]
 pub(crate) struct CountedReading<'a> {
     pub(crate) shape: &'a Skew,
@@ -136,8 +137,8 @@ impl Entries for CountedReading<'_> {
     }
 }
 
-/// The place of the letter of a cell: the number of the cells further right, and of those above it
-/// in its column.
+/// The index of a cell's letter in a column reading: the number of cells in columns further right,
+/// plus the number of cells above the cell in its column.
 fn place_of(shape: &Skew, row: u16, column: u16) -> usize
     requires { IsCell shape.now.0 shape.now.1 row column }
     ensures { (w : List ℕ) → slice_index w result
@@ -152,9 +153,9 @@ fn place_of(shape: &Skew, row: u16, column: u16) -> usize
     before
 }
 
-/// The number of cells of a row that are read before a cell in the column `column` of another row.
-/// The row has the cells in columns `left + 1` to `right`; `is_above` says that it is above the
-/// other one.
+/// The number of cells of a row that come, in a column reading, before a given cell in the column
+/// `column`. The row has cells in columns `left + 1` to `right`; `is_above` says whether the row is
+/// above the given cell.
 fn cells_before(left: u16, right: u16, column: u16, is_above: bool) -> u16
     ensures { result ≡ before_in_row left right column is_above }
 {

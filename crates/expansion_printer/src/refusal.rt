@@ -8,11 +8,11 @@ use crate::numbers::put_number;
 use crate::text_buffer::TextBuffer;
 use calc_base::{Place, Sink, SinkFault, WordsFault};
 
-/// Prints the line of a refusal: its name and its place. Out of memory has no line, and must not be
-/// passed.
+/// Prints the line of a refusal: the name and the place of its error. `NoMemory` has no line, and
+/// must not be given.
 ///
-/// Returns `SinkFault` if and only if a write failed. There is no write after that, and what was
-/// written is a prefix of the line.
+/// Returns `SinkFault` if and only if a write failed. No write follows a failed one, and what was
+/// written is then a prefix of the line.
 pub fn print_refusal<K: Sink>(fault: &WordsFault, sink: &mut K) -> Result<(), SinkFault>
     requires { fault.now ≢ WordsFault.NoMemory }
     ensures { Prints (K.seen sink.old) (K.seen sink.new) (refusal_text fault.now) result }
@@ -28,15 +28,15 @@ pub fn print_refusal<K: Sink>(fault: &WordsFault, sink: &mut K) -> Result<(), Si
 
 /// Prints the line of an answer that is too large.
 ///
-/// Returns `SinkFault` if and only if a write failed. There is no write after that, and what was
-/// written is a prefix of the line.
+/// Returns `SinkFault` if and only if a write failed. No write follows a failed one, and what was
+/// written is then a prefix of the line.
 pub fn print_large<K: Sink>(sink: &mut K) -> Result<(), SinkFault>
     ensures { Prints (K.seen sink.old) (K.seen sink.new) large_line result }
 {
     sink.put(b"! Large\n")
 }
 
-/// Prints the line of an error: its name and its place.
+/// Prints the line of a refusal with this name and this place.
 fn print_offence<K: Sink>(name: &[u8], at: Place, sink: &mut K) -> Result<(), SinkFault>
     ensures { Prints (K.seen sink.old) (K.seen sink.new)
         (refusal_line name.now at.word at.byte) result }

@@ -16,10 +16,10 @@ pub(crate) trait Entries {
 
     ghost inner: { Self → List ℕ };
 
-    // The number in a row and a column.
+    // The number in the cell of this row and this column, both counted from 1.
     ghost entry: { Self → ℕ → ℕ → ℕ };
 
-    // The rows of numbers.
+    // The numbers of the filling, row by row.
     ghost rows: { Self → List (List ℕ) };
 
     fn outer(&self) -> &Partition
@@ -34,7 +34,7 @@ pub(crate) trait Entries {
         ensures { result ≡ entry self.now row column };
 }
 
-/// Writes the rows from top to bottom, or `.` if there is none.
+/// Writes the rows of the filling from top to bottom, or `.` if there is no row.
 pub(crate) fn put_rows<E: Entries, K: Sink>(filling: &E, text: &mut TextBuffer, sink: &mut K)
     ensures { Gathers text.old (K.seen sink.old) text.new (K.seen sink.new)
         (tableau_text (E.rows filling.now)) }
@@ -48,8 +48,8 @@ pub(crate) fn put_rows<E: Entries, K: Sink>(filling: &E, text: &mut TextBuffer, 
     }
 }
 
-/// Writes the row at a place, counted from 0, and in front of it the separator, except at the first
-/// place.
+/// Writes row `at` of the filling, counted from 0; ` / ` is written in front of it unless `at` is
+/// 0.
 fn put_next_row<E: Entries, K: Sink>(filling: &E, at: u16, text: &mut TextBuffer, sink: &mut K)
     requires { at < 65535 }
     ensures { Gathers text.old (K.seen sink.old) text.new (K.seen sink.new)
@@ -65,8 +65,8 @@ fn put_next_row<E: Entries, K: Sink>(filling: &E, at: u16, text: &mut TextBuffer
     put_row(filling, at, text, sink);
 }
 
-/// Writes the entries of the row at a place, counted from 0, with spaces between them, or `.` if
-/// there is none.
+/// Writes the entries of row `at` of the filling, counted from 0, with spaces between them, or `.`
+/// if the row has no cell.
 fn put_row<E: Entries, K: Sink>(filling: &E, at: u16, text: &mut TextBuffer, sink: &mut K)
     requires { at < 65535 }
     ensures { Gathers text.old (K.seen sink.old) text.new (K.seen sink.new)
@@ -82,7 +82,8 @@ fn put_row<E: Entries, K: Sink>(filling: &E, at: u16, text: &mut TextBuffer, sin
     put_entries(filling, row, left, right, text, sink);
 }
 
-/// Writes the entries of a row in columns `left + 1` to `right`, with spaces between them.
+/// Writes the entries of a row of the filling, in columns `left + 1` to `right`, with spaces
+/// between them.
 fn put_entries<E: Entries, K: Sink>(
     filling: &E,
     row: u16,

@@ -1,4 +1,4 @@
-//! Lines of tableaux.
+//! The lines of tableaux and other fillings of skew shapes.
 ghost use Rattle.std.specs.Prelude.{slice_index};
 ghost use Rattle.calc_base.specs.Puts.{Prints};
 ghost use Rattle.sym_model.specs.TableauList.{filling_of};
@@ -36,20 +36,20 @@ impl Entries for Tableau {
 
 /// Prints the line of a tableau: its rows from top to bottom.
 ///
-/// Returns `SinkFault` if and only if a write failed. There is no write after that, and what was
-/// written is a prefix of the line.
+/// Returns `SinkFault` if and only if a write failed. No write follows a failed one, and what was
+/// written is then a prefix of the line.
 pub fn print_tableau<K: Sink>(t: &Tableau, sink: &mut K) -> Result<(), SinkFault>
     ensures { Prints (K.seen sink.old) (K.seen sink.new) (tableau_line t.now.rows) result }
 {
     print_filling(t, sink)
 }
 
-/// Prints the line of the filling of a shape with this column reading: the columns from the
-/// rightmost to the leftmost, each from top to bottom. Cells after the last letter have the number
-/// 0.
+/// Prints the line of the filling of a shape that has this column reading: the letters of the
+/// columns from the rightmost to the leftmost, each from top to bottom. If the reading has too few
+/// letters, the remaining cells have the number 0.
 ///
-/// Returns `SinkFault` if and only if a write failed. There is no write after that, and what was
-/// written is a prefix of the line.
+/// Returns `SinkFault` if and only if a write failed. No write follows a failed one, and what was
+/// written is then a prefix of the line.
 pub fn print_reading<K: Sink>(shape: &Skew, reading: &[u16], sink: &mut K) -> Result<(), SinkFault>
     ensures { Prints (K.seen sink.old) (K.seen sink.new)
         (tableau_line (filling_of shape.now.0 shape.now.1 reading.now)) result }
@@ -61,11 +61,12 @@ pub fn print_reading<K: Sink>(shape: &Skew, reading: &[u16], sink: &mut K) -> Re
     print_filling(&filling, sink)
 }
 
-/// Prints the line of the filling with this column reading, of the shape of `order`. Cells after
-/// the last letter have the number 0. The places of the cells are not computed for each reading.
+/// Prints the line of the filling of the shape of `order` that has this column reading. If the
+/// reading has too few letters, the remaining cells have the number 0. The indices of the cells are
+/// those of `order`, and are not computed for each reading.
 ///
-/// Returns `SinkFault` if and only if a write failed. There is no write after that, and what was
-/// written is a prefix of the line.
+/// Returns `SinkFault` if and only if a write failed. No write follows a failed one, and what was
+/// written is then a prefix of the line.
 pub fn print_in_order<K: Sink>(
     order: &ReadingOrder,
     reading: &[u16],
@@ -81,7 +82,7 @@ pub fn print_in_order<K: Sink>(
     print_filling(&filling, sink)
 }
 
-/// Prints the line of a filling.
+/// Prints the line of a filling of a skew shape.
 fn print_filling<E: Entries, K: Sink>(filling: &E, sink: &mut K) -> Result<(), SinkFault>
     ensures { Prints (K.seen sink.old) (K.seen sink.new)
         (tableau_line (E.rows filling.now)) result }

@@ -1,4 +1,4 @@
-//! A buffer for text on its way to a sink.
+//! A buffer for text that is to be written to a sink.
 ghost use Rattle.std.specs.Prelude.{◌≡◌, ◌+◌, ◌≤◌, ◌↔◌, [], ◌∷◌, ◌++◌, length, true, false, IsTrue};
 ghost use Rattle.std.specs.Prelude.{is_ok};
 ghost use Rattle.calc_base.specs.Puts.{Puts};
@@ -11,8 +11,8 @@ use std::marker::Model;
 /// The number of bytes that a buffer can hold.
 const CAPACITY: usize = 1024;
 
-/// Bytes that are to be written to a sink. They are written when a further piece does not fit, and
-/// at the end; after a fault nothing is written. No memory is allocated.
+/// Bytes that are to be written to a sink: when a further piece does not fit, and at the end. After
+/// a failed write nothing is written. No memory is allocated.
 #[derive(Drop)]
 pub(crate) struct TextBuffer {
     bytes: ArrayVec<u8, CAPACITY>,
@@ -88,7 +88,7 @@ impl TextBuffer {
         self.bytes.clear();
     }
 
-    /// Appends a piece when the buffer is empty: to the sink directly if the piece does not fit.
+    /// Appends a piece to the empty buffer, or writes it to the sink directly if it does not fit.
     fn put_first<K: Sink>(&mut self, piece: &[u8], sink: &mut K)
         requires { self.old.bytes ≡ [] }
         ensures { Gathers self.old (K.seen sink.old) self.new (K.seen sink.new) piece.now }

@@ -1,4 +1,4 @@
-//! Words, lines of shapes and single labels.
+//! The lines of words and of shapes, and single labels.
 ghost use Rattle.std.specs.Prelude.{◌++◌, ◌==◌, map, codes, if◌then◌else◌};
 ghost use Rattle.calc_base.specs.Puts.{Prints};
 ghost use Rattle.expansion_printer.specs.Gathering.{Gathers};
@@ -10,11 +10,11 @@ use crate::text_buffer::TextBuffer;
 use calc_base::{Sink, SinkFault};
 use partitions::Partition;
 
-/// Prints the line of a word: its letters with a space between them,
-/// and an empty line for the empty word.
+/// Prints the line of a word: its letters with a space between them, and an empty line for the
+/// empty word.
 ///
-/// Returns `SinkFault` if and only if a write failed. There is no write after that, and what was
-/// written is a prefix of the line.
+/// Returns `SinkFault` if and only if a write failed. No write follows a failed one, and what was
+/// written is then a prefix of the line.
 pub fn print_letters<K: Sink>(w: &[u16], sink: &mut K) -> Result<(), SinkFault>
     ensures { Prints (K.seen sink.old) (K.seen sink.new) (word_line w.now) result }
 {
@@ -26,8 +26,8 @@ pub fn print_letters<K: Sink>(w: &[u16], sink: &mut K) -> Result<(), SinkFault>
 
 /// Prints the label of a partition, with no end of line.
 ///
-/// Returns `SinkFault` if and only if a write failed. There is no write after that, and what was
-/// written is a prefix of the label.
+/// Returns `SinkFault` if and only if a write failed. No write follows a failed one, and what was
+/// written is then a prefix of the label.
 pub fn print_label<K: Sink>(shape: &Partition, sink: &mut K) -> Result<(), SinkFault>
     ensures { Prints (K.seen sink.old) (K.seen sink.new) (label_text shape.now) result }
 {
@@ -37,10 +37,10 @@ pub fn print_label<K: Sink>(shape: &Partition, sink: &mut K) -> Result<(), SinkF
 }
 
 /// Prints the line of shapes: their labels with a space between them, and an empty line if there is
-/// none.
+/// no shape.
 ///
-/// Returns `SinkFault` if and only if a write failed. There is no write after that, and what was
-/// written is a prefix of the line.
+/// Returns `SinkFault` if and only if a write failed. No write follows a failed one, and what was
+/// written is then a prefix of the line.
 pub fn print_shapes<K: Sink>(shapes: &[Partition], sink: &mut K) -> Result<(), SinkFault>
     ensures { Prints (K.seen sink.old) (K.seen sink.new) (shapes_line shapes.now) result }
 {
@@ -60,8 +60,8 @@ fn put_shapes<K: Sink>(shapes: &[Partition], text: &mut TextBuffer, sink: &mut K
     }
 }
 
-/// Writes the label of the shape at a place, counted from 0, and in front of it a space, except at
-/// the first place.
+/// Writes the label of `shape`, which is item `at` of a list, counted from 0; a space is written in
+/// front of it unless `at` is 0.
 fn put_next_shape<K: Sink>(at: usize, shape: &Partition, text: &mut TextBuffer, sink: &mut K)
     ensures { Gathers text.old (K.seen sink.old) text.new (K.seen sink.new)
         (if at == 0 then label_text shape.now else (codes " " ++ label_text shape.now)) }

@@ -1,15 +1,16 @@
--- The first of a list of errors is one of them, and no other is before it.
+-- The first of a list of errors is one of them, and no other one is before it.
 use Rattle.std.proofs.Common.{◌≡◌, ℕ, ◌<◌, ◌==◌, nat_le, nat_lt, Bool, true, false, ◌&&◌, ◌||◌, cond, List, [], ◌∷◌, refl, sym, ap, ◌∙◌, subst, arith, Option, Some, None, ◌⊎◌, inl, inr}
 use Rattle.std.proofs.lemmas.Bool.Decides.{nat_tests}
 use Rattle.sym_model.specs.Sum.{Among}
 use Rattle.sym_model.specs.ExpressionOffence.{WordOffence, rank, comes_first, ComesBefore, earlier, first_of}
 
--- no error comes before itself
+-- no error comes before itself (`ComesBefore`)
 never_itself : (o : WordOffence) → ComesBefore o o → ⊥
 never_itself o (inl h) = omega arith
 never_itself o (inr h) = omega arith
 
--- the pair (a, b) comes before the pair (c, d): the order of errors, with a and c their bytes, b and d the ranks of their kinds
+-- the pair (a, b) is lexicographically before the pair (c, d): this is the order of errors, with a and c their bytes, and b and d the ranks of their
+-- kinds
 abbrev pub Before : ℕ → ℕ → ℕ → ℕ → Type 0
 Before a b c d = (a < c) ⊎ ((a ≡ c) × (b < d))
 
@@ -24,7 +25,7 @@ pub first_before : (a b c d : ℕ) → Before a b c d → goes_first a b c d ≡
 first_before a b c d (inl h) = grind (arith, nat_tests)
 first_before a b c d (inr h) = grind (arith, nat_tests)
 
--- if p is before x, and x is not after y, p is before y
+-- if the error p is before x, and x is before y or has the place and the kind of y, then p is before y
 before-first : (p x y : WordOffence) → ComesBefore p x → comes_first x y ≡ true → ComesBefore p y
 before-first p x y h k = before_first p.0 (rank p.1) x.0 (rank x.1) y.0 (rank y.1) h k
 
@@ -43,7 +44,7 @@ first_none (x ∷ os) h = absurd (by (first_of os) h)
 pub none-empty : (os : List WordOffence) → os ≡ [] → first_of os ≡ None
 none-empty os h = ap first_of h
 
--- if the test c chooses the error o from x and y, then c is true and o is x, or c is false and o is y
+-- if o is what a test c selects, x if c is true and y if c is false, then c is true and o is x, or c is false and o is y
 pub one_of : {A : Type 0} (x y o : A) (c : Bool) → cond c (Some x) (Some y) ≡ Some o → ((c ≡ true) × (o ≡ x)) ⊎ ((c ≡ false) × (o ≡ y))
 one_of x y o true h = inl (refl, cc)
 one_of x y o false h = inr (refl, cc)

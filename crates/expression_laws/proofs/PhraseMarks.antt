@@ -1,5 +1,5 @@
--- The marks of a phrase (specs/ExpressionOffence), which are its numbers and opening parentheses with their bytes, found as
--- the phrase is read from the left.
+-- The marks of a phrase (specs/ExpressionOffence): its numbers and its opening parentheses, each with the byte at which it begins. They are found
+-- while the phrase is read from the left.
 use Rattle.std.proofs.Common.{◌≡◌, ℕ, ◌+◌, List, [], ◌∷◌, ◌++◌, length, length-append, refl, sym, ap, ◌∙◌, subst, append_assoc, arith, Option, Some, None}
 use Rattle.std.proofs.lemmas.List.{append-nil}
 use Rattle.std.specs.Prelude.{codes, option_to_list}
@@ -14,12 +14,12 @@ use Rattle.expression_laws.proofs.PhrasePrefixes.{written_term, written_factor, 
 abbrev pub Marks : Type 0
 Marks = List (ℕ × Mark)
 
--- the number of parentheses that are open
+-- the number of parentheses that are open in a state
 abbrev pub depth_of : Opened Phrase → ℕ
 depth_of outermost = 0
 depth_of (inside o t f) = depth_of o + 1
 
--- the byte at which the current term begins
+-- the byte at which the expression within the innermost open parenthesis begins, or 0 if no parenthesis is open
 abbrev pub term_begin : Opened Phrase → ℕ
 term_begin o = length (written_opened o)
 
@@ -44,7 +44,7 @@ opened_marks (inside o t f) =
     opened_marks o ++ (term_marks (depth_of o) (term_begin o) t
     ++ (factor_marks (depth_of o) (factor_begin t o) f ++ (piece_begin t f o, opening (depth_of o + 1)) ∷ []))
 
--- the marks of the numbers that are complete in the part of a factor that has been read
+-- the marks of those numbers and parentheses of the current factor that are complete
 abbrev pub piece_marks : ℕ → ℕ → Piece Phrase (List ℕ) → Marks
 piece_marks d b (after_slash n) = (b, value (decimal_value n)) ∷ []
 piece_marks d b (in_denominator n ds) = (b, value (decimal_value n)) ∷ []
@@ -59,26 +59,26 @@ state_marks (at p t f o) =
     opened_marks o ++ (term_marks (depth_of o) (term_begin o) t
     ++ (factor_marks (depth_of o) (factor_begin t o) f ++ piece_marks (depth_of o) (piece_begin t f o) p))
 
--- the value of the last number word, if there is one
+-- the value of the last of the number words ws, or `before` if ws is empty
 abbrev pub last_value : Option ℕ → List (List ℕ) → Option ℕ
 last_value before [] = before
 last_value before (w ∷ ws) = last_value (Some (decimal_value w)) ws
 
--- the mark of the number that is being read, if there is one
+-- the mark of the number whose digits are being read, if there is one
 abbrev pub piece_mark : ℕ → Piece Phrase (List ℕ) → Option (ℕ × Mark)
 piece_mark b (in_number ds) = Some (b, value (decimal_value ds))
 piece_mark b (in_denominator n ds) = Some (b + length n + 1, denominator (decimal_value ds))
 piece_mark b (in_entry basis ws ds) = Some (b + 2 + length (commas ws), entry (length ws) (last_value None ws) (decimal_value ds))
 piece_mark b _ = None
 
--- the mark that is complete once a symbol is read, if there is one
+-- the mark that is complete after the next symbol is read, if there is one: that of a number which the symbol ends, or of an opening parenthesis
 abbrev pub new_mark : Reading → Symbol → Option (ℕ × Mark)
 new_mark dead s = None
 new_mark (at p t f o) (digit b) = None
 new_mark (at p t f o) opens = Some (piece_begin t f o, opening (depth_of o + 1))
 new_mark (at p t f o) _ = piece_mark (piece_begin t f o) p
 
--- the marks of an atom's list with one more number word
+-- the marks of the number words ws and w in the list of an atom are those of ws, followed by that of w
 entry_marks-snoc : (b k : ℕ) (before : Option ℕ) (ws : List (List ℕ)) (w : List ℕ)
     → entry_marks b k before (ws ++ w ∷ []) ≡ entry_marks b k before ws ++ (b + length (commas ws), entry (k + length ws) (last_value before ws) (decimal_value w)) ∷ []
 entry_marks-snoc b k before [] w =
@@ -98,7 +98,7 @@ entry_marks-next b ws w =
     entry_marks-snoc b 0 None ws w
     ∙ ap (λ n. entry_marks b 0 None ws ++ (b + length (commas ws), entry n (last_value None ws) (decimal_value w)) ∷ []) (omega arith)
 
--- the marks of a term that ends with the factor x are those of the text before x, followed by those of x
+-- the marks of the term that is complete after the factor x are those of the term before x, if there is one, followed by those of x
 marks-join_factor : (d b : ℕ) (f : BeforeFactor Phrase) (x : Phrase) → marks d b (join_factor phrases f x) ≡ factor_marks d b f ++ marks d (b + length (written_factor f)) x
 marks-join_factor d b no_factor x = ap (λ n. marks d n x) (omega arith)
 marks-join_factor d b (multiplying e) x = ap (λ n. marks d b e ++ marks d n x) (simp length-append (omega arith))
@@ -114,7 +114,7 @@ pub marks-join : (d b : ℕ) (t : BeforeTerm Phrase) (f : BeforeFactor Phrase) (
 marks-join d b t f x =
     marks-join_term d b t (join_factor phrases f x) ∙ ap (λ ms. term_marks d b t ++ ms) (marks-join_factor d (b + length (written_term t)) f x)
 
--- the reading is dead, or its marks are ms
+-- the state is `dead`, or its marks are ms
 abbrev pub MarksAre : Marks → Reading → Type 0
 MarksAre ms dead = Unit {0}
 MarksAre ms (at p t f o) = state_marks (at p t f o) ≡ ms
@@ -128,7 +128,7 @@ begin-inside o t f = simp length-append (omega arith)
 regroup : (a t f r : Marks) (m : ℕ × Mark) → a ++ (t ++ (f ++ m ∷ r)) ≡ (a ++ (t ++ (f ++ m ∷ []))) ++ r
 regroup a t f r m = simp append_assoc
 
--- if a symbol is read after the whole factor x, the reading is dead or its marks are those of before
+-- if a symbol is read after the whole factor x, the new state is `dead` or has the same marks as the state before
 after-factor : (s : Symbol) (x : Phrase) (t : BeforeTerm Phrase) (f : BeforeFactor Phrase) (o : Opened Phrase)
     → MarksAre (state_marks (at (closed x) t f o)) (after_factor phrases x t f o s)
 after-factor star x t f o =
@@ -226,7 +226,8 @@ in-closed minus_sign x t f o = after-closed minus_sign x t f o
 in-closed closes x t f o = after-closed closes x t f o
 in-closed _ x t f o = tt
 
--- reading a symbol adds the mark that is then complete to the marks of the state, or makes the state dead
+-- after a symbol is read, the state is `dead`, or its marks are those of the state before, followed by the mark that is then complete (`new_mark`),
+-- if any
 pub marks-step : (s : Symbol) (x : Reading) → Adds x s
 marks-step s dead = tt
 marks-step s (at awaited t f o) = before-factor s t f o
@@ -243,7 +244,8 @@ marks-step closes_list (at (in_entry basis ws ds) t f o) = entry-next ws ds t f 
 marks-step _ (at (in_entry basis ws ds) t f o) = tt
 marks-step s (at (closed x) t f o) = in-closed s x t f o
 
--- the marks of a whole expression are those of the state and the one that its end completes
+-- if the bytes read spell the expression e, the marks of e are those of the state, followed by the mark of the number with which e ends, if e ends
+-- with a number
 pub marks-found : (x : Reading) (e : Phrase) → found phrases x ≡ Some e → marks 0 0 e ≡ state_marks x ++ option_to_list (new_mark x other)
 marks-found dead e h = cc
 marks-found (at p t f (inside o t' f')) e h = cc

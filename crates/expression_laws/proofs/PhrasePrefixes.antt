@@ -1,4 +1,5 @@
--- A text after which the reading is not dead begins an expression, and spells one if an expression ends with its last byte.
+-- If the state after reading a text is not `dead`, some expression begins with the text; if an expression is complete after the last byte, the text
+-- spells it.
 use Rattle.std.proofs.Common.{◌≡◌, ℕ, ◌==◌, nat_le, Bool, true, false, cond, ◌&&◌, List, [], ◌∷◌, ◌++◌, length-append, refl, sym, ap, ◌∙◌, subst, append_assoc, arith, Some}
 use Rattle.std.proofs.lemmas.Bool.{leb-true, eqb-true, and_parts}
 use Rattle.std.proofs.lemmas.List.{append-nil}
@@ -9,7 +10,7 @@ use Rattle.sym_model.specs.Phrase.{plus, minus, times, Phrase, numeral, ratio, l
 use Rattle.expression_laws.specs.LeftToRight.{Symbol, digit, plus_sign, minus_sign, star, slash, opens, closes, opens_list, closes_list, comma, letter_of, other, symbol, BeforeTerm, no_term, negating, adding, subtracting, BeforeFactor, no_factor, multiplying, Opened, outermost, inside, Piece, awaited, in_number, after_slash, in_denominator, after_letter, in_list, in_entry, closed, at, dead, step, start, phrases, join, join_factor, join_term, after_factor, before_factor, in_list_step, is_live, found}
 use Rattle.expression_laws.proofs.PhraseRuns.{Reading, read_on, read-append, factor_covers, found-spelled}
 
--- the byte b is read as the symbol
+-- the byte b has the given symbol
 abbrev pub Codes : ℕ → Symbol → Type 0
 Codes b (digit c) = (c ≡ b) × IsDigit b
 Codes b plus_sign = b ≡ 43
@@ -55,7 +56,7 @@ symbol-codes b =
     (choose b (b == 112) (letter_of power_sums) _ (λ e. one_letter b 112 (112 ∷ []) refl (same b 112 e))
     (choose b (b == 115) (letter_of schurs) other (λ e. one_letter b 115 (115 ∷ []) refl (same b 115 e)) tt))))))))))))))
 
--- the bytes that have been read of the part before a term
+-- the bytes of the text before a term
 abbrev pub written_term : BeforeTerm Phrase → List ℕ
 written_term no_term = []
 written_term negating = codes "-"
@@ -70,7 +71,7 @@ abbrev pub written_opened : Opened Phrase → List ℕ
 written_opened outermost = []
 written_opened (inside o t f) = written_opened o ++ (written_term t ++ (written_factor f ++ codes "("))
 
--- number words, each with a comma after it
+-- the bytes of number words, each with a comma after it
 abbrev pub commas : List (List ℕ) → List ℕ
 commas [] = []
 commas (w ∷ ws) = w ++ (codes "," ++ commas ws)
@@ -89,7 +90,7 @@ abbrev pub written : Reading → List ℕ
 written (at p t f o) = written_opened o ++ (written_term t ++ (written_factor f ++ written_piece p))
 written dead = []
 
--- the phrase in the part before a term, if there is one, is of the level that the grammar requires
+-- the phrase before a term, if there is one, is an expression of the grammar
 abbrev pub SoundTerm : BeforeTerm Phrase → Type 0
 SoundTerm (adding e) = Is expression e
 SoundTerm (subtracting e) = Is expression e
@@ -117,12 +118,12 @@ abbrev pub Sound : Reading → Type 0
 Sound (at p t f o) = SoundPiece p × SoundTerm t × SoundFactor f × SoundOpened o
 Sound dead = Unit {0}
 
--- the reading is dead, or it is sound and the bytes read so far are w
+-- the state is `dead`, or it satisfies `Sound` (each phrase in it has the level that the grammar requires) and `w` is the list of the bytes read
 abbrev pub Continues : List ℕ → Reading → Type 0
 Continues w dead = Unit {0}
 Continues w (at p t f o) = (written (at p t f o) ≡ w) × Sound (at p t f o)
 
--- the spelling of x joined to the part f before it is the text of f followed by the spelling of x
+-- the spelling of the term that is complete after the factor x is the text f before x followed by the spelling of x
 pub spelling-join_factor : (f : BeforeFactor Phrase) (x : Phrase) → spelling (join_factor phrases f x) ≡ written_factor f ++ spelling x
 spelling-join_factor no_factor x = refl
 spelling-join_factor (multiplying e) x = sym (append_assoc (spelling e) (codes "*") (spelling x))
@@ -167,7 +168,7 @@ Is-join_term (subtracting e) x h a = (tt, h, a)
 pub Is-join : (t : BeforeTerm Phrase) (f : BeforeFactor Phrase) (x : Phrase) → SoundTerm t → SoundFactor f → Is factor x → Is expression (join phrases t f x)
 Is-join t f x h k a = Is-join_term t (join_factor phrases f x) h (Is-join_factor f x k a)
 
--- if t and f are sound and x is a factor, the text w of t, f and x spells the phrase e that t, f and x make
+-- if t and f are sound (`SoundTerm`, `SoundFactor`) and x is a factor, the bytes of t, f and x spell the expression that is complete after them
 joined : (w : List ℕ) (t : BeforeTerm Phrase) (f : BeforeFactor Phrase) (x e : Phrase) → Is factor x → SoundTerm t → SoundFactor f
     → w ≡ written_term t ++ (written_factor f ++ spelling x) → Some (join phrases t f x) ≡ Some e → SpellsPhrase w e
 joined w t f x e a ht hf h k =
@@ -177,7 +178,7 @@ joined w t f x e a ht hf h k =
       spelled = h ∙ sym (spelling-join t f x) ∙ ap spelling same;
     }
 
--- a digit is a number word of one digit
+-- the list of one digit is a number word
 one_digit : (c b : ℕ) → c ≡ b → IsDigit b → IsNumberWord (c ∷ [])
 one_digit c b e h = record { nonempty = omega arith; digits = (subst IsDigit (sym e) h, tt) }
 
@@ -191,7 +192,8 @@ IsNumberWord-snoc ds c b e h k = record {
   digits = AreDigits-snoc ds c k.digits (subst IsDigit (sym e) h);
 }
 
--- if t, f and o are sound and the factor x has been read, the reading after one more symbol is dead, or it is sound and its text has one more byte
+-- if t, f and o are sound and the factor x has been read after them, the state after one more byte b is `dead`, or it is sound and the bytes read are
+-- those read before, followed by b
 after-factor : (b : ℕ) (s : Symbol) (x : Phrase) (t : BeforeTerm Phrase) (f : BeforeFactor Phrase) (o : Opened Phrase) → Codes b s → Is factor x → SoundTerm t → SoundFactor f → SoundOpened o
     → Continues ((written_opened o ++ (written_term t ++ (written_factor f ++ spelling x))) ++ b ∷ []) (after_factor phrases x t f o s)
 after-factor b star x t f o e a ht hf ho =
@@ -204,7 +206,8 @@ after-factor b closes x t f (inside o t' f') e a ht hf ho =
     (simp (e, spelling-join, append_assoc), (Is-join t f x ht hf a, ho.1, ho.2, ho.0))
 after-factor b _ x t f o e a ht hf ho = tt
 
--- if t, f and o are sound and a factor may begin, the reading after one more symbol is dead, or it is sound and its text has one more byte
+-- if t, f and o are sound and no byte of the next factor has been read, the state after one more byte b is `dead`, or it is sound and the bytes read
+-- are those read before, followed by b
 before-factor : (b : ℕ) (s : Symbol) (t : BeforeTerm Phrase) (f : BeforeFactor Phrase) (o : Opened Phrase) → Codes b s → SoundTerm t → SoundFactor f → SoundOpened o
     → Continues ((written_opened o ++ (written_term t ++ (written_factor f ++ []))) ++ b ∷ []) (before_factor phrases t f o s)
 before-factor b (digit c) t f o e ht hf ho =
@@ -217,7 +220,7 @@ before-factor b minus_sign no_term no_factor o e ht hf ho =
     (simp (e, append-nil), (tt, tt, tt, ho))
 before-factor b _ t f o e ht hf ho = tt
 
--- the text of number words and one more is the number words, each with a comma after it, followed by the last one
+-- the number words ws and then w, separated by commas, are the words ws, each with a comma after it, followed by w
 pub comma_separated-snoc : (ws : List (List ℕ)) (w : List ℕ) → comma_separated (ws ++ w ∷ []) ≡ commas ws ++ w
 comma_separated-snoc [] w = refl
 comma_separated-snoc (v ∷ []) w = simp (append_assoc, append-nil)
@@ -233,7 +236,8 @@ AreNumberWords-snoc : (ws : List (List ℕ)) (w : List ℕ) → AreNumberWords w
 AreNumberWords-snoc [] w h k = (k, tt)
 AreNumberWords-snoc (v ∷ ws) w h k = (h.0, AreNumberWords-snoc ws w h.1 k)
 
--- in an atom's list, the reading after a symbol is dead, or it is sound and its text has one more byte
+-- if t, f, o and the numbers ws in the list of an atom are sound, the state after one more byte b is `dead`, or it is sound and the bytes read are
+-- those read before, followed by b
 in-list : (b : ℕ) (s : Symbol) (basis : Basis) (ws : List (List ℕ)) (t : BeforeTerm Phrase) (f : BeforeFactor Phrase) (o : Opened Phrase) → Codes b s → AreNumberWords ws → SoundTerm t → SoundFactor f → SoundOpened o
     → Continues ((written_opened o ++ (written_term t ++ (written_factor f ++ (letter basis ++ (codes "[" ++ commas ws))))) ++ b ∷ []) (in_list_step phrases basis ws t f o s)
 in-list b (digit c) basis ws t f o e hw ht hf ho =
@@ -242,7 +246,7 @@ in-list b closes_list basis [] t f o e hw ht hf ho =
     (simp (e, append_assoc, append-nil), (tt, ht, hf, ho))
 in-list b _ basis ws t f o e hw ht hf ho = tt
 
--- if x is sound, the reading after one more byte b is dead, or it is sound and its text is that of x followed by b
+-- if the state x is sound, the state after one more byte b is `dead`, or it is sound and the bytes read are those of x followed by b
 pub continues : (b : ℕ) (s : Symbol) (x : Reading) → Codes b s → Sound x → Continues (written x ++ b ∷ []) (step phrases x s)
 continues b s dead e h = tt
 continues b s (at awaited t f o) e h = before-factor b s t f o e h.1 h.2 h.3
@@ -268,12 +272,12 @@ continues b closes_list (at (in_entry basis ws ds) t f o) e h =
 continues b s (at (in_entry basis ws ds) t f o) e h = tt
 continues b s (at (closed x) t f o) e h = after-factor b s x t f o e h.0 h.1 h.2 h.3
 
--- a dead state stays dead
+-- after any text is read from the state `dead`, the state is `dead`
 pub read-dead : (w : List ℕ) → read_on w dead ≡ dead
 read-dead [] = refl
 read-dead (b ∷ w) = read-dead w
 
--- if x is sound, the reading after a text w is dead, or it is sound and its text is that of x followed by w
+-- if the state x is sound, the state after a text w is read is `dead`, or it is sound and the bytes read are those of x followed by w
 pub read-written : (w : List ℕ) (x : Reading) → Sound x → Continues (written x ++ w) (read_on w x)
 read-written [] dead h = tt
 read-written [] (at p t f o) h = (sym (append-nil (written (at p t f o))), h)
@@ -287,7 +291,7 @@ read-written (b ∷ w) x h =
         (ap (λ v. v ++ w) k.0 ∙ append_assoc (written x) (b ∷ []) w)
         (ih (at p t f o) k.1)
 
--- a text that completes the factor whose part has been read
+-- bytes that make the current factor complete
 abbrev rest_of : Piece Phrase (List ℕ) → List ℕ
 rest_of awaited = codes "1"
 rest_of (in_number ds) = []
@@ -302,7 +306,7 @@ abbrev closers : Opened Phrase → List ℕ
 closers outermost = []
 closers (inside o t f) = codes ")" ++ closers o
 
--- the factor that the text of `rest_of` completes
+-- the factor that is complete after the bytes `rest_of`
 abbrev factor_from : Piece Phrase (List ℕ) → Phrase
 factor_from awaited = numeral (codes "1")
 factor_from (in_number ds) = numeral ds
@@ -357,7 +361,7 @@ Is-close : (e : Phrase) (o : Opened Phrase) → Is expression e → SoundOpened 
 Is-close e outermost h k = h
 Is-close e (inside o t f) h k = Is-close (join phrases t f (brackets e)) o (Is-join t f (brackets e) k.1 k.2 h) k.0
 
--- the text of a state that is not dead begins an expression
+-- if w is the list of the bytes read, and the state is not `dead`, some expression begins with w
 complete : (w : List ℕ) (x : Reading) → Continues w x → is_live x ≡ true → BeginsExpression w
 complete w dead h live = cc
 complete w (at p t f o) h live = (
@@ -374,7 +378,7 @@ complete w (at p t f o) h live = (
   },
 )
 
--- if the reading of a text from the start is not dead, the text begins an expression
+-- if the state after reading a text from the start is not `dead`, some expression begins with the text
 pub begins-from_live : (w : List ℕ) → is_live (read_on w start) ≡ true → BeginsExpression w
 begins-from_live w h = complete w (read_on w start) (read-written w start (tt, tt, tt, tt)) h
 
@@ -385,14 +389,14 @@ live-or_dead (at p t f o) h = refl
 found-dead : (w : List ℕ) (x : Reading) (e : Phrase) → x ≡ dead → found phrases (read_on w x) ≡ Some e → ⊥
 found-dead w x e h k = let d = ap (λ y. found phrases (read_on w y)) h ∙ ap (found phrases) (read-dead w) in cc
 
--- if a text begins an expression, the reading of the text from the start is not dead
+-- if some expression begins with a text, the state after reading the text from the start is not `dead`
 pub live-from_begins : (w : List ℕ) → BeginsExpression w → is_live (read_on w start) ≡ true
 live-from_begins w h =
     live-or_dead (read_on w start) (λ e.
     found-dead h.0 (read_on w start) h.1 e
     (ap (found phrases) (sym (read-append w h.0 start)) ∙ found-spelled (w ++ h.0) h.1 h.2))
 
--- if e is the expression found in the state after the text w, the text w spells e
+-- if w is the list of the bytes read, and e is the expression found in the state, w spells e
 whole : (w : List ℕ) (x : Reading) (e : Phrase) → Continues w x → found phrases x ≡ Some e → SpellsPhrase w e
 whole w dead e h k = cc
 whole w (at p t f (inside o t' f')) e h k = cc

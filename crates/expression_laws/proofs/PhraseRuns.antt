@@ -1,4 +1,4 @@
--- Reading the spelling of a phrase from the left finds the phrase, so a word spells at most one.
+-- Reading the spelling of a phrase from the left finds this phrase, so a word spells at most one phrase.
 use Rattle.std.proofs.Common.{◌≡◌, ℕ, nat_le, Bool, true, cond, ◌&&◌, List, [], ◌∷◌, ◌++◌, refl, sym, ap, ◌∙◌, append_assoc, arith, Some, option_map}
 use Rattle.std.proofs.lemmas.Bool.{le-leb}
 use Rattle.std.proofs.lemmas.List.{append-nil}
@@ -8,7 +8,7 @@ use Rattle.sym_model.specs.NumberWord.{IsDigit, AreDigits, IsNumberWord, AreNumb
 use Rattle.sym_model.specs.Phrase.{Operator, plus, minus, times, Phrase, numeral, ratio, label, brackets, minus_first, operation, Level, expression, term, factor, Covers, level_of, Is, letter, spelling, SpellsPhrase}
 use Rattle.expression_laws.specs.LeftToRight.{Symbol, digit, plus_sign, minus_sign, star, slash, opens, closes, opens_list, closes_list, comma, letter_of, other, symbol, sign_symbol, BeforeTerm, no_term, negating, adding, subtracting, BeforeFactor, no_factor, multiplying, Opened, outermost, inside, Piece, awaited, in_number, after_slash, in_denominator, in_list, in_entry, closed, State, at, step, run, start, phrases, join, join_term, after_factor, factor_found, found}
 
--- if a byte is a digit, its symbol is that digit
+-- the symbol of a byte that is a digit is that digit
 pub symbol-digit : (b : ℕ) → IsDigit b → symbol b ≡ digit b
 symbol-digit b h = by (nat_le 48 b) (nat_le b 57) (le-leb 48 b h.0) (le-leb b 57 h.1)
   where
@@ -21,12 +21,12 @@ Reading = State Phrase (List ℕ)
 abbrev pub read_on : List ℕ → Reading → Reading
 read_on w s = run phrases w s
 
--- reading two texts, one after the other, is reading the two together
+-- the state after reading u ++ v is the state after reading u and then v
 pub read-append : (u v : List ℕ) (s : Reading) → read_on (u ++ v) s ≡ read_on v (read_on u s)
 read-append [] v s = refl
 read-append (b ∷ u) v s = read-append u v (step phrases s (symbol b))
 
--- reading a digit is a step with its symbol
+-- reading a digit is a step with the symbol of this digit
 read-digit : (b : ℕ) (w : List ℕ) (s : Reading) → IsDigit b → read_on (b ∷ w) s ≡ read_on w (step phrases s (digit b))
 read-digit b w s h = ap (λ x. read_on w (step phrases s x)) (symbol-digit b h)
 
@@ -51,7 +51,7 @@ read-entry basis ws ds (b ∷ es) t f o h =
     read-digit b es (at (in_entry basis ws ds) t f o) h.0 ∙ read-entry basis ws (ds ++ b ∷ []) es t f o h.1
     ∙ ap (λ x. at (in_entry basis ws x) t f o) (append_assoc ds (b ∷ []) es)
 
--- after the whole number word w has been read, the state is inside this number
+-- if the number word w is read at the beginning of a factor, the state is that after the digits w of a number (`in_number`)
 whole-number : (w : List ℕ) (t : BeforeTerm Phrase) (f : BeforeFactor Phrase) (o : Opened Phrase) → IsNumberWord w
     → read_on w (at awaited t f o) ≡ at (in_number w) t f o
 whole-number [] t f o h = absurd (omega (arith, h.nonempty))
@@ -70,7 +70,7 @@ whole-entry basis ws [] t f o h = absurd (omega (arith, h.nonempty))
 whole-entry basis ws (b ∷ ds) t f o h =
     read-digit b ds (at (in_list basis ws) t f o) h.digits.0 ∙ read-entry basis ws (b ∷ []) ds t f o h.digits.1
 
--- reading the rest of an atom's list, with its bracket, completes the atom
+-- reading the remaining numbers and the closing bracket of an atom's list makes the atom complete
 read-entries : (basis : Basis) (ws : List (List ℕ)) (w : List ℕ) (more : List (List ℕ)) (t : BeforeTerm Phrase) (f : BeforeFactor Phrase) (o : Opened Phrase) → AreNumberWords (w ∷ more)
     → read_on (comma_separated (w ∷ more) ++ codes "]") (at (in_list basis ws) t f o) ≡ at (closed (label basis (ws ++ w ∷ more))) t f o
 read-entries basis ws w [] t f o h =
@@ -82,7 +82,7 @@ read-entries basis ws w (v ∷ more) t f o h =
     ∙ read-entries basis (ws ++ w ∷ []) v more t f o h.1
     ∙ ap (λ x. at (closed (label basis x)) t f o) (append_assoc ws (w ∷ []) (v ∷ more))
 
--- reading the letter of a basis is a step with its symbol
+-- reading the letter of a basis is a step with the symbol of this letter
 symbol-letter : (basis : Basis) (w : List ℕ) (s : Reading) → read_on (letter basis ++ w) s ≡ read_on w (step phrases s (letter_of basis))
 symbol-letter monomials w s = refl
 symbol-letter elementaries w s = refl
@@ -97,25 +97,25 @@ read-label basis (w ∷ ws) t f o h =
     symbol-letter basis (codes "[" ++ (comma_separated (w ∷ ws) ++ codes "]")) (at awaited t f o)
     ∙ read-entries basis [] w ws t f o h
 
--- the current factor in the state after all of the factor e: a number can still get digits, any other factor is complete
+-- the current factor after all bytes of the factor e: if e is a number or a fraction, further digits may follow, and otherwise it is complete
 abbrev pub piece_of : Phrase → Piece Phrase (List ℕ)
 piece_of (numeral ds) = in_number ds
 piece_of (ratio ds es) = in_denominator ds es
 piece_of e = closed e
 
--- the state after a term has been read
+-- the state after reading a term, within the open parentheses o and after the text t before the term
 abbrev pub ended_term : BeforeTerm Phrase → Opened Phrase → Phrase → Reading
 ended_term t o (operation times l r) = at (piece_of r) t (multiplying l) o
 ended_term t o e = at (piece_of e) t no_factor o
 
--- the state after an expression has been read
+-- the state after reading an expression, within the open parentheses o
 abbrev pub ended : Opened Phrase → Phrase → Reading
 ended o (minus_first e) = ended_term negating o e
 ended o (operation plus l r) = ended_term (adding l) o r
 ended o (operation minus l r) = ended_term (subtracting l) o r
 ended o e = ended_term no_term o e
 
--- the symbol may follow a factor: it is a star, a plus, a minus or a closing parenthesis
+-- the symbol is one that may follow a whole factor: a star, a plus, a minus or a closing parenthesis
 abbrev pub Follows : Symbol → Type 0
 Follows star = Unit {0}
 Follows plus_sign = Unit {0}
@@ -154,13 +154,13 @@ after-denominator : (ds es : List ℕ) (t : BeforeTerm Phrase) (f : BeforeFactor
 after-denominator ds es t f o (digit b) h = absurd h
 after-denominator ds es t f o _ h = refl
 
--- no operator has the level of a factor
+-- a phrase with an operator is not of the level of a factor
 pub factor_covers : (operator : Operator) → Covers factor (level_of operator) → ⊥
 factor_covers plus h = h
 factor_covers minus h = h
 factor_covers times h = h
 
--- if the factor e has been read, the step for a symbol s that may follow a factor is `after_factor` of e
+-- after the factor e, the step for a symbol s that may follow a factor is `after_factor` of e
 after-piece : (e : Phrase) (t : BeforeTerm Phrase) (f : BeforeFactor Phrase) (o : Opened Phrase) (s : Symbol) → Follows s → Is factor e
     → step phrases (at (piece_of e) t f o) s ≡ after_factor phrases e t f o s
 after-piece (numeral ds) t f o s h a = after-number ds t f o s h
@@ -186,7 +186,7 @@ as_term l r t o comma h = absurd h
 as_term l r t o (letter_of b) h = absurd h
 as_term l r t o other h = absurd h
 
--- if the term e has been read, the step for a symbol s that may follow a factor is `after_factor` of e
+-- after the term e, the step for a symbol s that may follow a factor is `after_factor` of e, as if e were one factor
 after-term : (e : Phrase) (t : BeforeTerm Phrase) (o : Opened Phrase) (s : Symbol) → Follows s → Is term e
     → step phrases (ended_term t o e) s ≡ after_factor phrases e t no_factor o s
 after-term (numeral ds) t o s h a = after-number ds t no_factor o s h
@@ -214,7 +214,7 @@ as_expression t e o comma h = absurd h
 as_expression t e o (letter_of b) h = absurd h
 as_expression t e o other h = absurd h
 
--- if the expression e has been read, the step for a symbol s that ends a term is `after_factor` of e
+-- after the expression e, the step for a symbol s that ends a term is `after_factor` of e, as if e were one factor
 after-expression : (e : Phrase) (o : Opened Phrase) (s : Symbol) → EndsTerm s → Is expression e
     → step phrases (ended o e) s ≡ after_factor phrases e no_term no_factor o s
 after-expression (numeral ds) o s h a = after-term (numeral ds) no_term o s (follows s h) a
@@ -226,7 +226,7 @@ after-expression (operation times l r) o s h a = after-term (operation times l r
 after-expression (operation plus l r) o s h a = after-term r (adding l) o s (follows s h) a.2 ∙ as_expression (adding l) r o s h
 after-expression (operation minus l r) o s h a = after-term r (subtracting l) o s (follows s h) a.2 ∙ as_expression (subtracting l) r o s h
 
--- reading the spelling of a phrase of a level gives the state after that phrase
+-- reading the spelling of e, as a factor, a term or an expression, gives the state after that factor, term or expression
 abbrev pub Reads : Level → Phrase → Type 0
 Reads factor e = (t : BeforeTerm Phrase) (f : BeforeFactor Phrase) (o : Opened Phrase) → read_on (spelling e) (at awaited t f o) ≡ at (piece_of e) t f o
 Reads term e = (t : BeforeTerm Phrase) (o : Opened Phrase) → read_on (spelling e) (at awaited t no_factor o) ≡ ended_term t o e
@@ -279,7 +279,7 @@ read-minus l r a hl hr = λ o.
     ∙ ap (read_on (spelling r)) (after-expression l o minus_sign tt a)
     ∙ hr (subtracting l) o
 
--- if a phrase has a level, reading its spelling gives the state after a phrase of this level
+-- if the phrase e is of a level (factor, term or expression), reading its spelling gives the state after e as a phrase of this level
 pub reads : (level : Level) (e : Phrase) → Is level e → Reads level e
 reads level (numeral ds) a = reads-numeral level ds (λ t f o. whole-number ds t f o a)
 reads level (ratio ds es) a = reads-ratio level ds es (λ t f o.
@@ -327,7 +327,7 @@ found-expression (operation times l r) a = found-term (operation times l r) no_t
 found-expression (operation plus l r) a = found-term r (adding l) a.2
 found-expression (operation minus l r) a = found-term r (subtracting l) a.2
 
--- reading a word that spells a phrase finds the phrase
+-- after reading a word that spells the phrase e from the start, the expression found is e
 pub found-spelled : (word : List ℕ) (e : Phrase) → SpellsPhrase word e → found phrases (read_on word start) ≡ Some e
 found-spelled word e h =
     ap (λ w. found phrases (read_on w start)) h.spelled

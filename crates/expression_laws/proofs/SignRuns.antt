@@ -1,4 +1,4 @@
--- The minus signs and fractions of an expression, read from the left: the first one found is the first error in `sign_offences`.
+-- The minus signs and fractions of an expression, read from the left: the first one found is the first of the errors `sign_offences`.
 use Rattle.std.proofs.Common.{◌≡◌, ℕ, suc, ◌+◌, ◌<◌, ◌≤◌, ◌==◌, nat_le, Bool, true, false, ◌&&◌, ◌||◌, cond, List, [], ◌∷◌, ◌++◌, length, length-append, append_assoc, append-nil, refl, sym, ap, ◌∙◌, arith, Option, Some, None}
 use Rattle.std.specs.Prelude.{codes}
 use Rattle.std.proofs.lemmas.Bool.{le-leb, lt-ltb, and_from}
@@ -10,7 +10,7 @@ use Rattle.sym_model.specs.Phrase.{Operator, plus, minus, times, Phrase, numeral
 use Rattle.sym_model.specs.ExpressionOffence.{WordOffence, shape, rank, comes_first, earlier, first_of, minus_offences, sign_offences}
 use Rattle.expression_laws.specs.Signs.{first_sign}
 
--- the first of two optional errors if there is one, and otherwise the second
+-- the first of two optional errors if it is present, otherwise the second
 abbrev or_else : Option WordOffence → Option WordOffence → Option WordOffence
 or_else None found = found
 or_else (Some o) found = Some o
@@ -23,7 +23,7 @@ or_else-none : (a : Option WordOffence) → or_else a None ≡ a
 or_else-none None = refl
 or_else-none (Some o) = refl
 
--- each of the errors is at a byte from `low` on and before `high`
+-- each error of the list is at a byte that is at least `low` and less than `high`
 abbrev AreBetween : ℕ → ℕ → List WordOffence → Type 0
 AreBetween low high [] = Unit {0}
 AreBetween low high (o ∷ os) = ((low ≤ o.0) × (o.0 < high)) × AreBetween low high os
@@ -64,20 +64,21 @@ one_more m h o (Some p) b l k = by (comes_first o p)
     by true = refl
     by false = refl
 
--- the first error of two lists, if those of the first list are before those of the second
+-- if the errors os are at bytes below m, and the errors ps at bytes from m on, the first error of os ++ ps is the first of os, or that of ps if os is
+-- empty
 first-apart : (low m high : ℕ) (os ps : List WordOffence) → AreBetween low m os → AreBetween m high ps → first_of (os ++ ps) ≡ or_else (first_of os) (first_of ps)
 first-apart low m high [] ps a b = refl
 first-apart low m high (o ∷ os) ps a b =
     ap (earlier (Some o)) (first-apart low m high os ps a.1 b)
     ∙ one_more m high o (first_of os) (first_of ps) a.0.1 (first-between m high ps b)
 
--- the length of the spelling of an operation is the sum of those of its operands, plus 1
+-- the length of the spelling of an operation is 1 more than the sum of the lengths of the spellings of its operands
 pub joined-length : (operator : Operator) (l r : Phrase) → length (spelling (operation operator l r)) ≡ length (spelling l) + 1 + length (spelling r)
 joined-length plus l r = simp length-append (omega arith)
 joined-length minus l r = simp length-append (omega arith)
 joined-length times l r = simp length-append (omega arith)
 
--- an error of the operator at byte m is at byte m
+-- the error for an operator at the byte m, if it is a minus, is at the byte m
 minus-between : (m : ℕ) (operator : Operator) → AreBetween m (m + 1) (minus_offences m operator)
 minus-between m plus = tt
 minus-between m minus = ((omega arith, omega arith), tt)
@@ -105,7 +106,8 @@ signs-between b (operation operator l r) =
     (wider m (m + 1) b high (minus_offences m operator) (omega arith) (omega (arith, whole)) (minus-between m operator)))
     (wider (m + 1) (m + 1 + length (spelling r)) b high (sign_offences (m + 1) r) (omega arith) (omega (arith, whole)) (signs-between (m + 1) r))
 
--- the first error by a sign in an operation is that of its left operand, its operator or its right operand
+-- the first minus or fraction in an operation is the first one in its left operand, otherwise its operator if that is a minus, otherwise the first
+-- one in its right operand
 first-joined : (b : ℕ) (operator : Operator) (l r : Phrase)
     → first_of (sign_offences b (operation operator l r))
     ≡ or_else (first_of (sign_offences b l))
@@ -128,7 +130,6 @@ first-minus b e =
     first-apart b (b + 1) (b + 1 + length (spelling e)) ((b, shape) ∷ []) (sign_offences (b + 1) e) ((omega arith, omega arith), tt)
     (signs-between (b + 1) e)
 
--- a digit passes the test of digits
 digit-test : (d : ℕ) → IsDigit d → is_digit d ≡ true
 digit-test d h = and_from (nat_le 48 d) (nat_le d 57) (le-leb 48 d h.0) (le-leb d 57 h.1)
 
@@ -146,7 +147,7 @@ digits at s (d ∷ ds) rest h =
     digit-step at s d (ds ++ rest) h.0 ∙ digits (at + 1) s ds rest h.1
     ∙ ap (λ n. first_sign n s rest) (let e : at + 1 + length ds ≡ at + length (d ∷ ds) = omega arith in e)
 
--- the text begins with no digit and no slash, as any text after a phrase does
+-- the text is empty or begins with a byte that is neither a digit nor a slash, as any text after a phrase does
 abbrev Ends : List ℕ → Type 0
 Ends [] = Unit {0}
 Ends (byte ∷ bytes) = (is_digit byte ≡ false) × ((byte == 47) ≡ false)
@@ -207,7 +208,8 @@ quiet-run (x ∷ xs) at s rest h =
     by false false true h e r = cc
     by false false false h e r = r (at + 1)
 
--- the first error by a sign in the phrase e at byte b, or otherwise in the text `rest` after it
+-- the error at the first minus or fraction in the phrase e, which begins at the byte b; if e has neither, the error at the first one in the text
+-- `rest` after e
 abbrev signed : ℕ → Phrase → List ℕ → Option WordOffence
 signed b e rest = or_else (first_of (sign_offences b e)) (first_sign (b + length (spelling e)) (b + length (spelling e)) rest)
 
@@ -275,13 +277,13 @@ phrase-run level b (operation operator l r) rest h k =
     regrouped : (x y z w : Option WordOffence) → or_else x (or_else y (or_else z w)) ≡ or_else (or_else x (or_else y z)) w
     regrouped x y z w = sym (or_else-assoc x (or_else y z) w ∙ ap (or_else x) (or_else-assoc y z w))
 
--- `first_sign` finds in a word the first of the `sign_offences` of the phrase that the word spells
+-- for a word that spells a phrase, `first_sign` finds the first of the `sign_offences` of the phrase
 pub word-signs : (word : List ℕ) (phrase : Phrase) → SpellsPhrase word phrase → first_sign 0 0 word ≡ first_of (sign_offences 0 phrase)
 word-signs word phrase h =
     ap (first_sign 0 0) (h.spelled ∙ sym (append-nil (spelling phrase))) ∙ phrase-run expression 0 phrase [] h.allowed tt
     ∙ or_else-none (first_of (sign_offences 0 phrase))
 
--- the first error by a sign in a phrase is at a byte of the phrase
+-- the first minus or fraction in a phrase is at a byte below the length of its spelling
 pub signs-below : (e : Phrase) (o : WordOffence) → first_of (sign_offences 0 e) ≡ Some o → o.0 < length (spelling e)
 signs-below e o h = by (first_of (sign_offences 0 e)) h (first-between 0 (0 + length (spelling e)) (sign_offences 0 e) (signs-between 0 e))
   where

@@ -1,12 +1,12 @@
--- An expression read byte by byte from the left: the state after the bytes so far, and the step for the next byte. A
--- reader is proved correct by this machine; the grammar (Phrase) defines expressions.
+-- A machine that reads an expression byte by byte from the left: its states, and its step for the next byte. A reader of expressions is proved
+-- correct by this machine; the grammar (Phrase) defines expressions.
 use Rattle.std.specs.Prelude.{ℕ, ◌==◌, nat_le, Bool, true, false, ◌&&◌, cond, List, [], ◌∷◌, ◌++◌}
 use Rattle.std.specs.Prelude.{Option, Some, None, option_map}
 use Rattle.sym_model.specs.Expansion.{Basis, monomials, elementaries, completes, power_sums, schurs}
 use Rattle.sym_model.specs.Phrase.{Operator, plus, minus, times, Phrase, numeral, ratio, label}
 use Rattle.sym_model.specs.Phrase.{brackets, minus_first, operation}
 
--- the symbol of the grammar for a byte
+-- the symbols of the grammar of expressions, and `other` for a byte that no expression has; each byte has one symbol (`symbol`)
 pub data Symbol : Type 0 where
   digit : ℕ → Symbol
   plus_sign : Symbol
@@ -21,7 +21,7 @@ pub data Symbol : Type 0 where
   letter_of : Basis → Symbol
   other : Symbol
 
--- the symbol of a byte that is no digit
+-- the symbol of a byte that is not a digit
 abbrev pub sign_symbol : ℕ → Symbol
 sign_symbol byte =
     cond (byte == 43) plus_sign
@@ -39,28 +39,30 @@ sign_symbol byte =
     (cond (byte == 112) (letter_of power_sums)
     (cond (byte == 115) (letter_of schurs) other)))))))))))))
 
--- the symbol of a byte
+-- the symbol of any byte
 abbrev pub symbol : ℕ → Symbol
 symbol byte = cond (nat_le 48 byte && nat_le byte 57) (digit byte) (sign_symbol byte)
 
--- the part before a term: nothing, a minus at the front, or an expression and an operator
+-- the text before the current term, within its parentheses: nothing, a minus at the front, or an expression and an operator
 pub data BeforeTerm (A : Type 0) : Type 0 where
   no_term : BeforeTerm A
   negating : BeforeTerm A
   adding : A → BeforeTerm A
   subtracting : A → BeforeTerm A
 
--- the part before a factor: nothing, or a term and a star
+-- the text before the current factor, within its term: nothing, or a term and a star
 pub data BeforeFactor (A : Type 0) : Type 0 where
   no_factor : BeforeFactor A
   multiplying : A → BeforeFactor A
 
--- the open parentheses, with the parts before each; the innermost one is the outermost constructor
+-- the open parentheses; each begins a factor, and is stored with the text before the term of this factor and the text before the factor in this term;
+-- the innermost parenthesis is the outermost constructor
 pub data Opened (A : Type 0) : Type 0 where
   outermost : Opened A
   inside : Opened A → BeforeTerm A → BeforeFactor A → Opened A
 
--- the part of a factor that has been read; an atom's list has the numbers that are followed by commas
+-- the bytes of the current factor that have been read; the list in `in_list` and `in_entry` has those numbers of an atom such as s[3,1] that are
+-- followed by commas
 pub data Piece (A N : Type 0) : Type 0 where
   awaited : Piece A N
   in_number : N → Piece A N
@@ -71,12 +73,13 @@ pub data Piece (A N : Type 0) : Type 0 where
   in_entry : Basis → List N → N → Piece A N
   closed : A → Piece A N
 
--- the state after some bytes: the beginning of an expression, or `dead` if the bytes begin none
+-- the state after some bytes are read: the parts that an expression with this beginning has so far, or `dead` if no expression begins with these
+-- bytes
 pub data State (A N : Type 0) : Type 0 where
   at : Piece A N → BeforeTerm A → BeforeFactor A → Opened A → State A N
   dead : State A N
 
--- the operations of a reader on the parts of an expression
+-- the operations by which a reader computes a value of type A for each expression and a value of type N for each number
 pub record Makes (A N : Type 0) : Type 0 where
   pub begin : ℕ → N
   pub extend : N → ℕ → N
@@ -87,23 +90,23 @@ pub record Makes (A N : Type 0) : Type 0 where
   pub minus_first_of : A → A
   pub operation_of : Operator → A → A → A
 
--- the term that the factor x ends: x itself, or the product of the term before it and x
+-- the term that is complete after the factor x: x itself, or the product of the term before x and x
 abbrev pub join_factor : {A N : Type 0} → Makes A N → BeforeFactor A → A → A
 join_factor m no_factor x = x
 join_factor m (multiplying t) x = m.operation_of times t x
 
--- the expression that the term x ends: x itself, -x, or the sum or difference of the expression before it and x
+-- the expression that is complete after the term x: x itself, -x, or the sum or difference of the expression before x and x
 abbrev pub join_term : {A N : Type 0} → Makes A N → BeforeTerm A → A → A
 join_term m no_term x = x
 join_term m negating x = m.minus_first_of x
 join_term m (adding e) x = m.operation_of plus e x
 join_term m (subtracting e) x = m.operation_of minus e x
 
--- the expression that the factor x ends, with the parts before its term and before x
+-- the expression that is complete after the factor x, given the texts before its term and before x
 abbrev pub join : {A N : Type 0} → Makes A N → BeforeTerm A → BeforeFactor A → A → A
 join m t f x = join_term m t (join_factor m f x)
 
--- the state after a symbol that follows the whole factor x
+-- the state after reading a symbol that follows the whole factor x
 abbrev pub after_factor : {A N : Type 0} → Makes A N → A → BeforeTerm A → BeforeFactor A → Opened A
     → Symbol → State A N
 after_factor m x t f o star = at awaited t (multiplying (join_factor m f x)) o
@@ -112,7 +115,7 @@ after_factor m x t f o minus_sign = at awaited (subtracting (join m t f x)) no_f
 after_factor m x t f (inside o t' f') closes = at (closed (m.brackets_of (join m t f x))) t' f' o
 after_factor m x t f o _ = dead
 
--- the state after a symbol at which a factor may begin
+-- the state after reading a symbol at the place of the first byte of a factor
 abbrev pub before_factor : {A N : Type 0} → Makes A N → BeforeTerm A → BeforeFactor A → Opened A
     → Symbol → State A N
 before_factor m t f o (digit byte) = at (in_number (m.begin byte)) t f o
@@ -121,14 +124,14 @@ before_factor m t f o opens = at awaited no_term no_factor (inside o t f)
 before_factor m no_term no_factor o minus_sign = at awaited negating no_factor o
 before_factor m t f o _ = dead
 
--- the state after a symbol in an atom's list at which a number may begin
+-- the state after reading a symbol at the place of the first byte of a number in the list of an atom such as s[3,1]
 abbrev pub in_list_step : {A N : Type 0} → Makes A N → Basis → List N → BeforeTerm A
     → BeforeFactor A → Opened A → Symbol → State A N
 in_list_step m basis words t f o (digit byte) = at (in_entry basis words (m.begin byte)) t f o
 in_list_step m basis [] t f o closes_list = at (closed (m.label_of basis [])) t f o
 in_list_step m basis words t f o _ = dead
 
--- the state after one more symbol
+-- the state after one more symbol is read
 abbrev pub step : {A N : Type 0} → Makes A N → State A N → Symbol → State A N
 step m dead s = dead
 step m (at awaited t f o) s = before_factor m t f o s
@@ -150,7 +153,7 @@ step m (at (in_entry basis words n) t f o) closes_list =
 step m (at (in_entry basis words n) t f o) s = dead
 step m (at (closed x) t f o) s = after_factor m x t f o s
 
--- the state after all bytes of a text
+-- the state after all bytes of a text are read from a given state
 abbrev pub run : {A N : Type 0} → Makes A N → List ℕ → State A N → State A N
 run m [] state = state
 run m (byte ∷ text) state = run m text (step m state (symbol byte))
@@ -159,7 +162,7 @@ run m (byte ∷ text) state = run m text (step m state (symbol byte))
 abbrev pub start : {A N : Type 0} → State A N
 start = at awaited no_term no_factor outermost
 
--- the operations that make the phrase itself, with numbers as their digits
+-- the operations for which the value of an expression is the phrase itself, and the value of a number the list of its digits
 abbrev pub phrases : Makes Phrase (List ℕ)
 phrases = record {
   begin = λ byte. byte ∷ [];
@@ -172,19 +175,19 @@ phrases = record {
   operation_of = operation;
 }
 
--- whether the bytes so far begin an expression
+-- whether the state is not `dead`, that is, whether some expression begins with the bytes read
 abbrev pub is_live : {A N : Type 0} → State A N → Bool
 is_live dead = false
 is_live (at p t f o) = true
 
--- the factor that ends at a state, if one does
+-- the factor that is complete after the bytes read, if they end with a complete factor
 abbrev pub factor_found : {A N : Type 0} → Makes A N → Piece A N → Option A
 factor_found m (in_number n) = Some (m.numeral_of n)
 factor_found m (in_denominator n k) = Some (m.ratio_of n k)
 factor_found m (closed x) = Some x
 factor_found m _ = None
 
--- the expression that ends at a state, if one does
+-- the expression that the bytes read spell, if they spell one
 abbrev pub found : {A N : Type 0} → Makes A N → State A N → Option A
 found m dead = None
 found m (at p t f (inside o t' f')) = None

@@ -1,3 +1,3 @@
--- The machine by which expressions are read.
+-- The machine that reads expressions byte by byte, and the first minus or fraction in an expression.
 pub mod LeftToRight
 pub mod Signs

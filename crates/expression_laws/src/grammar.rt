@@ -1,10 +1,10 @@
-//! The grammar of expressions has one reading.
+//! The grammar of expressions is unambiguous.
 
 ghost use Rattle.std.specs.Prelude.{◌≡◌, ℕ, List};
 ghost use Rattle.sym_model.specs.Expression.{Tree};
 ghost use Rattle.sym_model.specs.Phrase.{Phrase, SpellsPhrase, SpellsTree};
 
-/// No word spells two phrases or two expressions.
+/// No word (list of bytes) spells two different phrases or two different expressions.
 pub fn grammar_law()
     ensures one_phrase { (word : List ℕ) (p q : Phrase) → SpellsPhrase word p → SpellsPhrase word q
         → p ≡ q }

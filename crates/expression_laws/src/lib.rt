@@ -1,12 +1,13 @@
-//! Laws of expressions as words: a word has one reading, which is found byte by byte from the left,
-//! and the first error is an error with no other before it.
+//! Laws of expressions that are typed as words: a word spells at most one expression, which is
+//! found byte by byte from the left, and the first error of a word is an error with no other before
+//! it.
 //!
 //! A law function has an empty body: its contract is the law.
 //!
 //! What is proved:
 //!
-//! `grammar_law`: no word spells two expressions. `first_offence_law`: the first error is one of
-//! the errors, and no other is before it.
+//! `grammar_law`: no word spells two different expressions. `first_offence_law`: the first error of
+//! a list of errors is one of them, and no other one is before it.
 #![tactic(auto)]
 
 mod first_offence;

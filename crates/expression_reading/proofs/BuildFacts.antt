@@ -1,16 +1,16 @@
 -- The state of the builder, and its relation to the phrase that is read.
-use Rattle.std.proofs.Common.{◌≡◌, ℕ, zero, suc, ◌*◌, ◌<◌, ◌≤◌, List, [], ◌∷◌, ◌++◌, length, refl, sym, ap, ◌∙◌, arith, None}
+use Rattle.std.proofs.Common.{◌≡◌, ℕ, zero, suc, ◌*◌, ◌≤◌, List, [], ◌∷◌, ◌++◌, length, refl, arith, Option, None, Some, IsSome, option_map}
 use Rattle.sym_model.specs.Partition.{Falls, size, rows, without_last_zeros, in_front}
 use Rattle.sym_model.proofs.Parts.{length-without_last_zeros, size-in_front}
-use Rattle.expression_laws.specs.LeftToRight.{Opened, outermost, inside, BeforeTerm, no_term, BeforeFactor, no_factor, State, at, awaited, closed, opens, closes, join, Piece, found, after_factor, before_factor}
+use Rattle.expression_laws.specs.LeftToRight.{Opened, outermost, inside, BeforeTerm, BeforeFactor, at, join, Piece, found, factor_found}
 use Rattle.expression_reading.specs.declared.builder.Frame.{Frame}
-use Rattle.expression_reading.specs.Building.{Built, builds, terms_in, factors_in, opened_from, opened_in, AreEntries}
+use Rattle.expression_reading.specs.Building.{Built, builds, terms_in, factors_in, opened_from, AreEntries}
 use Rattle.sym_model.specs.Bounded.{AreAtMost}
 
 -- a frame appended to the frames is one more open parenthesis, inside those open before it
-pub opened-snoc : (o : Opened Built) (fs : List Frame) (f : Frame) → opened_from o (fs ++ f ∷ []) ≡ inside (opened_from o fs) (terms_in f.terms) (factors_in f.factors)
-opened-snoc o [] f = refl
-opened-snoc o (g ∷ fs) f = opened-snoc (inside o (terms_in g.terms) (factors_in g.factors)) fs f
+pub opened_snoc : (o : Opened Built) (fs : List Frame) (f : Frame) → opened_from o (fs ++ f ∷ []) ≡ inside (opened_from o fs) (terms_in f.terms) (factors_in f.factors)
+opened_snoc o [] f = refl
+opened_snoc o (g ∷ fs) f = opened_snoc (inside o (terms_in g.terms) (factors_in g.factors)) fs f
 
 size-within : (ns : List ℕ) → AreAtMost 20 ns → size (without_last_zeros ns) ≤ 20 * length ns
 size-within [] h = omega arith
@@ -22,9 +22,9 @@ few_rows ns h = omega (arith, length-without_last_zeros ns, h.few)
 pub small_size : (ns : List ℕ) → AreEntries ns → size (without_last_zeros ns) ≤ 4096
 small_size ns h = omega (arith, size-within ns h.low, h.few)
 
-pub last-at_most : (b : ℕ) (ns : List ℕ) (n : ℕ) → AreAtMost b (ns ++ n ∷ []) → n ≤ b
-last-at_most b [] n h = h.0
-last-at_most b (m ∷ ns) n h = last-at_most b ns n h.1
+pub last_at_most : (b : ℕ) (ns : List ℕ) (n : ℕ) → AreAtMost b (ns ++ n ∷ []) → n ≤ b
+last_at_most b [] n h = h.0
+last_at_most b (m ∷ ns) n h = last_at_most b ns n h.1
 
 abbrev HeadAtMost : ℕ → List ℕ → Type 0
 HeadAtMost n [] = Unit {0}
@@ -50,23 +50,16 @@ Falls-cut (n ∷ m ∷ ns) f =
 pub falls_cut : (ns : List ℕ) → AreEntries ns → Falls (without_last_zeros ns)
 falls_cut ns h = Falls-cut ns h.falls
 
--- at a closing parenthesis the factor is joined to the text before the parenthesis
-pub closes-step : (x e : Built) (t : BeforeTerm Built) (f : BeforeFactor Built) (items fs : List Frame) (g : Frame)
-    → items ≡ fs ++ g ∷ [] → e ≡ join builds t f x
-    → ◌≡◌ {A = State Built ℕ} (at (closed e) (terms_in g.terms) (factors_in g.factors) (opened_in fs)) (after_factor builds x t f (opened_in items) closes)
-closes-step x e t f items fs g h k =
-    ap (λ y. at (closed y) (terms_in g.terms) (factors_in g.factors) (opened_in fs)) k
-    ∙ sym (ap (λ o. after_factor builds x t f o closes) (ap opened_in h ∙ opened-snoc outermost fs g))
+-- an expression that ends at a state is the factor that ends there, joined to the text before it
+pub found-joined : (p : Piece Built ℕ) (t : BeforeTerm Built) (f : BeforeFactor Built) (o : Opened Built) (e : Built)
+    → found builds (at p t f o) ≡ Some e → option_map (join builds t f) (factor_found builds p) ≡ Some e
+found-joined p t f outermost e h = h
+found-joined p t f (inside o t' f') e h = cc
 
-pub opens-step : (items fs : List Frame) (g : Frame) → items ≡ fs ++ g ∷ []
-    → ◌≡◌ {A = State Built ℕ} (at awaited no_term no_factor (opened_in items)) (before_factor builds (terms_in g.terms) (factors_in g.factors) (opened_in fs) opens)
-opens-step items fs g h = ap (at awaited no_term no_factor) (ap opened_in h ∙ opened-snoc outermost fs g)
+joined-factor : (t : BeforeTerm Built) (f : BeforeFactor Built) (x : Option Built) (e : Built) → option_map (join builds t f) x ≡ Some e → IsSome x
+joined-factor t f None e h = cc
+joined-factor t f (Some x) e h = refl
 
-found-inside : (p : Piece Built ℕ) (t : BeforeTerm Built) (f : BeforeFactor Built) (o : Opened Built) (g : Frame) (fs : List Frame)
-    → found builds (at p t f (opened_from o (g ∷ fs))) ≡ None
-found-inside p t f o g [] = refl
-found-inside p t f o g (h ∷ fs) = found-inside p t f (inside o (terms_in g.terms) (factors_in g.factors)) h fs
-
-pub found-opened : (p : Piece Built ℕ) (t : BeforeTerm Built) (f : BeforeFactor Built) (fs : List Frame) → 0 < length fs → found builds (at p t f (opened_in fs)) ≡ None
-found-opened p t f [] h = absurd (omega (arith, h))
-found-opened p t f (g ∷ fs) h = found-inside p t f outermost g fs
+pub found-factor : (p : Piece Built ℕ) (t : BeforeTerm Built) (f : BeforeFactor Built) (o : Opened Built) (e : Built)
+    → found builds (at p t f o) ≡ Some e → IsSome (factor_found builds p)
+found-factor p t f o e h = joined-factor t f (factor_found builds p) e (found-joined p t f o e h)

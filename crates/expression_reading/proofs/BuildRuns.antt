@@ -20,8 +20,9 @@ use Rattle.expression_reading.proofs.ScanFacts.{IsByte, value-next, value-first}
 use Rattle.expression_reading.proofs.ScanRuns.{read-more, sound-digit, byte-symbol, at-end}
 use Rattle.expression_reading.proofs.FirstOffences.{small as not_wide}
 use Rattle.sym_model.specs.Bounded.{AreAtMost}
+use Rattle.std.proofs.lemmas.Bool.{ltb-false}
 
--- a phrase that has been read, as its tree and `true`: the numbers of the tree have no sign
+-- the value that the builder has for a phrase that was read: the tree of the phrase and `true`, as the numbers of the tree have no sign
 abbrev pub tree_in : Phrase → Built
 tree_in e = (tree e, true)
 
@@ -109,7 +110,8 @@ entry-is k before n h =
       falls = first_false (rises before n) _ _ (rest_none (k == 64) _ _ rest);
     }
 
--- ---- mild marks: what begins at a byte (a number, a denominator or a parenthesis) is no error, and no number of an atom over 20
+-- ---- mild marks (`AreMild`): no mark (a number, a denominator or a parenthesis, with the byte at which it begins) is an error, or a number of an
+-- atom over 20
 
 mild-left : (ms ns : List (ℕ × Mark)) → AreMild (ms ++ ns) → AreMild ms
 mild-left [] ns h = tt
@@ -137,9 +139,6 @@ pub falls-none : (before : Option ℕ) → FallsFrom before []
 falls-none None = tt
 falls-none (Some b) = tt
 
-not_high : (n : ℕ) → nat_lt 20 n ≡ false → n ≤ 20
-not_high n h = grind (arith, nat_tests)
-
 count-next : (k : ℕ) → (k == 64) ≡ false → k ≤ 64 → k + 1 ≤ 64
 count-next k h l = grind (arith, nat_tests)
 
@@ -156,7 +155,7 @@ entries-mild b k before (w ∷ ws) h =
     record {
       falls = falls-next before (decimal_value w) (map decimal_value ws) is.falls rest.falls;
       few = λ l. omega (arith, rest.few (count-next k is.few l));
-      low = (not_high (decimal_value w) h.0.1, rest.low);
+      low = (ltb-false 20 (decimal_value w) h.0.1, rest.low);
     }
 
 -- the marks of the reading x are mild (no error, and no number of an atom over 20), and so is the mark that the symbol s
@@ -246,7 +245,7 @@ list-state closes_list basis [] t f o b = refl
 list-state closes_list basis (w ∷ ws) t f o b = refl
 list-state _ basis ws t f o b = refl
 
--- if the marks are mild, each step of the builder agrees with a step of the reading
+-- if the marks are mild (`Mild`), the step of the builder for the symbol s agrees with the step of the reading for s
 build-step : (s : Symbol) (p : Piece Phrase (List ℕ)) (t : BeforeTerm Phrase) (f : BeforeFactor Phrase) (o : Opened Phrase) → IsByte s → Mild (at p t f o) s
     → step builds (tree_state (at p t f o)) s ≡ tree_state (step phrases (at p t f o) s)
 build-step s awaited t f o b h = before_factor-state s t f o b
@@ -377,14 +376,16 @@ next-state w i z h small b k =
     ∙ state-step (symbol (get_or w i 0)) (read_on (take i w) start) (byte-of w i small) is.live is.mild
     ∙ ap tree_state (sym (read-more w i (get_or w i 0) h refl))
 
-dead-live : (x : Reading) → tree_state x ≡ dead → is_live x ≡ true → ⊥
-dead-live dead e h = cc
-dead-live (at p t f o) e h = cc
+live-state : (x : Reading) → is_live x ≡ true → is_live (tree_state x) ≡ true
+live-state dead h = h
+live-state (at p t f o) h = refl
 
-pub no-fault : (w : List ℕ) (i : ℕ) → i < length w → IsBuildable w → tree_state (read_on (take (i + 1) w) start) ≡ dead → ⊥
-no-fault w i h b e =
-    dead-live (step phrases (read_on (take i w) start) (symbol (get_or w i 0)))
-    (ap tree_state (sym (read-more w i (get_or w i 0) h refl)) ∙ e) (step-is w i h b).live
+-- the builder can read each byte of an expression without an error: its step does not lead to `dead`
+pub stays-live : (w : List ℕ) (i : ℕ) (z : State Built ℕ) → i < length w → get_or w i 0 < 256 → IsBuildable w → z ≡ tree_state (read_on (take i w) start)
+    → is_live (step builds z (symbol (get_or w i 0))) ≡ true
+stays-live w i z h small b k =
+    ap is_live (next-state w i z h small b k)
+    ∙ live-state (read_on (take (i + 1) w) start) (ap is_live (read-more w i (get_or w i 0) h refl) ∙ (step-is w i h b).live)
 
 -- if w is an expression whose marks are mild (no error, and no number of an atom over 20), all marks of its reading to the end are
 -- mild

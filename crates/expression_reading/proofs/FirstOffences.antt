@@ -1,14 +1,15 @@
--- The first error at a list of marks (what begins at a byte: a number, a denominator or a parenthesis), and numbers that are kept
--- only up to 2^127.
-use Rattle.std.proofs.Common.{◌≡◌, ℕ, ◌+◌, ◌*◌, ◌^◌, ◌<◌, ◌≤◌, ◌==◌, nat_le, nat_lt, Bool, true, false, ◌&&◌, ◌||◌, cond, List, [], ◌∷◌, ◌++◌, refl, sym, ap, ◌∙◌, append_assoc, arith, Option, Some, None, option_map, flat_map}
+-- The first error at a list of marks (a mark is a number, a denominator or a parenthesis, with the byte at which it begins); and numbers that are
+-- capped at 2^127.
+use Rattle.std.proofs.Common.{◌≡◌, ℕ, ◌+◌, ◌*◌, ◌^◌, ◌<◌, ◌≤◌, ◌==◌, nat_le, nat_lt, Bool, true, false, ◌&&◌, ◌||◌, cond, List, [], ◌∷◌, ◌++◌, refl, sym, ap, ◌∙◌, arith, Option, Some, None, option_map, flat_map}
 use Rattle.std.proofs.Math.Bool.{or_assoc}
 use Rattle.std.proofs.lemmas.Bool.Decides.{nat_tests}
 use Rattle.sym_model.specs.ExpressionOffence.{OffenceKind, literal, range, shape, Mark, value, denominator, entry, opening, is_wide, rises, is_offence, WordOffence, offences_at, rank, comes_first, earlier, first_of}
 use Rattle.sym_model.proofs.Numbers.{nat_le-trans, not_le-trans}
 use Rattle.expression_reading.specs.Offences.{first_kind}
 use Rattle.expression_reading.specs.ScanSteps.{capped, is_high, any_high, first_at}
+use Rattle.std.proofs.lemmas.Grind.{flat_map-append}
 
--- 3 times the byte of an error plus the rank of its kind: the first of two errors has the smaller number
+-- 3 times the byte of an error plus the rank of its kind; of two errors, the one that comes first has the smaller key
 abbrev key : WordOffence → ℕ
 key o = 3 * o.0 + rank o.1
 
@@ -31,7 +32,7 @@ not_first-all : (o p q : WordOffence) → comes_first o p ≡ false → comes_fi
 not_first-all o p q h k =
     comes_first-key o q ∙ not_le-trans (key o) (key p) (key q) (sym (comes_first-key o p) ∙ h) (sym (comes_first-key p q) ∙ k)
 
--- the first of three errors is the same however they are grouped
+-- `earlier`, the first of two errors, is associative for three errors o, p and q
 first_of_three : (o p q : WordOffence) (a b : Bool) → comes_first o p ≡ a → comes_first p q ≡ b
     → earlier (earlier (Some o) (Some p)) (Some q) ≡ earlier (Some o) (earlier (Some p) (Some q))
 first_of_three o p q true true h k =
@@ -64,13 +65,8 @@ first_of-append [] ps = refl
 first_of-append (o ∷ os) ps =
     ap (earlier (Some o)) (first_of-append os ps) ∙ sym (earlier-assoc (Some o) (first_of os) (first_of ps))
 
-each-append : (ms ns : List (ℕ × Mark)) → flat_map offences_at (ms ++ ns) ≡ flat_map offences_at ms ++ flat_map offences_at ns
-each-append [] ns = refl
-each-append (m ∷ ms) ns =
-    ap (λ os. offences_at m ++ os) (each-append ms ns) ∙ sym (append_assoc (offences_at m) (flat_map offences_at ms) (flat_map offences_at ns))
-
 pub first-append : (ms ns : List (ℕ × Mark)) → first_of (flat_map offences_at (ms ++ ns)) ≡ earlier (first_of (flat_map offences_at ms)) (first_of (flat_map offences_at ns))
-first-append ms ns = ap first_of (each-append ms ns) ∙ first_of-append (flat_map offences_at ms) (flat_map offences_at ns)
+first-append ms ns = ap first_of (flat_map-append offences_at ms ns) ∙ first_of-append (flat_map offences_at ms) (flat_map offences_at ns)
 
 same_byte : (b : ℕ) (k l : OffenceKind) → rank k ≤ rank l → comes_first (b, k) (b, l) ≡ true
 same_byte b k l h = grind (arith, nat_tests)
@@ -92,7 +88,7 @@ first_at_mark b true true true =
 pub first-one : (m : ℕ × Mark) → first_of (flat_map offences_at (m ∷ [])) ≡ first_at m
 first-one m = first_at_mark m.0 (is_offence m.1 literal) (is_offence m.1 range) (is_offence m.1 shape)
 
--- the mark with its values, but not the depth of an open parenthesis, capped at 2^127
+-- the mark with its numbers capped at 2^127; the depth of an open parenthesis is not changed
 abbrev pub capped_mark : Mark → Mark
 capped_mark (value n) = value (capped n)
 capped_mark (denominator n) = denominator (capped n)
@@ -146,6 +142,6 @@ any_high-append [] ns = refl
 any_high-append (m ∷ ms) ns =
     ap (λ x. is_high m.1 || x) (any_high-append ms ns) ∙ sym (or_assoc (is_high m.1) (any_high ms) (any_high ns))
 
--- a digit may be appended to the capped value instead of the value: after capping, the result is the same
+-- appending a digit d to n, and capping the result at 2^127, gives the same if n is capped before
 pub capped-next : (n d : ℕ) → capped (10 * capped n + d) ≡ capped (10 * n + d)
 capped-next n d = omega arith

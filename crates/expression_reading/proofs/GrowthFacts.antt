@@ -1,4 +1,4 @@
--- Weights of 2^127 or more. A weight is a product of three numbers; one of them is the growth, the factor by which a
+-- Weights of 2^127 or more. The weight of an expression is the product of its numerator, its denominator, and the growth, the factor by which a
 -- conversion can raise coefficients.
 use Rattle.std.proofs.Common.{◌≡◌, ℕ, zero, suc, ◌*◌, ◌^◌, ◌<◌, ◌≤◌, refl, ap, arith, inl, inr, ⊎_elim, ◌⊎◌}
 use Rattle.sym_model.specs.Expansion.{Basis, monomials, elementaries, completes, power_sums, schurs}
@@ -20,7 +20,7 @@ growth-positive elementaries (suc d) = times-positive _ _ (factorial-positive (s
 growth-positive completes (suc d) = times-positive _ _ (factorial-positive (suc d)) (power-positive (2 * suc d) (suc d) (omega arith))
 growth-positive power_sums (suc d) = times-positive _ _ (factorial-positive (suc d)) (power-positive (2 * suc d) (suc d) (omega arith))
 
--- the growth into p, h and e is d!·(2d)^d
+-- for the targets p, h and e, the growth at degree d is d!·(2d)^d
 pub growth-with_factorial : (b : Basis) → (b ≡ power_sums) ⊎ (b ≡ completes) ⊎ (b ≡ elementaries) → (d : ℕ) → growth b d ≡ factorial d * (2 * d) ^ d
 growth-with_factorial b h zero = refl
 growth-with_factorial b (inl e) (suc d) = ap (λ x. growth x (suc d)) e

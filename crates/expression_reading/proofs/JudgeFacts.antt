@@ -1,7 +1,7 @@
--- The errors of a word that is an expression.
+-- The first error of a word that is an expression.
 use Rattle.std.proofs.Common.{◌≡◌, ℕ, ◌+◌, ◌<◌, ◌≤◌, nat_lt, max, Bool, true, false, ◌||◌, cond, List, [], ◌∷◌, ◌++◌, length, length-append, map, refl, sym, ap, ◌∙◌, subst, arith, Option, Some, None, option_map, ◌⊎◌, inl, inr, ⊎_elim, flat_map}
 use Rattle.std.proofs.lemmas.Bool.Decides.{nat_tests}
-use Rattle.std.proofs.lemmas.Bool.{cases_lt, or_cases, lt-ltb}
+use Rattle.std.proofs.lemmas.Bool.{cases_lt, or_cases, lt-ltb, le-ltb, ltb-true}
 use Rattle.std.specs.Prelude.{codes, Result, Ok, Err, IfOk}
 use Rattle.std.specs.Bool.{then_some}
 use Rattle.sym_model.specs.Expansion.{Basis}
@@ -12,7 +12,6 @@ use Rattle.sym_model.specs.NumberWord.{AreNumberWords, comma_separated}
 use Rattle.sym_model.specs.Phrase.{Operator, plus, minus, times, Phrase, numeral, ratio, label, brackets, minus_first, operation, Level, expression, term, level_of, level_after, Is, tree, join_trees, spelling, SpellsPhrase}
 use Rattle.sym_model.specs.ExpressionOffence.{OffenceKind, range, Mark, marks, entry_marks, offences_at, offences_of_whole_within, offences_within, WordOffence, earlier, first_of, comes_first}
 use Rattle.sym_model.proofs.Parts.{size-in_front}
-use Rattle.sym_model.proofs.Numbers.{nat_lt-false}
 use Rattle.expression_laws.proofs.SignRuns.{joined-length}
 use Rattle.expression_reading.specs.declared.reading.ExpressionFault.{ExpressionFault}
 use Rattle.expression_reading.specs.declared.reading.ExpressionFault.TheVariants.{Syntax, Literal, Range as FRange, Shape, NoMemory}
@@ -29,7 +28,7 @@ use Rattle.expression_reading.specs.Building.{Built, built_of, AreMild}
 use Rattle.expression_reading.proofs.ScanFacts.{letter-length}
 use Rattle.expression_reading.proofs.FirstOffences.{earlier-assoc, first_of-append, first-append, first-one, any_high-append}
 
--- ---- if there is no error, and no number of an atom is over 20, the greatest degree, all marks are mild (`IsMild`)
+-- ---- marks without an error and without a number of an atom over 20, the greatest degree, are mild (`IsMild`)
 none_left : (a b : Option WordOffence) → earlier a b ≡ None → a ≡ None
 none_left None b h = refl
 none_left (Some o) None h = cc
@@ -64,15 +63,12 @@ mild-from (m ∷ ms) h k =
       mild-from ms (none_right (first_of (flat_map offences_at (m ∷ []))) _ both) (or_right (is_high m.1) (any_high ms) k),
     )
 
-above : (n : ℕ) → nat_lt 20 n ≡ true → 20 < n
-above n h = grind (arith, nat_tests)
-
 high-entries : (b k : ℕ) (before : Option ℕ) (ws : List (List ℕ)) → any_high (entry_marks b k before ws) ≡ true → 20 < size (without_last_zeros (map decimal_value ws))
 high-entries b k before [] h = cc
 high-entries b k before (w ∷ ws) h =
     let sized = size-in_front (decimal_value w) (without_last_zeros (map decimal_value ws)) in
     ⊎_elim
-    (λ here. omega (arith, above (decimal_value w) here, sized))
+    (λ here. omega (arith, ltb-true 20 (decimal_value w) here, sized))
     (λ later. omega (arith, high-entries (b + length w + 1) (k + 1) (Some (decimal_value w)) ws later, sized))
     (or_cases (nat_lt 20 (decimal_value w)) _ h)
 
@@ -104,7 +100,7 @@ nesting-joined plus e f = refl
 nesting-joined minus e f = refl
 nesting-joined times e f = refl
 
--- the nesting of a phrase is at most its length
+-- the nesting of a phrase is at most the number of its bytes
 pub nesting-within : (level : Level) (e : Phrase) → Is level e → nesting (tree e) ≤ length (spelling e)
 nesting-within level (numeral ds) h = omega (arith, h.nonempty)
 nesting-within level (ratio n k) h = simp length-append (omega arith)
@@ -179,7 +175,7 @@ marks-below level d b (operation operator l r) h =
     operation-below operator d b l r (marks-below (level_of operator) d b l h.1)
     (marks-below (level_after operator) d (b + length (spelling l) + 1) r h.2)
 
--- if an error is the first of two, it is one of them
+-- if o is the first of two errors, each of which may be absent, o is one of them
 pub first_is : (a b : Option WordOffence) (o : WordOffence) → earlier a b ≡ Some o → (a ≡ Some o) ⊎ (b ≡ Some o)
 first_is None b o h = inr h
 first_is (Some p) None o h = inl h
@@ -201,7 +197,7 @@ first-below n (m ∷ ms) o h k =
     (λ later. first-below n ms o h.1 later)
     (first_is (first_of (flat_map offences_at (m ∷ []))) (first_of (flat_map offences_at ms)) o (sym (first-append (m ∷ []) ms) ∙ k))
 
--- the error of a word of n bytes, at byte 4096, if n is over 4096
+-- the error at byte 4096 of a word of n bytes, if n exceeds 4096
 abbrev pub long_offence : ℕ → Option WordOffence
 long_offence n = cond (nat_lt 4096 n) (Some (4096, range)) None
 
@@ -214,7 +210,7 @@ first_of_whole false false x y = refl
 abbrev pub first_before_degree : Phrase → Option WordOffence
 first_before_degree e = earlier (first_of (flat_map offences_at (marks 0 0 e))) (long_offence (length (spelling e)))
 
--- the error of an expression whose degree is over the limit, at the end of the word
+-- the error at the end of the word of an expression, if its degree exceeds the limit
 abbrev high_offence : ℕ → Phrase → Option WordOffence
 high_offence limit e = cond (nat_lt limit (degree (tree e))) (Some (length (spelling e), range)) None
 
@@ -239,7 +235,7 @@ first_stays : (o : WordOffence) (n : ℕ) (h : Bool) → o.0 < n → earlier (So
 first_stays o n true l = ap (λ c. cond c (Some o) (Some (n, range))) (before-end n o.0 o.1 l)
 first_stays o n false l = refl
 
--- if the first error of an expression is not its degree over the limit, it is at a byte of the word
+-- the first error of an expression, other than that of its degree, is at a byte of its word
 below-end : (e : Phrase) (o : WordOffence) → Is expression e → first_before_degree e ≡ Some o → o.0 < length (spelling e)
 below-end e o a h =
     let n = length (spelling e) in
@@ -261,9 +257,9 @@ judge-high limit e h k =
 pub judge-none : (limit : ℕ) (e : Phrase) → first_before_degree e ≡ None → degree (tree e) ≤ limit → first_of (offences_within limit e) ≡ None
 judge-none limit e h k =
     all_offences limit e ∙ ap (λ f. earlier f (high_offence limit e)) h
-    ∙ ap (λ b. cond b (Some (length (spelling e), range)) None) (nat_lt-false limit (degree (tree e)) k)
+    ∙ ap (λ b. cond b (Some (length (spelling e), range)) None) (le-ltb limit (degree (tree e)) k)
 
--- if an expression has no error, its degree is within the limit
+-- if an expression has no error for the degree limit `limit`, its degree is at most `limit`
 pub none-low : (limit : ℕ) (e : Phrase) → first_of (offences_within limit e) ≡ None → degree (tree e) ≤ limit
 none-low limit e h = by (nat_lt limit (degree (tree e))) refl (none_right (first_before_degree e) _ (sym (all_offences limit e) ∙ h))
   where
@@ -282,7 +278,7 @@ long_none n false h k = grind (arith, nat_tests)
 pub short : (e : Phrase) → first_before_degree e ≡ None → length (spelling e) ≤ 4096
 short e h = long_none (length (spelling e)) (nat_lt 4096 (length (spelling e))) refl (none_right (first_of (flat_map offences_at (marks 0 0 e))) _ h)
 
--- the reader's error for a word that is too long is that of the definitions
+-- the error of the program for a word that is too long is that of the definitions
 long_kept : (b : Bool) → option_map offence_in (then_some b (record { byte = 4096; kind = Range })) ≡ cond b (Some (4096, range)) None
 long_kept true = refl
 long_kept false = refl
@@ -304,7 +300,7 @@ fault-judged limit w e o (Shape byte) h k l = (e, h, k ∙ ap Some l)
 fault-judged limit w e o (Syntax byte) h k l = absurd l
 fault-judged limit w e o NoMemory h k l = absurd l
 
--- if an expression has no other error and a degree over the limit, it is refused at the end of its word
+-- if the degree of the expression e exceeds the limit, and e has no other error, the refusal `Range` at the end of its word w is correct
 past-judged : (limit : ℕ) (w : List ℕ) (e : Phrase) (f : ExpressionFault) → SpellsPhrase w e → first_before_degree e ≡ None → limit < degree (tree e)
     → IsFaultOf (length w, range) f → IsReadBy (offences_within limit) w (Err f)
 past-judged limit w e f h k d l =
@@ -343,7 +339,7 @@ formula-judged limit w e x f h k b s d =
     let t : tree_of f.tree ≡ tree e = ap tree_of s ∙ ap (λ (z : Built). z.0) b in
     (e, h, judge-none limit e k (omega (arith, ap degree t, d)), t)
 
--- an expression without error has a degree within the limit
+-- if the formula f is a correct result of reading a word with a limit for the degree, the degree of f is at most this limit
 read-low : (limit : ℕ) (w : List ℕ) (f : Formula) → IsReadBy (offences_within limit) w (Ok f) → degree (tree_of f.tree) ≤ limit
 read-low limit w f h = omega (arith, ap degree h.3, none-low limit h.0 h.2)
 
@@ -351,7 +347,7 @@ pub result-low : (limit : ℕ) (w : List ℕ) (r : Result Formula ExpressionFaul
 result-low limit w (Ok f) h = read-low limit w f h
 result-low limit w (Err e) h = tt
 
--- an error does not come after itself
+-- for an error of the kind `range` at byte n and itself, `comes_first` is true
 end-itself : (n : ℕ) → comes_first (n, range) (n, range) ≡ true
 end-itself n = grind (arith, nat_tests)
 

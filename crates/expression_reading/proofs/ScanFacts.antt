@@ -1,4 +1,4 @@
--- The state of the reader agrees with the part of the phrase that has been read.
+-- The state of a scan agrees with the state of `LeftToRight` after the bytes that have been read.
 use Rattle.std.proofs.Common.{◌≡◌, ℕ, ◌+◌, ◌-◌, ◌*◌, ◌<◌, ◌==◌, true, ◌||◌, cond, List, [], ◌∷◌, ◌++◌, length, length-append, refl, sym, ap, ◌∙◌, subst, add-one, arith, Option, Some, None, option_map, flat_map}
 use Rattle.std.specs.Prelude.{option_to_list}
 use Rattle.std.proofs.lemmas.List.{append-nil}
@@ -21,11 +21,11 @@ use Rattle.expression_reading.specs.Offences.{offence_in, mark_in}
 use Rattle.expression_reading.specs.ScanSteps.{capped, mode_after, mode_after_factor, mode_before_factor, depth_after, number_mark, mark_before, is_high, any_high, first_at, Sees}
 use Rattle.expression_reading.proofs.FirstOffences.{first-append, first-one, capped_mark, kind-capped, high-capped, any_high-append, capped-next}
 
--- the count and the last value of the numbers `ws` of an atom's list
+-- the count and the last value, capped at 2^127, of the numbers `ws` of an atom's list
 abbrev pub before_of : List (List ℕ) → Before
 before_of ws = record { count = length ws; last = option_map capped (last_value None ws) }
 
--- the mode of a scan, from the parts that have been read
+-- the mode of a scan, from the parts of the phrase that have been read
 abbrev pub mode_of : Piece Phrase (List ℕ) → BeforeTerm Phrase → BeforeFactor Phrase → Opened Phrase → Mode
 mode_of awaited no_term no_factor o = Start
 mode_of awaited t f o = Operand
@@ -37,8 +37,7 @@ mode_of (in_list basis ws) t f o = Listing (before_of ws)
 mode_of (in_entry basis ws ds) t f o = Entry (before_of ws) (piece_begin t f o + 2 + length (commas ws)) (capped (decimal_value ds))
 mode_of (closed e) t f o = Whole
 
--- the mode and the depth are those of the reading y; if y is dead, that is, the bytes begin no expression, one of them is
--- None
+-- if the mode and the depth are given, they are those of the state y, which is not `dead`; if one of them is not given, y is `dead`
 abbrev pub Agrees : Option Mode → Option ℕ → Reading → Type 0
 Agrees None d y = y ≡ dead
 Agrees (Some m) None y = y ≡ dead
@@ -165,7 +164,7 @@ agrees-list closes_list basis (w ∷ ws) t f o h =
     subst (λ m. Agrees m (Some (depth_of o)) dead) (sym (no_close w ws)) refl
 agrees-list _ basis ws t f o h = refl
 
--- the mode and depth after a symbol agree with the next state of the reading
+-- if the mode and the depth before a symbol are those of a state, then those after the symbol agree with the next state (`Agrees`)
 pub agrees : (s : Symbol) (p : Piece Phrase (List ℕ)) (t : BeforeTerm Phrase) (f : BeforeFactor Phrase) (o : Opened Phrase) → IsByte s
     → Agrees (mode_after (mode_of p t f o) (length (written (at p t f o))) s) (depth_after (depth_of o) s) (step phrases (at p t f o) s)
 agrees s awaited t f o h = agrees-awaited s _ t f o (awaited-length t f o) h
@@ -190,7 +189,7 @@ agrees closes_list (in_entry basis ws ds) t f o h = (refl, refl)
 agrees _ (in_entry basis ws ds) t f o h = refl
 agrees s (closed x) t f o h = agrees-after_factor s x t f o
 
--- the mark of a scan (what begins at a byte: a number, a denominator or a parenthesis) as a mark of the grammar
+-- the mark of the definitions for a mark of a scan (what begins at a byte: a number, a denominator or a parenthesis)
 abbrev pub plain : ℕ × Mark → ℕ × PlainMark
 plain m = (m.0, mark_in m.1)
 
@@ -233,7 +232,7 @@ same-mark (digit c) p t f o h = refl
 same-mark opens p t f o h = ap (λ n. Some (n, opening (depth_of o + 1))) (opening-mark p t f o h)
 same-mark _ p t f o h = piece-mark p t f o
 
--- the scan has the first error at the marks, and records whether one of them is a number of an atom over 20
+-- the scan has the first error at the marks ms, and records whether one of them is a number of an atom over 20
 abbrev pub Finds : Scan → List (ℕ × PlainMark) → Type 0
 Finds s ms = (option_map offence_in s.first ≡ first_of (flat_map offences_at ms)) × (s.is_high ≡ any_high ms)
 

@@ -1,4 +1,4 @@
--- A word read to its end or to its first byte that is not allowed.
+-- The scan of a word to its end, or to its first byte that is invalid.
 use Rattle.std.proofs.Common.{◌≡◌, ℕ, ◌+◌, ◌^◌, ◌<◌, ◌≤◌, ◌==◌, Bool, true, false, ◌&&◌, List, [], ◌∷◌, ◌++◌, length, length-append, take, drop, get_or, refl, sym, ap, ◌∙◌, subst, add-one, arith, Option, Some, None, option_map, Ok, Err, ◌⊎◌, inl, inr, ⊎_elim}
 use Rattle.std.specs.Prelude.{option_to_list, is_some}
 use Rattle.std.proofs.Math.Dec.{eqb-suc-zero}
@@ -20,12 +20,12 @@ use Rattle.expression_reading.proofs.ScanFacts.{mode_of, Agrees, agrees, IsByte,
 none-spelled : (w : List ℕ) (phrase : Phrase) → read_on w start ≡ dead → SpellsPhrase w phrase → ⊥
 none-spelled w phrase d h = let e = ap (found phrases) (sym d) ∙ found-spelled w phrase h in cc
 
--- the reading is not dead, and the mode, the depth and the errors of the scan are those of the reading
+-- the state is not `dead`; the scan has the mode and the depth of the state, and the first error at the marks of the state
 abbrev pub Keeps : Scan → Reading → Type 0
 Keeps s dead = ⊥
 Keeps s (at p t f o) = (s.mode ≡ mode_of p t f o) × (s.depth ≡ depth_of o) × Finds s (state_marks (at p t f o))
 
--- the reading of i + 1 bytes is that of i bytes and one more step
+-- the state after the first i + 1 bytes of w is one step by byte i after the state for the first i bytes
 pub read-more : (w : List ℕ) (i b : ℕ) → i < length w → b ≡ get_or w i 0 → read_on (take (i + 1) w) start ≡ step phrases (read_on (take i w) start) (symbol b)
 read-more w i b h e =
     ap (λ v. read_on v start) (take_more w i 0 h)
@@ -67,7 +67,7 @@ same-kept s k y p t f o h keep live =
     ∙ ap (λ n. mark_before (mode_of p t f o) (depth_of o) n y) (sym h) in
     ap (option_map plain) m ∙ same-mark y p t f o live
 
--- if the scan s agrees with the reading after k bytes, the scan u after one more symbol agrees with the reading z after it
+-- if the scan s agrees with a state after k bytes, and becomes u by the symbol y, then u agrees with the next state z
 stepped : (s u : Scan) (k : ℕ) (y : Symbol) (p : Piece Phrase (List ℕ)) (t : BeforeTerm Phrase) (f : BeforeFactor Phrase) (o : Opened Phrase) (z : Reading)
     → step phrases (at p t f o) y ≡ z → length (written (at p t f o)) ≡ k → IsByte y
     → Keeps s (at p t f o) → StepsTo s k y (Some u) → Keeps u z
@@ -102,7 +102,7 @@ keeps-step w i b s u h e small keep steps =
     subst (Keeps u) (sym (read-more w i b h e))
     (kept-step w i b s u (read_on (take i w) start) h small (written-so_far (take i w)) keep steps)
 
--- if a mode and a depth agree with the reading z, and one of them is None, z is dead: the bytes begin no expression
+-- if a mode and a depth agree with the state z, and not both are given, then z is `dead`
 agrees-fault : (m : Option Mode) (d : Option ℕ) (z : Reading) → (m ≡ None) ⊎ (d ≡ None) → Agrees m d z → z ≡ dead
 agrees-fault None d z h a = a
 agrees-fault (Some m) None z h a = a
@@ -161,7 +161,7 @@ kept-room w i s (at p t f o) h small c keep =
 pub room : (w : List ℕ) (i : ℕ) (s : Scan) → i < length w → length w < 2 ^ 64 → Keeps s (read_on (take i w) start) → CanCount s.mode × (s.depth + 1 < 2 ^ 64)
 room w i s h small keep = kept-room w i s (read_on (take i w) start) h small (written-so_far (take i w)) keep
 
--- if the state agrees with the reading x, x is not dead: the bytes begin an expression
+-- if a scan agrees with the state x, then x is not `dead`
 live-kept : (s : Scan) (x : Reading) → Keeps s x → is_live x ≡ true
 live-kept s dead keep = absurd keep
 live-kept s (at p t f o) keep = refl
@@ -197,7 +197,7 @@ fault-scanned w i b s h e small keep steps =
       },
     )
 
--- ---- the bytes read are an expression if and only if `is_whole` says so
+-- ---- a scanned word is an expression if and only if `is_whole` is true
 
 no_depth : (n : ℕ) → (n + 1 == 0) ≡ false
 no_depth n = ap (λ k. k == 0) (add-one n) ∙ eqb-suc-zero n

@@ -1,4 +1,5 @@
--- The outcome of a word with a minus or a fraction, and of one without.
+-- The correct result of reading a word as the inner expression of a plethysm: it follows from the result of reading the word as an outer expression,
+-- and from the first minus or fraction in the word.
 use Rattle.std.proofs.Common.{◌≡◌, ℕ, suc, ◌<◌, ◌≤◌, ◌==◌, nat_le, nat_lt, Bool, true, false, ◌&&◌, ◌||◌, cond, List, ◌∷◌, length, drop, get_or, drop-cons, refl, sym, ap, ◌∙◌, arith, Option, Some, None, option_map, Result, Ok, Err, ⊎_elim}
 use Rattle.std.proofs.lemmas.Bool.Decides.{nat_tests}
 use Rattle.std.proofs.Math.ListN.{drop_of_length-le}
@@ -14,15 +15,15 @@ use Rattle.expression_reading.specs.Reading.{IsReadBy}
 use Rattle.expression_reading.specs.Signs.{refused_by_sign}
 use Rattle.expression_reading.proofs.FirstOffences.{first_of-append}
 
--- the errors of the outer expression of a plethysm
+-- the errors of a phrase as the outer expression of a plethysm
 abbrev outer_offences : Phrase → List WordOffence
 outer_offences phrase = offences_within plethysm_degree_limit phrase
 
--- the first error by a sign of the phrase that the word spells is `shape` at the byte `sign`; there is none if `sign` is None
+-- if the word spells a phrase, the first minus or fraction of the phrase is at the byte `sign`; for None, the phrase has neither
 abbrev pub HasSign : List ℕ → Option ℕ → Type 0
 HasSign word sign = (phrase : Phrase) → SpellsPhrase word phrase → option_map (λ byte. (byte, shape)) sign ≡ first_of (sign_offences 0 phrase)
 
--- a search for the first sign that has come to place i looks at the byte there and then at the bytes after it
+-- if the search for the first sign in the word has reached place i, it goes on with the byte there and the bytes after it
 found_at : (word : List ℕ) (i from byte : ℕ) → first_sign 0 0 word ≡ first_sign i from (drop i word) → i < length word → get_or word i 0 ≡ byte
     → first_sign 0 0 word ≡ first_sign i from (byte ∷ drop (suc i) word)
 found_at word i from byte inv h e = inv ∙ ap (first_sign i from) (drop-cons word i 0 h ∙ ap (λ x. x ∷ drop (suc i) word) e)
@@ -47,7 +48,7 @@ earlier-none : (a : Option WordOffence) → earlier a None ≡ a
 earlier-none None = refl
 earlier-none (Some o) = refl
 
--- a word without a minus or a fraction has the same first error as an inner and as an outer expression
+-- an expression without a minus and a fraction has the same first error as an inner and as an outer expression
 without : (word : List ℕ) (phrase : Phrase) → HasSign word None → SpellsPhrase word phrase → first_of (inner_offences phrase) ≡ first_of (outer_offences phrase)
 without word phrase s h = with_signs word None phrase s h ∙ earlier-none (first_of (outer_offences phrase))
 
@@ -59,12 +60,13 @@ no_sign-read word (Err (Range byte)) s h = (h.0, h.1, without word h.0 s h.1 ∙
 no_sign-read word (Err (Shape byte)) s h = (h.0, h.1, without word h.0 s h.1 ∙ h.2)
 no_sign-read word (Err NoMemory) s h = tt
 
--- a word with a sign, but without an error as an outer expression, is refused at the sign as an inner expression
+-- if a word has no error as an outer expression, and its first minus or fraction is at the byte `sign`, then `Shape` at `sign` is its correct refusal
+-- as an inner expression
 pub sign-alone : (word : List ℕ) (f : Formula) (sign : ℕ) → HasSign word (Some sign) → IsReadBy outer_offences word (Ok f) → IsReadBy inner_offences word (Err (Shape sign))
 sign-alone word f sign s h =
     (h.0, h.1, with_signs word (Some sign) h.0 s h.1 ∙ ap (λ o. earlier o (Some (sign, shape))) h.2)
 
--- ---- a word with a sign and another error: the sign comes first if its byte is lower
+-- ---- a word that has a minus or a fraction, and also another error: the other error comes first unless its byte is the higher one
 kind-small : (k : OffenceKind) → nat_le (rank k) 2 ≡ true
 kind-small literal = refl
 kind-small range = refl
@@ -109,7 +111,8 @@ sign-refused word (Shape byte) sign s h = by (nat_lt sign byte) refl
     by true e = (h.0, h.1, first_with word sign byte shape h.0 true e s h.1 h.2)
     by false e = (h.0, h.1, first_with word sign byte shape h.0 false e s h.1 h.2)
 
--- the first error of an inner expression is no later than the end of its word
+-- the first error o that an expression e has as an inner expression (`inner_offences`) comes, in the order of errors, no later than an error of the
+-- kind `range` at the end of e
 pub inner-ends_last : (e : Phrase) (o : WordOffence) → Is expression e → first_of (inner_offences e) ≡ Some o → comes_first o (length (spelling e), range) ≡ true
 inner-ends_last e o a h =
     ⊎_elim

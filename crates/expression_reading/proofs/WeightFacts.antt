@@ -1,5 +1,5 @@
--- If an expression has no signs, its numerator and denominator are positive, and if one of those of a part is 2^127 or more, so is
--- one of those of the whole.
+-- If an expression has no negative number and no denominator 0, its numerator and denominator are positive; and if the numerator or the denominator
+-- of an operand is 2^127 or more, then the numerator or the denominator of the whole is 2^127 or more.
 use Rattle.std.proofs.Common.{◌≡◌, ℕ, ◌+◌, ◌*◌, ◌/◌, ◌^◌, ◌<◌, ◌≤◌, ◌⊎◌, inl, inr, max, Bool, ◌&&◌, IsTrue, Option, None, refl, sym, subst, arith, pos, ℤ, negsuc}
 use Rattle.std.specs.Prelude.{nat_abs}
 use lib.Signed.{le_z, lt_z}
@@ -61,7 +61,7 @@ joined-positive e f h k = (
   omega (arith, h.1, lcm-at_least_first (denominator e) (denominator f) h.1 k.1),
 )
 
--- if no number in an expression has a sign, its numerator and denominator are positive
+-- if an expression has no negative number and no denominator 0, its numerator and its denominator are positive
 pub positive : (e : Expr) → IsTrue (has_no_signs e) → Positive (tree_of e)
 positive (Number num) h = (pos_at_least (nat_abs num), omega arith)
 positive (Fraction num den) h =
@@ -78,7 +78,7 @@ positive (Product' p left q right) h =
     let s = one_of (has_no_signs left) (has_no_signs right) h in
     product-positive (tree_of left) (tree_of right) (positive left s.0) (positive right s.1)
 
--- if f has a positive numerator and denominator, and one of those of e is 2^127 or more, so is one of those of e·f
+-- if the numerator and the denominator of f are positive, and one of those of e is 2^127 or more, then one of those of e·f is 2^127 or more
 pub wide-product_left : (e f : Tree) → Positive f → Wide e → Wide (product e f)
 wide-product_left e f h (inl w) = inl (omega (arith, w, times-more (numerator e) (numerator f) h.0))
 wide-product_left e f h (inr w) = inr (omega (arith, w, times-more (denominator e) (denominator f) h.1))
@@ -100,7 +100,7 @@ pub wide-joined_right : (e f : Tree) → Positive e → Positive f → Wide f �
 wide-joined_right e f h k (inl w) = inl (omega (arith, w, joined-at_least_second (numerator e) (numerator f) (denominator e) (denominator f) h.1 k.1))
 wide-joined_right e f h k (inr w) = inr (omega (arith, w, lcm-at_least_second (denominator e) (denominator f) h.1 k.1))
 
--- neither l nor r has a number with a sign
+-- l and r have no negative number and no denominator 0
 abbrev pub Signless : Expr → Expr → Type 0
 Signless l r = IsTrue (has_no_signs l && has_no_signs r)
 

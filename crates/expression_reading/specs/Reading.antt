@@ -1,4 +1,4 @@
--- The result of reading a word as an expression.
+-- Correct results of reading a word as an expression.
 use Rattle.std.specs.Prelude.{◌≡◌, ℕ, List, Some, None, Result, Ok, Err}
 use Rattle.sym_model.specs.Expansion.{Basis}
 use Rattle.sym_model.specs.Phrase.{Phrase, SpellsPhrase, tree, BeginsExpression}
@@ -12,24 +12,25 @@ use Rattle.expression_reading.specs.declared.reading.ExpressionFault.TheVariants
 use Rattle.expression_reading.specs.declared.reading.ExpressionFault.TheVariants.{NoMemory}
 use Rattle.expression_reading.specs.Trees.{tree_of}
 
--- the word spells the expression of the formula, and `offends` finds no error in it
+-- the word spells an expression in which `offends` finds no error, and the formula has the tree of this expression
 abbrev pub IsExpressionWithout : (Phrase → List WordOffence) → List ℕ → Formula → Type 0
 IsExpressionWithout offends word formula =
     (phrase : Phrase) × SpellsPhrase word phrase × (first_of (offends phrase) ≡ None)
     × (tree_of formula.tree ≡ tree phrase)
 
--- the word spells an expression, and `first` is the first of its errors
+-- the word spells an expression, and `first` is the first of the errors that `offends` finds in this expression
 abbrev pub OffendsFirst : (Phrase → List WordOffence) → List ℕ → WordOffence → Type 0
 OffendsFirst offends word first =
     (phrase : Phrase) × SpellsPhrase word phrase × (first_of (offends phrase) ≡ Some first)
 
--- the word spells no expression, and its longest prefix that begins one ends at the byte
+-- the word spells no expression, and the longest prefix of the word that begins an expression has the length `byte`
 abbrev pub IsWrongByte : List ℕ → ℕ → Type 0
 IsWrongByte word byte =
     ((phrase : Phrase) → SpellsPhrase word phrase → ⊥) × IsLongestPrefix BeginsExpression word byte
 
--- the word spells the expression of the formula, in which `offends` finds no error; or it is refused at the byte of
--- its first error; nothing is required if memory runs out
+-- The result of reading the word is correct. If the word spells no expression, it is the byte of the first error of syntax. If the word spells one,
+-- it is the formula of the expression if `offends` finds no error in it, and otherwise the first error that `offends` finds. Nothing is required if
+-- memory runs out.
 abbrev pub IsReadBy : (Phrase → List WordOffence) → List ℕ → Result Formula ExpressionFault → Type 0
 IsReadBy offends word (Ok formula) = IsExpressionWithout offends word formula
 IsReadBy offends word (Err (Syntax byte)) = IsWrongByte word byte

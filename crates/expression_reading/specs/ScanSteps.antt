@@ -1,4 +1,4 @@
--- The change of the state of a reader by one byte.
+-- The change of the state of a scan by one symbol.
 use Rattle.std.specs.Prelude.{◌≡◌, ℕ, zero, suc, ◌+◌, ◌-◌, ◌*◌, ◌^◌, ◌==◌, ◌≤◌, ◌<◌, nat_lt, min}
 use Rattle.std.specs.Prelude.{Bool, true, false, ◌||◌, ◌&&◌, cond, Option, Some, None, option_map}
 use Rattle.std.specs.Prelude.{List, [], ◌∷◌, ◌⊎◌, Result, Ok, Err, flat_map}
@@ -20,7 +20,7 @@ use Rattle.expression_reading.specs.declared.scan.Mode.TheVariants.{Start, Opera
 use Rattle.expression_reading.specs.declared.scan.Mode.TheVariants.{Denominator, Letter}
 use Rattle.expression_reading.specs.declared.scan.Mode.TheVariants.{List as Listing, Entry, Whole}
 
--- the value of a number, or 2^127 if it is greater
+-- n, or 2^127 if n is greater
 abbrev pub capped : ℕ → ℕ
 capped n = min n (2 ^ 127)
 
@@ -29,7 +29,7 @@ abbrev pub IsSoundDigit : Symbol → Type 0
 IsSoundDigit (digit byte) = 48 ≤ byte
 IsSoundDigit _ = Unit {0}
 
--- if the mode is an entry of a list, one more number can be counted below 2^64
+-- if the mode is that of a number in the list of an atom, the count of the numbers before it is less than 2^64 - 1
 abbrev pub CanCount : Mode → Type 0
 CanCount (Entry before start value) = before.count + 1 < 2 ^ 64
 CanCount _ = Unit {0}
@@ -49,7 +49,7 @@ mode_before_factor at (letter_of basis) = Some Letter
 mode_before_factor at opens = Some Start
 mode_before_factor at _ = None
 
--- the mode after a symbol at a byte; None if the symbol is invalid
+-- the mode after a symbol at the byte `at`, given the mode before it; None if the symbol is invalid there
 abbrev pub mode_after : Mode → ℕ → Symbol → Option Mode
 mode_after Start at minus_sign = Some Operand
 mode_after Start at s = mode_before_factor at s
@@ -76,21 +76,21 @@ mode_after (Entry before start value) at closes_list = Some Whole
 mode_after (Entry before start value) at s = None
 mode_after Whole at s = mode_after_factor s
 
--- the number of open parentheses after a symbol; None if the symbol closes one that is not open
+-- the number of open parentheses after a symbol, given the number before it; None if the symbol closes a parenthesis that is not open
 abbrev pub depth_after : ℕ → Symbol → Option ℕ
 depth_after depth opens = Some (depth + 1)
 depth_after zero closes = None
 depth_after (suc depth) closes = Some depth
 depth_after depth _ = Some depth
 
--- the number that the mode holds, with the byte at which it begins
+-- the number at the end of the bytes read, if the mode has one, with the byte at which it begins
 abbrev pub number_mark : Mode → Option (ℕ × Mark)
 number_mark (Number start n) = Some (start, Value n)
 number_mark (Denominator start n) = Some (start, Zeroable n)
 number_mark (Entry before start n) = Some (start, Listed before n)
 number_mark _ = None
 
--- the mark that is complete when a symbol is read: a number that ends before it, or the symbol itself if it opens a
+-- the mark that is complete when a symbol is read at the byte `at`: a number that ends before the symbol, or the symbol itself if it opens a
 -- parenthesis
 abbrev pub mark_before : Mode → ℕ → ℕ → Symbol → Option (ℕ × Mark)
 mark_before mode depth at (digit byte) = None
@@ -102,15 +102,17 @@ abbrev pub is_high : PlainMark → Bool
 is_high (entry count before n) = nat_lt 20 n
 is_high _ = false
 
--- the state before the first byte
+-- the state of a scan before the first byte
 abbrev pub scan_start : Scan
 scan_start = record { mode = Start; depth = 0; first = None; is_high = false }
 
--- the first error at a mark, if there is one
+-- the first error at a mark, with the byte of the mark, if there is an error
 abbrev pub first_at : ℕ × PlainMark → Option PlainOffence
 first_at m = option_map (λ kind. (m.0, kind)) (first_kind m.1)
 
--- `after` has the errors of `before` and, if there is a mark, those of the mark
+-- If a mark is given, the first error of the scan `after` is the earlier one of the first error of the scan `before` and the first error at the mark,
+-- and `after` records a number of an atom over 20 if and only if `before` does or the mark is such a number. If no mark is given, both are as in
+-- `before`.
 abbrev pub Sees : Scan → Option (ℕ × Mark) → Scan → Type 0
 Sees before None after = (after.first ≡ before.first) × (after.is_high ≡ before.is_high)
 Sees before (Some m) after =
@@ -118,7 +120,7 @@ Sees before (Some m) after =
     ≡ earlier (option_map offence_in before.first) (first_at (m.0, mark_in m.1)))
     × (after.is_high ≡ (before.is_high || is_high (mark_in m.1)))
 
--- the state after a symbol at a byte; None if the symbol is invalid
+-- the scan `before` becomes the scan `after` by the symbol s at the byte `at`, or (`None`) s is invalid there
 abbrev pub StepsTo : Scan → ℕ → Symbol → Option Scan → Type 0
 StepsTo before at s None =
     (mode_after before.mode at s ≡ None) ⊎ (depth_after before.depth s ≡ None)
@@ -127,14 +129,14 @@ StepsTo before at s (Some after) =
     × (depth_after before.depth s ≡ Some after.depth)
     × Sees before (mark_before before.mode before.depth at s) after
 
--- whether the mode is that of a whole factor
+-- whether in this mode the bytes read end with a whole factor
 abbrev pub has_factor : Mode → Bool
 has_factor (Number start n) = true
 has_factor (Denominator start n) = true
 has_factor Whole = true
 has_factor _ = false
 
--- whether the bytes read so far are an expression
+-- whether the bytes that the scan has read are an expression
 abbrev pub is_whole : Scan → Bool
 is_whole s = has_factor s.mode && (s.depth == 0)
 
@@ -143,8 +145,8 @@ abbrev pub any_high : List (ℕ × PlainMark) → Bool
 any_high [] = false
 any_high (m ∷ ms) = is_high m.1 || any_high ms
 
--- the scan has the first error of an expression and knows whether the list of an atom has a number over 20; or it
--- returns the byte of the first error of syntax
+-- the result of a scan of the word is correct: if the word is an expression, the first error at its marks, and whether the list of an atom has a
+-- number over 20; otherwise the byte of the first error of syntax
 abbrev pub IsScanned : List ℕ → Result Scan ℕ → Type 0
 IsScanned word (Ok scan) =
     (phrase : Phrase) × SpellsPhrase word phrase

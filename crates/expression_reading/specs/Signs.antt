@@ -5,8 +5,8 @@ use Rattle.expression_reading.specs.declared.reading.ExpressionFault.TheVariants
 use Rattle.expression_reading.specs.declared.reading.ExpressionFault.TheVariants.{Range, Shape}
 use Rattle.expression_reading.specs.declared.reading.ExpressionFault.TheVariants.{NoMemory}
 
--- the refusal of a word whose first minus or fraction is at the byte `sign`, given the refusal for its other errors:
--- `Shape` at `sign` if the given refusal has a later byte, and otherwise the given one; `Syntax` and out of memory stay
+-- the first refusal of a word whose first minus or fraction is at the byte `sign`, given the refusal for its other errors: `Shape` at `sign` if the
+-- given refusal has a later byte, and otherwise the given one; `Syntax` and `NoMemory` are not changed
 abbrev pub refused_by_sign : ℕ → ExpressionFault → ExpressionFault
 refused_by_sign sign (Syntax byte) = Syntax byte
 refused_by_sign sign (Literal byte) = cond (nat_lt sign byte) (Shape sign) (Literal byte)

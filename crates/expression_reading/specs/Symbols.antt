@@ -1,4 +1,4 @@
--- The symbol of the grammar that a symbol of the reader stands for.
+-- The symbols of the program as symbols of the grammar.
 use Rattle.expression_laws.specs.LeftToRight.{Symbol as Plain, digit, plus_sign, minus_sign, star}
 use Rattle.expression_laws.specs.LeftToRight.{slash, opens, closes, opens_list, closes_list, comma}
 use Rattle.expression_laws.specs.LeftToRight.{letter_of, other}
@@ -9,7 +9,7 @@ use Rattle.expression_reading.specs.declared.symbol.Symbol.TheVariants.{OpenList
 use Rattle.expression_reading.specs.declared.symbol.Symbol.TheVariants.{Letter, Other}
 use Rattle.expression_reading.specs.Trees.{basis_of}
 
--- the symbol as a symbol of the grammar
+-- the symbol of the grammar for a symbol of the program
 abbrev pub symbol_in : Symbol → Plain
 symbol_in (Digit byte) = digit byte
 symbol_in Plus = plus_sign

@@ -1,4 +1,4 @@
--- The expression of an `Expr`, and the bounds of a `Formula`.
+-- The expression of the definitions for an `Expr`, and the bounds of a `Formula`.
 use Rattle.std.specs.Prelude.{pos, ◌≤◌, nat_abs, Bool, true, ◌&&◌, IsTrue}
 use lib.Signed.{le_z, lt_z}
 use Rattle.calc_base.specs.declared.words.Basis.{Basis as Letter}
@@ -9,7 +9,7 @@ use Rattle.sym_model.specs.Expression.{product, degree, nesting}
 use Rattle.expression_reading.specs.declared.expr.Expr.{Expr, Number, Fraction, Atom, Negation'}
 use Rattle.expression_reading.specs.declared.expr.Expr.{Sum', Difference', Product'}
 
--- the basis of the definitions that a basis of the reader stands for
+-- the basis of the definitions for a basis of the program
 abbrev pub basis_of : Letter → Basis
 basis_of M = monomials
 basis_of E = elementaries
@@ -17,7 +17,7 @@ basis_of H = completes
 basis_of P = power_sums
 basis_of S = schurs
 
--- the expression of a tree of the calculator, without the signs of its numbers
+-- the expression of the definitions for an expression of the program, with the absolute values of its numbers
 abbrev pub tree_of : Expr → Tree
 tree_of (Number num) = number (nat_abs num)
 tree_of (Fraction num den) = fraction (nat_abs num) (nat_abs den)
@@ -27,7 +27,7 @@ tree_of (Sum' p left q right) = sum (tree_of left) (tree_of right)
 tree_of (Difference' p left q right) = difference (tree_of left) (tree_of right)
 tree_of (Product' p left q right) = product (tree_of left) (tree_of right)
 
--- whether numbers and numerators are at least 0, and denominators are positive
+-- whether all numbers and numerators of the expression are at least 0, and all denominators are positive
 abbrev pub has_no_signs : Expr → Bool
 has_no_signs (Number num) = le_z (pos 0) num
 has_no_signs (Fraction num den) = le_z (pos 0) num && lt_z (pos 0) den
@@ -37,8 +37,7 @@ has_no_signs (Sum' p left q right) = has_no_signs left && has_no_signs right
 has_no_signs (Difference' p left q right) = has_no_signs left && has_no_signs right
 has_no_signs (Product' p left q right) = has_no_signs left && has_no_signs right
 
--- the invariant of a formula: numbers without a sign,
--- a nesting of at most 4096 and a degree of at most 20
+-- the bounds of a formula: no negative number and no denominator 0, a nesting of at most 4096 and a degree of at most 20
 pub record IsFormula (e : Expr) : Type 0 where
   pub numbers : IsTrue (has_no_signs e)
   pub nested : nesting (tree_of e) ≤ 4096

@@ -1,8 +1,8 @@
--- The condition for the two numbers of a weight to fit 128 bits with a sign.
+-- The condition for the numerator and the denominator of a weight to be below 2^127.
 use Rattle.std.specs.Prelude.{◌≡◌, ℕ, ◌^◌, ◌<◌, ◌≤◌, ◌⊎◌, Option, MatchOption}
 use Rattle.calc_base.specs.declared.words.Weight.{Weight}
 
--- the weight has these two numbers, and there is none if and only if one of them is 2^127 or more
+-- the result is the weight with the numerator n and the denominator d, both below 2^127; or there is no weight, and one of n and d is 2^127 or more
 abbrev pub IsWeighed : Option Weight → ℕ → ℕ → Type 0
 IsWeighed result n d =
     MatchOption result ((2 ^ 127 ≤ n) ⊎ (2 ^ 127 ≤ d))

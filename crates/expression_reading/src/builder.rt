@@ -1,18 +1,17 @@
 //! The tree of a word that is known to be an expression,
 //! built from left to right with no recursion.
-ghost use Rattle.std.specs.Prelude.{◌≡◌, ℕ, ◌+◌, ◌*◌, ◌^◌, ◌<◌, ◌≤◌, IfOk, None, [], ◌∷◌, ◌++◌};
-ghost use Rattle.std.specs.Prelude.{option_map, true};
-ghost use Rattle.expression_laws.specs.LeftToRight.{join_factor, join_term, join, at, awaited};
-ghost use Rattle.expression_laws.specs.LeftToRight.{closed, in_number, in_entry, opens, closes};
-ghost use Rattle.expression_laws.specs.LeftToRight.{minus_sign, other, outermost, start, found};
-ghost use Rattle.expression_laws.specs.LeftToRight.{after_factor, before_factor, in_list_step};
-ghost use Rattle.expression_laws.specs.LeftToRight.{star, step};
-ghost use Rattle.expression_reading.specs.ScanSteps.{IsSoundDigit};
+ghost use Rattle.std.specs.Prelude.{◌≡◌, ◌++◌, IfOk, IsSome, None, Some};
+ghost use Rattle.std.specs.Prelude.{option_map, option_to_list, true};
+ghost use Rattle.expression_laws.specs.LeftToRight.{join_factor, join_term, join, awaited};
+ghost use Rattle.expression_laws.specs.LeftToRight.{digit, slash, opens_list, comma, closes_list};
+ghost use Rattle.expression_laws.specs.LeftToRight.{opens, closes, star, plus_sign, minus_sign};
+ghost use Rattle.expression_laws.specs.LeftToRight.{letter_of, no_term, no_factor};
+ghost use Rattle.expression_laws.specs.LeftToRight.{start, step, factor_found};
 ghost use Rattle.expression_reading.specs.Symbols.{symbol_in};
 ghost use Rattle.expression_reading.specs.Trees.{basis_of};
 ghost use Rattle.expression_reading.specs.Building.{builds, built_of, terms_in, factors_in};
-ghost use Rattle.expression_reading.specs.Building.{part_in, opened_in, state_of, state_in};
-ghost use Rattle.expression_reading.specs.Building.{AreEntries, IsFine, IsBuildable};
+ghost use Rattle.expression_reading.specs.Building.{part_in, state_of, AreEntries, IsSound};
+ghost use Rattle.expression_reading.specs.Building.{CanRead, IsBuildable};
 ghost use Rattle.sym_model.specs.Phrase.{Phrase, SpellsPhrase, tree};
 
 use crate::Expr;
@@ -21,6 +20,7 @@ use crate::symbol::{Symbol, symbol_of};
 use calc_base::{Basis, NoMemory};
 use partitions::Partition;
 use std::alloc::Global;
+use std::mem;
 
 /// The text before a term: nothing, a minus at the front, or an expression and its operator.
 #[derive(Drop)]
@@ -31,6 +31,28 @@ pub(crate) enum LeadingTerms {
     Subtracting(Box<Expr>),
 }
 
+impl LeadingTerms {
+    /// The expression made of this text and the term after it.
+    fn joined(self, alloc: Global, term: Expr) -> Result<Expr, NoMemory>
+        ensures { IfOk result (λ e. built_of e ≡ join_term builds (terms_in self) (built_of term)) }
+    {
+        match self {
+            LeadingTerms::NoTerm => Ok(term),
+            LeadingTerms::Negating => Ok(Expr::Negation {
+                inner: Box::new(alloc, term)?,
+            }),
+            LeadingTerms::Adding(left) => Ok(Expr::Sum {
+                left,
+                right: Box::new(alloc, term)?,
+            }),
+            LeadingTerms::Subtracting(left) => Ok(Expr::Difference {
+                left,
+                right: Box::new(alloc, term)?,
+            }),
+        }
+    }
+}
+
 /// The text before a factor: nothing, or a term and a star.
 #[derive(Drop)]
 pub(crate) enum LeadingFactors {
@@ -38,54 +60,24 @@ pub(crate) enum LeadingFactors {
     Multiplying(Box<Expr>),
 }
 
-/// The term made of the text before a factor and the factor.
-fn term_of(alloc: Global, before: LeadingFactors, factor: Expr) -> Result<Expr, NoMemory>
-    ensures { IfOk result (λ e. built_of e
-        ≡ join_factor builds (factors_in before) (built_of factor)) }
-{
-    match before {
-        LeadingFactors::NoFactor => Ok(factor),
-        LeadingFactors::Multiplying(left) => Ok(Expr::Product {
-            left,
-            right: Box::new(alloc, factor)?,
-        }),
+impl LeadingFactors {
+    /// The term made of this text and the factor after it.
+    fn joined(self, alloc: Global, factor: Expr) -> Result<Expr, NoMemory>
+        ensures { IfOk result (λ e. built_of e
+            ≡ join_factor builds (factors_in self) (built_of factor)) }
+    {
+        match self {
+            LeadingFactors::NoFactor => Ok(factor),
+            LeadingFactors::Multiplying(left) => Ok(Expr::Product {
+                left,
+                right: Box::new(alloc, factor)?,
+            }),
+        }
     }
 }
 
-/// The expression made of the text before a term and the term.
-fn expression_of(alloc: Global, before: LeadingTerms, term: Expr) -> Result<Expr, NoMemory>
-    ensures { IfOk result (λ e. built_of e ≡ join_term builds (terms_in before) (built_of term)) }
-{
-    match before {
-        LeadingTerms::NoTerm => Ok(term),
-        LeadingTerms::Negating => Ok(Expr::Negation {
-            inner: Box::new(alloc, term)?,
-        }),
-        LeadingTerms::Adding(left) => Ok(Expr::Sum {
-            left,
-            right: Box::new(alloc, term)?,
-        }),
-        LeadingTerms::Subtracting(left) => Ok(Expr::Difference {
-            left,
-            right: Box::new(alloc, term)?,
-        }),
-    }
-}
-
-/// The expression made of the text before a factor and the factor.
-fn joined(
-    alloc: Global,
-    terms: LeadingTerms,
-    factors: LeadingFactors,
-    factor: Expr,
-) -> Result<Expr, NoMemory>
-    ensures { IfOk result (λ e. built_of e
-        ≡ join builds (terms_in terms) (factors_in factors) (built_of factor)) }
-{
-    expression_of(alloc, terms, term_of(alloc, factors, factor)?)
-}
-
-/// The part of a factor that has been read; of an atom's list, the numbers before a comma.
+/// The part of a factor that has been read. Within the list of an atom, it has the numbers that are
+/// followed by a comma and, if it has begun, the number after them.
 #[derive(Drop)]
 pub(crate) enum Part {
     Awaited,
@@ -93,9 +85,27 @@ pub(crate) enum Part {
     Slash(u128),
     Denominator(u128, u128),
     Letter(Basis),
-    List(Basis, Vec<u16>),
-    Entry(Basis, Vec<u16>, u128),
+    List(Basis, Vec<u16>, Option<u128>),
     Closed(Expr),
+}
+
+impl Part {
+    /// The factor, which must have been read to its end.
+    fn into_factor(self) -> Expr
+        requires sound { IsSound (part_in self) }
+        requires whole { IsSome (factor_found builds (part_in self)) }
+        ensures { factor_found builds (part_in self) ≡ Some (built_of result) }
+    {
+        match self {
+            Part::Number(value) => Expr::Number { num: value as i128 },
+            Part::Denominator(num, den) => Expr::Fraction {
+                num: num as i128,
+                den: den as i128,
+            },
+            Part::Closed(factor) => factor,
+            _ => unreachable!(),
+        }
+    }
 }
 
 /// The text before a factor, back to the last open parenthesis.
@@ -105,49 +115,42 @@ pub(crate) struct Frame {
     pub(crate) factors: LeadingFactors,
 }
 
-/// The expression built so far: the part of a factor, the text before it back to the last open
-/// parenthesis, and the text before each open parenthesis.
-#[derive(Drop)]
-pub(crate) struct Builder {
-    pub(crate) part: Part,
-    pub(crate) frame: Frame,
-    pub(crate) opened: Vec<Frame>,
+impl Frame {
+    /// No text.
+    fn empty() -> Frame
+        ensures terms { terms_in result.terms ≡ no_term }
+        ensures factors { factors_in result.factors ≡ no_factor }
+    {
+        Frame {
+            terms: LeadingTerms::NoTerm,
+            factors: LeadingFactors::NoFactor,
+        }
+    }
+
+    /// The expression made of this text and the factor after it.
+    fn joined(self, alloc: Global, factor: Expr) -> Result<Expr, NoMemory>
+        ensures { IfOk result (λ e. built_of e
+            ≡ join builds (terms_in self.terms) (factors_in self.factors) (built_of factor)) }
+    {
+        let Frame { terms, factors } = self;
+        terms.joined(alloc, factors.joined(alloc, factor)?)
+    }
 }
 
-/// Drops the parts that have been built when a symbol is invalid. It is a function of its own, so
-/// that the proof of a function that refuses a symbol need not unfold their types.
-fn refused(frame: Frame, opened: Vec<Frame>) -> Option<Builder>
-    ensures { result ≡ None }
+/// Appends the number that has been read, if there is one, to the numbers of a list.
+#[tactic(auto, using(crate::proofs::BuildFacts::last_at_most))]
+fn end_entry(numbers: &mut Vec<u16>, entry: &mut Option<u128>) -> Result<(), NoMemory>
+    requires { AreEntries (numbers.old.items ++ option_to_list entry.old) }
+    ensures numbers { IfOk result (λ _. numbers.new.items
+        ≡ numbers.old.items ++ option_to_list entry.old) }
+    ensures entry { entry.new ≡ None }
 {
-    drop(frame);
-    drop(opened);
-    None
-}
-
-/// Drops the parts that have been built when memory runs out.
-fn let_go(frame: Frame, opened: Vec<Frame>) -> NoMemory {
-    drop(frame);
-    drop(opened);
-    NoMemory
-}
-
-/// A number as an expression.
-fn number(value: u128) -> Expr
-    requires { value < 2 ^ 127 }
-    ensures { built_of result ≡ builds.numeral_of value }
-{
-    Expr::Number { num: value as i128 }
-}
-
-/// A fraction as an expression.
-fn fraction(num: u128, den: u128) -> Expr
-    requires num { num < 2 ^ 127 }
-    requires den { den < 2 ^ 127 }
-    ensures { built_of result ≡ builds.ratio_of num den }
-{
-    Expr::Fraction {
-        num: num as i128,
-        den: den as i128,
+    match entry.take() {
+        None => Ok(()),
+        Some(value) => {
+            numbers.push(value as u16)?;
+            Ok(())
+        }
     }
 }
 
@@ -160,306 +163,13 @@ fn atom(alloc: Global, basis: Basis, numbers: &[u16]) -> Result<Expr, NoMemory>
     Ok(Expr::Atom { basis, label })
 }
 
-impl Builder {
-    /// The state in which a factor is expected.
-    fn awaiting(frame: Frame, opened: Vec<Frame>) -> Builder
-        ensures { state_of result
-            ≡ at awaited (terms_in frame.terms) (factors_in frame.factors)
-            (opened_in opened.items) }
-    {
-        Builder {
-            part: Part::Awaited,
-            frame,
-            opened,
-        }
-    }
-}
-
-/// The term made of the text before a factor and the factor, in a box.
-fn boxed_term(alloc: Global, before: LeadingFactors, factor: Expr) -> Result<Box<Expr>, NoMemory>
-    ensures { IfOk result (λ e. built_of e.value
-        ≡ join_factor builds (factors_in before) (built_of factor)) }
-{
-    let term = term_of(alloc, before, factor)?;
-    Ok(Box::new(alloc, term)?)
-}
-
-/// The expression made of the text before a factor and the factor, in a box.
-fn boxed(alloc: Global, frame: Frame, factor: Expr) -> Result<Box<Expr>, NoMemory>
-    ensures { IfOk result (λ e. built_of e.value
-        ≡ join builds (terms_in frame.terms) (factors_in frame.factors) (built_of factor)) }
-{
-    let Frame { terms, factors } = frame;
-    let whole = joined(alloc, terms, factors, factor)?;
-    Ok(Box::new(alloc, whole)?)
-}
-
-/// The state after a star that follows a factor.
-fn multiplying(
-    alloc: Global,
-    factor: Expr,
-    frame: Frame,
-    opened: Vec<Frame>,
-) -> Result<Option<Builder>, NoMemory>
-    ensures { IfOk result (λ b. state_in b
-        ≡ after_factor builds (built_of factor) (terms_in frame.terms) (factors_in frame.factors)
-        (opened_in opened.items) star) }
-{
-    let Frame { terms, factors } = frame;
-    match boxed_term(alloc, factors, factor) {
-        Ok(term) => {
-            let frame = Frame {
-                terms,
-                factors: LeadingFactors::Multiplying(term),
-            };
-            Ok(Some(Builder::awaiting(frame, opened)))
-        }
-        Err(fault) => {
-            drop(terms);
-            drop(opened);
-            Err(fault)
-        }
-    }
-}
-
-/// The state after a parenthesis that closes after a factor; None if no parenthesis is open.
-fn closing(
-    alloc: Global,
-    factor: Expr,
-    frame: Frame,
-    mut opened: Vec<Frame>,
-) -> Result<Option<Builder>, NoMemory>
-    ensures { IfOk result (λ b. state_in b
-        ≡ after_factor builds (built_of factor) (terms_in frame.terms) (factors_in frame.factors)
-        (opened_in opened.items) closes) }
-{
-    match opened.pop() {
-        None => {
-            drop(factor);
-            Ok(refused(frame, opened))
-        }
-        Some(outer) => {
-            let Frame { terms, factors } = frame;
-            match joined(alloc, terms, factors, factor) {
-                Ok(whole) => Ok(Some(Builder {
-                    part: Part::Closed(whole),
-                    frame: outer,
-                    opened,
-                })),
-                Err(_) => Err(let_go(outer, opened)),
-            }
-        }
-    }
-}
-
-/// The state after a byte that follows a whole factor; None if the byte is invalid.
-fn after_factor(
-    alloc: Global,
-    factor: Expr,
-    frame: Frame,
-    opened: Vec<Frame>,
-    symbol: Symbol,
-) -> Result<Option<Builder>, NoMemory>
-    ensures { IfOk result (λ b. state_in b
-        ≡ after_factor builds (built_of factor) (terms_in frame.terms) (factors_in frame.factors)
-        (opened_in opened.items) (symbol_in symbol)) }
-{
-    match symbol {
-        Symbol::Star => multiplying(alloc, factor, frame, opened),
-        Symbol::Plus => match boxed(alloc, frame, factor) {
-            Ok(sum) => {
-                let frame = Frame {
-                    terms: LeadingTerms::Adding(sum),
-                    factors: LeadingFactors::NoFactor,
-                };
-                Ok(Some(Builder::awaiting(frame, opened)))
-            }
-            Err(fault) => {
-                drop(opened);
-                Err(fault)
-            }
-        },
-        Symbol::Minus => match boxed(alloc, frame, factor) {
-            Ok(sum) => {
-                let frame = Frame {
-                    terms: LeadingTerms::Subtracting(sum),
-                    factors: LeadingFactors::NoFactor,
-                };
-                Ok(Some(Builder::awaiting(frame, opened)))
-            }
-            Err(fault) => {
-                drop(opened);
-                Err(fault)
-            }
-        },
-        Symbol::Close => closing(alloc, factor, frame, opened),
-        _ => {
-            drop(factor);
-            Ok(refused(frame, opened))
-        }
-    }
-}
-
-/// The state after a parenthesis that opens.
-fn opening(frame: Frame, mut opened: Vec<Frame>) -> Result<Option<Builder>, NoMemory>
-    ensures { IfOk result (λ b. state_in b
-        ≡ before_factor builds (terms_in frame.terms) (factors_in frame.factors)
-        (opened_in opened.items) opens) }
-{
-    opened.push(frame)?;
-    let frame = Frame {
-        terms: LeadingTerms::NoTerm,
-        factors: LeadingFactors::NoFactor,
-    };
-    Ok(Some(Builder::awaiting(frame, opened)))
-}
-
-/// The state after a minus, if a factor is expected; None if there is text before the minus.
-fn negating(frame: Frame, opened: Vec<Frame>) -> Option<Builder>
-    ensures { state_in result
-        ≡ before_factor builds (terms_in frame.terms) (factors_in frame.factors)
-        (opened_in opened.items) minus_sign }
-{
-    match &frame {
-        Frame {
-            terms: LeadingTerms::NoTerm,
-            factors: LeadingFactors::NoFactor,
-        } => {
-            drop(frame);
-            let frame = Frame {
-                terms: LeadingTerms::Negating,
-                factors: LeadingFactors::NoFactor,
-            };
-            Some(Builder::awaiting(frame, opened))
-        }
-        _ => refused(frame, opened),
-    }
-}
-
-/// The state after a byte, if a factor is expected; None if the byte is invalid.
-fn before_factor(
-    frame: Frame,
-    opened: Vec<Frame>,
-    symbol: Symbol,
-) -> Result<Option<Builder>, NoMemory>
-    requires { IsSoundDigit (symbol_in symbol) }
-    ensures { IfOk result (λ b. state_in b
-        ≡ before_factor builds (terms_in frame.terms) (factors_in frame.factors)
-        (opened_in opened.items) (symbol_in symbol)) }
-{
-    match symbol {
-        Symbol::Digit(byte) => Ok(Some(Builder {
-            part: Part::Number(u128::from(byte - b'0')),
-            frame,
-            opened,
-        })),
-        Symbol::Letter(basis) => Ok(Some(Builder {
-            part: Part::Letter(basis),
-            frame,
-            opened,
-        })),
-        Symbol::Open => opening(frame, opened),
-        Symbol::Minus => Ok(negating(frame, opened)),
-        _ => Ok(refused(frame, opened)),
-    }
-}
-
-/// The state after a byte in the list of an atom, if a number may begin there; None if the byte is
-/// invalid.
-fn in_list(
-    alloc: Global,
-    basis: Basis,
-    numbers: Vec<u16>,
-    frame: Frame,
-    opened: Vec<Frame>,
-    symbol: Symbol,
-) -> Result<Option<Builder>, NoMemory>
-    requires { IsSoundDigit (symbol_in symbol) }
-    ensures { IfOk result (λ b. state_in b
-        ≡ in_list_step builds (basis_of basis) numbers.items (terms_in frame.terms)
-        (factors_in frame.factors) (opened_in opened.items) (symbol_in symbol)) }
-{
-    match symbol {
-        Symbol::Digit(byte) => Ok(Some(Builder {
-            part: Part::Entry(basis, numbers, u128::from(byte - b'0')),
-            frame,
-            opened,
-        })),
-        Symbol::CloseList => {
-            if !numbers.is_empty() {
-                return Ok(refused(frame, opened));
-            }
-            match atom(alloc, basis, &[]) {
-                Ok(factor) => Ok(Some(Builder {
-                    part: Part::Closed(factor),
-                    frame,
-                    opened,
-                })),
-                Err(_) => Err(let_go(frame, opened)),
-            }
-        }
-        _ => Ok(refused(frame, opened)),
-    }
-}
-
-/// `numbers` with `value` appended.
-fn with_number(mut numbers: Vec<u16>, value: u16) -> Result<Vec<u16>, NoMemory>
-    ensures { IfOk result (λ all. all.items ≡ numbers.items ++ value ∷ []) }
-{
-    numbers.push(value)?;
-    Ok(numbers)
-}
-
-/// The atom whose list is `numbers` with `value` appended.
-fn ended_atom(alloc: Global, basis: Basis, numbers: Vec<u16>, value: u16) -> Result<Expr, NoMemory>
-    requires { AreEntries (numbers.items ++ value ∷ []) }
-    ensures { IfOk result (λ e. built_of e
-        ≡ builds.label_of (basis_of basis) (numbers.items ++ value ∷ [])) }
-{
-    let numbers = with_number(numbers, value)?;
-    atom(alloc, basis, &numbers)
-}
-
-/// The state after a byte that follows a number in the list of an atom; None if the byte is
-/// invalid.
-fn in_entry(
-    alloc: Global,
-    basis: Basis,
-    numbers: Vec<u16>,
-    value: u128,
-    frame: Frame,
-    opened: Vec<Frame>,
-    symbol: Symbol,
-) -> Result<Option<Builder>, NoMemory>
-    requires { IsFine (in_entry (basis_of basis) numbers.items value) (symbol_in symbol) }
-    ensures { IfOk result (λ b. state_in b
-        ≡ step builds (at (in_entry (basis_of basis) numbers.items value) (terms_in frame.terms)
-        (factors_in frame.factors) (opened_in opened.items)) (symbol_in symbol)) }
-{
-    match symbol {
-        Symbol::Digit(byte) => Ok(Some(Builder {
-            part: Part::Entry(basis, numbers, extended(value, byte)),
-            frame,
-            opened,
-        })),
-        Symbol::Comma => match with_number(numbers, value as u16) {
-            Ok(numbers) => Ok(Some(Builder {
-                part: Part::List(basis, numbers),
-                frame,
-                opened,
-            })),
-            Err(_) => Err(let_go(frame, opened)),
-        },
-        Symbol::CloseList => match ended_atom(alloc, basis, numbers, value as u16) {
-            Ok(factor) => Ok(Some(Builder {
-                part: Part::Closed(factor),
-                frame,
-                opened,
-            })),
-            Err(_) => Err(let_go(frame, opened)),
-        },
-        _ => Ok(refused(frame, opened)),
-    }
+/// The expression built so far: the part of a factor, the text before it back to the last open
+/// parenthesis, and the text before each open parenthesis.
+#[derive(Drop)]
+pub(crate) struct Builder {
+    pub(crate) part: Part,
+    pub(crate) frame: Frame,
+    pub(crate) opened: Vec<Frame>,
 }
 
 impl Builder {
@@ -467,128 +177,197 @@ impl Builder {
     fn start(alloc: Global) -> Builder
         ensures { state_of result ≡ start }
     {
-        let frame = Frame {
-            terms: LeadingTerms::NoTerm,
-            factors: LeadingFactors::NoFactor,
-        };
-        Builder::awaiting(frame, Vec::new(alloc))
-    }
-
-    /// The state after a symbol, provided that a number that ends before it has no error; None if
-    /// the symbol is invalid.
-    fn after(self, alloc: Global, symbol: Symbol) -> Result<Option<Builder>, NoMemory>
-        requires digit { IsSoundDigit (symbol_in symbol) }
-        requires fine { IsFine (part_in self.part) (symbol_in symbol) }
-        ensures { IfOk result (λ b. state_in b ≡ step builds (state_of self) (symbol_in symbol)) }
-    {
-        let Builder {
-            part,
-            frame,
-            opened,
-        } = self;
-        match part {
-            Part::Awaited => before_factor(frame, opened, symbol),
-            Part::Number(value) => after_number(alloc, value, frame, opened, symbol),
-            Part::Slash(num) => match symbol {
-                Symbol::Digit(byte) => Ok(Some(Builder {
-                    part: Part::Denominator(num, u128::from(byte - b'0')),
-                    frame,
-                    opened,
-                })),
-                _ => Ok(refused(frame, opened)),
-            },
-            Part::Denominator(num, den) => match symbol {
-                Symbol::Digit(byte) => Ok(Some(Builder {
-                    part: Part::Denominator(num, extended(den, byte)),
-                    frame,
-                    opened,
-                })),
-                symbol => after_factor(alloc, fraction(num, den), frame, opened, symbol),
-            },
-            Part::Letter(basis) => match symbol {
-                Symbol::OpenList => Ok(Some(Builder {
-                    part: Part::List(basis, Vec::new(alloc)),
-                    frame,
-                    opened,
-                })),
-                _ => Ok(refused(frame, opened)),
-            },
-            Part::List(basis, numbers) => in_list(alloc, basis, numbers, frame, opened, symbol),
-            Part::Entry(basis, numbers, value) => in_entry(
-                alloc, basis, numbers, value, frame, opened, symbol,
-            ),
-            Part::Closed(factor) => after_factor(alloc, factor, frame, opened, symbol),
+        Builder {
+            part: Part::Awaited,
+            frame: Frame::empty(),
+            opened: Vec::new(alloc),
         }
     }
 
-    /// The expression that has been built, if it is complete, provided that a number at its end has
-    /// no error.
-    fn finish(self, alloc: Global) -> Result<Option<Expr>, NoMemory>
-        requires { IsFine (part_in self.part) other }
-        ensures { IfOk result (λ e. option_map built_of e ≡ found builds (state_of self)) }
+    /// Reads a digit.
+    fn read_digit(&mut self, byte: u8)
+        requires { CanRead self.old (digit byte) }
+        ensures { state_of self.new ≡ step builds (state_of self.old) (digit byte) }
     {
-        let Builder {
-            part,
-            frame,
-            opened,
-        } = self;
-        if !opened.is_empty() {
-            drop(part);
-            drop(frame);
-            drop(opened);
-            return Ok(None);
+        let first = u128::from(byte - b'0');
+        match &mut self.part {
+            Part::Awaited => self.part = Part::Number(first),
+            Part::Slash(num) => self.part = Part::Denominator(*num, first),
+            Part::Number(value) => *value = extended(*value, byte),
+            Part::Denominator(_, den) => *den = extended(*den, byte),
+            Part::List(_, _, Some(value)) => *value = extended(*value, byte),
+            Part::List(_, _, entry) => *entry = Some(first),
+            Part::Letter(_) | Part::Closed(_) => unreachable!(),
         }
-        drop(opened);
-        let Frame { terms, factors } = frame;
-        match part {
-            Part::Number(value) => Ok(Some(joined(alloc, terms, factors, number(value))?)),
-            Part::Denominator(num, den) => Ok(Some(joined(
-                alloc,
-                terms,
-                factors,
-                fraction(num, den),
-            )?)),
-            Part::Closed(factor) => Ok(Some(joined(alloc, terms, factors, factor)?)),
-            part => {
-                drop(part);
-                drop(terms);
-                drop(factors);
-                Ok(None)
+    }
+
+    /// Reads the slash after a numerator.
+    fn read_slash(&mut self)
+        requires { CanRead self.old slash }
+        ensures { state_of self.new ≡ step builds (state_of self.old) slash }
+    {
+        match self.part {
+            Part::Number(num) => self.part = Part::Slash(num),
+            _ => unreachable!(),
+        }
+    }
+
+    /// Reads the letter of an atom.
+    fn read_letter(&mut self, basis: Basis)
+        requires { CanRead self.old (letter_of (basis_of basis)) }
+        ensures { state_of self.new ≡ step builds (state_of self.old) (letter_of (basis_of basis)) }
+    {
+        self.part = Part::Letter(basis);
+    }
+
+    /// Reads the bracket before the list of an atom.
+    fn read_open_list(&mut self, alloc: Global)
+        requires { CanRead self.old opens_list }
+        ensures { state_of self.new ≡ step builds (state_of self.old) opens_list }
+    {
+        match self.part {
+            Part::Letter(basis) => self.part = Part::List(basis, Vec::new(alloc), None),
+            _ => unreachable!(),
+        }
+    }
+
+    /// Reads the comma after a number of a list.
+    fn read_comma(&mut self) -> Result<(), NoMemory>
+        requires { CanRead self.old comma }
+        ensures { IfOk result (λ _. state_of self.new ≡ step builds (state_of self.old) comma) }
+    {
+        match &mut self.part {
+            Part::List(_, numbers, entry) => end_entry(numbers, entry),
+            _ => unreachable!(),
+        }
+    }
+
+    /// Reads the bracket after the list of an atom.
+    fn read_close_list(&mut self, alloc: Global) -> Result<(), NoMemory>
+        requires { CanRead self.old closes_list }
+        ensures { IfOk result (λ _. state_of self.new
+            ≡ step builds (state_of self.old) closes_list) }
+    {
+        match &mut self.part {
+            Part::List(basis, numbers, entry) => {
+                end_entry(numbers, entry)?;
+                let factor = atom(alloc, *basis, numbers)?;
+                self.part = Part::Closed(factor);
+                Ok(())
+            }
+            _ => unreachable!(),
+        }
+    }
+
+    /// Reads a parenthesis that opens.
+    #[tactic(auto, using(crate::proofs::BuildFacts::opened_snoc))]
+    fn read_open(&mut self) -> Result<(), NoMemory>
+        requires { CanRead self.old opens }
+        ensures { IfOk result (λ _. state_of self.new ≡ step builds (state_of self.old) opens) }
+    {
+        let before = mem::replace(&mut self.frame, Frame::empty());
+        self.opened.push(before)?;
+        Ok(())
+    }
+
+    /// Takes out the factor that has been read and the text before it, back to the last open
+    /// parenthesis, as one expression.
+    fn take_expression(&mut self, alloc: Global) -> Result<Expr, NoMemory>
+        requires sound { IsSound (part_in self.old.part) }
+        requires whole { IsSome (factor_found builds (part_in self.old.part)) }
+        ensures value { IfOk result (λ e.
+            option_map (join builds (terms_in self.old.frame.terms)
+            (factors_in self.old.frame.factors)) (factor_found builds (part_in self.old.part))
+            ≡ Some (built_of e)) }
+        ensures part { part_in self.new.part ≡ awaited }
+        ensures factors { factors_in self.new.frame.factors ≡ no_factor }
+        ensures opened { self.new.opened ≡ self.old.opened }
+    {
+        let factor = mem::replace(&mut self.part, Part::Awaited).into_factor();
+        mem::replace(&mut self.frame, Frame::empty()).joined(alloc, factor)
+    }
+
+    /// Reads a parenthesis that closes.
+    #[tactic(auto, using(crate::proofs::BuildFacts::opened_snoc))]
+    fn read_close(&mut self, alloc: Global) -> Result<(), NoMemory>
+        requires { CanRead self.old closes }
+        ensures { IfOk result (λ _. state_of self.new ≡ step builds (state_of self.old) closes) }
+    {
+        let inner = self.take_expression(alloc)?;
+        match self.opened.pop() {
+            None => unreachable!(),
+            Some(outer) => {
+                self.part = Part::Closed(inner);
+                self.frame = outer;
+                Ok(())
             }
         }
     }
-}
 
-/// The state after a byte that follows a number; None if the byte is invalid.
-fn after_number(
-    alloc: Global,
-    value: u128,
-    frame: Frame,
-    opened: Vec<Frame>,
-    symbol: Symbol,
-) -> Result<Option<Builder>, NoMemory>
-    requires { IsFine (in_number value) (symbol_in symbol) }
-    ensures { IfOk result (λ b. state_in b
-        ≡ step builds (at (in_number value) (terms_in frame.terms) (factors_in frame.factors)
-        (opened_in opened.items)) (symbol_in symbol)) }
-{
-    match symbol {
-        Symbol::Digit(byte) => Ok(Some(Builder {
-            part: Part::Number(extended(value, byte)),
-            frame,
-            opened,
-        })),
-        Symbol::Slash => Ok(Some(Builder {
-            part: Part::Slash(value),
-            frame,
-            opened,
-        })),
-        symbol => after_factor(alloc, number(value), frame, opened, symbol),
+    /// Reads a star.
+    fn read_star(&mut self, alloc: Global) -> Result<(), NoMemory>
+        requires { CanRead self.old star }
+        ensures { IfOk result (λ _. state_of self.new ≡ step builds (state_of self.old) star) }
+    {
+        let factor = mem::replace(&mut self.part, Part::Awaited).into_factor();
+        let before = mem::replace(&mut self.frame.factors, LeadingFactors::NoFactor);
+        let left = before.joined(alloc, factor)?;
+        self.frame.factors = LeadingFactors::Multiplying(Box::new(alloc, left)?);
+        Ok(())
+    }
+
+    /// Reads a plus.
+    fn read_plus(&mut self, alloc: Global) -> Result<(), NoMemory>
+        requires { CanRead self.old plus_sign }
+        ensures { IfOk result (λ _. state_of self.new ≡ step builds (state_of self.old) plus_sign) }
+    {
+        let left = self.take_expression(alloc)?;
+        self.frame.terms = LeadingTerms::Adding(Box::new(alloc, left)?);
+        Ok(())
+    }
+
+    /// Reads a minus, which follows a factor or is the first symbol of an expression.
+    fn read_minus(&mut self, alloc: Global) -> Result<(), NoMemory>
+        requires { CanRead self.old minus_sign }
+        ensures { IfOk result (λ _. state_of self.new
+            ≡ step builds (state_of self.old) minus_sign) }
+    {
+        if let Part::Awaited = &self.part {
+            self.frame.terms = LeadingTerms::Negating;
+            return Ok(());
+        }
+        let left = self.take_expression(alloc)?;
+        self.frame.terms = LeadingTerms::Subtracting(Box::new(alloc, left)?);
+        Ok(())
+    }
+
+    /// Reads the next symbol of a word that is an expression, provided that a number that ends
+    /// before it has no error. If memory runs out, the builder must not be used again.
+    fn read(&mut self, alloc: Global, symbol: Symbol) -> Result<(), NoMemory>
+        requires { CanRead self.old (symbol_in symbol) }
+        ensures { IfOk result (λ _. state_of self.new
+            ≡ step builds (state_of self.old) (symbol_in symbol)) }
+    {
+        match symbol {
+            Symbol::Digit(byte) => self.read_digit(byte),
+            Symbol::Slash => self.read_slash(),
+            Symbol::Letter(basis) => self.read_letter(basis),
+            Symbol::OpenList => self.read_open_list(alloc),
+            Symbol::Comma => self.read_comma()?,
+            Symbol::CloseList => self.read_close_list(alloc)?,
+            Symbol::Open => self.read_open()?,
+            Symbol::Close => self.read_close(alloc)?,
+            Symbol::Star => self.read_star(alloc)?,
+            Symbol::Plus => self.read_plus(alloc)?,
+            Symbol::Minus => self.read_minus(alloc)?,
+            Symbol::Other => unreachable!(),
+        }
+        Ok(())
     }
 }
 
-/// The tree of a word that is an expression, if its numbers, the lists of its atoms and its
-/// parentheses have no error, and its atoms have no number over the greatest degree.
+/// The tree of a word that is an expression. The numbers of the word, the lists of its atoms and
+/// its parentheses must have no error, and no number of an atom may exceed the greatest degree.
 pub(crate) fn build(alloc: Global, word: &[u8]) -> Result<Expr, NoMemory>
     requires { IsBuildable word.now }
     ensures { IfOk result (λ e. (phrase : Phrase) → SpellsPhrase word.now phrase
@@ -596,13 +375,7 @@ pub(crate) fn build(alloc: Global, word: &[u8]) -> Result<Expr, NoMemory>
 {
     let mut builder = Builder::start(alloc);
     for byte in word {
-        match builder.after(alloc, symbol_of(*byte))? {
-            None => unreachable!(),
-            Some(next) => builder = next,
-        }
+        builder.read(alloc, symbol_of(*byte))?;
     }
-    match builder.finish(alloc)? {
-        None => unreachable!(),
-        Some(tree) => Ok(tree),
-    }
+    builder.take_expression(alloc)
 }

@@ -7,15 +7,15 @@ ghost use Rattle.expression_reading.specs.Trees.{tree_of, has_no_signs};
 use calc_base::Basis;
 use partitions::Partition;
 
-/// An expression: a number, a fraction that need not be in lowest terms, an atom, or a negation,
-/// sum, difference or product of expressions.
+/// An expression: a number, a fraction that need not be in lowest terms, an atom (a symmetric
+/// function of a basis), or a negation, sum, difference or product of expressions.
 #[derive(Debug)]
 pub enum Expr {
     /// An integer.
     Number { num: i128 },
     /// A numerator over a denominator.
     Fraction { num: i128, den: i128 },
-    /// The symmetric function of a partition in a basis.
+    /// The symmetric function of the partition `label` in this basis.
     Atom { basis: Basis, label: Partition },
     /// The negative of an expression.
     Negation { inner: Box<Expr> },
@@ -39,11 +39,12 @@ impl Drop for Expr {
     }
 }
 
-/// A degree above that of every formula: greater degrees are not distinguished from it.
+/// The degree 21, above that of every formula; it replaces all greater degrees.
 const HIGH: u16 = 21;
 
 impl Expr {
-    /// Returns the left operand, and drops everything else.
+    /// Returns the left operand of a sum, difference or product, or the operand of a negation, and
+    /// drops everything else; `None` if there is no operand.
     #[cycle(letting_go)]
     fn into_left(self) -> Option<Expr>
         ensures { IfSome result (λ left. size-Expr left < size-Expr self) }
@@ -65,8 +66,8 @@ impl Expr {
         }
     }
 
-    /// Whether the nesting is at most `limit`, each number and numerator is at least 0, and each
-    /// denominator is positive.
+    /// Whether the nesting of the expression is at most `limit`, its numbers and numerators are at
+    /// least 0, and its denominators are positive.
     pub(crate) fn is_plain_within(&self, limit: u16) -> bool
         ensures { IsTrue result ↔ ((nesting (tree_of self.now) ≤ limit)
             × IsTrue (has_no_signs self.now)) }
@@ -87,7 +88,7 @@ impl Expr {
         }
     }
 
-    /// The degree, or `HIGH` if it is greater.
+    /// The degree of the expression, or 21 (`HIGH`) if the degree is greater.
     pub(crate) fn capped_degree(&self) -> u16
         ensures { result ≡ min 21 (degree (tree_of self.now)) }
     {

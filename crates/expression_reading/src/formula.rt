@@ -1,4 +1,4 @@
-//! Expressions whose nesting, degree and numbers are within bounds.
+//! Expressions with bounded nesting, bounded degree and numbers that are not negative.
 ghost use Rattle.std.specs.Prelude.{◌≡◌, ◌^◌, ◌<◌, ◌≤◌, ◌↔◌, IsTrue, MatchResult};
 ghost use Rattle.sym_model.specs.Expression.{degree, denominator};
 ghost use Rattle.sym_model.specs.ExpressionOffence.{degree_limit};
@@ -10,7 +10,7 @@ use crate::Expr;
 use crate::weigh::checked_weight;
 use calc_base::{Basis, Weight};
 
-/// The greatest nesting, and the greatest degree, of a formula.
+/// The nesting of a formula is at most 4,096, and its degree at most 20.
 const MAX_NESTING: u16 = 4096;
 
 pub(crate) const MAX_DEGREE: u16 = 20;
@@ -35,8 +35,8 @@ pub struct Formula {
 }
 
 impl Formula {
-    /// The formula of this tree. Returns the tree as an error if and only if it is not within the
-    /// bounds. No memory is allocated.
+    /// The formula of this tree; the tree as an error if and only if it is not within the bounds of
+    /// a `Formula`. No memory is allocated.
     pub fn from_tree(tree: Expr) -> Result<Formula, Expr>
         ensures { MatchResult result (λ f. (f.tree ≡ tree) × IsFormula tree)
             (λ e. (e ≡ tree) × ¬ IsFormula tree) }
@@ -48,7 +48,7 @@ impl Formula {
         }
     }
 
-    /// The tree.
+    /// The tree of the formula.
     pub fn tree(&self) -> &Expr
         ensures tree { result.now ≡ self.now.tree }
         ensures within { IsFormula self.now.tree }
@@ -56,17 +56,18 @@ impl Formula {
         &self.tree
     }
 
-    /// The degree: 0 for a number or a fraction, the size of the partition for an atom, the greater
-    /// of the two degrees for a sum or a difference, and their sum for a product.
+    /// The degree of the formula: 0 for a number or a fraction, the size of the partition for an
+    /// atom, the greater of the two degrees for a sum or a difference, and their sum for a product.
     pub fn degree(&self) -> u16
         ensures { result ≡ degree (tree_of self.now.tree) }
     {
         self.tree.capped_degree()
     }
 
-    /// The two numbers N and D of the weight: D is a common denominator of the coefficients, and N
-    /// bounds D times the sum of their absolute values, each atom counted as 1. None if and only if
-    /// one of them is 2^127 or more. No memory is allocated.
+    /// The two numbers N and D of the weight. D is a common denominator of the coefficients of the
+    /// formula; N/D is the value of the formula with each atom, number 0 and numerator 0 replaced
+    /// by 1 and each minus by a plus. None if and only if N or D is 2^127 or more. No memory is
+    /// allocated.
     pub fn weight(&self) -> Option<Weight>
         ensures { IsWeighed result (numerator (tree_of self.now.tree))
             (denominator (tree_of self.now.tree)) }

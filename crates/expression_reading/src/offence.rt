@@ -1,16 +1,17 @@
-//! The errors of a word, and which of them comes first.
+//! The errors in the word of an expression, and which of them comes first.
 ghost use Rattle.std.specs.Prelude.{◌≡◌, option_map};
 ghost use Rattle.expression_reading.specs.Offences.{kind_in, offence_in, mark_in, first_kind};
 ghost use Rattle.sym_model.specs.ExpressionOffence.{earlier, comes_first};
 
-/// The kinds of error, in their order at one place.
+/// The kinds of errors; errors at the same byte are in this order.
 #[derive(Clone, Copy, Debug)]
 pub enum Kind {
     /// A number exceeds 2^127 - 1.
     Literal,
     /// A limit is exceeded.
     Range,
-    /// A number is not allowed in its list: it is out of order, for example.
+    /// A number is not allowed in its list, for example because it is out of order; or a
+    /// denominator is 0.
     Shape,
 }
 
@@ -20,15 +21,16 @@ pub(crate) struct Offence {
     pub(crate) kind: Kind,
 }
 
-/// The numbers before a place in the list of an atom: their count, and the last of them.
+/// The numbers before a given number in the list of an atom: their count, and the last of them.
 #[derive(Clone, Copy)]
 pub(crate) struct Before {
     pub(crate) count: u64,
     pub(crate) last: Option<u128>,
 }
 
-/// A part of an expression that can be an error: a number, a denominator, a number in the list of
-/// an atom, with those before it, or an opening parenthesis, with its depth.
+/// Something that begins at a byte of an expression and can be an error: a number; a denominator; a
+/// number in the list of an atom, with the numbers before it; or an opening parenthesis, with the
+/// number of parentheses that are open after it.
 #[derive(Clone, Copy)]
 pub(crate) enum Mark {
     Value { value: u128 },
@@ -37,10 +39,10 @@ pub(crate) enum Mark {
     Opening { depth: u64 },
 }
 
-/// Numbers of an expression must be below 2^127.
+/// 2^127; the numbers of an expression must be below it.
 pub(crate) const WIDE: u128 = 1 << 127;
 
-/// The first kind of error at a mark, if there is one.
+/// The kind of the first error at a mark, if there is an error.
 pub(crate) fn kind_at(mark: Mark) -> Option<Kind>
     ensures { option_map kind_in result ≡ first_kind (mark_in mark) }
 {
@@ -70,7 +72,7 @@ pub(crate) fn kind_at(mark: Mark) -> Option<Kind>
 }
 
 impl Offence {
-    /// Whether this error comes before the other one, or equals it.
+    /// Whether this error comes before `other`, or equals it.
     fn comes_first(self, other: Offence) -> bool
         ensures { result ≡ comes_first (offence_in self) (offence_in other) }
     {
@@ -78,7 +80,7 @@ impl Offence {
     }
 }
 
-/// The first of two errors, if there is one.
+/// The first of two errors, each of which may be absent.
 pub(crate) fn earlier(first: Option<Offence>, second: Option<Offence>) -> Option<Offence>
     ensures { option_map offence_in result
         ≡ earlier (option_map offence_in first) (option_map offence_in second) }

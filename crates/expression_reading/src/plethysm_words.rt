@@ -16,8 +16,8 @@ use std::alloc::Global;
 /// degrees.
 pub const PLETHYSM_DEGREE: u16 = 10;
 
-/// The byte of the first minus, or the first byte of the first fraction if that comes earlier, in a
-/// word that is an expression.
+/// The byte of the first minus or the first byte of the first fraction, whichever is lower, in a
+/// word that is an expression; None if it has neither.
 fn first_sign(word: &[u8]) -> Option<u64>
     ensures { (phrase : Phrase) → SpellsPhrase word.now phrase
         → option_map (λ byte. (byte, shape)) result ≡ first_of (sign_offences 0 phrase) }
@@ -35,8 +35,9 @@ fn first_sign(word: &[u8]) -> Option<u64>
     None
 }
 
-/// The refusal of a word with a minus or a fraction at the byte `sign`, given the refusal for its
-/// other errors.
+/// The first refusal of a word whose first minus or fraction is at the byte `sign`, given the
+/// refusal `fault` for its other errors: `Shape` at `sign` if the byte of `fault` is later, and
+/// otherwise `fault`; `Syntax` and `NoMemory` are not changed.
 fn first_refusal(fault: ExpressionFault, sign: u64) -> ExpressionFault
     ensures { result ≡ refused_by_sign sign fault }
 {
@@ -51,8 +52,8 @@ fn first_refusal(fault: ExpressionFault, sign: u64) -> ExpressionFault
 
 /// Reads a word as the outer expression of a plethysm, whose degree must be at most 10.
 ///
-/// If the word is not such an expression, it is refused at its first error, of the kinds of
-/// `ExpressionFault`.
+/// If the word is not such an expression, it is refused with its first error, as in
+/// `read_expression`.
 pub fn read_outer(alloc: Global, word: &[u8]) -> Result<Formula, ExpressionFault>
     ensures read { IsReadBy (offences_within plethysm_degree_limit) word.now result }
     ensures low { IfOk result (λ f. degree (tree_of f.tree) ≤ plethysm_degree_limit) }
@@ -60,11 +61,11 @@ pub fn read_outer(alloc: Global, word: &[u8]) -> Result<Formula, ExpressionFault
     read_within(alloc, PLETHYSM_DEGREE, word)
 }
 
-/// Reads a word as the inner expression of a plethysm, whose degree must be at most 10, and all of
-/// whose coefficients are integers and at least 0.
+/// Reads a word as the inner expression of a plethysm, whose degree must be at most 10, and which
+/// must have no minus and no fraction.
 ///
-/// If the word is not such an expression, it is refused at its first error, of the kinds of
-/// `ExpressionFault`; a minus and the first byte of a fraction are errors, too, of the kind
+/// If the word is not such an expression, it is refused with its first error, as in
+/// `read_expression`; a minus and the first byte of a fraction are errors, too, of the kind
 /// `Shape`.
 pub fn read_inner(alloc: Global, word: &[u8]) -> Result<Formula, ExpressionFault>
     ensures read { IsReadBy inner_offences word.now result }

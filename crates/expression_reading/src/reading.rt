@@ -18,11 +18,12 @@ use calc_base::{Basis, NoMemory};
 use std::alloc::Global;
 use thiserror::Error;
 
-/// The reason why a word is not an expression that can be expanded into a target, with the byte of
-/// its first error; or out of memory.
+/// The reason why a word is refused as an expression: its first error, with its byte, or that
+/// memory ran out.
 #[derive(Clone, Copy, Debug, PartialEq, Eq, Hash, Error)]
 pub enum ExpressionFault {
-    /// The word is not an expression: its longest prefix that begins one ends before this byte.
+    /// The word is not an expression, and `byte` is the length of its longest prefix that begins an
+    /// expression.
     #[error("no expression, at byte {byte}")]
     Syntax { byte: u64 },
     /// A number over 2^127 - 1 begins at this byte.
@@ -31,7 +32,8 @@ pub enum ExpressionFault {
     /// A limit is exceeded at this byte.
     #[error("past a limit, at byte {byte}")]
     Range { byte: u64 },
-    /// A number of an atom greater than the one before it, or a denominator 0, is at this byte.
+    /// At this byte there is a number of an atom greater than the one before it, or a denominator
+    /// 0; or, in the inner expression of a plethysm, a minus or a fraction.
     #[error("a list out of shape, at byte {byte}")]
     Shape { byte: u64 },
     /// Memory ran out.
@@ -47,10 +49,10 @@ impl From<NoMemory> for ExpressionFault {
     }
 }
 
-/// The most bytes of an expression.
+/// The greatest number of bytes of an expression.
 const MAX_BYTES: u64 = 4096;
 
-/// The fault that reports an error.
+/// The refusal with this error.
 fn fault_of(offence: Offence) -> ExpressionFault
     ensures { IsFaultOf (offence_in offence) result }
 {
@@ -62,8 +64,8 @@ fn fault_of(offence: Offence) -> ExpressionFault
     }
 }
 
-/// The expression of a word that has been scanned, or its first error. The degree must be at most
-/// the limit.
+/// The formula of a word that is an expression and has been scanned, or its first error; a degree
+/// over `limit` is an error.
 fn judged(alloc: Global, limit: u16, word: &[u8], scan: Scan) -> Result<Formula, ExpressionFault>
     requires scanned { IsScanned word.now (Ok scan) }
     requires low { limit ≤ 20 }
@@ -107,7 +109,7 @@ pub fn wrong_byte(word: &[u8]) -> Option<u64>
     }
 }
 
-/// Reads a word as an expression whose degree must be at most the limit.
+/// Reads a word as an expression whose degree must be at most `limit`.
 pub(crate) fn read_within(
     alloc: Global,
     limit: u16,
@@ -124,13 +126,13 @@ pub(crate) fn read_within(
 }
 
 /// Reads a word as an expression of atoms in m, e, h, p and s that is to be expanded into the
-/// target.
+/// target basis.
 ///
 /// A word that is not an expression is refused as `Syntax`, at the length of its longest prefix
-/// that begins one. Otherwise its first error is refused: a number over 2^127 - 1 as `Literal`; as
-/// `Range` a parenthesis that opens depth 65, the 65th number of an atom, byte 4,096 of a longer
-/// word, and, at the end of the word, a degree over the limit of the target; as `Shape` a number of
-/// an atom that is greater than the one before it, and a denominator 0.
+/// that begins an expression. Otherwise its first error is refused: a number over 2^127 - 1 as
+/// `Literal`; as `Range` a parenthesis that opens depth 65, the 65th number of an atom, byte 4,096
+/// of a longer word, and, at the end of the word, a degree over the limit of the target; as `Shape`
+/// a number of an atom that is greater than the one before it, and a denominator 0.
 pub fn read_expression(
     alloc: Global,
     target: Basis,

@@ -1,5 +1,5 @@
-//! One reading of a word from left to right, without memory and recursion: whether it is an
-//! expression, the length of its longest prefix that begins one, and its first error.
+//! One scan of a word from left to right, without allocation and recursion: whether the word is an
+//! expression, the length of its longest prefix that begins an expression, and its first error.
 ghost use Rattle.std.specs.Prelude.{◌≡◌, ℕ, ◌+◌, ◌-◌, ◌*◌, ◌^◌, ◌<◌, ◌≤◌, option_map};
 ghost use Rattle.expression_reading.specs.Symbols.{symbol_in};
 ghost use Rattle.expression_reading.specs.ScanSteps.{capped, IsSoundDigit, CanCount};
@@ -13,8 +13,8 @@ use crate::formula::MAX_DEGREE;
 use crate::offence::{Before, Mark, Offence, WIDE, earlier, kind_at};
 use crate::symbol::{Symbol, symbol_of};
 
-/// The kind of text at the end of the bytes read. A number is kept with the byte at which it
-/// begins, and is replaced by `WIDE` if it is greater.
+/// The kind of text at the end of the bytes read so far. A number is stored with the byte at which
+/// it begins, and is replaced by 2^127 (`WIDE`) if it is greater.
 #[derive(Clone, Copy)]
 pub(crate) enum Mode {
     Start,
@@ -41,7 +41,7 @@ pub(crate) enum Mode {
 }
 
 /// The state of the scan: the mode, the number of open parentheses, the first error, and whether
-/// some number of an atom exceeds every degree.
+/// some number of an atom exceeds 20, the greatest degree.
 #[derive(Clone, Copy)]
 pub(crate) struct Scan {
     pub(crate) mode: Mode,
@@ -50,7 +50,8 @@ pub(crate) struct Scan {
     pub(crate) is_high: bool,
 }
 
-/// The number with one more digit, or `WIDE` if that is smaller.
+/// The number with the decimal digits of `value` and one more digit, whose byte is `digit`; or
+/// 2^127 (`WIDE`) if the number is greater.
 pub(crate) fn extended(value: u128, digit: u8) -> u128
     requires { 48 ≤ digit }
     ensures { result ≡ capped (10 * value + (digit - 48)) }
@@ -61,7 +62,7 @@ pub(crate) fn extended(value: u128, digit: u8) -> u128
         .min(WIDE)
 }
 
-/// The mode after a symbol that follows a whole factor; None if the symbol may not follow it.
+/// The mode after a symbol that follows a whole factor; None if the symbol is invalid there.
 fn after_factor(symbol: Symbol) -> Option<Mode>
     ensures { result ≡ mode_after_factor (symbol_in symbol) }
 {
@@ -72,7 +73,8 @@ fn after_factor(symbol: Symbol) -> Option<Mode>
     }
 }
 
-/// The mode after a symbol, if a factor is expected; None if the symbol is invalid.
+/// The mode after a symbol at the byte `at`, at which a factor is expected; None if the symbol
+/// begins no factor.
 fn before_factor(at: u64, symbol: Symbol) -> Option<Mode>
     requires { IsSoundDigit (symbol_in symbol) }
     ensures { result ≡ mode_before_factor at (symbol_in symbol) }
@@ -88,8 +90,8 @@ fn before_factor(at: u64, symbol: Symbol) -> Option<Mode>
     }
 }
 
-/// The mode after a symbol in the list of an atom, if a number may begin there; None if the symbol
-/// is invalid.
+/// The mode after a symbol at the byte `at`, at which a number in the list of an atom may begin;
+/// None if the symbol is invalid there.
 fn in_list(before: Before, at: u64, symbol: Symbol) -> Option<Mode>
     requires { IsSoundDigit (symbol_in symbol) }
     ensures { result ≡ mode_after (Mode.List before) at (symbol_in symbol) }
@@ -105,7 +107,8 @@ fn in_list(before: Before, at: u64, symbol: Symbol) -> Option<Mode>
     }
 }
 
-/// The mode after a symbol that follows a number of an atom's list; None if the symbol is invalid.
+/// The mode after a symbol that follows a digit of a number in the list of an atom; None if the
+/// symbol is invalid there.
 fn in_entry(before: Before, start: u64, value: u128, symbol: Symbol) -> Option<Mode>
     requires digit { IsSoundDigit (symbol_in symbol) }
     requires room { before.count + 1 < 2 ^ 64 }
@@ -129,7 +132,8 @@ fn in_entry(before: Before, start: u64, value: u128, symbol: Symbol) -> Option<M
 }
 
 impl Mode {
-    /// The mode after a symbol at the byte `at`; None if the symbol is invalid.
+    /// The mode after a symbol at the byte `at`, if `self` is the mode before the symbol; None if
+    /// the symbol is invalid there.
     fn after(self, at: u64, symbol: Symbol) -> Option<Mode>
         requires digit { IsSoundDigit (symbol_in symbol) }
         requires room { CanCount self }
@@ -183,7 +187,8 @@ impl Mode {
     }
 }
 
-/// The number of open parentheses after a symbol; None if the symbol closes one that is not open.
+/// The number of open parentheses after a symbol, given the number before it; None if the symbol
+/// closes a parenthesis that is not open.
 fn depth_after(depth: u64, symbol: Symbol) -> Option<u64>
     requires { depth + 1 < 2 ^ 64 }
     ensures { result ≡ depth_after depth (symbol_in symbol) }
@@ -195,7 +200,7 @@ fn depth_after(depth: u64, symbol: Symbol) -> Option<u64>
     }
 }
 
-/// The number that the mode holds, with the byte at which it begins; None if it holds none.
+/// The number at the end of the bytes read, if the mode has one, with the byte at which it begins.
 fn number_mark(mode: Mode) -> Option<(u64, Mark)>
     ensures { result ≡ number_mark mode }
 {
@@ -211,8 +216,8 @@ fn number_mark(mode: Mode) -> Option<(u64, Mark)>
     }
 }
 
-/// The mark that is complete when a symbol is read at the byte `at`: a number that ends before the
-/// symbol, or the symbol itself if it opens a parenthesis.
+/// The mark, if there is one, that is complete when a symbol is read at the byte `at`: a number
+/// that ends before the symbol, or the symbol itself if it opens a parenthesis.
 fn mark_before(mode: Mode, depth: u64, at: u64, symbol: Symbol) -> Option<(u64, Mark)>
     requires { depth + 1 < 2 ^ 64 }
     ensures { result ≡ mark_before mode depth at (symbol_in symbol) }
@@ -224,7 +229,7 @@ fn mark_before(mode: Mode, depth: u64, at: u64, symbol: Symbol) -> Option<(u64, 
     }
 }
 
-/// The first error at a mark, if there is one.
+/// The first error at a mark, with the byte of the mark, if there is an error.
 fn offence_at(mark: (u64, Mark)) -> Option<Offence>
     ensures { option_map offence_in result
         ≡ option_map (λ kind. (mark.0, kind)) (first_kind (mark_in mark.1)) }
@@ -232,7 +237,7 @@ fn offence_at(mark: (u64, Mark)) -> Option<Offence>
     kind_at(mark.1).map(|kind| Offence { byte: mark.0, kind })
 }
 
-/// Whether a mark is a number of an atom that exceeds every degree.
+/// Whether a mark is a number over 20, the greatest degree, in the list of an atom.
 fn is_high(mark: Mark) -> bool
     ensures { result ≡ is_high (mark_in mark) }
 {
@@ -243,7 +248,7 @@ fn is_high(mark: Mark) -> bool
 }
 
 impl Scan {
-    /// The state before the first byte.
+    /// The state of a scan before the first byte.
     fn start() -> Scan
         ensures { result ≡ scan_start }
     {
@@ -255,7 +260,8 @@ impl Scan {
         }
     }
 
-    /// The state in which the errors of the mark have been recorded, too.
+    /// The state of the scan with `mark`, if it is given, taken into account: the first error is
+    /// the earlier one of the first error so far and the error at the mark.
     fn with_mark(self, mark: Option<(u64, Mark)>) -> Scan
         ensures sees { Sees self mark result }
         ensures mode { result.mode ≡ self.mode }
@@ -272,7 +278,7 @@ impl Scan {
         }
     }
 
-    /// The state after a symbol at the byte `at`; None if the symbol is invalid.
+    /// The state of the scan after a symbol at the byte `at`; None if the symbol is invalid there.
     fn after(self, at: u64, symbol: Symbol) -> Option<Scan>
         requires digit { IsSoundDigit (symbol_in symbol) }
         requires room { CanCount self.mode }
@@ -303,9 +309,9 @@ impl Scan {
     }
 }
 
-/// For a word that is an expression, its first error other than its degree, and whether an atom has
-/// a number that exceeds every degree; for another word the length of its longest prefix that
-/// begins an expression.
+/// If the word is an expression: its first error, apart from a length or a degree over the limit,
+/// and whether a number of an atom exceeds 20, the greatest degree. If it is not: as the error, the
+/// length of the longest prefix of the word that begins an expression.
 pub(crate) fn scan_word(word: &[u8]) -> Result<Scan, u64>
     ensures { IsScanned word.now result }
 {

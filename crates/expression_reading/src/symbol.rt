@@ -1,4 +1,4 @@
-//! The symbols of the grammar of expressions, by byte.
+//! The symbols of the grammar of expressions, and the symbol of each byte.
 ghost use Rattle.std.specs.Prelude.{◌≡◌};
 ghost use Rattle.expression_laws.specs.LeftToRight.{symbol};
 ghost use Rattle.expression_reading.specs.Symbols.{symbol_in};

@@ -1,4 +1,4 @@
-//! The weights of expressions, in numbers of 128 bits.
+//! The weights of expressions, with numerators and denominators below 2^127.
 ghost use Rattle.std.specs.Prelude.{◌≡◌, ◌+◌, ◌*◌, ◌/◌, ◌^◌, ◌<◌, ◌≤◌, IsTrue, SomeIff};
 ghost use Rattle.std.specs.Prelude.{MatchOption, option_map};
 ghost use Rattle.sym_model.specs.Canonical.{gcd};
@@ -11,7 +11,7 @@ use crate::Expr;
 use calc_base::{Basis, Weight};
 use coeff_rings::{factorial, gcd};
 
-/// The numbers of a weight are below this.
+/// The numerator and the denominator of a weight must be below this.
 const LIMIT: u128 = 1 << 127;
 
 /// The weight with this numerator and denominator, if both are below 2^127.
@@ -25,8 +25,9 @@ fn weight_of(num: u128, den: u128) -> Option<Weight>
     }
 }
 
-/// The weight of a sum or a difference, over the least common denominator, which is `a.den /
-/// common` times `b.den`.
+/// The weight of a sum or a difference of expressions with the weights `a` and `b`. Its denominator
+/// is the least common multiple of `a.den` and `b.den`. None if the numerator or the denominator is
+/// 2^127 or more.
 fn sum_weight(a: Weight, b: Weight) -> Option<Weight>
     requires { 0 < a.den }
     ensures { let g = gcd a.den b.den in
@@ -41,14 +42,16 @@ fn sum_weight(a: Weight, b: Weight) -> Option<Weight>
     weight_of(a_num.checked_add(b_num)?, den)
 }
 
-/// The weight of a product.
+/// The weight of a product of expressions with the weights `a` and `b`; None if the numerator or
+/// the denominator is 2^127 or more.
 fn product_weight(a: Weight, b: Weight) -> Option<Weight>
     ensures { IsWeighed result (a.num * b.num) (a.den * b.den) }
 {
     weight_of(a.num.checked_mul(b.num)?, a.den.checked_mul(b.den)?)
 }
 
-/// Replaces the two numbers of a weight, if the new ones are below the limit.
+/// Replaces the numerator and the denominator of a weight by `num` and `den`, if both are below
+/// 2^127; otherwise None.
 fn put(weight: &mut Weight, num: u128, den: u128) -> Option<()>
     ensures { IsWeighed (option_map (λ _. weight.new) result) num den }
 {
@@ -56,7 +59,9 @@ fn put(weight: &mut Weight, num: u128, den: u128) -> Option<()>
     Some(())
 }
 
-/// Adds a weight to another, over the least common denominator.
+/// Replaces `weight` by the weight of a sum of expressions with the weights `first` and `weight`;
+/// the new denominator is the least common multiple of their denominators. None if the new
+/// numerator or denominator is 2^127 or more.
 #[inline(never)]
 fn add_to(weight: &mut Weight, first: &Weight) -> Option<()>
     requires { 0 < first.now.den }
@@ -69,7 +74,8 @@ fn add_to(weight: &mut Weight, first: &Weight) -> Option<()>
     Some(())
 }
 
-/// Multiplies a weight by another.
+/// Replaces `weight` by the weight of a product of expressions with the weights `first` and
+/// `weight`; None if the new numerator or denominator is 2^127 or more.
 #[inline(never)]
 fn multiply_by(weight: &mut Weight, first: &Weight) -> Option<()>
     ensures { IsWeighed (option_map (λ _. weight.new) result) (first.now.num * weight.old.num)
@@ -80,7 +86,8 @@ fn multiply_by(weight: &mut Weight, first: &Weight) -> Option<()>
 }
 
 impl Expr {
-    /// The two numbers of the weight; None if and only if one of them is 2^127 or more.
+    /// The numerator and the denominator of the weight of the expression; None if and only if one
+    /// of them is 2^127 or more.
     pub(crate) fn weigh(&self) -> Option<Weight>
         requires { IsTrue (has_no_signs self.now) }
         ensures { IsWeighed result (numerator (tree_of self.now)) (denominator (tree_of self.now)) }
@@ -90,8 +97,8 @@ impl Expr {
         Some(weight)
     }
 
-    /// Writes the two numbers of the weight to `weight`. A tree may be deep, so little is kept for
-    /// each level.
+    /// Writes the numerator and the denominator of the weight of the expression to `weight`; None
+    /// if one of them is 2^127 or more. A tree may be deep, so little is stored for each level.
     fn weigh_into(&self, weight: &mut Weight) -> Option<()>
         requires { IsTrue (has_no_signs self.now) }
         ensures { IsWeighed (option_map (λ _. weight.new) result) (numerator (tree_of self.now))
@@ -118,8 +125,8 @@ impl Expr {
     }
 }
 
-/// The factor by which a conversion into the target can raise the coefficients at a degree; None if
-/// that is 2^128 or more.
+/// The factor by which a conversion into the target basis can raise the coefficients at degree d;
+/// None if the factor is 2^128 or more.
 fn growth(target: Basis, d: u16) -> Option<u128>
     requires { d ≤ 20 }
     ensures { SomeIff result (growth (basis_of target) d < 2 ^ 128) (growth (basis_of target) d) }
@@ -134,8 +141,8 @@ fn growth(target: Basis, d: u16) -> Option<u128>
     }
 }
 
-/// The weight of an expression for the target: its two numbers multiplied, times `growth` at its
-/// degree; None only if that is 2^127 or more.
+/// The weight of an expression for the target basis: its numerator times its denominator times
+/// `growth` at its degree; None only if this product is 2^127 or more.
 pub(crate) fn checked_weight(tree: &Expr, degree: u16, target: Basis) -> Option<u128>
     requires plain { IsTrue (has_no_signs tree.now) }
     requires low { degree ≤ 20 }

@@ -1,5 +1,5 @@
--- Sums over the splits of a list α, the pairs of lists that add up to α place by place, whose first part has no number
--- above 1. The terms depend on the sizes a and b of the two parts.
+-- Sums over the pairs (β, γ) of lists whose sum, place by place, is α, and in which no entry of β is above 1. The summands depend on two numbers: the
+-- sum a of the entries of β, and the sum b of the entries of γ.
 use Rattle.std.proofs.Common.{◌≡◌, ◌⊎◌, ℕ, zero, suc, ◌+◌, ◌-◌, ◌<◌, Bool, true, false, ◌&&◌, cond, ◌==◌, leb, List, [], ◌∷◌, refl, sym, ap, ap₂, ◌∙◌, inl, inr, arith, ℤ, pos, negsuc, neg_ℤ, ◌+ℤ◌, ◌*ℤ◌}
 use Rattle.std.proofs.lemmas.Bool.{cases_eq, eq-eqb, ne_eqb, le-leb, lt-leb}
 use Rattle.std.proofs.lemmas.Int.{ints}
@@ -15,16 +15,9 @@ use Rattle.sym_model.proofs.Signs.{minus_one_to_add}
 use Rattle.monomial_laws.specs.MonomialProduct.{splits}
 use Rattle.monomial_laws.proofs.Splits.{total_splits}
 use lib.IntN.{+ℤ_idr, +ℤ_idl}
-use Rattle.basis_change_laws.proofs.NewtonIdentities.{turn_inside}
+use Rattle.sym_model.proofs.Integers.{neg_one-product, nothing_either, times_chosen, nested_tests}
 
-minus : (z : ℤ) → neg_ℤ z ≡ negsuc 0 *ℤ z
-minus z = omega (arith, ints)
-
-pub nothing_either : (t : Bool) → cond t (pos 0) (pos 0) ≡ pos 0
-nothing_either true = refl
-nothing_either false = refl
-
--- the sum of W(a, b) over the splits of α whose first part has no number above 1, with a and b the sizes of the two parts
+-- the sum of W(a, b) over the pairs (β, γ) with β + γ = α in which no entry of β is above 1; a is the sum of β, and b that of γ
 abbrev pub low_total : (ℕ → ℕ → ℤ) → List ℕ → ℤ
 low_total W α = total
     (λ (s : List ℕ × List ℕ). cond (at_most_one s.0) (W (size s.0) (size s.1)) (pos 0)) (splits α)
@@ -68,7 +61,7 @@ low_total-scale c W α =
     total_ext (λ (s : List ℕ × List ℕ). cond (at_most_one s.0) (c *ℤ W (size s.0) (size s.1))
     (pos 0)) (λ (s : List ℕ × List ℕ). c *ℤ cond (at_most_one s.0) (W (size s.0) (size s.1))
     (pos 0))
-    (λ s. sym (turn_inside (at_most_one s.0) c (W (size s.0) (size s.1)))) (splits α)
+    (λ s. sym (sym (times_chosen (at_most_one s.0) c (W (size s.0) (size s.1))))) (splits α)
     ∙ total_scale c
     (λ (s : List ℕ × List ℕ). cond (at_most_one s.0) (W (size s.0) (size s.1)) (pos 0)) (splits α)
 
@@ -76,7 +69,8 @@ pub low_total-none : (α : List ℕ) → low_total (λ a b. pos 0) α ≡ pos 0
 low_total-none α = total_none (λ (s : List ℕ × List ℕ). cond (at_most_one s.0) (pos 0) (pos 0))
     (splits α) (λ s m. nothing_either (at_most_one s.0))
 
--- a split of c ∷ α splits c into 0 + c or, if c ≥ 1, into 1 + (c - 1): the sum over the splits is the sum over both cases
+-- `low_total W (c ∷ α)` is the sum of W(a, c + b) over the pairs (β, γ) for α, a and b being the sums of β and γ, plus, if c ≥ 1, the sum of W(1 + a,
+-- c - 1 + b) over the same pairs: the first entries of a pair for c ∷ α are 0 and c or, if c ≥ 1, 1 and c - 1
 pub low_total-cons : (W : ℕ → ℕ → ℤ) (c : ℕ) (α : List ℕ)
     → low_total W (c ∷ α)
     ≡ low_total (λ a b. W (0 + a) (c - 0 + b)) α +ℤ cond (leb 1 c)
@@ -94,7 +88,7 @@ low_total-cons W c α =
     (W (b + size s.0) (c - b + size s.1)) (pos 0))
     (λ (s : List ℕ × List ℕ). cond (leb b 1)
     (cond (at_most_one s.0) (W (b + size s.0) (c - b + size s.1)) (pos 0)) (pos 0))
-    (λ s. by (leb b 1) (at_most_one s.0) (W (b + size s.0) (c - b + size s.1)))
+    (λ s. sym (nested_tests (leb b 1) (at_most_one s.0) (W (b + size s.0) (c - b + size s.1))))
     (splits α)
     ∙ total_cond (leb b 1)
     (λ (s : List ℕ × List ℕ). cond (at_most_one s.0) (W (b + size s.0) (c - b + size s.1)) (pos 0))
@@ -105,17 +99,14 @@ low_total-cons W c α =
     rest : ℕ → ℤ
     rest b = low_total (λ a d. W (b + a) (c - b + d)) α
 
-    by : (p q : Bool) (z : ℤ) → cond (p && q) z (pos 0) ≡ cond p (cond q z (pos 0)) (pos 0)
-    by true q z = refl
-    by false q z = refl
+-- ---- the sums `low_total W α` for particular functions W of the sums a of β and b of γ
 
--- ---- the sums over the splits for particular functions W of the two sizes
-
--- 1 if the size is 0, else 0
+-- 1 if the number is 0, and 0 otherwise
 abbrev pub at_zero : ℕ → ℤ
 at_zero k = cond (k == 0) (pos 1) (pos 0)
 
--- over the splits of α with no number above 1 in the first part, of size a, the sum of (-1)^a is 1 if α has size 0, else 0
+-- the sum of (-1)^a over the pairs (β, γ) with β + γ = α in which no entry of β is above 1, a being the sum of β, is 1 if all entries of α are 0, and
+-- 0 otherwise
 pub signs : (α : List ℕ) → low_total (λ a b. minus_one_to a) α ≡ at_zero (size α)
 signs [] = refl
 signs (c ∷ α) =
@@ -129,7 +120,7 @@ signs (c ∷ α) =
     ∙ by c (size α)
   where
     one_more : (a : ℕ) → minus_one_to (1 + a) ≡ negsuc 0 *ℤ minus_one_to a
-    one_more a = let e : 1 + a ≡ suc a = omega arith in ap minus_one_to e ∙ minus (minus_one_to a)
+    one_more a = let e : 1 + a ≡ suc a = omega arith in ap minus_one_to e ∙ sym (neg_one-product (minus_one_to a))
 
     by : (c k : ℕ) → at_zero k +ℤ cond (leb 1 c) (negsuc 0 *ℤ at_zero k) (pos 0) ≡ at_zero (c + k)
     by zero k = +ℤ_idr (at_zero k) ∙ ap at_zero (let e : k ≡ 0 + k = omega arith in e)
@@ -142,7 +133,7 @@ signs (c ∷ α) =
         cancels : (z : ℤ) → z +ℤ negsuc 0 *ℤ z ≡ pos 0
         cancels z = omega (arith, ints)
 
--- the sum of c + 1 and the numbers of α is one of these numbers if and only if α adds up to 0
+-- the sum of c + 1 and the entries of α is an entry of (c + 1) ∷ α if and only if all entries of α are 0
 only_number : (c : ℕ) (α : List ℕ) → (size α == 0) ≡ has (suc c + size α) (suc c ∷ α)
 only_number c α = by (cases_eq (size α) 0)
   where
@@ -152,8 +143,8 @@ only_number c α = by (cases_eq (size α) 0)
         ∙ sym (has_past (suc c + size α) (suc c) α (λ d. absurd (n (omega arith)))
         ∙ has_above_size (suc c + size α) α (omega arith))
 
--- over the splits of α with no number above 1 in the first part, the sum of (-1)^a·b, a and b being the sizes of the parts, is 1 if exactly one number
--- of α is not 0, else 0
+-- if α has a positive sum: the sum of (-1)^a·b over the pairs (β, γ) with β + γ = α in which no entry of β is above 1, a and b being the sums of β
+-- and γ, is 1 if α has only one entry other than 0, and 0 otherwise
 pub signed_rests : (α : List ℕ) → 0 < size α → low_total (λ a b. minus_one_to a *ℤ pos b) α
     ≡ cond (has (size α) α) (pos 1) (pos 0)
 signed_rests [] h = absurd (omega arith)
@@ -193,7 +184,7 @@ signed_rests (c ∷ α) h =
         ∙ spread (minus_one_to a) (pos (c - 1)) (pos b)
       where
         spread : (x y z : ℤ) → neg_ℤ x *ℤ (y +ℤ z) ≡ neg_ℤ y *ℤ x +ℤ negsuc 0 *ℤ (x *ℤ z)
-        spread x y z = apart x y z ∙ ap (λ w. neg_ℤ y *ℤ x +ℤ w) (minus (x *ℤ z))
+        spread x y z = apart x y z ∙ ap (λ w. neg_ℤ y *ℤ x +ℤ w) (sym (neg_one-product (x *ℤ z)))
           where
             apart : (x y z : ℤ) → neg_ℤ x *ℤ (y +ℤ z) ≡ neg_ℤ y *ℤ x +ℤ neg_ℤ (x *ℤ z)
             apart x y z = simp ring (omega (arith, ints))
@@ -230,13 +221,14 @@ signed_rests (c ∷ α) h =
         ∙ ap (λ (t : Bool). cond t (pos 1) (pos 0)) (only_number c α)
       where
         left : (x y z : ℤ) → ((x +ℤ pos 1) *ℤ y +ℤ z) +ℤ (neg_ℤ x *ℤ y +ℤ negsuc 0 *ℤ z) ≡ y
-        left x y z = ap (λ w. ((x +ℤ pos 1) *ℤ y +ℤ z) +ℤ (neg_ℤ x *ℤ y +ℤ w)) (sym (minus z))
+        left x y z = ap (λ w. ((x +ℤ pos 1) *ℤ y +ℤ z) +ℤ (neg_ℤ x *ℤ y +ℤ w)) (neg_one-product z)
             ∙ apart x y z
           where
             apart : (x y z : ℤ) → ((x +ℤ pos 1) *ℤ y +ℤ z) +ℤ (neg_ℤ x *ℤ y +ℤ neg_ℤ z) ≡ y
             apart x y z = simp ring (omega (arith, ints))
 
--- the number of splits of α, with no number above 1 in the first part, whose second part is all zeros is 1 if no number of α is above 1, else 0
+-- the number of pairs (β, γ) with β + γ = α in which no entry of β is above 1 and all entries of γ are 0 is 1 if no entry of α is above 1, and 0
+-- otherwise
 pub rests_none : (α : List ℕ) → low_total (λ a b. at_zero b) α
     ≡ cond (at_most_one α) (pos 1) (pos 0)
 rests_none [] = refl
@@ -266,7 +258,7 @@ rests_none (c ∷ α) = low_total-cons (λ a b. at_zero b) c α ∙ by c (rests_
         ∙ ap (λ (t : Bool). cond (t && at_most_one α) (pos 1) (pos 0))
         (sym (lt-leb (suc (suc c)) 1 (omega arith)))
 
--- the number of splits of α whose first part is all zeros is 1
+-- the number of pairs (β, γ) with β + γ = α in which all entries of β are 0 is 1
 pub firsts_none : (α : List ℕ) → low_total (λ a b. at_zero a) α ≡ pos 1
 firsts_none [] = refl
 firsts_none (c ∷ α) =
@@ -279,7 +271,8 @@ firsts_none (c ∷ α) =
     (ne_eqb (1 + a) 0 (λ e. absurd (omega arith)))) ∙ low_total-none α)
     ∙ ap (λ z. pos 1 +ℤ z) (nothing_either (leb 1 c))
 
--- over the splits of α with no number above 1 in the first part, the sum of (-1)^b, b being the size of the second part, is 1 if α has size 0, else 0
+-- the sum of (-1)^b over the pairs (β, γ) with β + γ = α in which no entry of β is above 1, b being the sum of γ, is 1 if all entries of α are 0, and
+-- 0 otherwise
 pub rest_signs : (α : List ℕ) → low_total (λ a b. minus_one_to b) α ≡ at_zero (size α)
 rest_signs [] = refl
 rest_signs (c ∷ α) =
@@ -314,7 +307,8 @@ rest_signs (c ∷ α) =
         cancels : (x z : ℤ) → neg_ℤ x *ℤ z +ℤ x *ℤ z ≡ pos 0
         cancels x z = simp ring (omega (arith, ints))
 
--- over the splits of α with no number above 1 in the first part, of size a, the sum of (-1)^a·a is -1 if exactly one number of α is not 0, else 0
+-- if α has a positive sum: the sum of (-1)^a·a over the pairs (β, γ) with β + γ = α in which no entry of β is above 1, a being the sum of β, is -1 if
+-- α has only one entry other than 0, and 0 otherwise
 pub signed_firsts : (α : List ℕ) → 0 < size α → low_total (λ a b. minus_one_to a *ℤ pos a) α
     ≡ neg_ℤ (cond (has (size α) α) (pos 1) (pos 0))
 signed_firsts [] h = absurd (omega arith)
@@ -336,7 +330,7 @@ signed_firsts (c ∷ α) h =
     there a =
         let d : 1 + a ≡ suc a = omega arith in
         ap (λ n. minus_one_to n *ℤ (pos 1 +ℤ pos a)) d ∙ spread (minus_one_to a) (pos a)
-        ∙ minus (minus_one_to a +ℤ minus_one_to a *ℤ pos a)
+        ∙ sym (neg_one-product (minus_one_to a +ℤ minus_one_to a *ℤ pos a))
       where
         spread : (x y : ℤ) → neg_ℤ x *ℤ (pos 1 +ℤ y) ≡ neg_ℤ (x +ℤ x *ℤ y)
         spread x y = simp ring (omega (arith, ints))

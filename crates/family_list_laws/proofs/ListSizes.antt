@@ -1,9 +1,9 @@
--- The sums of the absolute values of the coefficients of the lists of specs/OnePartLists.
---     total-orders      the sum of l!/Π m_i! over the partitions of k + 1, with l parts of the multiplicities m_i, is 2^k
+-- The sums of the absolute values of the closed coefficients (specs/OnePartLists) over the partitions of a number; l is the number of parts, and the
+-- m_i are their multiplicities.
+--     total-orders      the sum of l!/Π m_i! over the partitions of k + 1 is 2^k
 --     total-sized       the sum of k·(l - 1)!/Π m_i! over the partitions of k is 2^k - 1
 --     total-cycles      the sum of k!/z_μ over the partitions μ of k is k!
 use Rattle.std.proofs.Common.{◌≡◌, ℕ, zero, suc, ◌+◌, ◌-◌, ◌*◌, ◌^◌, ◌<◌, ◌≤◌, cond, List, [], length, refl, sym, ap, ap₂, ◌∙◌, arith, ℤ, pos, ◌+ℤ◌, ◌*ℤ◌, pow-suc}
-use Rattle.std.proofs.lemmas.Int.{ints}
 use Rattle.sym_model.specs.Sum.{total}
 use Rattle.sym_model.specs.Partition.{IsPartition, after, size}
 use Rattle.sym_model.specs.PartitionList.{partitions_of, partitions_within}
@@ -20,6 +20,8 @@ use Rattle.family_list_laws.proofs.ListSteps.{total-taken}
 use Rattle.family_list_laws.proofs.PartQuotients.{orders-sum, sized-orders, cycles-sum, rise}
 use Rattle.family_list_laws.proofs.OnePartValues.{some_part}
 use Rattle.std.proofs.Math.Nat.{mul_comm}
+use Rattle.sym_model.proofs.Numbers.{power-positive}
+use Rattle.sym_model.proofs.Integers.{sum_left_comm}
 
 -- the sum of x(μ) over the partitions μ of k
 abbrev pub sum_over : (List ℕ → ℕ) → ℕ → ℤ
@@ -47,7 +49,7 @@ sum-over-step k x before z closed =
     total-taken k i (λ ρ. pos (z i * before ρ)) r.0 (let l = r.1 in omega arith)
     ∙ total_scale (pos (z i)) (λ (ρ : List ℕ). pos (before ρ)) (partitions_of (k - i)))
 
--- ---- sums over i of f(m - i)
+-- ---- the sum of z(i)·f(m + 1 - i) over i = 1, .., m + 1 as its first term plus a sum over i = 1, .., m
 
 total-shifted : (g : ℕ → ℤ) (a m : ℕ) → total g (after (a + 1) m)
     ≡ total (λ (i : ℕ). g (i + 1)) (after a m)
@@ -65,9 +67,9 @@ back_sum z f m =
     (λ i. ap (λ n. z (i + 1) *ℤ f n) (let e : suc m - (i + 1) ≡ m - i = omega arith in e))
     (after 0 m))
 
--- the sums of the absolute values of the coefficients of the three lists of specs/OnePartLists
+-- the sums of l!/Π m_i!, k·(l - 1)!/Π m_i! and k!/z_μ over the partitions of k
 
--- the number of lists of positive numbers with the sum k
+-- the number of lists of positive numbers with the sum k: 1 for k = 0, and 2^(k - 1) for k ≥ 1
 abbrev pub compositions : ℕ → ℕ
 compositions zero = 1
 compositions (suc k) = 2 ^ k
@@ -99,19 +101,11 @@ sized-compositions (suc m) =
     (λ (i : ℕ). pos 1 *ℤ pos (compositions (m - i))) (after 0 m)
     ∙ ap (λ z. z +ℤ total (λ (i : ℕ). pos 1 *ℤ pos (compositions (m - i))) (after 0 m))
     (sized-compositions m))
-    ∙ regroup (pos 1 *ℤ pos (compositions m)) (pos (2 ^ m - 1))
-    (total (λ (i : ℕ). pos 1 *ℤ pos (compositions (m - i))) (after 0 m))
+    ∙ sum_left_comm (pos 1 *ℤ pos (compositions m)) (pos (2 ^ m - 1)) (total (λ (i : ℕ). pos 1 *ℤ pos (compositions (m - i))) (after 0 m))
     ∙ ap (λ z. pos (2 ^ m - 1) +ℤ z)
     (sym (back_sum (λ i. pos 1) (λ n. pos (compositions n)) m) ∙ all-compositions m)
-    ∙ ap pos (let p = pow-suc 2 m in let q = above m in let e : 2 ^ m - 1 + 2 ^ m
+    ∙ ap pos (let p = pow-suc 2 m in let q = power-positive 2 m (omega arith) in let e : 2 ^ m - 1 + 2 ^ m
     ≡ 2 ^ suc m - 1 = omega arith in e)
-  where
-    regroup : (x y z : ℤ) → x +ℤ (y +ℤ z) ≡ y +ℤ (x +ℤ z)
-    regroup x y z = omega (arith, ints)
-
-    above : (m : ℕ) → 1 ≤ 2 ^ m
-    above zero = omega arith
-    above (suc m) = omega (arith, pow-suc 2 m, above m)
 
 nothing-summed : (x : List ℕ → ℕ) → x [] ≡ 1 → sum_over x 0 ≡ pos 1
 unfolding partitions_within

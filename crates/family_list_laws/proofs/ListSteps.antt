@@ -1,6 +1,7 @@
--- Lists over the partitions of a number, from lists over those of smaller numbers.
---     total-taken     a sum over the partitions of k - i is one over those of k with a part i
---     sum-step        a list over the partitions of k for Σ s_i·g_i·P_i, from lists for the g_i over the partitions of k - i
+-- Lists of terms whose labels are the partitions of k, computed from lists whose labels are the partitions of smaller numbers.
+--     total-taken     the sum of g over the partitions of k - i is the sum of g(μ without one i) over the partitions μ of k with a part i
+--     sum-step        if q·f is the sum of s_i·q_i·g_i·P_i over i = 1, .., k, and each q_i·g_i is given by a list over the partitions of k - i
+--                     (`IsSumOver`), then q·f is given by a list over the partitions of k
 use Rattle.std.proofs.Common.{◌≡◌, ℕ, ◌-◌, ◌<◌, ◌≤◌, Bool, true, false, cond, List, refl, sym, ap, ◌∙◌, arith, ℤ, pos, ◌*ℤ◌, filter}
 use Rattle.sym_model.specs.Sum.{total}
 use Rattle.sym_model.specs.Polynomial.{Poly, pair, join, times}
@@ -42,7 +43,7 @@ total-taken k i g p l =
     insert_part-without_one i μ p (partitions_of-tells k μ s.0).0.falls s.1)
     (λ ρ m. without_one-insert_part i ρ p)
 
--- q times f, in n variables, is the sum over the partitions μ of k of c(μ) times the product of the P_a over the parts a of μ
+-- `IsSumOver P n k c q f`: in n variables, q·f is the sum, over the partitions μ of k, of c(μ) times the product of the P_a over the parts a of μ
 abbrev pub IsSumOver : (ℕ → ℕ → Poly) → ℕ → ℕ → (List ℕ → ℤ) → ℕ → Poly → Type 0
 IsSumOver P n k c q f =
     (φ : List ℕ → ℤ)

@@ -1,4 +1,4 @@
--- The lists with the closed coefficients of specs/OnePartLists expand e_k, h_k and p_k in the other families.
+-- The lists of e_k, h_k and p_k with the closed coefficients of specs/OnePartLists, as `one_part_list_law` states them.
 use Rattle.std.proofs.Common.{◌≡◌, ℕ, ◌-◌, ◌*◌, ◌^◌, ◌<◌, ◌≤◌, List, [], ◌∷◌, map, length, refl, sym, ap, ap₂, ◌∙◌, subst, arith, ℤ, pos, ◌+ℤ◌, ◌*ℤ◌}
 use Rattle.std.specs.Prelude.{nat_abs}
 use Rattle.std.proofs.lemmas.Int.{ints, unsigned_abs-mul}

@@ -1,4 +1,4 @@
--- e_k, h_k and p_k as sums of the products of e_i and h_(k-i).
+-- e_k, h_k and p_k as sums of multiples of the products e_i·h_(k-i).
 use Rattle.std.proofs.Common.{◌≡◌, ◌⊎◌, ℕ, zero, suc, ◌+◌, ◌-◌, ◌<◌, ◌≤◌, Bool, true, false, ◌&&◌, cond, ◌==◌, leb, List, length, refl, sym, ap, ap₂, ◌∙◌, inl, inr, arith, ℤ, pos, negsuc, neg_ℤ, ◌+ℤ◌, ◌*ℤ◌, flat_map}
 use Rattle.std.proofs.lemmas.Bool.{cases_eq, cases_lt, eq-eqb, ne_eqb, le-leb, lt-leb, eqb-true}
 use Rattle.std.proofs.lemmas.Int.{ints}
@@ -16,12 +16,13 @@ use Rattle.sym_model.proofs.Monomials.{coefficient-monomials, In-monomials}
 use Rattle.monomial_laws.specs.MonomialProduct.{splits}
 use Rattle.monomial_laws.proofs.Splits.{coefficient_times, length-splits}
 use Rattle.monomial_laws.proofs.Arrangements.{sizes-splits}
-use Rattle.family_list_laws.proofs.AlternatingSums.{low_total, low_total-ext, low_total-add, low_total-scale, at_zero, signs, rest_signs, rests_none, firsts_none, signed_rests, signed_firsts, nothing_either}
+use Rattle.family_list_laws.proofs.AlternatingSums.{low_total, low_total-ext, low_total-add, low_total-scale, at_zero, signs, rest_signs, rests_none, firsts_none, signed_rests, signed_firsts}
 use lib.IntN.{*ℤ-zero, +ℤ_idr}
+use Rattle.sym_model.proofs.Integers.{nothing_either, tests_exchanged}
 
--- ---- the product of one e_a and one h_b
+-- ---- the coefficients of the product of one e_a and one h_b
 
--- 1 if p = a and q = b, else 0
+-- 1 if p = a and q = b, and 0 otherwise
 abbrev at_sizes : ℕ → ℕ → ℕ → ℕ → ℤ
 at_sizes a b p q = cond (p == a) (cond (q == b) (pos 1) (pos 0)) (pos 0)
 
@@ -55,10 +56,10 @@ product-sizes n a b α long =
     by false false true = refl
     by false false false = refl
 
--- ---- the sum of all products e_i·h_(k-i), with weights
+-- ---- the coefficients of sums of multiples of products e_a·h_b
 
--- if, for the splits of α into sizes p and q, the sum of the v(i) with x(i) = p and y(i) = q is W(p, q) if |α| = k and 0 if
--- not, then Σ v(i)·e_(x(i))·h_(y(i)) has at x^α the sum of W over the splits of α if |α| = k, and otherwise 0
+-- suppose that, for all p, q with p + q = |α|, the sum of the v(i) over those i = 1, .., k for which x(i) = p and y(i) = q is W(p, q) if |α| = k, and
+-- 0 if not. Then the coefficient of x^α in the sum of v(i)·e_(x(i))·h_(y(i)) over i = 1, .., k is `low_total W α` if |α| = k, and 0 if not
 weighted : (n k : ℕ) (x y : ℕ → ℕ) (v : ℕ → ℤ) (W : ℕ → ℕ → ℤ) (α : List ℕ) → length α ≡ n
     → ((p q : ℕ) → p + q ≡ size α → total (λ (i : ℕ). v i *ℤ at_sizes (x i) (y i) p q) (after 0 k)
     ≡ cond (size α == k) (W p q) (pos 0))
@@ -98,7 +99,7 @@ weighted n k x y v W α long pick =
     by s false e = total_none (λ (i : ℕ). v i *ℤ pos 0) (after 0 k) (λ i m. *ℤ-zero (v i))
         ∙ sym (nothing_either (size α == k))
 
--- sums over i from 1 to k in which only one summand is not 0, that for which the two sizes are i and k - i
+-- sums over i from 1 to k in which at most one summand is not 0
 module _ (k : ℕ) (v : ℕ → ℤ) where
   picked : (m i₀ : ℕ) (f : ℕ → ℤ) → m ≡ k
       → ((i : ℕ) → Among i (after 0 k) → (i ≡ i₀ → ⊥) → f i ≡ pos 0)
@@ -154,19 +155,12 @@ module _ (k : ℕ) (v : ℕ → ℤ) where
   pick-first m p q s =
       total_ext (λ (i : ℕ). v i *ℤ at_sizes i (k - i) p q)
       (λ (i : ℕ). v i *ℤ at_sizes (k - i) i q p)
-      (λ i. ap (λ z. v i *ℤ z) (turned (p == i) (q == (k - i)))) (after 0 k)
+      (λ i. ap (λ z. v i *ℤ z) (tests_exchanged (p == i) (q == (k - i)) (pos 1))) (after 0 k)
       ∙ pick-second m q p (omega arith)
-    where
-      turned : (t u : Bool) → cond t (cond u (pos 1) (pos 0)) (pos 0)
-          ≡ cond u (cond t (pos 1) (pos 0)) (pos 0)
-      turned true true = refl
-      turned true false = refl
-      turned false true = refl
-      turned false false = refl
 
--- ---- e_k, h_k and p_k as four weighted sums of products
+-- ---- e_k, h_k and p_k as sums of multiples of products of e_i and h_(k-i): four sums, p_k in two ways
 
--- the sum of v(i)·G_(k-i)·P_i over i = 1, .., k
+-- the sum of v(i)·G_(k-i)·P_i over i = 1, .., k, in n variables
 abbrev pub scaled_products : (ℕ → ℤ) → (ℕ → ℕ → Poly) → (ℕ → ℕ → Poly) → ℕ → ℕ → Poly
 scaled_products v G P k n = flat_map (λ i. scale (v i) (times (G (k - i) n) (P i n))) (after 0 k)
 
@@ -194,9 +188,9 @@ all : (n i : ℕ) → In n (complete_of i n)
 all n i = In-monomials (λ β. true) n i
 
 module _ (k n : ℕ) (some : 0 < k) where
-  -- if the sum of the v(i) with x(i) = p and y(i) = q is W(p, q) for p + q = k and 0 for other p + q, and W adds up over the
-  -- splits of α, for |α| = k, to 1 if α passes the test, else to 0, then the sum of the monomials of degree k that pass the
-  -- test has at x^α the coefficient of Σ v(i)·e_(x(i))·h_(y(i))
+  -- suppose that, for all p, q, the sum of the v(i) over those i = 1, .., k for which x(i) = p and y(i) = q is W(p, q) if p + q = k, and 0 if not,
+  -- and that, if |α| = k, `low_total W α` is 1 if α passes the test, and 0 if not. Then x^α has the same coefficient in the sum of the monomials of
+  -- degree k that pass the test and in the sum of v(i)·e_(x(i))·h_(y(i)) over i = 1, .., k
   summed : (test : List ℕ → Bool) (x y : ℕ → ℕ) (v : ℕ → ℤ) (W : ℕ → ℕ → ℤ) (α : List ℕ) → length α
       ≡ n
       → ((m p q : ℕ) → p + q ≡ m → total (λ (i : ℕ). v i *ℤ at_sizes (x i) (y i) p q) (after 0 k)
@@ -217,7 +211,7 @@ module _ (k n : ℕ) (some : 0 < k) where
       by true e = sym (value (eqb-true (size α) k e))
       by false e = refl
 
-  -- (-1)^(i-1) for i ≥ 1, and 0 for i = 0, is -(-1)^i, plus 1 at i = 0
+  -- for i ≥ 1, (-1)^(i-1) = 0 - (-1)^i, and for i = 0, 0 = 1 - (-1)^i
   turned : (i : ℕ) → cond (leb 1 i) (minus_one_to (i - 1)) (pos 0)
       ≡ at_zero i +ℤ negsuc 0 *ℤ minus_one_to i
   turned zero = refl
@@ -354,7 +348,7 @@ module _ (k n : ℕ) (some : 0 < k) where
           ∙ sym (ap (λ z. negsuc 0 *ℤ z) (negation-product (minus_one_to p) (pos (suc p)))
           ∙ again (minus_one_to p *ℤ pos (suc p)))
 
--- ---- pairings of a sum of products with a test function
+-- ---- the sum of φ over the terms of `scaled_products` (`pair`), for a function φ of exponent lists
 
 pub pair-products : (v : ℕ → ℤ) (G P : ℕ → ℕ → Poly) (k n : ℕ) (f : Poly)
     → Same f (scaled_products v G P k n) → (φ : List ℕ → ℤ)

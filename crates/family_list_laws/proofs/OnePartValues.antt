@@ -1,4 +1,4 @@
--- The lists of e_k, h_k and p_k with closed coefficients (specs/OnePartLists).
+-- The lists of e_k, h_k and p_k with the closed coefficients of specs/OnePartLists, proved by induction on k in n variables.
 use Rattle.std.proofs.Common.{◌≡◌, ℕ, zero, suc, ◌+◌, ◌-◌, ◌*◌, ◌<◌, ◌≤◌, true, cond, List, [], ◌∷◌, length, refl, sym, ap, ap₂, ◌∙◌, arith, ℤ, pos, neg_ℤ, ◌*ℤ◌, flat_map}
 use Rattle.std.proofs.lemmas.Int.{ints}
 use Rattle.sym_model.specs.Sum.{total}
@@ -25,9 +25,9 @@ use Rattle.family_list_laws.proofs.OnePartSums.{scaled_products, pair-products, 
 use lib.IntN.{+ℤ_idr}
 use Rattle.std.proofs.Math.Nat.{mul_comm}
 
--- ---- the sign of a partition with a part removed
+-- ---- the sign (-1)^(k - l) of a partition of k with l parts, after a part is removed
 
--- removing a part i from μ multiplies the parity sign of μ by (-1)^(i-1)
+-- if i is a part of the partition μ, then (-1)^(i-1) times the parity sign of μ without one i is the parity sign of μ
 sign-taken : (i : ℕ) (μ : List ℕ) → IsPartition μ → has i μ ≡ true
     → minus_one_to (i - 1) *ℤ parity_sign (without_one i μ) ≡ parity_sign μ
 sign-taken i μ p e =
@@ -64,7 +64,7 @@ sign-left i μ p e =
     (sign-square (size (without_one i μ) - length (without_one i μ)))
     ∙ product-one (minus_one_to (length μ - 1))
 
--- ---- a partition of a positive number has a part
+-- ---- a list with a positive sum has at least one entry
 
 pub some_part : (k : ℕ) (μ : List ℕ) → 0 < k → size μ ≡ k → suc (length μ - 1) ≡ length μ
 some_part k [] h e = absurd (omega arith)
@@ -78,7 +78,7 @@ up_to k μ f e = ap (λ n. total f (after 0 n)) e
 four : (a b c d : ℤ) → (a *ℤ b) *ℤ (c *ℤ d) ≡ (a *ℤ c) *ℤ (b *ℤ d)
 four a b c d = simp ring (omega (arith, ints))
 
--- ---- the closed coefficients as sums
+-- ---- the closed coefficients of a partition μ as sums over its different parts i of coefficients of μ without one i
 
 orders-closed : (k : ℕ) (μ : List ℕ) → 0 < k → IsPartition μ → size μ ≡ k
     → signed_orders μ
@@ -125,8 +125,8 @@ power-elementary-closed k μ h p e =
     ∙ up_to k μ (λ (i : ℕ). cond (has i μ)
     ((minus_one_to (i - 1) *ℤ pos i) *ℤ signed_orders (without_one i μ)) (pos 0)) e
 
--- if σ(i)·τ(μ without i) = τ(μ) for each part i of a partition μ, then for partitions μ of k > 0, τ(μ)·k!/z_μ is the sum
--- over the different parts i of μ of σ(i)·(k - 1)!/(k - i)! times τ(ρ)·(k - i)!/z_ρ, with ρ being μ without one part i
+-- let σ(i)·τ(μ without one i) = τ(μ) for each part i of each partition μ. Then, for a partition μ of k > 0, τ(μ)·k!/z_μ is the sum, over the
+-- different parts i of μ, of σ(i)·(k - 1)!/(k - i)! times τ(ρ)·(k - i)!/z_ρ; here ρ is μ without one i
 cycles-closed : (σ : ℕ → ℤ) (τ : List ℕ → ℤ)
     → ((i : ℕ) (μ : List ℕ) → IsPartition μ → has i μ ≡ true → σ i *ℤ τ (without_one i μ) ≡ τ μ)
     → (k : ℕ) (μ : List ℕ) → 0 < k → IsPartition μ → size μ ≡ k
@@ -145,7 +145,7 @@ cycles-closed σ τ turn k μ h p e =
     ((σ i *ℤ pos (rise k i)) *ℤ (τ (without_one i μ) *ℤ pos (cycle_type_count (without_one i μ))))
     (pos 0)) e
 
--- ---- the lists of a family in another one, with closed coefficients
+-- ---- lists of terms with closed coefficients, by induction on k
 
 nothing-left : (P : ℕ → ℕ → Poly) (n : ℕ) (c : List ℕ → ℤ) (f : Poly) → c [] ≡ pos 1
     → Same f (one n) → IsSumOver P n 0 c 1 f
@@ -153,7 +153,8 @@ unfolding partitions_within
 nothing-left P n c f e h φ = +ℤ_idr (c [] *ℤ pair (one n) φ)
     ∙ ap₂ ◌*ℤ◌ e (sym (pair_determined f (one n) φ h))
 
--- if f is Σ v(i)·G_(k-i)·P_i over i = 1, .., k, the pairing of f with φ is Σ v(i) times the pairing of G_(k-i)·P_i with φ
+-- if f is Σ v(i)·G_(k-i)·P_i over i = 1, .., k, then for each φ, `pair f φ` is the sum over i of v(i) times the pairing (`pair`) of G_(k-i)·P_i with
+-- φ
 whole-sum : (v : ℕ → ℤ) (G P : ℕ → ℕ → Poly) (k n : ℕ) (f : Poly)
     → Same f (scaled_products v G P k n) → (φ : List ℕ → ℤ)
     → pos 1 *ℤ pair f φ
@@ -165,8 +166,8 @@ whole-sum v G P k n f e φ =
     (λ (i : ℕ). v i *ℤ (pos 1 *ℤ pair (times (G (k - i) n) (P i n)) φ))
     (λ i. ap (λ z. v i *ℤ z) (sym (one-product (pair (times (G (k - i) n) (P i n)) φ)))) (after 0 k)
 
--- if G_0 = 1 and G_k = Σ (-1)^(i-1)·G_(k-i)·P_i over i = 1, .., k for each k > 0, then G_k is the sum over the partitions μ
--- of k of `signed_orders` μ times the product of the P_a over the parts a of μ
+-- if G_0 = 1 and, for each k > 0, G_k is the sum of (-1)^(i-1)·G_(k-i)·P_i over i = 1, .., k, then G_k is the sum, over the partitions μ of k, of
+-- `signed_orders` μ times the product of the P_a over the parts a of μ
 family-list : (G P : ℕ → ℕ → Poly) (n : ℕ) → Same (G 0 n) (one n)
     → ((k : ℕ) → 0 < k → Same (G k n) (scaled_products (λ i. minus_one_to (i - 1)) G P k n))
     → (d k : ℕ) → k ≤ d → IsSumOver P n k signed_orders 1 (G k n)
@@ -214,10 +215,10 @@ power-in-elementary k n h =
     (power-elementary-sum k n h))
     (λ μ p e. power-elementary-closed k μ h p e)
 
--- ---- the lists of e_k and h_k in power sums, with closed coefficients
+-- ---- the lists of k!·e_k and k!·h_k in power sums, with closed coefficients
 
--- if G satisfies Newton's identities with the signs σ and k > 0, then k!·G_k = Σ σ(i)·(k - 1)!/(k - i)!·(k - i)!·G_(k-i)·p_i
--- over i = 1, .., k, paired with any test function φ
+-- if G satisfies Newton's identities with the signs σ, and k > 0, then the pairing of k!·G_k with φ is the sum, over i = 1, .., k, of σ(i)·(k -
+-- 1)!/(k - i)! times the pairing of (k - i)!·G_(k-i)·p_i with φ
 newton-sum : (G : ℕ → ℕ → Poly) (σ : ℕ → ℤ) → IsNewton G σ → (k n : ℕ) → 0 < k → (φ : List ℕ → ℤ)
     → pos (factorial k) *ℤ pair (G k n) φ
     ≡ total (λ (i : ℕ). (σ i *ℤ pos (rise k i)) *ℤ

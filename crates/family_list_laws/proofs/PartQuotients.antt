@@ -1,4 +1,4 @@
--- The closed coefficients of specs/OnePartLists at a partition, from those at the partitions with one part less.
+-- The closed coefficients of specs/OnePartLists at a partition μ, computed from those at the partitions that are μ without one part.
 use Rattle.std.proofs.Common.{◌≡◌, ◌⊎◌, ℕ, zero, suc, ◌+◌, ◌-◌, ◌*◌, ◌/◌, ◌<◌, ◌≤◌, Bool, true, false, cond, eqb, List, [], ◌∷◌, map, length, refl, sym, ap, ap₂, ◌∙◌, inl, inr, arith, ℤ, pos, ◌+ℤ◌, ◌*ℤ◌}
 use Rattle.std.proofs.lemmas.Bool.{cases_eq, cases_lt, eq-eqb, ne_eqb, both_ways, true≢false}
 use Rattle.std.proofs.lemmas.Int.{ints}
@@ -20,8 +20,10 @@ use Rattle.family_list_laws.specs.OnePartLists.{orders_of_parts, sized_orders, p
 use lib.IntN.{zero-*ℤ, *ℤ-zero}
 use native.Mathlib.Nat.{eq_of_mul-eq-mul_right, mul-pos}
 use Rattle.std.proofs.Math.Nat.{mul_assoc, mul_comm, mul_left_comm}
+use Rattle.sym_model.proofs.Integers.{pos-cond}
+use Rattle.monomial_laws.proofs.Growths.{factorial-step}
 
--- ---- sums over the numbers up to k, each counted with its multiplicity
+-- ---- sums over the parts of a partition, and over its different parts with their multiplicities
 
 pub total-parts : (y : ℕ → ℤ) (k : ℕ) (μ : List ℕ) → ((j : ℕ) → Among j μ → (0 < j) × (j ≤ k))
     → total (λ (i : ℕ). pos (times_in i μ) *ℤ y i) (after 0 k) ≡ total y μ
@@ -40,7 +42,7 @@ total-parts y k (j ∷ μ) h =
     ∙ ap (λ (t : Bool). cond t (y j) (pos 0)) (eq-eqb j j refl))
     (total-parts y k μ (λ i m. h i (inr m)))
 
--- every number of a list μ of positive numbers is positive, and at most the sum of μ
+-- if all entries of a list μ are positive, each is at most the sum of μ
 pub parts-within : (μ : List ℕ) → ArePositive μ → (j : ℕ) → Among j μ → (0 < j) × (j ≤ size μ)
 parts-within [] p j m = absurd m
 parts-within (a ∷ μ) p j (inl e) = let q = p.0 in (omega arith, omega arith)
@@ -57,8 +59,8 @@ unfolding add_up
 total-add_up f [] = refl
 total-add_up f (i ∷ numbers) = let e = total-add_up f numbers in omega (arith, ints)
 
--- for a partition μ whose part i has the multiplicity m_i: if x(i)·M = m_i·y(i) for each part i, and N is the sum of y over all parts, each as often as
--- it occurs, then M divides N, and N/M is the sum of the x(i) over the different parts
+-- let μ be a partition with the multiplicities m_i of its parts i. If x(i)·M = m_i·y(i) for each part i, and N is the sum of y over all parts of μ
+-- (counted with multiplicity), then M divides N, and N/M is the sum of x(i) over the different parts i
 pub quotient-parts : (M N : ℕ) (x y : ℕ → ℕ) (μ : List ℕ) → 0 < M → IsPartition μ
     → ((i : ℕ) → has i μ ≡ true → x i * M ≡ times_in i μ * y i) → pos N
     ≡ total (λ (j : ℕ). pos (y j)) μ
@@ -66,7 +68,7 @@ pub quotient-parts : (M N : ℕ) (x y : ℕ → ℕ) (μ : List ℕ) → 0 < M �
     ≡ pos (N / M)) × (N / M * M ≡ N)
 quotient-parts M N x y μ some p each sum = (
   total_ext (λ (i : ℕ). cond (has i μ) (pos (x i)) (pos 0))
-      (λ (i : ℕ). pos (cond (has i μ) (x i) 0)) (λ i. inside (has i μ) (x i)) (after 0 (size μ))
+      (λ (i : ℕ). pos (cond (has i μ) (x i) 0)) (λ i. sym (pos-cond (has i μ) (x i))) (after 0 (size μ))
       ∙ total-add_up (λ (i : ℕ). cond (has i μ) (x i) 0) (after 0 (size μ))
       ∙ ap pos (eq_of_mul-eq-mul_right M some all (N / M) (whole ∙ sym exact)),
   exact,
@@ -74,10 +76,6 @@ quotient-parts M N x y μ some p each sum = (
   where
     all : ℕ
     all = add_up (λ (i : ℕ). cond (has i μ) (x i) 0) (after 0 (size μ))
-
-    inside : (b : Bool) (a : ℕ) → cond b (pos a) (pos 0) ≡ pos (cond b a 0)
-    inside true a = refl
-    inside false a = refl
 
     one : (i : ℕ) (b : Bool) → has i μ ≡ b → M * cond b (x i) 0 ≡ times_in i μ * y i
     one i true e = mul_comm M (x i) ∙ each i e
@@ -104,7 +102,7 @@ quotient-parts M N x y μ some p each sum = (
     exact : N / M * M ≡ N
     exact = quotient-is all M N whole
 
--- ---- a partition with the part i removed
+-- ---- a partition μ without one part i: multiplicities, number of parts, product of the parts
 
 module _ (i : ℕ) (μ : List ℕ) (p : IsPartition μ) (e : has i μ ≡ true) where
   pub part-positive : 0 < i
@@ -158,7 +156,7 @@ product-positive (a ∷ μ) p = mul-pos p.0 (product-positive μ p.1)
 pub centralizer-positive : (μ : List ℕ) → IsPartition μ → 0 < centralizer μ
 centralizer-positive μ p = mul-pos (product-positive μ p.positive) (multiplicities-positive μ)
 
--- `orders_of_parts`, `sized_orders` and `cycle_type_count` as sums over the parts
+-- `orders_of_parts`, `sized_orders` and `cycle_type_count` of a partition as sums over its different parts
 
 scaled-sizes : (c : ℕ) (μ : List ℕ) → total (λ (j : ℕ). pos (j * c)) μ ≡ pos (size μ * c)
 scaled-sizes c [] = ap pos (let e : 0 ≡ 0 * c = omega arith in e)
@@ -201,8 +199,8 @@ pub orders-sum : (l : ℕ) (μ : List ℕ) → IsPartition μ → length μ ≡ 
     (after 0 (size μ)) ≡ pos (orders_of_parts μ)
 orders-sum l μ p e = (orders-both l μ p e (orders-exact l)).0
 
--- for a partition μ with a part, `sized_orders` μ is the sum, over the different parts i of μ, of i times `orders_of_parts`
--- of μ without one part i; times the product of the factorials of the multiplicities it is |μ|·(length μ - 1)!
+-- for a partition μ with at least one part, `sized_orders` μ is the sum, over the different parts i of μ, of i times `orders_of_parts` of μ without
+-- one i; and `sized_orders` μ times the product of the factorials of the multiplicities is |μ|·(l - 1)!, l being the number of parts
 pub sized-orders : (l : ℕ) (μ : List ℕ) → IsPartition μ → length μ ≡ suc l
     → (total (λ (i : ℕ). cond (has i μ) (pos (i * orders_of_parts (without_one i μ))) (pos 0))
     (after 0 (size μ)) ≡ pos (sized_orders μ))
@@ -218,12 +216,12 @@ sized-orders l μ p e =
     ((let d : length μ - 1 ≡ l = omega arith in ap (λ n. pos (size μ * factorial n)) d)
     ∙ sym (scaled-sizes (factorial l) μ))
 
--- (k - 1)!/(k - i)!
+-- `rise k i`: (k - 1)!/(k - i)!
 abbrev pub rise : ℕ → ℕ → ℕ
 rise k i = factorial (k - 1) / factorial (k - i)
 
--- `cycle_type_count` μ, which is k!/z_μ, is the sum, over the different parts i of μ, of (k - 1)!/(k - i)! times `cycle_type_count` of μ without one
--- part i
+-- for a partition μ of k with at least one part, `cycle_type_count` μ, which is k!/z_μ, is the sum, over the different parts i of μ, of (k - 1)!/(k -
+-- i)! times `cycle_type_count` of μ without one part i
 module _ (l : ℕ) (μ : List ℕ) (p : IsPartition μ) (long : length μ ≡ suc l)
     (before : (ρ : List ℕ) → IsPartition ρ → length ρ ≡ l → cycle_type_count ρ * centralizer ρ
     ≡ factorial (size ρ)) where
@@ -257,14 +255,10 @@ module _ (l : ℕ) (μ : List ℕ) (p : IsPartition μ) (long : length μ ≡ su
       (λ i. rise (size μ) i * cycle_type_count (without_one i μ))
       (λ j. j * factorial (size μ - 1)) μ
       (centralizer-positive μ p) p cycles-taken
-      (ap pos (first (size μ) some) ∙ sym (scaled-sizes (factorial (size μ - 1)) μ))
+      (ap pos (factorial-step (size μ) some) ∙ sym (scaled-sizes (factorial (size μ - 1)) μ))
     where
       some : 0 < size μ
       some = omega (arith, rows_within_size μ p.positive)
-
-      first : (k : ℕ) → 0 < k → factorial k ≡ k * factorial (k - 1)
-      first zero h = absurd (omega arith)
-      first (suc k) h = let d : k ≡ suc k - 1 = omega arith in ap (λ n. suc k * factorial n) d
 
 pub cycles-exact : (l : ℕ) (μ : List ℕ) → IsPartition μ → length μ ≡ l
     → cycle_type_count μ * centralizer μ ≡ factorial (size μ)
@@ -277,7 +271,7 @@ pub cycles-sum : (l : ℕ) (μ : List ℕ) → IsPartition μ → length μ ≡ 
     (pos 0)) (after 0 (size μ)) ≡ pos (cycle_type_count μ)
 cycles-sum l μ p e = (cycles-both l μ p e (cycles-exact l)).0
 
--- ---- the closed coefficients with signs, as sums over the parts
+-- ---- the closed coefficients of a partition with their signs, as sums over its different parts
 
 pub signed-sum : (μ : List ℕ) (σ : ℤ) (s : ℕ → ℤ) (before : List ℕ → ℤ) (x : ℕ → ℕ) (X : ℕ)
     → ((i : ℕ) → has i μ ≡ true → s i *ℤ before (without_one i μ) ≡ σ *ℤ pos (x i))

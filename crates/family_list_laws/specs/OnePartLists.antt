@@ -1,5 +1,4 @@
--- e_k, h_k and p_k as lists in e, h and p, with coefficients in closed form (Macdonald, I.2 and the examples
--- there).
+-- e_k, h_k and p_k as lists of terms in another of the bases e, h and p, with coefficients in closed form (Macdonald, I.2 and the examples there).
 use Rattle.std.specs.Prelude.{ℕ, ◌-◌, ◌*◌, ◌/◌, ℤ, pos, ◌*ℤ◌, List, [], ◌∷◌, map, length}
 use Rattle.sym_model.specs.Partition.{size}
 use Rattle.sym_model.specs.PartitionList.{partitions_of}
@@ -8,7 +7,7 @@ use Rattle.sym_model.specs.WholeTerms.{WholeTerms}
 use Rattle.sym_model.specs.Weight.{factorial}
 use Rattle.basis_change_laws.specs.AugmentedMonomial.{multiplicity_factorials}
 
--- l!/Π m_i!, for l parts with the multiplicities m_i: the number of distinct orders of the parts
+-- l!/Π m_i! for a partition with l parts of the multiplicities m_i: the number of distinct orders of its parts
 abbrev pub orders_of_parts : List ℕ → ℕ
 orders_of_parts μ = factorial (length μ) / multiplicity_factorials μ
 
@@ -16,12 +15,12 @@ orders_of_parts μ = factorial (length μ) / multiplicity_factorials μ
 abbrev pub sized_orders : List ℕ → ℕ
 sized_orders μ = size μ * factorial (length μ - 1) / multiplicity_factorials μ
 
--- the product of the parts
+-- the product of the parts of a partition
 abbrev pub product_of_parts : List ℕ → ℕ
 product_of_parts [] = 1
 product_of_parts (a ∷ μ) = a * product_of_parts μ
 
--- z_μ: the product of the parts and of the factorials of the multiplicities
+-- z_μ: the product of the parts of μ, times the product of the factorials of the multiplicities of the parts
 abbrev pub centralizer : List ℕ → ℕ
 centralizer μ = product_of_parts μ * multiplicity_factorials μ
 
@@ -37,6 +36,6 @@ parity_sign μ = minus_one_to (size μ - length μ)
 abbrev pub signed_orders : List ℕ → ℤ
 signed_orders μ = parity_sign μ *ℤ pos (orders_of_parts μ)
 
--- the partitions μ of k, each with the coefficient c(μ)
+-- `list_over c k`: the list of the partitions μ of k, each with the coefficient c(μ)
 abbrev pub list_over : (List ℕ → ℤ) → ℕ → WholeTerms
 list_over c k = map (λ μ. (μ, c μ)) (partitions_of k)

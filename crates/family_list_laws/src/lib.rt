@@ -1,4 +1,4 @@
-//! The polynomials e_k, h_k and p_k as lists in another of the families e, h and p, with
+//! The polynomials e_k, h_k and p_k as lists of terms in another of the bases e, h and p, with
 //! coefficients in closed form.
 //!
 //! A law function takes no argument, returns nothing and does nothing at run time: its contract is
@@ -6,8 +6,8 @@
 //!
 //! What is proved:
 //!
-//! `one_part_list_law`: e_k, h_k and p_k in e, h and p, by closed coefficients.
-//! `exact_quotient_law`: the quotients in these coefficients are exact.
+//! `one_part_list_law`: e_k in h and p, h_k in e and p, and p_k in h and e, with coefficients in
+//! closed form. `exact_quotient_law`: the quotients in these coefficients are integers.
 #![tactic(auto)]
 
 mod lists;

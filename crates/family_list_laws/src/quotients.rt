@@ -1,4 +1,4 @@
-//! The quotients in the closed coefficients.
+//! The quotients in the closed coefficients of e_k, h_k and p_k are integers.
 
 ghost use Rattle.std.specs.Prelude.{◌≡◌, ℕ, ◌-◌, ◌*◌, ◌<◌, List, length};
 ghost use Rattle.sym_model.specs.Partition.{IsPartition, size};
@@ -7,8 +7,8 @@ ghost use Rattle.basis_change_laws.specs.AugmentedMonomial.{multiplicity_factori
 ghost use Rattle.family_list_laws.specs.OnePartLists.{orders_of_parts, sized_orders, centralizer};
 ghost use Rattle.family_list_laws.specs.OnePartLists.{cycle_type_count};
 
-/// l!/Π m_i!, k·(l - 1)!/Π m_i! and k!/z_μ are integers, for a partition μ of k with l parts of the
-/// multiplicities m_i; the second for l ≥ 1.
+/// For a partition μ of k with l parts of the multiplicities m_i, l!/Π m_i! and k!/z_μ are
+/// integers, and so is k·(l - 1)!/Π m_i! if l ≥ 1.
 pub fn exact_quotient_law()
     ensures orders { (μ : List ℕ) → IsPartition μ
         → orders_of_parts μ * multiplicity_factorials μ ≡ factorial (length μ) }

@@ -1,7 +1,7 @@
--- The lists of e_k, h_k and p_k in another family, by closed formulas for the coefficients.
+-- The lists of p_k, k!·e_k and k!·h_k in the basis of another family, by closed formulas for the coefficients.
 --     listed-fits                  adding the coefficient of the next label never overflows
---     closed-stands                the polynomial of the whole list
---     scaled-low, sized-low, cycles-low, ..     bounds for the numbers
+--     closed-stands                a table with these coefficients is p_k, k!·e_k or k!·h_k (`IsFactor`)
+--     scaled-low, sized-low, cycles-low, ..     bounds for the absolute values of the coefficients
 use Rattle.std.proofs.Common.{◌≡◌, ℕ, ◌-◌, ◌*◌, ◌<◌, ◌≤◌, ◌^◌, List, [], ◌∷◌, ◌++◌, length, refl, sym, ap, ap₂, ◌∙◌, subst, inl, inr, arith, ℤ, pos, cond, ◌+ℤ◌, ◌*ℤ◌, lit<}
 use Rattle.std.specs.Prelude.{FitsSigned, ◌≢◌}
 use Rattle.std.specs.Int.{w128}
@@ -39,7 +39,7 @@ use Rattle.family_lists.specs.FactorLists.{IsFactor}
 use Rattle.linear_combinations.specs.Gains.{each_by}
 use Rattle.family_lists.proofs.TableLists.{table-stands}
 
--- ---- the list, built partition by partition
+-- ---- the list of the partitions of k with their coefficients, built one partition after another
 
 coefficient-absent : (c : List ℕ → ℤ) (labels : List (List ℕ)) (label : List ℕ)
     → (Among label labels → ⊥) → coefficient (each_by c labels) label ≡ pos 0
@@ -51,7 +51,8 @@ coefficient-absent c labels label n =
     ap (λ b. cond b (c μ) (pos 0))
     (same_apart μ label (λ e. n (subst (λ x. Among x labels) e m))))
 
--- the table of the labels before has no term at the next label, so adding a coefficient there never overflows
+-- if each look-up in `terms` gives c(μ) for a partition μ of k that is listed before `label`, and 0 for all others, adding z to the coefficient of
+-- `label`, which is 0, never overflows
 pub listed-fits : (c : List ℕ → ℤ) (k : ℕ) (before new : List (List ℕ)) (label key : List ℕ)
     (terms : WholeTerms) (z : ℤ)
     → Finds terms (each_by c before) → before ++ (label ∷ new) ≡ partitions_of k → key ≡ label
@@ -68,7 +69,7 @@ listed-fits c k before new label key terms z h e same r =
     (FallsLexicographically-partitions_within k k k)))))
     r
 
--- ---- the polynomial of the whole list
+-- ---- the list of all partitions of k with their coefficients, as a polynomial
 
 listed-same : (c d : List ℕ → ℤ) (labels : List (List ℕ))
     → ((μ : List ℕ) → Among μ labels → c μ ≡ d μ) → each_by c labels ≡ each_by d labels
@@ -104,7 +105,7 @@ exchanged-stands P k f s =
     (stands-raised P 1 (2 ^ k) (factorial k * 2 ^ k) k (factorial k) (factorial k) f
     (list_over signed_orders k) s one (omega arith))
 
--- ---- e_k and h_k in p, times k!
+-- ---- the lists of p_k, k!·e_k and k!·h_k in the basis of another family
 more : (k : ℕ) → factorial k ≤ factorial k * 2 ^ k
 more k = times-more (factorial k) (2 ^ k) (power-positive 2 k (omega arith))
 
@@ -141,7 +142,7 @@ closed-stands target family k terms n h is e =
     table-stands terms (each_by (closed_coefficient target family) (partitions_of k)) is e
     (polynomial_of target) _ _ k (λ n. polynomial_of family k n) (closed-list target family k n h)
 
--- ---- bounds for the coefficients
+-- ---- bounds for the absolute values of the coefficients, for partitions of at most 20 cells
 
 pub some_row : (label : List ℕ) → 0 < size label → 0 < length label
 some_row [] h = absurd (omega arith)

@@ -1,5 +1,5 @@
--- The factorials of the multiplicities of a partition, from its last place to the first.
---     counted-end, counted-next, counted-all     the invariant at each place
+-- The product of the factorials of the multiplicities of the parts of a partition, computed from the last part to the first.
+--     counted-end, counted-next, counted-all     the invariant at each index
 --     multiplicities-low, centralizer-low        bounds for the products
 use Rattle.std.proofs.Common.{◌≡◌, ◌⊎◌, ℕ, zero, suc, ◌+◌, ◌*◌, ◌<◌, ◌≤◌, ◌^◌, List, [], ◌∷◌, length, get_or, drop, refl, sym, ap, ap₂, ◌∙◌, subst, inl, inr, arith, lit<, drop-cons}
 use Rattle.std.proofs.Math.ListN.{drop_of_length-le, get_or-eq_default}
@@ -17,10 +17,11 @@ use Rattle.basis_change_laws.proofs.AugmentedMonomials.{multiplicity_factorials-
 use Rattle.family_list_laws.specs.OnePartLists.{orders_of_parts, cycle_type_count, centralizer, product_of_parts}
 use Rattle.family_list_laws.proofs.PartQuotients.{multiplicities-positive, centralizer-positive, orders-whole, cycles-whole}
 use Rattle.family_lists.proofs.MergedLists.{positive-drop, falls-drop}
+use Rattle.std.proofs.Math.Nat.{mul_comm, mul_assoc}
+use Rattle.sym_model.proofs.Parts.{size-drop}
 
--- ---- bounds for the products of factorials and of parts
+-- ---- bounds for the product of the factorials of the multiplicities and for the product of the parts
 
--- a factor m of a positive number is at most each upper bound of that number
 factor-low : (n m whole most : ℕ) → n * m ≡ whole → 0 < whole → whole ≤ most → m ≤ most
 factor-low zero m whole most e h l = absurd (let z : 0 * m ≡ 0 = omega arith in omega arith)
 factor-low (suc n) m whole most e h l =
@@ -48,12 +49,7 @@ product-low label p low =
     (multiplicities-positive label) in
     omega arith
 
--- ---- the parts of a partition from a place on
-
-size-drop : (i : ℕ) (parts : List ℕ) → size (drop i parts) ≤ size parts
-size-drop zero parts = omega arith
-size-drop (suc i) [] = omega arith
-size-drop (suc i) (a ∷ parts) = let h = size-drop i parts in omega arith
+-- ---- the parts of a partition from the index i on are a partition
 
 pub rest-partition : (i : ℕ) (parts : List ℕ) → IsPartition parts → IsPartition (drop i parts)
 rest-partition i parts p =
@@ -65,9 +61,9 @@ rest-low i parts p low =
     multiplicities-low (drop i parts)
     (rest-partition i parts p) (let s = size-drop i parts in omega arith)
 
--- ---- the invariant, from the last place to the first
+-- ---- the invariant `Counted` of the loop over the parts, from the last part to the first
 
--- if a is greater than all of the weakly decreasing parts, it is not one of them
+-- if a is greater than the first of weakly decreasing parts, a does not occur among them
 none_above : (a : ℕ) (parts : List ℕ) → Falls parts → get_or parts 0 0 < a → times_in a parts ≡ 0
 none_above a [] f h = refl
 none_above a (b ∷ []) f h = times_in-other a b [] (λ e. omega arith)
@@ -75,7 +71,8 @@ none_above a (b ∷ c ∷ parts) f h =
     times_in-other a b (c ∷ parts) (λ e. omega arith)
     ∙ none_above a (c ∷ parts) f.1 (let g = f.0 in omega arith)
 
--- of the parts from index `at` on: `product` is the product of the factorials of their multiplicities, `next` the first of them, `times` its multiplicity
+-- for the parts from index `at` on: `product` is the product of the factorials of their multiplicities, `next` is the first of them, and `times` is
+-- the multiplicity of `next` among them
 pub record Counted (parts : List ℕ) (product next times at : ℕ) : Type 0 where
   pub product_is : product ≡ multiplicity_factorials (drop at parts)
   pub next_is : next ≡ get_or parts at 0
@@ -128,18 +125,16 @@ module _ (parts : List ℕ) (product next times i at now : ℕ) (p : IsPartition
   pub counted-product : product * now ≡ multiplicity_factorials (drop i parts)
   counted-product =
       ap₂ ◌*◌ inv.product_is now-is
-      ∙ turned (multiplicity_factorials (drop at parts)) (times_in (get_or parts i 0) (drop i parts))
+      ∙ mul_comm (multiplicity_factorials (drop at parts)) (times_in (get_or parts i 0) (drop i parts))
       ∙ ap (λ l. times_in (get_or parts i 0) l * multiplicity_factorials (drop at parts)) split
       ∙ sym (ap multiplicity_factorials split
       ∙ multiplicity_factorials-cons (get_or parts i 0) (drop at parts))
-    where
-      turned : (x y : ℕ) → x * y ≡ y * x
-      turned x y = omega arith
 
   pub counted-next : Counted parts (product * now) (get_or parts i 0) now i
   counted-next = record { product_is = counted-product; next_is = refl; times_is = now-is }
 
-  -- for a partition of at most 20 cells, the product of the factorials so far times the multiplicity `now` is below 2^128
+  -- let `product` be the product of the factorials of the multiplicities of the parts after index i, and `now` the multiplicity of part i among the
+  -- parts from i on: for a partition of at most 20 cells, `product`·`now` is below 2^128
   pub counted-fits : size parts ≤ 20 → product * now < 2 ^ 128
   counted-fits low =
       let r = rest-low i parts p low in
@@ -167,19 +162,16 @@ pub counted-all : (parts : List ℕ) (product next times at : ℕ) → at ≡ 0
 counted-all parts product next times at e inv =
     inv.product_is ∙ ap (λ k. multiplicity_factorials (drop k parts)) e
 
--- ---- the product of the parts, place by place
+-- ---- the product of the parts, computed one part after another
 
 pub product-next : (product whole : ℕ) (parts : List ℕ) (at : ℕ) → at < length parts
     → product * product_of_parts (drop at parts) ≡ whole
     → (product * get_or parts at 0) * product_of_parts (drop (suc at) parts) ≡ whole
 product-next product whole parts at h e =
-    grouped product (get_or parts at 0) (product_of_parts (drop (suc at) parts))
+    mul_assoc product (get_or parts at 0) (product_of_parts (drop (suc at) parts))
     ∙ ap (λ l. product * product_of_parts l) (sym (drop-cons parts at 0 h)) ∙ e
-  where
-    grouped : (x y z : ℕ) → (x * y) * z ≡ x * (y * z)
-    grouped x y z = omega arith
 
--- the product of the parts of a partition of at most 20 cells, up to the part at index `at`, is below 2^128
+-- for a partition of at most 20 cells, the product of the parts at the indices 0 to `at` is below 2^128
 pub product-fits : (product : ℕ) (parts : List ℕ) (at : ℕ) → IsPartition parts → size parts ≤ 20
     → at < length parts → product * product_of_parts (drop at parts) ≡ product_of_parts parts
     → product * get_or parts at 0 < 2 ^ 128

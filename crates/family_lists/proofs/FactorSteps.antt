@@ -1,6 +1,6 @@
--- The lists of p_k, e_k and h_k in the target basis e, h or p (specs/FactorLists).
---     factor-loose                    the list of one factor, with a bound that does not depend on its family
---     own-stands                      the list of a factor of the target family: one term
+-- The lists of p_k, k!·e_k and k!·h_k in a target basis e, h or p (specs/FactorLists).
+--     factor-loose                    the absolute values of the coefficients add up to at most 2^k for p_k, k!·2^k for k!·e_k and k!·h_k
+--     own-stands                      the list in the basis of the family itself: one term
 --     factorial-below                 d! is below 2^127 if d is at most 20
 use Rattle.std.proofs.Common.{◌≡◌, ℕ, ◌-◌, ◌*◌, ◌<◌, ◌≤◌, ◌^◌, [], ◌∷◌, arith, pos, pow-suc, zero, suc, lit<}
 use Rattle.sym_model.specs.Polynomial.{Poly, Same}

@@ -1,8 +1,9 @@
--- Lists that are kept under partitions (specs/KeptLists).
+-- Maps from partitions to values, as lists of entries (specs/KeptLists).
 --     entry_found, none_found     the result of a look-up
---     place-found, place-missed   a partition is at the index that is found, and at no index if none is found
---     lists-kept                  appending a list of its partition keeps the invariant
---     list-found                  the list that is read at the index of a partition
+--     place-found                 if looking up a partition gives an index, the entry at this index has the partition
+--     place-missed                if looking up a partition gives None, no entry has the partition
+--     lists-kept                  if all values have a property for their partitions, this holds after one more entry is appended
+--     list-found                  the property of the value at the index of a partition
 use Rattle.std.proofs.Common.{◌≡◌, ◌⊎◌, ℕ, zero, suc, ◌+◌, ◌<◌, Bool, cond, true, false, List, [], ◌∷◌, ◌++◌, length, get_or, refl, sym, ap, ◌∙◌, subst, inl, inr, arith}
 use Rattle.std.specs.Prelude.{Option, Some, None, IfSome, IfNone, is_some, slice_get, position, nat_eq}
 use Rattle.std.specs.Cmp.Lexicographic.{pointwise, nat_list_eq_equiv}
@@ -15,7 +16,7 @@ use Rattle.sym_model.proofs.Sums.{Among_from_append}
 use Rattle.linear_combinations.specs.Labels.{same_partition}
 use Rattle.family_lists.specs.KeptLists.{AreListsOf, StandsAt, HasKept}
 
--- if a look-up finds the index i, the label of the entry i passes the test
+-- if looking up the first key that passes the test gives the index i, the key of the entry at i passes the test
 pub entry_found : {K V : Type 0} (es : List (K × V)) (test : K → Bool) (i : ℕ) → i < length es → position test (keys_of es) ≡ Some i
     → (p : K × V) × (slice_get es i ≡ Some p) × (test p.0 ≡ true)
 entry_found {K} {V} [] test i l h = absurd (omega arith)
@@ -30,7 +31,7 @@ pub none_found : {A : Type 0} (o : Option A) → false ≡ is_some o → o ≡ N
 none_found None h = refl
 none_found (Some x) h = cc
 
-among-slice : {A : Type 0} (xs : List A) (i : ℕ) (x : A) → slice_get xs i ≡ Some x → Among x xs
+pub among-slice : {A : Type 0} (xs : List A) (i : ℕ) (x : A) → slice_get xs i ≡ Some x → Among x xs
 among-slice {A} [] i x e = cc
 among-slice {A} (y ∷ xs) zero x e = let h : x ≡ y = cc in inl h
 among-slice {A} (y ∷ xs) (suc i) x e = inr (among-slice xs i x e)
@@ -44,7 +45,7 @@ slice-last {A} (y ∷ xs) x (suc i) e = slice-last xs x i (omega arith)
 same_some : {A : Type 0} (x y : A) → Some x ≡ Some y → x ≡ y
 same_some {A} x y e = cc
 
--- a partition is at the index that a look-up finds
+-- if looking up `label` gives an index, the entry at this index has the partition `label`
 pub place-found : {X : Type 0} (lists : List (List ℕ × X)) (label : List ℕ) (found : Option ℕ) → found ≡ position (pointwise nat_eq label) (keys_of lists)
     → IfSome found (λ i. i < length lists) → IfSome found (StandsAt lists label)
 place-found {X} lists label None e within = tt
@@ -52,7 +53,7 @@ place-found {X} lists label (Some i) e within =
     let f = entry_found lists (pointwise nat_eq label) i within (sym e) in
     (f.0.1, f.1 ∙ ap (λ (x : List ℕ). Some (x, f.0.1)) (sym (same_partition label f.0.0 f.2)))
 
--- if a look-up finds nothing, the partition is at no index
+-- if looking up `label` gives None, no entry has the partition `label`
 missed : {X : Type 0} (lists : List (List ℕ × X)) (label : List ℕ) (i at : ℕ) → position_from (pointwise nat_eq label) i (keys_of lists) ≡ None → StandsAt lists label at → ⊥
 missed {X} [] label i at e s = let h = s.1 in cc
 missed {X} (x ∷ lists) label i zero e s =
@@ -71,8 +72,8 @@ pub place-missed : {X : Type 0} (lists : List (List ℕ × X)) (label : List ℕ
 place-missed {X} lists label None e = λ at s. missed lists label 0 at (sym (position_from-zero (pointwise nat_eq label) (keys_of lists)) ∙ sym e) s
 place-missed {X} lists label (Some i) e = tt
 
--- if each list of `old` satisfies `IsListOf` with its partition, and `list` with `label`, so does each list of `new`, which is `old`
--- with or without `list` appended
+-- if `IsListOf` holds of the partition and the value of each entry of `old`, and of `label` and `list`, it holds of each entry of `new`, which is
+-- `old` with or without the entry (label, list) appended
 pub lists-kept : {X : Type 0} (IsListOf : List ℕ → X → Type 0) (old new : List (List ℕ × X)) (label : List ℕ) (list : X)
     → AreListsOf IsListOf old → IsListOf label list → HasKept label list old new → AreListsOf IsListOf new
 lists-kept {X} IsListOf old new label list are is (inl e) l m = are l (subst (Among l) e m)
@@ -83,7 +84,7 @@ lists-kept {X} IsListOf old new label list are is (inr e) l m = by (Among_from_a
     by (inr (inl s)) = subst (λ (x : List ℕ × X). IsListOf x.0 x.1) (sym s) is
     by (inr (inr n)) = absurd n
 
--- if each list satisfies `IsListOf` with its partition, so does the list at the index of `parts` with `parts`
+-- if `IsListOf` holds of the partition and the value of each entry, it holds of `parts` and the value at the index of `parts`
 pub list-found : {X : Type 0} (IsListOf : List ℕ → X → Type 0) (lists : List (List ℕ × X)) (key parts label : List ℕ) (list : X) (at : ℕ) → key ≡ parts
     → AreListsOf IsListOf lists → StandsAt lists key at → slice_get lists at ≡ Some (label, list) → IsListOf parts list
 list-found {X} IsListOf lists key parts label list at same are stands e =

@@ -1,4 +1,3 @@
-pub mod SignParities
 pub mod Totals
 pub mod TableLists
 pub mod RowSteps

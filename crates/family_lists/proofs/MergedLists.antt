@@ -1,17 +1,18 @@
--- Two partitions merged from their first parts on.
---     merged-right, merged-left      the greatest part of both partitions is the next part of the merged list
+-- The merge of two partitions, computed from their first parts on.
+--     merged-right, merged-left      the greater of the next parts of both partitions is the next part of the merged list
 --     merged-end                     one of the two partitions has no part left
---     written                        the parts that are left of both are appended
+--     written                        the remaining parts of both partitions are appended
 use Rattle.std.proofs.Common.{◌≡◌, ◌⊎◌, ℕ, zero, suc, ◌+◌, ◌<◌, ◌≤◌, List, [], ◌∷◌, ◌++◌, length, get_or, take, drop, refl, sym, ap, ◌∙◌, subst, inl, inr, arith, ◌-◌, ap₂, append-nil, append_assoc}
 use Rattle.std.proofs.Math.ListN.{drop_of_length-le}
-use Rattle.std.proofs.lemmas.List.{take_all, length-drop}
+use Rattle.std.proofs.lemmas.List.{drop_more, take_rest}
 use Rattle.std.proofs.lemmas.Bool.{cases_lt}
 use Rattle.sym_model.specs.Partition.{Falls, ArePositive, IsPartition, insert_part}
 use Rattle.sym_model.proofs.SortedParts.{insert_part_above, insert_part_below, Falls_tail}
 use Rattle.basis_change_laws.specs.JoinedLists.{merged}
 use Rattle.family_lists.proofs.PartLists.{columns-tail}
+use Rattle.sym_model.proofs.Parts.{falls_more}
 
--- if c ≤ b and b is at least each of `parts`, inserting c into b ∷ parts inserts it after b
+-- if 0 < c ≤ b, and b is at least the first of `parts`, inserting c into b ∷ parts gives b, followed by `parts` with c inserted
 insert-behind : (c b : ℕ) (parts : List ℕ) → 0 < c → c ≤ b → get_or parts 0 0 ≤ b → insert_part c (b ∷ parts) ≡ b ∷ insert_part c parts
 insert-behind zero b parts p h f = absurd (omega arith)
 insert-behind (suc a) b parts p h f = by (cases_lt (suc a) b)
@@ -35,16 +36,13 @@ first-insert (suc a) b (d ∷ parts) p h f = by (cases_lt (suc a) d)
     by (inl l) = subst (λ (ps : List ℕ). get_or ps 0 0 ≤ b) (sym (insert_part_below a d parts l)) f
     by (inr l) = subst (λ (ps : List ℕ). get_or ps 0 0 ≤ b) (sym (insert_part_above a d parts l)) h
 
-falls-past : (b c : ℕ) (more : List ℕ) → c ≤ b → Falls (c ∷ more) → Falls (b ∷ more)
-falls-past b c [] h f = tt
-falls-past b c (d ∷ more) h f = (let g = f.0 in omega arith, f.1)
-
--- a part b that is at least as great as all others is the first part of the merged list
+-- if the entries of `more` are positive, b ∷ more is weakly decreasing, and b is at least the first of `parts`, then the merge of `more` and b ∷
+-- parts is b, followed by the merge of `more` and `parts`
 merged-front : (more : List ℕ) (b : ℕ) (parts : List ℕ) → ArePositive more → Falls (b ∷ more) → get_or parts 0 0 ≤ b → merged more (b ∷ parts) ≡ b ∷ merged more parts
 merged-front [] b parts p f g = refl
 merged-front (c ∷ more) b parts p f g =
     ap (merged more) (insert-behind c b parts p.0 f.0 g)
-    ∙ merged-front more b (insert_part c parts) p.1 (falls-past b c more f.0 f.1) (first-insert c b parts p.0 f.0 g)
+    ∙ merged-front more b (insert_part c parts) p.1 (falls_more c b more f.0 f.1) (first-insert c b parts p.0 f.0 g)
 
 merged-nothing : (more : List ℕ) → ArePositive more → Falls more → merged more [] ≡ more
 merged-nothing [] p f = refl
@@ -56,7 +54,7 @@ merged-nothing (c ∷ more) p f =
     insert-nothing zero more h = absurd (omega arith)
     insert-nothing (suc c) more h = refl
 
--- ---- sorted lists and their merge from a place on
+-- ---- lists of positive, weakly decreasing numbers: the numbers from an index on, and the merge of two such lists
 
 pub positive-drop : (i : ℕ) (xs : List ℕ) → ArePositive xs → ArePositive (drop i xs)
 positive-drop zero xs p = p
@@ -68,19 +66,12 @@ falls-drop zero xs f = f
 falls-drop (suc i) [] f = tt
 falls-drop (suc i) (x ∷ xs) f = falls-drop i xs (Falls_tail x xs f)
 
-drop-first : (i j : ℕ) (xs : List ℕ) → j ≡ i + 1 → i < length xs → drop i xs ≡ get_or xs i 0 ∷ drop j xs
-drop-first i j [] e h = absurd (omega arith)
-drop-first zero j (x ∷ xs) e h = ap (λ k. x ∷ drop k (x ∷ xs)) (sym e)
-drop-first (suc i) j (x ∷ xs) e h =
-    let k : suc (i + 1) ≡ j = omega arith in
-    drop-first i (i + 1) xs refl (omega arith) ∙ ap (λ k. get_or xs i 0 ∷ drop k (x ∷ xs)) k
-
 module _ (all more parts : List ℕ) (i j : ℕ) (p : IsPartition more) (q : IsPartition parts) (done : List ℕ) (so_far : done ++ merged (drop i more) (drop j parts) ≡ all) where
-  -- if the next part of `parts` is greater than that of `more`, it is the next part of the merged list
+  -- if the next part of `parts`, at index j, is greater than the next part of `more`, at index i, it is the next part of the merged list `all`
   pub merged-right : i < length more → j < length parts → get_or more i 0 < get_or parts j 0 → (done ++ get_or parts j 0 ∷ []) ++ merged (drop i more) (drop (j + 1) parts) ≡ all
   merged-right h k l =
-      let x = drop-first i (i + 1) more refl h in
-      let y = drop-first j (j + 1) parts refl k in
+      let x = drop_more more i 0 h in
+      let y = drop_more parts j 0 k in
       let f = subst Falls x (falls-drop i more p.falls) in
       let g = subst Falls y (falls-drop j parts q.falls) in
       let t = subst ArePositive y (positive-drop j parts q.positive) in
@@ -91,11 +82,12 @@ module _ (all more parts : List ℕ) (i j : ℕ) (p : IsPartition more) (q : IsP
       (subst (λ (ps : List ℕ). Falls (get_or parts j 0 ∷ ps)) (sym x) (omega arith, f)) (columns-tail (get_or parts j 0) (drop (j + 1) parts) (record { falls = g; positive = t }))))
       ∙ so_far
 
-  -- if the next part of `parts` is not greater than that of `more`, the next part of the merged list is that of `more`
+  -- if the next part of `parts`, at index j, is not greater than the next part of `more`, at index i, the latter is the next part of the merged list
+  -- `all`
   pub merged-left : i < length more → j < length parts → get_or parts j 0 ≤ get_or more i 0 → (done ++ get_or more i 0 ∷ []) ++ merged (drop (i + 1) more) (drop j parts) ≡ all
   merged-left h k l =
-      let x = drop-first i (i + 1) more refl h in
-      let y = drop-first j (j + 1) parts refl k in
+      let x = drop_more more i 0 h in
+      let y = drop_more parts j 0 k in
       let f = subst Falls x (falls-drop i more p.falls) in
       let s = subst ArePositive x (positive-drop i more p.positive) in
       let first : get_or (drop j parts) 0 0 ≤ get_or more i 0 = subst (λ (ps : List ℕ). get_or ps 0 0 ≤ get_or more i 0) (sym y) l in
@@ -110,7 +102,8 @@ module _ (all more parts : List ℕ) (i j : ℕ) (p : IsPartition more) (q : IsP
       in_front_of (suc k) [] o g = refl
       in_front_of (suc k) (d ∷ ps) o g = insert_part_above k d ps g
 
-  -- if no part of `more`, or none of `parts`, is left, the parts left of the other partition are the rest of the merged list
+  -- if `more` has no part from index i on, or `parts` none from index j on, the merged list `all` is `done`, followed by the parts of `more` from i
+  -- on and those of `parts` from j on
   pub merged-end : (length more ≤ i) ⊎ (length parts ≤ j) → (done ++ drop i more) ++ drop j parts ≡ all
   merged-end (inl h) =
       let x = drop_of_length-le more h in
@@ -121,10 +114,8 @@ module _ (all more parts : List ℕ) (i j : ℕ) (p : IsPartition more) (q : IsP
       ap (λ l. (done ++ drop i more) ++ l) y ∙ append-nil (done ++ drop i more)
       ∙ ap (λ l. done ++ l) (sym (ap (merged (drop i more)) y ∙ merged-nothing (drop i more) (positive-drop i more p.positive) (falls-drop i more p.falls))) ∙ so_far
 
--- if the rest of `more` and then that of `parts` is appended at the end, the buffer is the merged list
+-- let `new` be `start` with two lists appended: the parts of `more` from i on, and the parts of `parts` from j on. If `start` followed by these two
+-- lists is the merged list `all`, then `new` is `all`
 pub written : (new start mid more parts all : List ℕ) (i j : ℕ) → mid ≡ start ++ take (length more - i) (drop i more)
     → new ≡ mid ++ take (length parts - j) (drop j parts) → (start ++ drop i more) ++ drop j parts ≡ all → new ≡ all
-written new start mid more parts all i j e f g = f ∙ ap₂ (λ (a b : List ℕ). a ++ b) (e ∙ ap (λ l. start ++ l) (whole more i)) (whole parts j) ∙ g
-  where
-    whole : (xs : List ℕ) (k : ℕ) → take (length xs - k) (drop k xs) ≡ drop k xs
-    whole xs k = take_all (length xs - k) (drop k xs) (omega (arith, length-drop k xs))
+written new start mid more parts all i j e f g = f ∙ ap₂ (λ (a b : List ℕ). a ++ b) (e ∙ ap (λ l. start ++ l) (take_rest more i)) (take_rest parts j) ∙ g

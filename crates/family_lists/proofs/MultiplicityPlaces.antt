@@ -1,12 +1,14 @@
--- The factorials of the multiplicities, place by place.
-use Rattle.std.proofs.Common.{◌≡◌, ℕ, zero, suc, ◌-◌, ◌*◌, ◌<◌, ◌≤◌, ◌^◌, List, [], ◌∷◌, length, get_or, take, drop, refl, sym, ap, ◌∙◌, arith, drop-cons}
+-- The product of the factorials of the multiplicities of the parts of a list, computed one part after another.
+use Rattle.std.proofs.Common.{◌≡◌, ℕ, suc, ◌-◌, ◌*◌, ◌<◌, ◌≤◌, ◌^◌, List, ◌∷◌, length, get_or, drop, sym, ap, ◌∙◌, arith, drop-cons}
 use Rattle.sym_model.specs.Schur.{times_in}
 use Rattle.basis_change_laws.specs.AugmentedMonomial.{multiplicity_factorials}
 use Rattle.basis_change_laws.proofs.AugmentedMonomials.{multiplicity_factorials-cons}
 use Rattle.family_list_laws.proofs.PartQuotients.{multiplicities-positive}
 use native.Mathlib.Nat.{mul-le-mul_left}
+use Rattle.std.proofs.Math.Nat.{mul_assoc}
 
--- the part at a place multiplies the product by the number of its occurrences from there on
+-- let `times` be the number of times that part `at` occurs from the index `at` on. If `product`, times the product of the factorials of the
+-- multiplicities of the parts from the index `at` on, is `whole`, then this also holds for `product`·`times` and the parts from the index `at` + 1 on
 pub multiplicity-next : (product times whole : ℕ) (parts : List ℕ) (at : ℕ) → at < length parts
     → product * multiplicity_factorials (drop at parts) ≡ whole
     → times ≡ times_in (get_or parts at 0) (drop at parts)
@@ -14,15 +16,11 @@ pub multiplicity-next : (product times whole : ℕ) (parts : List ℕ) (at : ℕ
 multiplicity-next product times whole parts at h e t =
     ap (λ n. (product * n) * multiplicity_factorials (drop (suc at) parts))
     (t ∙ ap (times_in (get_or parts at 0)) (drop-cons parts at 0 h))
-    ∙ grouped product (times_in (get_or parts at 0) (get_or parts at 0 ∷ drop (suc at) parts))
-    (multiplicity_factorials (drop (suc at) parts))
+    ∙ mul_assoc product (times_in (get_or parts at 0) (get_or parts at 0 ∷ drop (suc at) parts)) (multiplicity_factorials (drop (suc at) parts))
     ∙ ap (λ n. product * n)
     (sym (multiplicity_factorials-cons (get_or parts at 0) (drop (suc at) parts))
     ∙ ap multiplicity_factorials (sym (drop-cons parts at 0 h)))
     ∙ e
-  where
-    grouped : (x y z : ℕ) → (x * y) * z ≡ x * (y * z)
-    grouped x y z = omega arith
 
 pub multiplicity-fits : (n whole : ℕ) (rest : List ℕ) → n * multiplicity_factorials rest ≡ whole → whole < 2 ^ 127
     → n < 2 ^ 128
@@ -30,16 +28,3 @@ multiplicity-fits n whole rest e h =
     let p = multiplicities-positive rest in
     let m : n * 1 ≤ n * multiplicity_factorials rest = mul-le-mul_left n (omega arith) in
     omega arith
-
-pub whole_rest : (parts : List ℕ) (at : ℕ) → take (length parts - at) (drop at parts) ≡ drop at parts
-whole_rest parts zero =
-    let e : length parts - 0 ≡ length parts = omega arith in ap (λ n. take n parts) e ∙ take_length parts
-  where
-    take_length : (xs : List ℕ) → take (length xs) xs ≡ xs
-    take_length [] = refl
-    take_length (x ∷ xs) = ap (λ l. x ∷ l) (take_length xs)
-whole_rest [] (suc at) =
-    let e : length {A = ℕ} [] - suc at ≡ 0 = omega arith in ap (λ n. take n (drop (suc at) [])) e
-whole_rest (a ∷ parts) (suc at) =
-    let e : length (a ∷ parts) - suc at ≡ length parts - at = omega arith in
-    ap (λ n. take n (drop at parts)) e ∙ whole_rest parts at

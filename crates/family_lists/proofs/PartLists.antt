@@ -1,4 +1,7 @@
--- Lists with one label: their polynomial is q times the product over the parts of the label.
+-- Lists of terms that are q times a given polynomial if each label is read as the product of the polynomials P_k over its parts k (`Stands`).
+--     `stands-itself`, `stands-number`    a table with one term
+--     `parts-none`, `parts-next`          the list for a product of factors: without any factor, and after one more factor is multiplied
+--     `parts-large`                       a lower bound if multiplying by one more factor overflows
 use Rattle.std.proofs.Common.{◌≡◌, ℕ, ◌+◌, ◌*◌, ◌^◌, ◌<◌, ◌≤◌, List, [], ◌∷◌, sym, ap, subst, inl, inr, arith, ℤ, pos, ◌*ℤ◌}
 use Rattle.std.specs.Prelude.{nat_abs}
 use Rattle.sym_model.specs.Polynomial.{Poly, Same, In, one, pair, scale, times}
@@ -17,8 +20,9 @@ use Rattle.family_lists.proofs.RowSteps.{large-products}
 use Rattle.family_lists.proofs.TableLists.{table-stands}
 use native.Mathlib.Nat.{mul-le-mul_left, mul-le-mul_right}
 use lib.IntN.{+ℤ_idr}
+use Rattle.std.proofs.Math.Nat.{mul_assoc}
 
--- if P holds of a label, it holds of each label of a list with only that label
+-- if `label` has the property P, so has each label of the list with the one term (label, c)
 pub one_label : (P : List ℕ → Type 0) (label : List ℕ) (c : ℤ) → P label → HaveLabels P ((label, c) ∷ [])
 one_label P label c here t (inl e) = subst (λ (u : List ℕ × ℤ). P u.0) (sym e) here
 one_label P label c here t (inr m) = absurd m
@@ -32,7 +36,7 @@ parts-none P F terms is h =
       labels = one_label (IsLow 0) [] (pos 1) (record { partition = record { falls = tt; positive = tt }; low = omega arith });
     })
 
--- no part is greater than the first one
+-- in a partition k ∷ rest, the first part of `rest` is at most k
 pub columns-tail : (k : ℕ) (rest : List ℕ) → IsPartition (k ∷ rest) → columns rest ≤ k
 columns-tail k [] p = omega arith
 columns-tail k (b ∷ rest) p = p.falls.0
@@ -56,13 +60,10 @@ parts-large P F k c o rest W V z zi e w v large =
     let t = mul-le-mul_left c w.few in
     let r = mul-le-mul_right (grown (size rest)) t in
     let n : nat_abs z * absolute_total W * grown (size rest) ≡ c * absolute_total W * grown (size rest) = ap (λ p. p * absolute_total W * grown (size rest)) u in
-    let g = grouped c (o * 2 ^ k) (grown (size rest)) in
+    let g = mul_assoc c (o * 2 ^ k) (grown (size rest)) in
     omega arith
-  where
-    grouped : (x y z : ℕ) → x * y * z ≡ x * (y * z)
-    grouped x y z = omega arith
 
--- a list with the one label `parts` and the coefficient q is q times the product over the parts
+-- a table with the one term q at the label `parts` is q times the product of the polynomials P over these parts
 pub stands-itself : (P : ℕ → ℕ → Poly) (parts : List ℕ) (q A : ℕ) (terms : WholeTerms) → IsPartition parts → q ≤ A → IsWholeTable terms → Same terms ((parts, pos q) ∷ [])
     → Stands P q A (size parts) (product_over P parts) terms
 stands-itself P parts q A terms p few is h =
@@ -73,7 +74,7 @@ stands-itself P parts q A terms p few is h =
       labels = one_label (IsLow (size parts)) parts (pos q) (record { partition = p; low = omega arith });
     })
 
--- a list with the one label (k) and the coefficient q is q times the polynomial of k
+-- a table with the one term q at the label (k) is q times the polynomial P_k
 pub stands-number : (P : ℕ → ℕ → Poly) → ((n k : ℕ) → In n (P k n)) → (k q A : ℕ) (terms : WholeTerms)
     → 0 < k → q ≤ A → IsWholeTable terms → Same terms ((k ∷ [], pos q) ∷ [])
     → Stands P q A k (λ n. P k n) terms

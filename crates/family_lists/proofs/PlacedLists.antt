@@ -1,5 +1,5 @@
--- Lists of lists, each at its index.
---     placed-push      if a list is appended, each list keeps the property for its index
+-- Lists of lists in which the list at the index k has a property that depends on k.
+--     placed-push      this still holds after a list with the property for its index is appended
 use Rattle.std.proofs.Common.{◌≡◌, ◌⊎◌, ℕ, zero, suc, ◌+◌, ◌<◌, ◌≤◌, List, [], ◌∷◌, ◌++◌, length, get_or, refl, sym, ap, ◌∙◌, subst, inl, inr, arith}
 use Rattle.std.proofs.lemmas.Bool.{cases_lt}
 use Rattle.sym_model.specs.WholeTerms.{WholeTerms}

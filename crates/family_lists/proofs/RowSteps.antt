@@ -1,4 +1,5 @@
--- Products of lists, label by label, and the conditions under which adding them overflows.
+-- Products of two lists of terms: the product of two labels is the label that has the parts of both. Lemmas on such products, and on the case that a
+-- multiple of such a product overflows when it is added to a table.
 use Rattle.std.proofs.Common.{◌≡◌, ℕ, zero, suc, ◌+◌, ◌*◌, ◌^◌, ◌≤◌, cond, List, [], ◌∷◌, ◌++◌, length, sym, ◌∙◌, ap, ap₂, refl, inl, arith, ℤ, pos, negsuc, ◌*ℤ◌}
 use Rattle.std.specs.Prelude.{nat_abs}
 use Rattle.std.proofs.lemmas.Int.{unsigned_abs-mul}
@@ -12,11 +13,12 @@ use Rattle.partitions.specs.Limits.{IsWithinLimits}
 use Rattle.linear_combinations.specs.Gains.{Overflows, scaled, replaced}
 use Rattle.linear_combinations.proofs.Masses.{overflow_mass}
 use Rattle.sparse_polys.specs.Tables.{equal, IsWholeTable}
-use Rattle.sparse_polys.proofs.WholeLists.{equal_from, not_zero}
+use Rattle.sparse_polys.proofs.WholeLists.{not_zero}
 use Rattle.basis_change_laws.specs.JoinedLists.{merged, row, joined}
 use Rattle.basis_change_laws.proofs.MergedParts.{IsPartition-merged, size-merged}
 use Rattle.basis_change_laws.proofs.JoinedLists.{absolute-scale, absolute-joined}
 use lib.IntN.{*ℤ_comm}
+use Rattle.linear_combinations.proofs.LabelTests.{equal_from}
 
 pub limits-merged : (left right : List ℕ) → IsPartition left → IsPartition right → size left + size right ≤ 512 → IsWithinLimits (merged left right)
 limits-merged left right p q h =
@@ -25,7 +27,7 @@ limits-merged left right p q h =
     let s = size-merged left right in
     record { partition = m; few = omega arith; small = omega arith }
 
--- ---- the terms that a table gains by a product
+-- ---- the product of a label and a list, and of two lists, as lists of terms
 
 scaled-row : (k : List ℕ) (x c : ℤ) (V : WholeTerms) → scaled x (row k c V) ≡ row k (c *ℤ x) V
 scaled-row k x c [] = refl
@@ -35,14 +37,14 @@ scaled-row k x c (t ∷ V) =
 pub row-gained : (k : List ℕ) (x c : ℤ) (V : WholeTerms) → row k (x *ℤ c) V ≡ scaled x (row k c V)
 row-gained k x c V = ap (λ z. row k z V) (*ℤ_comm x c) ∙ sym (scaled-row k x c V)
 
--- c times the product of W and V is the sum, over the terms of W, of their products with c·V
+-- replacing each label k of W by the product of c·k and V gives the product of c·W and V
 pub products-gained : (c : ℤ) (W V : WholeTerms) → replaced (λ k. row k c V) W ≡ joined (scale c W) V
 products-gained c [] V = refl
 products-gained c (t ∷ W) V = ap₂ (λ (a b : WholeTerms). a ++ b) (scaled-row t.0 t.1 c V) (products-gained c W V)
 
--- ---- a product is refused only if it overflows
+-- ---- the case that adding a product of lists to a table overflows
 
--- if V is not empty and |x·c| is at least 2^127, adding x·c times the products of k and the terms of V overflows
+-- if V is not empty and |x·c| is at least 2^127, adding x times the product of c·k and V, for a label k, overflows
 pub large-row : (old : WholeTerms) (k : List ℕ) (x c : ℤ) (V : WholeTerms) → IsWholeTable V → (length V ≡ 0 → ⊥) → 2 ^ 127 ≤ nat_abs (x *ℤ c) → Overflows equal old (scaled x (row k c V))
 large-row old k x c [] is some h = absurd (some refl)
 large-row old k x c (t ∷ V) is some h =

@@ -1,7 +1,7 @@
--- Properties of a list that hold for a table with the same coefficients.
---     table-few        the absolute values of the table add up to at most those of the list
---     table-stands     the table has the polynomial of the list
---     stands-greatest  the labels have at most d cells
+-- Properties of a list W that also hold for a table `terms` with the same coefficients.
+--     `table-few`        the absolute values of the coefficients of the table add up to at most those of the terms of W
+--     `table-stands`     if W is q times f (`Stands`), so is the table
+--     `stands-greatest`  if a list is q times f with labels of at most d cells, its greatest label has at most d cells
 use Rattle.std.proofs.Common.{ℕ, ◌≤◌, [], sym, ◌∙◌, arith}
 use Rattle.std.specs.Cmp.Lexicographic.{nat_list_eq_equiv}
 use Rattle.sym_model.specs.Polynomial.{Poly, Same, pair}
@@ -10,7 +10,6 @@ use Rattle.sym_model.specs.WholeTerms.{WholeTerms, absolute_total}
 use Rattle.sym_model.proofs.Polynomials.{pair_determined}
 use Rattle.linear_combinations.specs.Gains.{over}
 use Rattle.linear_combinations.specs.Labels.{same_partition}
-use Rattle.linear_combinations.proofs.Found.{sums_same}
 use Rattle.sparse_polys.specs.MonomialProducts.{greatest_size}
 use Rattle.sparse_polys.specs.LabelSizes.{AreWithin}
 use Rattle.sparse_polys.specs.Tables.{IsWholeTable}
@@ -25,7 +24,7 @@ module _ (terms W : WholeTerms) (is : IsWholeTable terms) (e : Same terms W) whe
   table-few =
       let m =
       gains_mass same_partition nat_list_eq_equiv [] W terms is
-      (record { sums = λ φ. sums_same terms W e φ ∙ sym (+ℤ_idl (over φ W)) }) in
+      (record { sums = λ φ. pair_determined terms W φ e ∙ sym (+ℤ_idl (over φ W)) }) in
       omega arith
 
   pub table-stands : (P : ℕ → ℕ → Poly) (q A d : ℕ) (f : ℕ → Poly) → Stands P q A d f W → Stands P q A d f terms
@@ -35,7 +34,7 @@ module _ (terms W : WholeTerms) (is : IsWholeTable terms) (e : Same terms W) whe
     labels = labels-same (IsLow d) terms W is e h.labels;
   }
 
--- ---- the labels of a list have at most d cells
+-- ---- the sizes of the labels of a list that is q times f (`Stands`)
 
 pub stands-within : (P : ℕ → ℕ → Poly) (q A d : ℕ) (f : ℕ → Poly) (terms : WholeTerms) → Stands P q A d f terms → AreWithin d terms
 stands-within P q A d f terms h t m = (h.labels t m).low

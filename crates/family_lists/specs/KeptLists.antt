@@ -1,15 +1,15 @@
--- Values that are kept with partitions as keys, for example lists of terms.
+-- Maps from partitions to values, for example lists of terms, as lists of entries (partition, value).
 use Rattle.std.specs.Prelude.{◌≡◌, ◌⊎◌, ℕ, List, [], ◌∷◌, ◌++◌, slice_get, Some}
 use Rattle.sym_model.specs.Sum.{Among}
 
--- each value has the property for its partition
+-- the property holds of the partition and the value of each entry
 abbrev pub AreListsOf : {X : Type 0} → (List ℕ → X → Type 0) → List (List ℕ × X) → Type 0
 AreListsOf {X} IsListOf lists = (l : List ℕ × X) → Among l lists → IsListOf l.0 l.1
 
--- the partition is at this index, with some value
+-- the entry at this index has this partition, with some value
 abbrev pub StandsAt : {X : Type 0} → List (List ℕ × X) → List ℕ → ℕ → Type 0
 StandsAt {X} lists parts at = (value : X) × (slice_get lists at ≡ Some (parts, value))
 
--- the new list is the old one, or the old one with the label and its value appended
+-- the new list of entries is the old one, or the old one with the entry (label, value) appended
 abbrev pub HasKept : {X : Type 0} → List ℕ → X → List (List ℕ × X) → List (List ℕ × X) → Type 0
 HasKept {X} label value old new = (new ≡ old) ⊎ (new ≡ old ++ (label, value) ∷ [])

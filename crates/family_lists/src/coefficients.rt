@@ -1,5 +1,5 @@
-//! Closed formulas for the coefficients of e_k, h_k and p_k in another of these families, at the
-//! partitions of k (Macdonald, I.2).
+//! Closed formulas for the coefficients in the expansion of e_k, h_k or p_k in another one of the
+//! bases e, h and p. The labels of such an expansion are the partitions of k (Macdonald, I.2).
 ghost use Rattle.std.specs.Prelude.{◌≡◌, ◌*◌, ◌<◌, ◌≤◌, ◌^◌, ◌*ℤ◌, pos, negsuc, cond};
 ghost use Rattle.sym_model.specs.Partition.{size};
 ghost use Rattle.sym_model.specs.PlaceOrders.{minus_one_to};
@@ -14,7 +14,7 @@ use coeff_rings::{Int, factorial};
 use partitions::Partition;
 use sparse_polys::Family;
 
-/// The number, which is below 2^127, or its negative.
+/// `number`, or its negative if `is_negative`; `number` is below 2^127.
 fn with_sign(is_negative: bool, number: u128) -> Int
     requires { number < 2 ^ 127 }
     ensures { result ≡ cond is_negative (negsuc 0) (pos 1) *ℤ pos number }
@@ -27,7 +27,7 @@ fn with_sign(is_negative: bool, number: u128) -> Int
     }
 }
 
-/// The number, which is below 2^127, times (-1)^`exponent`.
+/// (-1)^`exponent`·`number`, for a number below 2^127.
 pub fn signed(exponent: u16, number: u128) -> Int
     requires { number < 2 ^ 127 }
     ensures { result ≡ minus_one_to exponent *ℤ pos number }
@@ -35,8 +35,8 @@ pub fn signed(exponent: u16, number: u128) -> Int
     with_sign(exponent % 2 == 1, number)
 }
 
-/// The exponent of -1 in the coefficient of `label`, a partition of k, in the list in `target` of
-/// e_k, h_k or p_k, by `family`.
+/// The exponent of -1 in the coefficient of `label`, a partition of k, if e_k, h_k or p_k (`family`
+/// says which) is expanded in the basis of `target`.
 fn exponent(target: Family, family: Family, label: &Partition) -> u16
     requires { 0 < size label.now }
     ensures { result ≡ sign_exponent target family label.now }
@@ -87,8 +87,8 @@ fn cycle_type_count(label: &Partition) -> u128
     factorial(label.size()) / centralizer(label.parts())
 }
 
-/// The absolute value of the coefficient of a partition of k in the list of p_k, or of k!·e_k or
-/// k!·h_k, by the family, for the targets e and h.
+/// The absolute value of the coefficient of `label`, a partition of k, if p_k, k!·e_k or k!·h_k
+/// (`family` says which) is expanded in e or in h; it is the same number for e and for h.
 fn outside_p(family: Family, label: &Partition) -> u128
     requires some { 0 < size label.now }
     requires low { size label.now ≤ 20 }
@@ -103,8 +103,8 @@ fn outside_p(family: Family, label: &Partition) -> u128
     }
 }
 
-/// The absolute value of the coefficient of `label`, a partition of k, in the list in `target` of
-/// p_k, or of k!·e_k or k!·h_k, by `family`.
+/// The absolute value of the coefficient of `label`, a partition of k, if p_k, k!·e_k or k!·h_k
+/// (`family` says which) is expanded in the basis of `target`.
 fn absolute(target: Family, family: Family, label: &Partition) -> u128
     requires some { 0 < size label.now }
     requires low { size label.now ≤ 20 }
@@ -118,8 +118,8 @@ fn absolute(target: Family, family: Family, label: &Partition) -> u128
     }
 }
 
-/// The coefficient of `label`, a partition of k, in the list in `target` of p_k, or of k!·e_k or
-/// k!·h_k, by `family`; the target is not the family itself.
+/// The coefficient of `label`, a partition of k, if p_k, k!·e_k or k!·h_k (`family` says which) is
+/// expanded in the basis of another family `target`.
 pub(crate) fn coefficient(target: Family, family: Family, label: &Partition) -> Int
     requires some { 0 < size label.now }
     requires low { size label.now ≤ 20 }

@@ -1,4 +1,4 @@
-//! The polynomials e_k, h_k and p_k as lists in e, h and p: p_k, and e_k and h_k times k!.
+//! The expansions of p_k, k!·e_k and k!·h_k in the bases e, h and p.
 ghost use Rattle.std.specs.Prelude.{◌≡◌, ◌≢◌, ◌+◌, ◌<◌, ◌≤◌, pos, [], vec_len, IfOk, IsErrOf};
 ghost use Rattle.sparse_polys.specs.Families.{polynomial_of};
 ghost use Rattle.family_lists.specs.FactorLists.{AreFactors, ArePowers, IsFactor};
@@ -12,8 +12,8 @@ use partitions::{Partition, PartitionsOf};
 use sparse_polys::{Family, Whole, single};
 use std::alloc::Global;
 
-/// The factor that clears the fractions of the list of e_k, h_k or p_k: k! for e_k and h_k, 1
-/// for p_k.
+/// The factor that clears the fractions if e_k, h_k or p_k (`family` says which) is expanded in e,
+/// h or p: k! for e_k and h_k, 1 for p_k.
 fn over(family: Family, k: u16) -> Int
     requires { k ≤ 20 }
     ensures { result ≡ pos (over_number family k) }
@@ -25,7 +25,8 @@ fn over(family: Family, k: u16) -> Int
     }
 }
 
-/// p_k, or k!·e_k or k!·h_k, by the family, as a list in the family itself.
+/// The list of p_k, k!·e_k or k!·h_k (`family` says which) in the basis of `family` itself: one
+/// term with the label (k).
 fn own_list(alloc: Global, family: Family, k: u16) -> Result<Whole, SumFault>
     requires { (0 < k) × (k ≤ 20) }
     ensures value { IfOk result (IsFactor (polynomial_of family) family k) }
@@ -34,8 +35,8 @@ fn own_list(alloc: Global, family: Family, k: u16) -> Result<Whole, SumFault>
     single(alloc, &[k], over(family, k).get())
 }
 
-/// p_k, or k!·e_k or k!·h_k, by the family, as a list in another family, the target, by closed
-/// formulas for the coefficients at the partitions of k.
+/// The list of p_k, k!·e_k or k!·h_k (`family` says which) in the basis of another family `target`,
+/// by closed formulas for the coefficients at the partitions of k.
 fn closed_list(alloc: Global, target: Family, family: Family, k: u16) -> Result<Whole, SumFault>
     requires other { target ≢ family }
     requires low { (0 < k) × (k ≤ 20) }
@@ -52,8 +53,8 @@ fn closed_list(alloc: Global, target: Family, family: Family, k: u16) -> Result<
     Ok(list)
 }
 
-/// The list in the target of p_k, or of k!·e_k or k!·h_k, by the family, for k of at most 20; the
-/// empty list for k = 0. It never returns `Large`.
+/// The list of p_k, k!·e_k or k!·h_k (`family` says which) in the basis of `target`, for k of at
+/// most 20; the empty list for k = 0. `Large` is never returned.
 ///
 /// Example: 2!·h_2 in p is p_1^2 + p_2.
 pub fn factor_list(alloc: Global, target: Family, family: Family, k: u16) -> Result<Whole, SumFault>
@@ -71,7 +72,8 @@ pub fn factor_list(alloc: Global, target: Family, family: Family, k: u16) -> Res
     closed_list(alloc, target, family, k)
 }
 
-/// The lists of `factor_list` for k = 1, .., d, each at its index; the list at index 0 is empty.
+/// The lists of `factor_list` for k = 1, .., d, the list for k at the index k; the list at index 0
+/// is empty.
 fn lists_up_to(
     alloc: Global,
     target: Family,
@@ -92,7 +94,8 @@ fn lists_up_to(
     Ok(lists)
 }
 
-/// p_1, .., p_d in the target, each at its index, for d of at most 20. It never returns `Large`.
+/// The lists of p_1, .., p_d in the basis of `target`, the list of p_k at the index k, for d of at
+/// most 20. `Large` is never returned.
 pub fn power_sums(alloc: Global, target: Family, d: u16) -> Result<Vec<Whole>, SumFault>
     requires { d ≤ 20 }
     ensures length { IfOk result (λ lists. vec_len lists ≡ d + 1) }
@@ -102,7 +105,7 @@ pub fn power_sums(alloc: Global, target: Family, d: u16) -> Result<Vec<Whole>, S
     lists_up_to(alloc, target, Family::PowerSum, d)
 }
 
-/// The lists of `factor_list` for k = 1, .., d, each at its index, for d of at most 20.
+/// The lists of `factor_list` for k = 1, .., d, the list for k at the index k, for d of at most 20.
 pub fn factor_lists(
     alloc: Global,
     target: Family,

@@ -1,4 +1,4 @@
-//! Lists that are computed once: each is kept under a partition.
+//! Maps from partitions to lists of terms. Each list is computed once and then kept.
 ghost use Rattle.std.specs.Prelude.{◌≡◌, ◌<◌, ℕ, [], ◌∷◌, ◌++◌, length, slice_get, nat_eq, Some};
 ghost use Rattle.std.specs.Prelude.{None, IfOk, IfSome, IfNone, OnOk, OnErr};
 ghost use Rattle.std.specs.Cmp.Lexicographic.{pointwise};
@@ -9,10 +9,11 @@ use indexmap::IndexMap;
 use partitions::Partition;
 use std::alloc::AllocError;
 
-/// Partitions, each with a list.
+/// A map from partitions to values, for example lists of terms, with its entries in the order in
+/// which they were added.
 pub type Lists<V> = IndexMap<Partition, V>;
 
-/// The index of a partition's list; None if and only if it has none.
+/// The index of the entry with the partition `label`; None if and only if there is no such entry.
 pub fn place_of<V>(lists: &Lists<V>, label: &Partition) -> Option<usize>
     ensures place { IfSome result (StandsAt lists.now.entries label.now) }
     ensures none { IfNone result ((at : ℕ) → ¬ StandsAt lists.now.entries label.now at) }
@@ -20,7 +21,7 @@ pub fn place_of<V>(lists: &Lists<V>, label: &Partition) -> Option<usize>
     lists.get_index_of(label)
 }
 
-/// The partition at an index, and its list.
+/// The partition and the value of the entry at the index `at`.
 pub fn list_at<V>(lists: &Lists<V>, at: usize) -> (&Partition, &V)
     requires { at < length lists.now.entries }
     ensures { slice_get lists.now.entries at ≡ Some (result.0.now, result.1.now) }
@@ -28,7 +29,8 @@ pub fn list_at<V>(lists: &Lists<V>, at: usize) -> (&Partition, &V)
     lists.get_index(at).unwrap()
 }
 
-/// Appends a partition, which must not be there yet, and its list.
+/// Appends the entry with the partition `label` and the value `list`; `label` must not have an
+/// entry yet. On an error the entries are unchanged.
 fn put<V: Drop>(lists: &mut Lists<V>, label: Partition, list: V) -> Result<(), AllocError>
     requires { get (pointwise nat_eq) lists.old label ≡ None }
     ensures ok { OnOk result (lists.new.entries ≡ lists.old.entries ++ (label, list) ∷ []) }
@@ -38,8 +40,8 @@ fn put<V: Drop>(lists: &mut Lists<V>, label: Partition, list: V) -> Result<(), A
     Ok(())
 }
 
-/// Keeps a list under a partition, unless the partition already has one, and returns its index. On
-/// an error the lists are unchanged.
+/// Appends the entry with the partition `label` and the value `list`, unless `label` has an entry
+/// already, and returns the index of the entry of `label`. On an error the entries are unchanged.
 pub fn keep<V: Drop>(lists: &mut Lists<V>, label: Partition, list: V) -> Result<usize, AllocError>
     ensures kept { OnOk result (HasKept label list lists.old.entries lists.new.entries) }
     ensures place { IfOk result (StandsAt lists.new.entries label) }

@@ -1,12 +1,14 @@
-//! Lists in the basis of a family, e, h or p, whose labels are multiplied by joining their parts.
+//! Lists of terms in the basis e, h or p. The product of two elements of such a basis is the
+//! element whose label has the parts of both labels.
 //!
 //! What is proved:
 //!
-//! `factor_list`: p_k, or k!·e_k or k!·h_k, as a list in e, h or p, by closed formulas for the
-//! coefficients; `power_sums` and `factor_lists`: these lists for k = 1, .., d. `add_products` adds
-//! c times the product of two lists, and `add_row` that of a label and a list; `Large` is returned
-//! only if the absolute values at one label add up to 2^127 or more. `keep`, `place_of` and
-//! `list_at`: lists that are computed once, each kept under a partition.
+//! `factor_list`: the list of p_k, k!·e_k or k!·h_k in the basis e, h or p, by closed formulas for
+//! the coefficients; `power_sums` and `factor_lists`: these lists for k = 1, .., d. `add_products`
+//! adds c times the product of two lists to a table, and `add_row` the product of a term and a
+//! list; `Large` is returned only if, at some label, the absolute values of the old coefficient and
+//! of the terms to be added have a sum of 2^127 or more. `keep`, `place_of` and `list_at`: maps
+//! from partitions to lists that are computed once and then kept.
 #![tactic(auto)]
 
 mod coefficients;

@@ -4,8 +4,8 @@ ghost use Rattle.sym_model.specs.Partition.{IsPartition, size};
 ghost use Rattle.basis_change_laws.specs.AugmentedMonomial.{multiplicity_factorials};
 ghost use Rattle.family_list_laws.specs.OnePartLists.{centralizer, product_of_parts};
 
-/// The number of times that `part` occurs from its place on, if the part at the next place is
-/// `next` and occurs `times` times from there.
+/// For a weakly decreasing list in which `part` is followed by `next`, and `next` occurs `times`
+/// times from there on: the number of times that `part` occurs from its index on.
 fn times_from(part: u16, next: u16, times: u128) -> u128
     requires { times < 2 ^ 64 }
     ensures same { part ≡ next → result ≡ times + 1 }
@@ -14,8 +14,8 @@ fn times_from(part: u16, next: u16, times: u128) -> u128
     if part == next { times + 1 } else { 1 }
 }
 
-/// The product of the factorials of the multiplicities of the parts, as the product over the places
-/// of the number of times that the part occurs from this place on.
+/// The product of the factorials of the multiplicities of the parts. It is computed as the product,
+/// over all indices, of the number of times that the part at the index occurs from this index on.
 pub(crate) fn multiplicity_factorials(parts: &[u16]) -> u128
     requires partition { IsPartition parts.now }
     requires low { size parts.now ≤ 20 }

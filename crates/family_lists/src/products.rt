@@ -1,4 +1,4 @@
-//! Products of lists whose labels are multiplied by joining their parts.
+//! Products of lists in the basis e, h or p: the labels are multiplied by joining their parts.
 ghost use Rattle.std.specs.Prelude.{◌≡◌, ◌+◌, ◌≤◌, ◌*ℤ◌, ◌++◌, ◌∷◌, [], OnOk, IsErrOf};
 ghost use Rattle.sym_model.specs.Partition.{IsPartition, size};
 ghost use Rattle.sparse_polys.specs.MonomialProducts.{greatest_size};
@@ -13,7 +13,7 @@ use partitions::Partition;
 use sparse_polys::Whole;
 use std::alloc::Global;
 
-/// Appends the numbers `rest` to the buffer; if there are none, no other function is called.
+/// Appends the numbers `rest` to the buffer; if `rest` is empty, no other function is called.
 #[inline(always)]
 fn put_rest(buffer: &mut Vec<u16>, rest: &[u16]) -> Result<(), NoMemory>
     ensures { OnOk result (buffer.new.items ≡ buffer.old.items ++ rest.now) }
@@ -25,8 +25,8 @@ fn put_rest(buffer: &mut Vec<u16>, rest: &[u16]) -> Result<(), NoMemory>
     Ok(())
 }
 
-/// Replaces the contents of the buffer by the parts of both partitions in decreasing order. On an
-/// error the buffer holds some of them.
+/// Replaces the contents of the buffer by the parts of the partitions `more` and `parts`, merged in
+/// decreasing order. On an error the buffer holds some of these parts.
 #[inline(always)]
 pub fn put_merged(buffer: &mut Vec<u16>, more: &[u16], parts: &[u16]) -> Result<(), NoMemory>
     requires more { IsPartition more.now }
@@ -50,10 +50,13 @@ pub fn put_merged(buffer: &mut Vec<u16>, more: &[u16], parts: &[u16]) -> Result<
     Ok(())
 }
 
-/// Adds z times the product of a label and a list; the sizes of two joined labels add up to at most
-/// 512. The parts of both labels are joined in one vector, which is used again for each term and
-/// has room for a short label from the start. Returns `Large` only if adding these terms overflows.
-/// On an error the table has gained some of them.
+/// Adds to `sum` the product of z·`left` and the list `right`: for each term c·μ of `right`, z·c at
+/// the label that has the parts of `left` and of μ. The size of `left` and the greatest size of a
+/// label of `right` add up to at most 512. The parts are joined in one vector, which is used again
+/// for each term and has room for a short label from the start.
+///
+/// Returns `Large` only if, at some label, the absolute values of the old coefficient and of the
+/// terms to be added have a sum of 2^127 or more. On an error some of the terms have been added.
 pub fn add_row(
     alloc: Global,
     sum: &mut Whole,
@@ -73,7 +76,8 @@ pub fn add_row(
     Ok(())
 }
 
-/// Adds the product of two coefficients at the label that has the parts of both labels.
+/// Adds z·c to the coefficient in `sum` of the label that has the parts of `left` and of `label`;
+/// these are merged in the buffer `parts`.
 #[inline(always)]
 fn add_joined(
     alloc: Global,
@@ -97,7 +101,7 @@ fn add_joined(
     )
 }
 
-/// The rule that multiplies a label by a list and a number.
+/// The rule that replaces a label by the product of the label, the number `c` and the list `list`.
 #[derive(Drop)]
 struct TimesList<'a> {
     alloc: Global,
@@ -124,9 +128,11 @@ impl Rule<Partition, Partition> for TimesList<'_> {
     }
 }
 
-/// Adds c times the product of two lists; the greatest sizes of their labels add up to at most 512.
-/// Returns `Large` only if adding these terms overflows. On an error the table has gained some of
-/// them.
+/// Adds to `sum` c times the product of the lists `left` and `right`, whose labels are multiplied
+/// by joining their parts; the greatest sizes of their labels add up to at most 512.
+///
+/// Returns `Large` only if, at some label, the absolute values of the old coefficient and of the
+/// terms to be added have a sum of 2^127 or more. On an error some of the terms have been added.
 pub fn add_products(
     alloc: Global,
     sum: &mut Whole,

@@ -1,4 +1,4 @@
--- Shapes with one more cell, and the rule at a corner.
+-- Shapes with one cell added, and the local rule at a corner of a square (`at_corner`).
 use Rattle.std.proofs.Common.{◌≡◌, ℕ, zero, suc, ◌+◌, ◌<◌, ◌≤◌, Bool, false, cond, List, [], ◌∷◌, ◌++◌, length, ◌∙◌, ap, ap₂, sym, refl, inl, inr, arith}
 use Rattle.sym_model.specs.Polynomial.{same}
 use Rattle.sym_model.specs.Tableau.{shape_of}
@@ -9,7 +9,7 @@ use Rattle.insertion_laws.specs.Rows.{HasOneMore}
 use Rattle.insertion_laws.proofs.Removals.{grown-here, grown-below}
 use Rattle.sym_model.specs.Growth.{union, grown, with_cell, at_corner, with_end}
 
--- ---- a shape with one cell added
+-- ---- shapes with one cell added, and the row of that cell (`grown`)
 
 pub grown-cell : (k : ℕ) (s : List ℕ) → k ≤ length s → grown (with_cell k s) s ≡ k
 grown-cell zero [] h = refl
@@ -60,7 +60,7 @@ shape-last zero k (row ∷ rows) =
     let e : length (row ++ k ∷ []) ≡ length row + 1 = length-append row (k ∷ []) in ap (λ n. n ∷ shape_of rows) e
 shape-last (suc i) k (row ∷ rows) = ap (λ (s : List ℕ). length row ∷ s) (shape-last i k rows)
 
--- ---- the union of two shapes, and of a shape with one cell added
+-- ---- the union of two shapes, and of a shape and the same shape with one cell added
 
 pub union_comm : (s t : List ℕ) → union s t ≡ union t s
 union_comm [] [] = refl
@@ -86,7 +86,7 @@ union-cells (suc k) zero (a ∷ s) h l d =
 union-cells (suc k) (suc c) (a ∷ s) h l d =
     ap₂ (λ (n : ℕ) (l : List ℕ). n ∷ l) (omega arith) (union-cells k c s (omega arith) (omega arith) (λ e. d (ap suc e)))
 
--- ---- the rule at a corner, by cases
+-- ---- the local rule at a corner, case by case
 
 corner-apart : (t : Bool) (s left right : List ℕ) → (left ≡ right → ⊥) → at_corner t s left right ≡ union left right
 corner-apart t s left right d =
@@ -121,7 +121,7 @@ corner-pushed t k s h =
     ∙ ap (λ b. cond b (cond t (with_cell 0 s) s) (with_cell (suc (grown (with_cell k s) s)) (with_cell k s))) (same_apart (with_cell k s) s (cell_apart k s))
     ∙ ap (λ i. with_cell (suc i) (with_cell k s)) (grown-cell k s h)
 
--- the rule is symmetric in the left and the right shape
+-- the local rule is symmetric in the shapes `left` and `right`
 pub corner-mirrored : (t : Bool) (s left right : List ℕ) → at_corner t s left right ≡ at_corner t s right left
 corner-mirrored t s left right = elim (cases_Bool (same left right)) [
   | inl e ↦

@@ -1,11 +1,11 @@
--- Tableaux that are read from chains of shapes, one number after another.
+-- The tableau of a chain of shapes (`tableau_of_chain`), one number after another.
 use Rattle.std.proofs.Common.{◌≡◌, ℕ, suc, ◌+◌, ◌≤◌, List, length, ◌∙◌, ap, ap₂, sym, arith}
 use Rattle.std.proofs.lemmas.List.{length-map}
 use Rattle.sym_model.specs.Growth.{grown, tableau_of_chain, with_end}
 use Rattle.sym_model.specs.Tableau.{shape_of}
 use Rattle.insertion_laws.proofs.Removals.{grown-within}
 
--- if the next shape is longer in row i, i is at most the number of rows of the tableau
+-- if `rows` have the shape `small`, and i is the first row in which `large` is longer than `small`, i is at most the number of rows
 pub row_there :
     (rows : List (List ℕ)) (large small : List ℕ) (i count : ℕ) → shape_of rows ≡ small → i ≡ grown large small → count ≡ length rows
     → i ≤ count

@@ -1,9 +1,6 @@
--- The rule at a corner by places: unions, cells and the row that is longer.
+-- The functions of corner.rt row by row: the union, a cell added, and the first row that is longer.
 use Rattle.std.proofs.Common.{◌≡◌, ℕ, zero, suc, ◌+◌, ◌<◌, ◌≤◌, max, List, [], ◌∷◌, ◌++◌, length, get_or, ◌∙◌, ap, refl, arith}
 use Rattle.std.proofs.Math.ListN.{set}
-use Rattle.std.specs.Prelude.{nat_eq, ◌==◌, ◌&&◌}
-use Rattle.std.specs.Cmp.Lexicographic.{pointwise}
-use Rattle.sym_model.specs.Polynomial.{same}
 use Rattle.sym_model.specs.Partition.{ArePositive, size}
 use Rattle.insertion_laws.proofs.Removals.{grown-here, grown-below}
 use Rattle.sym_model.specs.Growth.{grown, union, with_cell}
@@ -45,13 +42,7 @@ grown-none (a ∷ large) [] h p = let z = h 0 (omega arith) in let q = p.0 in ab
 grown-none (a ∷ large) (b ∷ small) h p =
     grown-below a b large small (h 0 (omega arith)) ∙ ap suc (grown-none large small (λ k n. h (suc k) (omega arith)) p.1)
 
-pub pointwise-same : (l r : List ℕ) → pointwise nat_eq l r ≡ same l r
-pointwise-same [] [] = refl
-pointwise-same [] (b ∷ r) = refl
-pointwise-same (a ∷ l) [] = refl
-pointwise-same (a ∷ l) (b ∷ r) = ap (λ t. (a == b) && t) (pointwise-same l r)
-
--- an entry of s, plus 1, is at most the size of s with a cell added in its row
+-- if v is the length of row i of the shape s, v + 1 is at most the size of s with a cell added in row i
 pub cell_fits : (i : ℕ) (s : List ℕ) (v : ℕ) → i < length s → v ≡ get_or s i v → v + 1 ≤ size (with_cell i s)
 cell_fits i [] v l e = absurd (omega arith)
 cell_fits zero (a ∷ s) v l e = omega arith

@@ -1,4 +1,4 @@
--- The lines of a grid, shape by shape.
+-- The lines of the growth grid of a permutation, and their shapes by index.
 use Rattle.std.proofs.Common.{◌≡◌, ℕ, zero, suc, ◌+◌, ◌-◌, ◌<◌, ◌≤◌, ◌==◌, List, [], ◌∷◌, ◌++◌, map, length, take, get_or, Vec, Global, ◌∙◌, ap, ap₂, sym, refl, arith}
 use Rattle.std.proofs.lemmas.List.{take_more, take_all, length-map, map-append, get_or-map, get_or-take, length-take-le}
 use Rattle.sym_model.specs.Partition.{after}
@@ -6,16 +6,11 @@ use Rattle.sym_model.specs.Permutation.{letter}
 use Rattle.sym_model.specs.Growth.{at_corner, grid_line, grid_lines, growth_shape}
 use Rattle.sym_model.proofs.AfterLists.{length_after}
 use Rattle.growth_diagrams.specs.Grids.{lines_in}
-
-get-after : {X : Type 0} (f : ℕ → X) (d : X) (a n k : ℕ) → k < n → get_or (map f (after a n)) k d ≡ f (a + k + 1)
-get-after f d a zero k l = absurd (omega arith)
-get-after f d a (suc n) zero l = let e : a + 1 ≡ a + 0 + 1 = omega arith in ap f e
-get-after f d a (suc n) (suc k) l =
-    let e : a + 1 + k + 1 ≡ a + suc k + 1 = omega arith in get-after f d (a + 1) n k (omega arith) ∙ ap f e
+use Rattle.skew_shapes.proofs.CellRows.{map_after-at}
 
 get-table : {X : Type 0} (f : ℕ → X) (d : X) (n k : ℕ) → k ≤ n → get_or (map f (0 ∷ after 0 n)) k d ≡ f k
 get-table f d n zero l = refl
-get-table f d n (suc k) l = let e : 0 + k + 1 ≡ suc k = omega arith in get-after f d 0 n k (omega arith) ∙ ap f e
+get-table f d n (suc k) l = let e : 0 + k + 1 ≡ suc k = omega arith in map_after-at f 0 n k d (omega arith) ∙ ap f e
 
 length-table : {X : Type 0} (f : ℕ → X) (n : ℕ) → length (map f (0 ∷ after 0 n)) ≡ n + 1
 length-table f n = omega (arith, length-map (after 0 n) f, length_after 0 n)
@@ -46,7 +41,7 @@ line_all w i k l = take_all k (grid_line w i) (omega (arith, length-line w i))
 pub lines_all : (w : List ℕ) (k : ℕ) → length w < k → take k (grid_lines w) ≡ grid_lines w
 lines_all w k l = take_all k (grid_lines w) (omega (arith, length-lines w))
 
--- the next shape of a line is given by the rule at its corner
+-- the growth shape at (number, k + 1) is given by the local rule from those at (number - 1, k), (number - 1, k + 1) and (number, k)
 pub corner_next :
     (w : List ℕ) (number k a : ℕ) (lower left right : List ℕ) → 1 ≤ number → number ≤ length w → k < length w → a ≡ letter w number
     → lower ≡ growth_shape w (number - 1) k → left ≡ growth_shape w (number - 1) (k + 1) → right ≡ growth_shape w number k
@@ -61,7 +56,7 @@ corner_next w (suc i) k a lower left right f l m e p q r =
     ∙ ap (at_corner (letter w (suc i) == suc k) (growth_shape w i k) (growth_shape w i (suc k))) r
     ∙ ap (growth_shape w (suc i)) (sym s)
 
--- the shape at place k of line i is the growth shape at (i, k)
+-- the shape at the index k of line i of the grid of w is the growth shape at (i, k)
 pub shape_in : (w : List ℕ) (line : List (List ℕ)) (i k here : ℕ) (x : List ℕ) → line ≡ grid_line w i → here ≡ k → k ≤ length w
     → x ≡ get_or line here x → x ≡ growth_shape w i k
 shape_in w line i k here x e f l g = g ∙ ap₂ (λ (m : List (List ℕ)) (n : ℕ). get_or m n x) e f ∙ get-line w i k x l
@@ -86,7 +81,7 @@ pub length_front : (w : List ℕ) (next : List (List ℕ)) (i k : ℕ) → next 
 length_front w next i k e l =
     ap (λ (m : List (List ℕ)). length m) e ∙ length-take-le (k + 1) (grid_line w i) (omega (arith, length-line w i))
 
--- ---- the grid as a vector of lines
+-- ---- the growth grid as a vector of lines
 
 pub line_in :
     (w : List ℕ) (lines : List (Vec (List ℕ) Global)) (i here : ℕ) (x : Vec (List ℕ) Global) → lines_in lines ≡ grid_lines w → here ≡ i

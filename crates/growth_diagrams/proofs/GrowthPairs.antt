@@ -1,8 +1,8 @@
--- The two tableaux of a permutation, read from its growth shapes, and the two tableaux of its inverse.
+-- The insertion tableau and the recording tableau of a permutation, read from its growth shapes, and those of its inverse.
 use Rattle.std.proofs.Common.{◌≡◌, ℕ, zero, suc, ◌+◌, ◌-◌, ◌<◌, ◌≤◌, ◌==◌, Bool, cond, List, [], ◌∷◌, ◌++◌, length, take, get_or, Some, ◌∙◌, ap, ap₂, sym, refl, subst, inl, inr, arith, nat_le}
 use Rattle.std.proofs.lemmas.Bool.{cases_lt, cases_eq, le-leb, lt-leb, eq-eqb, ne_eqb}
-use Rattle.std.proofs.lemmas.List.{length-take-le, take_all}
-use Rattle.std.proofs.Math.Seq.{take-suc}
+use Rattle.std.proofs.lemmas.List.{length-take-le, nil_from_length}
+use Rattle.std.proofs.Math.Seq.{take-suc, take-length}
 use Rattle.sym_model.specs.Insertion.{inserted, insertion_pair}
 use Rattle.sym_model.specs.Permutation.{AreInverse, IsOneLine, letter}
 use Rattle.sym_model.specs.Schur.{times_in}
@@ -17,9 +17,9 @@ use Rattle.growth_diagrams.proofs.LocalRules.{AreDifferent, AreGrown, alone, end
 use Rattle.sym_model.specs.Bounded.{AreBelow}
 use Rattle.sym_model.proofs.Contents.{times_in-none}
 
--- ---- the grid of the inverse
+-- ---- the growth grid of the inverse permutation
 
--- if w has suc j at the place i, counted from 0, then its inverse has suc i at the place j
+-- if v and w are inverse and w has the letter j + 1 at the index i, counted from 0, then v has the letter i + 1 at the index j
 inverse-place : (v w : List ℕ) (i j : ℕ) → ((k : ℕ) → 1 ≤ k → k ≤ length w → letter v (letter w k) ≡ k) → i < length w
     → letter w (suc i) ≡ suc j → letter v (suc j) ≡ suc i
 inverse-place v w i j h l e = ap (letter v) (sym e) ∙ h (suc i) (omega arith) (omega arith)
@@ -48,7 +48,7 @@ mirrored v w h =
           ∙ corner-mirrored (letter v (suc i) == suc j) (growth_shape w j i) (growth_shape w j (suc i)) (growth_shape w (suc j) i);
     }
 
--- ---- permutations have different letters from 1 to n
+-- ---- permutations: words of n different letters from 1 to n
 
 once_different : (w : List ℕ) → Once w → AreDifferent w
 once_different [] h k = omega arith
@@ -113,7 +113,7 @@ all_steps f n h z e j l =
     let b : j + 0 ≡ j = omega arith in
     omega (arith, up_by_one f h (n - j) j, ap f a, up_by_one f h j 0, ap f b)
 
--- w has different letters, from 1 to its length
+-- w is a permutation: its letters are different, and from 1 to its length
 pub record IsPerm (w : List ℕ) : Type 0 where
   pub different : AreDifferent w
   pub no_zero : times_in 0 w ≡ 0
@@ -142,7 +142,7 @@ perm_from w h =
       there = λ j l. steps j (all j (omega arith)) (all (suc j) (omega arith));
     }
 
--- ---- the insertion tableau is read from the last line
+-- ---- the insertion tableau is read from the last line of the growth grid
 
 chain_same : (n : ℕ) (s t : ℕ → List ℕ) → ((k : ℕ) → k ≤ n → s k ≡ t k) → tableau_of_chain s n ≡ tableau_of_chain t n
 chain_same zero s t h = refl
@@ -161,11 +161,7 @@ tableau-next j w d e = elim (extends j w (d (suc j))) [
 ]
 
 no_cells : (w : List ℕ) → length (at_most 0 w) ≡ 0 → tableau_of 0 w ≡ []
-no_cells w e = ap (inserted_word []) (no_list (at_most 0 w) e)
-  where
-    no_list : (v : List ℕ) → length v ≡ 0 → v ≡ []
-    no_list [] e = refl
-    no_list (a ∷ v) e = absurd (omega arith)
+no_cells w e = ap (inserted_word []) (nil_from_length (at_most 0 w) e)
 
 tableau_read : (w : List ℕ) → IsPerm w → (j : ℕ) → j ≤ length w → tableau_of j w ≡ tableau_of_chain (λ j. shape_of (tableau_of j w)) j
 tableau_read w p zero l = no_cells w (no_letters w p.no_zero)
@@ -173,7 +169,7 @@ tableau_read w p (suc j) l =
     tableau-next j w p.different (p.there j l)
     ∙ ap (with_end (grown (shape_of (tableau_of (suc j) w)) (shape_of (tableau_of j w))) (suc j)) (tableau_read w p j (omega arith))
 
--- ---- the recording tableau is read from the last column
+-- ---- the recording tableau is read from the last column of the growth grid
 
 recorded_next : (a : ℕ) (u : List ℕ)
     → (insertion_pair (u ++ a ∷ [])).1
@@ -199,22 +195,19 @@ recorded_read w (suc i) l =
     ∙ ap₂ (λ (k : ℕ) (r : List (List ℕ)). with_end (grown (shape_of (insertion_pair (take (suc i) w)).0) (shape_of (insertion_pair (take i w)).0)) k r) n
     (recorded_read w i (omega arith))
 
--- ---- the growth shapes are shapes of insertion tableaux
+-- ---- growth shapes are shapes of insertion tableaux
 
 shape_grown : (w : List ℕ) (i j : ℕ) → IsPerm w → i ≤ length w → j ≤ length w → shape_at w i j ≡ growth_shape w i j
 shape_grown w i j p l m = grown-shape w (shape_at w) (shapes_grown w p.different p.no_zero) i j l m
 
--- the growth shape at (i, j) is that of the insertion tableau of those of the first i letters that are at most j
+-- the growth shape of w at (i, j) is the shape of the insertion tableau of those of the first i letters of w that are at most j
 pub growth-shape : (w : List ℕ) (i j : ℕ) → IsPerm w → i ≤ length w → j ≤ length w
     → growth_shape w i j ≡ shape_of (insertion_pair (at_most j (take i w))).0
 growth-shape w i j p l m = sym (shape_grown w i j p l m) ∙ ap shape_of (sym (first-tableau (at_most j (take i w)) 1 [] []))
 
-all_taken : (w : List ℕ) → take (length w) w ≡ w
-all_taken w = take_all (length w) w (omega arith)
-
--- the growth shapes of the last line are the shapes of the insertion tableaux of the letters up to j
+-- the growth shape of w at (n, j), where n is the length of w, is the shape of the insertion tableau of the letters of w that are at most j
 line_shape : (w : List ℕ) → IsPerm w → (j : ℕ) → j ≤ length w → shape_of (tableau_of j w) ≡ growth_shape w (length w) j
-line_shape w p j l = ap (λ v. shape_of (tableau_of j v)) (sym (all_taken w)) ∙ shape_grown w (length w) j p (omega arith) l
+line_shape w p j l = ap (λ v. shape_of (tableau_of j v)) (sym (take-length w)) ∙ shape_grown w (length w) j p (omega arith) l
 
 line_tableau : (w : List ℕ) → IsPerm w → (j : ℕ) → j ≤ length w → tableau_of j w ≡ tableau_of_chain (λ j. growth_shape w (length w) j) j
 line_tableau w p j l =
@@ -230,7 +223,7 @@ first_of_grid w p =
     let n = length w in
     first-tableau w 1 [] [] ∙ ap (inserted_word []) (sym (at_most_all n w p.at_most_n)) ∙ line_tableau w p n (omega arith)
 
--- the growth shapes of the last column are the shapes of the insertion tableaux of the first i letters
+-- the growth shape of w at (i, n), where n is the length of w, is the shape of the insertion tableau of the first i letters of w
 column_shape : (w : List ℕ) → IsPerm w → (i : ℕ) → i ≤ length w → shape_of (insertion_pair (take i w)).0 ≡ growth_shape w i (length w)
 column_shape w p i l =
     let n = length w in
@@ -249,7 +242,7 @@ pub shape-column : (w : List ℕ) → IsPerm w → (i : ℕ) → i ≤ length w
 shape-column w p i l = ap shape_of (sym (column_tableau w p i l)) ∙ sym (one_shape (take i w)) ∙ column_shape w p i l
 
 pub second_of_grid : (w : List ℕ) → IsPerm w → (insertion_pair w).1 ≡ tableau_of_chain (λ i. growth_shape w i (length w)) (length w)
-second_of_grid w p = ap (λ v. (insertion_pair v).1) (sym (all_taken w)) ∙ column_tableau w p (length w) (omega arith)
+second_of_grid w p = ap (λ v. (insertion_pair v).1) (sym (take-length w)) ∙ column_tableau w p (length w) (omega arith)
 
 -- if v is the inverse of w, the growth shape of v at (i, j) is that of w at (j, i)
 pub mirror-shape : (v w : List ℕ) → AreInverse v w → (i j : ℕ) → i ≤ length w → j ≤ length w → growth_shape v i j ≡ growth_shape w j i

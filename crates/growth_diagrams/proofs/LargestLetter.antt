@@ -1,4 +1,4 @@
--- Insertion into a tableau with a largest letter at the end of a row.
+-- Insertion of a letter into a tableau whose largest letter m is at the end of a row.
 use Rattle.std.proofs.Common.{◌≡◌, ℕ, zero, suc, ◌<◌, ◌≤◌, List, [], ◌∷◌, ◌++◌, length, Option, Some, None, ◌∙◌, ap, ap₂, sym, refl, subst, inl, inr, arith}
 use Rattle.std.proofs.lemmas.Bool.{cases_lt}
 use Rattle.std.proofs.lemmas.List.{length-append}
@@ -10,7 +10,7 @@ use Rattle.insertion_laws.proofs.Removals.{grown-here, grown-below}
 use Rattle.sym_model.specs.Growth.{grown, with_end}
 use Rattle.sym_model.specs.Bounded.{AreBelow}
 
--- ---- all letters of the rows are smaller than m
+-- ---- tableaux whose letters are all smaller than m (`RowsBelow`)
 
 below_with : (m a : ℕ) (row : List ℕ) → a < m → AreBelow m row → AreBelow m (row_with a row)
 below_with m a [] l h = (l, tt)
@@ -34,13 +34,13 @@ below_inserted m a (row ∷ rows) l h = (below_with m a row l h.0, by (bumped a 
     by None e rec = subst (RowsBelow m) (sym (inserted-none rows)) h.1
     by (Some b) e rec = rec b (bumped_below m a b row h.0 e)
 
--- ---- a row with a largest letter after it
+-- ---- a row with the largest letter m appended
 
 none_bumped : (m : ℕ) (row : List ℕ) → AreBelow m row → bumped m row ≡ None
 none_bumped m [] h = refl
 none_bumped m (x ∷ row) h = bumped-more m x row (omega (arith, h.0)) ∙ none_bumped m row h.1
 
--- if inserting a appends it to the row, then in the row followed by m it replaces m
+-- if a < m and inserting a into the row replaces no letter, inserting a into the row with m appended replaces m
 end_taken : (m a : ℕ) (row : List ℕ) → a < m → bumped a row ≡ None
     → (bumped a (row ++ m ∷ []) ≡ Some m) × (row_with a (row ++ m ∷ []) ≡ row_with a row)
 end_taken m a [] l e = (bumped-less a m [] l, with-less a m [] l)
@@ -53,7 +53,7 @@ end_taken m a (x ∷ row) l e = elim (cases_lt a x) [
       )
 ]
 
--- if inserting a replaces b in the row, it also replaces b in the row followed by more letters
+-- if inserting a into the row replaces b, inserting a into the row with the letters `more` appended also replaces b
 end_kept : (a b : ℕ) (row more : List ℕ) → bumped a row ≡ Some b
     → (bumped a (row ++ more) ≡ Some b) × (row_with a (row ++ more) ≡ row_with a row ++ more)
 end_kept a b [] more e = cc
@@ -69,7 +69,7 @@ end_kept a b (x ∷ row) more e = elim (cases_lt a x) [
       )
 ]
 
--- ---- a tableau with a largest letter, and the cell that an insertion adds
+-- ---- a tableau with the largest letter m at the end of a row, and the cell that an insertion adds
 
 pub largest-last : (m : ℕ) (rows : List (List ℕ)) → RowsBelow m rows → inserted rows (Some m) ≡ with_end 0 m rows
 largest-last m [] h = refl
@@ -77,7 +77,7 @@ largest-last m (row ∷ rows) h =
     let e = none_bumped m row h.0 in
     ap₂ (λ (r : List ℕ) (o : Option ℕ). r ∷ inserted rows o) (with-end m row e) e ∙ ap (λ (r : List (List ℕ)). (row ++ m ∷ []) ∷ r) (inserted-none rows)
 
--- the row, counted from 0, to which insertion of a adds a cell
+-- the row, counted from 0, to which the insertion of a into the rows adds a cell
 abbrev pub row_of_cell : ℕ → List (List ℕ) → ℕ
 row_of_cell a rows = grown (shape_of (inserted rows (Some a))) (shape_of rows)
 
@@ -91,8 +91,8 @@ cell-below a b row rows e =
     grown-below (length (row_with a row)) (length row) (shape_of (inserted rows (bumped a row))) (shape_of rows) (omega (arith, length-with a b row e))
     ∙ ap (λ o. suc (grown (shape_of (inserted rows o)) (shape_of rows))) e
 
--- insertion of a, with the largest letter m at the end of row k: if the cell is added in row k, m moves into the next
--- row, and otherwise m stays
+-- the effect of inserting a into the tableau `rows` with the largest letter m appended to row k: if the insertion into `rows` adds a cell to row k, m
+-- moves to the end of row k + 1, and otherwise m stays at the end of row k
 pub data Beside (m k a : ℕ) (rows : List (List ℕ)) : Type 0 where
   pushed : row_of_cell a rows ≡ k → inserted (with_end k m rows) (Some a) ≡ with_end (suc k) m (inserted rows (Some a)) → Beside m k a rows
   stays : (row_of_cell a rows ≡ k → ⊥) → inserted (with_end k m rows) (Some a) ≡ with_end k m (inserted rows (Some a)) → Beside m k a rows

@@ -1,9 +1,8 @@
--- The shapes of the insertion tableaux of those of the letters w(1), .., w(i) that are at most j follow the local
--- rules.
+-- For each i and j, take those of the letters w(1), .., w(i) that are at most j, and the shape of their insertion tableau. These shapes follow the
+-- local rule of growth.
 use Rattle.std.proofs.Common.{◌≡◌, ℕ, zero, suc, ◌-◌, ◌<◌, ◌≤◌, ◌==◌, Bool, true, false, cond, List, [], ◌∷◌, ◌++◌, length, take, drop, get_or, Some, ◌∙◌, ap, ap₂, sym, refl, subst, inl, inr, arith, append_assoc, append-nil, nat_le}
 use Rattle.std.proofs.lemmas.Bool.{cases_lt, cases_eq, le-leb, lt-leb, eq-eqb, ne_eqb}
-use Rattle.std.proofs.lemmas.List.{length-map, take-append-drop}
-use Rattle.sym_model.proofs.Lists.{get_or-any}
+use Rattle.std.proofs.lemmas.List.{length-map, take-append-drop, get_or_default}
 use Rattle.std.proofs.Math.Seq.{take-suc}
 use Rattle.sym_model.specs.Insertion.{inserted}
 use Rattle.sym_model.specs.Permutation.{letter}
@@ -28,7 +27,7 @@ at_most-append j (a ∷ v) w = by (nat_le a j) (at_most-append j v w)
     by true e = ap (λ (u : List ℕ). a ∷ u) e
     by false e = e
 
--- the rows with a inserted, if a is at most j
+-- the tableau with the letter a inserted if a ≤ j; otherwise unchanged
 abbrev pub after_letter : ℕ → ℕ → List (List ℕ) → List (List ℕ)
 after_letter j a rows = inserted_word rows (at_most j (a ∷ []))
 
@@ -40,7 +39,7 @@ stays_out j a rows h = ap (λ (t : Bool). inserted_word rows (cond t (a ∷ []) 
 
 -- ---- the local rule at one square
 
--- `large` is `small`, or `small` with m at the end of a row if the word u has m
+-- `large` is `small` if the letter m does not occur in u, and otherwise `small` with m appended to a row
 pub data Extends (m : ℕ) (u : List ℕ) (small large : List (List ℕ)) : Type 0 where
   alone : times_in m u ≡ 0 → large ≡ small → Extends m u small large
   ended : 0 < times_in m u → (k : ℕ) → k ≤ length (shape_of small) → large ≡ with_end k m small → Extends m u small large
@@ -50,7 +49,8 @@ pub record IsSquare (j a : ℕ) (u : List ℕ) (small large : List (List ℕ)) :
   pub rule : shape_of (after_letter (suc j) a large)
       ≡ at_corner (a == suc j) (shape_of small) (shape_of large) (shape_of (after_letter j a small))
 
--- the local rule for a square follows from equations for two of its tableaux
+-- let `more` be `small` with the letter a inserted if a ≤ j, and `last` be `large` with a inserted if a ≤ j + 1 (`after_letter`): if `Extends` holds
+-- for `more` and `last`, and the shapes of the four tableaux satisfy the local rule, then `IsSquare` holds
 from_parts :
     (j a : ℕ) (u : List ℕ) (small large more last : List (List ℕ)) → after_letter j a small ≡ more → after_letter (suc j) a large ≡ last
     → Extends (suc j) (u ++ a ∷ []) more last
@@ -63,7 +63,8 @@ from_parts j a u small large more last e f n r =
       rule = ap shape_of f ∙ r ∙ ap (λ (x : List (List ℕ)). at_corner (a == suc j) (shape_of small) (shape_of large) (shape_of x)) (sym e);
     }
 
--- let all letters of `small` be less than m = j + 1, and `large` be `small` or `small` with m at the end of a row: the local rule holds for a < m
+-- the local rule (`IsSquare`) for a < m = j + 1, if all letters of `small` are less than m, and `large` is `small` or `small` with m appended to a
+-- row
 square_less :
     (j a : ℕ) (u : List ℕ) (small large : List (List ℕ)) → RowsBelow (suc j) small → a < suc j → Extends (suc j) u small large
     → IsSquare j a u small large
@@ -99,8 +100,8 @@ square_less j a u small large b l (ended t k n e) =
           ∙ ap₂ (λ (x y : List ℕ). at_corner (a == suc j) s x y) (sym μ) (sym c.is))
     ]
 
--- let all letters of `small` be less than m = j + 1, and `large` be `small` or `small` with m at the end of a row: if m occurs once in u and a together,
--- the local rule holds for a = m
+-- the local rule (`IsSquare`) for a = m = j + 1, if m occurs once in u with a appended, all letters of `small` are less than m, and `large` is
+-- `small` or `small` with m appended to a row
 square_same :
     (j a : ℕ) (u : List ℕ) (small large : List (List ℕ)) → RowsBelow (suc j) small → a ≡ suc j → times_in (suc j) (u ++ a ∷ []) ≤ 1
     → Extends (suc j) u small large → IsSquare j a u small large
@@ -113,7 +114,7 @@ square_same j a u small large b l o (alone t e) =
     (shape-last 0 (suc j) small ∙ ap (λ t. cond t (with_cell 0 s) s) (sym (eq-eqb a (suc j) l)) ∙ sym (corner-equal (a == suc j) s)
     ∙ ap (λ (x : List ℕ). at_corner (a == suc j) s x s) (ap shape_of (sym e)))
 
--- let `large` be `small` or `small` with m = j + 1 at the end of a row: the local rule holds for a > m
+-- the local rule (`IsSquare`) for a > m = j + 1, if `large` is `small` or `small` with m appended to a row
 square_more :
     (j a : ℕ) (u : List ℕ) (small large : List (List ℕ)) → suc j < a → Extends (suc j) u small large → IsSquare j a u small large
 square_more j a u small large l (alone t e) =
@@ -142,7 +143,7 @@ square j a u small large b o h = elim (cases_lt a (suc j)) [
   ]
 ]
 
--- ---- the local rules along a line of squares
+-- ---- the letters of a word inserted one after another: the tableau of those that are at most j, and of those that are at most j + 1
 
 after-more : (j a : ℕ) (v : List ℕ) (rows : List (List ℕ)) → inserted_word rows (at_most j (a ∷ v)) ≡ inserted_word (after_letter j a rows) (at_most j v)
 after-more j a v rows = ap (inserted_word rows) (at_most-append j (a ∷ []) v) ∙ word-append (at_most j (a ∷ [])) (at_most j v) rows
@@ -170,7 +171,7 @@ extends_run j (a ∷ v) u small large b o h =
     (subst (λ x. Extends (suc j) ((u ++ a ∷ []) ++ v) x (inserted_word large (at_most (suc j) (a ∷ v)))) (sym (after-more j a v small))
     (subst (λ y. Extends (suc j) ((u ++ a ∷ []) ++ v) (inserted_word (after_letter j a small) (at_most j v)) y) (sym (after-more (suc j) a v large)) r))
 
--- the insertion tableau of the letters of u up to j
+-- the insertion tableau of those letters of u that are at most j
 abbrev pub tableau_of : ℕ → List ℕ → List (List ℕ)
 tableau_of j u = inserted_word [] (at_most j u)
 
@@ -182,7 +183,7 @@ below_run j [] rows h = h
 below_run j (a ∷ v) rows h =
     subst (RowsBelow (suc j)) (sym (after-more j a v rows)) (below_run j v (after_letter j a rows) (below_after j a rows h))
 
--- ---- the local rules in the whole grid
+-- ---- the local rule in the whole growth grid
 
 -- no letter occurs twice in the word
 abbrev pub AreDifferent : List ℕ → Type 0
@@ -191,7 +192,7 @@ AreDifferent w = (k : ℕ) → times_in k w ≤ 1
 tableau-last : (j a : ℕ) (u : List ℕ) → tableau_of j (u ++ a ∷ []) ≡ after_letter j a (tableau_of j u)
 tableau-last j a u = ap (inserted_word []) (at_most-append j u (a ∷ [])) ∙ word-append (at_most j u) (at_most j (a ∷ [])) []
 
--- the shape of the insertion tableau of those of the first i letters that are at most j
+-- the shape of the insertion tableau of those of the first i letters of w that are at most j
 abbrev pub shape_at : List ℕ → ℕ → ℕ → List ℕ
 shape_at w i j = shape_of (tableau_of j (take i w))
 
@@ -216,7 +217,7 @@ none_at_most (zero ∷ w) h = absurd (omega arith)
 none_at_most (suc a ∷ w) h =
     ap (λ t. cond t (suc a ∷ at_most 0 w) (at_most 0 w)) (lt-leb (suc a) 0 (omega arith)) ∙ none_at_most w (omega arith)
 
--- shapes that are empty at the edges of the grid of w, and follow the local rules inside
+-- the shapes are empty for i = 0 and for j = 0, and follow the local rule of growth at each square of the grid of w
 pub record AreGrown (w : List ℕ) (shape : ℕ → ℕ → List ℕ) : Type 0 where
   pub left_edge : (i : ℕ) → shape i 0 ≡ []
   pub top_edge : (j : ℕ) → shape 0 j ≡ []
@@ -234,10 +235,10 @@ shapes_grown w d z =
           let e : i ≡ suc i - 1 = omega arith in
           square_rule w i j d l
           ∙ ap (λ a. at_corner (a == suc j) (shape_at w i j) (shape_at w i (suc j)) (shape_at w (suc i) j))
-          (get_or-any w i 0 (suc i) l ∙ ap (λ n. get_or w n (suc i)) e);
+          (get_or_default w i 0 (suc i) l ∙ ap (λ n. get_or w n (suc i)) e);
     }
 
--- ---- the rules determine the shapes
+-- ---- shapes that satisfy `AreGrown` are the growth shapes
 
 pub grown-shape : (w : List ℕ) (s : ℕ → ℕ → List ℕ) → AreGrown w s → (i j : ℕ) → i ≤ length w → j ≤ length w → s i j ≡ growth_shape w i j
 grown-shape w s g zero j l m = g.top_edge j

@@ -1,5 +1,5 @@
--- Both tableaux of a permutation are standard, and they are those of the chains of shapes in the last line and column of its
--- grid.
+-- The insertion tableau and the recording tableau of a permutation are standard, and are those of the chains of shapes in the last line and in the
+-- last column of its growth grid.
 use Rattle.std.proofs.Common.{◌≡◌, ℕ, zero, suc, ◌+◌, ◌<◌, ◌≤◌, ◌==◌, cond, List, [], ◌∷◌, ◌++◌, length, ◌∙◌, ap, sym, refl, subst, inl, inr, arith}
 use Rattle.std.proofs.lemmas.Bool.{cases_eq, eq-eqb, ne_eqb}
 use Rattle.sym_model.specs.Insertion.{insertion_pair}
@@ -84,7 +84,7 @@ standard_insertion w h =
       cells = as_many_cells w;
     })
 
--- ---- the tableaux of the last line and of the last column
+-- ---- the rows that edges.rt reads from the last line and from the last column
 
 -- the rows are those of a standard tableau of at most 512 cells
 pub record AreStandardRows (rows : List (List ℕ)) : Type 0 where

@@ -1,4 +1,4 @@
-//! The shape at a corner of a square of a growth diagram.
+//! The local rule of growth: the shape at the last corner of a square.
 ghost use Rattle.std.specs.Prelude.{◌≡◌, ◌≤◌, IfOk};
 ghost use Rattle.sym_model.specs.Growth.{at_corner, grown, union, with_cell};
 ghost use Rattle.sym_model.specs.Polynomial.{same};
@@ -8,9 +8,9 @@ use calc_base::NoMemory;
 use partitions::Partition;
 use std::alloc::Global;
 
-/// The growth shape at the last corner of a square, from `lower` at the opposite corner and `left`
-/// and `right` at the other two; `marked` says whether the square is marked by a letter of the
-/// permutation. Fails only if memory runs out.
+/// The growth shape at the last corner of a square, given the shape `lower` at the opposite corner
+/// and the shapes `left` and `right` at the other two corners; `marked` says whether the square is
+/// marked. Fails only if memory runs out.
 pub(crate) fn shape_at_corner(
     alloc: Global,
     marked: bool,
@@ -33,15 +33,15 @@ pub(crate) fn shape_at_corner(
     lower.copy()
 }
 
-/// Whether the two shapes are equal.
+/// Whether the shapes `left` and `right` are equal.
 fn are_same(left: &Partition, right: &Partition) -> bool
     ensures { result ≡ same left.now right.now }
 {
     left.parts() == right.parts()
 }
 
-/// The first row, counted from 0, in which `left` is longer than `lower`; if there is none, the
-/// number of rows of `left`.
+/// The first row, counted from 0, that is longer in `left` than in `lower`; the number of rows of
+/// `left` if there is no such row.
 pub(crate) fn first_longer(left: &Partition, lower: &Partition) -> u16
     ensures row { result ≡ grown left.now lower.now }
     ensures few { result ≤ 512 }
@@ -54,7 +54,8 @@ pub(crate) fn first_longer(left: &Partition, lower: &Partition) -> u16
     left.rows()
 }
 
-/// The shape with one more cell in the row, counted from 0, or with a new row.
+/// The shape with one more cell in row `row`, counted from 0. If the shape has no such row, the
+/// cell is a new last row.
 fn add_cell(alloc: Global, shape: &Partition, row: u16) -> Result<Partition, NoMemory>
     requires { IsWithinLimits (with_cell row shape.now) }
     ensures { IfOk result (λ larger. larger ≡ with_cell row shape.now) }

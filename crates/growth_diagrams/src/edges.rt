@@ -1,4 +1,5 @@
-//! The tableaux of the chains of shapes at two edges of a grid.
+//! The insertion tableau and the recording tableau of a permutation, read from two edges of its
+//! growth grid.
 ghost use Rattle.std.specs.Prelude.{◌≡◌, IfOk};
 ghost use Rattle.sym_model.specs.Insertion.{insertion_pair};
 ghost use Rattle.row_insertion.specs.RowLists.{straight};
@@ -10,7 +11,9 @@ use row_insertion::{push_at, standard_of};
 use skew_shapes::Standard;
 use std::alloc::Global;
 
-/// The insertion tableau, which is that of the chain of shapes in the last line.
+/// The insertion tableau of the permutation of the grid, read from the chain of shapes in the last
+/// line: each number k is in the cell that the shape at index k of the chain, counted from 0, has
+/// in addition to the shape before it.
 pub(crate) fn line_tableau(alloc: Global, grid: &Grid) -> Result<Standard, NoMemory>
     ensures { IfOk result (λ p. p ≡ straight (insertion_pair grid.now).0) }
 {
@@ -23,7 +26,9 @@ pub(crate) fn line_tableau(alloc: Global, grid: &Grid) -> Result<Standard, NoMem
     standard_of(alloc, &rows)
 }
 
-/// The recording tableau, which is that of the chain of shapes in the last column.
+/// The recording tableau of the permutation of the grid, read from the chain of shapes in the last
+/// column: each number k is in the cell that the shape at index k of the chain, counted from 0, has
+/// in addition to the shape before it.
 pub(crate) fn column_tableau(alloc: Global, grid: &Grid) -> Result<Standard, NoMemory>
     ensures { IfOk result (λ q. q ≡ straight (insertion_pair grid.now).1) }
 {

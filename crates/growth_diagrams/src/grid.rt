@@ -1,4 +1,4 @@
-//! The growth shapes of a permutation.
+//! The growth grid of a permutation.
 ghost use Rattle.std.specs.Prelude.{◌≡◌, ◌-◌, ◌≤◌, ℕ, List, IfOk, length, take};
 ghost use Rattle.sym_model.specs.Growth.{at_most, grid_line, growth_shape, tableau_of_chain};
 ghost use Rattle.sym_model.specs.Insertion.{insertion_pair};
@@ -16,7 +16,8 @@ use skew_shapes::Standard;
 use std::alloc::Global;
 use std::marker::Model;
 
-/// The growth shapes of a permutation of n letters, at (i, j) with i and j from 0 to n.
+/// A permutation of n letters, with the shapes of its growth diagram at the points (i, j), for i
+/// and j from 0 to n.
 #[derive(Drop)]
 pub struct Grid {
     permutation: Perm,
@@ -35,7 +36,7 @@ impl Model for Grid {
 }
 
 impl Grid {
-    /// The number of letters of the permutation.
+    /// The number n of letters of the permutation.
     pub fn side(&self) -> u16
         ensures value { result ≡ length self.now }
         ensures limits { IsWithinLimits self.now }
@@ -43,7 +44,8 @@ impl Grid {
         self.permutation.len()
     }
 
-    /// The growth shapes at (i, 0), .., (i, n), with n the number of letters and i at most n.
+    /// The line i of the grid: the growth shapes at (i, 0), .., (i, n), if the permutation has n
+    /// letters and i is at most n.
     pub fn line(&self, i: u16) -> &[Partition]
         requires { i ≤ length self.now }
         ensures shapes { result.now ≡ grid_line self.now i }
@@ -52,9 +54,9 @@ impl Grid {
         self.lines[usize::from(i)].as_slice()
     }
 
-    /// The growth shape at (i, j), with i and j at most the number of letters: the shape of the
-    /// insertion tableau of those of the first i letters that are at most j (Fomin; Stanley,
-    /// Enumerative Combinatorics 2, 7.13).
+    /// The growth shape at (i, j), for i and j up to the number of letters. It is the shape of the
+    /// insertion tableau of a word: the first i letters of the permutation, of which only those
+    /// that are at most j are kept (Fomin; Stanley, Enumerative Combinatorics 2, 7.13).
     pub fn shape_at(&self, i: u16, j: u16) -> &Partition
         requires i { i ≤ length self.now }
         requires j { j ≤ length self.now }
@@ -64,9 +66,9 @@ impl Grid {
         &self.line(i)[usize::from(j)]
     }
 
-    /// The insertion tableau and the recording tableau of the permutation, read from the edges of
-    /// its grid: the chains of shapes in the last line and in the last column. Those of the inverse
-    /// permutation are the same two, exchanged. Fails only if memory runs out.
+    /// The insertion tableau P and the recording tableau Q of the permutation, read from the chains
+    /// of shapes in the last line and in the last column of its grid. The inverse permutation has
+    /// the insertion tableau Q and the recording tableau P. Fails only if memory runs out.
     #[tactic(auto, using(insertion_laws::proofs::WordsAndPairs::one_shape))]
     pub fn pair_of(&self) -> Result<(Standard, Standard), NoMemory>
         ensures pair { IfOk result (λ pair. (pair.0.rows, pair.1.rows) ≡ insertion_pair self.now) }
@@ -87,7 +89,7 @@ impl Grid {
     }
 }
 
-/// The growth shapes of a permutation. Fails only if memory runs out.
+/// The growth grid of the permutation w. Fails only if memory runs out.
 pub fn grow(alloc: Global, w: &Perm) -> Result<Grid, NoMemory>
     ensures { IfOk result (λ grid. grid ≡ w.now) }
 {
@@ -101,7 +103,7 @@ pub fn grow(alloc: Global, w: &Perm) -> Result<Grid, NoMemory>
     Ok(Grid { permutation, lines })
 }
 
-/// The shapes at (0, 0), .., (0, n), which are empty.
+/// The first line of the grid of w: the shapes at (0, 0), .., (0, n), which are all empty.
 fn first_line(alloc: Global, w: &Perm) -> Result<Vec<Partition>, NoMemory>
     ensures { IfOk result (λ line. line.items ≡ grid_line w.now 0) }
 {
@@ -112,7 +114,7 @@ fn first_line(alloc: Global, w: &Perm) -> Result<Vec<Partition>, NoMemory>
     Ok(line)
 }
 
-/// The shapes of a line, from those of the line before it.
+/// The line `number` of the grid of w, computed by the local rule from `line`, the line before it.
 fn next_line(
     alloc: Global,
     w: &Perm,

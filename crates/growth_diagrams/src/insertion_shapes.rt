@@ -1,15 +1,16 @@
-//! Growth shapes and insertion tableaux (Fomin; Stanley, Enumerative Combinatorics 2, 7.13;
-//! Fulton, 4.2).
+//! Laws: growth shapes are shapes of insertion tableaux (Fomin; Stanley, Enumerative Combinatorics
+//! 2, 7.13; Fulton, 4.2).
 ghost use Rattle.std.specs.Prelude.{◌≡◌, ◌≤◌, ℕ, List, length, take};
 ghost use Rattle.sym_model.specs.Growth.{at_most, growth_shape, tableau_of_chain};
 ghost use Rattle.sym_model.specs.Insertion.{insertion_pair};
 ghost use Rattle.sym_model.specs.Permutation.{AreInverse, IsOneLine};
 ghost use Rattle.sym_model.specs.Tableau.{shape_of};
 
-/// The growth shape at (i, j) is the shape of the insertion tableau of those of the first i letters
-/// that are at most j. So the insertion tableau is that of the chain of shapes in the last line,
-/// and the recording tableau that of the chain in the last column: for 3 1 2 the chains (1), (2),
-/// (2,1) and (1), (1,1), (2,1).
+/// For a permutation w, the growth shape at (i, j) is the shape of the insertion tableau of the
+/// first i letters of w, of which only those that are at most j are kept. So the insertion tableau
+/// of w is the tableau of the chain of shapes in the last line (`tableau_of_chain`), and the
+/// recording tableau of w is the tableau of the chain of shapes in the last column. For w = 3 1 2
+/// the chain in the last line is (1), (2), (2,1), and that in the last column is (1), (1,1), (2,1).
 pub fn growth_law()
     ensures shapes { (w : List ℕ) (i j : ℕ) → IsOneLine w → i ≤ length w → j ≤ length w
         → growth_shape w i j ≡ shape_of (insertion_pair (at_most j (take i w))).0 }
@@ -19,8 +20,9 @@ pub fn growth_law()
         → (insertion_pair w).1 ≡ tableau_of_chain (λ i. growth_shape w i (length w)) (length w) }
 {}
 
-/// The growth shapes of the inverse permutation are the mirrored ones, so its two tableaux are
-/// exchanged (Schützenberger): those of 2 3 1 are those of 3 1 2 in the other order.
+/// If v is the inverse of w, the growth shape of v at (i, j) is that of w at (j, i). Moreover, the
+/// insertion tableau of v is the recording tableau of w, and the recording tableau of v is the
+/// insertion tableau of w (Schützenberger). For example, 2 3 1 is the inverse of 3 1 2.
 pub fn inverse_law()
     ensures shapes { (v w : List ℕ) (i j : ℕ) → AreInverse v w → i ≤ length w → j ≤ length w
         → growth_shape v i j ≡ growth_shape w j i }

@@ -1,4 +1,4 @@
--- Knuth classes: chains of steps can be joined, reversed, and extended by words before and after.
+-- Knuth classes: chains of Knuth steps can be joined and reversed, and the same letters can be added before and after all words of a chain.
 use Rattle.std.proofs.Common.{◌≡◌, ℕ, ◌<◌, ◌≤◌, List, [], ◌∷◌, ◌++◌, ◌∙◌, ap, sym, refl, subst, inl, inr, append_assoc, append-nil}
 use Rattle.sym_model.specs.Knuth.{AreKnuthRelated, IsKnuthStep, IsKnuthChain, AreKnuthEquivalent}
 
@@ -72,7 +72,7 @@ behind a {v} {w} h =
 pub before : (b : List ℕ) {v w : List ℕ} → AreKnuthEquivalent v w → AreKnuthEquivalent (v ++ b) (w ++ b)
 before b h = between [] b h
 
--- ---- the two Knuth exchanges, with any letters after them
+-- ---- the two Knuth exchanges of the first three letters of a word
 
 pub first_related : (x y z : ℕ) → x < y → y ≤ z → AreKnuthRelated (y ∷ z ∷ x ∷ []) (y ∷ x ∷ z ∷ [])
 first_related x y z l m = inl (inl (record { x = x; y = y; z = z; below = l; within = m; before = refl; after = refl }))

@@ -1,4 +1,4 @@
--- Row insertion into a tableau gives the rows of a tableau with one cell more.
+-- Inserting a letter into the rows of a straight tableau gives the rows of a straight tableau with one cell more.
 use Rattle.std.proofs.Common.{◌≡◌, ℕ, suc, ◌<◌, ◌≤◌, cond, List, [], ◌∷◌, ◌++◌, length, Option, Some, None, ◌∙◌, ap, sym, refl, subst, inl, inr, arith}
 use Rattle.std.proofs.lemmas.Bool.{cases_lt, lt-ltb, le-ltb}
 use Rattle.std.proofs.lemmas.List.{length-append}
@@ -8,7 +8,7 @@ use Rattle.insertion_laws.specs.Rows.{StandsOn, IsRowOver, AreRows, HasOneMore}
 use Rattle.tableau_laws.specs.Rows.{RisesFrom}
 use Rattle.tableau_laws.specs.Grid.{first_line}
 
--- ---- a letter inserted into a row
+-- ---- a letter inserted into one row: it replaces the first greater letter, or is appended
 
 pub with-less : (a b : ℕ) (row : List ℕ) → a < b → row_with a (b ∷ row) ≡ a ∷ row
 with-less a b row h = ap (λ t. cond t (a ∷ row) (b ∷ row_with a row)) (lt-ltb a b h)
@@ -32,7 +32,7 @@ bumped_greater a b (x ∷ row) e = elim (cases_lt a x) [
   | inr h ↦ bumped_greater a b row (sym (bumped-more a x row h) ∙ e)
 ]
 
--- a letter that replaces no other is appended to the row
+-- if a replaces no letter of the row, it is appended to the row
 pub with-end : (a : ℕ) (row : List ℕ) → bumped a row ≡ None → row_with a row ≡ row ++ a ∷ []
 with-end a [] e = refl
 with-end a (x ∷ row) e = elim (cases_lt a x) [
@@ -67,9 +67,9 @@ rises_with c a (x ∷ row) l h = elim (cases_lt a x) [
   | inr m ↦ subst (RisesFrom c) (sym (with-more a x row m)) (h.0, rises_with x a row m h.1)
 ]
 
--- ---- a row that fits below another, after a letter is inserted into one of them
+-- ---- two neighbouring rows of a tableau, after a letter is inserted into one of them
 
--- inserting a into the upper row makes one of its letters smaller or the row longer, so the lower row still fits below it
+-- if `lower` can be directly below `upper`, it can also be below `upper` with a inserted: one letter becomes smaller, or the row becomes longer
 pub stands_with : (a : ℕ) (lower upper : List ℕ) → StandsOn lower upper → StandsOn lower (row_with a upper)
 stands_with a [] upper h = tt
 stands_with a (y ∷ lower) [] h = absurd h
@@ -78,7 +78,7 @@ stands_with a (y ∷ lower) (x ∷ upper) h = elim (cases_lt a x) [
   | inr m ↦ subst (StandsOn (y ∷ lower)) (sym (with-more a x upper m)) (h.0, stands_with a lower upper h.1)
 ]
 
--- if a replaces b in the upper row, the lower row with b inserted fits below the upper one with a
+-- if `lower` can be directly below `upper`, and a replaces the letter b of `upper`, then `lower` with b inserted can be below `upper` with a inserted
 pub stands_bumped :
     (a b : ℕ) (lower upper : List ℕ) → bumped a upper ≡ Some b → StandsOn lower upper
     → StandsOn (row_with b lower) (row_with a upper)
@@ -119,7 +119,7 @@ stands-length [] upper h = omega arith
 stands-length (y ∷ lower) [] h = absurd h
 stands-length (y ∷ lower) (x ∷ upper) h = omega (arith, stands-length lower upper h.1)
 
--- ---- inserting a letter into all rows of a tableau
+-- ---- a letter inserted into the rows of a tableau
 
 pub inserted-none : (rows : List (List ℕ)) → inserted rows None ≡ rows
 inserted-none [] = refl

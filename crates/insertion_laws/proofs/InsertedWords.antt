@@ -1,8 +1,8 @@
--- The insertion tableau of a word, letter by letter.
+-- The insertion of a word into a tableau, letter by letter.
 use Rattle.std.proofs.Common.{◌≡◌, ℕ, List, [], ◌∷◌, ◌++◌, Some, refl}
 use Rattle.sym_model.specs.Insertion.{inserted, inserted_from}
 
--- the tableau after the letters of a word are inserted
+-- the rows of a tableau after the letters of a word are inserted one after another
 abbrev pub inserted_word : List (List ℕ) → List ℕ → List (List ℕ)
 inserted_word rows [] = rows
 inserted_word rows (a ∷ w) = inserted_word (inserted rows (Some a)) w

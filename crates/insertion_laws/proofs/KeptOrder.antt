@@ -1,4 +1,4 @@
--- After a slide all rows are semistandard: also those above the row of the empty cell.
+-- All rows are semistandard after a slide of a semistandard tableau: the row of the empty cell and the rows below it, and the rows above it.
 use Rattle.std.proofs.Common.{◌≡◌, ℕ, zero, suc, ◌+◌, ◌-◌, ◌<◌, ◌≤◌, true, nat_le, List, [], ◌∷◌, ◌++◌, map, length, take, drop, get_or, ◌∙◌, ap, ap₂, sym, refl, subst, inl, inr, arith, append-nil, cond, Bool, false}
 use Rattle.std.proofs.lemmas.Bool.{cases_eq, and_parts, leb-true}
 use Rattle.std.proofs.lemmas.List.{drop-drop, length-append, length-drop, length-take-le}
@@ -12,7 +12,7 @@ use Rattle.insertion_laws.proofs.RisingRows.{StandsUnder, first_row, order-tells
 use Rattle.insertion_laws.proofs.SlideSteps.{place_below, moved}
 use Rattle.insertion_laws.proofs.SlidOrder.{HasHole, slides}
 
--- ---- the shape of a tableau
+-- ---- the lengths of the rows of a tableau, and its shape
 
 first_end :
     (outer inner : List ℕ) (rows : List (List ℕ)) → map length rows ≡ row_lengths outer inner → contains outer inner ≡ true
@@ -42,7 +42,7 @@ shape-from (row ∷ rows) (a ∷ outer) (b ∷ inner) e h f g =
       shape-from rows outer inner rest p.1 (Falls_tail a outer f) (Falls_tail b inner g),
     )
 
--- ---- the conditions on a filling depend only on the parts of the inner partition
+-- ---- inner partitions with the same parts; `semistandard` depends only on these parts, not on zeros at the end of the list
 
 next_parts : (a b : List ℕ) → ((k : ℕ) → get_or a k 0 ≡ get_or b k 0) → (k : ℕ) → get_or (drop 1 a) k 0 ≡ get_or (drop 1 b) k 0
 next_parts a b e k = part_next a k ∙ e (k + 1) ∙ sym (part_next b k)
@@ -65,7 +65,7 @@ HasShape-parts [] a b e h = tt
 HasShape-parts (row ∷ below) a b e h =
     (omega (arith, h.0, e 0, e 1), omega (arith, h.1, e 0, e 1), HasShape-parts below (drop 1 a) (drop 1 b) (next_parts a b e) h.2)
 
--- ---- the first k rows of the tableau
+-- ---- the first k rows of a semistandard filling are semistandard
 
 stands_taken : (k s : ℕ) (row : List ℕ) (below : List (List ℕ)) → StandsUnder s row (first_row below) → StandsUnder s row (first_row (take k below))
 stands_taken zero s row below h i l m = absurd (omega arith)
@@ -84,9 +84,9 @@ semistandard-taken (suc k) (row ∷ below) inner h =
       later = semistandard-taken k below (drop 1 inner) t.later;
     })
 
--- ---- the rows above that of the empty cell
+-- ---- the rows above the row of the empty cell, which a slide does not change, and the slid rows below them
 
--- the new inner parts are the old ones, except that the one at the place i, counted from 0, is one less
+-- `new` has the parts of `inner`, except that the part at place i, counted from 0, is one less; the next part of `inner` is less than the part at i
 pub record IsLowered (i : ℕ) (inner new : List ℕ) : Type 0 where
   pub here : get_or new i 0 + 1 ≡ get_or inner i 0
   pub others : (k : ℕ) → (k ≡ i → ⊥) → get_or new k 0 ≡ get_or inner k 0
@@ -115,18 +115,19 @@ lowered_next i inner new h =
       );
     }
 
--- no letter of the new row, which begins d columns further left, is smaller than the letter that was in its cell
+-- the row `new` begins d columns to the left of the row `old` and does not end further right, and none of its letters is smaller than the letter of
+-- `old` in the same column
 record IsRaised (d : ℕ) (old new : List ℕ) : Type 0 where
   long : length new ≤ length old + d
   letters : (k : ℕ) → k < length old → k + d < length new → get_or old k 0 ≤ get_or new (k + d) 0
 
--- the rows after the slide from the row at the place i
+-- `rows_from i inner rows`: the rows after the slide in `rows` that begins in row i, counted from 0; `inner` has the inner parts after the slide
 abbrev pub rows_from : ℕ → List ℕ → List (List ℕ) → List (List ℕ)
 rows_from i inner rows =
     take i rows ++ slid_rows (drop i inner) [] (letters_of (take 1 (drop i rows))) (drop 1 (drop i rows))
 
--- the slid rows are semistandard, the ends of the rows are weakly decreasing, and the letters of the first row are not
--- smaller than before
+-- the rows `slid` are semistandard for the inner parts `new`, the columns in which they end are weakly decreasing, and no letter of the first row is
+-- smaller than the letter of `row` that was in its cell
 record IsKept (inner new row : List ℕ) (slid : List (List ℕ)) : Type 0 where
   order : semistandard new slid ≡ true
   first : (d : ℕ) → get_or new 0 0 + d ≡ get_or inner 0 0 → IsRaised d row (first_row slid)

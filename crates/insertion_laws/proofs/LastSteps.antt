@@ -1,4 +1,4 @@
--- The greatest number of a recording tableau is at the end of a row, in a corner; without it, the rows are still a tableau.
+-- The greatest number of a recording tableau is the last letter of a row, in a corner; without it, the rows are still a straight tableau.
 use Rattle.std.proofs.Common.{◌≡◌, ◌≢◌, ℕ, zero, suc, ◌+◌, ◌-◌, ◌<◌, ◌==◌, cond, List, [], ◌∷◌, ◌++◌, length, ◌∙◌, ap, ap₂, sym, refl, subst, inl, inr, arith, nat_lt}
 use Rattle.std.proofs.lemmas.Bool.{cases_lt, cases_eq, lt-ltb, le-ltb, eq-eqb, ne_eqb}
 use Rattle.std.proofs.lemmas.List.{length-append}
@@ -16,7 +16,7 @@ use Rattle.sym_model.specs.Bounded.{AreBelow}
 use Rattle.tableau_laws.specs.Rows.{RisesFrom}
 use Rattle.tableau_laws.specs.Grid.{first_line}
 
--- ---- all letters of a row are below a number
+-- ---- the letters of rows, compared with the greatest number k
 
 below_last : (c k : ℕ) (row : List ℕ) → RisesFrom c row → last_of row < k → AreBelow k row
 below_last c k [] h l = tt
@@ -72,9 +72,10 @@ without_below m k l (row ∷ q) r h = elim (cases_eq (last_of row) k) [
   | inr n ↦ subst (RowsBelow l) (sym (without-below k row q n)) (h.0, without_below m k l q r.1 h.1)
 ]
 
--- ---- only the row that ends with the greatest number has it
+-- ---- the only row that has the greatest number k is the one that ends with it
 
--- if a weakly increasing row with letters up to k does not end with k, and k occurs in it or in the rows q after it, then k occurs in q
+-- let all letters of a weakly increasing row be at most k: if the row does not end with k, and k occurs in the row or in the rows q below it, then k
+-- occurs in q
 later_rows :
     (m k : ℕ) (row : List ℕ) (q : List (List ℕ)) → IsRowOver m row q → AreBelow (k + 1) row → last_of row ≢ k
     → 0 < times_in k (row ++ letters_of q) → 0 < times_in k (letters_of q)
@@ -102,7 +103,7 @@ corner_found m k (row ∷ q) h b t = elim (cases_eq (last_of row) k) [
       (corner_found m k q h.1 b.1 (later_rows m k row q h.0 b.0 n t))
 ]
 
--- ---- the rows without the last letter k of one of them
+-- ---- taking out the greatest number k at the end of a row (`without_step`)
 
 again_here :
     (m k : ℕ) (row' row front : List ℕ) (p q : List (List ℕ)) → front ++ k ∷ [] ≡ row → AreRows m (row ∷ q) → length row' ≡ length row
@@ -165,9 +166,9 @@ keeps_without m k (row ∷ q) h b = elim (cases_eq (last_of row) k) [
       (record { filled = h.0.filled; rises = h.0.rises; stands = first_without m k row q h.1 b.1 h.0.stands }, keeps_without m k q h.1 b.1)
 ]
 
--- ---- p and q lose the same cell of their common shape
+-- ---- removing a letter from p (`removed`) and the number from q (`without_step`) removes the same cell of their common shape
 
--- the shape without the last cell of row i, counted from 0
+-- the shape without the last cell of row i, counted from 0; a row that becomes empty is dropped
 abbrev pub shape_less : ℕ → List ℕ → List ℕ
 shape_less i [] = []
 shape_less zero (a ∷ shape) = cond (nat_lt 1 a) ((a - 1) ∷ shape) shape

@@ -1,5 +1,5 @@
--- A letter that moves up from a row into the empty cell over it does not change the Knuth class of the two rows' letters
--- (Fulton, 2.1).
+-- If a letter moves up from a row into the empty cell above it, the words of the letters of these two rows, before and after, are in the same Knuth
+-- class (Fulton, 2.1).
 use Rattle.std.proofs.Common.{ℕ, ◌<◌, List, [], ◌∷◌, ◌++◌, ap, sym, arith, append_assoc}
 use Rattle.sym_model.specs.Knuth.{AreKnuthEquivalent}
 use Rattle.insertion_laws.specs.Rows.{StandsOn}
@@ -8,14 +8,15 @@ use Rattle.insertion_laws.proofs.Classes.{◌⨾◌, one_word, same_word, behind
 use Rattle.insertion_laws.proofs.ReadingWords.{through}
 use Rattle.tableau_laws.specs.Rows.{RisesFrom}
 
--- the words have the same length, and each letter of the upper one is smaller than that below it
+-- the two words have the same length, and each letter of `upper` is smaller than the letter of `lower` at its place
 abbrev pub IsOver : List ℕ → List ℕ → Type 0
 IsOver [] [] = Unit {0}
 IsOver [] (b ∷ lower) = ⊥
 IsOver (a ∷ upper) [] = ⊥
 IsOver (a ∷ upper) (b ∷ lower) = (a < b) × IsOver upper lower
 
--- by Knuth steps b moves over the word `lower`, if `lower` fits as a row below `right`, whose letters are at least b
+-- if all letters of the row `right` are at least b, and the weakly increasing row `lower` can be directly below `right`, then the words b, `lower`,
+-- `right` and `lower`, b, `right` are in the same Knuth class
 goes_behind : (b c : ℕ) (lower right : List ℕ) → RisesFrom b right → RisesFrom c lower → StandsOn lower right
     → AreKnuthEquivalent (b ∷ (lower ++ right)) (lower ++ b ∷ right)
 goes_behind b c [] right h k s = one_word (b ∷ right)

@@ -1,5 +1,5 @@
--- Three letters that one Knuth relation changes, inserted into one row: the row afterwards is the same, and the words of the letters that leave it
--- are equal or related by a Knuth relation.
+-- Two words of three letters that are related by a Knuth relation, inserted into the same row: the rows afterwards are equal, and the words of the
+-- letters that leave the row are equal or related by a Knuth relation.
 use Rattle.std.proofs.Common.{◌≡◌, ◌⊎◌, ℕ, ◌<◌, ◌≤◌, List, [], ◌∷◌, ◌++◌, Option, Some, None, ◌∙◌, ap, ap₂, sym, refl, subst, inl, inr, arith}
 use Rattle.std.proofs.lemmas.Bool.{cases_lt}
 use Rattle.sym_model.specs.Insertion.{row_with, bumped}
@@ -9,7 +9,7 @@ use Rattle.insertion_laws.proofs.Classes.{first_related, second_related}
 use Rattle.insertion_laws.proofs.RowRuns.{listed, row_after, letters_out, IsRun, run_none, run_less, run_more, run_past}
 use Rattle.tableau_laws.specs.Rows.{RisesFrom}
 
--- ---- the letters that leave a row
+-- ---- the letters that are replaced in a row by insertions
 
 pub bumped_from : (c a b : ℕ) (row : List ℕ) → RisesFrom c row → bumped a row ≡ Some b → c ≤ b
 bumped_from c a b [] r e = cc
@@ -18,7 +18,8 @@ bumped_from c a b (x ∷ row) r e = elim (cases_lt a x) [
   | inr l ↦ let s = bumped_from x a b row r.1 (sym (bumped-more a x row l) ∙ e) in omega (arith, r.0)
 ]
 
--- inserting y into the row replaces a letter that is at most d; this holds if z ≥ y, inserted after y, replaces d
+-- inserting y into the row replaces a letter that is at most d. By `takes_later`, this holds if y ≤ z, and if z replaces d when it is inserted after
+-- y
 pub record TakesLater (y z d : ℕ) (row : List ℕ) : Type 0 where
   pub earlier : ℕ
   pub is : bumped y row ≡ Some earlier
@@ -36,7 +37,7 @@ takes_later c y z d (x ∷ row) l r e = elim (cases_lt y x) [
       record { earlier = t.earlier; is = bumped-more y x row m ∙ t.is; order = t.order }
 ]
 
--- y, inserted after z, replaces a letter that is at most z; this holds for each y < z
+-- if z and then y is inserted into the row, y replaces a letter that is at most z; by `takes_earlier`, this holds if y < z
 pub record TakesEarlier (y z : ℕ) (row : List ℕ) : Type 0 where
   pub earlier : ℕ
   pub is : bumped y (row_with z row) ≡ Some earlier
@@ -54,7 +55,8 @@ takes_earlier y z (x ∷ row) l = elim (cases_lt z x) [
   ]
 ]
 
--- two words whose insertion into a row gives the same row, and of which the words of the letters that leave the row are equal or Knuth-related
+-- inserting v and inserting w into the row give the same row, and the words of the letters that leave the row are equal or related by a Knuth
+-- relation
 
 pub record AreAlike (row v w : List ℕ) : Type 0 where
   pub rows_same : row_after row v ≡ row_after row w
@@ -78,7 +80,7 @@ alike_past : (b : ℕ) (row v w : List ℕ) → IsRun (b ∷ row) v (b ∷ row_a
 alike_past b row v w h k a =
     alike h (record { row_is = k.row_is ∙ ap (λ (x : List ℕ). b ∷ x) (sym a.rows_same); out_is = k.out_is }) a.out
 
--- ---- the first Knuth relation: y z x and y x z, for x < y ≤ z
+-- ---- the words y z x and y x z, for x < y ≤ z, inserted into a row
 
 pub first_none : (x y z : ℕ) → x < y → y ≤ z
     → (row_after [] (y ∷ z ∷ x ∷ []) ≡ row_after [] (y ∷ x ∷ z ∷ [])) × (letters_out [] (y ∷ z ∷ x ∷ []) ≡ letters_out [] (y ∷ x ∷ z ∷ []))
@@ -120,7 +122,7 @@ first_alike c x y z (b ∷ row) l m r = elim (cases_lt y b) [
         let n = bumped_greater y a row e in
         inr (first_related b a d (omega arith) (omega (arith, t.order)))
 
--- ---- the second Knuth relation: x z y and z x y, for x ≤ y < z
+-- ---- the words x z y and z x y, for x ≤ y < z, inserted into a row
 
 pub second_none : (x y z : ℕ) → x ≤ y → y < z
     → (row_after [] (x ∷ z ∷ y ∷ []) ≡ row_after [] (z ∷ x ∷ y ∷ [])) × (letters_out [] (x ∷ z ∷ y ∷ []) ≡ letters_out [] (z ∷ x ∷ y ∷ []))

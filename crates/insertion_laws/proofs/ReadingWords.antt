@@ -18,14 +18,15 @@ use Rattle.insertion_laws.proofs.Triples.{class_same}
 use Rattle.sym_model.specs.Bounded.{AreAtLeast}
 use Rattle.tableau_laws.specs.Rows.{RisesFrom}
 
--- ---- inserting a letter into one row stays in the Knuth class
+-- ---- the word of a row and a letter a is in the Knuth class of the letter that a replaces, followed by the row with a inserted
 
--- a letter x after a row that begins with y > x moves to the left by Knuth steps until it is second in the row
+-- if the row y ∷ row is weakly increasing, and x < y, then the words y, `row`, x, `back` and y, x, `row`, `back` are in the same Knuth class
 pub through : (y x : ℕ) (row back : List ℕ) → x < y → RisesFrom y row → AreKnuthEquivalent (y ∷ (row ++ x ∷ back)) (y ∷ x ∷ (row ++ back))
 through y x [] back l h = one_word (y ∷ x ∷ back)
 through y x (z ∷ row) back l h = behind (y ∷ []) (through z x row back (omega (arith, h.0)) h.1) ⨾ first x y z (row ++ back) l h.0
 
--- inserting a into a row stays in the Knuth class, with the letter that a replaces in front of the row
+-- if the row is weakly increasing, and inserting a replaces the letter b, then the row followed by a is in the Knuth class of b followed by the row
+-- with a inserted
 row_class : (c a b : ℕ) (row : List ℕ) → RisesFrom c row → bumped a row ≡ Some b → AreKnuthEquivalent (row ++ a ∷ []) (b ∷ row_with a row)
 row_class c a b [] h e = cc
 row_class c a b (x ∷ row) h e = elim (cases_lt a x) [
@@ -50,7 +51,7 @@ row_class c a b (x ∷ row) h e = elim (cases_lt a x) [
               subst (λ v. AreKnuthEquivalent (x ∷ b ∷ v) (b ∷ x ∷ v)) (sym (with-more a y row m)) (second x y b (row_with a row) h.0 (omega arith))
         ]
 
--- ---- inserting a word into a tableau stays in the Knuth class
+-- ---- the reading word of a tableau, followed by a word w, is in the Knuth class of the reading word of the tableau with w inserted
 
 letters-push : (v : List (List ℕ)) (row : List ℕ) → letters_of (v ++ row ∷ []) ≡ letters_of v ++ row
 letters-push [] row = append-nil row
@@ -76,7 +77,7 @@ letter_class m a (row ∷ rows) h =
         behind (reading_word rows) (row_class m a b row h.0.rises e)
         ⨾ same_word (sym (append_assoc (reading_word rows) (b ∷ []) (row_with a row))) ⨾ before (row_with a row) (rec b)
 
--- the word `reading_word rows ++ w` is in the Knuth class of the reading word of the rows with w inserted
+-- the reading word of the rows, followed by w, is in the Knuth class of the reading word of the rows after the letters of w are inserted
 pub word_class :
     (w : List ℕ) (rows : List (List ℕ)) → AreRows 0 rows → AreKnuthEquivalent (reading_word rows ++ w) (reading_word (inserted_word rows w))
 word_class [] rows h = same_word (append-nil (reading_word rows))
@@ -84,19 +85,21 @@ word_class (a ∷ w) rows h =
     same_word (sym (append_assoc (reading_word rows) (a ∷ []) w)) ⨾ before w (letter_class 0 a rows h)
     ⨾ word_class w (inserted rows (Some a)) (keeps_rows 0 a rows (omega arith) h)
 
--- ---- inserting the reading word of a tableau gives the tableau
+-- ---- inserting the reading word of a tableau, letter by letter, gives the tableau
 
 from_rising : (c d : ℕ) (row : List ℕ) → c ≤ d → RisesFrom d row → AreAtLeast c row
 from_rising c d [] l h = tt
 from_rising c d (a ∷ row) l h = (omega (arith, h.0), from_rising c a row (omega (arith, h.0)) h.1)
 
--- inserting `row` does not replace a letter a in front of `lower`, if a is at most every letter of `row`
+-- suppose that inserting the letters of `row` into the row `lower` gives `row`, and that the letters of `lower` leave. If `row` is weakly increasing
+-- and a is at most each of its letters, then inserting the letters of `row` into a ∷ lower gives a ∷ row, and the letters of `lower` leave
 run_behind : (a : ℕ) (lower row : List ℕ) → RisesFrom a row → IsRun lower row row lower → IsRun (a ∷ lower) row (a ∷ row) lower
 run_behind a lower row h k =
     let p = run_past a lower row (from_rising a a row (omega arith) h) in
     record { row_is = p.row_is ∙ ap (λ (v : List ℕ). a ∷ v) k.row_is; out_is = p.out_is ∙ k.out_is }
 
--- if `row` fits above `lower`, then inserting it into `lower` gives `row`, and the letters of `lower` leave
+-- if the row `lower` can be directly below `row`, then inserting the letters of `row` into `lower` gives `row`, and the letters of `lower` leave in
+-- order
 pushes : (c : ℕ) (lower row : List ℕ) → RisesFrom c row → StandsOn lower row → IsRun lower row row lower
 pushes c [] [] h s = run_none []
 pushes c (b ∷ lower) [] h s = absurd s
@@ -120,7 +123,7 @@ reading_again m (row ∷ rows) h =
     ap (inserted_word []) (reading-more row rows) ∙ word-append (reading_word rows) row []
     ∙ ap (λ (r : List (List ℕ)). inserted_word r row) (reading_again m rows h.1) ∙ put_over m row rows h
 
--- a straight tableau whose reading word is in the Knuth class of w has the rows of the insertion tableau of w
+-- if the reading word of a straight tableau is in the Knuth class of w, the tableau is the insertion tableau of w
 pub only_tableau :
     (m : ℕ) (w : List ℕ) (rows : List (List ℕ)) → AreRows m rows → AreKnuthEquivalent (reading_word rows) w → rows ≡ inserted_word [] w
 only_tableau m w rows h k = sym (reading_again m rows h) ∙ class_same (reading_word rows) w k

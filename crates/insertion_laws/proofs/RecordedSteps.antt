@@ -1,4 +1,4 @@
--- Each step is recorded at the end of the row that grew, and the recording tableau stays a tableau.
+-- The number of an insertion is recorded at the end of the row that has become longer (`with_step`), and the recording tableau stays a tableau.
 use Rattle.std.proofs.Common.{◌≡◌, ◌⊎◌, ℕ, ◌+◌, ◌<◌, ◌≤◌, ◌==◌, cond, List, [], ◌∷◌, ◌++◌, length, ◌∙◌, ap, sym, subst, inl, inr, arith}
 use Rattle.std.proofs.lemmas.Bool.{cases_lt, lt-ltb, le-ltb}
 use Rattle.std.proofs.lemmas.List.{length-append}
@@ -14,7 +14,7 @@ use Rattle.tableau_laws.specs.Rows.{RisesFrom}
 use Rattle.tableau_laws.specs.Grid.{first_line}
 use Rattle.sym_model.proofs.Numbers.{below_more}
 
--- ---- the row in which the step is recorded
+-- ---- the row in which the number of an insertion is recorded
 
 pub step-here :
     (k : ℕ) (row steps : List ℕ) (p q : List (List ℕ)) → length steps < length row
@@ -47,7 +47,7 @@ shape-step k (row ∷ p) (steps ∷ q) h = by h (λ m. shape-step k p q m)
         ap shape_of (step-below k row steps p q (omega (arith, m.0))) ∙ ap (λ n. n ∷ shape_of (with_step k p q)) (sym m.0)
         ∙ ap (λ (s : List ℕ). length row ∷ s) (rec m.1)
 
--- ---- the number of times that a number occurs in the rows
+-- ---- the number of times that a number occurs in the recording tableau after a step is recorded
 
 pub times-step :
     (j k : ℕ) (p q : List (List ℕ)) → HasOneMore (shape_of p) (shape_of q)
@@ -76,7 +76,7 @@ times-step j k (row ∷ p) (steps ∷ q) h = by h (λ m. times-step j k p q m)
           rec m.1,
         )
 
--- ---- all letters of the rows are smaller than a number
+-- ---- all letters of the rows are less than a given number
 
 pub rows_below_more : (k l : ℕ) (q : List (List ℕ)) → k ≤ l → RowsBelow k q → RowsBelow l q
 rows_below_more k l [] le h = tt
@@ -98,7 +98,7 @@ below-step k (row ∷ p) (steps ∷ q) h = elim (cases_lt (length steps) (length
       (below_more k (k + 1) steps (omega arith) h.0, below-step k p q h.1)
 ]
 
--- ---- a letter k at the end of a row keeps the rows a tableau
+-- ---- recording a number k, which is greater than all letters, keeps the rows a tableau
 
 rises_end : (c k : ℕ) (row : List ℕ) → c ≤ k → AreBelow k row → RisesFrom c row → RisesFrom c (row ++ k ∷ [])
 rises_end c k [] l b h = (l, tt)
@@ -112,7 +112,7 @@ stands_end k [] (x ∷ upper) l b h = (b.0, tt)
 stands_end k (y ∷ lower) [] l b h = absurd h
 stands_end k (y ∷ lower) (x ∷ upper) l b h = (h.0, stands_end k lower upper (omega arith) b.1 h.1)
 
--- a row row' of a tableau is not longer than the row above it
+-- in a tableau that begins with the rows `row` and row', row' is not longer than `row`
 pub next_shorter : (m : ℕ) (row row' : List ℕ) (p : List (List ℕ)) → AreRows m (row ∷ row' ∷ p) → length row' ≤ length row
 next_shorter m row row' p h = stands-length row' row h.0.stands
 
@@ -160,7 +160,7 @@ keeps_steps m k (row ∷ p) (steps ∷ q) l r h b o = by o (λ n. keeps_steps m 
           rec n.1,
         )
 
--- a shape with one more cell has a size greater by 1
+-- if the shape `large` is `small` with one more cell, its size is greater by 1
 pub size-more : (large small : List ℕ) → HasOneMore large small → size large ≡ size small + 1
 size-more [] small h = absurd h
 size-more (a ∷ large) [] h = omega (arith, h.0, ap size h.1)

@@ -1,4 +1,5 @@
--- A cell removed from a tableau: what remains is a tableau, insertion adds the cell again, and removal undoes insertion.
+-- A cell removed from a straight tableau (`removed`): the rest is a straight tableau, inserting the letter that left adds the cell again, and removal
+-- undoes insertion.
 use Rattle.std.proofs.Common.{◌≡◌, ◌≢◌, ◌⊎◌, ℕ, zero, suc, ◌+◌, ◌<◌, ◌≤◌, cond, List, [], ◌∷◌, ◌++◌, length, Option, Some, None, ◌∙◌, ap, ap₂, sym, refl, subst, inl, inr, arith}
 use Rattle.std.proofs.lemmas.Bool.{cases_lt, lt-ltb, le-ltb, eq-eqb, ne_eqb}
 use Rattle.std.proofs.lemmas.List.{length-append}
@@ -14,7 +15,7 @@ use Rattle.sym_model.specs.Bounded.{AreBelow}
 use Rattle.tableau_laws.specs.Rows.{RisesFrom}
 use Rattle.tableau_laws.specs.Grid.{first_line}
 
--- rows and a letter a such that inserting a into the rows gives the tableau t
+-- the rows are those of a straight tableau with letters of at least m, a is at least m, and inserting a into the rows gives the tableau t
 pub record IsRemoval (m : ℕ) (t rows : List (List ℕ)) (a : ℕ) : Type 0 where
   pub least : m ≤ a
   pub rows_are : AreRows m rows
@@ -24,7 +25,7 @@ first_rises : (m : ℕ) (rows : List (List ℕ)) → AreRows m rows → RisesFro
 first_rises m [] h = tt
 first_rises m (row ∷ rows) h = h.0.rises
 
--- if the first row of a tableau is empty, the tableau has no row
+-- if the first row of a tableau is empty or does not exist, the tableau has no rows
 pub no_rows : (m : ℕ) (rows : List (List ℕ)) → AreRows m rows → length (first_line rows) < 1 → rows ≡ []
 no_rows m [] h l = refl
 no_rows m (row ∷ rows) h l = let f = h.0.filled in absurd (omega arith)
@@ -89,7 +90,7 @@ removed_below m b (x ∷ r) rest rows h o =
           ∙ ap (λ (t : List (List ℕ)). row ∷ t) o.gives;
     }
 
--- a cell can be removed from each corner
+-- if the shape of the tableau t has a corner in row i, `removed i t` gives rows and a letter whose insertion gives t (`IsRemoval`)
 pub removal_at :
     (m i : ℕ) (t : List (List ℕ)) → AreRows m t → HasCorner i (shape_of t) → IsRemoval m t (removed i t).0 (removed i t).1
 removal_at m zero [] h c = absurd c
@@ -99,7 +100,7 @@ removal_at m zero (row ∷ rest) h c =
 removal_at m (suc i) (row ∷ rest) h c =
     removed_below m (removed i rest).1 row rest (removed i rest).0 h (removal_at m i rest h.1 c)
 
--- ---- the row to which an insertion adds a cell
+-- ---- the first row that is longer in one shape than in another (`grown`), to which an insertion adds a cell
 
 pub grown-here : (a b : ℕ) (large small : List ℕ) → b < a → grown (a ∷ large) (b ∷ small) ≡ 0
 grown-here a b large small h = ap (λ t. cond t 0 (suc (grown large small))) (lt-ltb b a h)
@@ -115,7 +116,7 @@ grown-within (a ∷ large) (b ∷ small) = elim (cases_lt b a) [
   | inr h ↦ omega (arith, grown-below a b large small h, grown-within large small)
 ]
 
--- if p has one cell more than q, in some row, then `with_step` records k at the end of that row of q
+-- if the shape of p is that of q with one more cell, `with_step` records k in q at the end of the row that has this cell
 pub end-step :
     (k : ℕ) (p q : List (List ℕ)) → HasOneMore (shape_of p) (shape_of q) → with_end (grown (shape_of p) (shape_of q)) k q ≡ with_step k p q
 end-step k [] q h = absurd h
@@ -132,7 +133,7 @@ end-step k (row ∷ p) (steps ∷ q) h = by h (λ m. end-step k p q m)
         ap (λ i. with_end i k (steps ∷ q)) (grown-below (length row) (length steps) (shape_of p) (shape_of q) (omega (arith, m.0)))
         ∙ ap (λ (l : List (List ℕ)). steps ∷ l) (rec m.1) ∙ sym (step-below k row steps p q (omega (arith, m.0)))
 
--- removing the cell that an insertion of a adds gives the former rows, and a
+-- inserting a into the rows of a tableau and then removing the cell that was added gives these rows and the letter a
 pub off_again :
     (m a : ℕ) (rows : List (List ℕ)) → AreRows m rows
     → removed (grown (shape_of (inserted rows (Some a))) (shape_of rows)) (inserted rows (Some a)) ≡ (rows, a)
@@ -156,7 +157,7 @@ off_again m a (row ∷ rows) h = by (bumped a row) refl (λ b. off_again m b row
         ∙ ap {B = List (List ℕ) × ℕ} (λ (off : List (List ℕ) × ℕ). (row_back off.1 (row_with a row) ∷ off.0, letter_back off.1 (row_with a row))) (rec b)
         ∙ ap₂ {C = List (List ℕ) × ℕ} (λ r n. (r ∷ rows, n)) (row_again a b m row h.0.rises e) (letter_again a b m row h.0.rises e)
 
--- ---- the step that was recorded last is undone
+-- ---- the last letter of a row whose letters are all less than k; the insertion that was recorded with the greatest number is undone
 
 pub last_below : (k : ℕ) (row : List ℕ) → 0 < length row → AreBelow k row → last_of row < k
 last_below k [] f h = absurd (omega arith)

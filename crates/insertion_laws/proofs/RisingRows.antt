@@ -1,4 +1,4 @@
--- Weakly increasing rows and strictly increasing columns, place by place.
+-- Weakly increasing rows and strictly increasing columns, as conditions on the letters at each place.
 use Rattle.std.proofs.Common.{◌≡◌, ℕ, zero, suc, ◌+◌, ◌-◌, ◌<◌, ◌≤◌, true, ◌&&◌, nat_le, nat_lt, List, [], ◌∷◌, ◌++◌, length, drop, get_or, ◌∙◌, ap, refl, inl, inr, arith, length-append}
 use Rattle.std.proofs.lemmas.Bool.{cases_lt, leb-true, ltb-true, le-leb, lt-ltb, and_parts, and_from}
 use Rattle.std.proofs.lemmas.List.{get_or_append_left, get_or-append-add, get_or-drop, length-drop}
@@ -7,7 +7,7 @@ use Rattle.sym_model.specs.Schur.{row_rises, columns_rise, semistandard}
 use Rattle.sym_model.specs.Slide.{outer_parts}
 use Rattle.sym_model.proofs.Parts.{Falls-front}
 
--- ---- a place is before p, or from p on
+-- ---- a place k is before the place p (k < p), or is p + j for some j
 
 pub data Side (p k : ℕ) : Type 0 where
   before : k < p → Side p k
@@ -18,7 +18,7 @@ side_of p k = elim (cases_lt k p) [ inl h ↦ before h | inr h ↦ from (k - p) 
 
 -- ---- weakly increasing rows, by places
 
--- no letter is smaller than the one before it
+-- no letter of the word is smaller than the letter before it
 abbrev pub Rises : List ℕ → Type 0
 Rises w = (k : ℕ) → k + 1 < length w → get_or w k 0 ≤ get_or w (k + 1) 0
 
@@ -98,8 +98,8 @@ rises_append v w r s h k l = elim (side_of (length v) (k + 1)) [
 
 -- ---- strictly increasing columns, by places
 
--- each letter of the lower row is greater than the one above it; the upper row begins above the place s of the lower
--- one
+-- each letter of the row `lower` that is below a letter of the row `upper` is greater than that letter; the letter of `upper` at place k is above
+-- place s + k of `lower`
 abbrev pub StandsUnder : ℕ → List ℕ → List ℕ → Type 0
 StandsUnder s upper lower = (k : ℕ) → k < length upper → s + k < length lower → get_or upper k 0 < get_or lower (s + k) 0
 
@@ -147,13 +147,13 @@ stands-from s upper lower h =
       ap (λ n. get_or (drop s lower) n 0) e,
     ))
 
--- ---- semistandard fillings, one row after another
+-- ---- semistandard fillings: conditions on the first row, the row below it, and the other rows
 
--- the first row; an empty one if there is none
+-- the first row of a filling; the empty row if the filling has no row
 abbrev pub first_row : List (List ℕ) → List ℕ
 first_row rows = get_or rows 0 []
 
--- the first row is weakly increasing, the letters below it are greater, and the other rows are semistandard
+-- the row is weakly increasing, the letters below its letters in the next row are greater, and the rows below are semistandard
 pub record IsOrdered (inner row : List ℕ) (below : List (List ℕ)) : Type 0 where
   pub rises : Rises row
   pub stands : StandsUnder (part inner 1 - part inner 2) row (first_row below)
@@ -182,7 +182,7 @@ order-from inner row (lower ∷ rest) h =
     and_from (row_rises row && columns_rise row (drop s lower)) (semistandard (drop 1 inner) (lower ∷ rest))
     (and_from (row_rises row) (columns_rise row (drop s lower)) (rises-from row h.rises) (stands-from s row lower h.stands)) h.later
 
--- the inner parts are weakly decreasing, and so are the ends of the rows
+-- the rows have a skew shape: the inner parts are weakly decreasing, and so are the inner parts plus the lengths of the rows
 abbrev pub HasShape : List ℕ → List (List ℕ) → Type 0
 HasShape inner [] = Unit {0}
 HasShape inner (row ∷ below) =
@@ -191,7 +191,7 @@ HasShape inner (row ∷ below) =
 pub part_next : (inner : List ℕ) (k : ℕ) → get_or (drop 1 inner) k 0 ≡ get_or inner (k + 1) 0
 part_next inner k = let e : 1 + k ≡ k + 1 = omega arith in get_or-drop 1 inner k 0 ∙ ap (λ n. get_or inner n 0) e
 
--- ---- the places where the rows end
+-- ---- the outer parts of rows: the inner part of each row plus its length
 
 pub ends-first : (inner : List ℕ) (rows : List (List ℕ)) → get_or (outer_parts inner rows) 0 0 ≤ part inner 1 + length (first_row rows)
 ends-first inner [] = omega arith

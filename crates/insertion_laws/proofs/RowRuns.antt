@@ -1,26 +1,26 @@
--- The letters of a word inserted into a row one by one: the row afterwards, and the letters that are replaced.
+-- The letters of a word inserted into one row, one after another: the row afterwards, and the word of the letters that are replaced.
 use Rattle.std.proofs.Common.{◌≡◌, ℕ, ◌<◌, ◌≤◌, List, [], ◌∷◌, ◌++◌, Option, Some, None, ◌∙◌, ap, ap₂, refl}
 use Rattle.sym_model.specs.Insertion.{row_with, bumped, inserted}
 use Rattle.insertion_laws.proofs.InsertedRows.{with-less, with-more, bumped-less, bumped-more, inserted-none}
 use Rattle.insertion_laws.proofs.InsertedWords.{inserted_word}
 use Rattle.sym_model.specs.Bounded.{AreAtLeast}
 
--- the letter that leaves the row, if any, as a word
+-- the letter as a word of one letter; the empty word for None
 abbrev pub listed : Option ℕ → List ℕ
 listed None = []
 listed (Some b) = b ∷ []
 
--- the row after the letters of a word are inserted into it
+-- the row after the letters of a word are inserted into it one after another
 abbrev pub row_after : List ℕ → List ℕ → List ℕ
 row_after row [] = row
 row_after row (a ∷ w) = row_after (row_with a row) w
 
--- the letters that leave the row when the letters of a word are inserted, in order
+-- the word of the letters that are replaced, and so leave the row, when the letters of a word are inserted into it one after another
 abbrev pub letters_out : List ℕ → List ℕ → List ℕ
 letters_out row [] = []
 letters_out row (a ∷ w) = listed (bumped a row) ++ letters_out (row_with a row) w
 
--- inserting the letters of w into the row gives the row `new`, and the letters `out` leave it
+-- inserting the letters of w into the row gives the row `new`, and the word of the letters that leave the row is `out`
 pub record IsRun (row w new out : List ℕ) : Type 0 where
   pub row_is : row_after row w ≡ new
   pub out_is : letters_out row w ≡ out

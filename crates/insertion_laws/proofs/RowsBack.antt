@@ -1,4 +1,4 @@
--- A letter inserted into a row, and the reverse step.
+-- A letter inserted into a row, and the insertion undone: a letter b replaces the last letter smaller than b (`row_back`, `letter_back`).
 use Rattle.std.proofs.Common.{◌≡◌, ℕ, suc, ◌+◌, ◌<◌, ◌≤◌, cond, List, [], ◌∷◌, ◌++◌, length, Some, None, ◌∙◌, ap, ap₂, sym, refl, subst, inl, inr, arith}
 use Rattle.std.proofs.lemmas.Bool.{cases_lt, lt-ltb, le-ltb}
 use Rattle.std.proofs.lemmas.List.{length-append}
@@ -8,7 +8,7 @@ use Rattle.insertion_laws.specs.Removal.{row_back, letter_back, without_last, la
 use Rattle.insertion_laws.proofs.InsertedRows.{with-less, with-more, bumped-less, bumped-more, bumped_greater, with-end, some_same}
 use Rattle.tableau_laws.specs.Rows.{RisesFrom}
 
--- ---- the last letter of a row that is smaller than b
+-- ---- the last letter of a row that is smaller than b, and the row with b in its place
 
 pub back-more : (b a c : ℕ) (row : List ℕ) → c < b → row_back b (a ∷ c ∷ row) ≡ a ∷ row_back b (c ∷ row)
 back-more b a c row h = ap (λ t. cond t (a ∷ row_back b (c ∷ row)) (b ∷ c ∷ row)) (lt-ltb c b h)
@@ -22,7 +22,7 @@ letter-more b a c row h = ap (λ t. cond t (letter_back b (c ∷ row)) a) (lt-lt
 pub letter-here : (b a c : ℕ) (row : List ℕ) → b ≤ c → letter_back b (a ∷ c ∷ row) ≡ a
 letter-here b a c row h = ap (λ t. cond t (letter_back b (c ∷ row)) a) (le-ltb c b h)
 
--- the row begins with a letter smaller than b
+-- the row is not empty, and its first letter is smaller than b
 abbrev pub BeginsBelow : ℕ → List ℕ → Type 0
 BeginsBelow b [] = ⊥
 BeginsBelow b (a ∷ row) = a < b
@@ -64,7 +64,8 @@ rises_back b c x (y ∷ row) l h = elim (cases_lt y b) [
   | inr m ↦ subst (RisesFrom c) (sym (back-here b x y row m)) (omega (arith, h.0), (m, h.1.1))
 ]
 
--- if a weakly increasing row begins with a letter x < b, inserting the letter that the reverse step of b takes out gives the row again
+-- let a weakly increasing row begin with x < b, and let a be its last letter smaller than b: if b is written in the place of a, and then a is
+-- inserted, the result is the old row
 pub put_again : (b c x : ℕ) (row : List ℕ) → x < b → RisesFrom c (x ∷ row) → row_with (letter_back b (x ∷ row)) (row_back b (x ∷ row)) ≡ x ∷ row
 put_again b c x [] l h = with-less x b [] l
 put_again b c x (y ∷ row) l h = elim (cases_lt y b) [
@@ -85,7 +86,7 @@ bumped_again b c x (y ∷ row) l h = elim (cases_lt y b) [
   | inr m ↦ ap₂ bumped (letter-here b x y row m) (back-here b x y row m) ∙ bumped-less x b (y ∷ row) l
 ]
 
--- if inserting a into a weakly increasing row replaces b, the reverse step of b gives the row again
+-- if inserting a into a weakly increasing row replaces b, then replacing the last letter smaller than b by b (`row_back`) gives the old row
 pub row_again : (a b c : ℕ) (row : List ℕ) → RisesFrom c row → bumped a row ≡ Some b → row_back b (row_with a row) ≡ row
 row_again a b c [] h e = cc
 row_again a b c (x ∷ []) h e = elim (cases_lt a x) [
@@ -124,7 +125,8 @@ letter_again a b c (x ∷ y ∷ row) h e = elim (cases_lt a x) [
       ∙ letter_again a b x (y ∷ row) h.1 f
 ]
 
--- if `upper` fits above `lower` with b inserted, `upper` after the reverse step of b fits above `lower`
+-- ---- two neighbouring rows, after a letter b has gone back from the lower to the upper row: if `lower` with b inserted can be below `upper`, then
+-- `lower` can be below `row_back b upper`
 
 pub begins-above : (b : ℕ) (lower upper : List ℕ) → StandsOn (row_with b lower) upper → BeginsBelow b upper
 begins-above b [] [] h = h
@@ -173,7 +175,7 @@ stands_back b c (y ∷ lower) (x ∷ upper) r h s = elim (cases_lt b y) [
       | inr n ↦ subst (StandsOn (y ∷ lower)) (sym (back-here b x z upper n)) (m, t)
     ]
 
--- ---- a row and its last letter
+-- ---- a row without its last letter, and its last letter
 
 pub ends : (row : List ℕ) → 0 < length row → without_last row ++ last_of row ∷ [] ≡ row
 ends [] h = absurd (omega arith)

@@ -1,4 +1,4 @@
--- The letters after a slide are positive.
+-- If the letters of a tableau are positive, so are the letters of the rows after a slide.
 use Rattle.std.proofs.Common.{◌≡◌, ℕ, ◌+◌, Bool, true, false, cond, nat_le, List, [], ◌∷◌, ◌++◌, length, take, drop, ◌∙◌, ap, sym, refl, subst}
 use Rattle.std.proofs.lemmas.Bool.{and_parts, and_from}
 use Rattle.std.proofs.lemmas.List.{take-append-drop}
@@ -8,7 +8,7 @@ use Rattle.sym_model.specs.Tableau.{are_letters}
 use Rattle.sym_model.proofs.Tableaux.{are_letters-append}
 use Rattle.insertion_laws.proofs.SlideSteps.{place_below, moved}
 
--- ---- a word has positive letters if and only if its pieces have
+-- ---- the letters of words that are joined, and of words that are taken from a word, are positive
 
 letters-parts : (v w : List ℕ) → are_letters (v ++ w) ≡ true → (are_letters v ≡ true) × (are_letters w ≡ true)
 letters-parts [] w h = (refl, h)
@@ -23,9 +23,9 @@ letters-taken n w h = (letters-parts (take n w) (drop n w) (ap are_letters (take
 letters-dropped : (n : ℕ) (w : List ℕ) → are_letters w ≡ true → are_letters (drop n w) ≡ true
 letters-dropped n w h = (letters-parts (take n w) (drop n w) (ap are_letters (take-append-drop n w) ∙ h)).1
 
--- ---- the rows after a slide have positive letters
+-- ---- the letters of the rows after a slide are positive
 
--- the letters of the rows are positive
+-- all letters of all rows are positive
 abbrev pub AreLetters : List (List ℕ) → Type 0
 AreLetters rows = are_letters (letters_of rows) ≡ true
 

@@ -1,4 +1,4 @@
--- After a slide the rows from that of the empty cell on are semistandard.
+-- After a slide the rows from the row of the empty cell on are semistandard.
 use Rattle.std.proofs.Common.{◌≡◌, ℕ, zero, suc, ◌+◌, ◌-◌, ◌<◌, ◌≤◌, true, false, List, [], ◌∷◌, ◌++◌, length, take, drop, get_or, ◌∙◌, ap, sym, refl, subst, inl, inr, arith, append_assoc, length-append}
 use Rattle.std.proofs.lemmas.Bool.{cases_Bool, leb-true, leb-false}
 use Rattle.std.proofs.lemmas.List.{get_or_append_left, get_or-append-add, get_or-drop, get_or-take, length-drop, length-take-le, length_push, get_or_push, drop_all}
@@ -9,8 +9,8 @@ use Rattle.sym_model.proofs.Parts.{Falls-front}
 use Rattle.insertion_laws.proofs.RisingRows.{before, from, side_of, Rises, rises_left, rises_right, rises_front, rises_append, rises-from, StandsUnder, first_row, order-tells, order-from, HasShape, ends-first, ends-fall, part_next}
 use Rattle.insertion_laws.proofs.SlideSteps.{place_below, slid-moves_left, slid-moves_up, slid-stops}
 
--- rows with an empty cell in the first one, between the letters left and right, that are semistandard except for that
--- cell
+-- a first row with an empty cell between the words `left` and `right`, and the rows below it: they are semistandard and have a skew shape, except for
+-- the empty cell
 pub record HasHole (inner left right : List ℕ) (below : List (List ℕ)) : Type 0 where
   pub falls : part inner 2 ≤ part inner 1
   pub rises : Rises (left ++ right)
@@ -20,12 +20,13 @@ pub record HasHole (inner left right : List ℕ) (below : List (List ℕ)) : Typ
   pub shape : HasShape (drop 1 inner) below
   pub order : semistandard (drop 1 inner) below ≡ true
 
--- the first letter of the word w, if it has one, is at least x
+-- `IsAtMost x w`: x is at most the first letter of the word w, if w has a letter
 abbrev pub IsAtMost : ℕ → List ℕ → Type 0
 IsAtMost x w = 0 < length w → x ≤ get_or w 0 0
 
--- the first row after the slide, compared with the letters left and right of the empty cell and with those of the next
--- row from the cell's column on
+-- `first` is the first row after a slide from an empty cell between the words `left` and `right`; `lower` is the next row from the column of the
+-- empty cell on. The letters in the cells of `left` are unchanged, and those in the cells of `right` are not smaller than before. If a letter has
+-- moved into the empty cell, each x with `IsAtMost x right` and `IsAtMost x lower` is at most this letter
 pub record IsSlid (left right lower first : List ℕ) : Type 0 where
   pub long : length first ≤ length left + 1 + length right
   pub before : (k : ℕ) → k < length left → get_or first k 0 ≡ get_or left k 0
@@ -37,7 +38,7 @@ pub record Slides (inner left right : List ℕ) (below : List (List ℕ)) : Type
   pub first : IsSlid left right (drop (place_below inner left) (first_row below)) (first_row (slid_rows inner left right below))
   pub falls : Falls (outer_parts inner (slid_rows inner left right below))
 
--- ---- the empty cell is in the last row
+-- ---- the slide in the last row: the letters to the right of the empty cell move left
 
 last_slid : (left right : List ℕ) → Rises (left ++ right) → IsSlid left right [] (left ++ right)
 last_slid left right r = record {
@@ -68,7 +69,7 @@ slides_last inner left right h = record {
   falls = tt;
 }
 
--- ---- the empty cell moves down
+-- ---- the letter below the empty cell moves up, and the empty cell is then in the next row
 
 pub hole_below :
     (inner row : List ℕ) (place : ℕ) (below : List (List ℕ)) → place < length row → HasShape inner (row ∷ below)
@@ -118,7 +119,8 @@ hole_below inner row place below l s o =
       order = t.later;
     }
 
--- if the letter b below has moved into the row of the empty cell, the rows are semistandard again
+-- if the letter b below the empty cell moves up, b is at most the letters of `right`, and the next rows are semistandard after the slide, then all
+-- rows are semistandard after it
 risen_order :
     (inner left right row : List ℕ) (b : ℕ) (below rows : List (List ℕ)) → HasHole inner left right (row ∷ below)
     → place_below inner left < length row → b ≡ get_or row (place_below inner left) 0 → IsAtMost b right
@@ -249,7 +251,7 @@ slides_up inner left right row lower b below ih h e m =
           )) n.falls);
     }
 
--- ---- the slide ends, as the empty cell has no neighbour
+-- ---- the empty cell has no letter to its right and none below: the slide ends
 
 slides_end : (inner left row : List ℕ) (below : List (List ℕ)) → HasHole inner left [] (row ∷ below) → drop (place_below inner left) row ≡ [] → Slides inner left [] (row ∷ below)
 slides_end inner left row below h e =
@@ -277,7 +279,7 @@ slides_end inner left row below h e =
           )) (ends-fall (row ∷ below) (drop 1 inner) h.shape));
     }
 
--- ---- the empty cell moves to the right
+-- ---- the letter to the right of the empty cell moves left, and the empty cell moves to the right
 
 smaller_moves : (a : ℕ) (right lower : List ℕ) → moves_up (a ∷ right) lower ≡ false → 0 < length lower → a < get_or lower 0 0
 smaller_moves a right [] h l = absurd (omega arith)
@@ -357,7 +359,7 @@ slid_right inner left right row first a below h m n =
       ];
     }
 
--- ---- all moves of the empty cell, from its row on
+-- ---- after all moves of a slide, the rows from that of the empty cell on are semistandard
 
 pub data Shown (w : List ℕ) : Type 0 where
   nothing : w ≡ [] → Shown w

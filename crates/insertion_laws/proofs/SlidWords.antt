@@ -1,4 +1,4 @@
--- A slide keeps the Knuth class of the reading word.
+-- The reading words of a tableau before and after a slide are in the same Knuth class.
 use Rattle.std.proofs.Common.{◌≡◌, ℕ, zero, suc, ◌+◌, ◌-◌, ◌<◌, ◌≤◌, true, List, [], ◌∷◌, ◌++◌, length, take, drop, get_or, ◌∙◌, ap, ap₂, sym, refl, subst, inl, inr, arith, append_assoc, append-nil}
 use Rattle.std.proofs.lemmas.Bool.{cases_Bool}
 use Rattle.std.proofs.lemmas.List.{take-append-drop, drop-drop, get_or-take, get_or-drop, length-take-le, length-drop, nil_from_length}
@@ -20,7 +20,7 @@ use Rattle.insertion_laws.proofs.ReadingWords.{reading-more, only_tableau_from}
 use Rattle.insertion_laws.proofs.MovedUp.{IsOver, moves_between}
 use Rattle.tableau_laws.specs.Rows.{RisesFrom}
 
--- ---- weakly increasing rows, and letters smaller than those below: from conditions at each place to conditions on lists
+-- ---- weakly increasing rows and strictly increasing columns: from conditions at each place to conditions on lists
 
 rises_to_from : (c : ℕ) (w : List ℕ) → IsAtMost c w → Rises w → RisesFrom c w
 rises_to_from c [] h r = tt
@@ -40,7 +40,7 @@ stands_from (b ∷ lower) [] l h = absurd (omega arith)
 stands_from (b ∷ lower) (a ∷ right) l h =
     (h 0 (omega arith), stands_from lower right (omega arith) (λ k m. h (suc k) (omega arith)))
 
--- ---- a letter that moves up keeps the Knuth class
+-- ---- if a letter moves up into the empty cell, the word of the letters of its row and of the row above stays in the same Knuth class
 
 row_split : (inner left row lower : List ℕ) (b : ℕ) → drop (place_below inner left) row ≡ b ∷ lower
     → row ≡ take (place_below inner left) row ++ b ∷ lower
@@ -85,7 +85,7 @@ rows_exchange inner left right row lower b below h e m =
     ⨾ same_word (sym (append_assoc v₀ v (lower ++ (left ++ b ∷ right))) ∙ ap (λ (w : List ℕ). w ++ (lower ++ (left ++ b ∷ right))) parts
     ∙ sym (append_assoc front lower (left ++ b ∷ right)) ∙ ap (λ (w : List ℕ). (front ++ w) ++ (left ++ b ∷ right)) (sym rest))
 
--- ---- all moves of a slide keep the Knuth class
+-- ---- all moves of a slide, from the row of the empty cell on, keep the Knuth class of the reading word
 
 class_up :
     (inner left right row lower : List ℕ) (b : ℕ) (below : List (List ℕ))
@@ -134,7 +134,7 @@ pub slid_class :
 slid_class [] inner left right h = one_word (reading_word ((left ++ right) ∷ []))
 slid_class (row ∷ below) inner left right h = class_row right inner left row below (slid_class below) h
 
--- ---- the slid rows together with the rows above
+-- ---- a slide keeps the Knuth class of the reading word of all rows, including the rows above that of the empty cell
 
 rows_class :
     (i : ℕ) (inner new : List ℕ) (rows : List (List ℕ)) → i < length rows → HasShape inner rows → semistandard inner rows ≡ true
@@ -177,7 +177,7 @@ slide_class row t h c =
     (shape-from t.rows t.outer t.inner h.cells h.holds h.outside.falls h.inside.falls) h.order (corner-lowered row t.inner c)
     ⨾ same_word (sym (reading-taken (rows_from (row - 1) new t.rows) new))
 
--- ---- several slides keep the Knuth class
+-- ---- several slides, one after another, keep the Knuth class of the reading word
 
 pub slides_class :
     (chosen : List ℕ) (t s : SkewFilling) → IsTableau t.outer t.inner t.rows → SlidesTo t chosen s
@@ -193,18 +193,16 @@ straight_from s h e =
     let k : IsTableau s.outer [] s.rows = subst (λ i. IsTableau s.outer i s.rows) e h in
     subst (λ o. IsTableau o [] s.rows) (sym (k.cells ∙ row_lengths-none s.outer)) k
 
--- a straight tableau s that slides of t reach is the only one whose reading word is in the Knuth class of the reading word of t
+-- if slides lead from t to a straight tableau s, the rows of s are the only straight tableau whose reading word is in the Knuth class of the reading
+-- word of t
 pub reached_only : (t s : SkewFilling) → IsTableau t.outer t.inner t.rows → IsReached t s → IsOnlyTableauOf (reading_word t.rows) s.rows
 reached_only t s h r =
     let c = slides_class r.chosen t s h r.slides in
     only_tableau_from (reading_word t.rows) s.rows (straight_from s c.1 r.straight) c.0
 
-no_parts : (parts : List ℕ) → length parts ≤ 0 → parts ≡ []
-no_parts [] h = refl
-no_parts (a ∷ parts) h = absurd (omega arith)
-
--- if the reading word of a straight tableau is in the Knuth class of w, no other straight tableau has its reading word there
+-- if s is a straight tableau, and its reading word is in the Knuth class of w, then the rows of s are the only straight tableau whose reading word is
+-- in this class
 pub straight_only :
     (w : List ℕ) (s : SkewFilling) → IsTableau s.outer s.inner s.rows → length s.inner ≤ 0 → AreKnuthEquivalent w (reading_word s.rows)
     → IsOnlyTableauOf w s.rows
-straight_only w s h e k = only_tableau_from w s.rows (straight_from s h (no_parts s.inner e)) k
+straight_only w s h e k = only_tableau_from w s.rows (straight_from s h (nil_from_length s.inner (let few = e in omega arith))) k

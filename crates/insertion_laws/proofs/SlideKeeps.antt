@@ -13,9 +13,9 @@ use Rattle.sym_model.proofs.Tableaux.{length-row_lengths, get_or-row_lengths}
 use Rattle.insertion_laws.proofs.RisingRows.{ends-at, length-ends}
 use Rattle.insertion_laws.proofs.SlidLetters.{AreLetters-append, AreLetters-taken, AreLetters-dropped, slid-letters}
 use Rattle.insertion_laws.proofs.KeptOrder.{IsLowered, ends-kept, length-rows_from, lowered_less, rows_from, order-kept, semistandard-taken, shape-from}
-use Rattle.strip_laws.proofs.Strips.{falls_get}
+use Rattle.strip_laws.proofs.Strips.{falls_at}
 
--- ---- the inner partition after a slide
+-- ---- the inner partition after a slide: one part is lowered by 1
 
 part_lowered : (row : ℕ) (inner : List ℕ) → HasInnerCorner row inner → IsLowered (row - 1) inner (lowered_at row inner)
 part_lowered zero inner h = absurd (omega (arith, h.0))
@@ -40,7 +40,7 @@ corner-lowered row inner h =
       corner = l.corner;
     }
 
--- a slide makes the inner partition smaller by one cell
+-- the inner partition after a slide has one cell less
 pub slide-smaller : (row : ℕ) (t : SkewFilling) → HasInnerCorner row t.inner → size (slide row t).inner + 1 ≡ size t.inner
 slide-smaller zero t h = absurd (omega (arith, h.0))
 slide-smaller (suc i) t h =
@@ -48,7 +48,7 @@ slide-smaller (suc i) t h =
     let some : 0 < get_or t.inner i 0 = omega (arith, h.1, ap (λ n. get_or t.inner n 0) e) in
     omega (arith, size-without_last_zeros (lowered_at (suc i) t.inner), size-lowered t.inner i some)
 
--- ---- the row in which the slide begins
+-- ---- the number of rows of a tableau is that of its outer partition, so it has the row in which a slide begins
 
 pub count-rows : (t : SkewFilling) → IsTableau t.outer t.inner t.rows → length t.rows ≡ length t.outer
 count-rows t h =
@@ -59,10 +59,7 @@ corner_row row t h c =
     let count = count-rows t h in
     omega (arith, positive_within t.outer (row - 1) (omega (arith, contains-tells t.outer t.inner h.holds row, c.1)))
 
--- ---- the shape after the slide
-
-pub falls-at : (parts : List ℕ) (k : ℕ) → Falls parts → get_or parts (k + 1) 0 ≤ get_or parts k 0
-falls-at parts k h = let e : suc k ≡ k + 1 = omega arith in subst (λ n. get_or parts n 0 ≤ get_or parts k 0) e (falls_get parts h k)
+-- ---- the outer and inner partitions after the slide
 
 falls-lowered : (i : ℕ) (inner new : List ℕ) → Falls inner → IsLowered i inner new → Falls new
 falls-lowered i inner new f l =
@@ -77,11 +74,11 @@ falls-lowered i inner new f l =
             ap (λ n. get_or new n 0) e,
             ap (λ n. get_or inner (n + 1) 0) e,
           )
-      | inr d ↦ omega (arith, l.others k d, falls-at inner k f, lowered_less i (k + 1) inner new l)
+      | inr d ↦ omega (arith, l.others k d, falls_at inner f k, lowered_less i (k + 1) inner new l)
     ])
 
--- semistandard rows of positive letters whose ends are weakly decreasing are a tableau; its outer shape is the list of these ends, without zeros at
--- the end
+-- rows of positive letters that are semistandard for the inner partition `new`, and whose outer parts are weakly decreasing, are a tableau; its outer
+-- partition is the list of the outer parts without the zeros at its end
 built : (new : List ℕ) (rows : List (List ℕ)) → IsPartition new → Falls (outer_parts new rows)
     → ((k : ℕ) → length rows ≤ k → get_or new k 0 ≡ 0)
     → are_letters (letters_of rows) ≡ true → semistandard new rows ≡ true

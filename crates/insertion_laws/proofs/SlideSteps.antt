@@ -1,15 +1,16 @@
--- A slide, one move of a letter after another.
+-- A slide as a sequence of moves of the empty cell: to the right or down, until the slide ends.
 use Rattle.std.proofs.Common.{◌≡◌, ℕ, suc, ◌+◌, ◌-◌, ◌<◌, ◌≤◌, Bool, true, false, cond, nat_le, List, [], ◌∷◌, ◌++◌, length, take, drop, ◌∙◌, ap, ap₂, sym, refl, arith, append_assoc, append-nil}
 use Rattle.std.proofs.lemmas.Bool.{le-leb, lt-leb}
 use Rattle.std.proofs.lemmas.List.{drop-drop, length_push, length-drop}
 use Rattle.sym_model.specs.Partition.{part}
 use Rattle.sym_model.specs.Slide.{moves_up, moves_left, slid_rows}
 
--- the place in the next row of the letter below the empty cell
+-- the place in the next row, counted from 0, of the letter below the empty cell; `left` are the letters to the left of the empty cell
 abbrev pub place_below : List ℕ → List ℕ → ℕ
 place_below inner left = part inner 1 + length left - part inner 2
 
--- the slid rows if m letters move left and then the letter at the place n of the next row, if there is one, moves up
+-- `rows_at inner n m left right row below`: the rows after a slide in which m letters of `right` move left, and then the letter at the place n of the
+-- next row, `row`, moves up; no letter moves up if `row` has no place n
 abbrev pub rows_at : List ℕ → ℕ → ℕ → List ℕ → List ℕ → List ℕ → List (List ℕ) → List (List ℕ)
 rows_at inner n m left right row below =
     (left ++ (take m right ++ (take 1 (drop n row) ++ drop m right)))
@@ -26,7 +27,7 @@ rows_at-next inner n k m a left right row below e =
     ∙ ap (λ (w : List ℕ). w ∷ cond (nat_le (length row) k) (row ∷ below) (slid_rows (drop 1 inner) (take k row) (drop (k + 1) row) below))
     (sym (append_assoc left (a ∷ []) (take m right ++ (take 1 (drop k row) ++ drop m right))))
 
--- if the right neighbour moves left, the slide goes on with it in the left part of the row
+-- if the letter a to the right of the empty cell moves left, the slide continues with a as the last letter to the left of the empty cell
 pub slid-moves_left :
     (inner left right row : List ℕ) (a : ℕ) (below : List (List ℕ)) → part inner 2 ≤ part inner 1
     → moves_up (a ∷ right) (drop (place_below inner left) row) ≡ false
@@ -48,7 +49,7 @@ pub slid-moves_left_last :
     (inner left right : List ℕ) (a : ℕ) → slid_rows inner left (a ∷ right) [] ≡ slid_rows inner (left ++ a ∷ []) right []
 slid-moves_left_last inner left right a = ap (λ (w : List ℕ). w ∷ []) (sym (append_assoc left (a ∷ []) right))
 
--- if the letter b below moves up, the slide goes on with the empty cell in the next row
+-- if the letter b below the empty cell moves up, the slide continues with the empty cell at the former place of b, in the next row
 pub slid-moves_up :
     (inner left right row lower : List ℕ) (b : ℕ) (below : List (List ℕ))
     → drop (place_below inner left) row ≡ b ∷ lower → moves_up right (b ∷ lower) ≡ true
@@ -69,7 +70,7 @@ slid-moves_up inner left right row lower b below e h =
     stays [] lower b h = refl
     stays (a ∷ right) lower b h = ap (λ t. cond t 0 (suc (moves_left right lower))) h
 
--- if the empty cell has no neighbour on the right or below, the slide ends
+-- if the empty cell has no letter to its right and none below, the slide ends: the rows are unchanged
 pub slid-stops :
     (inner left row : List ℕ) (below : List (List ℕ)) → drop (place_below inner left) row ≡ []
     → slid_rows inner left [] (row ∷ below) ≡ left ∷ row ∷ below

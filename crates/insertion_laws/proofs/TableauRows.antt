@@ -1,4 +1,4 @@
--- Straight tableaux and standard ones, row by row.
+-- Straight tableaux (`IsStraightTableau`) and standard tableaux, described row by row (`AreRows`).
 use Rattle.std.proofs.Common.{◌≡◌, ◌≢◌, ℕ, zero, suc, ◌+◌, ◌<◌, ◌≤◌, ◌==◌, ◌&&◌, true, cond, List, [], ◌∷◌, ◌++◌, map, length, replicate, ◌∙◌, ap, ap₂, sym, refl, inl, inr, arith, nat_lt, nat_le}
 use Rattle.std.proofs.lemmas.Bool.{cases_lt, cases_eq, lt-ltb, le-ltb, le-leb, leb-true, ltb-true, eq-eqb, ne_eqb, and_from, and_parts}
 use Rattle.sym_model.specs.Partition.{Falls, ArePositive, after}
@@ -103,7 +103,7 @@ rows_tell (row ∷ lower ∷ rest) f p l o =
 pub rows_from : (rows : List (List ℕ)) → IsStraightTableau rows → AreRows 1 rows
 rows_from rows h = rows_tell rows h.outside.falls h.outside.positive h.letters h.order
 
--- ---- each number from 1 to n occurs once
+-- ---- standard tableaux: each number from 1 to the number of cells occurs once
 
 ones_from : (f : ℕ → ℕ) (a n : ℕ) → ((j : ℕ) → a < j → j ≤ a + n → f j ≡ 1) → map f (after a n) ≡ replicate n 1
 ones_from f a zero h = refl
@@ -175,7 +175,7 @@ below_rows : (k : ℕ) (q : List (List ℕ)) → AreBelow k (letters_of q) → R
 below_rows k [] h = tt
 below_rows k (row ∷ q) h = let r = below_split k row (letters_of q) h in (r.0, below_rows k q r.1)
 
--- a straight tableau and a standard one of its shape are a pair as in `IsPairAt`
+-- a straight tableau p and a standard tableau q of the same shape satisfy `IsPairAt 1 n p q`, n being the number of cells of q
 
 pub pair_from :
     (p q : List (List ℕ)) → IsStraightTableau p → IsStandard q → shape_of p ≡ shape_of q → IsPairAt 1 (length (letters_of q)) p q

@@ -1,4 +1,4 @@
--- A Knuth step does not change the insertion tableau.
+-- A Knuth step between two words does not change the insertion tableau.
 use Rattle.std.proofs.Common.{◌≡◌, ◌⊎◌, ℕ, ◌<◌, ◌≤◌, List, [], ◌∷◌, ◌++◌, Some, ◌∙◌, ap, ap₂, sym, subst, inl, inr, arith}
 use Rattle.sym_model.specs.Insertion.{inserted, insertion_pair}
 use Rattle.sym_model.specs.Knuth.{IsFirstExchange, IsSecondExchange, AreKnuthRelated, IsKnuthStep, IsKnuthChain, AreKnuthEquivalent}
@@ -10,9 +10,10 @@ use Rattle.insertion_laws.proofs.OneRow.{AreAlike, first_none, second_none, firs
 use Rattle.insertion_laws.proofs.Classes.{related_back}
 use Rattle.tableau_laws.specs.Rows.{RisesFrom}
 
--- ---- three letters that one Knuth relation exchanges
+-- ---- two words of three letters that are related by a Knuth relation, inserted into a tableau
 
--- a symmetric relation of words that holds of both exchanges holds of all related words
+-- if a symmetric relation P holds of y z x and y x z for x < y ≤ z, and of x z y and z x y for x ≤ y < z, it holds of any two words that are related
+-- by a Knuth relation
 related_cases :
     (P : List ℕ → List ℕ → Type 0) → ((v w : List ℕ) → P v w → P w v)
     → ((x y z : ℕ) → x < y → y ≤ z → P (y ∷ z ∷ x ∷ []) (y ∷ x ∷ z ∷ []))
@@ -70,7 +71,7 @@ triple_same m (row ∷ rows) v w h r =
     by (inl e) rec = ap (inserted_word rows) e
     by (inr r) rec = rec r
 
--- ---- words in one Knuth class have one insertion tableau
+-- ---- inserting a word into a tableau gives a tableau; all words of a Knuth class have the same insertion tableau
 
 pub keeps_word : (w : List ℕ) (rows : List (List ℕ)) → AreRows 0 rows → AreRows 0 (inserted_word rows w)
 keeps_word [] rows h = h
@@ -89,7 +90,7 @@ chain_same : (v : List ℕ) (chain : List (List ℕ)) (w : List ℕ) → IsKnuth
 chain_same v [] w e = ap (inserted_word []) e
 chain_same v (u ∷ chain) w h = step_same v u h.0 ∙ chain_same u chain w h.1
 
--- words of one class have one insertion tableau
+-- two words of the same Knuth class have the same insertion tableau
 pub class_same : (v w : List ℕ) → AreKnuthEquivalent v w → inserted_word [] v ≡ inserted_word [] w
 class_same v w h = chain_same v h.chain w h.steps
 

@@ -1,4 +1,4 @@
--- Row insertion is a bijection between words and pairs of tableaux of one shape, the second of them standard.
+-- Row insertion is a bijection between words and pairs of a tableau and a standard tableau of the same shape.
 use Rattle.std.proofs.Common.{◌≡◌, ◌≢◌, ℕ, zero, suc, ◌+◌, ◌<◌, ◌≤◌, ◌==◌, true, cond, List, [], ◌∷◌, ◌++◌, length, Some, ◌∙◌, ap, ap₂, sym, refl, subst, inl, inr, arith, nat_le, append-nil, append_assoc}
 use Rattle.std.proofs.lemmas.Bool.{cases_eq, eq-eqb, ne_eqb, leb-true, and_parts}
 use Rattle.std.proofs.lemmas.List.{length-append}
@@ -19,7 +19,7 @@ use Rattle.insertion_laws.proofs.LastSteps.{times-rows_below, rows_below_fewer, 
 use Rattle.insertion_laws.proofs.TableauRows.{tableau_from, pair_from, standard_from}
 use Rattle.sym_model.specs.Bounded.{AreAtLeast}
 
--- ---- the pair after one more letter is inserted
+-- ---- the insertion and the recording tableau after one more letter is inserted
 
 pub one_more : (a : ℕ) (p q : List (List ℕ)) → shape_of p ≡ shape_of q → HasOneMore (shape_of (inserted p (Some a))) (shape_of q)
 one_more a p q e = subst (HasOneMore (shape_of (inserted p (Some a)))) e (adds_cell a p)
@@ -86,7 +86,7 @@ pub from_letters : (w : List ℕ) → are_letters w ≡ true → AreAtLeast 1 w
 from_letters [] h = tt
 from_letters (a ∷ w) h = let p = and_parts (nat_le 1 a) (are_letters w) h in (leb-true 1 a p.0, from_letters w p.1)
 
--- ---- the word is found again from its pair
+-- ---- undoing the insertions of a word gives the word
 
 step_back :
     (m n a : ℕ) (p q : List (List ℕ)) → IsPairAt m n p q
@@ -125,9 +125,9 @@ word_again w =
     let e : length (letters_of (insertion_pair w).1) ≡ 0 + length w = omega (arith, length-letters_of (insertion_pair w).1, h.cells) in
     ap (λ i. steps_back i (insertion_pair w).0 (insertion_pair w).1) e ∙ run_back 0 0 w [] [] (from_zero w) (no_pair 0)
 
--- ---- the pair is found again from its word
+-- ---- inserting the word that is found by undoing insertions gives the pair
 
--- the pair after inserting one more letter
+-- the insertion and the recording tableau after the letter a is inserted, recorded with the number k
 abbrev pub pair_after : ℕ → ℕ → List (List ℕ) × List (List ℕ) → List (List ℕ) × List (List ℕ)
 pair_after k a r = let next = inserted r.0 (Some a) in (next, with_step k next r.1)
 
@@ -156,7 +156,8 @@ no_cells : (m : ℕ) (p : List (List ℕ)) → AreRows m p → size (shape_of p)
 no_cells m [] h e = refl
 no_cells m (row ∷ p) h e = let f = h.0.filled in absurd (omega arith)
 
--- undoing the last step leaves a pair for one number less, and doing the step again restores q
+-- if p and q are a pair with n + 1 cells (`IsPairAt`), undoing the last insertion leaves a pair with n cells, inserting the letter that leaves p
+-- gives p again, and recording n + 1 gives q again
 pub pair_before :
     (m n : ℕ) (p q : List (List ℕ)) → IsPairAt m (suc n) p q
     → IsPairAt m n (removed (row_ending (suc n) q) p).0 (without_step (suc n) q)
@@ -211,7 +212,7 @@ pair_again m (suc n) p q h =
 pub pair_back : (p q : List (List ℕ)) → IsStraightTableau p → IsStandard q → shape_of p ≡ shape_of q → insertion_pair (word_back p q) ≡ (p, q)
 pair_back p q t s e = pair_again 1 (length (letters_of q)) p q (pair_from p q t s e)
 
--- ---- the two tableaux of a word are a straight and a standard one
+-- ---- the insertion tableau of a word with positive letters is straight, and the recording tableau is standard
 
 pub inserted_tableau : (w : List ℕ) → are_letters w ≡ true → IsStraightTableau (insertion_pair w).0
 inserted_tableau w h = tableau_from (insertion_pair w).0 (pair_of 1 w (from_letters w h)).p_rows

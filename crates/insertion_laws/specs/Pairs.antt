@@ -1,12 +1,11 @@
--- Invariants of a pair of tableaux under insertion.
+-- Invariants of the insertion tableau and the recording tableau under insertion.
 use Rattle.std.specs.Prelude.{◌≡◌, ℕ, ◌+◌, ◌≤◌, List}
 use Rattle.sym_model.specs.Partition.{size}
 use Rattle.sym_model.specs.Schur.{letters_of, times_in}
 use Rattle.sym_model.specs.Tableau.{shape_of}
 use Rattle.insertion_laws.specs.Rows.{AreRows, RowsBelow}
 
--- p and q are tableaux of one straight shape with n cells; p has letters from m on, and q has each number from 1 to
--- n once
+-- p and q are tableaux of the same straight shape with n cells; the letters of p are at least m, and q has each of the numbers 1, .., n once
 pub record IsPairAt (m n : ℕ) (p q : List (List ℕ)) : Type 0 where
   pub p_rows : AreRows m p
   pub q_rows : AreRows 1 q

@@ -1,18 +1,20 @@
 //! Laws of row insertion and of slides: the pair of tableaux of a word, the word of a pair of
-//! tableaux, and the Knuth class of a tableau, which slides keep.
+//! tableaux, and the Knuth class of the reading word of a tableau, which does not change if the
+//! tableau is slid.
 //!
 //! A law function has an empty body: its contract is the law.
 //!
 //! What is proved:
 //!
 //! `insertion_law`: the insertion tableau of a word with positive letters is a straight tableau,
-//! the recording tableau is standard, and both have one shape, with a cell for each letter.
-//! `pair_law`: each pair of a straight and a standard tableau of one shape is the pair of exactly
-//! one word, which is found by undoing the steps. `class_law`: the reading word of the insertion
-//! tableau is in the Knuth class of the word, words of one class have one insertion tableau, and
-//! for positive letters it is the only straight tableau of the class. `slide_class_law`: a slide
-//! keeps the class, so the straight tableau that slides reach is the only one of the class,
-//! whichever corners are chosen.
+//! the recording tableau is standard, and the two tableaux have the same shape, with a cell for
+//! each letter. `pair_law`: each pair of a straight tableau and a standard tableau of the same
+//! shape is the pair of exactly one word, which is found by undoing the insertions. `class_law`:
+//! the reading word of the insertion tableau is in the Knuth class of the word, all words of a
+//! class have the same insertion tableau, and if their letters are positive, it is the only
+//! straight tableau whose reading word is in the class. `slide_class_law`: a slide keeps the Knuth
+//! class of the reading word, so the straight tableau that slides reach is the only one whose
+//! reading word is in this class, whichever inner corners are chosen.
 #![tactic(auto)]
 
 mod knuth_words;

@@ -1,5 +1,5 @@
--- One move of a letter into the empty cell does not change the rows with which the slide ends; here the rows are plain
--- lists.
+-- One move of a letter into the empty cell: the slide that continues after the move ends with the same rows as the slide that continues before it.
+-- Rows are lists, and places are counted from 0.
 use Rattle.std.proofs.Common.{◌≡◌, ℕ, suc, ◌+◌, ◌-◌, ◌<◌, ◌≤◌, true, false, List, [], ◌∷◌, ◌++◌, length, take, drop, get_or, ◌∙◌, ap, ap₂, sym, arith, append_assoc, append-nil}
 use Rattle.std.proofs.Math.ListN.{set}
 use Rattle.std.proofs.lemmas.List.{take-set, take_more_set, drop-set-lt, set_split, get_or-set_same, get_or-set_other, drop-drop, drop_more, length-take-le, get_or-drop, drop_all}
@@ -8,16 +8,16 @@ use Rattle.sym_model.specs.Slide.{moves_up, slid_rows}
 use Rattle.insertion_laws.proofs.RisingRows.{first_row}
 use Rattle.insertion_laws.proofs.SlideSteps.{place_below, slid-moves_left, slid-moves_left_last, slid-moves_up, slid-stops}
 
--- the rows after a slide that begins with the empty cell at the place p of row n, both counted from 0
+-- the rows at the end of a slide that continues with the empty cell at the place p of row n, both counted from 0
 abbrev pub slid_at : ℕ → ℕ → List ℕ → List (List ℕ) → List (List ℕ)
 slid_at n p inner rows =
     take n rows ++ slid_rows (drop n inner) (take p (get_or rows n [])) (drop (p + 1) (get_or rows n [])) (drop (n + 1) rows)
 
--- the letters of the next row from the column of the place p on
+-- the letters of row n + 1 from the column of the place p of row n on
 abbrev pub lower_at : ℕ → ℕ → List ℕ → List (List ℕ) → List ℕ
 lower_at n p inner rows = drop (get_or inner n 0 + p - get_or inner (n + 1) 0) (get_or rows (n + 1) [])
 
--- ---- the parts of the inner partition from row n on
+-- ---- the inner partition without its first n parts
 
 this_part : (inner : List ℕ) (n : ℕ) → part (drop n inner) 1 ≡ get_or inner n 0
 this_part inner n = let e : n + 0 ≡ n = omega arith in get_or-drop n inner 0 0 ∙ ap (λ k. get_or inner k 0) e
@@ -28,7 +28,7 @@ next_part inner n = get_or-drop n inner 1 0
 place-is : (inner left : List ℕ) (n p : ℕ) → length left ≡ p → place_below (drop n inner) left ≡ get_or inner n 0 + p - get_or inner (n + 1) 0
 place-is inner left n p e = ap₂ (λ x y. x - y) (ap₂ (λ x y. x + y) (this_part inner n) e) (next_part inner n)
 
--- ---- the right neighbour moves into the empty cell
+-- ---- a move of the right neighbour into the empty cell
 
 slid-left_at :
     (inner left right : List ℕ) (a : ℕ) (below : List (List ℕ)) → part inner 2 ≤ part inner 1
@@ -61,7 +61,7 @@ moved_left n p a inner right rows h k f e m =
     ∙ slid-left_at (drop n inner) (take p R) right a (drop (n + 1) rows) falls (ap (moves_up (a ∷ right)) lower ∙ m)
     ∙ ap (λ (w : List ℕ). slid_rows (drop n inner) (take p R) w (drop (n + 1) rows)) (sym e))
 
--- ---- the lower neighbour moves into the empty cell
+-- ---- a move of the lower neighbour into the empty cell
 
 pub moved_up :
     (n p q b : ℕ) (inner lower : List ℕ) (rows : List (List ℕ)) → n + 1 < length rows → p < length (get_or rows n [])
@@ -94,7 +94,7 @@ moved_up n p q b inner lower rows h k at e m =
     ∙ ap (λ (v : List (List ℕ)). take n rows ++ v) (sym step)
     ∙ ap (λ (v : List (List ℕ)). take n rows ++ slid_rows (drop n inner) (take p R) (drop (p + 1) R) v) (sym rest)
 
--- ---- the empty cell has no neighbour, so the slide ends
+-- ---- the end of the slide: an empty cell without neighbours on the right and below is removed
 
 pub stopped :
     (n p : ℕ) (inner : List ℕ) (rows : List (List ℕ)) → n < length rows → length (get_or rows n []) ≡ p + 1 → lower_at n p inner rows ≡ []

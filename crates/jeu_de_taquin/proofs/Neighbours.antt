@@ -1,4 +1,4 @@
--- The neighbours of a cell in a filling, as letters of rows.
+-- The right and the lower neighbour of a cell of a filling, as letters of its rows.
 use Rattle.std.proofs.Common.{◌≡◌, ℕ, ◌+◌, ◌-◌, ◌<◌, ◌≤◌, true, false, ◌&&◌, cond, nat_le, nat_lt, List, [], ◌∷◌, map, length, drop, get_or, slice_index, ◌∙◌, ap, sym, refl, arith, Some, None, Option, inl, inr}
 use Rattle.std.proofs.Math.ListN.{set}
 use Rattle.std.proofs.lemmas.Bool.{cases_lt, cases_eq, cases_Bool, lt-leb, le-leb, ltb-true, ltb-false, and_right}
@@ -13,11 +13,12 @@ use Rattle.sym_model.proofs.Parts.{get_or-le-size}
 use Rattle.skew_shapes.specs.CellFillings.{IsFilling, entry_at, is_cell, place_in_row, row_of, with_entry, with_inner_cell}
 use Rattle.skew_shapes.proofs.CellRows.{cell_row, is_cell-from}
 use Rattle.skew_shapes.proofs.KeptRows.{IsSkew-inner_lowered}
-use Rattle.insertion_laws.proofs.SlideKeeps.{corner-lowered, falls-at}
+use Rattle.insertion_laws.proofs.SlideKeeps.{corner-lowered}
 use Rattle.jeu_de_taquin.specs.declared.empty_cell.Neighbour.{Neighbour}
 use Rattle.jeu_de_taquin.specs.declared.empty_cell.Neighbour.TheVariants.{Right, Below, Nobody}
 use Rattle.jeu_de_taquin.specs.EmptyCell.{next_of}
 use Rattle.jeu_de_taquin.proofs.Moves.{lower_at}
+use Rattle.strip_laws.proofs.Strips.{falls_at}
 
 -- ---- the lengths of the rows of a filling
 
@@ -89,7 +90,7 @@ IsFilling-with_inner_cell t row f c =
               ∙ count-row t i f h ∙ ap (λ x. get_or t.outer i 0 - x) (sym (less.others i d))
         ]
 
--- ---- a cell, by row and place counted from 0
+-- ---- a cell (row, column), given by its row and its place in the row, counted from 0
 
 pub record IsAt (t : SkewFilling) (row column : ℕ) : Type 0 where
   pub row_counts : 1 ≤ row
@@ -120,15 +121,15 @@ is_at t row column f c =
       place_is = omega arith;
       ends = omega arith;
       starts = omega arith;
-      falls = falls-at t.inner (row - 1) f.shape.inside.partition.falls;
-      outer_falls = falls-at t.outer (row - 1) f.shape.outside.partition.falls;
+      falls = falls_at t.inner f.shape.inside.partition.falls (row - 1);
+      outer_falls = falls_at t.outer f.shape.outside.partition.falls (row - 1);
       few = omega arith;
       small = omega arith;
     }
 
--- ---- the neighbours of the empty cell
+-- ---- the right and the lower neighbour of a cell
 
--- the first letter, if there is one
+-- the first letter of a word; None if it is empty
 abbrev pub head_of : List ℕ → Option ℕ
 head_of [] = None
 head_of (a ∷ w) = Some a
@@ -204,7 +205,7 @@ below-is t row column f a =
           ∙ sym (head-none T k (omega (arith, ap (λ (w : List ℕ). length w) none)))
     ]
 
--- ---- the neighbour that moves into the empty cell
+-- ---- the neighbour that moves into the empty cell (`next_of`): the first letter on the right, or the first one below
 
 pub record MovesLeft (right lower : List ℕ) (a : ℕ) : Type 0 where
   pub rest : List ℕ

@@ -1,4 +1,4 @@
--- One move of a letter into the empty cell of a filling.
+-- One step of the loop of `move_letters`: a letter moves into the empty cell, or the slide ends.
 use Rattle.std.proofs.Common.{◌≡◌, ℕ, ◌+◌, ◌-◌, ◌<◌, ◌≤◌, List, [], ◌++◌, length, take, drop, get_or, ◌∙◌, ap, ap₂, sym, arith, inl, inr}
 use Rattle.std.proofs.Math.ListN.{set}
 use Rattle.std.proofs.lemmas.Bool.{cases_lt}
@@ -25,7 +25,8 @@ told : (t : SkewFilling) (row column : ℕ) → IsFilling t → IsAt t row colum
     (head_of (lower_at (row - 1) (place_in_row t.inner row column) t.inner t.rows))
 told t row column f a = ap₂ next_of (right-is t row column a) (below-is t row column f a)
 
--- a letter has moved: (row', column') is the next empty cell, and a slide that continues from there ends with the same rows
+-- t becomes s by a move of a letter into the empty cell (row, column): (row', column') is the next empty cell, and the slide that continues in s with
+-- this cell ends with the same rows as that in t with (row, column)
 pub record Goes (t s : SkewFilling) (row column row' column' : ℕ) : Type 0 where
   pub cell : IsCell s.outer s.inner row' column'
   pub rows : slid_from t row column ≡ slid_from s row' column'
@@ -93,7 +94,8 @@ goes_down t row column b f c h =
           ∙ moved_up n p q b t.inner m.rest t.rows within at.place_is place m.is m.least);
     }
 
--- no letter has moved: the empty cell is a corner of the outer partition, and the slide removes it
+-- no letter moves into the empty cell (row, column): its row ends in a corner of the outer partition, and the slide ends by removing the last cell of
+-- this row
 pub record Stops (t : SkewFilling) (row column : ℕ) : Type 0 where
   pub corner : HasInnerCorner row t.outer
   pub cell : part t.inner row < part t.outer row

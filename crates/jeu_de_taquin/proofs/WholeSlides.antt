@@ -1,4 +1,4 @@
--- A whole slide: its parts together are the slide of the definition.
+-- A whole slide as computed by `slide`, equal to the slide of the definition; sequences of slides.
 use Rattle.std.proofs.Common.{◌≡◌, ℕ, zero, suc, ◌+◌, ◌-◌, ◌<◌, true, ◌&&◌, nat_le, List, [], ◌∷◌, ◌++◌, map, length, take, drop, get_or, ◌∙◌, ap, ap₂, sym, refl, subst, inl, inr, arith, append-nil}
 use Rattle.std.proofs.Math.ListN.{set}
 use Rattle.std.proofs.lemmas.Bool.{and_parts, cases_lt, leb-true}
@@ -18,7 +18,7 @@ use Rattle.jeu_de_taquin.proofs.Neighbours.{count-row, count-rows}
 pub IsFilling-tableau : (t : SkewFilling) → IsTableauWithin t → IsFilling t
 IsFilling-tableau t h = record { shape = h.shape; cells = h.tableau.cells }
 
--- ---- at the start the corner of the inner partition becomes the empty cell
+-- ---- the start of a slide: a corner of the inner partition becomes a cell of the shape, the empty cell
 
 pub corner_cell :
     (t : SkewFilling) (row : ℕ) → IsTableauWithin t → HasInnerCorner row t.inner
@@ -54,7 +54,7 @@ slid_from-corner t row h c =
     ∙ ap (λ (w : List ℕ). take n t.rows ++ slid_rows (drop n new) [] w (drop (row - 1 + 1) t.rows)) (sym (append-nil R))
     ∙ ap (λ (v : List (List ℕ)). take n t.rows ++ slid_rows (drop n new) [] (letters_of (take 1 v)) (drop 1 v)) (sym rest)
 
--- ---- at the end the last empty cell leaves the shape
+-- ---- the end of a slide: the parts of the outer partition when the last empty cell is removed
 
 ends-kept :
     (rows : List (List ℕ)) (outer inner : List ℕ) → map length rows ≡ row_lengths outer inner → contains outer inner ≡ true
@@ -98,9 +98,10 @@ ends-lowered (suc n) (row ∷ rows) (a ∷ outer) (b ∷ inner) e h l =
     let p = and_parts (nat_le b a) (contains outer inner) h in
     ap₂ ◌∷◌ (omega (arith, leb-true b a p.0)) (ends-lowered n rows outer inner rest p.1 l)
 
--- ---- the moves from start to end are the slide of the definition
+-- ---- the computed slide is the slide of the definition
 
--- the filling of outer/inner with the given rows; zeros at the end of outer, and the rows there, are dropped
+-- `built outer inner rows`: the filling with these two partitions and these rows; the zeros at the end of `outer`, and the (empty) rows that belong
+-- to them, are dropped
 abbrev built : List ℕ → List ℕ → List (List ℕ) → SkewFilling
 built outer inner rows =
     record {
@@ -152,12 +153,12 @@ is_tableau-slide row t h c =
     let k = slide-keeps row t h.tableau c in
     ap₂ (λ a b. a && b) k.letters k.order
 
--- ---- slides from one tableau to another
+-- ---- sequences of slides from one tableau to another
 
 pub reached-next : (t s : SkewFilling) (row : ℕ) → HasInnerCorner row t.inner → IsReached (slide row t) s → IsReached t s
 reached-next t s row c r = record { chosen = row ∷ r.chosen; slides = (c, r.slides); straight = r.straight }
 
--- the last row of a partition that is not empty has a corner
+-- a partition that is not empty has a corner in its last row
 pub last_corner : (parts : List ℕ) → IsPartition parts → 0 < length parts → HasInnerCorner (length parts) parts
 last_corner parts h l =
     (omega arith, omega (arith, positive-at parts (length parts - 1) h.positive (omega arith), get_or_past parts (length parts + 1 - 1) 0 (omega arith)))

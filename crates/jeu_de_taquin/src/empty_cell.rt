@@ -1,4 +1,4 @@
-//! The empty cell of a slide on its way through the filling.
+//! The moves of a slide: letters move one after another into the empty cell.
 ghost use Rattle.std.specs.Prelude.{◌≡◌, ◌+◌, ◌-◌, ◌<◌, ◌≤◌, length, take, slice_set};
 ghost use Rattle.sym_model.specs.Partition.{IsCell, part};
 ghost use Rattle.sym_model.specs.Slide.{HasInnerCorner};
@@ -7,19 +7,20 @@ ghost use Rattle.jeu_de_taquin.specs.EmptyCell.{next_of, slid_from};
 
 use skew_shapes::Filled;
 
-/// The letter that moves into the empty cell.
+/// The neighbour that moves into the empty cell: the one on the right of it or the one below it,
+/// with the letter of this neighbour; or none.
 #[derive(Clone, Copy)]
 enum Neighbour {
     /// The letter right of the empty cell.
     Right(u16),
     /// The letter below the empty cell.
     Below(u16),
-    /// No letter: the empty cell has no neighbour on the right or below.
+    /// No neighbour: the shape has no cell on the right of the empty cell and none below it.
     Nobody,
 }
 
-/// The letter that moves into the empty cell in this row and this column: the smaller one of its
-/// right and its lower neighbour, or the lower one if they are equal.
+/// The neighbour that moves into the empty cell (row, column): of the letter on the right and the
+/// letter below, the one with the smaller value, or the letter below if their values are equal.
 fn next_letter(filled: &Filled, row: u16, column: u16) -> Neighbour
     requires row { row ≤ 512 }
     requires column { column ≤ 4096 }
@@ -38,9 +39,10 @@ fn next_letter(filled: &Filled, row: u16, column: u16) -> Neighbour
     }
 }
 
-/// Moves letters into the empty cell in this row and this column, and into those that they leave,
-/// until the empty cell has no neighbour on the right or below. Returns the row of the empty cell,
-/// in which it is then the last cell.
+/// Moves the neighbour given by `next_letter` into the empty cell (row, column), then does the same
+/// for the cell that this neighbour has left empty, and so on until the empty cell has no neighbour
+/// on the right or below. Returns the row of the last empty cell, which is the last cell of its
+/// row.
 pub(crate) fn move_letters(filled: &mut Filled, row: u16, column: u16) -> u16
     requires filling { IsFilling filled.old }
     requires cell { IsCell filled.old.outer filled.old.inner row column }

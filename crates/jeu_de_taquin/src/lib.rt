@@ -2,9 +2,10 @@
 //!
 //! What is proved:
 //!
-//! `slide` makes one slide from an inner corner, which keeps the Knuth class of the reading word.
-//! `rectify` returns a straight tableau that slides reach, the only straight one whose reading word
-//! is in that class. Neither allocates memory, and neither can fail.
+//! `slide` makes one slide from an inner corner; the reading words before and after it are in the
+//! same Knuth class. `rectify` returns a straight tableau reached by slides: the only straight
+//! tableau whose reading word is in the Knuth class of the reading word of the given tableau.
+//! Neither function allocates memory or can fail.
 #![tactic(auto)]
 
 mod empty_cell;

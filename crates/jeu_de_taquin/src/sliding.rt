@@ -7,10 +7,11 @@ ghost use Rattle.sym_model.specs.Slide.{HasInnerCorner, IsReached, slide};
 use crate::empty_cell::move_letters;
 use skew_shapes::Tableau;
 
-/// The slide of a tableau from the inner corner in this row: the corner becomes an empty cell; the
-/// smaller of its right and its lower neighbour (the lower one if they are equal) moves into it,
-/// and so on with the cell that is then empty; the last empty cell leaves the shape. The reading
-/// word stays in its Knuth class. It allocates no memory and cannot fail.
+/// The slide of the tableau `t` from its inner corner in row `row`: the corner becomes an empty
+/// cell; of the neighbour on its right and the neighbour below it, the one with the smaller letter
+/// (the one below if the letters are equal) moves into it, and so on with the cell that is then
+/// empty; the last empty cell is removed from the shape. The reading word of the result is in the
+/// Knuth class of that of `t`. No memory is allocated.
 pub fn slide(t: Tableau, row: u16) -> Tableau
     requires { HasInnerCorner row t.inner }
     ensures slide { result ≡ slide row t }
@@ -27,9 +28,9 @@ pub fn slide(t: Tableau, row: u16) -> Tableau
     }
 }
 
-/// The straight tableau that slides reach from `t`: the only straight tableau whose reading word is
-/// in the Knuth class of the reading word of `t`, whichever corners are chosen (Schützenberger). It
-/// allocates no memory and cannot fail.
+/// The straight tableau reached from `t` by slides, the same for every choice of inner corners: the
+/// only straight tableau whose reading word is in the Knuth class of the reading word of `t`
+/// (Schützenberger). No memory is allocated.
 pub fn rectify(t: Tableau) -> Tableau
     ensures reached { IsReached t result }
     ensures only { IsOnlyTableauOf (reading_word t.rows) result.rows }

@@ -1,4 +1,4 @@
-//! Calls that say whether the weight of an expression stays below a bound, with their results.
+//! Calls that test whether the weight of an expression is below a bound, with their results.
 use anyhow::Result;
 use expression_reading::{Basis, read_expression};
 use row_texts::{said, truth};
@@ -14,7 +14,8 @@ pub fn print(rt: &(impl Print + Alloc<A = Global>)) -> Result<()> {
     )
 }
 
-/// Prints whether a word, read as an expression in m, has a weight below 2^127.
+/// Reads a word as an expression for the target m, and prints whether the weight of the expression
+/// is below 2^127, or that the word is refused.
 fn row(rt: &(impl Print + Alloc<A = Global>), what: &str, word: &str) -> Result<()> {
     match read_expression(rt.alloc(), Basis::M, word.as_bytes()) {
         Ok(formula) => truth(rt, what, formula.weight_below(Basis::M, 1 << 127)),

@@ -1,5 +1,5 @@
-//! Calls that make a growth grid, the tableaux of its edges and a reading word, with their
-//! results.
+//! Calls that compute a growth grid, the tableaux of its last line and last column, and a reading
+//! word, with their results.
 use anyhow::Result;
 use growth_diagrams::{Grid, grow};
 use perm_codes::Perm;
@@ -8,7 +8,8 @@ use row_texts::{end, label, line, start};
 use skew_shapes::Tableau;
 use std::alloc::Global;
 
-/// Prints a permutation made from its code, its growth grid, both tableaux and a reading word.
+/// Prints the permutation with the code 1 1 0, its growth grid, its insertion tableau P and
+/// recording tableau Q, and the reading word of P.
 pub fn print(rt: &(impl Print + Alloc<A = Global>)) -> Result<()> {
     let w = Perm::from_code(rt.alloc(), &[1, 1, 0])?;
     line(rt, "code 1 1 0", w.letters())?;
@@ -17,7 +18,8 @@ pub fn print(rt: &(impl Print + Alloc<A = Global>)) -> Result<()> {
     pair(rt, &grid)
 }
 
-/// Prints both tableaux of a grid.
+/// Prints the insertion tableau P and the recording tableau Q that a growth grid gives, and the
+/// reading word of P.
 fn pair(rt: &(impl Print + Alloc<A = Global>), grid: &Grid) -> Result<()> {
     let (p, q) = grid.pair_of()?;
     rows(rt, "growth P", p.tableau())?;
@@ -45,7 +47,7 @@ fn lines(rt: &impl Print, grid: &Grid) -> Result<()> {
     Ok(())
 }
 
-/// Prints the shapes of a line of a grid.
+/// Prints the shapes in line i of a growth grid; nothing if the grid has no line i.
 fn shapes(rt: &impl Print, grid: &Grid, i: u16) -> Result<()> {
     if i > grid.side() {
         return Ok(());

@@ -1,4 +1,4 @@
-//! The partitions that are left when a rim hook is removed from (2,1).
+//! The partitions that are left when a rim hook of three cells is removed from (2,1).
 use anyhow::Result;
 use calc_base::Lister;
 use partitions::Partition;
@@ -6,8 +6,8 @@ use row_texts::{end, start, term};
 use skew_shapes::HooksRemoved;
 use std::alloc::Global;
 
-/// Prints at most a hundred partitions, with the heights of the rim hooks of 3 cells that were
-/// removed from (2,1).
+/// Prints the partitions that are left when a rim hook of 3 cells is removed from (2,1), each with
+/// the height of the rim hook. At most a hundred are printed.
 pub fn print(rt: &(impl Print + Alloc<A = Global>)) -> Result<()> {
     let outer = Partition::from_parts(rt.alloc(), &[2, 1])?;
     removed(rt, &mut HooksRemoved::new(rt.alloc(), &outer, 3)?)

@@ -1,4 +1,4 @@
-//! Calls of a store that keeps one Schubert polynomial, with their results.
+//! Calls of a store (`Memo`) with room for one Schubert polynomial, with their results.
 use crate::printing::polynomial;
 use anyhow::Result;
 use coeff_rings::Int;
@@ -9,7 +9,7 @@ use schubert_transition::Memo;
 use sparse_polys::Monomial;
 use std::alloc::Global;
 
-/// Prints the results of calls of `Memo`, one line each.
+/// Prints the results of calls of the store `Memo`, one line each.
 pub fn print(rt: &(impl Print + Alloc<A = Global>)) -> Result<()> {
     let w = Perm::from_letters(rt.alloc(), &[1, 3, 2])?;
     let v = Perm::from_letters(rt.alloc(), &[2, 1])?;
@@ -21,7 +21,7 @@ fn with_both(rt: &(impl Print + Alloc<A = Global>), w: &Perm, v: &Perm) -> Resul
     asked(rt, &mut memo, w, v)
 }
 
-/// Prints the results of calls of a store for two permutations.
+/// Requests the Schubert polynomials of two permutations from the store, and prints the results.
 fn asked(rt: &impl Print, memo: &mut Memo, w: &Perm, v: &Perm) -> Result<()> {
     answered(rt, "S_(1,3,2)", memo, w)?;
     answered(rt, "S_(1,3,2) again", memo, w)?;

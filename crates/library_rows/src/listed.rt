@@ -1,4 +1,5 @@
-//! Calls that list strips, and tableaux by their column readings, with their results.
+//! Calls of the listers of horizontal strips, of vertical strips and of semistandard tableaux, with
+//! their results. A tableau is given by its column reading.
 use crate::shapes::skew;
 use anyhow::Result;
 use calc_base::Lister;
@@ -46,7 +47,7 @@ fn standard(rt: &(impl Print + Alloc<A = Global>), shape: &Skew) -> Result<()> {
     listed(rt, "(2,1) with 1 2 3", &mut list)
 }
 
-/// Prints the items of a list of at most a hundred, a line each.
+/// Prints the items of a list, a line each, but at most the first hundred.
 pub(crate) fn listed<L: Lister>(rt: &impl Print, what: &str, list: &mut L) -> Result<()> {
     for _ in 0..100u16 {
         if list.advance() {
@@ -56,8 +57,8 @@ pub(crate) fn listed<L: Lister>(rt: &impl Print, what: &str, list: &mut L) -> Re
     Ok(())
 }
 
-/// Prints numbers of tableaux, which are compared with those that `tests/outside/skew_kostka.py`
-/// prints from another program.
+/// Prints the numbers of tableaux of some shapes and contents. They are compared with the numbers
+/// that `tests/outside/skew_kostka.py` obtains from another program.
 fn counted(rt: &(impl Print + Alloc<A = Global>)) -> Result<()> {
     count(
         rt,
@@ -91,7 +92,7 @@ fn counted(rt: &(impl Print + Alloc<A = Global>)) -> Result<()> {
     )
 }
 
-/// Prints the number of tableaux of a skew shape with a content.
+/// Prints the number of semistandard tableaux of a skew shape with a given content.
 fn count(
     rt: &(impl Print + Alloc<A = Global>),
     what: &str,
@@ -103,8 +104,8 @@ fn count(
     said(rt, what, &number_of(rt.alloc(), &shape, case.2)?)
 }
 
-/// The number of tableaux of a shape with a content; 10,000 if there are more, and 0 if the content
-/// has more than 512 numbers.
+/// The number of semistandard tableaux of a skew shape with a given content; 10,000 if there are
+/// more, and 0 if the content has more than 512 numbers.
 fn number_of(alloc: Global, shape: &Skew, content: &[u16]) -> Result<u16> {
     if content.len() > 512 {
         return Ok(0);

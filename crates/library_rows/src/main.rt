@@ -1,7 +1,7 @@
-//! Calls of the library that no command makes, with their results, one row each. They show a fact
-//! that no contract states: the calls find memory and return a result. (Of the calls that a command
-//! makes, the test cases of the commands show it.) The output is compared with `stdout`, whose lines
-//! were written from the definitions and from outside values.
+//! Prints the results of calls of library functions that no command calls, one row for each call.
+//! The rows show a fact that no contract states: the calls find memory and return a result. (For
+//! the functions that a command calls, the test cases of the commands show it.) The output is
+//! compared with `stdout`, whose lines were written from the definitions and from outside values.
 //!
 //! What is proved:
 //!

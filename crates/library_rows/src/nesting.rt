@@ -1,4 +1,5 @@
-//! Expansions in the monomial basis of expressions at the greatest nesting, and just over it.
+//! Expansions in the monomial basis of an expression with the greatest nesting that is allowed, and
+//! of one whose nesting exceeds it by 1.
 
 use anyhow::Result;
 use basis_expand::to_monomial;
@@ -6,8 +7,8 @@ use expression_reading::{Expr, Formula};
 use row_texts::said;
 use std::alloc::{AllocError, Global};
 
-/// Prints the results of calls of the crate `basis_expand`: whether the number 1, negated as often
-/// as the nesting allows and once more, is an expression that is expanded.
+/// Prints the results of expanding, by `to_monomial`, the number 1 negated so often that the
+/// nesting is 4,096, and so often that it is 4,097.
 pub fn print(rt: &(impl Print + Alloc<A = Global>)) -> Result<()> {
     let alloc = rt.alloc();
     let answer = expanded(alloc, negated_one(alloc, 4096)?);
@@ -16,7 +17,7 @@ pub fn print(rt: &(impl Print + Alloc<A = Global>)) -> Result<()> {
     said(rt, "one at nesting 4097", &answer)
 }
 
-/// The outcome of expanding an expression.
+/// The result of expanding an expression in the monomial basis, as a text to be printed.
 fn expanded(alloc: Global, tree: Expr) -> &'static str {
     let Ok(formula) = Formula::from_tree(tree) else {
         return "no formula";

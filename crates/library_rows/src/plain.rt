@@ -1,4 +1,5 @@
-//! Calls of the plain programs, which follow their definitions, with their results.
+//! Calls of the plain programs, that is, of the slow programs that follow the definitions, with
+//! their results.
 use anyhow::Result;
 use plain_programs::{
     Core, Signed, plain_alcove, plain_arrangements, plain_beta, plain_column_reading,
@@ -156,7 +157,7 @@ fn list(rt: &impl Print, what: &str, numbers: &[u64]) -> Result<()> {
     Ok(println!(rt)?)
 }
 
-/// Prints a line with lists of numbers, a bar between them.
+/// Prints a line with the name `what` and lists of numbers, with a bar between two lists.
 fn lists(rt: &impl Print, what: &str, lists: &[Vec<u64>]) -> Result<()> {
     print!(rt; "{what}:")?;
     for (i, numbers) in lists.iter().enumerate() {

@@ -9,7 +9,7 @@ use perm_codes::Perm;
 use row_texts::{end, said, start, term};
 use sparse_polys::{Monomial, Pair, Poly, Power, Shifted};
 
-/// Prints the result of reading a text.
+/// Prints the result of reading a text back: the answer, or that the text is refused.
 pub fn read_as(rt: &impl Print, what: &str, read: Result<Answer, ReadBackFault>) -> Result<()> {
     match read {
         Ok(answer) => answered(rt, what, &answer),
@@ -63,8 +63,7 @@ fn powers(rt: &impl Print, what: &str, list: &Terms<Power, Int>) -> Result<()> {
     end(rt)
 }
 
-/// Prints a sum of terms y^e·S_w, each by the letters of its permutation and the exponents of its
-/// y.
+/// Prints a sum of terms y^e·S_w, each by its coefficient, the letters of w and the exponents e.
 fn shifts(rt: &impl Print, what: &str, list: &Terms<Shifted, Int>) -> Result<()> {
     start(rt, what)?;
     for (shifted, c) in list.iter() {

@@ -1,4 +1,4 @@
-//! A product of expansions in m.
+//! The product m_1·m_1, computed by `times_in_m`, with its result.
 ghost use Rattle.std.specs.Prelude.{◌≤◌, IfOk};
 ghost use Rattle.sparse_polys.specs.MonomialProducts.{greatest_size};
 

@@ -1,4 +1,4 @@
-//! Expansions in s times h_k, e_k and p_k, with the results.
+//! Products of expansions in s with h_k, e_k and p_k.
 ghost use Rattle.std.specs.Prelude.{IfOk};
 ghost use Rattle.strip_rules.specs.Room.{HaveRoomForStrips};
 
@@ -32,7 +32,7 @@ fn with_hook(alloc: Global) -> Result<Expansion> {
     Ok(add_hook(alloc, one_cell(alloc)?, 2)?)
 }
 
-/// s_(1), to which two more cells can be added.
+/// The expansion s_(1). Its label has room for two more cells (`HaveRoomForStrips`).
 fn one_cell(alloc: Global) -> Result<Expansion>
     ensures { IfOk result (HaveRoomForStrips 2) }
 {

@@ -27,7 +27,7 @@ fn blocks(rt: &(impl Print + Alloc<A = Global>)) -> Result<()> {
     other_blocks(rt)
 }
 
-/// Prints the results of reading blocks of the other kinds.
+/// Prints the results of reading blocks of the kinds other than expansions.
 fn other_blocks(rt: &(impl Print + Alloc<A = Global>)) -> Result<()> {
     block(rt, "the block of 2 as a number", "2\n", Kind::Number)?;
     block(rt, "a pair", "1  (2,1) ()\n", Kind::Pairs)?;

@@ -1,4 +1,4 @@
--- Terms added to a table of fractions in several steps (specs/Cleared).
+-- Terms added to a table of fractions by several additions, one after another (`GainsCleared` of specs/Cleared).
 use Rattle.std.proofs.Common.{◌≡◌, ℕ, ◌*◌, Bool, List, [], ◌∷◌, ◌++◌, refl, sym, ap, ◌∙◌, subst}
 use Rattle.std.proofs.Common.{arith, ℤ}
 use Rattle.std.specs.Int.{◌∣◌}
@@ -49,8 +49,9 @@ module _ {L : Type 0} {eq : L → L → Bool} {is_label : L → Bool} (q : ℕ) 
         a.gains b.gains;
   }
 
--- if gained(xs ++ ys) = gained(xs) ++ gained(ys), adding gained(p) for one element p of a list after another adds
--- `gained` of the whole list
+-- let gained(xs ++ ys) = gained(xs) ++ gained(ys), and let q·cur be q·old plus the terms gained(done) (`GainsCleared`): adding gained(p ∷ []) to
+-- q·cur gives q·old plus gained(done ++ p ∷ []), and if this overflows, so does adding the terms of a whole list that begins with `done` and p to
+-- q·old
 module _ {A L : Type 0} (gained : List A → WholeTermsOf L)
     (pieces : (xs ys : List A) → gained (xs ++ ys) ≡ gained xs ++ gained ys)
     {eq : L → L → Bool} {is_label : L → Bool} (q : ℕ) (done : List A) (p : A) (old cur : Terms L)

@@ -1,8 +1,9 @@
--- Labels with coefficients that a function gives them, and lists in which no coefficient is negative.
---     each_by-over, -labels, -append    the sums of such a list, its labels and its pieces
---     counted_counts                    counts are not negative
---     counts_gain, counts_overflow      gains and overflows of a table by two lists with the same sums
---     replaced_at, replaced_mass        the image of a list under a rule, if its value at each label is known
+-- Lists of labels whose coefficients are the values of a function at the labels (`each_by`), and lists in which no coefficient is negative.
+--     each_by-over, -labels, -append    the sum Σ c·φ(label) for a list made by `each_by`, its labels, and the list for xs ++ ys
+--     counted_counts                    coefficients that are natural numbers are not negative
+--     counts_gain, counts_overflow      if Σ c·φ(label) is the same for two lists and every φ, then adding a multiple of one list to a table gives
+--                                       the same as for the other list, and overflows if it does for the other
+--     replaced_at, replaced_mass        the image of a list under a linear map whose value at each label is known
 use Rattle.std.proofs.Common.{◌≡◌, ℕ, ◌+◌, ◌*◌, Bool, List, [], ◌∷◌, ◌++◌, refl, sym, ap, ap₂, ◌∙◌, subst, inl, inr, arith, ℤ, pos, ◌+ℤ◌, ◌*ℤ◌}
 use Rattle.std.specs.Prelude.{nat_abs, ◌≤ℤ◌}
 use Rattle.std.proofs.lemmas.Int.{ints}
@@ -14,6 +15,7 @@ use Rattle.linear_combinations.specs.Gains.{WholeTermsOf, over, only, mass_at, s
 use Rattle.linear_combinations.proofs.Gains.{scaled_over, scaled_append, replaced_over, gains_as, overflows_as, mass_at_append}
 use Rattle.linear_combinations.proofs.Masses.{mass_at_scaled}
 use Rattle.linear_combinations.proofs.Found.{counts_at}
+use Rattle.sym_model.proofs.Integers.{pos_equal}
 
 module _ {L : Type 0} (coefficient : L → ℤ) where
   pub each_by-over : (φ : L → ℤ) (labels : List L) → over φ (each_by coefficient labels) ≡ total (λ (x : L). coefficient x *ℤ φ x) labels
@@ -35,7 +37,7 @@ counted_counts {L} count labels t m =
     let r = Among_from_map (λ (x : L). (x, pos (count x))) t labels m in
     subst (λ (u : L × ℤ). pos 0 ≤ℤ u.1) (sym r.2) (omega (arith, ints))
 
--- ---- gains and overflows of a table by c·g and by c·h, for lists g and h with the same sums
+-- ---- if Σ c·φ(label) is the same for the lists g and h and every φ, adding a multiple of g to a table gives the same as adding this multiple of h
 
 module _ {L : Type 0} (g h : WholeTermsOf L) (same : (φ : L → ℤ) → over φ g ≡ over φ h) where
   pub counts_gain : (c : ℤ) (old new : WholeTermsOf L) → Gains old (scaled c g) new → Gains old (scaled c h) new
@@ -48,13 +50,10 @@ module _ {L : Type 0} (g h : WholeTermsOf L) (same : (φ : L → ℤ) → over �
       (λ x.
       let a = mass_at_scaled eq x c g in
       let b = mass_at_scaled eq x c h in
-      let e = ap (λ n. nat_abs c * n) (as_number (sym (counts_at eq x g p) ∙ same (only eq x) ∙ counts_at eq x h q)) in
+      let e = ap (λ n. nat_abs c * n) (pos_equal (sym (counts_at eq x g p) ∙ same (only eq x) ∙ counts_at eq x h q)) in
       omega arith) o
-    where
-      as_number : {a b : ℕ} → pos a ≡ pos b → a ≡ b
-      as_number {a} {b} e = omega (arith, ints)
 
--- ---- the image of a list under a rule, if the value of the rule at each label is known
+-- ---- the image of a list under a linear map, if Σ c·φ(label) over the image of each label k is `value k`
 
 module _ {K L : Type 0} (image : K → WholeTermsOf L) (value : K → ℤ) where
   pub replaced_at : (φ : L → ℤ) (terms : WholeTermsOf K) → ((t : K × ℤ) → Among t terms → over φ (image t.0) ≡ value t.0)
@@ -63,8 +62,8 @@ module _ {K L : Type 0} (image : K → WholeTermsOf L) (value : K → ℤ) where
       replaced_over image φ terms
       ∙ total_among (λ (t : K × ℤ). t.1 *ℤ over φ (image t.0)) (λ (t : K × ℤ). t.1 *ℤ value t.0) terms (λ t m. ap (λ z. t.1 *ℤ z) (h t m))
 
-  -- if no image has a negative coefficient and value k is the coefficient of x in the image of k, the absolute values
-  -- of the coefficients of x in the image of the list sum up to the sum of |c|·value k over the terms (k, c)
+  -- if no image has a negative coefficient and `value k` is the coefficient of x in the image of k, the absolute values of the coefficients of x in
+  -- the image of the list sum up to the sum of |c|·value k over the terms (k, c) of the list
   pub replaced_mass : (eq : L → L → Bool) (x : L) (terms : WholeTermsOf K) → ((k : K) → AreCounts (image k))
       → ((t : K × ℤ) → Among t terms → over (only eq x) (image t.0) ≡ value t.0)
       → pos (mass_at eq x (replaced image terms)) ≡ total (λ (t : K × ℤ). pos (nat_abs t.1) *ℤ value t.0) terms

@@ -1,4 +1,4 @@
--- The coefficient of a table of integers at a label, and the lists with the same sums.
+-- The coefficient of a label in a table of integers, and lists with the same sums Σ c·φ(label).
 use Rattle.std.proofs.Common.{◌≡◌, ◌⊎◌, inl, inr, ℕ, ◌+◌, ◌^◌, ◌≤◌, Bool, true, false, cond, List, [], ◌∷◌, ◌++◌, refl, sym, ap, ◌∙◌, arith, ℤ, pos, negsuc, ◌+ℤ◌, ◌*ℤ◌}
 use Rattle.std.specs.Prelude.{Option, nat_abs, nat_eq, ◌≤ℤ◌}
 use Rattle.std.specs.Cmp.Lexicographic.{pointwise, nat_list_eq_equiv}
@@ -13,7 +13,7 @@ use Rattle.sym_model.specs.Polynomial.{Same, same, coefficient as coefficient_of
 use Rattle.sym_model.proofs.Sums.{total_ext}
 use Rattle.sym_model.proofs.Ring.{product-one}
 use Rattle.sym_model.proofs.Exponents.{same_from, same_apart, same_or_not}
-use Rattle.sym_model.proofs.Polynomials.{at_only, coefficient_pair, same_from_pair, pair_determined}
+use Rattle.sym_model.proofs.Polynomials.{at_only, coefficient_pair, same_from_pair}
 use Rattle.linear_combinations.specs.Entries.{coefficient}
 use Rattle.linear_combinations.specs.Gains.{WholeTermsOf, over, only, mass_at, Gains, Overflows}
 use Rattle.linear_combinations.specs.Labels.{same_partition}
@@ -21,7 +21,7 @@ use Rattle.linear_combinations.proofs.Gains.{over_at, over_append}
 use Rattle.linear_combinations.proofs.Totals.{found-among}
 use lib.IntN.{*ℤ-zero, +ℤ_idl}
 
--- if no coefficient of a list is negative, the sum of those at a label is the sum of their absolute values
+-- if no coefficient of a list is negative, the sum of its coefficients at a label is the sum of their absolute values
 pub counts_at : {L : Type 0} (eq : L → L → Bool) (x : L) (g : WholeTermsOf L) → AreCounts g → over (only eq x) g ≡ pos (mass_at eq x g)
 counts_at eq x [] h = refl
 counts_at {L} eq x (t ∷ g) h = by (eq x t.0) t.1 (h t (inl refl)) (counts_at eq x g (λ u m. h u (inr m)))
@@ -42,33 +42,26 @@ only_same x y = by (pointwise nat_eq x y) refl (same_or_not y x)
     by false p (inl e) = absurd (both_ways (pointwise nat_eq x y) p (ap (pointwise nat_eq x) e ∙ nat_list_eq_equiv.refl x))
     by false p (inr n) = sym (ap (λ b. cond b (pos 1) (pos 0)) (same_apart y x n))
 
--- the coefficient of a list at x is its pairing with `only` of x, the test function that is 1 at x and 0 elsewhere
+-- the coefficient of g at x is the sum of c·φ(label) over the terms of g, for φ the function `only` of x, which is 1 at x and 0 elsewhere
 pub coefficient_over : (g : WholeTermsOf (List ℕ)) (x : List ℕ) → coefficient_of g x ≡ over (only (pointwise nat_eq) x) g
 coefficient_over g x =
     coefficient_pair g x ∙ total_ext (λ (t : List ℕ × ℤ). t.1 *ℤ at_only x t.0) (λ (t : List ℕ × ℤ). t.1 *ℤ only (pointwise nat_eq) x t.0) (λ t. ap (λ z. t.1 *ℤ z) (sym (only_same x t.0))) g
 
--- in a table, the coefficient of a label is the one that a look-up finds
+-- if no label occurs twice in a list, the coefficient of x, as a sum over all terms, is the one that the function `coefficient` looks up
 pub coefficient_found : (terms : WholeTermsOf (List ℕ)) → IsDistinct (pointwise nat_eq) (keys_of terms) → (x : List ℕ) → coefficient_of terms x ≡ coefficient (pointwise nat_eq) (pos 0) terms x
 coefficient_found terms distinct x = coefficient_over terms x ∙ over_at nat_list_eq_equiv same_partition terms distinct x
 
--- in a table, the coefficient of the label of a term t is the coefficient of t
+-- if no label occurs twice in a list, the coefficient of the label of a term t is the coefficient of t
 pub coefficient_of_term : (terms : WholeTermsOf (List ℕ)) → IsDistinct (pointwise nat_eq) (keys_of terms) → (t : List ℕ × ℤ) → Among t terms → coefficient_of terms t.0 ≡ t.1
 coefficient_of_term terms distinct t m =
     coefficient_found terms distinct t.0
     ∙ ap (λ (o : Option ℤ). unwrap_or o (pos 0)) (found-among nat_list_eq_equiv same_partition terms distinct t m)
 
--- if two lists have the same sum against every test function, they have the same coefficients
-pub same_sums : (f g : WholeTermsOf (List ℕ)) → ((φ : List ℕ → ℤ) → over φ f ≡ over φ g) → Same f g
-same_sums f g e = same_from_pair f g e
-
-pub sums_same : (f g : WholeTermsOf (List ℕ)) → Same f g → (φ : List ℕ → ℤ) → over φ f ≡ over φ g
-sums_same f g e φ = pair_determined f g φ e
-
--- a table that gained terms is the old one with these terms appended
+-- if `new` is `old` plus the terms `gained` (`Gains`), it has the coefficients of `old` with these terms appended
 pub gains_same : (old gained new : WholeTermsOf (List ℕ)) → Gains old gained new → Same new (old ++ gained)
-gains_same old gained new a = same_sums new (old ++ gained) (λ φ. a.sums φ ∙ sym (over_append φ old gained))
+gains_same old gained new a = same_from_pair new (old ++ gained) (λ φ. a.sums φ ∙ sym (over_append φ old gained))
 
--- ---- a table that was empty before it gained terms
+-- ---- a table that was empty before terms were added
 
 pub coefficient_gained : (old gained new : WholeTermsOf (List ℕ)) (x : List ℕ) → old ≡ [] → Gains old gained new
     → coefficient_of new x ≡ over (only (pointwise nat_eq) x) gained

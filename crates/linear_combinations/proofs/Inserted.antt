@@ -1,9 +1,9 @@
--- A label inserted into a table with a scalar.
+-- A label k inserted into a table with a scalar c, and c then replaced by another scalar.
 --     inserted_at    the index of the label
---     restored       the table after the old scalar of the label is written back
---     settled        the table after another scalar is written at the label, or the label is removed
---     some_of        the two cases, each with a weaker condition
---     in_place       the table after a scalar that is there is replaced, or its label is removed
+--     restored       if the old scalar of k is written back, the table is the old one
+--     settled        the table after another scalar is written at k, or k is removed
+--     some_of        two cases, each with a condition replaced by one that it implies
+--     in_place       the table after the scalar of a label in the table is replaced, or the label is removed
 use Rattle.std.proofs.Common.{◌≡◌, ◌≢◌, ◌⊎◌, inl, inr, ℕ, suc, ◌+◌, Bool, true, false, cond, not, ◌&&◌, List, [], ◌∷◌, refl, sym, ap, subst, ◌∙◌, arith, pos}
 use Rattle.std.specs.Prelude.{Option, Some, None, slice_get}
 use Rattle.std.specs.Cmp.{IsEquivalence}
@@ -50,12 +50,13 @@ module _ {L R : Type 0} (eq : L → L → Bool) (same : (x y : L) → eq x y ≡
           let i : 1 + place ≡ suc place = omega arith in
           ap (λ n. set_value_at (e ∷ insert_entry eq es k c) n had) i ∙ ap (λ xs. e ∷ xs) (later h)
 
--- the table, and what the label has gained, after a scalar is inserted and then replaced by a new one, or removed if the new one is 0
+-- let `mid` be the table `old` after k is inserted with the scalar c, and `new` be `mid` after this scalar is replaced by s, or k removed if s is 0:
+-- `new` is a table, and if s is the coefficient of k in `old` plus x, then `new` is `old` with x added at k (`Settled`)
 module _ {L R : Type 0} {eq : L → L → Bool} (laws : IsEquivalence eq) (same : (x y : L) → eq x y ≡ true → x ≡ y) (is_label : L → Bool)
     (zero : R) (value : R → Fraction) (is_held : R → Type 0) (sum : R → R → R) (zero_is : value zero ≡ whole (pos 0)) (zero_held : is_held zero)
     (same_value : (a b : R) → value a ≡ value b → a ≡ b) (lowest : (a : R) → is_held a → InLowestTerms (value a))
     (old mid new : List (L × R)) (k : L) (c s : R) where
-  -- the look-ups of a table after a scalar is inserted and `o` replaces it
+  -- `after` has at k the scalar that `o` holds, or no label k if `o` is `None`, and at all other labels the scalars of `before`
   abbrev pub Finds : List (L × R) → List (L × R) → Option R → Type 0
   Finds before after o = (q : L) → lookup (eq q) after ≡ cond (eq k q) o (lookup (eq q) before)
 
@@ -89,13 +90,13 @@ module _ {L R : Type 0} {eq : L → L → Bool} (laws : IsEquivalence eq) (same 
         λ x total. HasMoreAt-found eq zero sum old new k (Some s) x total finds,
       )
 
--- if P and U hold or Q and V hold, U implies F, and V implies G, then P and F hold or Q and G hold
+-- if (P and U) or (Q and V), U implies F, and V implies G, then (P and F) or (Q and G)
 pub some_of : {P Q U V F G : Type 0} → (U → F) → (V → G) → (P × U) ⊎ (Q × V) → (P × F) ⊎ (Q × G)
 some_of f g (inl (p, u)) = inl (p, f u)
 some_of f g (inr (q, v)) = inr (q, g v)
 
--- the table after the scalar `had` of a label k that is in the table, which keeps it as `key`, is replaced by a new
--- one, or the label is removed if the new one is 0
+-- let k be a label in the table `old`, stored there as the equal label `key` and with the scalar `had`, and let `new` be `old` after `had` is
+-- replaced by s, or the label removed if s is 0: `Settled` holds
 module _ {L R : Type 0} {eq : L → L → Bool} (laws : IsEquivalence eq) (same : (x y : L) → eq x y ≡ true → x ≡ y) (is_label : L → Bool)
     (zero : R) (value : R → Fraction) (is_held : R → Type 0) (sum : R → R → R) (zero_is : value zero ≡ whole (pos 0)) (zero_held : is_held zero)
     (same_value : (a b : R) → value a ≡ value b → a ≡ b) (lowest : (a : R) → is_held a → InLowestTerms (value a))

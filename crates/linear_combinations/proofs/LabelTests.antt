@@ -1,7 +1,7 @@
--- The invariants of the label types imply the tests of labels.
-use Rattle.std.proofs.Common.{◌≡◌, ℕ, ◌≤◌, inl, inr, true, false, ◌&&◌, List, [], ◌∷◌, length, eqb, refl, sym, ap}
-use Rattle.std.specs.Prelude.{not, nat_le, nat_lt}
-use Rattle.std.proofs.lemmas.Bool.{and_from, le-leb, lt-ltb, ne_eqb, or_from}
+-- Values of the label types satisfy the tests `is_label` and `is_permutation_label`.
+use Rattle.std.proofs.Common.{◌≡◌, ℕ, ◌≤◌, inl, inr, true, false, ◌&&◌, List, [], ◌∷◌, length, eqb, refl, sym, ap, subst}
+use Rattle.std.specs.Prelude.{not, nat_le, nat_lt, nat_eq}
+use Rattle.std.proofs.lemmas.Bool.{and_from, le-leb, lt-ltb, ne_eqb, or_from, false_from_ne_true}
 use Rattle.sym_model.specs.Polynomial.{same}
 use Rattle.sym_model.specs.Bases.{has}
 use Rattle.sym_model.specs.BetaList.{has_equal_entries}
@@ -13,8 +13,10 @@ use Rattle.sym_model.proofs.Exponents.{same_from}
 use Rattle.sym_model.proofs.Orders.{is_label-from}
 use Rattle.partitions.specs.Limits.{IsWithinLimits}
 use Rattle.perm_codes.specs.Limits.{IsWithinLimits as IsShortKept}
+use Rattle.std.specs.Cmp.Lexicographic.{pointwise, nat_list_eq_equiv}
+use Rattle.linear_combinations.specs.Labels.{same_partition}
 
--- a partition within the limits is a label
+-- a partition with at most 512 rows and 4096 cells passes the test of a label
 pub is_label-limits : (parts : List ℕ) → IsWithinLimits parts → is_label parts ≡ true
 is_label-limits parts l = is_label-from parts (record { partition = l.partition; rows = l.few; size = l.small })
 
@@ -35,7 +37,7 @@ apart-from : (w : List ℕ) → Once w → has_equal_entries w ≡ false
 apart-from [] h = refl
 apart-from (a ∷ w) h = or_from (has a w) (has_equal_entries w) (has_not a w h.0) (apart-from w h.1)
 
--- a permutation without fixed points at its end, of at most 255 letters, is a label
+-- a permutation passes the test of a label if it has at most 255 letters and no fixed letter at its end, or is the identity, written as 1
 pub is_permutation_label-limits : (w : List ℕ) → IsShortKept w → is_permutation_label w ≡ true
 is_permutation_label-limits w l =
     let letters = are_letters-from (length w) w l.kept.one_line.letters in
@@ -47,3 +49,11 @@ is_permutation_label-limits w l =
     (lt-ltb 0 (length w) l.kept.some))
     (same_from (kept w) w l.kept.unfixed))
     (le-leb (length w) 255 l.few)
+
+-- ---- the test whether two partitions are equal, place by place
+
+pub equal_from : (a b : List ℕ) → a ≡ b → pointwise nat_eq a b ≡ true
+equal_from a b e = subst (λ x. pointwise nat_eq a x ≡ true) e (nat_list_eq_equiv.refl a)
+
+pub equal_apart : (a b : List ℕ) → (a ≡ b → ⊥) → pointwise nat_eq a b ≡ false
+equal_apart a b n = false_from_ne_true (pointwise nat_eq a b) (λ e. n (same_partition a b e))

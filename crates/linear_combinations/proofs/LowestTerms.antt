@@ -1,4 +1,4 @@
--- Coefficients in lowest terms.
+-- Coefficients that are fractions in lowest terms.
 use Rattle.std.proofs.Common.{◌≡◌, ◌≢◌, ℕ, zero, suc, ◌<◌, ◌*◌, true, ℤ, pos, negsuc, ◌*ℤ◌, nat_abs, unsigned_abs, neg_ℤ, refl, sym, ap, ◌∙◌, subst, zero-mul, arith}
 use Rattle.std.specs.Int.{IsGcd}
 use Rattle.sym_model.specs.Expansion.{Fraction}
@@ -17,7 +17,7 @@ nat_abs-positive (pos zero) other = absurd (other refl)
 nat_abs-positive (pos (suc n)) other = omega arith
 nat_abs-positive (negsuc n) other = omega arith
 
--- if a fraction is in lowest terms and not 0, it passes the test of a coefficient
+-- a fraction in lowest terms that is not 0 passes the test `is_reduced`
 pub is_reduced-lowest : (r : Fraction) → InLowestTerms r → r ≢ whole (pos 0) → is_reduced r ≡ true
 is_reduced-lowest r lowest other =
     is_reduced-from r (record {
@@ -37,7 +37,6 @@ not_zero c h e = let none : nat_abs c.0 ≡ 0 = ap (λ (r : Fraction). nat_abs r
 pub not_zero-is_reduced : (c : Fraction) → is_reduced c ≡ true → c ≢ whole (pos 0)
 not_zero-is_reduced c h = not_zero c (is_reduced-tells c h).nonzero
 
--- a product with 0 is 0
 *ℤ-zero_left : (n : ℤ) → pos 0 *ℤ n ≡ pos 0
 *ℤ-zero_left (pos n) = ap pos (zero-mul n)
 *ℤ-zero_left (negsuc n) = ap (λ m. neg_ℤ (pos m)) (zero-mul (suc n))

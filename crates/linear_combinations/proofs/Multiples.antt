@@ -1,4 +1,4 @@
--- Lists of pairs whose scalars are multiplied, place by place, by one scalar.
+-- A list with the labels of another list in the same order, and with each scalar of that list multiplied by one fixed scalar.
 use Rattle.std.proofs.Common.{◌≡◌, ◌≢◌, ℕ, suc, ◌+◌, ◌*◌, ◌<◌, ◌≤◌, Bool, true, false, cond, List, [], ◌∷◌, ◌++◌, length, pos, ◌*ℤ◌, unsigned_abs, refl, sym, ap, ◌∙◌, subst, inl, inr, arith}
 use Rattle.std.specs.Prelude.{Option, Some, slice_get}
 use Rattle.std.specs.Map.{lookup, keys_of}
@@ -17,9 +17,10 @@ use Rattle.std.specs.Option.{unwrap_or}
 use Rattle.linear_combinations.specs.Entries.{are_terms, coefficient, AreHeld, IsMultipleOf, IsRefused}
 use Rattle.linear_combinations.proofs.LowestTerms.{is_reduced-lowest, not_zero-is_reduced, lowest-is_reduced, product-zero}
 use Rattle.linear_combinations.proofs.Steps.{answered}
+use Rattle.std.proofs.lemmas.List.{length-append, nil_from_length}
 
 module _ {L R : Type 0} (P : R → R → Type 0) where
-  -- the second list has the labels of the first, and P relates the scalars place by place
+  -- the two lists have the same labels in the same order, and P relates the two scalars of each label
   abbrev pub Relates : List (L × R) → List (L × R) → Type 0
   Relates [] [] = Unit {0}
   Relates [] (y ∷ ys) = ⊥
@@ -55,34 +56,26 @@ module _ {L R : Type 0} where
   set_next [] tail k a b = refl
   set_next (d ∷ done) tail k a b = ap (λ es. d ∷ es) (set_next done tail k a b)
 
-  pub length-both : (xs ys : List (L × R)) → length (xs ++ ys) ≡ length xs + length ys
-  length-both [] ys = omega arith
-  length-both (x ∷ xs) ys = let rest = length-both xs ys in omega arith
-
-  pub nothing_left : (rest : List (L × R)) → length rest ≡ 0 → rest ≡ []
-  nothing_left [] h = refl
-  nothing_left (x ∷ rest) h = absurd (omega arith)
-
 module _ {L R : Type 0} (P : R → R → Type 0) (before done rest was now : List (L × R)) (at end : ℕ) (all : before ++ rest ≡ was) (is : now ≡ done ++ rest) (related : Relates P before done) (place : length done ≡ at) (ends : end ≡ length was) where
-  -- if the index `at` is below `end`, it is an index of the list `now`
+  -- an index `at` below `end` is an index of the list `now`
   pub place_within : at < end → at < length now
   place_within h =
-      let a = length-both before rest in
-      let b = length-both done rest in
+      let a = length-append before rest in
+      let b = length-append done rest in
       let l = length-Relates P before done related in
       let d : length (before ++ rest) ≡ length was = ap (λ (es : List (L × R)). length es) all in
       let e : length now ≡ length (done ++ rest) = ap (λ (es : List (L × R)). length es) is in
       omega arith
 
-  -- if the index is not below `end`, no pair is left
+  -- if the index `at` is not below `end`, no pair is left
   pub rest_empty : end ≤ at → rest ≡ []
   rest_empty h =
-      let a = length-both before rest in
+      let a = length-append before rest in
       let l = length-Relates P before done related in
       let d : length (before ++ rest) ≡ length was = ap (λ (es : List (L × R)). length es) all in
-      nothing_left rest (omega arith)
+      nil_from_length rest (omega arith)
 
--- a product of factors that are not 0 is not 0
+-- the product of two fractions that are not 0 is not 0
 product-nonzero : (r s : Fraction) → InLowestTerms r → InLowestTerms s → r ≢ whole (pos 0) → s ≢ whole (pos 0) → fraction_product r s ≢ whole (pos 0)
 product-nonzero r s l k other also e =
     let is = (Stands-product r s _ _ _ _ (Stands-itself r l) (Stands-itself s k)).is in
@@ -96,13 +89,13 @@ product-nonzero r s l k other also e =
     let size : unsigned_abs (r.0 *ℤ s.0) ≡ unsigned_abs r.0 * unsigned_abs s.0 = unsigned_abs-mul r.0 s.0 in
     omega arith
 
--- `checked a c` returns b, the product of a and c; its value is the product of their values in lowest terms, and the
--- ring can hold b
+-- b is the product of a and c, and `checked a c` returns b; the value of b is the product of the values of a and c, in lowest terms; and the ring can
+-- hold b
 abbrev pub IsProduct : {R : Type 0} → (R → Type 0) → (R → Fraction) → (R → R → Option R) → (R → R → R) → R → R → R → Type 0
 IsProduct is_held value checked product c a b =
     (checked a c ≡ Some b) × (b ≡ product a c) × (value b ≡ fraction_product (value a) (value c)) × InLowestTerms (value b) × is_held b
 
--- the product of 0 and c is 0
+-- the product of the scalar 0 and c is 0
 pub zero_product : {R : Type 0} (value : R → Fraction) (zero : R) (product : R → R → R) → ((a b : R) → value a ≡ value b → a ≡ b)
     → ((a b : R) → value (product a b) ≡ fraction_product (value a) (value b)) → value zero ≡ whole (pos 0)
     → (c : R) → InLowestTerms (value c) → product zero c ≡ zero
@@ -111,7 +104,7 @@ zero_product value zero product same values none c low =
 
 module _ {L R : Type 0} (eq : L → L → Bool) (is_label : L → Bool) (is_held : R → Type 0) (value : R → Fraction) (checked : R → R → Option R)
     (product : R → R → R) (c : R) where
-  -- if xs and ys have the same labels, and the scalars of ys are those of xs times c, place by place, then ys is xs times c, label by label
+  -- if ys has the labels of xs in the same order, each with its scalar times c, then the coefficient of every label in ys is that in xs times c
   pub IsMultipleOf-Relates : (zero : R) → product zero c ≡ zero → (xs ys : List (L × R)) → Relates (IsProduct is_held value checked product c) xs ys → IsMultipleOf eq zero product xs c ys
   IsMultipleOf-Relates zero none xs ys h label = found xs ys h
     where
@@ -126,7 +119,7 @@ module _ {L R : Type 0} (eq : L → L → Bool) (is_label : L → Bool) (is_held
           by true rest = h.1.1
           by false rest = rest
 
-  -- if xs and ys have the same labels, and the scalars of ys are those of xs times c, the ring can hold the coefficients of ys
+  -- if ys has the labels of xs in the same order, each with its scalar times c, the ring can hold the coefficients of ys
   pub held-Relates : (zero : R) → is_held zero → (xs ys : List (L × R)) → Relates (IsProduct is_held value checked product c) xs ys → AreHeld eq zero is_held ys
   held-Relates zero none xs ys h = record { at_label = λ label. found label xs ys h }
     where
@@ -140,7 +133,8 @@ module _ {L R : Type 0} (eq : L → L → Bool) (is_label : L → Bool) (is_held
           by true rest = h.1.4
           by false rest = rest
 
-  -- if c is not 0, the products of terms by c are terms
+  -- let c be not 0, and let ys have the labels of xs in the same order, each with its scalar times c: if each pair of xs satisfies `is_term`, so does
+  -- each pair of ys
   pub are_terms-Relates : InLowestTerms (value c) → value c ≢ whole (pos 0) → (xs ys : List (L × R)) → Relates (IsProduct is_held value checked product c) xs ys → are_terms value is_label xs ≡ true → are_terms value is_label ys ≡ true
   are_terms-Relates low other [] [] h t = refl
   are_terms-Relates low other [] (y ∷ ys) h t = absurd h
@@ -152,7 +146,7 @@ module _ {L R : Type 0} (eq : L → L → Bool) (is_label : L → Bool) (is_held
       λ e. product-nonzero (value x.1) (value c) (lowest-is_reduced (value x.1) q.0) low (not_zero-is_reduced (value x.1) q.0) other (sym h.1.2 ∙ e) in
       and_from _ _ (and_from _ _ (is_reduced-lowest (value y.1) h.1.3 nonzero) (ap is_label h.0 ∙ q.1)) (are_terms-Relates low other xs ys h.2 p.1)
 
-  -- if the scalars of a list are products by c, the ring does not refuse any of these products
+  -- if ys has the labels of xs in the same order, each with its scalar times c, the checked multiplication has a result for c and each scalar of xs
   pub fits-Relates : (xs ys : List (L × R)) → Relates (IsProduct is_held value checked product c) xs ys → (t : L × R) → Among t xs → IsRefused is_held checked t.1 c → ⊥
   fits-Relates [] [] h t m r = absurd m
   fits-Relates [] (y ∷ ys) h t m r = absurd m

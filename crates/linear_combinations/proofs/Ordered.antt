@@ -1,4 +1,4 @@
--- Lists of pairs in strict order: from adjacent pairs to all of them, and along `++`.
+-- Lists of pairs in strict order of the labels: if each label comes before the next one, it comes before all later ones; and two such lists joined.
 use Rattle.std.proofs.Common.{◌≡◌, Bool, true, false, List, [], ◌∷◌, ◌++◌, refl, ap, ◌∙◌, inl, inr}
 use Rattle.std.specs.Cmp.{IsTotalOrder}
 use Rattle.std.specs.List.{IsDistinct, AllByRecursion}
@@ -15,12 +15,12 @@ use Rattle.sym_model.proofs.CanonicalLists.{is_lt-tells, IsTransitive}
 use Rattle.linear_combinations.specs.Entries.{is_ordered, is_term, are_terms, IsCanonicalList}
 
 module _ {L R : Type 0} (order : L → L → Ordering) where
-  -- the label comes strictly before that of each pair
+  -- the label comes strictly before the label of each pair of the list
   abbrev pub StandsBefore : L → List (L × R) → Type 0
   StandsBefore label [] = Unit {0}
   StandsBefore label (t ∷ entries) = (order label t.0 ≡ Less) × StandsBefore label entries
 
-  -- each label comes strictly before all later ones
+  -- the label of each pair comes strictly before the labels of all later pairs
   abbrev pub IsOrdered : List (L × R) → Type 0
   IsOrdered [] = Unit {0}
   IsOrdered (t ∷ entries) = StandsBefore t.0 entries × IsOrdered entries
@@ -52,7 +52,7 @@ module _ {L R : Type 0} (order : L → L → Ordering) where
     stands_before-weaker x y [] h k = tt
     stands_before-weaker x y (t ∷ entries) h k = (trans x y t.0 h k.0, stands_before-weaker x y entries h k.1)
 
-    -- if each label comes strictly before the next one, it comes strictly before all later ones
+    -- if the label of each pair comes strictly before that of the next pair, it comes strictly before those of all later pairs
     pub is_ordered-tells : (entries : List (L × R)) → is_ordered order entries ≡ true → IsOrdered entries
     is_ordered-tells [] h = tt
     is_ordered-tells (t ∷ []) h = (tt, tt)
@@ -80,7 +80,7 @@ module _ {L R : Type 0} (order : L → L → Ordering) where
         others [] k = tt
         others (u ∷ rest) k = (apart u.0 k.0 (eq t.0 u.0) refl, others rest k.1)
 
--- ---- two canonical lists, one after the other
+-- ---- two canonical lists joined
 
 module _ {L R : Type 0} (order : L → L → Ordering) (is_label : L → Bool) (value : R → Fraction) where
   are_terms-append : (xs ys : List (L × R)) → are_terms value is_label xs ≡ true → are_terms value is_label ys ≡ true → are_terms value is_label (xs ++ ys) ≡ true
@@ -91,7 +91,7 @@ module _ {L R : Type 0} (order : L → L → Ordering) (is_label : L → Bool) (
     pub canonical-ordered : (entries : List (L × R)) → IsCanonicalList order is_label value entries → IsOrdered order entries
     canonical-ordered entries c = is_ordered-tells order trans entries (and_parts (is_ordered order entries) _ c).0
 
-    -- two canonical lists make one, if each label of the first comes before each of the second
+    -- if xs and ys are canonical and each label of xs comes before each label of ys, xs ++ ys is canonical
     pub canonical-append : (xs ys : List (L × R)) → IsCanonicalList order is_label value xs → IsCanonicalList order is_label value ys
         → ((x y : L × R) → Among x xs → Among y ys → order x.0 y.0 ≡ Less) → IsCanonicalList order is_label value (xs ++ ys)
     canonical-append xs ys p q apart =

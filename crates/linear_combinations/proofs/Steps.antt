@@ -1,6 +1,6 @@
--- Statements about the pairs of a table that a loop has reached, and their change when the loop takes one more pair.
+-- Statements about the pairs of a table that a loop has visited, and their change when the loop visits one more pair.
 use Rattle.std.proofs.Common.{◌≡◌, Bool, true, false, cond, List, [], ◌∷◌, ◌++◌, append-nil, pos, refl, sym, ap, ◌∙◌, subst, if◌then◌else◌}
-use Rattle.std.specs.Prelude.{Option, Some, None, Result, Ok, Err, OnOk, IfOk, IsErrAnd, IsErrOf}
+use Rattle.std.specs.Prelude.{Option, Some, None, Result, Ok, Err, IfOk, IsErrAnd, IsErrOf}
 use Rattle.std.specs.Cmp.{IsEquivalence}
 use Rattle.std.specs.Option.{unwrap_or}
 use Rattle.std.specs.List.{IsDistinct}
@@ -36,7 +36,7 @@ module _ {L X : Type 0} where
       by false h rest = rest h
 
 module _ {L X : Type 0} {eq : L → L → Bool} (laws : IsEquivalence eq) where
-  -- if the keys of a list are distinct, the key of the next pair is not among those of the pairs before
+  -- if the keys of a list are distinct, the key of the pair e is not among those of the pairs `done` before it
   pub absent_before : (done : List (L × X)) (e : L × X) (ys : List (L × X)) → IsDistinct eq (keys_of (done ++ e ∷ ys)) → lookup (eq e.0) done ≡ None
   absent_before [] e ys h = refl
   absent_before (x ∷ done) e ys h = by (eq e.0 x.0) refl (absent_before done e ys (IsDistinct-tail eq x.0 (keys_of (done ++ e ∷ ys)) h))
@@ -47,14 +47,14 @@ module _ {L X : Type 0} {eq : L → L → Bool} (laws : IsEquivalence eq) where
           (lookup-none (eq e.0) (done ++ e ∷ ys) (none_past_head laws e.0 x (done ++ e ∷ ys) h p)))
       by false p rest = rest
 
-  -- if the keys of a list are distinct, looking up the key of the next pair finds its scalar
+  -- if the keys of a list are distinct, looking up the key of the pair e finds the scalar of e
   pub found_next : (done : List (L × X)) (e : L × X) (ys : List (L × X)) → IsDistinct eq (keys_of (done ++ e ∷ ys)) → lookup (eq e.0) (done ++ e ∷ ys) ≡ Some e.1
   found_next done e ys h =
       found_past (eq e.0) done (e ∷ ys) (absent_before done e ys h) ∙ ap (λ b. cond b (Some e.1) (lookup (eq e.0) ys)) (laws.refl e.0)
 
 module _ {L R : Type 0} {eq : L → L → Bool} (laws : IsEquivalence eq) (same : (x y : L) → eq x y ≡ true → x ≡ y) (zero : R) (sum : R → R → R)
     (done : List (L × R)) (k : L) (v : R) (none : lookup (eq k) done ≡ None) where
-  -- with one more pair (k, v), the coefficient at k is v, and the other coefficients are unchanged
+  -- if the pair (k, v) is appended to `done`, the coefficient at k is v, and the other coefficients are unchanged
   pub coefficient-push : (q : L) → coefficient eq zero (done ++ (k, v) ∷ []) q ≡ (if eq k q then v else coefficient eq zero done q)
   coefficient-push q = by (eq k q) refl
     where
@@ -67,7 +67,7 @@ module _ {L R : Type 0} {eq : L → L → Bool} (laws : IsEquivalence eq) (same 
   absent-coefficient : coefficient eq zero done k ≡ zero
   absent-coefficient = ap (λ o. unwrap_or o zero) none
 
-  -- if `cur` is the sum of `first` and the pairs so far, the coefficient of `cur` at the next label is that of `first`
+  -- if `cur` is the sum of `first` and the pairs visited so far, the coefficient of `cur` at the label k of the next pair is that of `first`
   pub sum-before : (first cur : List (L × R)) → sum (coefficient eq zero first k) zero ≡ coefficient eq zero first k → IsSumOf eq zero sum first done cur → coefficient eq zero cur k ≡ coefficient eq zero first k
   sum-before first cur neutral sums = sums k ∙ ap (λ r. sum (coefficient eq zero first k) r) absent-coefficient ∙ neutral
 
@@ -79,8 +79,9 @@ module _ {L R : Type 0} {eq : L → L → Bool} (laws : IsEquivalence eq) (same 
       by true p = ap (λ r. sum r v) (sum-before first cur neutral sums ∙ ap (coefficient eq zero first) (same k q p))
       by false p = sums q
 
-  -- if the ring refuses neither the sums with the pairs so far nor the one with the next pair, it refuses no sum with
-  -- these pairs
+  -- let P be a relation such as `IsRefused`. If P holds at no label for the coefficients in `first` and in `done`, and P does not hold for the
+  -- coefficient of k in `first` and the scalar v, then P holds at no label for the coefficients in `first` and in `done` with the pair (k, v)
+  -- appended
   pub fits-next : (P : R → R → Type 0) (first : List (L × R)) → ((q : L) → P (coefficient eq zero first q) (coefficient eq zero done q) → ⊥) → (P (coefficient eq zero first k) v → ⊥) → (q : L) → P (coefficient eq zero first q) (coefficient eq zero (done ++ (k, v) ∷ []) q) → ⊥
   fits-next P first before here q h = by (eq k q) refl (subst (P (coefficient eq zero first q)) (coefficient-push q) h)
     where
@@ -88,14 +89,14 @@ module _ {L R : Type 0} {eq : L → L → Bool} (laws : IsEquivalence eq) (same 
       by true p h = here (subst (λ x. P (coefficient eq zero first x) v) (sym (same k q p)) h)
       by false p h = before q h
 
--- a sum with 0 is the first summand
+-- the sum of a scalar a and the scalar 0 is a
 pub sum_zero : {R : Type 0} (value : R → Fraction) (zero : R) (sum : R → R → R) → ((a b : R) → value a ≡ value b → a ≡ b)
     → ((a b : R) → value (sum a b) ≡ fraction_sum (value a) (value b)) → value zero ≡ whole (pos 0)
     → (a : R) → InLowestTerms (value a) → sum a zero ≡ a
 sum_zero value zero sum same values none a low =
     same (sum a zero) a (values a zero ∙ ap (fraction_sum (value a)) none ∙ sum-zero (value a) low)
 
--- the ring does not refuse a sum with 0
+-- if b is 0, the checked addition has a result for a and b
 module _ {R : Type 0} {is_held : R → Type 0} {value : R → Fraction} {checked : R → R → Option R} (answers : (a b : R) → is_held a → is_held b → AnswersSum value a b (checked a b)) where
   pub fits-zero_right : (a b : R) → value b ≡ whole (pos 0) → IsRefused is_held checked a b → ⊥
   fits-zero_right a b e r = let h : checked a b ≡ Some a = (answers a b r.left_held r.right_held).zero_right e in let f = r.refused in cc
@@ -103,7 +104,7 @@ module _ {R : Type 0} {is_held : R → Type 0} {value : R → Fraction} {checked
   pub fits-zero_left : (a b : R) → value a ≡ whole (pos 0) → IsRefused is_held checked a b → ⊥
   fits-zero_left a b e r = let h : checked a b ≡ Some b = (answers a b r.left_held r.right_held).zero_left e in let f = r.refused in cc
 
--- if the checked operation has a result for a and b, the operation is not refused for a and b
+-- if the checked operation has a result for a and b, `IsRefused` does not hold for a and b
 pub answered : {R : Type 0} {is_held : R → Type 0} {checked : R → R → Option R} (a b s : R) → checked a b ≡ Some s → IsRefused is_held checked a b → ⊥
 answered a b s e r = let none = r.refused in cc
 
@@ -112,14 +113,9 @@ pub error_is : {T E : Type 0} (r : Result T E) (e l : E) → IsErrAnd r (λ y. y
 error_is (Ok x) e l h k = cc
 error_is (Err y) e l h k = cc
 
--- if no pair is left, the pairs so far are all pairs
+-- if no pair is left, the pairs visited so far are all pairs
 pub all_done : {A : Type 0} (done rest all entries : List A) → rest ≡ [] → done ++ rest ≡ all → all ≡ entries → done ≡ entries
 all_done done rest all entries none so_far is = sym (append-nil done) ∙ ap (λ es. done ++ es) (sym none) ∙ so_far ∙ is
-
--- if P holds whenever the result r is `Ok`, and P implies Q, then Q holds whenever r is `Ok`
-pub on_ok : {A E P Q : Type 0} (r : Result A E) → OnOk r P → (P → Q) → OnOk r Q
-on_ok (Ok x) h f = f h
-on_ok (Err e) h f = tt
 
 pub IsCombination-empty : {L R : Type 0} (eq : L → L → Bool) (is_label : L → Bool) (value : R → Fraction) → IsCombination eq is_label value []
 unfolding IsDistinct

@@ -1,7 +1,7 @@
--- The weight of a list, which is the sum of |c|·f(label) over its terms, for a weight f of labels (`weighed` of
--- specs/Gains).
---     gains_weighed, gains_mass, overflow_weighed    the weight of a table after a gain, and at an overflow
---     weighed_replaced, weighed_images               each label replaced by a list
+-- The weight of a list, which is the sum of |c|·f(label) over its terms, for a weight f of labels (`weighed` of specs/Gains).
+--     gains_weighed, gains_mass              an upper bound for the weight of a table after terms are added
+--     overflow_weighed                       a lower bound for the weights of a table and of the added terms if the addition overflows
+--     weighed_replaced, weighed_images       the weight of a list in which each label is replaced by a list
 use Rattle.std.proofs.Common.{◌≡◌, ℕ, zero, suc, ◌+◌, ◌*◌, ◌^◌, ◌≤◌, Bool, true, false, cond, [], ◌∷◌, ◌++◌, refl, ap, ap₂, ◌∙◌, inl, inr, arith, ℤ, pos, negsuc, ◌*ℤ◌}
 use Rattle.std.specs.Prelude.{Option, nat_abs, ◌≤ℤ◌}
 use Rattle.std.specs.Cmp.{IsEquivalence}
@@ -9,7 +9,7 @@ use Rattle.std.specs.Option.{unwrap_or}
 use Rattle.std.proofs.lemmas.Int.{ints}
 use Rattle.coeff_rings.specs.Fractions.{whole}
 use Rattle.sym_model.specs.Sum.{Among}
-use Rattle.sym_model.proofs.Integers.{nat_abs-product}
+use Rattle.sym_model.proofs.Integers.{nat_abs-product, at_most_absolute}
 use Rattle.linear_combinations.specs.Entries.{coefficient, IsCombination}
 use Rattle.linear_combinations.specs.Gains.{WholeTermsOf, over, mass, weighed, mass_at, scaled, replaced, Gains, Overflows}
 use Rattle.linear_combinations.proofs.Gains.{over_only_within}
@@ -48,7 +48,7 @@ module _ {L : Type 0} where
       let d : nat_abs t.1 * (f t.0 + g t.0) ≡ nat_abs t.1 * f t.0 + nat_abs t.1 * g t.0 = omega arith in
       omega arith
 
-  -- if all labels have the weight k, the weight of the list is its mass times k
+  -- if each label has the weight k, the weight of a list is the sum of the absolute values of its coefficients times k
   pub weighed_all : (k : ℕ) (terms : WholeTermsOf L) → weighed (λ x. k) terms ≡ mass terms * k
   weighed_all k [] = omega arith
   weighed_all k (t ∷ terms) =
@@ -63,7 +63,7 @@ module _ {L : Type 0} where
   pub mass_within-weighed : (f : L → ℕ) → ((x : L) → 1 ≤ f x) → (terms : WholeTermsOf L) → mass terms ≤ weighed f terms
   mass_within-weighed f h terms = omega (arith, weighed_all 1 terms, weighed_within (λ x. 1) f terms (λ t m. h t.0))
 
-  -- the weight of one term is at most that of the list
+  -- for a term (x, c) of a list, |c|·f(x) is at most the weight of the list
   pub weighed_among : (f : L → ℕ) (terms : WholeTermsOf L) (t : L × ℤ) → Among t terms → nat_abs t.1 * f t.0 ≤ weighed f terms
   weighed_among f [] t m = absurd m
   weighed_among f (u ∷ terms) t (inl e) = let a = ap (λ (v : L × ℤ). nat_abs v.1 * f v.0) e in omega arith
@@ -82,7 +82,7 @@ module _ {L : Type 0} where
             let m = mul-le-mul_left (nat_abs t.1) one in
             omega arith
 
-    -- if adding g overflows a table at a label with a weight of at least 1, the weights of table and g are together at least 2^127
+    -- if adding g to the table `old` overflows at a label x with f(x) at least 1, the weights of `old` and of g are together at least 2^127
     pub overflow_weighed : (old g : WholeTermsOf L) (o : Overflows eq old g) (f : L → ℕ) → 1 ≤ f o.0 → 2 ^ 127 ≤ weighed f old + weighed f g
     overflow_weighed old g o f some =
         let l = o.1 in
@@ -91,7 +91,7 @@ module _ {L : Type 0} where
         let d = mass_weighed f o.0 some g in
         omega arith
 
-    -- the weight of a table is at most that of the old one plus that of the terms it gained
+    -- if `new` is `old` plus g, the weight of `new` is at most that of `old` plus that of g
     pub gains_weighed : (laws : IsEquivalence eq) {is_label : L → Bool} (old g new : WholeTermsOf L) → IsCombination eq is_label whole new → Gains old g new
         → (f : L → ℕ) → weighed f new ≤ weighed f old + weighed f g
     gains_weighed laws old g new is a f =
@@ -102,7 +102,7 @@ module _ {L : Type 0} where
         let s = a.sums (λ x. signed (coefficient eq (pos 0) new x) (f x)) in
         omega (arith, ints)
       where
-        -- a number with the absolute value k and the sign of z
+        -- the number with the absolute value k and the sign of z
         signed : ℤ → ℕ → ℤ
         signed (pos n) k = pos k
         signed (negsuc n) zero = pos 0
@@ -126,33 +126,30 @@ module _ {L : Type 0} where
             let e = ap (λ z. t.1 *ℤ z) (h t (inl refl)) ∙ signed_times t.1 (f t.0) in
             omega (arith, ints)
 
-        abs_least : (z : ℤ) → z ≤ℤ pos (nat_abs z)
-        abs_least (pos n) = omega (arith, ints)
-        abs_least (negsuc n) = omega (arith, ints)
-
         at_most : (φ : L → ℤ) → ((x : L) → nat_abs (φ x) ≡ f x) → (terms : WholeTermsOf L) → over φ terms ≤ℤ pos (weighed f terms)
         at_most φ h [] = omega (arith, ints)
         at_most φ h (t ∷ terms) =
             let r = at_most φ h terms in
-            let l = abs_least (t.1 *ℤ φ t.0) in
+            let l = at_most_absolute (t.1 *ℤ φ t.0) in
             let p = nat_abs-product t.1 (φ t.0) ∙ ap (λ n. nat_abs t.1 * n) (h t.0) in
             let q = ap pos p in
             omega (arith, ints)
 
-    -- the mass of a table after a gain is at most its mass before plus the mass of what it gained
+    -- if `new` is `old` plus g, the mass (sum of absolute values) of `new` is at most that of `old` plus that of g
     pub gains_mass : (laws : IsEquivalence eq) {is_label : L → Bool} (old g new : WholeTermsOf L) → IsCombination eq is_label whole new → Gains old g new
         → mass new ≤ mass old + mass g
     gains_mass laws old g new is a =
         omega (arith, gains_weighed laws old g new is a (λ x. 1), weighed_all 1 old, weighed_all 1 g, weighed_all 1 new)
 
--- the weight of the image of a list is the sum over its terms of |c| times the weight of the label's image
+-- the weight of the image of a list is the sum, over the terms (k, c) of the list, of |c| times the weight of the image of k
 pub weighed_replaced : {K L : Type 0} (image : K → WholeTermsOf L) (f : L → ℕ) (terms : WholeTermsOf K) → weighed f (replaced image terms) ≡ weighed (λ k. weighed f (image k)) terms
 weighed_replaced image f [] = refl
 weighed_replaced image f (t ∷ terms) =
     weighed_append f (scaled t.1 (image t.0)) (replaced image terms)
     ∙ ap₂ (λ x y. x + y) (weighed_scaled f t.1 (image t.0)) (weighed_replaced image f terms)
 
--- if the image of each label weighs at most as much as the label, so does the image of the list
+-- if for each term (k, c) the weight (by f) of the image of k is at most g(k), the weight (by f) of the image of the list is at most the weight (by
+-- g) of the list
 pub weighed_images : {K L : Type 0} (image : K → WholeTermsOf L) (f : L → ℕ) (g : K → ℕ) (terms : WholeTermsOf K)
     → ((t : K × ℤ) → Among t terms → weighed f (image t.0) ≤ g t.0) → weighed f (replaced image terms) ≤ weighed g terms
 weighed_images image f g terms h =

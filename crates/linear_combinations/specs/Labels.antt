@@ -1,5 +1,4 @@
--- Lemmas that the label types cite: equal labels are the same, and the printed order is total, with ties only between
--- equal labels.
+-- Lemmas that the label types cite: labels that compare as equal are the same, and the printed order is total, with ties only between equal labels.
 use Rattle.std.proofs.Common.{◌≡◌, ℕ, true, List}
 use Rattle.std.specs.Prelude.{nat_eq, IsTrue}
 use Rattle.std.specs.Cmp.{IsTotalOrder}

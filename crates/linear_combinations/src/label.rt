@@ -12,20 +12,20 @@ use partitions::Partition;
 use std::cmp::Ordering;
 use std::hash::Hash;
 
-/// Labels of terms. Labels that compare as equal are the same value. Labels have one order, in
-/// which they are printed.
+/// Labels of terms. Labels that compare as equal are the same value. Each type of labels has one
+/// total order, in which its labels are printed.
 pub trait Label: Eq + Hash + Drop {
-    // Whether a label lies in the limits of its type, as every value of the type does.
+    // Whether a label is within the limits of its type, as every value of the type is.
     ghost is_label: { Self → Bool };
 
-    // Whether a label is so short that it is kept without allocating memory.
+    // Whether a label is so short that it can be stored without allocating memory.
     ghost is_short: { Self → Bool };
 
     // The order in which labels are printed.
     ghost order: { Self → Self → Ordering };
 
-    /// Compares this label with `other` in the printed order. The result is `Equal` only if they
-    /// are equal.
+    /// Compares this label with `other` in the printed order. The result is `Equal` only if the two
+    /// labels are equal.
     fn cmp_printed(&self, other: &Self) -> Ordering
         ensures value { result ≡ order self.now other.now }
         ensures equal { result ≡ Ordering.Equal → self.now ≡ other.now }
@@ -69,7 +69,8 @@ impl Label for Partition {
     ghost order_equal = { partition_order_equal };
 }
 
-/// Does nothing at run time: its clause gives a proof that a label lies in the limits of its type.
+/// Does nothing at run time: its `ensures` clause proves that `label` is within the limits of its
+/// type.
 pub(crate) fn lies_in_limits<L: Label>(label: &L)
     ensures { IsTrue (L.is_label label.now) }
 {

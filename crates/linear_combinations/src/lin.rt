@@ -76,10 +76,10 @@ impl<L: Label, R: Scalar> Lin<L, R> {
         self.len() == 0
     }
 
-    /// Adds `c` to the label's coefficient, and removes the label if the sum is 0.
+    /// Adds `c` to the coefficient of `label`, and removes the label if the sum is 0.
     ///
-    /// Returns `Large` if and only if the ring refuses that sum. On every error the map is
-    /// unchanged.
+    /// Returns `Large` if and only if the ring's checked addition has no result for `c` and the
+    /// coefficient of `label`. On every error the map is unchanged.
     pub fn add_term(&mut self, label: L, c: R) -> Result<(), SumFault>
         ensures ok { OnOk result (HasMoreAt L.eq R.zero R.sum self.old label c self.new) }
         ensures large { IsErrOf result SumFault.Large
@@ -90,9 +90,10 @@ impl<L: Label, R: Scalar> Lin<L, R> {
         add_to(&mut self.table, label, c)
     }
 
-    /// Adds `c` to the label's coefficient, and removes the label if the sum is 0. Returns `Large`
-    /// if and only if the ring refuses that sum; on every error the map is unchanged. The label is
-    /// copied only if it is new in the map, so `Large` comes before any allocation.
+    /// Adds `c` to the coefficient of `label`, and removes the label if the sum is 0. Returns
+    /// `Large` if and only if the ring's checked addition has no result for this coefficient and
+    /// `c`; on every error the map is unchanged. The label is copied only if it is new in the map,
+    /// so no memory is allocated before `Large` is returned.
     pub(crate) fn add_copied(&mut self, label: &L, c: R) -> Result<(), SumFault>
         ensures ok { OnOk result (HasMoreAt L.eq R.zero R.sum self.old label.now c self.new) }
         ensures large { IsErrOf result SumFault.Large
@@ -109,7 +110,7 @@ impl<L: Label, R: Scalar> Lin<L, R> {
         Ok(())
     }
 
-    /// A map with the same coefficients.
+    /// A copy: a map with the same coefficients.
     pub fn copy(&self) -> Result<Lin<L, R>, NoMemory>
         ensures same { IfOk result (HasSameCoefficients L.eq R.zero self.now) }
         ensures combination { IfOk result (IsCombination L.eq L.is_label R.value) }
@@ -121,10 +122,10 @@ impl<L: Label, R: Scalar> Lin<L, R> {
         Ok(Lin { table })
     }
 
-    /// The sum of this map and another.
+    /// The sum of this map and the map `other`.
     ///
-    /// Returns `Large` only if at some label the ring refuses the sum of the two coefficients; then
-    /// there is no sum.
+    /// Returns `Large` only if the ring's checked addition has no result for the two coefficients
+    /// of some label. If there is such a label, the result is never `Ok`.
     pub fn add_all(mut self, other: &Lin<L, R>) -> Result<Lin<L, R>, SumFault>
         ensures sum { IfOk result (IsSumOf L.eq R.zero R.sum self other.now) }
         ensures combination { IfOk result (IsCombination L.eq L.is_label R.value) }
@@ -140,9 +141,10 @@ impl<L: Label, R: Scalar> Lin<L, R> {
         Ok(self)
     }
 
-    /// The map with each coefficient times `c`. It allocates no memory.
+    /// The map with each coefficient multiplied by `c`. It allocates no memory.
     ///
-    /// Returns `Large` if and only if the ring refuses the product of some coefficient and `c`.
+    /// Returns `Large` if and only if the ring's checked multiplication has no result for some
+    /// coefficient and `c`.
     pub fn scale(self, c: R) -> Result<Lin<L, R>, SumFault>
     where
         R: Ring,
@@ -164,7 +166,7 @@ impl<L: Label, R: Scalar> Lin<L, R> {
         Ok(Lin { table })
     }
 
-    /// The terms in the printed order.
+    /// The list of the terms in the printed order of the labels.
     pub fn sorted_terms(self) -> Result<Terms<L, R>, NoMemory>
         ensures same { IfOk result (HasSameCoefficients L.eq R.zero self) }
         ensures canonical { IfOk result (IsCanonicalList L.order L.is_label R.value) }
@@ -189,8 +191,8 @@ impl<L: Label, R: Scalar> Lin<L, R> {
         self.table.iter()
     }
 
-    /// Does nothing at run time: its clauses give a proof that the map is a combination with
-    /// coefficients that the ring can hold.
+    /// Does nothing at run time: its `ensures` clauses prove that each label occurs once in the
+    /// map, with a coefficient that is not 0 and that the ring can hold.
     pub(crate) fn is_combination(&self)
         ensures combination { IsCombination L.eq L.is_label R.value self.now }
         ensures held { AreHeld L.eq R.zero R.is_held self.now }
@@ -199,8 +201,8 @@ impl<L: Label, R: Scalar> Lin<L, R> {
     }
 }
 
-/// Adds `c` to the label's scalar, and removes the label if the sum is 0. The label is looked up
-/// once.
+/// Adds `c` to the coefficient of `label` in the table, and removes the label if the sum is 0. The
+/// label is looked up once.
 fn add_to<L: Label, R: Scalar>(table: &mut IndexMap<L, R>, label: L, c: R) -> Result<(), SumFault>
     requires { IsTable L.eq L.is_label R.zero R.value R.is_held table.old.entries }
     ensures ok { OnOk result (HasMoreAt L.eq R.zero R.sum table.old.entries label c
@@ -225,7 +227,7 @@ fn add_to<L: Label, R: Scalar>(table: &mut IndexMap<L, R>, label: L, c: R) -> Re
     Ok(())
 }
 
-/// Inserts a label that is not in the table with the scalar `c`, unless `c` is 0.
+/// Inserts the label `label`, which is not in the table, with the coefficient `c`, unless `c` is 0.
 fn insert_new<L: Label, R: Scalar>(
     table: &mut IndexMap<L, R>,
     label: L,
@@ -247,7 +249,8 @@ fn insert_new<L: Label, R: Scalar>(
     Ok(())
 }
 
-/// Replaces the scalar at an index of a table, and removes the pair if the new scalar is 0.
+/// Replaces the coefficient at the index `at` of a table by `c`, or removes the pair at this index
+/// if `c` is 0.
 fn set_at<L: Label, R: Scalar>(table: &mut IndexMap<L, R>, at: usize, c: R)
     requires { at < index_map_len table.old }
     ensures updates { (p : L × R) → slice_get table.old.entries at ≡ Some p
@@ -263,7 +266,7 @@ fn set_at<L: Label, R: Scalar>(table: &mut IndexMap<L, R>, at: usize, c: R)
     }
 }
 
-/// The label and the scalar at an index of a table.
+/// The label and the coefficient at the index `at` of a table.
 fn pair_at<L: Label, R: Scalar>(table: &IndexMap<L, R>, at: usize) -> (&L, R)
     requires { at < index_map_len table.now }
     ensures pair { slice_get table.now.entries at ≡ Some (result.0.now, result.1) }
@@ -275,7 +278,7 @@ fn pair_at<L: Label, R: Scalar>(table: &IndexMap<L, R>, at: usize) -> (&L, R)
     (label, *c)
 }
 
-/// Replaces the scalar at an index of a table.
+/// Replaces the coefficient at the index `at` of a table by `c`.
 fn put_at<L: Label, R: Scalar>(table: &mut IndexMap<L, R>, at: usize, c: R)
     requires { at < index_map_len table.old }
     ensures entries { table.new.entries ≡ set_value_at table.old.entries at c }
@@ -288,7 +291,7 @@ fn put_at<L: Label, R: Scalar>(table: &mut IndexMap<L, R>, at: usize, c: R)
     let _ = table.len();
 }
 
-/// Removes the pair at an index from a table.
+/// Removes the pair at the index `at` from a table.
 fn take_at<L: Label, R: Scalar>(table: &mut IndexMap<L, R>, at: usize)
     ensures updates { (p : L × R) → slice_get table.old.entries at ≡ Some p
         → Updates L.eq table.old table.new p.0 None }
@@ -305,7 +308,7 @@ fn sort_labels<L: Label, R: Scalar>(pairs: &mut Vec<(L, R)>)
     pairs.sort_unstable_by(|a, b| a.0.cmp_printed(&b.0));
 }
 
-/// The pairs in the order of the table; no two have the same label.
+/// The pairs of the table, in the order of its entries. No two of them have the same label.
 fn pairs_of<L: Label, R: Scalar>(
     alloc: Global,
     table: IndexMap<L, R>,

@@ -12,8 +12,8 @@ use std::cmp::Ordering;
 use std::marker::Model;
 use std::{slice, vec};
 
-/// The terms of a finite map, strictly in the order in which labels are printed. In contracts, it
-/// is the list of the labels with their coefficients.
+/// The terms of a finite map, in the order in which labels are printed, each label once. In
+/// contracts, it is the list of the labels with their coefficients.
 #[derive(Drop)]
 pub struct Terms<L: Label, R: Scalar> {
     pairs: Vec<(L, R)>,
@@ -31,8 +31,8 @@ impl<L: Label, R: Scalar> Model for Terms<L, R> {
 }
 
 impl<L: Label, R: Scalar> Terms<L, R> {
-    /// The list of these pairs; `None` if and only if they are not strictly in the printed order,
-    /// or a coefficient is 0.
+    /// The list of these pairs; `None` if and only if the labels are not in strictly increasing
+    /// printed order, or some coefficient is 0.
     pub fn from_pairs(pairs: Vec<(L, R)>) -> Option<Terms<L, R>>
         ensures { SomeIff result (IsCanonicalList L.order L.is_label R.value pairs.items)
             pairs.items }
@@ -44,8 +44,8 @@ impl<L: Label, R: Scalar> Terms<L, R> {
         }
     }
 
-    /// The list of these pairs, which the caller guarantees to be canonical: strictly in the
-    /// printed order, with no coefficient 0.
+    /// The list of these pairs. The caller guarantees that it is canonical: the labels are in
+    /// strictly increasing printed order, and no coefficient is 0.
     pub(crate) fn from_sorted(pairs: Vec<(L, R)>) -> Terms<L, R>
         requires { IsCanonicalList L.order L.is_label R.value pairs.items }
         ensures { result ≡ pairs.items }
@@ -99,7 +99,8 @@ impl<L: Label, R: Scalar> IntoIterator for Terms<L, R> {
     }
 }
 
-/// Whether the pairs are strictly in the printed order, with coefficients that are not 0.
+/// Whether the labels of the pairs are in strictly increasing printed order and no coefficient is
+/// 0.
 fn are_canonical<L: Label, R: Scalar>(pairs: &[(L, R)]) -> bool
     ensures { result ≡ is_canonical_list L.order L.is_label R.value pairs.now }
 {
@@ -113,8 +114,8 @@ fn are_canonical<L: Label, R: Scalar>(pairs: &[(L, R)]) -> bool
     true
 }
 
-/// Whether a term may follow the previous label: its coefficient is not 0, and its label comes
-/// strictly later in the printed order.
+/// Whether the term of `label` and `c` may follow the label `previous` in a canonical list: `c` is
+/// not 0, and `label` comes strictly after `previous`, if there is a previous label.
 fn may_follow<L: Label, R: Scalar>(previous: Option<&L>, label: &L, c: R) -> bool
     ensures { result ≡ is_next L.order L.is_label R.value (option_copied previous.entry)
         (label.now, c) }
@@ -123,8 +124,8 @@ fn may_follow<L: Label, R: Scalar>(previous: Option<&L>, label: &L, c: R) -> boo
     stands_later(previous, label) && !c.is_zero()
 }
 
-/// Whether a label comes strictly later in the printed order than the previous one, if there is
-/// one.
+/// Whether `label` comes strictly after the label `previous` in the printed order, or there is no
+/// previous label.
 fn stands_later<L: Label>(previous: Option<&L>, label: &L) -> bool
     ensures { result ≡ is_later L.order (option_copied previous.entry) label.now }
 {

@@ -1,6 +1,7 @@
-//! Functions that add to tables of integers: one clause states what the table gains, and one when
-//! that overflows. After an error a function that adds one term leaves the table unchanged; one
-//! that adds many terms may leave it with some of them added, and the table is of no further use.
+//! Functions that add terms to a table with integer coefficients. One clause of each contract
+//! states what is added, and another one when `Large` can be returned. If a function that adds one
+//! term returns an error, the table is unchanged. If a function that adds many terms returns an
+//! error, some of them may have been added, and the table is of no further use.
 ghost use Rattle.std.specs.Prelude.{◌≡◌, ◌↔◌, ℤ, pos, neg_ℤ, [], ◌∷◌, FitsSigned};
 ghost use Rattle.std.specs.Prelude.{OnOk, OnErr, IsErrOf};
 ghost use Rattle.std.specs.Int.{w128};
@@ -9,6 +10,7 @@ ghost use Rattle.sym_model.specs.Sum.{Among};
 ghost use Rattle.linear_combinations.specs.Entries.{coefficient, AreHeld, IsCanonicalList};
 ghost use Rattle.linear_combinations.specs.Entries.{IsCombination, IsRefused};
 ghost use Rattle.linear_combinations.specs.Gains.{Gains, Overflows, scaled, each_with, replaced};
+ghost use Rattle.linear_combinations.specs.Gains.{RefusesFirst};
 
 use crate::label::Label;
 use crate::lin::Lin;
@@ -18,10 +20,10 @@ use calc_base::SumFault;
 use coeff_rings::{Int, Ring, Scalar};
 
 impl<L: Label> Lin<L, Int> {
-    /// Adds the number `c` at a label, of which it takes ownership.
+    /// Adds `c` to the coefficient of `label`, and takes ownership of the label.
     ///
-    /// Returns `Large` if and only if the sum at the label is refused. On an error the table is
-    /// unchanged.
+    /// Returns `Large` if and only if the sum of `c` and this coefficient overflows. On an error
+    /// the table is unchanged.
     pub fn add_owned(&mut self, label: L, c: Int) -> Result<(), SumFault>
         ensures gains { OnOk result (Gains self.old ((label, c) ∷ []) self.new) }
         ensures large { IsErrOf result SumFault.Large → Overflows L.eq self.old ((label, c) ∷ []) }
@@ -35,10 +37,10 @@ impl<L: Label> Lin<L, Int> {
         self.add_term(label, c)
     }
 
-    /// Adds the number `c` at a copy of a label.
+    /// Adds `c` to the coefficient of `label`. The label is copied if it is new in the table.
     ///
-    /// Returns `Large` if and only if the sum at the label is refused. On an error the table is
-    /// unchanged.
+    /// Returns `Large` if and only if the sum of `c` and this coefficient overflows. On an error
+    /// the table is unchanged.
     pub fn add_at_label(&mut self, label: &L, c: Int) -> Result<(), SumFault>
         ensures gains { OnOk result (Gains self.old ((label.now, c) ∷ []) self.new) }
         ensures large { IsErrOf result SumFault.Large
@@ -55,7 +57,7 @@ impl<L: Label> Lin<L, Int> {
         self.add_copied(label, c)
     }
 
-    /// Adds the number `c` at each of some labels.
+    /// Adds `c` to the coefficient of each of the labels `labels`.
     ///
     /// On an error some of these terms may have been added to the table.
     pub fn add_each(&mut self, labels: &[L], c: Int) -> Result<(), SumFault>
@@ -72,9 +74,9 @@ impl<L: Label> Lin<L, Int> {
         Ok(())
     }
 
-    /// Subtracts the number `c` at each of some labels.
+    /// Subtracts `c` from the coefficient of each of the labels `labels`.
     ///
-    /// On an error some of these terms may have been added to the table.
+    /// On an error some of these terms may have been subtracted from the table.
     pub fn subtract_each(&mut self, labels: &[L], c: Int) -> Result<(), SumFault>
         ensures gains { OnOk result (Gains self.old (each_with (neg_ℤ c) labels.now) self.new) }
         ensures large { IsErrOf result SumFault.Large
@@ -90,7 +92,7 @@ impl<L: Label> Lin<L, Int> {
         Ok(())
     }
 
-    /// Adds `c` times another table.
+    /// Adds `c` times the table `other`.
     ///
     /// On an error some of these terms may have been added to the table.
     pub fn add_multiple(&mut self, other: &Lin<L, Int>, c: Int) -> Result<(), SumFault>
@@ -109,12 +111,15 @@ impl<L: Label> Lin<L, Int> {
         Ok(())
     }
 
-    /// Adds another table.
+    /// Adds the table `other`.
     ///
-    /// On an error some of these terms may have been added to the table.
+    /// Returns `Large` if the sum of the two coefficients at the first label of `other` overflows,
+    /// since no memory is allocated before this sum is computed. On an error some of these terms
+    /// may have been added to the table.
     pub fn add_terms(&mut self, other: &Lin<L, Int>) -> Result<(), SumFault>
         ensures gains { OnOk result (Gains self.old other.now self.new) }
         ensures large { IsErrOf result SumFault.Large → Overflows L.eq self.old other.now }
+        ensures past { RefusesFirst L.eq self.old other.now → IsErrOf result SumFault.Large }
         ensures table { OnOk result (IsCombination L.eq L.is_label whole self.new) }
         ensures held { OnOk result (AreHeld L.eq (pos 0) (FitsSigned w128) self.new) }
         ensures other { IsCombination L.eq L.is_label whole other.now }
@@ -126,7 +131,7 @@ impl<L: Label> Lin<L, Int> {
         Ok(())
     }
 
-    /// Adds `c` times the terms of a list.
+    /// Adds `c` times each term of `list`.
     ///
     /// On an error some of these terms may have been added to the table.
     pub fn add_list(&mut self, list: &Terms<L, Int>, c: Int) -> Result<(), SumFault>
@@ -145,7 +150,7 @@ impl<L: Label> Lin<L, Int> {
         Ok(())
     }
 
-    /// Adds the image of a table under a rule.
+    /// Adds the image of the table `list` under the linear map `rule`.
     ///
     /// On an error some of these terms may have been added to the table.
     pub fn add_by<K: Label, T: Rule<K, L>>(

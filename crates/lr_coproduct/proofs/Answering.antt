@@ -1,5 +1,5 @@
--- The list of a coproduct: its polynomial and its coefficients.
-use Rattle.std.proofs.Common.{◌≡◌, ℕ, ◌+◌, List, [], ◌∷◌, ◌++◌, map, refl, sym, ap, ◌∙◌, arith, ℤ, pos, ◌+ℤ◌, ◌*ℤ◌, flat_map}
+-- The list returned by `coprod`: its polynomial and its coefficients.
+use Rattle.std.proofs.Common.{◌≡◌, ℕ, ◌+◌, List, [], ◌∷◌, ◌++◌, refl, sym, ap, ◌∙◌, arith, ℤ, pos, ◌+ℤ◌, ◌*ℤ◌, flat_map}
 use Rattle.std.specs.Prelude.{None}
 use Rattle.std.proofs.lemmas.Int.{ints}
 use Rattle.sym_model.specs.Sum.{total, Among}
@@ -21,10 +21,12 @@ use Rattle.lr_coproduct.specs.PairTerms.{pair_sum, second_sum}
 use Rattle.lr_coproduct.specs.InnerShapeList.{ListsShapesInside}
 use Rattle.lr_coproduct.proofs.InnerLists.{partitions_inside, part_among, among_part, once_partitions_inside}
 use Rattle.lr_coproduct.proofs.SortedShapes.{once_listed}
+use Rattle.tableau_laws.proofs.Padding.{each_map}
 
--- ---- the terms of one partition inside the shape
+-- ---- the terms whose first partition is a given partition inside the shape
 
--- if a list represents f, the sum of the polynomials of its terms is f
+-- if a list represents the polynomial f as a combination of the polynomials P(label), the sum of c·P(label) over the terms (label, c) of the list is
+-- f
 pub sum_of_terms : (P : List ℕ → Poly) (list : WholeTerms) (f : Poly) → Represents P (as_fractions list) f 1 → Same (combined P list) f
 sum_of_terms P list f r α =
     let one : denominators (as_fractions list) ≡ 1 = denominators-as_fractions list in
@@ -57,7 +59,7 @@ plus_same new old f g e h α =
     let j = e α in
     omega (arith, ints)
 
--- ---- the terms of all partitions inside the shape
+-- ---- the terms of all first partitions inside the shape
 
 each_next : (f : List ℕ → Poly) (xs : List (List ℕ)) (x : List ℕ) (α : List ℕ) → coefficient_of (flat_map f (xs ++ (x ∷ []))) α ≡ coefficient_of (flat_map f xs) α +ℤ coefficient_of (f x) α
 each_next f [] x α = let p = coefficient_plus (f x) [] α in omega (arith, ints)
@@ -76,11 +78,7 @@ sum_next f xs next x old new e h k α =
     let t : coefficient_of (flat_map f next) α ≡ coefficient_of (flat_map f (xs ++ (x ∷ []))) α = ap (λ l. coefficient_of (flat_map f l) α) e in
     omega (arith, ints)
 
-each-map : (f : List ℕ → Poly) (g : List ℕ → List ℕ) (xs : List (List ℕ)) → flat_map f (map g xs) ≡ flat_map (λ x. f (g x)) xs
-each-map f g [] = refl
-each-map f g (x ∷ xs) = ap (λ l. f (g x) ++ l) (each-map f g xs)
-
--- the coefficient of a sum of polynomials over a list is the sum of their coefficients
+-- the coefficient at α of the sum of the polynomials f(x), for x in a list, is the sum of their coefficients at α
 coefficient_of_each : (f : List ℕ → Poly) (xs : List (List ℕ)) (α : List ℕ) → coefficient_of (flat_map f xs) α ≡ total (λ x. coefficient_of (f x) α) xs
 coefficient_of_each f [] α = refl
 coefficient_of_each f (x ∷ xs) α =
@@ -104,7 +102,7 @@ coproduct_meets shape inners terms p l sums n k =
     sym (pair_of_combined (pair_polynomial n k) terms φ) ∙ pair_determined (pair_sum n k terms) (schur shape (n + k)) φ (λ α.
     sums n k α
     ∙ each_listed (λ inner. beside (schur inner n) (skew_schur shape inner k)) shape inners l α
-    ∙ ap (λ (f : Poly). coefficient_of f α) (each-map (λ inner. beside (schur inner n) (skew_schur shape inner k)) without_last_zeros (shapes_inside shape (columns shape)))
+    ∙ ap (λ (f : Poly). coefficient_of f α) (each_map (λ inner. beside (schur inner n) (skew_schur shape inner k)) without_last_zeros (shapes_inside shape (columns shape)))
     ∙ sym (coproduct n k shape p α)))
 
 -- ---- coefficients that exceed 2^127 - 1

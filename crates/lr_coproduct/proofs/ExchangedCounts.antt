@@ -1,4 +1,4 @@
--- Counts of lattice tableaux of a skew shape, with the inner partition and the content exchanged.
+-- The number of lattice tableaux of a skew shape with a given content: the inner partition and the content may be exchanged.
 use Rattle.std.proofs.Common.{◌≡◌, ℕ, ◌+◌, ◌≤◌, Bool, true, false, cond, List, [], sym, ap, ◌∙◌, arith, ℤ, pos, ◌*ℤ◌}
 use Rattle.std.proofs.lemmas.Int.{ints}
 use Rattle.sym_model.specs.Sum.{Among}
@@ -24,8 +24,8 @@ use Rattle.lr_product.proofs.GoodCounts.{product_count-other_size}
 
 -- ---- the inner partition and the content exchanged
 
--- the number of tableaux of outer/inner in n letters with the content κ, in which the content of the columns right of each column is a
--- partition, counted column by column
+-- if inner lies inside outer, the number of good tableaux of outer/inner for the empty start, with letters from 1 to n and the content κ, is the
+-- number of ways (`over_columns`) to fill the columns of outer/inner one after another so that the sum reached is κ
 terms_by_columns : (n : ℕ) (outer inner κ : List ℕ) → IsPartition outer → IsPartition inner → contains outer inner ≡ true
     → coefficient (good_terms n [] outer inner) κ ≡ over_columns n (column_lines outer inner) (is_sum κ) (resize n []) []
 terms_by_columns n outer inner κ o i holds =
@@ -34,8 +34,8 @@ terms_by_columns n outer inner κ o i holds =
     ∙ sym (total_good_contents n [] outer inner (λ ν. f (join [] ν)) o.falls holds)
     ∙ total_readings_by_columns n [] outer inner f IsPartition-none o i holds (omega arith)
 
--- if κ has at most as many rows as outer, the number of lattice tableaux of outer/inner with the content κ is the number of tableaux T of the shape κ
--- such that inner plus the content of T is outer, and inner plus the content of the columns right of each column is a partition
+-- if inner lies inside outer, and κ has at most as many rows as outer, the number of lattice tableaux of outer/inner with the content κ is the number
+-- of good tableaux T of the shape κ for the start inner such that inner + content(T) = outer
 skew_is_product : (outer inner κ : List ℕ) → IsPartition outer → IsPartition inner → IsPartition κ → contains outer inner ≡ true → rows κ ≤ rows outer
     → skew_count outer inner κ ≡ product_count (rows outer) inner κ outer
 skew_is_product outer inner κ o i p holds h =
@@ -57,18 +57,18 @@ skew_exchanged outer inner κ o i p h k =
     ∙ product_exchanged inner κ outer i p o
     ∙ sym (skew_is_product outer κ inner o p i k (rows_inside outer inner i h))
 
--- if κ has at most as many rows as outer but does not lie inside it, no lattice tableau of outer/inner has the content κ
+-- if κ has no more rows than outer but does not lie inside outer, no lattice tableau of outer/inner has the content κ
 pub skew_outside : (outer inner κ : List ℕ) → IsPartition outer → IsPartition inner → IsPartition κ → contains outer inner ≡ true → rows κ ≤ rows outer → contains outer κ ≡ false
     → skew_count outer inner κ ≡ 0
 skew_outside outer inner κ o i p holds h k =
     skew_is_product outer inner κ o i p holds h ∙ product_exchanged inner κ outer i p o ∙ product_outside κ inner outer p i o k
 
--- if κ has at most as many rows as outer, and |inner| + |κ| is not |outer|, no lattice tableau of outer/inner has the content κ
+-- if κ has no more rows than outer, and |inner| + |κ| is not |outer|, no lattice tableau of outer/inner has the content κ
 pub skew_other_size : (outer inner κ : List ℕ) → IsPartition outer → IsPartition inner → IsPartition κ → contains outer inner ≡ true → rows κ ≤ rows outer → (size inner + size κ ≡ size outer → ⊥)
     → skew_count outer inner κ ≡ 0
 skew_other_size outer inner κ o i p holds h other = skew_is_product outer inner κ o i p holds h ∙ product_count-other_size outer inner κ o i p other
 
--- ---- the coefficients of a list of Schur polynomials
+-- ---- the coefficients of a linear combination of Schur polynomials
 
 scaled_schur : (n : ℕ) (ν : List ℕ) (t : Term) → IsPartition t.0 → IsPartition ν → rows ν ≤ n
     → pair (times (alternant (staircase n)) (scale t.1 (schur t.0 n))) (at_only (join ν (staircase n))) ≡ cond (same t.0 ν) t.1 (pos 0)
@@ -84,7 +84,8 @@ scaled_schur n ν t p q l =
     chosen true = simp ring (omega (arith, ints))
     chosen false = simp ring (omega (arith, ints))
 
--- the coefficient of ν, of at most n rows, in a list of Schur polynomials in n variables is the Schur coefficient of their sum at ν
+-- let f be the sum, over the terms (label, c) of a list, of c·s_label in n variables. For each partition ν with at most n rows, the coefficient of ν
+-- in the list is the Schur coefficient of f at ν
 pub listed_coefficient : (n : ℕ) (ws : WholeTerms) (f : Poly) (ν : List ℕ) → ((t : Term) → Among t ws → IsPartition t.0) → Same (combined (λ (label : List ℕ). schur label n) ws) f
     → IsPartition ν → rows ν ≤ n → coefficient ws ν ≡ schur_coefficient n ν f
 listed_coefficient n ws f ν labels e q l =

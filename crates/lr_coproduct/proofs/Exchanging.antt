@@ -1,4 +1,5 @@
--- The terms of shape/inner for a small partition `inner`, read from those of shape/ν for greater partitions ν.
+-- If the partition `inner` has less than half of the cells of `shape`, the terms of the skew Schur polynomial of shape/inner are read from the lists
+-- of the skew Schur polynomials of shape/ν, for the partitions ν before `inner`.
 use Rattle.std.proofs.Common.{◌≡◌, ℕ, ◌+◌, ◌*◌, ◌<◌, ◌≤◌, ◌⊎◌, Bool, true, false, cond, ◌&&◌, List, [], ◌∷◌, ◌++◌, length, take, get_or, refl, sym, ap, ◌∙◌, subst, inl, inr, arith, ℤ, pos, ◌+ℤ◌, ◌^◌}
 use Rattle.std.specs.Prelude.{None}
 use Rattle.std.specs.declared.cmp.Ordering.TheVariants.{Less}
@@ -30,19 +31,23 @@ use Rattle.linear_combinations.proofs.Ordered.{canonical-append}
 use Rattle.strip_laws.proofs.Containment.{contains-tells, contains-from}
 use Rattle.alternant_laws.proofs.CountedTerms.{skew_coefficients}
 use Rattle.schur_laws.proofs.Duality.{rows_inside}
-use Rattle.lr_product.proofs.GoodCounts.{no_label, skew_answers}
+use Rattle.lr_product.proofs.GoodCounts.{skew_answers}
 use Rattle.lr_coproduct.specs.InnerShapeList.{IsInPrintedOrder, ListsShapesInside, IsCountAbove}
 use Rattle.lr_coproduct.specs.SkewLists.{IsSkewList, HaveSkewLists}
-use Rattle.lr_coproduct.proofs.Prefixes.{IsAt, at_among, at_last, at_same, at_taken, among_first, index_in, index_of, take_next, either_at}
+use Rattle.lr_coproduct.proofs.Prefixes.{IsAt, at_among, at_last, at_same, at_taken, index_in, index_of, take_next, either_at}
 use Rattle.lr_coproduct.proofs.Sizes.{behind_small}
 use Rattle.lr_coproduct.proofs.SortedShapes.{earlier_before}
 use Rattle.lr_coproduct.proofs.Answering.{sum_of_terms}
-use Rattle.lr_coproduct.proofs.Lookups.{label_in, table_in, not_before}
+use Rattle.lr_coproduct.proofs.Lookups.{label_in, not_before}
 use Rattle.lr_coproduct.proofs.ExchangedCounts.{skew_exchanged, skew_outside, skew_other_size, listed_coefficient}
+use Rattle.lr_product.proofs.Placed.{table_of}
+use Rattle.lr_product.proofs.GoodCounts.{no_label}
+use Rattle.lr_product.proofs.Partial.{among_taken}
 
--- ---- the terms after one more partition
+-- ---- the list of the terms whose labels are among the first `at` partitions, and the list for the first at + 1
 
--- the canonical list of the terms c·ν for ν in `firsts`, where c ≠ 0 is the number of lattice tableaux of shape/inner with the content ν
+-- `terms` is the canonical list of the terms c·ν for those ν in `firsts` for which c, the number of lattice tableaux of shape/inner with the content
+-- ν, is not 0
 pub record ListsExchanged (shape inner : List ℕ) (firsts : List (List ℕ)) (terms : WholeTerms) : Type 0 where
   pub canonical : IsCanonicalList printed_order is_label whole terms
   pub labels : (t : List ℕ × ℤ) → Among t terms → Among t.0 firsts
@@ -58,7 +63,8 @@ coefficient_next (t ∷ terms) label c ν =
 apart_from : (inners : List (List ℕ)) (at : ℕ) (second earlier : List ℕ) → IsInPrintedOrder inners → IsAt inners at second → Among earlier (take at inners) → earlier ≡ second → ⊥
 apart_from inners at second earlier ordered here m e = not_before earlier second (earlier_before inners at second earlier ordered here m) e
 
--- if no lattice tableau of shape/inner has the partition at the index `at` as its content, the terms for the first `at` partitions are those for at + 1
+-- if no lattice tableau of shape/inner has the partition at the index `at` as its content, the list `terms` for the first `at` partitions
+-- (`ListsExchanged`) is also the one for the first at + 1
 pub next_skipped : (shape inner : List ℕ) (inners : List (List ℕ)) (at : ℕ) (second : List ℕ) (terms : WholeTerms) → IsInPrintedOrder inners → IsAt inners at second
     → skew_count shape inner second ≡ 0 → ListsExchanged shape inner (take at inners) terms → ListsExchanged shape inner (take (at + 1) inners) terms
 next_skipped shape inner inners at second terms ordered here none l = record {
@@ -68,7 +74,8 @@ next_skipped shape inner inners at second terms ordered here none l = record {
       (no_label terms second (λ t k. apart_from inners at second t.0 ordered here (l.labels t k)) ∙ sym (ap pos none)) (l.counts parts);
 }
 
--- a term with a coefficient other than 0 at the partition at the index `at` may follow the terms for the first `at` partitions in a canonical list
+-- if `terms` is the list for the first `at` partitions (`ListsExchanged`), it remains canonical if a term is appended whose label is the partition at
+-- the index `at` and whose coefficient is not 0
 next_canonical : (shape inner : List ℕ) (inners : List (List ℕ)) (at : ℕ) (second : List ℕ) (c : ℤ) (terms : WholeTerms) → IsInPrintedOrder inners → IsAt inners at second
     → is_label second ≡ true → (c ≡ pos 0 → ⊥) → ListsExchanged shape inner (take at inners) terms → IsCanonicalList printed_order is_label whole (terms ++ (second, c) ∷ [])
 next_canonical shape inner inners at second c terms ordered here label other l =
@@ -111,7 +118,8 @@ next_exchanged shape inner inners at second c terms new ordered here label is ot
           (λ k. count_earlier terms second c parts (λ q. apart_from inners at second parts ordered here k (sym q)) ∙ l.counts parts k);
     })
 
--- if the partition at the index `at` is appended with its number of lattice tableaux, unless that is 0, the terms are those for the first at + 1 partitions
+-- if `terms` is the list for the first `at` partitions (`ListsExchanged`), and the partition ν at the index `at` is the content of c lattice tableaux
+-- of shape/inner, then `terms`, with c·ν appended unless c = 0, is the list for the first at + 1
 pub next_either : (shape inner : List ℕ) (inners : List (List ℕ)) (at : ℕ) (second : List ℕ) (c : ℤ) (terms new : WholeTerms) → IsInPrintedOrder inners → IsAt inners at second
     → is_label second ≡ true → c ≡ pos (skew_count shape inner second) → (c ≡ pos 0 → new ≡ terms) → ((c ≡ pos 0 → ⊥) → new ≡ terms ++ (second, c) ∷ [])
     → ListsExchanged shape inner (take at inners) terms → ListsExchanged shape inner (take (at + 1) inners) new
@@ -123,10 +131,10 @@ next_either shape inner inners at second c terms new ordered here label is none 
         (next_skipped shape inner inners at second terms ordered here (let z : pos (skew_count shape inner second) ≡ pos 0 = sym is ∙ e in omega (arith, ints)) l)
     by (inr d) = next_exchanged shape inner inners at second c terms new ordered here label is d (one d) l
 
--- ---- the terms after all partitions x with |inner| + |x| = |shape|
+-- ---- the terms after all partitions x with |inner| + |x| = |shape| have been visited
 
--- if no partition x from the index `at` on has |inner| + |x| = |shape|, a partition ν that is not one of the first `at`, and has no more rows than
--- shape, is the content of no lattice tableau of shape/inner
+-- if no partition x from the index `at` on has |inner| + |x| = |shape|, and ν has no more rows than shape and is not among the first `at` partitions,
+-- no lattice tableau of shape/inner has the content ν
 zero_unless_taken : (shape inner : List ℕ) (inners : List (List ℕ)) (at : ℕ) (ν : List ℕ) → IsPartition shape → ListsShapesInside shape inners → Among inner inners
     → ((i : ℕ) (x : List ℕ) → IsAt inners i x → at ≤ i → size inner + size x ≡ size shape → ⊥)
     → IsPartition ν → rows ν ≤ rows shape → (Among ν (take at inners) → ⊥) → skew_count shape inner ν ≡ 0
@@ -153,8 +161,8 @@ pub exchanged_meets : (shape inner : List ℕ) (inners : List (List ℕ)) (at : 
     → ListsExchanged shape inner (take at inners) terms → ExpandsInSchurs None (skew_schur shape inner) (as_fractions terms)
 exchanged_meets shape inner inners at terms o listed there later l =
     skew_answers None (rows shape) shape inner terms refl o (listed.partitions inner there) (contains-from shape inner (listed.inside inner there)) (record {
-      table = table_in terms l.canonical;
-      labels = λ t k. label t (among_first t.0 inners at (l.labels t k));
+      table = table_of terms l.canonical;
+      labels = λ t k. label t (among_taken at inners t.0 (l.labels t k));
       counts = λ parts p few. count parts p few (among_or_not parts (take at inners));
     })
   where
@@ -167,7 +175,8 @@ exchanged_meets shape inner inners at terms o listed there later l =
         no_label terms parts (λ t k e. n (subst (λ (ν : List ℕ). Among ν (take at inners)) e (l.labels t k)))
         ∙ sym (ap pos (zero_unless_taken shape inner inners at parts o listed there later p few n))
 
--- the coefficient of `inner` in the list of the skew Schur polynomial of shape/second is the number of lattice tableaux of shape/second with content `inner`
+-- if the list expands the skew Schur polynomial of shape/second, the coefficient of `inner` in it is the number of lattice tableaux of shape/second
+-- with the content `inner`
 pub listed_count : (shape second inner : List ℕ) (list : WholeTerms) → IsPartition shape → IsPartition inner → IsPartition second → Holds shape second
     → IsCanonicalList printed_order is_label whole list → ExpandsInSchurs None (skew_schur shape second) (as_fractions list)
     → coefficient list inner ≡ pos (skew_count shape second inner)
@@ -176,7 +185,8 @@ listed_count shape second inner list o i s k canonical meets =
     listed_coefficient n list (skew_schur shape second n) inner (label_in list canonical) (sum_of_terms (λ (label : List ℕ). schur label n) list (skew_schur shape second n) (meets n)) i (omega arith)
     ∙ skew_coefficients n shape second inner o s (contains-from shape second k) i (omega arith)
 
--- the coefficient of `inner` in the list of the skew Schur polynomial of shape/second is the number of lattice tableaux of shape/inner with content `second`
+-- if the list expands the skew Schur polynomial of shape/second, and inner and second lie inside shape, the coefficient of `inner` in it is the
+-- number of lattice tableaux of shape/inner with the content `second`
 pub exchanged_term : (shape inner second : List ℕ) (list : WholeTerms) (c : ℤ) → IsPartition shape → IsPartition inner → IsPartition second → Holds shape inner → Holds shape second
     → IsCanonicalList printed_order is_label whole list → ExpandsInSchurs None (skew_schur shape second) (as_fractions list) → c ≡ coefficient list inner
     → c ≡ pos (skew_count shape inner second)
@@ -187,8 +197,8 @@ exchanged_term shape inner second list c o i s h k canonical meets e =
 
 -- ---- coefficients that exceed 2^127 - 1
 
--- if 2·|inner| < |shape|, and no skew Schur polynomial of shape/second for a partition `second` listed before `inner` has a coefficient of 2^127 or more,
--- neither has that of shape/inner
+-- if 2·|inner| < |shape|, and the skew Schur polynomials of shape/second, for the partitions `second` before `inner`, have no coefficient of 2^127 or
+-- more, neither has that of shape/inner
 pub exchanged_fits : (shape inner : List ℕ) (inners : List (List ℕ)) (m : ℕ) → IsPartition shape → ListsShapesInside shape inners → IsAt inners m inner → 2 * size inner < size shape
     → ((second : List ℕ) → Among second (take m inners) → HasPast (IsCoefficientOfSkew None shape second) → ⊥) → HasPast (IsCoefficientOfSkew None shape inner) → ⊥
 exchanged_fits shape inner inners m o listed at small fit (c, d, past) = by (among_or_not d.parts (take m inners))
@@ -211,7 +221,7 @@ exchanged_fits shape inner inners m o listed at small fit (c, d, past) = by (amo
         let big = leb-true (2 ^ 127) (skew_count shape inner d.parts) (sym (ap is_past count) ∙ past) in
         absurd (omega arith)
     by (inl k) =
-        let has = contains-from shape d.parts (listed.inside d.parts (among_first d.parts inners m k)) in
+        let has = contains-from shape d.parts (listed.inside d.parts (among_taken m inners d.parts k)) in
         fit d.parts k (
           c,
           record {
@@ -223,7 +233,7 @@ exchanged_fits shape inner inners m o listed at small fit (c, d, past) = by (amo
           past,
         )
 
--- ---- the lists for the first partitions, with one more list appended
+-- ---- the lists for the first partitions inside a shape, and one more list appended to them
 
 pub lists_next : (shape : List ℕ) (inners : List (List ℕ)) (lists new : List WholeTerms) (inner : List ℕ) (list : WholeTerms) → IsAt inners (length lists) inner
     → IsSkewList shape inner list → new ≡ lists ++ list ∷ [] → HaveSkewLists shape inners lists → HaveSkewLists shape inners new
@@ -243,9 +253,10 @@ listed_fits shape inners lists have second m =
     let list = get_or lists r.0 [] in
     (have.at_index r.0 second list r.2 (record { within = r.1; is = get_or_default lists r.0 [] list r.1 })).fits
 
--- ---- one step: the terms of a partition from the lists before
+-- ---- the loop of `exchanged`: its start, and the step to one more partition
 
--- the first `count` partitions, those with more than `cells` cells, where |shape| ≤ |inner| + cells, are not the content of a lattice tableau of shape/inner
+-- if |shape| ≤ |inner| + cells, none of the first `count` partitions, which have more than `cells` cells, is the content of a lattice tableau of
+-- shape/inner
 pub front_exchanged : (shape inner : List ℕ) (inners : List (List ℕ)) (m cells count : ℕ) → IsPartition shape → ListsShapesInside shape inners → IsAt inners m inner → IsCountAbove inners cells count
     → size shape ≤ size inner + cells → ListsExchanged shape inner (take count inners) []
 front_exchanged shape inner inners m cells count o listed here above l = record {
@@ -257,7 +268,7 @@ front_exchanged shape inner inners m cells count o listed here above l = record 
     none : (parts : List ℕ) → Among parts (take count inners) → skew_count shape inner parts ≡ 0
     none parts k =
         let a = at_among inners m inner here in
-        let b = among_first parts inners count k in
+        let b = among_taken count inners parts k in
         let s = listed.partitions parts b in
         let r = index_of inners count parts k in
         let great = above.before r.0 parts r.2 r.1 in

@@ -1,27 +1,28 @@
--- The list of the partitions inside a partition has exactly these partitions, each once.
+-- The list made by `add_shapes` for a partition has exactly the partitions inside it, each once.
 use Rattle.std.proofs.Common.{◌≡◌, ℕ, zero, suc, ◌+◌, ◌-◌, ◌≤◌, List, [], ◌∷◌, ◌++◌, append_assoc, append-nil, map, length, get_or, min, refl, sym, ap, ◌∙◌, subst, inl, inr, arith, true, flat_map}
 use Rattle.std.proofs.lemmas.List.{map-append}
 use Rattle.sym_model.specs.Sum.{Among, Once}
-use Rattle.sym_model.specs.Partition.{IsPartition, ArePositive, Falls, Holds, part, columns, size, after, without_last_zeros}
+use Rattle.sym_model.specs.Partition.{IsPartition, Falls, Holds, part, columns, size, after, without_last_zeros}
 use Rattle.sym_model.specs.LabelLimits.{is_label}
 use Rattle.sym_model.specs.Polynomial.{resize}
 use Rattle.sym_model.proofs.Orders.{is_label-from}
 use Rattle.sym_model.proofs.AfterLists.{after_among, among_after, once_after}
-use Rattle.sym_model.proofs.SortedParts.{Falls_tail, IsPartition-without_last_zeros, size-without_last_zeros}
+use Rattle.sym_model.proofs.SortedParts.{Falls_tail, IsPartition-without_last_zeros, size-without_last_zeros, Falls_first}
 use Rattle.sym_model.proofs.Sums.{Among-each, Among-map, Among_from_map, Once-map, Once-each}
-use Rattle.sym_model.proofs.Parts.{length-without_last_zeros, size-append, falls_front}
-use Rattle.sym_model.proofs.Lists.{each-append, map-among, map-map}
+use Rattle.sym_model.proofs.Parts.{length-without_last_zeros, falls_front, rows_held, sizes_within}
+use Rattle.sym_model.proofs.Lists.{map-among, map-map}
 use Rattle.partitions.specs.Limits.{IsWithinLimits}
 use Rattle.strip_laws.proofs.Containment.{contains-tells, Holds-get_or}
 use Rattle.alternant_laws.proofs.FallingAlternants.{resize-without_last_zeros, without_last_zeros-resize}
 use Rattle.schur_laws.specs.InnerShapes.{up_to, shapes_inside}
 use Rattle.schur_laws.proofs.InnerShapeLists.{inside-tells, same-without_last_zeros, partition_inside}
+use Rattle.std.proofs.lemmas.Grind.{flat_map-append}
 
--- the partitions inside a shape
+-- the list of the partitions inside a shape
 abbrev pub partitions_inside : List ℕ → List (List ℕ)
 partitions_inside shape = map without_last_zeros (shapes_inside shape (columns shape))
 
--- ---- each partition of the list is inside the shape
+-- ---- each element of the list `partitions_inside` is a partition inside the shape
 
 pub record IsPart (shape inner : List ℕ) : Type 0 where
   pub partition : IsPartition inner
@@ -36,7 +37,7 @@ part_among shape inner m =
       inside = λ i. let e = same-without_last_zeros l.0 (i - 1) in let h = contains-tells shape l.0 r.inside i in omega arith;
     })
 
--- ---- each partition inside a shape is listed
+-- ---- each partition inside the shape is in the list `partitions_inside`
 
 among_up_to : (j b : ℕ) → b ≤ j → Among b (up_to j)
 among_up_to j zero h = inl refl
@@ -55,41 +56,23 @@ padded_among (a ∷ outer) m [] f h l e =
 padded_among (a ∷ outer) m (b ∷ parts) f h l e =
     let here = e 0 in
     Among-each (λ x. map (λ i. x ∷ i) (shapes_inside outer x)) b (b ∷ resize (length outer) parts) (up_to (min a m)) (among_up_to (min a m) b (omega arith))
-    (Among-map (λ i. b ∷ i) (resize (length outer) parts) (shapes_inside outer b) (padded_among outer b parts (Falls_tail b parts f) (next parts f) (omega arith) (λ j. e (suc j))))
-  where
-    next : (l' : List ℕ) → Falls (b ∷ l') → columns l' ≤ b
-    next [] g = omega arith
-    next (x ∷ l') g = g.0
+    (Among-map (λ i. b ∷ i) (resize (length outer) parts) (shapes_inside outer b) (padded_among outer b parts (Falls_tail b parts f) (Falls_first b parts f) (omega arith) (λ j. e (suc j))))
 
-rows_within : (outer parts : List ℕ) → ArePositive parts → ((j : ℕ) → get_or parts j 0 ≤ get_or outer j 0) → length parts ≤ length outer
-rows_within outer [] p e = omega arith
-rows_within [] (b ∷ parts) p e = let h = e 0 in let q = p.0 in absurd (omega arith)
-rows_within (a ∷ outer) (b ∷ parts) p e = let r = rows_within outer parts p.1 (λ j. e (suc j)) in omega arith
-
-size_within : (outer parts : List ℕ) → ((j : ℕ) → get_or parts j 0 ≤ get_or outer j 0) → size parts ≤ size outer
-size_within outer [] e = omega arith
-size_within [] (b ∷ parts) e = let h = e 0 in let r = size_within [] parts (λ j. none j (e (suc j))) in omega arith
-  where
-    none : (j : ℕ) → get_or parts j 0 ≤ 0 → get_or parts j 0 ≤ get_or {A = ℕ} [] j 0
-    none zero h = h
-    none (suc j) h = h
-size_within (a ∷ outer) (b ∷ parts) e = let h = e 0 in let r = size_within outer parts (λ j. e (suc j)) in omega arith
-
--- if a shape is within the limits, each partition inside it is a label
+-- if a shape is within the limits, each partition inside it is a label (`is_label`)
 pub label_inside : (shape parts : List ℕ) → IsWithinLimits shape → IsPartition parts → Holds shape parts → is_label parts ≡ true
 label_inside shape parts l p h =
-    let few = rows_within shape parts p.positive (Holds-get_or shape parts h) in
-    let small = size_within shape parts (Holds-get_or shape parts h) in
+    let few = rows_held parts shape p.positive (Holds-get_or shape parts h) in
+    let small = sizes_within parts shape (Holds-get_or shape parts h) in
     is_label-from parts (record { partition = p; rows = omega (arith, l.few); size = omega (arith, l.small) })
 
 pub among_part : (shape parts : List ℕ) → IsPartition parts → Holds shape parts → Among parts (partitions_inside shape)
 among_part shape parts p h =
     let at = Holds-get_or shape parts h in
-    let few = rows_within shape parts p.positive at in
+    let few = rows_held parts shape p.positive at in
     subst (λ l. Among l (partitions_inside shape)) (without_last_zeros-resize (length shape) parts p.positive few)
     (Among-map without_last_zeros (resize (length shape) parts) (shapes_inside shape (columns shape)) (padded_among shape (columns shape) parts p.falls (at 0) few at))
 
--- ---- each partition inside a shape is listed once
+-- ---- each partition occurs only once in the list `partitions_inside`
 
 once_up_to : (j : ℕ) → Once (up_to j)
 once_up_to j = (λ m. let r = after_among 0 j 0 m in let l = r.0 in absurd (omega arith), once_after 0 j)
@@ -116,15 +99,12 @@ once_partitions_inside shape =
     sym (resize-without_last_zeros (length shape) x r.rows) ∙ ap (resize (length shape)) e ∙ resize-without_last_zeros (length shape) y s.rows)
     (once_inside shape (columns shape))
 
--- ---- the recursion that lists the inner shapes
+-- ---- the recursion of `add_shapes`
 
 pub falls_next : (front : List ℕ) (b most : ℕ) → b ≤ most → Falls (front ++ most ∷ []) → Falls ((front ++ b ∷ []) ++ b ∷ [])
 falls_next [] b most h f = (omega arith, tt)
 falls_next (x ∷ []) b most h f = let g = f.0 in (omega arith, (omega arith, tt))
 falls_next (x ∷ y ∷ front) b most h f = (f.0, falls_next (y ∷ front) b most h f.1)
-
-pub size_append : (front : List ℕ) (b : ℕ) → size (front ++ b ∷ []) ≡ size front + b
-size_append front b = let r = size-append front (b ∷ []) in omega arith
 
 pub limits_front : (front : List ℕ) (most : ℕ) → Falls (front ++ most ∷ []) → length front ≤ 512 → size front ≤ 4096 → IsWithinLimits (without_last_zeros front)
 limits_front front most f h k = record {
@@ -133,8 +113,8 @@ limits_front front most f h k = record {
   small = let l = size-without_last_zeros front in omega arith;
 }
 
--- the lists that begin with `front`, continue with one of `numbers`, and then have parts inside the rows `below`; the
--- zeros at their end are removed
+-- for each number b of `numbers`, and each partition inside `below` with parts of at most b: the list that consists of `front`, b and the parts of
+-- this partition, without the zeros at its end
 abbrev pub listed_from : List ℕ → List ℕ → List ℕ → List (List ℕ)
 listed_from front below numbers = map (λ i. without_last_zeros (front ++ i)) (flat_map (λ b. map (λ i. b ∷ i) (shapes_inside below b)) numbers)
 
@@ -158,7 +138,7 @@ listed_next front below part next e =
     let g : ℕ → List (List ℕ) = λ b. map (λ i. b ∷ i) (shapes_inside below b) in
     let f : List ℕ → List ℕ = λ i. without_last_zeros (front ++ i) in
     ap (λ l. map f (flat_map g l)) (below_next part)
-    ∙ ap (map f) (each-append g (below_it part) (part ∷ []))
+    ∙ ap (map f) (flat_map-append g (below_it part) (part ∷ []))
     ∙ map-append f (flat_map g (below_it part)) (g part ++ [])
     ∙ ap (λ l. listed_from front below (below_it part) ++ map f l) (append-nil (g part))
     ∙ ap (λ l. listed_from front below (below_it part) ++ l) (map-map f (λ i. part ∷ i) (shapes_inside below part)

@@ -1,7 +1,6 @@
--- Look-ups in a canonical list of terms.
+-- The coefficient of a label in a canonical list of terms, found by binary search.
 use Rattle.std.proofs.Common.{◌≡◌, ℕ, zero, suc, ◌<◌, ◌≤◌, ◌⊎◌, List, [], ◌∷◌, length, get_or, refl, sym, ap, ◌∙◌, subst, inl, inr, arith, ℤ, pos}
-use Rattle.std.specs.Prelude.{Err, nat_eq}
-use Rattle.std.specs.Cmp.Lexicographic.{pointwise}
+use Rattle.std.specs.Prelude.{Err}
 use Rattle.std.specs.List.Sorted.{IsNonDecreasingBy, IsBinarySearchResult}
 use Rattle.std.specs.Ordering.{ordering_index}
 use Rattle.std.specs.declared.cmp.Ordering.{Ordering}
@@ -16,35 +15,28 @@ use Rattle.sym_model.specs.LabelLimits.{is_label}
 use Rattle.sym_model.specs.PrintedOrder.{printed_order}
 use Rattle.sym_model.specs.WholeTerms.{WholeTerms}
 use Rattle.sym_model.proofs.Orders.{printed_order-total, printed_order-equal, is_label-tells}
-use Rattle.linear_combinations.specs.Entries.{is_ordered, IsCanonicalList, IsCombination}
-use Rattle.linear_combinations.specs.Labels.{same_partition}
+use Rattle.linear_combinations.specs.Entries.{IsCanonicalList}
 use Rattle.linear_combinations.proofs.Found.{coefficient_of_term}
-use Rattle.linear_combinations.proofs.Ordered.{IsOrdered, stands_before-among, canonical-ordered, distinct-ordered}
+use Rattle.linear_combinations.proofs.Ordered.{IsOrdered, stands_before-among, canonical-ordered}
 use Rattle.linear_combinations.proofs.Totals.{term-among}
+use Rattle.lr_product.proofs.Placed.{table_of}
 use Rattle.lr_product.proofs.GoodCounts.{no_label}
 
 pub ordered_in : (terms : WholeTerms) → IsCanonicalList printed_order is_label whole terms → IsOrdered printed_order terms
 ordered_in terms c = canonical-ordered printed_order is_label whole printed_order-total.trans terms c
 
--- a canonical list has each label once
-pub table_in : (terms : WholeTerms) → IsCanonicalList printed_order is_label whole terms → IsCombination (pointwise nat_eq) is_label whole terms
-table_in terms c = record {
-  distinct = distinct-ordered printed_order printed_order-total same_partition terms (ordered_in terms c);
-  proper = (and_parts (is_ordered printed_order terms) _ c).1;
-}
-
 -- each label of a canonical list is a partition
 pub label_in : (terms : WholeTerms) → IsCanonicalList printed_order is_label whole terms → (t : List ℕ × ℤ) → Among t terms → IsPartition t.0
-label_in terms c t m = (is_label-tells t.0 (and_parts _ (is_label t.0) (term-among is_label whole terms (table_in terms c).proper t m)).1).partition
+label_in terms c t m = (is_label-tells t.0 (and_parts _ (is_label t.0) (term-among is_label whole terms (table_of terms c).proper t m)).1).partition
 
--- if x comes before y in the printed order, x is not y
+-- if x comes strictly before y in the printed order, x is not y
 pub not_before : (x y : List ℕ) → printed_order x y ≡ Less → x ≡ y → ⊥
 not_before x y h e =
     let itself = tied_itself printed_order-total y in
     let less : printed_order y y ≡ Less = subst (λ (z : List ℕ). printed_order z y ≡ Less) e h in
     cc
 
--- ---- a binary search in a canonical list
+-- ---- a binary search for a label in a canonical list
 
 pub member_at : {A : Type 0} (xs : List A) (i : ℕ) (d : A) → i < length xs → Among (get_or xs i d) xs
 member_at [] i d l = absurd (omega arith)
@@ -56,7 +48,7 @@ member_index [] x m = absurd m
 member_index (y ∷ xs) x (inl e) = (0, omega arith, λ d. sym e)
 member_index (y ∷ xs) x (inr m) = let r = member_index xs x m in let l = r.1 in (suc r.0, omega arith, r.2)
 
--- the order of a term and a label
+-- the result of comparing the label of a term with `label` in the printed order
 abbrev pub to_label : List ℕ → List ℕ × ℤ → Ordering
 to_label label term = printed_order term.0 label
 
@@ -80,7 +72,8 @@ rising x y label h = by (printed_order y label) refl
         before (cc) 1
     by Greater e = most (printed_order x label)
 
--- the result of comparing a term with `label` does not decrease along a canonical list
+-- in a list in the printed order, the results of comparing the labels of the terms, one after another, with `label` are weakly increasing from Less
+-- to Greater
 pub terms_rise : (xs : List (List ℕ × ℤ)) (label : List ℕ) → IsOrdered printed_order xs → IsNonDecreasingBy (λ (y : List ℕ × ℤ). ordering_index (to_label label y)) xs
 terms_rise [] label h i j d l k = absurd (omega arith)
 terms_rise (x ∷ xs) label h zero zero d l k = omega arith
@@ -95,7 +88,7 @@ found xs label i x c p l is e =
     let there : Among x xs = subst (λ (y : List ℕ × ℤ). Among y xs) (sym is) (member_at xs i x l) in
     let q = label_in xs c x there in
     subst (λ (ν : List ℕ). coefficient xs ν ≡ x.1) (printed_order-equal x.0 label q.positive p.positive e)
-    (coefficient_of_term xs (table_in xs c).distinct x there)
+    (coefficient_of_term xs (table_of xs c).distinct x there)
 
 pub not_found : (xs : List (List ℕ × ℤ)) (label : List ℕ) (i : ℕ) → IsCanonicalList printed_order is_label whole xs → IsBinarySearchResult (to_label label) xs (Err i)
     → coefficient xs label ≡ pos 0

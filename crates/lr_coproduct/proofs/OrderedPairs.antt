@@ -1,4 +1,5 @@
--- Terms labelled by pairs, in the printed order, to which the terms with one more first partition are added.
+-- Lists of terms whose labels are pairs, in the printed order, to which the terms of a list are appended; the label ν of each of these terms is
+-- replaced by the pair (first, ν).
 use Rattle.std.proofs.Common.{◌≡◌, ℕ, true, ◌&&◌, List, [], ◌∷◌, ◌++◌, append_assoc, refl, sym, ap, ◌∙◌, ◌⊎◌, inl, inr, subst, arith, ℤ, ◌+ℤ◌, ◌*ℤ◌}
 use Rattle.std.specs.Prelude.{Option, Some, None}
 use Rattle.std.specs.Option.{SomeIff}
@@ -26,7 +27,7 @@ use Rattle.linear_combinations.proofs.Ordered.{StandsBefore, IsOrdered, is_order
 use Rattle.sparse_polys.specs.Labels.{pair_order_is_total}
 use Rattle.lr_coproduct.specs.PairTerms.{pair_sum, second_sum, with_first, AreBefore}
 
--- ---- the polynomial of the pairs
+-- ---- the polynomial of the terms labelled by pairs
 
 pub sum_added : (n k : ℕ) (first : List ℕ) (list : WholeTerms) (old new : WholeTermsOf (List ℕ × List ℕ)) → new ≡ old ++ with_first first list
     → Same (pair_sum n k new) (plus (pair_sum n k old) (second_sum n k first list))
@@ -42,7 +43,7 @@ sum_added n k first list old new e α =
 
 -- ---- the order of the pairs
 
--- if `label` is before the labels of a list, the pair of `first` and `label` is before the pairs of `first` and those labels
+-- if `label` comes before all labels of a list, the pair (first, label) comes before the pair (first, ν) for each label ν of the list
 with_first_before : (first label : List ℕ) (list : WholeTerms) → StandsBefore printed_order label list → StandsBefore pair_order (first, label) (with_first first list)
 with_first_before first label [] h = tt
 with_first_before first label (t ∷ list) h =
@@ -83,12 +84,13 @@ canonical_added first list old new e l c before was =
         let same : y.0.0 ≡ first = ap (λ (u : (List ℕ × List ℕ) × ℤ). u.0.0) s.2 in
         ap (λ (o : Ordering). ordering_then o (printed_order x.0.1 y.0.1)) (ap (printed_order x.0.0) same ∙ before x m)
 
--- if an option is `Some x`, and it is v if P holds and None otherwise, then x is v
+-- if o is `Some x`, and o is `Some v` if P holds and None otherwise, then x = v
 pub unwrapped : {A : Type 0} (P : Type 0) (o : Option A) (x v : A) → o ≡ Some x → SomeIff o P v → x ≡ v
 unwrapped P None x v e h = cc
 unwrapped P (Some y) x v e h = let same : y ≡ x = cc in sym same ∙ h.1
 
--- if the pair of `first` and the next term is appended to the pairs of `first` and the terms `done`, the pairs are those for one term more
+-- let `old` be `start` followed by `with_first first done`, and `new` be `old` with the term c·(first, second) appended. Then `new` is `start`
+-- followed by `with_first first next`; here `next` is `done` with the term c·second appended
 pub next_added : (first : List ℕ) (done next : WholeTerms) (second : List ℕ) (c : ℤ) (start old new : WholeTermsOf (List ℕ × List ℕ)) → done ++ (second, c) ∷ [] ≡ next
     → old ≡ start ++ with_first first done → new ≡ old ++ ((first, second), c) ∷ [] → new ≡ start ++ with_first first next
 next_added first done next second c start old new pushed e f =

@@ -1,5 +1,6 @@
--- Coefficients of pairs after the terms with one more first partition are added.
-use Rattle.std.proofs.Common.{◌≡◌, ℕ, Bool, true, false, ◌&&◌, cond, List, [], ◌∷◌, ◌++◌, refl, ap, ◌∙◌, inl, inr, arith, ℤ, pos, ◌+ℤ◌}
+-- The coefficients in a list of terms whose labels are pairs, after the terms of a list have been appended to it. The label ν of each appended term
+-- is replaced by the pair (inner, ν), and no earlier pair has the first partition `inner`.
+use Rattle.std.proofs.Common.{◌≡◌, ℕ, Bool, true, false, ◌&&◌, cond, List, [], ◌∷◌, ◌++◌, refl, ap, ◌∙◌, inl, inr, arith, ℤ, pos, ◌+ℤ◌, sym}
 use Rattle.std.proofs.lemmas.Int.{ints}
 use Rattle.std.proofs.Math.IntN.{+ℤ_idl, +ℤ_idr}
 use Rattle.sym_model.specs.Sum.{Among}
@@ -8,19 +9,16 @@ use Rattle.sym_model.specs.WholeTerms.{WholeTermsOf, WholeTerms}
 use Rattle.sym_model.proofs.Exponents.{same_apart, same_refl}
 use Rattle.lr_coproduct.specs.PairTerms.{pair_coefficient, with_first, AreBefore}
 use Rattle.lr_coproduct.proofs.Lookups.{not_before}
+use Rattle.sym_model.proofs.Integers.{nothing_either}
 
 appended : (old more : WholeTermsOf (List ℕ × List ℕ)) (first second : List ℕ) → pair_coefficient (old ++ more) first second ≡ pair_coefficient old first second +ℤ pair_coefficient more first second
 appended [] more first second = let z = pair_coefficient more first second in omega (arith, ints)
 appended (t ∷ old) more first second = let r = appended old more first second in omega (arith, ints)
 
--- the coefficient of a pair in terms with the first partition `inner` is that of its second partition, or 0 if its
--- first is another
+-- let each label ν of a list be replaced by the pair (inner, ν) (`with_first`): the coefficient of the pair (first, second) is that of `second` in
+-- the list if first = inner, and otherwise 0
 behind_one : (inner : List ℕ) (list : WholeTerms) (first second : List ℕ) → pair_coefficient (with_first inner list) first second ≡ cond (same inner first) (coefficient list second) (pos 0)
-behind_one inner [] first second = by (same inner first)
-  where
-    by : (b : Bool) → pos 0 ≡ cond b (pos 0) (pos 0)
-    by true = refl
-    by false = refl
+behind_one inner [] first second = sym (nothing_either (same inner first))
 behind_one inner (t ∷ list) first second = by (same inner first) (behind_one inner list first second)
   where
     by : (b : Bool) → pair_coefficient (with_first inner list) first second ≡ cond b (coefficient list second) (pos 0)
@@ -29,7 +27,7 @@ behind_one inner (t ∷ list) first second = by (same inner first) (behind_one i
     by true e = ap (λ z. cond (same t.0 second) t.1 (pos 0) +ℤ z) e
     by false e = +ℤ_idl (pair_coefficient (with_first inner list) first second) ∙ e
 
--- if no pair has the first partition `first`, the coefficient of each pair with it is 0
+-- if no label of the terms is a pair with the first partition `first`, each pair (first, second) has the coefficient 0
 none_behind : (old : WholeTermsOf (List ℕ × List ℕ)) (first second : List ℕ) → ((t : (List ℕ × List ℕ) × ℤ) → Among t old → t.0.0 ≡ first → ⊥) → pair_coefficient old first second ≡ pos 0
 none_behind [] first second apart = refl
 none_behind (t ∷ old) first second apart =
@@ -37,7 +35,7 @@ none_behind (t ∷ old) first second apart =
     ∙ +ℤ_idl (pair_coefficient old first second)
     ∙ none_behind old first second (λ u m. apart u (inr m))
 
--- ---- the counts after the terms with one more first partition are added
+-- ---- the coefficients after the terms whose first partition is `inner` are appended
 
 pub count_here : (inner second : List ℕ) (list : WholeTerms) (old new : WholeTermsOf (List ℕ × List ℕ)) → new ≡ old ++ with_first inner list → AreBefore old inner
     → pair_coefficient new inner second ≡ coefficient list second

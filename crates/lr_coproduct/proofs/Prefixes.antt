@@ -1,7 +1,8 @@
--- The elements of a list at indexes, and its first elements.
+-- The elements of a list by index (`IsAt`), and the first elements of a list.
 use Rattle.std.proofs.Common.{◌≡◌, ℕ, zero, suc, ◌+◌, ◌<◌, ◌⊎◌, List, [], ◌∷◌, ◌++◌, length, take, refl, sym, ap, ◌∙◌, subst, inl, inr, arith}
 use Rattle.std.proofs.lemmas.List.{get_or_default}
 use Rattle.sym_model.specs.Sum.{Among}
+use Rattle.lr_product.proofs.Pruned.{take_none}
 pub use Rattle.lr_coproduct.specs.InnerShapeList.{IsAt}
 
 pub at_among : {A : Type 0} (xs : List A) (i : ℕ) (x : A) → IsAt xs i x → Among x xs
@@ -9,19 +10,16 @@ at_among [] i x r = let l = r.within in absurd (omega arith)
 at_among (y ∷ xs) zero x r = inl r.is
 at_among (y ∷ xs) (suc i) x r = inr (at_among xs i x (let l = r.within in record { within = omega arith; is = r.is }))
 
--- if x is at the index i, the first i + 1 elements are the first i and x
+-- if x is the element at the index i, the first i + 1 elements are the first i elements followed by x
 pub take_next : {A : Type 0} (xs : List A) (i : ℕ) (x : A) → IsAt xs i x → take (i + 1) xs ≡ take i xs ++ (x ∷ [])
 take_next [] i x r = let l = r.within in absurd (omega arith)
-take_next (y ∷ xs) zero x r = ap (λ z. z ∷ take 0 xs) (sym r.is) ∙ ap (λ l. x ∷ l) (nothing xs)
-  where
-    nothing : {B : Type 0} (l : List B) → take 0 l ≡ []
-    nothing [] = refl
-    nothing (z ∷ l) = refl
+take_next (y ∷ xs) zero x r = ap (λ z. z ∷ take 0 xs) (sym r.is) ∙ ap (λ l. x ∷ l) (take_none xs)
 take_next (y ∷ xs) (suc i) x r =
     let e : suc i + 1 ≡ suc (i + 1) = omega arith in
     ap (λ j. take j (y ∷ xs)) e ∙ ap (λ l. y ∷ l) (take_next xs i x (let l = r.within in record { within = omega arith; is = r.is }))
 
--- if P holds for the element at i and for all before it, it holds for the first i + 1 elements
+-- let z be among the first i + 1 elements. If P holds for the element at the index i, and P holds for z if z is among the first i elements, then P
+-- holds for z
 pub either_at : {A : Type 0} (P : A → Type 0) (xs : List A) (i : ℕ) (x z : A) → IsAt xs i x → Among z (take (i + 1) xs) → P x → (Among z (take i xs) → P z) → P z
 either_at {A} P xs i x z r m here before = by (take i xs) (subst (λ l. Among z l) (take_next xs i x r) m) before
   where
@@ -34,12 +32,6 @@ either_at {A} P xs i x z r m here before = by (take i xs) (subst (λ l. Among z 
 pub among_none : {A : Type 0} (x : A) (m : ℕ) → Among x (take m []) → ⊥
 among_none x zero k = k
 among_none x (suc m) k = k
-
-pub among_first : {A : Type 0} (x : A) (xs : List A) (m : ℕ) → Among x (take m xs) → Among x xs
-among_first x [] m k = among_none x m k
-among_first x (y ∷ xs) zero k = absurd k
-among_first x (y ∷ xs) (suc m) (inl e) = inl e
-among_first x (y ∷ xs) (suc m) (inr k) = inr (among_first x xs m k)
 
 pub at_last : {A : Type 0} (xs : List A) (y : A) (i : ℕ) (x : A) → IsAt (xs ++ (y ∷ [])) i x → IsAt xs i x ⊎ ((i ≡ length xs) × (x ≡ y))
 at_last [] y zero x r = inr (refl, r.is)

@@ -1,4 +1,4 @@
--- Sizes of partitions in the printed order.
+-- The sizes of partitions in a list in the printed order: they are weakly decreasing.
 use Rattle.std.proofs.Common.{◌≡◌, ℕ, zero, suc, ◌==◌, ◌*◌, ◌+◌, ◌<◌, ◌≤◌, ◌⊎◌, min, Bool, true, false, cond, List, [], ◌∷◌, length, get_or, sym, ap, ◌∙◌, subst, inl, inr, arith}
 use Rattle.std.specs.Prelude.{nat_lt}
 use Rattle.std.specs.List.Sorted.{IsPartitionedBy, IsPartitionPoint}
@@ -11,7 +11,7 @@ use Rattle.sym_model.specs.PrintedOrder.{printed_order, falling_lexicographic}
 use Rattle.lr_coproduct.specs.InnerShapeList.{IsInPrintedOrder, IsAt, IsCountAbove}
 use Rattle.lr_coproduct.proofs.Lookups.{member_at}
 
--- of two partitions in the printed order the later one has at most the size of the earlier
+-- if x comes before y in the printed order, y has at most the size of x
 printed_size : (x y : List ℕ) → printed_order x y ≡ Less → size y ≤ size x
 printed_size x y h = by (cases_lt (size x) (size y))
   where
@@ -30,7 +30,7 @@ sizes_fall (x ∷ xs) h zero (suc j) d l k = printed_size x (get_or xs j d) (h.0
 sizes_fall (x ∷ xs) h (suc i) zero d l k = absurd (omega arith)
 sizes_fall (x ∷ xs) h (suc i) (suc j) d l k = sizes_fall xs h.1 i j d (omega arith) (omega arith)
 
--- the partition at the later of two indexes has at most the size of that at the earlier one
+-- in a list in the printed order, for i ≤ j, the partition at the index j has at most the size of that at the index i
 later_size : (xs : List (List ℕ)) (i j : ℕ) (x y : List ℕ) → IsInPrintedOrder xs → IsAt xs i x → IsAt xs j y → i ≤ j → size y ≤ size x
 later_size xs i j x y h at_x at_y l =
     let s = sizes_fall xs h i j y l at_y.within in
@@ -38,7 +38,7 @@ later_size xs i j x y h at_x at_y l =
     let b = ap size (at_x.is ∙ get_or_default xs i x y at_x.within) in
     omega arith
 
--- ---- partitions with more than a number of cells
+-- ---- the partitions with more than a given number of cells come first
 
 pub parted : (xs : List (List ℕ)) (cells : ℕ) → IsInPrintedOrder xs → IsPartitionedBy (λ (x : List ℕ). nat_lt cells (size x)) xs
 parted xs cells h i j d l k e =
@@ -54,15 +54,15 @@ counted_above xs cells count bound p = record {
   after = λ i x at l. ltb-false cells (size x) (subst (λ (y : List ℕ). nat_lt cells (size y) ≡ false) (sym at.is) (p.1 i x l at.within));
 }
 
--- ---- sizes that do not add up to that of the shape
+-- ---- partitions whose size and that of inner do not add up to a given number
 
--- if 2·|inner| < cells, no x from `inner` on in a list in the printed order has |inner| + |x| = cells
+-- if inner is at the index m of a list in the printed order and 2·|inner| < cells, no partition x from the index m on has |inner| + |x| = cells
 pub behind_small : (cells : ℕ) (xs : List (List ℕ)) (m : ℕ) (inner : List ℕ) → IsInPrintedOrder xs → IsAt xs m inner → 2 * size inner < cells
     → (i : ℕ) (x : List ℕ) → IsAt xs i x → m ≤ i → size inner + size x ≡ cells → ⊥
 behind_small cells xs m inner h at small i x here l e = let s = later_size xs m i inner x h at here l in omega arith
 
--- if 2·|inner| < cells, inner is at the index m, and the first `count` partitions are those of more than `less` cells, with |inner| + less < cells, then
--- no partition x from the index min(count, m) on has |inner| + |x| = cells
+-- let inner be at the index m of a list in the printed order, with 2·|inner| < cells: if the first `count` partitions are those with more than `less`
+-- cells, and |inner| + less < cells, no partition x from the index min(count, m) on has |inner| + |x| = cells
 pub behind_range : (cells : ℕ) (xs : List (List ℕ)) (m : ℕ) (inner : List ℕ) (less count at : ℕ) → IsInPrintedOrder xs → IsAt xs m inner → 2 * size inner < cells
     → IsCountAbove xs less count → size inner + less < cells → min count m ≤ at
     → (i : ℕ) (x : List ℕ) → IsAt xs i x → at ≤ i → size inner + size x ≡ cells → ⊥

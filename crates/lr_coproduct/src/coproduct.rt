@@ -1,4 +1,5 @@
-//! The coproduct of a Schur polynomial.
+//! The coproduct of a Schur polynomial: its expansion in products of a Schur polynomial in one set
+//! of variables and a Schur polynomial in another set.
 ghost use Rattle.std.specs.Prelude.{◌≡◌, ℕ, ◌+◌, ℤ, pos, List, ◌⊎◌, false, None, length, IfOk};
 ghost use Rattle.std.specs.Prelude.{OnOk, IsErrOf};
 ghost use Rattle.coeff_rings.specs.Fractions.{whole};
@@ -30,11 +31,11 @@ use partitions::Partition;
 use sparse_polys::Pair;
 use std::alloc::Global;
 
-/// The Schur polynomial of `shape` in two sets of variables, as pairs of Schur polynomials of the
-/// first and of the second. The coefficient of a pair (μ, ν) is the number of lattice tableaux of
-/// the skew shape `shape`/μ with the content ν.
+/// The Schur polynomial of `shape` in two sets of variables x and y, as a linear combination of the
+/// products of a Schur polynomial in x and one in y. The coefficient of the pair (μ, ν) is the
+/// number of lattice tableaux of the skew shape `shape`/μ with the content ν.
 ///
-/// Returns `Large` if and only if a coefficient exceeds 2^127 - 1.
+/// Unless memory runs out, returns `Large` if and only if a coefficient exceeds 2^127 - 1.
 pub fn coprod(alloc: Global, shape: &Partition) -> Result<Terms<Pair, Int>, SumFault>
     ensures meets { IfOk result
         (λ terms. IsCoproductOf shape.now (as_fractions terms)) }
@@ -43,8 +44,9 @@ pub fn coprod(alloc: Global, shape: &Partition) -> Result<Terms<Pair, Int>, SumF
     ensures fits { OnOk result (HasPast (IsCoproductCoefficient shape.now) → ⊥) }
 {
     let inners = inner_shapes(alloc, shape)?;
-    // The partitions inside the shape and the terms for each of them are in the printed order, and
-    // so are the pairs.
+    // The partitions μ inside the shape are visited in the printed order, and for each μ the labels
+    // ν of its terms come in the printed order, so the pairs (μ, ν) are in the printed order as
+    // well.
     let mut pairs: Vec<(Pair, Int)> = Vec::new(alloc);
     let mut lists: Vec<Terms<Partition, Int>> = Vec::new(alloc);
     for at in 0..inners.len() {
@@ -54,8 +56,10 @@ pub fn coprod(alloc: Global, shape: &Partition) -> Result<Terms<Pair, Int>, SumF
     Ok(Terms::from_pairs(pairs).unwrap())
 }
 
-/// Appends the pairs whose first partition is `inner` to those whose first partitions come before
-/// it, and the list of its terms to the lists.
+/// Appends to `pairs` the terms of the coproduct whose first partition is `inner`, and to `lists`
+/// the expansion of the skew Schur polynomial of `shape`/`inner`, from which these terms are made.
+/// Before the call, this must have been done for all partitions that come before `inner` in the
+/// list `inners`.
 fn add_inner(
     alloc: Global,
     pairs: &mut Vec<(Pair, Int)>,
@@ -94,9 +98,9 @@ fn add_inner(
     Ok(())
 }
 
-/// The skew Schur polynomial of `shape`/`inner` in Schur polynomials. It is counted if `inner` has
-/// at least half of the cells, since the skew shape is then small; otherwise it is read from the
-/// lists of the partitions before `inner`.
+/// The skew Schur polynomial of `shape`/`inner`, expanded in Schur polynomials. If `inner` has at
+/// least half of the cells of `shape`, the skew shape is small, and its tableaux are counted;
+/// otherwise the coefficients are read from the lists of the partitions that come before `inner`.
 fn list_of(
     alloc: Global,
     shape: &Partition,

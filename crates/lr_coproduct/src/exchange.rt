@@ -1,5 +1,5 @@
-//! The terms of a skew shape from those of other skew shapes: the inner partition and a label may
-//! be exchanged.
+//! The skew Schur polynomial of one skew shape, read from those of other skew shapes: the number of
+//! lattice tableaux does not change if the inner partition and the content are exchanged.
 ghost use Rattle.std.specs.Prelude.{◌≡◌, ℕ, ◌*◌, ◌<◌, ℤ, pos, List, ◌∷◌, [], ◌++◌, false, None};
 ghost use Rattle.std.specs.Prelude.{length, IfOk, OnOk};
 ghost use Rattle.coeff_rings.specs.Fractions.{whole};
@@ -22,9 +22,10 @@ use linear_combinations::Terms;
 use partitions::Partition;
 use std::alloc::Global;
 
-/// The skew Schur polynomial of `shape`/`inner`, for `inner` of less than half the size of `shape`,
-/// from those of `shape`/ν for the partitions ν that come before `inner`: if the list of ν has the
-/// label `inner` with some coefficient, the result has the label ν with the same coefficient.
+/// The skew Schur polynomial of `shape`/`inner`, expanded in Schur polynomials. `inner` must have
+/// less than half of the cells of `shape`. The result is read from the expansions of `shape`/ν for
+/// the partitions ν that come before `inner` in the list `inners`: the coefficient of ν in the
+/// result is that of `inner` in the expansion of `shape`/ν.
 pub(crate) fn exchanged(
     alloc: Global,
     shape: &Partition,
@@ -40,7 +41,7 @@ pub(crate) fn exchanged(
     ensures fits { OnOk result (HasPast (IsCoefficientOfSkew None shape.now inner.now)
         → ⊥) }
 {
-    // The sizes of `inner` and of the label ν add up to that of the shape.
+    // Only partitions ν with |inner| + |ν| = |shape| can have a coefficient other than 0.
     let rest = shape.size() - inner.size();
     let first = count_above(inners, rest);
     let end = count_above(inners, rest - 1).min(lists.len());
@@ -53,7 +54,7 @@ pub(crate) fn exchanged(
     Ok(Terms::from_pairs(terms).unwrap())
 }
 
-/// Adds a term at the end, unless its coefficient is 0.
+/// Appends the term with the label `label` and the coefficient `c` to `terms`, unless `c` is 0.
 fn add_term(terms: &mut Vec<(Partition, Int)>, label: &Partition, c: Int) -> Result<(), NoMemory>
     ensures none { OnOk result (c ≡ pos 0 → terms.new.items ≡ terms.old.items) }
     ensures one { OnOk result ((c ≡ pos 0 → ⊥)
@@ -66,7 +67,7 @@ fn add_term(terms: &mut Vec<(Partition, Int)>, label: &Partition, c: Int) -> Res
     Ok(())
 }
 
-/// The coefficient of a label, 0 if the list does not have it.
+/// The coefficient of `label` in the list; 0 if it is not a label of the list.
 fn coefficient_in(list: &Terms<Partition, Int>, label: &Partition) -> Int
     requires { IsPartition label.now }
     ensures value { result ≡ coefficient list.now label.now }

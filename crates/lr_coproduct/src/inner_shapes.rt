@@ -1,4 +1,4 @@
-//! The partitions inside a partition.
+//! The list of the partitions inside a partition.
 ghost use Rattle.std.specs.Prelude.{◌≡◌, ◌+◌, ◌≤◌, List, [], ◌∷◌, ◌++◌, map, length, IfOk, OnOk};
 ghost use Rattle.std.specs.Prelude.{IsSorted};
 ghost use Rattle.std.specs.List.Sorted.{IsPermutation};
@@ -12,7 +12,7 @@ use calc_base::NoMemory;
 use partitions::Partition;
 use std::alloc::Global;
 
-/// The partitions inside a partition, each once, in the printed order.
+/// The partitions inside the partition `shape`, each once, in the printed order.
 pub(crate) fn inner_shapes(alloc: Global, shape: &Partition) -> Result<Vec<Partition>, NoMemory>
     ensures listed { IfOk result (λ shapes. ListsShapesInside shape.now shapes.items) }
     ensures shape { OnOk result (IsPartition shape.now) }
@@ -23,7 +23,7 @@ pub(crate) fn inner_shapes(alloc: Global, shape: &Partition) -> Result<Vec<Parti
     Ok(shapes)
 }
 
-/// Sorts partitions into the printed order.
+/// Sorts the partitions into the printed order.
 fn sort_shapes(shapes: &mut Vec<Partition>)
     ensures permutation { IsPermutation shapes.old.items shapes.new.items }
     ensures sorted { IsSorted printed_order shapes.new.items }
@@ -31,7 +31,8 @@ fn sort_shapes(shapes: &mut Vec<Partition>)
     shapes.sort_unstable_by(|a, b| a.cmp_printed(b));
 }
 
-/// The number of partitions with more than `cells` cells. They come first in the printed order.
+/// The number of partitions of the list `inners` with more than `cells` cells. The list must be in
+/// the printed order, in which these partitions come first.
 pub(crate) fn count_above(inners: &[Partition], cells: u16) -> usize
     requires { IsInPrintedOrder inners.now }
     ensures { IsCountAbove inners.now cells result }
@@ -39,8 +40,9 @@ pub(crate) fn count_above(inners: &[Partition], cells: u16) -> usize
     inners.partition_point(|inner| cells < inner.size())
 }
 
-/// Adds the partitions that begin with `front` and continue with parts that are contained in
-/// `rows`, the first of these parts at most `most`.
+/// Appends to `shapes` one partition for each partition inside `rows` whose first part is at most
+/// `most`: the numbers `front`, followed by the parts of the partition inside `rows`, without the
+/// zeros at the end of the list.
 fn add_shapes(
     alloc: Global,
     shapes: &mut Vec<Partition>,
@@ -66,7 +68,7 @@ fn add_shapes(
     Ok(())
 }
 
-/// `numbers` with `part` appended.
+/// The list `numbers` with `part` appended.
 fn with_part(alloc: Global, numbers: &[u16], part: u16) -> Result<Vec<u16>, NoMemory>
     ensures { IfOk result (λ next. next.items ≡ numbers.now ++ part ∷ []) }
 {

@@ -1,4 +1,4 @@
-//! Terms labelled by pairs of partitions.
+//! Terms labelled by pairs of partitions, made from terms labelled by partitions.
 ghost use Rattle.std.specs.Prelude.{◌≡◌, [], ◌∷◌, ◌++◌, OnOk};
 ghost use Rattle.coeff_rings.specs.Fractions.{whole};
 ghost use Rattle.sym_model.specs.LabelLimits.{is_label};
@@ -12,8 +12,8 @@ use linear_combinations::Terms;
 use partitions::Partition;
 use sparse_polys::Pair;
 
-/// Appends the terms of `list` to `pairs`, with the pair (`first`, ν) in place of each label ν, and
-/// `list` to `lists`.
+/// Appends to `pairs` the terms of `list`, with the pair (`first`, ν) in place of each label ν, and
+/// appends `list` to `lists`.
 pub(crate) fn add_list(
     pairs: &mut Vec<(Pair, Int)>,
     lists: &mut Vec<Terms<Partition, Int>>,
@@ -29,7 +29,7 @@ pub(crate) fn add_list(
     Ok(())
 }
 
-/// Appends the terms of `list`, with the pair (`first`, ν) in place of each label ν.
+/// Appends to `pairs` the terms of `list`, with the pair (`first`, ν) in place of each label ν.
 fn add_pairs(
     pairs: &mut Vec<(Pair, Int)>,
     first: &Partition,
@@ -45,7 +45,7 @@ fn add_pairs(
     Ok(())
 }
 
-/// Appends the term with the label (`first`, `second`) and the coefficient `c`.
+/// Appends to `pairs` the term with the label (`first`, `second`) and the coefficient `c`.
 fn add_pair(
     pairs: &mut Vec<(Pair, Int)>,
     first: &Partition,

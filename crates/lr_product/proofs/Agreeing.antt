@@ -1,4 +1,4 @@
--- Pairs of numbers that are equal or both at least 2^127: their sums and multiples are so too.
+-- Capped numbers: if numbers agree (`Agree`: equal, or both at least 2^127), so do their sums and multiples.
 use Rattle.std.proofs.Common.{◌≡◌, ℕ, zero, suc, ◌+◌, ◌*◌, ◌^◌, ◌<◌, ◌≤◌, ◌⊎◌, inl, inr, ap, arith}
 use Rattle.std.proofs.lemmas.Bool.{cases_lt}
 use Rattle.std.proofs.Math.Nat.{mul-le-mul_left}

@@ -1,4 +1,4 @@
--- Columns that are built letter by letter are the columns that may be added next.
+-- The sum `extended`, for which a column is filled letter by letter, is equal to the sum `next_states` over whole columns.
 use Rattle.std.proofs.Common.{◌≡◌, ℕ, zero, suc, ◌+◌, ◌-◌, ◌<◌, ◌≤◌, ◌==◌, ◌⊎◌, inl, inr, nat_le, Bool, true, false, cond, ◌&&◌, List, [], ◌∷◌, ◌++◌, append_assoc, append-nil, map, length, take, drop, refl, sym, ap, ap₂, ◌∙◌, arith}
 use Rattle.std.proofs.lemmas.Bool.{cases_lt, cases_eq, lt-ltb, le-ltb, le-leb, lt-leb, ne_eqb, eq-eqb}
 use Rattle.sym_model.specs.Partition.{after}
@@ -12,12 +12,13 @@ use Rattle.tableau_laws.specs.ColumnFold.{may_be_next}
 use Rattle.tableau_laws.proofs.ColumnCounts.{sum_at_start}
 use Rattle.lr_product.specs.WeighedSum.{next_states, seen}
 use Rattle.lr_product.specs.Extension.{numbers_from, greatest_letter, least_letter, letters_end, raised, extended}
-use Rattle.lr_product.proofs.Raising.{take_all, length-raised}
+use Rattle.lr_product.proofs.Raising.{length-raised}
 use Rattle.sym_model.specs.Sum.{sum_by}
 use Rattle.sym_model.proofs.NumberSums.{sum_by-ext, sum_by-each, sum_by-map, sum_by-cond}
 use Rattle.lr_product.proofs.Ranges.{after-numbers, range-passing, numbers-ext}
+use Rattle.std.proofs.Math.Seq.{drop-append_seam, take-append_seam}
 
--- ---- the sum reached after some letters of a column
+-- ---- the sum ν plus the content of some letters of a column
 
 pub join-nothing : (n : ℕ) (ν : List ℕ) → length ν ≡ n → join ν (content n []) ≡ ν
 join-nothing n ν e = sum_at_start n ν (omega arith) ∙ resize_same n ν e
@@ -68,14 +69,9 @@ raised-append (suc b) [] w h = absurd (omega arith)
 raised-append (suc zero) (a ∷ ν) w h = refl
 raised-append (suc (suc b)) (a ∷ ν) w h = ap (λ l. a ∷ l) (raised-append (suc b) ν w (omega arith))
 
-drop_all : (s w : List ℕ) → drop (length s) (s ++ w) ≡ w
-drop_all [] [] = refl
-drop_all [] (a ∷ w) = refl
-drop_all (a ∷ s) w = drop_all s w
+-- ---- the letters allowed at one place of a column
 
--- ---- one letter of a column
-
--- whether the letter b is at most its right neighbour, if it has one
+-- whether the letter b is at most its right neighbour, which is the first letter of `right`; true if `right` is empty
 abbrev fits : ℕ → List ℕ → Bool
 fits b [] = true
 fits b (r ∷ right) = nat_le b r
@@ -93,7 +89,8 @@ cond_and : (p q : Bool) (x : ℕ) → cond (p && q) x 0 ≡ cond p (cond q x 0) 
 cond_and true q x = refl
 cond_and false q x = refl
 
--- the letters for a place, below the letter a and left of the column `right`, are those of a range
+-- for a ≤ n, the letters allowed at a place (p says whether it is a cell) below the letter a and left of the column `right` are the numbers from
+-- `least_letter` to `letters_end` - 1
 letters-range : (n : ℕ) (p : Bool) (a : ℕ) (right : List ℕ) (S : ℕ → ℕ) → a ≤ n
     → sum_by (λ b. cond (may_stand_above a b && fits b right) (S b) 0) (letters_at n p)
     ≡ sum_by S (numbers_from (least_letter p a) (letters_end n p right a - least_letter p a))
@@ -134,9 +131,10 @@ end-within n false right a = by (a == 0)
     by true = omega arith
     by false = omega arith
 
--- ---- a whole column, letter by letter
+-- ---- a whole column, filled letter by letter
 
--- f after the letters c are added below the letter a, to the sum ν and the letters w so far; 0 if they are not allowed there
+-- if the letters c are allowed below the letter a and left of the column `right`, and the sum ν stays weakly decreasing when they are added to it:
+-- the value of f after they are added to ν and appended to w; otherwise 0
 abbrev goes_on : ℕ → List ℕ → ℕ → (List ℕ → List ℕ → ℕ) → List ℕ → List ℕ → List ℕ → ℕ
 goes_on n right a f ν w c =
     cond (is_chain may_stand_above (a ∷ c) && (pass_by_place nat_le c right && is_falling (join ν (content n c)))) (f (join ν (content n c)) (w ++ c)) 0
@@ -154,7 +152,7 @@ extended-words : (n : ℕ) (line : List Bool) (right : List ℕ) (a : ℕ) (f : 
     → extended true n line right a f (ν ++ w) ≡ sum_by (goes_on n right a f ν w) (words_over n line)
 extended-words n [] right a f ν w e h =
     ap₂ (λ (s v : List ℕ). cond (is_falling s) (f s v) 0)
-    (ap (λ k. take k (ν ++ w)) (sym e) ∙ take_all ν w ∙ sym (join-nothing n ν e)) (ap (λ k. drop k (ν ++ w)) (sym e) ∙ drop_all ν w ∙ sym (append-nil w))
+    (ap (λ k. take k (ν ++ w)) (sym e) ∙ take-append_seam ν w ∙ sym (join-nothing n ν e)) (ap (λ k. drop k (ν ++ w)) (sym e) ∙ drop-append_seam ν w ∙ sym (append-nil w))
     ∙ (let z : goes_on n right a f ν w [] ≡ goes_on n right a f ν w [] + 0 = omega arith in z)
 extended-words n (p ∷ line) right a f ν w e h =
     let S : ℕ → ℕ = λ b. sum_by (goes_on n (drop 1 right) b f (raised b ν) (w ++ b ∷ [])) (words_over n line) in
@@ -186,14 +184,14 @@ extended-next n line right f ν e =
     first [] = refl
     first (b ∷ c) = lt-ltb 0 (b + (1 - 0)) (omega arith)
 
--- ---- a column whose letters are not kept in the state
+-- ---- columns whose letters are not appended to the state
 
 forgotten : (n : ℕ) (line : List Bool) (right : List ℕ) (a : ℕ) (f : List ℕ → List ℕ → ℕ) (s w : List ℕ) → length s ≡ n
     → extended false n line right a f s ≡ extended true n line right a (seen false f) (s ++ w)
 forgotten n [] right a f s w e =
-    let whole : take n s ≡ s = ap (λ k. take k s) (sym e) ∙ ap (take (length s)) (sym (append-nil s)) ∙ take_all s [] in
-    let rest : drop n s ≡ [] = ap (λ k. drop k s) (sym e) ∙ ap (drop (length s)) (sym (append-nil s)) ∙ drop_all s [] in
-    let front : take n (s ++ w) ≡ s = ap (λ k. take k (s ++ w)) (sym e) ∙ take_all s w in
+    let whole : take n s ≡ s = ap (λ k. take k s) (sym e) ∙ ap (take (length s)) (sym (append-nil s)) ∙ take-append_seam s [] in
+    let rest : drop n s ≡ [] = ap (λ k. drop k s) (sym e) ∙ ap (drop (length s)) (sym (append-nil s)) ∙ drop-append_seam s [] in
+    let front : take n (s ++ w) ≡ s = ap (λ k. take k (s ++ w)) (sym e) ∙ take-append_seam s w in
     ap₂ (λ (x y : List ℕ). cond (is_falling x) (f x y) 0) whole rest ∙ sym (ap (λ (x : List ℕ). cond (is_falling x) (f x []) 0) front)
 forgotten n (p ∷ line) right a f s w e =
     numbers-ext (λ b. extended false n line (drop 1 right) b f (raised b s ++ [])) (λ b. extended true n line (drop 1 right) b (seen false f) (raised b (s ++ w) ++ (b ∷ [])))

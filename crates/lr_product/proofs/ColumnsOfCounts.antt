@@ -1,5 +1,5 @@
--- Sums over the ways to add columns, in natural numbers and in integers.
-use Rattle.std.proofs.Common.{◌≡◌, ℕ, Bool, true, false, cond, List, [], ◌∷◌, refl, ap, ◌∙◌, ℤ, pos}
+-- The sum `over_states` over the ways to add columns, computed in natural numbers, is equal to the same sum computed in integers.
+use Rattle.std.proofs.Common.{◌≡◌, ℕ, Bool, cond, List, [], ◌∷◌, refl, ap, ◌∙◌, ℤ, pos}
 use Rattle.sym_model.specs.Polynomial.{join}
 use Rattle.sym_model.specs.Schur.{content}
 use Rattle.sym_model.proofs.Sums.{total_ext}
@@ -7,10 +7,7 @@ use Rattle.tableau_laws.specs.PaddedRows.{words_over}
 use Rattle.tableau_laws.specs.ColumnFold.{may_be_next, next_columns, over_columns}
 use Rattle.sym_model.proofs.NumberSums.{sum_by-total}
 use Rattle.lr_product.specs.WeighedSum.{next_states, over_states}
-
-pos-cond : (t : Bool) (x : ℕ) → pos (cond t x 0) ≡ cond t (pos x) (pos 0)
-pos-cond true x = refl
-pos-cond false x = refl
+use Rattle.sym_model.proofs.Integers.{pos-cond}
 
 pub over-ext : (n : ℕ) (lines : List (List Bool)) (f g : List ℕ → List ℕ → ℤ) → ((ν right : List ℕ) → f ν right ≡ g ν right)
     → (ν right : List ℕ) → over_columns n lines f ν right ≡ over_columns n lines g ν right

@@ -1,8 +1,8 @@
--- Lists of terms whose look-ups find counts.
+-- Lists of terms whose coefficients are the counts of a table, made by adding the counts of its entries one by one.
 use Rattle.std.proofs.Common.{◌≡◌, ℕ, zero, suc, ◌+◌, ◌*◌, ◌^◌, ◌<◌, ◌≤◌, ◌⊎◌, inl, inr, Bool, true, false, cond, List, [], ◌∷◌, length, take, refl, sym, ap, ◌∙◌, subst, arith, ℤ, pos, ◌+ℤ◌}
-use Rattle.std.specs.Prelude.{Some, slice_get, FitsSigned}
+use Rattle.std.specs.Prelude.{Some, slice_get, FitsSigned, nat_eq}
 use Rattle.std.specs.Int.{w128}
-use Rattle.std.specs.Cmp.Lexicographic.{nat_list_eq_equiv}
+use Rattle.std.specs.Cmp.Lexicographic.{nat_list_eq_equiv, pointwise}
 use Rattle.std.proofs.lemmas.Bool.{cases_lt, and_parts}
 use Rattle.coeff_rings.specs.Fractions.{whole}
 use Rattle.sym_model.specs.Sum.{Among}
@@ -25,27 +25,17 @@ use Rattle.lr_product.specs.WeighedSum.{at_state, weighed, comes_to}
 use Rattle.lr_product.specs.Counts.{HasCounts, IsPastSomewhere}
 use Rattle.lr_product.proofs.Steps.{IsReached}
 use Rattle.lr_product.proofs.Sums.{length_take}
-use Rattle.lr_product.proofs.Tables.{eq_states}
+use Rattle.linear_combinations.proofs.LabelTests.{equal_from, equal_apart}
 
-equal_from : (a b : List ℕ) → a ≡ b → eq_states a b ≡ true
-equal_from a b e = subst (λ x. eq_states a x ≡ true) e (nat_list_eq_equiv.refl a)
+-- ---- lists of terms in which the coefficient of each label is its count
 
-equal_apart : (a b : List ℕ) → (a ≡ b → ⊥) → eq_states a b ≡ false
-equal_apart a b n = by (eq_states a b) refl
-  where
-    by : (t : Bool) → eq_states a b ≡ t → eq_states a b ≡ false
-    by true e = absurd (n (same_partition a b e))
-    by false e = e
-
--- ---- a table of terms by its look-ups
-
--- looking up a label in the terms gives its count
+-- the coefficient of each label in the terms is its count
 abbrev pub Finds : (List ℕ → ℕ) → WholeTerms → Type 0
-Finds count terms = (parts : List ℕ) → coefficient eq_states (pos 0) terms parts ≡ pos (count parts)
+Finds count terms = (parts : List ℕ) → coefficient (pointwise nat_eq) (pos 0) terms parts ≡ pos (count parts)
 
--- a table whose look-ups find the counts has them as its coefficients if no partition with more than n rows is
--- counted
-pub has_counts : (n : ℕ) (count : List ℕ → ℕ) (terms : WholeTerms) → IsCombination eq_states is_label whole terms → Finds count terms
+-- if the coefficients of the terms are the counts (`Finds`), and the count of each partition with more than n rows is 0, then `HasCounts` holds for
+-- the terms and n
+pub has_counts : (n : ℕ) (count : List ℕ → ℕ) (terms : WholeTerms) → IsCombination (pointwise nat_eq) is_label whole terms → Finds count terms
     → ((parts : List ℕ) → n < rows parts → count parts ≡ 0) → HasCounts n count terms
 has_counts n count terms is finds short = record {
   table = is;
@@ -63,17 +53,18 @@ has_counts n count terms is finds short = record {
         sym (coefficient_of_term terms is.distinct t m) ∙ coefficient_found terms is.distinct t.0 ∙ finds t.0 ∙ ap pos (short t.0 l) in
         absurd (not_zero-is_reduced (whole t.1) (and_parts _ (is_label t.0) (term-among is_label whole terms is.proper t m)).0 (ap whole zero))
 
--- if one list has the counts, so does a list with the same coefficients
-pub finds_same : (count : List ℕ → ℕ) (first second : WholeTerms) → HasSameCoefficients eq_states (pos 0) first second → Finds count first → Finds count second
+-- if two lists have the same coefficients, and those of the first are the counts, so are those of the second
+pub finds_same : (count : List ℕ → ℕ) (first second : WholeTerms) → HasSameCoefficients (pointwise nat_eq) (pos 0) first second → Finds count first → Finds count second
 finds_same count first second e h parts = e parts ∙ h parts
 
--- if a table of 128-bit integers has the counts as its coefficients, each count is below 2^127
-pub held_small : (terms : WholeTerms) (count : List ℕ → ℕ) → AreHeld eq_states (pos 0) (FitsSigned w128) terms → Finds count terms → (parts : List ℕ) → count parts < 2 ^ 127
+-- if the coefficients of the terms are the counts, and fit into signed integers of 128 bits, each count is less than 2^127
+pub held_small : (terms : WholeTerms) (count : List ℕ → ℕ) → AreHeld (pointwise nat_eq) (pos 0) (FitsSigned w128) terms → Finds count terms → (parts : List ℕ) → count parts < 2 ^ 127
 held_small terms count h finds parts = let f = (subst (FitsSigned w128) (finds parts) (h.at_label parts)).sfits in omega arith
 
--- ---- the counts after one more entry
+-- ---- the counts in the first i entries of a table, and in the first i + 1
 
--- the sum over the first i + 1 entries of a table is that over the first i and the next summand
+-- if entry i of a table has the state `key` and the count w, the weighed sum of the first i + 1 entries is that of the first i plus w times g of
+-- `key`
 pub weighed-take : (n : ℕ) (g : List ℕ → List ℕ → ℕ) (es : List (List ℕ × ℕ)) (i : ℕ) (key : List ℕ) (w : ℕ) → slice_get es i ≡ Some (key, w) → weighed n g (take (i + 1) es) ≡ weighed n g (take i es) + w * at_state n g key
 weighed-take n g [] i key w h = cc
 weighed-take n g (e ∷ es) zero key w h =
@@ -96,22 +87,23 @@ weighed-front n g [] (suc i) = omega arith
 weighed-front n g (e ∷ es) zero = omega arith
 weighed-front n g (e ∷ es) (suc i) = let r = weighed-front n g es i in omega arith
 
--- the count of a partition in the first i entries
+-- the total count, in the first i entries, of the states whose sum without the zeros at its end is `parts`
 abbrev pub counted : ℕ → List (List ℕ × ℕ) → ℕ → List ℕ → ℕ
 counted n es i parts = weighed n (comes_to parts) (take i es)
 
--- an entry with count 0 changes no count
+-- if entry i has the count 0, the first i + 1 entries have the same counts as the first i
 pub counted-zero : (n : ℕ) (es : List (List ℕ × ℕ)) (i : ℕ) (key : List ℕ) (w : ℕ) (parts : List ℕ) → slice_get es i ≡ Some (key, w) → w ≡ 0 → counted n es (i + 1) parts ≡ counted n es i parts
 counted-zero n es i key w parts h z =
     weighed-take n (comes_to parts) es i key w h ∙ ap (λ v. counted n es i parts + v * at_state n (comes_to parts) key) z ∙ (let q : counted n es i parts + 0 * at_state n (comes_to parts) key ≡ counted n es i parts = omega arith in q)
 
--- the entry i adds its count at its own partition, and nothing at any other partition
+-- if entry i has the state `key` and the count w, it adds w to the count of the partition that is the sum of `key` without the zeros at its end, and
+-- leaves the other counts unchanged
 counted-more : (n : ℕ) (es : List (List ℕ × ℕ)) (i : ℕ) (key : List ℕ) (w : ℕ) (parts : List ℕ) → slice_get es i ≡ Some (key, w)
-    → counted n es (i + 1) parts ≡ cond (eq_states (without_last_zeros (take n key)) parts) (counted n es i parts + w) (counted n es i parts)
+    → counted n es (i + 1) parts ≡ cond ((pointwise nat_eq) (without_last_zeros (take n key)) parts) (counted n es i parts + w) (counted n es i parts)
 counted-more n es i key w parts h = weighed-take n (comes_to parts) es i key w h ∙ by (same_or_not (without_last_zeros (take n key)) parts)
   where
     by : (without_last_zeros (take n key) ≡ parts) ⊎ (without_last_zeros (take n key) ≡ parts → ⊥)
-        → counted n es i parts + w * at_state n (comes_to parts) key ≡ cond (eq_states (without_last_zeros (take n key)) parts) (counted n es i parts + w) (counted n es i parts)
+        → counted n es i parts + w * at_state n (comes_to parts) key ≡ cond ((pointwise nat_eq) (without_last_zeros (take n key)) parts) (counted n es i parts + w) (counted n es i parts)
     by (inl e) =
         ap (λ t. counted n es i parts + w * cond t 1 0) (same_from (without_last_zeros (take n key)) parts e)
         ∙ (let q : counted n es i parts + w * 1 ≡ counted n es i parts + w = omega arith in q)
@@ -128,23 +120,23 @@ counted-here n es i key w h =
     counted-more n es i key w label h ∙ ap (λ t. cond t (counted n es i label + w) (counted n es i label)) (equal_from label label refl)
 
 pub finds_next : (n : ℕ) (es : List (List ℕ × ℕ)) (i : ℕ) (key sum : List ℕ) (w : ℕ) (old new : WholeTerms) → slice_get es i ≡ Some (key, w) → sum ≡ take n key
-    → Finds (counted n es i) old → HasMoreAt eq_states (pos 0) ◌+ℤ◌ old (without_last_zeros sum) (pos w) new → Finds (counted n es (i + 1)) new
+    → Finds (counted n es i) old → HasMoreAt (pointwise nat_eq) (pos 0) ◌+ℤ◌ old (without_last_zeros sum) (pos w) new → Finds (counted n es (i + 1)) new
 finds_next n es i key sum w old new h is finds more parts =
     let label = without_last_zeros (take n key) in
-    subst (λ l. HasMoreAt eq_states (pos 0) ◌+ℤ◌ old (without_last_zeros l) (pos w) new) is more parts
-    ∙ by (eq_states label parts) refl
+    subst (λ l. HasMoreAt (pointwise nat_eq) (pos 0) ◌+ℤ◌ old (without_last_zeros l) (pos w) new) is more parts
+    ∙ by ((pointwise nat_eq) label parts) refl
     ∙ sym (ap pos (counted-more n es i key w parts h))
   where
-    by : (t : Bool) → eq_states (without_last_zeros (take n key)) parts ≡ t
-        → cond t (coefficient eq_states (pos 0) old (without_last_zeros (take n key)) +ℤ pos w) (coefficient eq_states (pos 0) old parts)
+    by : (t : Bool) → (pointwise nat_eq) (without_last_zeros (take n key)) parts ≡ t
+        → cond t (coefficient (pointwise nat_eq) (pos 0) old (without_last_zeros (take n key)) +ℤ pos w) (coefficient (pointwise nat_eq) (pos 0) old parts)
         ≡ pos (cond t (counted n es i parts + w) (counted n es i parts))
-    by true e = ap (λ z. z +ℤ pos w) (ap (coefficient eq_states (pos 0) old) (same_partition (without_last_zeros (take n key)) parts e) ∙ finds parts)
+    by true e = ap (λ z. z +ℤ pos w) (ap (coefficient (pointwise nat_eq) (pos 0) old) (same_partition (without_last_zeros (take n key)) parts e) ∙ finds parts)
     by false e = finds parts
 
--- if the count of the sum of entry i over the entries before it, plus the count of this entry, is 2^127 or more, so is
--- some count of the whole table
+-- let k be the total count, in the first i entries, of the states with the same sum as entry i, and w the count of entry i: if k + w is 2^127 or
+-- more, then some partition has a total count of 2^127 or more in the whole table
 pub past_next : (n m : ℕ) (es : List (List ℕ × ℕ)) (i : ℕ) (key sum : List ℕ) (w : ℕ) (old : WholeTerms) → slice_get es i ≡ Some (key, w) → sum ≡ take n key → IsReached n m (take n key)
-    → Finds (counted n es i) old → ((k : ℕ) → coefficient eq_states (pos 0) old (without_last_zeros sum) ≡ pos k → 2 ^ 127 ≤ k + w)
+    → Finds (counted n es i) old → ((k : ℕ) → coefficient (pointwise nat_eq) (pos 0) old (without_last_zeros sum) ≡ pos k → 2 ^ 127 ≤ k + w)
     → IsPastSomewhere n (λ parts. weighed n (comes_to parts) es)
 past_next n m es i key sum w old h is r finds large = record {
   parts = without_last_zeros (take n key);
@@ -152,13 +144,13 @@ past_next n m es i key sum w old h is r finds large = record {
   within = let l = length-without_last_zeros (take n key) in let e = r.long in omega arith;
   past =
       let label = without_last_zeros (take n key) in
-      let here : 2 ^ 127 ≤ counted n es i label + w = subst (λ l. (k : ℕ) → coefficient eq_states (pos 0) old (without_last_zeros l) ≡ pos k → 2 ^ 127 ≤ k + w) is large (counted n es i label) (finds label) in
+      let here : 2 ^ 127 ≤ counted n es i label + w = subst (λ l. (k : ℕ) → coefficient (pointwise nat_eq) (pos 0) old (without_last_zeros l) ≡ pos k → 2 ^ 127 ≤ k + w) is large (counted n es i label) (finds label) in
       let more = counted-here n es i key w h in
       let front = weighed-front n (comes_to label) es (i + 1) in
       omega arith;
 }
 
--- if a sum of at most 4,096 is reached in at most 512 places, it is, without its last zeros, a partition within the limits
+-- a weakly decreasing list of n ≤ 512 numbers that add up to at most 4,096 is, without the zeros at its end, a partition within the limits
 pub sum_within : (n : ℕ) (sum : List ℕ) → n ≤ 512 → IsReached n 4096 sum → IsWithinLimits (without_last_zeros sum)
 sum_within n sum h r = record {
   partition = IsPartition-without_last_zeros sum (falls_from_test sum r.falls);
@@ -166,7 +158,7 @@ sum_within n sum h r = record {
   small = let l = size-without_last_zeros sum in let e = r.small in omega arith;
 }
 
--- the count of a partition with more than n rows is 0
+-- the count of a partition with more than n rows is 0 in a table whose sums have n numbers
 pub counted-long : (n : ℕ) (es : List (List ℕ × ℕ)) (parts : List ℕ) → n < rows parts → weighed n (comes_to parts) es ≡ 0
 counted-long n [] parts h = refl
 counted-long n (e ∷ es) parts h =
@@ -175,10 +167,10 @@ counted-long n (e ∷ es) parts h =
     let y : e.1 * at_state n (comes_to parts) e.0 ≡ e.1 * 0 = ap (λ x. e.1 * x) z in
     omega arith
 
--- if a list has the coefficients of the empty list, it is empty
-pub same_as_none : (terms : WholeTerms) → IsCombination eq_states is_label whole terms → HasSameCoefficients eq_states (pos 0) [] terms → terms ≡ []
+-- if all coefficients of a table of terms are 0, it is empty
+pub same_as_none : (terms : WholeTerms) → IsCombination (pointwise nat_eq) is_label whole terms → HasSameCoefficients (pointwise nat_eq) (pos 0) [] terms → terms ≡ []
 same_as_none terms is e =
-    by terms (length_same nat_list_eq_equiv same_partition (pos 0) whole refl terms [] is (IsCombination-empty eq_states is_label whole) (λ label. sym (e label)))
+    by terms (length_same nat_list_eq_equiv same_partition (pos 0) whole refl terms [] is (IsCombination-empty (pointwise nat_eq) is_label whole) (λ label. sym (e label)))
   where
     by : (ts : WholeTerms) → length ts ≤ 0 → ts ≡ []
     by [] h = refl

@@ -1,5 +1,5 @@
--- States kept one after the other in one list: the state at an index, one more state at the end, and a count replaced
--- by another.
+-- The states of a table, written one after another into one list of numbers: the state at an index, one more state appended, and the count of a state
+-- replaced. A state consists of a sum and the column added last.
 use Rattle.std.proofs.Common.{◌≡◌, ℕ, zero, suc, ◌+◌, ◌*◌, ◌<◌, ◌≤◌, List, [], ◌∷◌, ◌++◌, length, take, drop, get_or, set, drop-drop, length-drop, refl, sym, ap, ap₂, ◌∙◌, arith}
 use Rattle.std.specs.Prelude.{Some, slice_get}
 use Rattle.std.specs.Map.{keys_of}
@@ -19,7 +19,7 @@ states_length w ns (c ∷ cs) = ap suc (states_length w (drop w ns) cs)
 pub entries_length : (w : ℕ) (ns cs : List ℕ) (s : StateCounts) → record { width = w; entries = counted_states w ns cs } ≡ s → length cs ≡ length s.entries
 entries_length w ns cs s e = sym (states_length w ns cs) ∙ ap (λ (t : StateCounts). length t.entries) e
 
--- for i < k, the numbers of state i are among the k·w numbers of k states; the state and its count are read from them
+-- if a list has k·w numbers and i < k, the w numbers of state i, from the index i·w on, are in the list
 pub within_numbers : (w i k len : ℕ) → len ≡ k * w → i < k → i * w + w ≤ len
 within_numbers w i k len e h =
     let m = mul-le-mul_right w (let l : i + 1 ≤ k = omega arith in l) in
@@ -43,7 +43,8 @@ state_pushed w ns (d ∷ cs) s c h l =
     ap₂ (λ t (m : List ℕ). (t, d) ∷ counted_states w m (cs ++ c ∷ [])) (take-append-le w ns s first) (drop-append-le w ns s first)
     ∙ ap (λ (es : List (List ℕ × ℕ)). (take w ns, d) ∷ es) (state_pushed w (drop w ns) cs s c rest l)
 
--- the weighed sum is the count of the entry i times f of its state, plus the sum over the other entries, also after the count is replaced
+-- let `rest` be some number: the weighed sum of the states is `had`·f(state) + rest, and if the count at the index i is replaced by v, the weighed
+-- sum is v·f(state) + rest
 abbrev SplitsAt : ℕ → (List ℕ → List ℕ → ℕ) → ℕ → List ℕ → List ℕ → ℕ → ℕ → List ℕ → Type 0
 SplitsAt n f w ns cs i had state = (rest : ℕ) × (weighed n f (counted_states w ns cs) ≡ had * at_state n f state + rest)
     × ((v : ℕ) → weighed n f (counted_states w ns (set cs i v)) ≡ v * at_state n f state + rest)
@@ -68,7 +69,7 @@ agree_put n f w ns cs i had count v state h e a =
     let was = s.1 in
     agree_then _ _ _ (agree_same _ _ (s.2 v)) (agree_then _ _ _ more (agree_same _ _ (omega arith)))
 
--- the state at i is the state of the entry at i
+-- if the entry at the index i is (state, count), the state at the index i is `state`
 pub state_of_entry : (es : List (List ℕ × ℕ)) (i : ℕ) (state : List ℕ) (count : ℕ) → slice_get es i ≡ Some (state, count) → slice_get (keys_of es) i ≡ Some state
 state_of_entry [] i state count h = cc
 state_of_entry (e ∷ es) zero state count h = let here : e ≡ (state, count) = cc in ap (λ (x : List ℕ × ℕ). Some x.0) here

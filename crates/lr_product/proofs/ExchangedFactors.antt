@@ -1,4 +1,4 @@
--- The two factors of a product exchanged: the counts of good tableaux are the same.
+-- The counts `product_count` do not change if the two factors of a product are exchanged.
 use Rattle.std.proofs.Common.{◌≡◌, ℕ, ◌≤◌, List, sym, ap, ◌∙◌, arith, pos}
 use Rattle.std.proofs.lemmas.Int.{ints}
 use Rattle.sym_model.specs.Partition.{IsPartition, rows}

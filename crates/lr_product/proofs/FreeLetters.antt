@@ -1,9 +1,9 @@
--- Sets of letters that may be placed, as binary digits of a number.
+-- Sets of the letters that can be added to a sum, as binary digits of a number (`MarksFree`).
 use Rattle.std.proofs.Common.{◌≡◌, ◌≢◌, ℕ, zero, suc, ◌+◌, ◌-◌, ◌*◌, ◌/◌, ◌%◌, ◌^◌, ◌<◌, ◌≤◌, ◌==◌, ◌⊎◌, inl, inr, nat_le, nat_lt, Bool, true, false, cond, ◌&&◌, ◌||◌, List, [], ◌∷◌, ◌++◌, length, take, get_or, refl, sym, ap, ap₂, ◌∙◌, arith, w64}
 use Rattle.std.specs.Int.{bit_at, from_bool}
 use Rattle.std.specs.Prelude.{bit_or, max, min}
 use Rattle.std.proofs.lemmas.Bool.{ne_eqb, lt-ltb, cases_lt, cases_eq, and_parts, leb-true}
-use Rattle.std.proofs.lemmas.List.{get_or-set_same}
+use Rattle.std.proofs.lemmas.List.{get_or-set_same, get_or_append_left}
 use Rattle.std.specs.Int.Count.{count_trailing_zeros, trailing_of_zero}
 use Rattle.std.proofs.lemmas.Nat.{shr-shr}
 use Rattle.std.proofs.Math.Nat.{div-le_self}
@@ -13,9 +13,8 @@ use Rattle.sym_model.specs.Sum.{sum_by}
 use Rattle.lr_product.specs.Extension.{raised, mark, numbers_from, extended, least_letter, letters_end, can_rise}
 use Rattle.lr_product.specs.MarksFree.{MarksFree}
 use Rattle.lr_product.proofs.Raising.{length-raised, raised-set}
-use Rattle.lr_product.proofs.Pruned.{get-append}
 
--- ---- the numbers of a sum after a letter is placed
+-- ---- the numbers of a sum after a letter is added
 
 get-raised_after : (b j : ℕ) (s : List ℕ) → b ≤ j → get_or (raised b s) j 0 ≡ get_or s j 0
 get-raised_after zero j s h = refl
@@ -25,13 +24,13 @@ get-raised_after (suc zero) (suc j) (a ∷ s) h = refl
 get-raised_after (suc (suc b)) (suc j) (a ∷ s) h = get-raised_after (suc b) j s (omega arith)
 
 get-placed : (b j : ℕ) (s w : List ℕ) → b ≤ j → j < length s → get_or (raised b s ++ w) j 0 ≡ get_or s j 0
-get-placed b j s w h l = get-append (raised b s) w j (let r = length-raised b s in omega arith) ∙ get-raised_after b j s h
+get-placed b j s w h l = get_or_append_left (raised b s) w 0 j (let r = length-raised b s in omega arith) ∙ get-raised_after b j s h
 
--- whether the bound allows one more at the index i
+-- whether the number at the index i is less than that of the bound at i, or the bound has no number there
 abbrev allowed : List ℕ → ℕ → List ℕ → Bool
 allowed bound i s = nat_le (length bound) i || nat_lt (get_or s i 0) (get_or bound i 0)
 
--- placing the letter b does not change whether 1 may be added at an index i > b, or at any index if b = 0
+-- let b ≤ i, and b < i unless b = 0: adding the letter b to the sum s does not change whether the number at the index i can be raised by 1
 rise-later : (bound : List ℕ) (b i : ℕ) (s w : List ℕ) → b ≤ i → i < length s → (b ≡ i → b ≡ 0) → can_rise bound i (raised b s ++ w) ≡ can_rise bound i s
 rise-later bound b zero s w h l e = ap (λ x. (nat_le (length bound) 0 || nat_lt x (get_or bound 0 0))) (get-placed b 0 s w h l)
 rise-later bound b (suc i) s w h l e =
@@ -52,13 +51,13 @@ falls_at (suc (suc n)) zero (a ∷ b ∷ s) h l falls = leb-true b a (and_parts 
 falls_at (suc (suc n)) (suc i) (a ∷ b ∷ s) h l falls =
     falls_at (suc n) i (b ∷ s) (omega arith) (omega arith) (and_parts (nat_le b a) (is_falling (b ∷ take n s)) falls).1
 
--- after the letter i + 1 is placed in a weakly decreasing sum, 1 may be added at the index i + 1 if the bound allows it
+-- after the letter i + 1 is added to a weakly decreasing sum s, the number at the index i + 1 can be raised by 1 if and only if the bound allows it
 rise-next : (n : ℕ) (bound : List ℕ) (i : ℕ) (s w : List ℕ) → suc i < n → n ≤ length s → is_falling (take n s) ≡ true
     → can_rise bound (suc i) (raised (suc i) s ++ w) ≡ allowed bound (suc i) s
 rise-next n bound i s w h l falls =
     let one : suc i - 1 ≡ i = omega arith in
     let same = get-placed (suc i) (suc i) s w (omega arith) (omega arith) in
-    let more : get_or (raised (suc i) s ++ w) i 0 ≡ get_or s i 0 + 1 = get-append (raised (suc i) s) w i (let r = length-raised (suc i) s in omega arith) ∙ ap (λ x. get_or x i 0) (sym (raised-set i s)) ∙ get_or-set_same s i (get_or s i 0 + 1) 0 (omega arith) in
+    let more : get_or (raised (suc i) s ++ w) i 0 ≡ get_or s i 0 + 1 = get_or_append_left (raised (suc i) s) w 0 i (let r = length-raised (suc i) s in omega arith) ∙ ap (λ x. get_or x i 0) (sym (raised-set i s)) ∙ get_or-set_same s i (get_or s i 0 + 1) 0 (omega arith) in
     let le = falls_at n i s h l falls in
     ap₂ (λ x y. ((suc i == 0) || nat_lt x y) && allowed bound (suc i) (raised (suc i) s ++ w)) same (ap (λ j. get_or (raised (suc i) s ++ w) j 0) one ∙ more)
     ∙ ap₂ (λ (p q : Bool). (p || nat_lt (get_or s (suc i) 0) (get_or s i 0 + 1)) && q) (ne_eqb (suc i) 0 (λ q. absurd (omega arith)))
@@ -74,8 +73,8 @@ and-last true q r e f = e ∙ f
 and-last false q r e f = refl
 
 module _ (n above b : ℕ) (bound s w t : List ℕ) (free : ℕ) (is : t ≡ raised b s ++ w) (long : n ≤ length s) (falls : is_falling (take n s) ≡ true) (low : above ≤ b) (marks : MarksFree n above bound s free) where
-  -- the set `new`, which differs from `free` at most in the digit b, is right after the letter b > 0 is placed if its
-  -- digit b says whether the bound allows one more there
+  -- let t be the sum s after the letter b is added, and `free` the set for s. Let `new` have the digits of `free`, except that, for b > 0, the digit
+  -- b of `new` says whether the bound allows the number at the index b to be raised. Then `new` is the set for t from the index b on (`MarksFree`)
   placed-digits : (new : ℕ) → ((i : ℕ) → i ≢ b → bit_at new i ≡ bit_at free i) → (b ≡ 0 → bit_at new b ≡ bit_at free b)
       → (0 < b → b < n → b < 64 → bit_at new b ≡ cond (allowed bound b s) 1 0) → MarksFree n b bound t new
   placed-digits new others first next = record { digits = λ i h k m. each i (cases_eq i b) h k m ∙ ap (λ x. cond (can_rise bound i x) 1 0) (sym is) }
@@ -95,7 +94,8 @@ module _ (n above b : ℕ) (bound s w t : List ℕ) (free : ℕ) (is : t ≡ rai
           ap (bit_at new) e ∙ here b refl (omega arith) (omega arith) ∙ ap (λ j. cond (can_rise bound j (raised b s ++ w)) 1 0) (sym e)
       each i (inr d) h k m = later i (others i d) (λ e. absurd (d (sym e))) h k m
 
-  -- the digits of the letters after b need no change unless the bound allows the next one
+  -- let t be the sum s after the letter b is added, and `free` the set for s: if the bound does not allow the number of t at the index b to be raised
+  -- by 1, then `free` is also the set for t from the index b on (`MarksFree`)
   pub free-unchanged : (0 < b → b < 64 → allowed bound b t ≡ false) → MarksFree n b bound t free
   free-unchanged refused =
       placed-digits free (λ i d. refl) (λ z. refl)
@@ -108,7 +108,7 @@ module _ (n above b : ℕ) (bound s w t : List ℕ) (free : ℕ) (is : t ≡ rai
       placed-digits (bit_or free (1 * 2 ^ b % 2 ^ 64)) (λ i d. bit_at_set_other w64 free b m i d) (λ z. absurd (omega arith))
       (λ q k h. bit_at_set_same w64 free b m ∙ ap (λ r. cond r 1 0) (sym (sym (allowed-placed bound b s w t is (omega arith)) ∙ able)))
 
--- ---- the letters of a place
+-- ---- the letters allowed at a place of a column
 
 pub above_place : (m : ℕ) (cell : Bool) (right : List ℕ) (above b : ℕ) → least_letter cell above ≤ b → b < letters_end m cell right above → above ≤ b
 above_place m true right above b h l = omega arith
@@ -116,7 +116,8 @@ above_place m false right zero b h l = omega arith
 above_place m false right (suc above) b h l =
     let e : letters_end m false right (suc above) ≡ 0 = ap (λ t. cond t 1 0) (ne_eqb (suc above) 0 (λ q. absurd (omega arith))) in absurd (omega arith)
 
--- if the right neighbour is the least letter allowed, a place has only that letter
+-- if the first place of `line` is a cell, and its right neighbour is above + 1 ≤ n, then above + 1 is the only letter allowed there, and the sum
+-- `extended` does not change if it is placed there
 pub only-letter : (kept : Bool) (n : ℕ) (line rest : List Bool) (right others : List ℕ) (above : ℕ) (f : List ℕ → List ℕ → ℕ) (s t : List ℕ) → above < n
     → line ≡ true ∷ rest → right ≡ (above + 1) ∷ others → t ≡ raised (above + 1) s ++ mark kept (above + 1)
     → extended kept n line right above f s ≡ extended kept n rest others (above + 1) f t
@@ -132,7 +133,7 @@ only-letter kept n line rest right others above f s t h l r p =
     alone : (x : ℕ) → x + 0 ≡ x
     alone x = omega arith
 
--- ---- the least letter of a set from a letter on
+-- ---- the least letter of a set among those that are at least a given letter
 
 bit_at-shifted : (free k i : ℕ) → bit_at (free / 2 ^ k) i ≡ bit_at free (k + i)
 bit_at-shifted free k i = ap (λ x. x % 2) (shr-shr free k i)
@@ -164,7 +165,8 @@ module _ (from end free : ℕ) (bound numbers : List ℕ) (some : 0 < from) (mar
   below : free / 2 ^ (from - 1) < 2 ^ 64
   below = let h = div-le_self free (2 ^ (from - 1)) in omega arith
 
-  -- the letters before the least one of the set from `from` on may not be placed
+  -- let m be the least letter of the set `free` that is at least `from`, or 65 if there is no such letter: the letters from `from` to m - 1 that are
+  -- less than `end` cannot be added to the sum
   pub skipped-letters : (b : ℕ) → from ≤ b → b < from + count_trailing_zeros 64 (free / 2 ^ (from - 1)) → b < end → b ≤ 64 → ((b == 0) || can_rise bound (b - 1) numbers) ≡ false
   skipped-letters b low high l m =
       let place : (from - 1) + ((b - 1) - (from - 1)) ≡ b - 1 = omega arith in
@@ -179,7 +181,7 @@ module _ (from end free : ℕ) (bound numbers : List ℕ) (some : 0 < from) (mar
       or-true (b == 0) (can_rise bound (b - 1) numbers)
       (digit-true (can_rise bound (b - 1) numbers) (bit_at free (b - 1)) (marks.digits (b - 1) (omega arith) (omega arith) (omega arith)) one)
 
--- ---- the set of the letters that may be placed, digit by digit
+-- ---- a set of letters made digit by digit
 
 nothing-set : (free at i : ℕ) → bit_at (bit_or free (0 * 2 ^ at % 2 ^ 64)) i ≡ bit_at free i
 nothing-set free at i =
@@ -219,7 +221,8 @@ marks-next above bound numbers at free r x is h low e marks clear = record { dig
 pub clear-next : (at free : ℕ) (r : Bool) (x : ℕ) → x ≡ from_bool r → at < 64 → ((i : ℕ) → at ≤ i → bit_at free i ≡ 0) → (i : ℕ) → at + 1 ≤ i → bit_at (bit_or free (x * 2 ^ at % 2 ^ 64)) i ≡ 0
 clear-next at free r x is h clear i l = digit-kept r x free at i (digit-of r x is) h (λ e. absurd (omega arith)) ∙ clear i (omega arith)
 
--- a set that is right for a sum is so for fewer letters, too, and for an equal sum
+-- if `free` is the set for the indices from `from` to n - 1, it is also the set for each range of indices `to`, .., m - 1 within this one, and for an
+-- equal list of numbers
 pub marks-narrowed : (n m from to : ℕ) (bound numbers same : List ℕ) (free : ℕ) → numbers ≡ same → MarksFree n from bound numbers free
     → ((i : ℕ) → to ≤ i → i < m → i < 64 → (from ≤ i) × (i < n)) → MarksFree m to bound same free
 marks-narrowed n m from to bound numbers same free e marks within = record {

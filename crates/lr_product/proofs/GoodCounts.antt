@@ -1,5 +1,6 @@
--- Counts of good tableaux and Schur coefficients.
-use Rattle.std.proofs.Common.{◌≡◌, ℕ, ◌+◌, ◌^◌, ◌<◌, ◌≤◌, ◌⊎◌, inl, inr, min, nat_abs, Bool, true, false, cond, List, [], ◌∷◌, map, length, refl, sym, ap, ◌∙◌, subst, arith, ℤ, pos, negsuc, ◌+ℤ◌, ◌≤ℤ◌, filter}
+-- Counts of good tableaux are the Schur coefficients of products and of skew Schur polynomials. A tableau is good for the partition `start` if, for
+-- each k, start plus the content of its last k columns is a partition.
+use Rattle.std.proofs.Common.{◌≡◌, ℕ, ◌+◌, ◌^◌, ◌<◌, ◌≤◌, ◌⊎◌, inl, inr, min, nat_abs, Bool, true, false, cond, List, [], ◌∷◌, map, length, refl, sym, ap, ◌∙◌, subst, arith, ℤ, pos, ◌+ℤ◌, ◌≤ℤ◌, filter}
 use Rattle.std.specs.Prelude.{Result, Ok, Err, Option, Some, None, IfOk, OnOk, IfSome, nat_eq}
 use Rattle.std.specs.Cmp.Lexicographic.{pointwise}
 use Rattle.std.specs.Option.{unwrap_or}
@@ -18,12 +19,12 @@ use Rattle.linear_combinations.proofs.Steps.{IsCombination-empty}
 use Rattle.sym_model.specs.Products.{schur_product, classical_product}
 use Rattle.sym_model.specs.PastLimit.{IsSchurCoefficientOf, variables_or, is_past}
 use Rattle.sym_model.specs.ReductionSteps.{classical_weight}
-use Rattle.sym_model.proofs.Exponents.{same_apart, size-join}
+use Rattle.sym_model.proofs.Exponents.{size-join}
 use Rattle.sym_model.proofs.Polynomials.{at_only, coefficient_pair, pair_times, pair_zero, times_respects, Same_refl}
 use Rattle.sym_model.proofs.WholeTerms.{represents-whole}
 use Rattle.sym_model.proofs.Orders.{is_partition-tells, is_partition-from}
 use Rattle.sym_model.proofs.SortedParts.{IsPartition-none}
-use Rattle.sym_model.proofs.Sums.{total_none, total_map}
+use Rattle.sym_model.proofs.Sums.{total_map}
 use Rattle.sym_model.specs.Products.{ExpandsInSchurs, IsProductCoefficientOf}
 use Rattle.sym_model.specs.PastLimit.{HasPast, IsCoefficientOfProduct, IsCoefficientOfSkew}
 use Rattle.tableau_laws.specs.ColumnFold.{column_lines, is_sum}
@@ -40,10 +41,12 @@ use Rattle.lr_product.specs.Capped.{Agree}
 use Rattle.lr_product.specs.Counts.{good_count, HasCounts, IsPastSomewhere}
 use Rattle.lr_product.proofs.Sums.{pos_comes}
 use Rattle.lr_product.proofs.ColumnsOfCounts.{over-states, over-ext}
+pub use Rattle.product_laws.proofs.CountLists.{no_label}
+use Rattle.sym_model.proofs.Integers.{at_most_absolute}
 
--- ---- counts that agree below 2^127
+-- ---- counts replaced by counts that agree with them (`Agree`: equal, or both at least 2^127)
 
--- every f vanishes outside the empty bound, since no sum exceeds that bound
+-- `VanishesOutside` holds for the empty bound and every f
 pub no_bound : (f : List ℕ → List ℕ → ℕ) → VanishesOutside [] f
 no_bound f [] right h = absurd (cc)
 no_bound f (a ∷ ν) right h = absurd (cc)
@@ -59,7 +62,7 @@ fits_agree w g (Err e) a f = tt
 pub past_agree : (n : ℕ) (w g : List ℕ → ℕ) → ((parts : List ℕ) → Agree (w parts) (g parts)) → IsPastSomewhere n w → IsPastSomewhere n g
 past_agree n w g a p = record { parts = p.parts; partition = p.partition; within = p.within; past = (a p.parts).past p.past }
 
--- ---- the counts are Schur coefficients
+-- ---- good counts are Schur coefficients
 
 pub good_count-terms : (n : ℕ) (start outer inner ν : List ℕ) → IsPartition start → IsPartition outer → IsPartition inner → contains outer inner ≡ true → rows start ≤ n
     → pos (good_count n start outer inner ν) ≡ coefficient (good_terms n start outer inner) ν
@@ -84,18 +87,19 @@ schur-too_long : (m : ℕ) (start outer inner ν : List ℕ) → IsPartition sta
 schur-too_long m start outer inner ν p o i holds s q l k =
     coefficient_counts m m start outer inner ν (omega arith) p o i q l ∙ no_long_labels m start outer inner ν p o i holds s k
 
--- at each partition with at most n rows the count is the good count in n letters, and at those with more than n and
--- at most m rows it is 0
+-- n ≤ m, `count` is `good` at each partition with at most n rows, and 0 at each partition with more than n and at most m rows
 pub record SameCounts (n m : ℕ) (good count : List ℕ → ℕ) : Type 0 where
   pub fewer : n ≤ m
   pub same_within : (ν : List ℕ) → IsPartition ν → rows ν ≤ n → count ν ≡ good ν
   pub none_past : (ν : List ℕ) → IsPartition ν → rows ν ≤ m → n < rows ν → count ν ≡ 0
 
--- the count is the Schur coefficient of f in m variables
+-- for each partition with at most m rows, `count` is the Schur coefficient of f in m variables
 abbrev pub Counts : ℕ → Poly → (List ℕ → ℕ) → Type 0
 Counts m f count = (ν : List ℕ) → IsPartition ν → rows ν ≤ m → schur_coefficient m ν f ≡ pos (count ν)
 
--- min(m, rows of start and outer together) letters are enough in m variables
+-- let min(m, rows of start plus rows of outer) ≤ n ≤ m: if `count` has the Schur coefficients of s_start times the skew Schur polynomial of
+-- outer/inner in m variables, then `count` is `good_count` with letters up to n at partitions with at most n rows, and 0 at those with n + 1 to m
+-- rows
 pub same_counts : (n m : ℕ) (start outer inner : List ℕ) (count : List ℕ → ℕ) → n ≤ m → min m (rows start + rows outer) ≤ n → IsPartition start → IsPartition outer → IsPartition inner → contains outer inner ≡ true → rows start ≤ n
     → Counts m (times (schur start m) (skew_schur outer inner m)) count → SameCounts n m (good_count n start outer inner) count
 same_counts n m start outer inner count most enough p o i holds s c = record {
@@ -108,11 +112,7 @@ same_counts n m start outer inner count most enough p o i holds s c = record {
       omega (arith, ints);
 }
 
--- the coefficient of a label is 0 if no term has it
-pub no_label : (terms : WholeTerms) (ν : List ℕ) → ((t : List ℕ × ℤ) → Among t terms → t.0 ≡ ν → ⊥) → coefficient terms ν ≡ pos 0
-no_label terms ν h = total_none (λ (t : Term). cond (same t.0 ν) t.1 (pos 0)) terms (λ t m. ap (λ (b : Bool). cond b t.1 (pos 0)) (same_apart t.0 ν (h t m)))
-
--- if a table has the counts, its terms as fractions list them
+-- if `HasCounts` holds for the terms, `ListsCounts` holds for the terms as fractions
 pub lists_counts : (k : ℕ) (count : List ℕ → ℕ) (terms : WholeTerms)
     → HasCounts k count terms → ListsCounts k count (as_fractions terms)
 lists_counts k count terms c = whole_counts k count terms c.labels c.counts
@@ -145,11 +145,11 @@ past_in n m good count same_ones p = record {
   past = let z = same_ones.same_within p.parts p.partition p.within in let s = p.past in omega arith;
 }
 
--- the empty list has the counts if all counts are 0
+-- if all counts are 0, the empty list has them (`HasCounts`)
 pub none_counted : (m : ℕ) (count : List ℕ → ℕ) → ((ν : List ℕ) → count ν ≡ 0) → HasCounts m count []
 none_counted m count e = record { table = IsCombination-empty (pointwise nat_eq) is_label whole; labels = λ t k. absurd k; counts = λ ν q l. sym (ap pos (e ν)) }
 
--- ---- coefficients that exceed 2^127 - 1
+-- ---- a count of 2^127 or more is a Schur coefficient that exceeds 2^127 - 1
 
 pub has_past : (m : ℕ) (f : Poly) (count : List ℕ → ℕ) → Counts m f count → IsPastSomewhere m count → HasPast (IsSchurCoefficientOf f m)
 has_past m f count e p = (
@@ -165,7 +165,7 @@ has_none_past m f count e small (c, d, past) =
     let s = small d.parts d.partition d.within in
     absurd (omega arith)
 
--- ---- the counts of a product
+-- ---- the counts `product_count` and the product of two Schur polynomials
 
 pub product_counts : (m : ℕ) (left right : List ℕ) → IsPartition left → IsPartition right → Counts m (schur_product (left ∷ right ∷ []) m) (product_count m left right)
 product_counts m left right p q ν r l = product_coefficients m left right ν p q r l
@@ -178,7 +178,7 @@ variables_same : (rows_given : Option ℕ) (k : ℕ) → unwrap_or rows_given k 
 variables_same None k = refl
 variables_same (Some n) k = refl
 
--- if no number of variables is given, the number of rows of both factors is used
+-- `unwrap_or` and `variables_or` give the same number of variables: the given one or, if there is none, the number of rows of left plus that of right
 enough_same : (variables : Option ℕ) (left right : List ℕ) → unwrap_or variables (rows left + rows right) ≡ variables_or variables (size (map rows (left ∷ right ∷ [])))
 enough_same variables left right = variables_same variables (rows left + rows right) ∙ ap (variables_or variables) (let z : rows left + rows right ≡ rows left + (rows right + 0) = omega arith in z)
 
@@ -204,7 +204,7 @@ mult_fits variables m left right e p q small past =
     has_none_past m (schur_product (left ∷ right ∷ []) m) (product_count m left right) (product_counts m left right p q) small
     (subst (λ k. HasPast (IsSchurCoefficientOf (schur_product (left ∷ right ∷ []) k) k)) (sym (e ∙ enough_same variables left right)) past)
 
--- if a list has the counts of a product, it is the classical product
+-- if the terms have the counts `product_count` (`HasCounts`), they have the coefficients of `classical_product` of left and right in k variables
 pub classical_answer : (k : ℕ) (left right : List ℕ) (terms : WholeTerms) → IsPartition left → IsPartition right → HasCounts k (product_count k left right) terms
     → Same terms (classical_product k (left ∷ right ∷ []))
 classical_answer k left right terms p q c α = by (cases_Bool (is_partition α)) (cases_lt k (rows α))
@@ -224,15 +224,11 @@ classical_answer k left right terms p q c α = by (cases_Bool (is_partition α))
         both (λ t m d. let r = c.labels t m in both_ways (is_partition α) e (is_partition-from α (subst IsPartition d r.0)))
         (λ t m d. let r = classical_product-term k (left ∷ right ∷ []) t m in both_ways (is_partition α) e (is_partition-from α (subst IsPartition d r.partition)))
 
--- a coefficient is at most the sum of the absolute values of all coefficients
+-- each coefficient of a list is at most the sum of the absolute values of the coefficients of its terms
 coefficient_at_most : (terms : WholeTerms) (α : List ℕ) → coefficient terms α ≤ℤ pos (absolute_total terms)
 coefficient_at_most [] α = omega (arith, ints)
-coefficient_at_most (t ∷ terms) α = by (same t.0 α) (at_most t.1) (coefficient_at_most terms α)
+coefficient_at_most (t ∷ terms) α = by (same t.0 α) (at_most_absolute t.1) (coefficient_at_most terms α)
   where
-    at_most : (z : ℤ) → z ≤ℤ pos (nat_abs z)
-    at_most (pos n) = omega (arith, ints)
-    at_most (negsuc n) = omega (arith, ints)
-
     by : (b : Bool) → t.1 ≤ℤ pos (nat_abs t.1) → coefficient terms α ≤ℤ pos (absolute_total terms) → (cond b t.1 (pos 0) +ℤ coefficient terms α) ≤ℤ pos (nat_abs t.1 + absolute_total terms)
     by true one r = omega (arith, ints)
     by false one r = omega (arith, ints)
@@ -255,7 +251,7 @@ pub heavy_if : (variables : Option ℕ) (m : ℕ) (left right : List ℕ) → m 
 heavy_if None m left right e p q past = tt
 heavy_if (Some k) m left right e p q past = heavy_answer k left right p q (subst (λ j. IsPastSomewhere j (product_count j left right)) e past)
 
--- ---- the counts of a skew Schur polynomial
+-- ---- the counts `skew_count` and the skew Schur polynomial
 
 skew_counts : (m : ℕ) (outer inner : List ℕ) → IsPartition outer → IsPartition inner → contains outer inner ≡ true → Counts m (skew_schur outer inner m) (skew_count outer inner)
 skew_counts m outer inner o i holds ν r l = skew_coefficients m outer inner ν o i holds r l
@@ -304,9 +300,9 @@ outside_fits variables outer inner h past =
     has_none_past m [] (λ ν. 0) (λ ν q l. coefficient_pair (times (alternant (staircase m)) []) (join ν (staircase m)) ∙ pair_times (alternant (staircase m)) [] (at_only (join ν (staircase m))) ∙ pair_zero (alternant (staircase m)))
     (λ ν q l. omega arith) (subst (λ (f : Poly). HasPast (IsSchurCoefficientOf f m)) (skew_none outer inner m h) past)
 
--- ---- one coefficient of a product
+-- ---- one coefficient of a product, as computed by `coef`
 
--- the count of a product is 0 if outer has another size than both factors together
+-- if the size of outer is not that of left plus that of right, the count of outer in the product of left and right is 0
 pub product_count-other_size : (outer left right : List ℕ) → IsPartition outer → IsPartition left → IsPartition right → (size left + size right ≡ size outer → ⊥) → product_count (rows outer) left right outer ≡ 0
 product_count-other_size outer left right o p q other =
     let n = rows outer in

@@ -1,4 +1,4 @@
--- The lines of the columns of a skew shape (specs/ColumnLine): their number, and their places.
+-- The lines of the columns of a skew shape (specs/ColumnLine): the number of lines, and the number of places of each line.
 use Rattle.std.proofs.Common.{◌≡◌, ℕ, zero, suc, ◌+◌, ◌-◌, ◌<◌, ◌≤◌, ◌⊎◌, inl, inr, nat_le, nat_lt, Bool, true, false, cond, List, [], ◌∷◌, ◌++◌, length, replicate, take, drop, get_or, refl, sym, ap, ap₂, ◌∙◌, arith}
 use Rattle.std.proofs.lemmas.Bool.{cases_lt, le-leb, lt-leb, lt-ltb, le-ltb}
 use Rattle.std.proofs.Math.Seq.{drop-cons}
@@ -9,22 +9,9 @@ use Rattle.tableau_laws.specs.ColumnFold.{column_lines}
 use Rattle.tableau_laws.proofs.RowSums.{contains_rest, length_line}
 use Rattle.lr_product.specs.ColumnLine.{column_line}
 use Rattle.lr_product.specs.WeighedSum.{places}
-
--- the entries of a row at a place: one or none
-abbrev at_place : ℕ → List Bool → List Bool
-at_place i row = take 1 (drop i row)
-
-line-put : (i : ℕ) (row : List Bool) (lines : List (List Bool)) → get_or (put_row row lines) i [] ≡ at_place i row ++ get_or lines i []
-line-put zero [] lines = refl
-line-put (suc i) [] lines = refl
-line-put zero (x ∷ row) [] = refl
-line-put zero (x ∷ row) (c ∷ lines) = refl
-line-put (suc i) (x ∷ row) [] = line-put i row [] ∙ ap (λ l. at_place i row ++ l) (nothing_there i)
-  where
-    nothing_there : (j : ℕ) → get_or {A = List Bool} [] j [] ≡ []
-    nothing_there zero = refl
-    nothing_there (suc j) = refl
-line-put (suc i) (x ∷ row) (c ∷ lines) = line-put i row lines
+use Rattle.std.proofs.lemmas.List.{drop_all}
+use Rattle.tableau_laws.proofs.Grids.{length-put}
+use Rattle.tableau_laws.proofs.ColumnReadings.{line_at-put, at_place}
 
 leb-up : (a b c d : ℕ) → c ≡ suc a → d ≡ suc b → nat_le a b ≡ nat_le c d
 leb-up a b c d p q = by (cases_lt b a)
@@ -70,14 +57,8 @@ line-at (suc i) [] inner h = refl
 line-at i (a ∷ outer) inner h =
     let r = contains_rest a outer inner h in
     let whole : part inner 1 + (a - part inner 1) ≡ a = let q = r.0 in omega arith in
-    line-put i (line_of (part inner 1) (a - part inner 1)) (transposed (pattern_of outer (drop 1 inner)))
+    line_at-put i (line_of (part inner 1) (a - part inner 1)) (transposed (pattern_of outer (drop 1 inner)))
     ∙ ap₂ ◌++◌ (at_place-line i (part inner 1) (a - part inner 1) ∙ ap (λ k. cond (nat_le (i + 1) k) (nat_lt (part inner 1) (i + 1) ∷ []) []) whole) (line-at i outer (drop 1 inner) r.1)
-
-length-put : (row : List Bool) (lines : List (List Bool)) → length lines ≤ length row → length (put_row row lines) ≡ length row
-length-put [] [] h = refl
-length-put [] (c ∷ lines) h = absurd (omega arith)
-length-put (x ∷ row) [] h = ap suc (length-put row [] (omega arith))
-length-put (x ∷ row) (c ∷ lines) h = ap suc (length-put row lines (omega arith))
 
 pub length-lines : (outer inner : List ℕ) → Falls outer → contains outer inner ≡ true → length (column_lines outer inner) ≡ columns outer
 length-lines [] inner f h = refl
@@ -111,7 +92,7 @@ places-drop zero (l ∷ lines) = omega arith
 places-drop (suc i) [] = omega arith
 places-drop (suc i) (l ∷ lines) = let r = places-drop i lines in omega arith
 
--- the column lines from index i on are the next line and those after it
+-- for i < columns outer, the list of the column lines without the first i is the line of column i + 1, followed by the list without the first i + 1
 pub column-cons : (outer inner : List ℕ) (i : ℕ) → Falls outer → contains outer inner ≡ true → i < columns outer → drop i (column_lines outer inner) ≡ column_line (i + 1) outer inner ∷ drop (i + 1) (column_lines outer inner)
 column-cons outer inner i f c h =
     let e : suc i ≡ i + 1 = omega arith in
@@ -119,14 +100,4 @@ column-cons outer inner i f c h =
     ∙ ap₂ (λ (l : List Bool) (ls : List (List Bool)). l ∷ ls) (line-at i outer inner c) (ap (λ k. drop k (column_lines outer inner)) e)
 
 pub column-none : (outer inner : List ℕ) → Falls outer → contains outer inner ≡ true → drop (columns outer) (column_lines outer inner) ≡ []
-column-none outer inner f c = past (columns outer) (column_lines outer inner) (let l = length-lines outer inner f c in omega arith)
-  where
-    past : (i : ℕ) (ls : List (List Bool)) → length ls ≤ i → drop i ls ≡ []
-    past zero [] h = refl
-    past (suc i) [] h = refl
-    past zero (l ∷ ls) h = absurd (omega arith)
-    past (suc i) (l ∷ ls) h = past i ls (omega arith)
-
-pub column-all : (lines : List (List Bool)) → drop 0 lines ≡ lines
-column-all [] = refl
-column-all (l ∷ lines) = refl
+column-none outer inner f c = drop_all (columns outer) (column_lines outer inner) (let l = length-lines outer inner f c in omega arith)

@@ -1,4 +1,4 @@
--- Sums over the letters for a place.
+-- Sums over the letters allowed at a place of a column.
 use Rattle.std.proofs.Common.{◌≡◌, ℕ, zero, suc, ◌+◌, ◌-◌, ◌*◌, ◌<◌, ◌≤◌, ◌⊎◌, inl, inr, sym, ap, ◌∙◌, arith}
 use Rattle.std.proofs.lemmas.Bool.{cases_lt}
 use Rattle.lr_product.specs.Capped.{Agree}
@@ -13,7 +13,7 @@ sum-step X low end h = let e : end - low ≡ suc (end - (low + 1)) = omega arith
 pub sum-end : (X : ℕ → ℕ) (low end : ℕ) → end ≤ low → sum_by X (numbers_from low (end - low)) ≡ 0
 sum-end X low end h = let e : end - low ≡ 0 = omega arith in ap (λ k. sum_by X (numbers_from low k)) e
 
--- a sum of X over the numbers from low on may begin at low + d if the first d terms are 0
+-- if X is 0 at low, .., low + d - 1, the sum of X over the numbers from low to end - 1 is that over the numbers from low + d to end - 1
 pub numbers-skipped : (X : ℕ → ℕ) (low end d : ℕ) → ((x : ℕ) → low ≤ x → x < low + d → X x ≡ 0) → sum_by X (numbers_from low (end - low)) ≡ sum_by X (numbers_from (low + d) (end - (low + d)))
 numbers-skipped X low end zero none = let e : low + 0 ≡ low = omega arith in ap (λ x. sum_by X (numbers_from x (end - x))) (sym e)
 numbers-skipped X low end (suc d) none = by (cases_lt low end) (numbers-skipped X (low + 1) end d (λ x g h. none x (omega arith) (omega arith)))
@@ -33,8 +33,8 @@ numbers-skipped X low end (suc d) none = by (cases_lt low end) (numbers-skipped 
         let t = sum-end X (low + suc d) end (omega arith) in
         omega arith
 
--- a sum of X over the numbers from low to end - 1 may begin at `first`, if X is 0 at the numbers before it; `first` may
--- be less than low only if it is end
+-- let first ≤ end, and let low ≤ first unless first = end: if X is 0 at the numbers from low to first - 1, the sum of X over the numbers from low to
+-- end - 1 is that over the numbers from `first` to end - 1
 pub sum-from : (X : ℕ → ℕ) (low end first : ℕ) → first ≤ end → (first < end → low ≤ first) → ((x : ℕ) → low ≤ x → x < first → X x ≡ 0)
     → sum_by X (numbers_from low (end - low)) ≡ sum_by X (numbers_from first (end - first))
 sum-from X low end first within least none = by (cases_lt first low) (cases_lt first end)
@@ -46,7 +46,9 @@ sum-from X low end first within least none = by (cases_lt first low) (cases_lt f
     by (inl l) (inl h) = let g = least h in absurd (omega arith)
     by (inl l) (inr h) = sum-end X low end (omega arith) ∙ sym (sum-end X first end h)
 
--- one step of a loop that adds X(letter)·ways to a number for each letter
+-- one pass of a loop over the letters less than `end`, which adds ways·X(letter) to `now` and gets a number that agrees (`Agree`) with `next`. If
+-- `now` plus ways·(the sum of X over the letters from `letter` on) agrees with `all`, then `next` plus ways·(the sum of X over the letters from
+-- letter + 1 on) agrees with `all`
 pub agree_step : (now next all ways : ℕ) (X : ℕ → ℕ) (letter end : ℕ) → letter < end
     → Agree (now + ways * sum_by X (numbers_from letter (end - letter))) all
     → Agree next (now + ways * X letter)

@@ -18,14 +18,14 @@ mod ColumnsOfCounts
 mod Heights
 mod Rounds
 mod Sums
-mod Pruned
+pub mod Pruned
 mod FreeLetters
 mod CountedLists
 pub mod GoodCounts
 mod NoRoom
-mod Placed
+pub mod Placed
 mod PastCoefficients
 mod ManyStarts
-mod Partial
+pub mod Partial
 mod NothingLeft
 mod ExchangedFactors

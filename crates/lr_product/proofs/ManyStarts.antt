@@ -1,4 +1,4 @@
--- Tables that start with all labels of a list count the coefficients of the product of the list and one more factor.
+-- A table whose starts are all labels of a list: the counts of the table are the coefficients of the product of the list and one more factor.
 use Rattle.std.proofs.Common.{◌≡◌, ℕ, ◌+◌, ◌*◌, ◌^◌, ◌<◌, ◌≤◌, ◌⊎◌, inl, inr, min, nat_abs, true, false, List, [], ◌∷◌, ◌++◌, refl, sym, ap, ap₂, ◌∙◌, subst, arith, ℤ, pos, negsuc, ◌+ℤ◌, ◌*ℤ◌}
 use Rattle.std.specs.Prelude.{◌≤ℤ◌, ◌<ℤ◌, Result, IfOk, OnOk}
 use Rattle.std.proofs.lemmas.Bool.{cases_lt, cases_Bool, both_ways}
@@ -17,18 +17,20 @@ use Rattle.tableau_laws.specs.ColumnFold.{column_lines}
 use Rattle.alternant_laws.proofs.ClassicalProducts.{classical_product-coefficient, classical_product-term}
 use Rattle.product_laws.specs.FactorSteps.{multiplied}
 use Rattle.product_laws.specs.CountedProducts.{Reaches}
-use Rattle.linear_combinations.proofs.Steps.{if_answered, on_ok}
+use Rattle.linear_combinations.proofs.Steps.{if_answered}
 use Rattle.lr_product.specs.Capped.{Agree}
 use Rattle.lr_product.specs.Counts.{good_count, HasCounts, IsPastSomewhere}
 use Rattle.lr_product.specs.ProductOfFactors.{AreSmallCounts, AllMayMeet}
 use Rattle.lr_product.specs.WeighedSum.{weighed, started, over_states, comes_to, unreached}
-use Rattle.lr_product.proofs.GoodCounts.{SameCounts, same_product, product_counts, no_label, counts_agree, fits_agree, past_agree, lists_in, fits_in, past_in}
+use Rattle.lr_product.proofs.GoodCounts.{SameCounts, same_product, product_counts, counts_agree, fits_agree, past_agree, lists_in, fits_in, past_in}
 use Rattle.sym_model.specs.Sum.{sum_by}
 use Rattle.sym_model.proofs.NumberSums.{sum_by-append}
 use Rattle.sym_model.proofs.NumberSums.{sum_by-among, sum_by-none}
 use Rattle.lr_product.proofs.Rounds.{start_within}
+use Rattle.std.proofs.lemmas.Result.{on_ok_weaker}
+use Rattle.product_laws.proofs.CountLists.{no_label}
 
--- appending a term t to the list adds |coefficient of t| times f of its label to the sum
+-- if the term t is appended to the list, the sum `started` increases by |coefficient of t| times f of its label
 pub started-push : (n : ℕ) (f : List ℕ → List ℕ → ℕ) (done : WholeTerms) (t : Term)
     → started n f done + nat_abs t.1 * f (resize n t.0) [] ≡ started n f (done ++ t ∷ [])
 started-push n f done t =
@@ -37,8 +39,7 @@ started-push n f done t =
 
 module _ (n k : ℕ) (next : List ℕ) (product : WholeTerms) (q : IsPartition next) (may : AllMayMeet k next product) (most : n ≤ k)
     (enough : (t : Term) → Among t product → (rows t.0 ≤ n) × (min k (rows t.0 + rows next) ≤ n)) where
-  -- each label of the list is weakly decreasing in n places and has at most m cells, which leaves room for those of the
-  -- factor `next`
+  -- if m + size next = 4096, each label of the list, written with n numbers, is weakly decreasing and has size at most m
   pub starts_within : (m : ℕ) → m + size next ≤ 4096 → 4096 ≤ m + size next → started n (unreached n m) product ≡ 0
   starts_within m l g =
       sum_by-none (λ (t : List ℕ × ℤ). nat_abs t.1 * unreached n m (resize n t.0) []) product
@@ -48,7 +49,8 @@ module _ (n k : ℕ) (next : List ℕ) (product : WholeTerms) (q : IsPartition n
       let z = start_within n m t.0 [] h.partition (omega arith) in
       ap (λ x. nat_abs t.1 * x) z ∙ (let o : nat_abs t.1 * 0 ≡ 0 = omega arith in o))
 
-  -- the sum of the counts of ν over all starts in the list, which is the coefficient of ν in the product
+  -- the sum, over the terms of the list `product`, of the absolute value of the coefficient times the good count of ν; for each term, the label is
+  -- the start, and `next` is the shape
   abbrev pub good_sum : List ℕ → ℕ
   good_sum ν = started n (over_states n (column_lines next []) (comes_to ν)) product
 
@@ -69,7 +71,8 @@ module _ (n k : ℕ) (next : List ℕ) (product : WholeTerms) (q : IsPartition n
         (λ t a. ap (λ x. nat_abs t.1 * x) ((at_label t a).none_past ν p l g) ∙ (let o : nat_abs t.1 * 0 ≡ 0 = omega arith in o));
   }
 
--- the coefficient of ν in the product is the sum of the counts of ν over all starts
+-- for a partition ν with at most k rows, the coefficient of ν in the product of the list and `next` is the sum, over the terms, of the coefficient
+-- times the count of ν in the product of the label and `next`
 multiplied-counted : (k : ℕ) (next : List ℕ) (product : WholeTerms) → IsPartition next → AllMayMeet k next product → (ν : List ℕ) → IsPartition ν → rows ν ≤ k
     → coefficient (multiplied k next product) ν ≡ pos (sum_by (λ (t : List ℕ × ℤ). nat_abs t.1 * product_count k t.0 next ν) product)
 multiplied-counted k next [] q may ν p l = refl
@@ -85,11 +88,10 @@ multiplied-counted k next (t ∷ product) q may ν p l =
     positive (pos a) h c = refl
     positive (negsuc a) h c = absurd (omega (arith, ints))
 
--- the coefficient of the product is 0 at a list that is not a partition with at most k rows
+-- if ν is not a partition with at most k rows, its coefficient in the product of the list and `next` in k variables is 0
 multiplied-outside : (k : ℕ) (next : List ℕ) (product : WholeTerms) (ν : List ℕ) → (IsPartition ν → rows ν ≤ k → ⊥) → coefficient (multiplied k next product) ν ≡ pos 0
 multiplied-outside k next product ν out =
-    no_label (multiplied k next product) ν
-    (λ t m e.
+    no_label (multiplied k next product) ν (λ t m e.
     let from = Among_from_each (λ (t : List ℕ × ℤ). scale t.1 (classical_product k (t.0 ∷ next ∷ []))) t product m in
     let u = Among_from_map (λ (v : Term). let term : Term = (v.0, from.0.1 *ℤ v.1) in term) t (classical_product k (from.0.0 ∷ next ∷ [])) from.2 in
     let c = classical_product-term k (from.0.0 ∷ next ∷ []) u.0 u.1 in
@@ -100,7 +102,7 @@ module _ (k : ℕ) (next : List ℕ) (product : WholeTerms) (q : IsPartition nex
   counts : List ℕ → ℕ
   counts ν = sum_by (λ (t : List ℕ × ℤ). nat_abs t.1 * product_count k t.0 next ν) product
 
-  -- a statement holds for each label if it holds for partitions with at most k rows and for all other lists
+  -- if P holds for all partitions with at most k rows, and for all other lists of numbers, it holds for each list ν
   by_label : (P : List ℕ → Type 0) → ((ν : List ℕ) → IsPartition ν → rows ν ≤ k → P ν) → ((ν : List ℕ) → (IsPartition ν → rows ν ≤ k → ⊥) → P ν) → (ν : List ℕ) → P ν
   by_label P inside outside ν = by (cases_Bool (is_partition ν)) (cases_lt k (rows ν))
     where
@@ -140,7 +142,7 @@ module _ (k : ℕ) (next : List ℕ) (product : WholeTerms) (q : IsPartition nex
         omega (arith, ints);
   }
 
--- ---- the table after all columns of the factor
+-- ---- the table after all columns of the factor `next` are added
 
 module _ (n k : ℕ) (next : List ℕ) (product : WholeTerms) (es : List (List ℕ × ℕ)) (q : IsPartition next) (may : AllMayMeet k next product) (most : n ≤ k)
     (enough : (t : Term) → Among t product → (rows t.0 ≤ n) × (min k (rows t.0 + rows next) ≤ n))
@@ -156,8 +158,7 @@ module _ (n k : ℕ) (next : List ℕ) (product : WholeTerms) (es : List (List �
 
     pub product_small : OnOk r (AreSmallCounts (multiplied k next product))
     product_small =
-        on_ok r (fits_agree (λ ν. weighed n (comes_to ν) es) (good_sum n k next product q may most enough) r agree fits)
-        (λ small. multiplied-small k next product q may (fits_in n k _ _ same small))
+        on_ok_weaker r (λ small. multiplied-small k next product q may (fits_in n k _ _ same small)) (fits_agree (λ ν. weighed n (comes_to ν) es) (good_sum n k next product q may most enough) r agree fits)
 
   pub product_past : IsPastSomewhere n (λ ν. weighed n (comes_to ν) es) → Reaches k (2 ^ 127) (multiplied k next product)
   product_past past =

@@ -1,5 +1,5 @@
--- A shape whose columns have no room for the small letters of a content has no good tableau with it.
-use Rattle.std.proofs.Common.{◌≡◌, ℕ, zero, suc, ◌+◌, ◌-◌, ◌<◌, ◌≤◌, ◌⊎◌, inl, inr, nat_le, min, Bool, true, false, cond, List, [], ◌∷◌, length, get_or, refl, sym, ap, ◌∙◌, subst, arith}
+-- If the columns of a skew shape have no room for the small letters of a content (`IsOverfull`), it has no good tableau with this content.
+use Rattle.std.proofs.Common.{◌≡◌, ℕ, zero, suc, ◌+◌, ◌-◌, ◌<◌, ◌≤◌, ◌⊎◌, inl, inr, nat_le, min, true, cond, List, [], ◌∷◌, length, get_or, refl, sym, ap, ◌∙◌, subst, arith}
 use Rattle.std.proofs.lemmas.Bool.{cases_lt, lt-ltb, le-ltb}
 use Rattle.std.proofs.lemmas.Int.{ints}
 use Rattle.sym_model.specs.Sum.{Among}
@@ -14,8 +14,10 @@ use Rattle.schur_laws.proofs.GoodTableaux.{IsTableau, letters_up_to}
 use Rattle.schur_laws.proofs.Duality.{counted, counted_tells, counted_by_columns}
 use Rattle.schur_laws.proofs.ProductCounts.{product_by_shape, product_exchanged}
 use Rattle.lr_product.specs.LetterRoom.{room_in_row, letter_room, letters_within, IsOverfull}
+use Rattle.sym_model.proofs.Conjugates.{one_at_most}
+use Rattle.std.proofs.lemmas.List.{get_or_past}
 
--- ---- sums over ranges of numbers
+-- ---- sums of f(i) over ranges of numbers (`add_up`)
 
 add_up-plus : (f g : ℕ → ℕ) (a k : ℕ) → add_up (λ i. f i + g i) a k ≡ add_up f a k + add_up g a k
 add_up-plus f g a zero = omega arith
@@ -31,21 +33,17 @@ add_up-exchange f a m b (suc k) =
     ap (λ n. add_up (f b) a m + n) (add_up-exchange f a m (suc b) k)
     ∙ sym (add_up-plus (f b) (λ r. add_up (λ i. f i r) (suc b) k) a m)
 
--- ---- the small letters in the rows of a tableau
+-- ---- the letters from 1 to k in the rows of a tableau
 
 up_to_most : (k : ℕ) (w : List ℕ) → up_to_letter k w ≤ length w
 up_to_most k [] = omega arith
 up_to_most k (a ∷ w) = by (cases_lt k a) (up_to_most k w)
   where
-    one : (t : Bool) → cond {A = ℕ} t 1 0 ≤ 1
-    one true = omega arith
-    one false = omega arith
-
     by : (k < a) ⊎ (a ≤ k) → up_to_letter k w ≤ length w → cond {A = ℕ} (nat_le a k) 1 0 + up_to_letter k w ≤ suc (length w)
-    by l e = let o = one (nat_le a k) in omega arith
+    by l e = let o = one_at_most (nat_le a k) in omega arith
 
 module _ (n : ℕ) (ν λ' μ : List ℕ) (P : List (List ℕ)) (T : IsTableau n [] ν λ' μ P) where
-  -- row k + r has at most λ'_r letters from 1 to k
+  -- row k + r of the tableau P has at most λ'_r letters from 1 to k
   below : (k r s : ℕ) → s ≡ k + r → up_to_letter k (row P s) ≤ get_or λ' r 0
   below zero r s e =
       let d : s ≡ r = omega arith in
@@ -83,17 +81,13 @@ module _ (n : ℕ) (ν λ' μ : List ℕ) (P : List (List ℕ)) (T : IsTableau n
 
   letters_most : (k : ℕ) → letters_within μ k ≤ letter_room k ν λ' (length ν)
   letters_most k =
-      let a = add_up-most (λ i. get_or μ i 0) (λ i. add_up (λ r. times_in (suc i) (row P r)) 0 (length P)) 0 k (λ i. let e = T.sums i in let z : get_or {A = ℕ} [] i 0 ≡ 0 = nothing i in omega arith) in
+      let a = add_up-most (λ i. get_or μ i 0) (λ i. add_up (λ r. times_in (suc i) (row P r)) 0 (length P)) 0 k (λ i. let e = T.sums i in let z : get_or {A = ℕ} [] i 0 ≡ 0 = get_or_past {X = ℕ} [] i 0 (omega arith) in omega arith) in
       let b = add_up-exchange (λ i r. times_in (suc i) (row P r)) 0 (length P) 0 k in
       let c = add_up-most (λ r. add_up (λ i. times_in (suc i) (row P r)) 0 k) (room_in_row k ν λ') 0 (length P) (row_most k) in
       let d : letter_room k ν λ' (length P) ≡ letter_room k ν λ' (length ν) = ap (letter_room k ν λ') T.size in
       omega arith
-    where
-      nothing : (i : ℕ) → get_or {A = ℕ} [] i 0 ≡ 0
-      nothing zero = omega arith
-      nothing (suc i) = omega arith
 
--- ---- the room with one more row, or for one more letter
+-- ---- the loops of letter_room.rt: one more row, and one more letter
 
 pub room_next : (k : ℕ) (outer inner : List ℕ) (row room next : ℕ) → room ≡ letter_room k outer inner row → next ≡ room_in_row k outer inner row → room + next ≡ letter_room k outer inner (row + 1)
 room_next k outer inner row room next e f =
@@ -113,7 +107,7 @@ letters_next content at letters next e f =
     let u = ap (λ i. get_or content i 0) z in
     omega arith
 
--- if there is room for the letters up to each k ≤ at, and up to at + 1, there is for each k ≤ at + 1
+-- if outer/inner has room for the letters of the content from 1 to k for each k ≤ at, and for k = at + 1, it has room for each k ≤ at + 1
 pub enough_next : (outer inner content : List ℕ) (at : ℕ) → ((k : ℕ) → k ≤ at → letters_within content k ≤ letter_room k outer inner (length outer))
     → letters_within content (at + 1) ≤ letter_room (at + 1) outer inner (length outer)
     → (k : ℕ) → k ≤ at + 1 → letters_within content k ≤ letter_room k outer inner (length outer)
@@ -123,7 +117,7 @@ enough_next outer inner content at h here k l = by (cases_lt k (at + 1))
     by (inl m) = h k (omega arith)
     by (inr m) = let e : at + 1 ≡ k = omega arith in subst (λ j. letters_within content j ≤ letter_room j outer inner (length outer)) e here
 
--- ---- without room for the letters the count is 0
+-- ---- if `IsOverfull` holds for a skew shape and a content, the count of good tableaux is 0
 
 pub no_room : (ν λ' μ : List ℕ) → IsPartition λ' → IsPartition μ → IsPartition ν → contains ν λ' ≡ true → IsOverfull ν λ' μ → product_count (rows ν) λ' μ ν ≡ 0
 no_room ν λ' μ p q r h over =
@@ -140,10 +134,10 @@ no_room ν λ' μ p q r h over =
         let g = over.2 in
         absurd (omega arith)
 
--- if a, b and c are the lists outer, inner and content, `IsOverfull` holds of these if it holds of a, b and c
+-- if a, b and c are equal to outer, inner and content, and `IsOverfull a b c` holds, so does `IsOverfull outer inner content`
 pub overfull_tells : (outer inner content a b c : List ℕ) → a ≡ outer → b ≡ inner → c ≡ content → IsOverfull a b c → IsOverfull outer inner content
 overfull_tells outer inner content a b c e f g h = subst (λ x. IsOverfull x inner content) e (subst (λ y. IsOverfull a y content) f (subst (λ z. IsOverfull a b z) g h))
 
--- if `inner` and the content are exchanged, a shape without room has no good tableau either
+-- if μ lies inside ν, and the skew shape ν/μ has no room for the small letters of the content λ', the count of ν in the product of λ' and μ is 0
 pub no_room_exchanged : (ν λ' μ : List ℕ) → IsPartition λ' → IsPartition μ → IsPartition ν → contains ν μ ≡ true → IsOverfull ν μ λ' → product_count (rows ν) λ' μ ν ≡ 0
 no_room_exchanged ν λ' μ p q r h over = product_exchanged λ' μ ν p q r ∙ no_room ν μ λ' q p r h over

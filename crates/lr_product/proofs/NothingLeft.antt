@@ -1,4 +1,4 @@
--- The product is 0 in k variables if a factor has more than k rows.
+-- If a factor has more than k rows, the product in k variables is 0.
 use Rattle.std.proofs.Common.{◌≡◌, ◌<◌, ◌≤◌, ◌⊎◌, inl, inr, ℕ, max, List, [], ◌∷◌, length, map, true, false, sym, ◌∙◌, ap, subst, arith, ℤ, pos, Option, Some, None}
 use Rattle.std.specs.Prelude.{IfSome}
 use Rattle.std.proofs.lemmas.Bool.{cases_lt, cases_Bool, both_ways}
@@ -20,7 +20,7 @@ use Rattle.sym_model.specs.PastLimit.{HasPast, IsCoefficientOfProduct}
 use Rattle.alternant_laws.proofs.ClassicalProducts.{classical_product-coefficient, classical_product-term}
 use Rattle.product_laws.proofs.Expanding.{product_nothing}
 use Rattle.product_laws.specs.FactorSteps.{HasLong}
-use Rattle.lr_product.proofs.GoodCounts.{no_label}
+use Rattle.product_laws.proofs.CountLists.{no_label}
 
 among_rows : (factors : List (List ℕ)) (parts : List ℕ) → Among parts factors → rows parts ≤ size (map rows factors)
 among_rows [] parts m = absurd m

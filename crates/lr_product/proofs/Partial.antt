@@ -1,5 +1,5 @@
--- The product of the first factors as a list, and the product with one more factor.
-use Rattle.std.proofs.Common.{◌≡◌, ◌≤◌, ◌+◌, ◌^◌, inl, inr, ℕ, zero, suc, List, [], ◌∷◌, ◌++◌, append-nil, map, take, drop, refl, sym, ◌∙◌, ap, subst, arith, ℤ, pos, negsuc, ◌*ℤ◌, Option, Some, None}
+-- The list of the product of the first i factors, and the step from i to i + 1 factors.
+use Rattle.std.proofs.Common.{◌≡◌, ◌≤◌, ◌+◌, ◌^◌, inl, inr, ℕ, zero, suc, List, [], ◌∷◌, ◌++◌, append-nil, map, take, drop, refl, sym, ◌∙◌, ap, subst, arith, ℤ, pos, ◌*ℤ◌, Option, Some, None}
 use Rattle.std.specs.Prelude.{◌≤ℤ◌, slice_get, nat_eq}
 use Rattle.std.specs.Cmp.Lexicographic.{pointwise}
 use Rattle.std.proofs.lemmas.Bool.{and_parts}
@@ -14,7 +14,6 @@ use Rattle.sym_model.specs.Canonical.{is_label}
 use Rattle.sym_model.specs.Expansion.{Fraction}
 use Rattle.sym_model.specs.WholeTerms.{WholeTerms, as_fractions}
 use Rattle.sym_model.specs.Products.{schur_product, ExpandsInSchurs, classical_product}
-use Rattle.sym_model.proofs.Ring.{one-product}
 use Rattle.sym_model.proofs.Sums.{total_ext, Among-append_left, Among-append_right}
 use Rattle.sym_model.proofs.Polynomials.{pair_each, pair_scale, pair_determined, same_from_pair, Same_sym, Same_trans}
 use Rattle.sym_model.proofs.WholeTerms.{represents-whole}
@@ -24,7 +23,7 @@ use Rattle.linear_combinations.proofs.LowestTerms.{not_zero-is_reduced}
 use Rattle.linear_combinations.proofs.Totals.{term-among}
 use Rattle.alternant_laws.proofs.ClassicalProducts.{classical_product-term}
 use Rattle.product_laws.specs.FactorSteps.{multiplied}
-use Rattle.product_laws.proofs.ManyFactors.{classical_step}
+use Rattle.product_laws.proofs.ManyFactors.{classical_step, are_more}
 use Rattle.product_laws.specs.CountedProducts.{IsShownIn, Reaches}
 use Rattle.product_laws.proofs.CountLists.{counts-coefficient, some_term}
 use Rattle.product_laws.proofs.SomeLabel.{are_two}
@@ -32,8 +31,11 @@ use Rattle.product_laws.proofs.Growing.{counted-all, label_size, reaches_more}
 use Rattle.product_laws.proofs.Expanding.{expands_whole}
 use Rattle.partitions.specs.FactorList.{AreFactors}
 use Rattle.lr_product.specs.ProductOfFactors.{AreSmallCounts, AllMayMeet}
+use Rattle.sym_model.proofs.Integers.{at_least_one}
+use Rattle.product_laws.proofs.FusionSteps.{scale_one}
+use Rattle.sym_model.proofs.Parts.{size-map_push}
 
--- ---- two lists with the same coefficients
+-- ---- lists with the same coefficients
 
 small_same : (xs ys : WholeTerms) → Same xs ys → AreSmallCounts xs → AreSmallCounts ys
 small_same xs ys e small parts = let s = small parts in let x = e parts in (omega (arith, ints, s.0), omega (arith, ints, s.1))
@@ -41,17 +43,18 @@ small_same xs ys e small parts = let s = small parts in let x = e parts in (omeg
 Reaches-same : (k c : ℕ) (xs ys : WholeTerms) → Same xs ys → Reaches k c xs → Reaches k c ys
 Reaches-same k c xs ys e r = record { parts = r.parts; partition = r.partition; within = r.within; reaches = let x = e r.parts in let g = r.reaches in omega (arith, ints) }
 
--- ---- the product of the first factors
+-- ---- the conditions on the list of the product of the first factors
 
--- the list is the classical product of these factors in k variables, with coefficients from 0 to 2^127 - 1, and expands
--- their product for each given number of variables for which k variables suffice (`IsShownIn`)
+-- the list has the coefficients of the classical product of the factors `front` in k variables; these coefficients are from 0 to 2^127 - 1; and the
+-- list expands the product of the factors for each given number of variables for which k variables suffice (`IsShownIn`)
 pub record IsPartial (k : ℕ) (front : List (List ℕ)) (product : WholeTerms) : Type 0 where
   pub table : IsCombination (pointwise nat_eq) is_label whole product
   pub classical : Same product (classical_product k front)
   pub small : AreSmallCounts (classical_product k front)
   pub expands : (given : Option ℕ) → IsShownIn given (size (map rows front)) k → ExpandsInSchurs given (schur_product front) (as_fractions product)
 
--- the properties of a term of the classical product of the factors `front`
+-- the properties of a term t of the classical product of the factors `front` in k variables: its coefficient is positive, and its label is a
+-- partition that has at most k rows and no more rows than all factors together, and whose size is the sum of the sizes of the factors
 pub record IsTermOf (k : ℕ) (front : List (List ℕ)) (t : Term) : Type 0 where
   pub partition : IsPartition t.0
   pub few : rows t.0 ≤ k
@@ -79,20 +82,7 @@ term_of k first rest product p is e t m =
     not_zero : (u : Term) → Among u product → u.1 ≡ pos 0 → ⊥
     not_zero u n z = not_zero-is_reduced (whole u.1) (and_parts _ (is_label u.0) (term-among is_label whole product is.proper u n)).0 (ap whole z)
 
-    at_least_one : (z : ℤ) → pos 0 ≤ℤ z → (z ≡ pos 0 → ⊥) → pos 1 ≤ℤ z
-    at_least_one (pos zero) g n = absurd (n refl)
-    at_least_one (pos (suc a)) g n = omega (arith, ints)
-    at_least_one (negsuc a) g n = absurd (omega (arith, ints))
-
--- ---- the product with one more factor
-
-pub rows-push : (front : List (List ℕ)) (next : List ℕ) → size (map rows (front ++ next ∷ [])) ≡ size (map rows front) + rows next
-rows-push [] next = omega arith
-rows-push (parts ∷ front) next = let h = rows-push front next in omega arith
-
-pub cells-push : (front : List (List ℕ)) (next : List ℕ) → size (map size (front ++ next ∷ [])) ≡ size (map size front) + size next
-cells-push [] next = omega arith
-cells-push (parts ∷ front) next = let h = cells-push front next in omega arith
+-- ---- the product of the factors `front` and one more factor
 
 pub may_meet : (k : ℕ) (first : List ℕ) (rest : List (List ℕ)) (next : List ℕ) (product : WholeTerms) → ArePartitions (first ∷ rest) → IsPartial k (first ∷ rest) product
     → size (map size (first ∷ rest)) + size next ≤ 4096 → AllMayMeet k next product
@@ -116,7 +106,8 @@ multiplied_respects k next xs ys e =
         ∙ total_ext (λ (t : Term). pair (scale t.1 (classical_product k (t.0 ∷ next ∷ []))) φ) (λ (t : Term). t.1 *ℤ pair (classical_product k (t.0 ∷ next ∷ [])) φ)
         (λ t. pair_scale t.1 (classical_product k (t.0 ∷ next ∷ [])) φ) terms
 
--- the sum of the products of the terms and the next factor is the product with this factor
+-- if `product` is the list for the factors `front` (`IsPartial`), the product of its terms and `next` has the coefficients of the classical product
+-- of `front` and `next`
 pub step_same : (k : ℕ) (front : List (List ℕ)) (next : List ℕ) (product : WholeTerms) → ArePartitions front → IsPartition next → IsPartial k front product
     → Same (multiplied k next product) (classical_product k (front ++ next ∷ []))
 step_same k front next product p q h =
@@ -124,13 +115,7 @@ step_same k front next product p q h =
     (multiplied_respects k next product (classical_product k front) h.classical)
     (Same_sym (classical_product k (front ++ next ∷ [])) (multiplied k next (classical_product k front)) (classical_step k front next p q))
 
-are_more : (front : List (List ℕ)) (next : List ℕ) → ArePartitions front → IsPartition next → ArePartitions (front ++ next ∷ [])
-are_more [] next p q parts (inl e) = subst IsPartition (sym e) q
-are_more [] next p q parts (inr m) = absurd m
-are_more (x ∷ front) next p q parts (inl e) = p parts (inl e)
-are_more (x ∷ front) next p q parts (inr m) = are_more front next (λ y n. p y (inr n)) q parts m
-
--- if k variables suffice for a product with row bound b ≥ a (`IsShownIn`), they suffice for one with row bound a
+-- if a ≤ b, and k variables suffice for products with row bound b (`IsShownIn`), they suffice for products with row bound a
 shown_before : (given : Option ℕ) (a b k : ℕ) → a ≤ b → IsShownIn given b k → IsShownIn given a k
 shown_before None a b k h s = omega arith
 shown_before (Some n) a b k h s = s
@@ -147,7 +132,7 @@ partial_next k first rest next product after p q h is e small = record {
   classical = classical;
   small = small_same (multiplied k next product) (classical_product k ((first ∷ rest) ++ next ∷ [])) (step_same k (first ∷ rest) next product p q h) small;
   expands = λ given shown.
-      let wide : IsShownIn given (size (map rows (first ∷ rest)) + rows next) k = subst (λ (n : ℕ). IsShownIn given n k) (rows-push (first ∷ rest) next) shown in
+      let wide : IsShownIn given (size (map rows (first ∷ rest)) + rows next) k = subst (λ (n : ℕ). IsShownIn given n k) (size-map_push rows (first ∷ rest) next) shown in
       expands_whole given k (first ∷ rest) next product after q
       (λ t m. let u = term_of k first rest product p h.table h.classical t m in (u.partition, u.few, shown_at given (rows t.0) (size (map rows (first ∷ rest))) (rows next) k u.row_bound wide))
       (λ t m. (term_of k first (rest ++ next ∷ []) after (are_more (first ∷ rest) next p q) is classical t m).few)
@@ -160,14 +145,10 @@ partial_next k first rest next product after p q h is e small = record {
         Same_trans after (multiplied k next product) (classical_product k ((first ∷ rest) ++ next ∷ [])) e
         (step_same k (first ∷ rest) next product p q h)
 
--- ---- the product of the first two factors
+-- ---- the list of the product of the first two factors
 
 once_itself : (f : Poly) → Same (scale (pos 1) f ++ []) f
 once_itself f α = ap (λ (l : Poly). coefficient l α) (append-nil (scale (pos 1) f) ∙ scale_one f)
-  where
-    scale_one : (g : Poly) → scale (pos 1) g ≡ g
-    scale_one [] = refl
-    scale_one (t ∷ g) = let make : ℤ → Poly → Poly = λ z l. (t.0, z) ∷ l in ap (λ z. make z (scale (pos 1) g)) (one-product t.1) ∙ ap (λ l. make t.1 l) (scale_one g)
 
 expands_one : (given : Option ℕ) (k : ℕ) (parts : List ℕ) → rows parts ≤ k → IsShownIn given (rows parts) k → ExpandsInSchurs given (schur_product (parts ∷ [])) ((parts, (pos 1, 1)) ∷ [])
 expands_one None k parts h s = λ n. represents-whole (λ label. schur label n) ((parts, (pos 1, 1)) ∷ []) (schur parts n) (refl, tt) (once_itself (schur parts n))
@@ -210,7 +191,7 @@ partial_two k left right product p q h is e small = record {
         (subst IsPartition (sym is) p, subst (λ l. rows l ≤ k) (sym is) h, subst (λ (l : List ℕ). IsShownIn given (rows l + rows right) k) (sym is) s)
     label t (inr m) given s = absurd m
 
--- ---- the factors by their indices
+-- ---- the list of the factors by index: its first i and its first i + 1 factors
 
 pub take_next : (xs : List (List ℕ)) (i : ℕ) (x : List ℕ) → slice_get xs i ≡ Some x → take (i + 1) xs ≡ take i xs ++ x ∷ []
 take_next [] i x h = cc
@@ -224,7 +205,7 @@ among_at [] i x h = cc
 among_at (y ∷ ys) zero x h = let e : y ≡ x = cc in inl (sym e)
 among_at (y ∷ ys) (suc i) x h = inr (among_at ys i x h)
 
-among_taken : (i : ℕ) (xs : List (List ℕ)) (x : List ℕ) → Among x (take i xs) → Among x xs
+pub among_taken : {A : Type 0} (i : ℕ) (xs : List A) (x : A) → Among x (take i xs) → Among x xs
 among_taken i xs x m = subst (λ l. Among x l) (take-append-drop i xs) (Among-append_left x (take i xs) (drop i xs) m)
 
 among_dropped : (i : ℕ) (xs : List (List ℕ)) (x : List ℕ) → Among x (drop i xs) → Among x xs
@@ -234,7 +215,13 @@ cells_within : (xs ys : List (List ℕ)) → size (map size xs) ≤ size (map si
 cells_within [] ys = omega arith
 cells_within (x ∷ xs) ys = let h = cells_within xs ys in omega arith
 
--- each term of the product of the factors before `next` satisfies `MayMeet` for this factor
+-- if a list has an entry at the index j ≥ 1, the list of its first j entries is not empty
+some_before : (j : ℕ) (ys : List (List ℕ)) (y : List ℕ) → 1 ≤ j → slice_get ys j ≡ Some y → take j ys ≡ [] → ⊥
+some_before zero ys y l s d = omega arith
+some_before (suc j) [] y l s d = cc
+some_before (suc j) (z ∷ ys) y l s d = cc
+
+-- if `next` is the factor at the index i, each term of the list for the first i factors satisfies `MayMeet` for `next`
 pub may_meet_at : (k i : ℕ) (factors : List (List ℕ)) (next : List ℕ) (product : WholeTerms) → AreFactors factors → 1 ≤ i → slice_get factors i ≡ Some next
     → IsPartial k (take i factors) product → AllMayMeet k next product
 may_meet_at k i factors next product f one at h = by (take i factors) refl h
@@ -244,39 +231,30 @@ may_meet_at k i factors next product f one at h = by (take i factors) refl h
         let all : factors ≡ (xs ++ next ∷ []) ++ drop (i + 1) factors =
         sym (take-append-drop (i + 1) factors) ∙ ap (λ l. l ++ drop (i + 1) factors) (take_next factors i next at ∙ ap (λ l. l ++ next ∷ []) e) in
         let a = cells_within (xs ++ next ∷ []) (drop (i + 1) factors) in
-        let c = cells-push xs next in
+        let c = size-map_push size xs next in
         let g : size (map size ((xs ++ next ∷ []) ++ drop (i + 1) factors)) ≤ 4096 = subst (λ l. size (map size l) ≤ 4096) all f.small.cells in
         omega arith
 
     by : (xs : List (List ℕ)) → take i factors ≡ xs → IsPartial k xs product → AllMayMeet k next product
-    by [] e g = absurd (none i factors next one at e)
-      where
-        none : (j : ℕ) (ys : List (List ℕ)) (y : List ℕ) → 1 ≤ j → slice_get ys j ≡ Some y → take j ys ≡ [] → ⊥
-        none zero ys y l s d = omega arith
-        none (suc j) [] y l s d = cc
-        none (suc j) (z ∷ ys) y l s d = cc
+    by [] e g = absurd (some_before i factors next one at e)
     by (first ∷ rest) e g =
         may_meet k first rest next product (λ x m. f.small.partitions x (among_taken i factors x (subst (λ l. Among x l) (sym e) m))) g (within (first ∷ rest) e)
 
--- multiplying the product of the first i factors by the next one gives that of the first i + 1
+-- if `product` is the list for the first i factors (`IsPartial`), and `after` has the coefficients of its product with the next factor, all from 0 to
+-- 2^127 - 1, then `after` is the list for the first i + 1 factors
 pub partial_at : (k i : ℕ) (factors : List (List ℕ)) (next : List ℕ) (product after : WholeTerms) → AreFactors factors → 1 ≤ i → slice_get factors i ≡ Some next
     → IsPartial k (take i factors) product → IsCombination (pointwise nat_eq) is_label whole after
     → Same after (multiplied k next product) → AreSmallCounts (multiplied k next product) → IsPartial k (take (i + 1) factors) after
 partial_at k i factors next product after f one at h is e small = by (take i factors) refl h
   where
     by : (xs : List (List ℕ)) → take i factors ≡ xs → IsPartial k xs product → IsPartial k (take (i + 1) factors) after
-    by [] d g = absurd (none i factors next one at d)
-      where
-        none : (j : ℕ) (ys : List (List ℕ)) (y : List ℕ) → 1 ≤ j → slice_get ys j ≡ Some y → take j ys ≡ [] → ⊥
-        none zero ys y l s d = omega arith
-        none (suc j) [] y l s d = cc
-        none (suc j) (z ∷ ys) y l s d = cc
+    by [] d g = absurd (some_before i factors next one at d)
     by (first ∷ rest) d g =
         subst (λ l. IsPartial k l after) (sym (take_next factors i next at ∙ ap (λ l. l ++ next ∷ []) d))
         (partial_next k first rest next product after (λ x m. f.small.partitions x (among_taken i factors x (subst (λ l. Among x l) (sym d) m)))
         (f.small.partitions next (among_at factors i next at)) g is e small)
 
--- if a coefficient of the product with the next factor is 2^127 or more, so is one of the product of all factors
+-- if each factor has at most k rows, and the product of the first i + 1 factors has a coefficient of 2^127 or more, so has the product of all factors
 pub large_at : (k i : ℕ) (factors : List (List ℕ)) (next : List ℕ) (product : WholeTerms) → AreFactors factors → 1 ≤ i → slice_get factors i ≡ Some next
     → ((parts : List ℕ) → Among parts factors → rows parts ≤ k) → IsPartial k (take i factors) product
     → Reaches k (2 ^ 127) (multiplied k next product) → Reaches k (2 ^ 127) (classical_product k factors)
@@ -286,12 +264,7 @@ large_at k i factors next product f one at few h r = by (take i factors) refl h
     are j x m = f.small.partitions x (among_taken j factors x m)
 
     by : (xs : List (List ℕ)) → take i factors ≡ xs → IsPartial k xs product → Reaches k (2 ^ 127) (classical_product k factors)
-    by [] d g = absurd (none i factors next one at d)
-      where
-        none : (j : ℕ) (ys : List (List ℕ)) (y : List ℕ) → 1 ≤ j → slice_get ys j ≡ Some y → take j ys ≡ [] → ⊥
-        none zero ys y l s d = omega arith
-        none (suc j) [] y l s d = cc
-        none (suc j) (z ∷ ys) y l s d = cc
+    by [] d g = absurd (some_before i factors next one at d)
     by (first ∷ rest) d g =
         let are_front : ArePartitions (first ∷ rest) = subst (λ l. ArePartitions l) d (are i) in
         let q = f.small.partitions next (among_at factors i next at) in
@@ -302,7 +275,7 @@ large_at k i factors next product f one at few h r = by (take i factors) refl h
         (reaches_more k (2 ^ 127) first (rest ++ next ∷ []) (drop (i + 1) factors) (are_more (first ∷ rest) next are_front q)
         (λ x m. f.small.partitions x (among_dropped (i + 1) factors x m)) (λ x m. few x (among_dropped (i + 1) factors x m)) (omega arith) here)
 
--- ---- the first two factors of the list
+-- ---- the first two factors of the list of factors
 
 pub record BeginWith (factors : List (List ℕ)) (left right : List ℕ) : Type 0 where
   pub taken : take 2 factors ≡ left ∷ right ∷ []
@@ -323,7 +296,7 @@ begin_with (x ∷ y ∷ factors) left right f a b =
       right_among = inr (inl (sym e));
     }
 
--- if a coefficient of the product of the first two factors is 2^127 or more, so is one of the product of all factors
+-- if each factor has at most k rows, and the product of the first two factors has a coefficient of 2^127 or more, so has the product of all factors
 pub large_first : (k : ℕ) (factors : List (List ℕ)) (left right : List ℕ) → AreFactors factors → BeginWith factors left right → ((parts : List ℕ) → Among parts factors → rows parts ≤ k)
     → Reaches k (2 ^ 127) (classical_product k (left ∷ right ∷ [])) → Reaches k (2 ^ 127) (classical_product k factors)
 large_first k factors left right f b few r =
@@ -332,7 +305,8 @@ large_first k factors left right f b few r =
     (reaches_more k (2 ^ 127) left (right ∷ []) (drop 2 factors) (are_two left right (f.small.partitions left b.left_among) (f.small.partitions right b.right_among))
     (λ x m. f.small.partitions x (among_dropped 2 factors x m)) (λ x m. few x (among_dropped 2 factors x m)) (omega arith) r)
 
--- a table that is the classical product of the first two factors satisfies `IsPartial` for them
+-- if each factor has at most k rows, and a table of terms has the coefficients of the classical product of the first two factors, all at most 2^127 -
+-- 1, it satisfies `IsPartial` for these factors
 pub partial_first : (k : ℕ) (factors : List (List ℕ)) (left right : List ℕ) (product : WholeTerms) → AreFactors factors → BeginWith factors left right
     → ((parts : List ℕ) → Among parts factors → rows parts ≤ k) → IsCombination (pointwise nat_eq) is_label whole product
     → Same product (classical_product k (left ∷ right ∷ [])) → AreSmallCounts (classical_product k (left ∷ right ∷ [])) → IsPartial k (take 2 factors) product

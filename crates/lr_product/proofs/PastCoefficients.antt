@@ -1,4 +1,4 @@
--- Coefficients of a product that exceed 2^127 - 1, by its list and by its definition.
+-- Coefficients of a product that exceed 2^127 - 1: in its list of terms, and by its definition.
 use Rattle.std.proofs.Common.{◌≡◌, ◌≤◌, ◌<◌, ◌^◌, ◌⊎◌, inl, inr, ℕ, max, List, [], ◌∷◌, map, refl, sym, ◌∙◌, ap, subst, arith, ℤ, pos, negsuc, Option, Some, None}
 use Rattle.std.specs.Prelude.{◌≤ℤ◌, ◌<ℤ◌, IsTrue}
 use Rattle.std.specs.Option.{unwrap_or}
@@ -22,8 +22,9 @@ use Rattle.partitions.specs.FactorList.{AreFactors}
 use Rattle.lr_product.specs.ProductOfFactors.{AreSmallCounts}
 use Rattle.lr_product.specs.Counts.{IsPastSomewhere}
 use Rattle.lr_product.proofs.GoodCounts.{product_counts, has_past, has_none_past}
+use Rattle.std.proofs.lemmas.List.{nil_from_length}
 
--- some Schur coefficient of the product in k variables exceeds 2^127 - 1
+-- there is a Schur coefficient of the product of the factors in k variables that exceeds 2^127 - 1
 abbrev pub IsPastIn : ℕ → List (List ℕ) → Type 0
 IsPastIn k factors = (c : ℤ) × IsSchurCoefficientOf (schur_product factors k) k c × IsTrue (is_past c)
 
@@ -75,7 +76,7 @@ not_past_small k first rest p h parts =
     below (pos n) e = subst (λ (z : ℤ). z <ℤ pos (2 ^ 127)) (sym e) (by n e (cases_lt n (2 ^ 127)))
     below (negsuc n) e = omega (arith, ints)
 
--- ---- two factors, by the counts of good tableaux
+-- ---- products of two factors, with counts of good tableaux
 
 pub counts_reach : (k : ℕ) (left right : List ℕ) → IsPartition left → IsPartition right → IsPastSomewhere k (product_count k left right)
     → Reaches k (2 ^ 127) (classical_product k (left ∷ right ∷ []))
@@ -88,7 +89,7 @@ counts_small k left right p q fits =
     not_past_small k left (right ∷ []) (are_two left right p q)
     (has_none_past k (schur_product (left ∷ right ∷ []) k) (product_count k left right) (product_counts k left right p q) fits)
 
--- ---- the product of factors without rows is 1
+-- ---- the product of factors that are all empty is 1
 
 one_in_none : (factors : List (List ℕ)) → size (map rows factors) ≡ 0 → schur_product factors 0 ≡ ([], pos 1) ∷ []
 one_in_none [] e = refl
@@ -102,15 +103,11 @@ one_in_one ([] ∷ []) e = refl
 one_in_one ([] ∷ next ∷ factors) e = ap (λ f. times (schur [] 1) f) (one_in_one (next ∷ factors) (omega arith))
 one_in_one ((a ∷ parts) ∷ factors) e = absurd (omega arith)
 
-no_rows : (parts : List ℕ) → rows parts ≤ 0 → parts ≡ []
-no_rows [] h = refl
-no_rows (a ∷ parts) h = absurd (omega arith)
-
 none_past : (factors : List (List ℕ)) → size (map rows factors) ≡ 0 → IsPastIn 0 factors → ⊥
 none_past factors e h =
     let s = h.1 in
     let value : h.0 ≡ pos 1 =
-    s.is ∙ ap (λ parts. schur_coefficient 0 parts (schur_product factors 0)) (no_rows s.parts s.within)
+    s.is ∙ ap (λ parts. schur_coefficient 0 parts (schur_product factors 0)) (nil_from_length s.parts (let few = s.within in omega arith))
     ∙ ap (λ f. schur_coefficient 0 [] f) (one_in_none factors e) in
     let l = is_past-tells h.0 h.2 in
     omega (arith, ints)
@@ -121,14 +118,14 @@ none_reached first rest p e r =
     let g = r.reaches in
     let found = some_term terms r.parts (λ z. omega (arith, ints)) in
     let few = (counted-all 1 first rest p).row_bound found.0 found.1 in
-    let none : r.parts ≡ [] = sym found.2 ∙ no_rows found.0.0 (omega arith) in
+    let none : r.parts ≡ [] = sym found.2 ∙ nil_from_length found.0.0 (omega arith) in
     let value : coefficient terms r.parts ≡ pos 1 =
     classical_product-coefficient 1 (first ∷ rest) r.parts r.partition r.within
     ∙ ap (λ parts. schur_coefficient 1 parts (schur_product (first ∷ rest) 1)) none
     ∙ ap (λ f. schur_coefficient 1 [] f) (one_in_one (first ∷ rest) e) in
     omega (arith, ints)
 
--- ---- a coefficient over 2^127 - 1 of the product in k variables is one of the product that the command asks for
+-- ---- a coefficient over 2^127 - 1 in k variables, as a coefficient of the product in the given number of variables, or in every number
 
 pub past_answer : (given : Option ℕ) (k : ℕ) (first : List ℕ) (rest : List (List ℕ)) → ArePartitions (first ∷ rest)
     → k ≡ unwrap_or given (max (size (map rows (first ∷ rest))) 1) → Reaches k (2 ^ 127) (classical_product k (first ∷ rest)) → HasPast (IsCoefficientOfProduct given (first ∷ rest))

@@ -1,4 +1,5 @@
--- The states of a table by their indices: their sums, and the list of terms that they make.
+-- The list of pairs that sorted_pairs.rt makes: the entries of a table in the order of a list of sorted indices, and the list of terms made from
+-- them.
 use Rattle.std.proofs.Common.{◌≡◌, ℕ, zero, suc, ◌+◌, ◌*◌, ◌^◌, ◌<◌, ◌≤◌, ◌⊎◌, inl, inr, Bool, true, false, cond, List, [], ◌∷◌, ◌++◌, length, take, drop, refl, sym, ap, ◌∙◌, subst, arith, ℤ, pos, ◌+ℤ◌}
 use Rattle.std.specs.Prelude.{Some, None, slice_get, nat_eq, ◌<ℤ◌}
 use Rattle.std.specs.Cmp.Lexicographic.{pointwise}
@@ -54,14 +55,15 @@ past_at_end [] (suc at) h = refl
 past_at_end (e ∷ es) zero h = absurd (omega arith)
 past_at_end (e ∷ es) (suc at) h = past_at_end es at (omega arith)
 
--- the sum over the indices up to `at` is that over the indices before it plus the summand at `at`
+-- let the sum of `count_at` over the indices `places` be the weighed sum of the first `at` entries: if `at` is appended to `places`, the sum of
+-- `count_at` becomes the weighed sum of the first at + 1 entries
 pub sums_next : (n : ℕ) (es : List (List ℕ × ℕ)) (f : List ℕ → List ℕ → ℕ) (at : ℕ) (places : List ℕ) → at < length es → lists.sum_by (count_at n es f) places ≡ weighed n f (take at es)
     → lists.sum_by (count_at n es f) (places ++ at ∷ []) ≡ weighed n f (take (at + 1) es)
 sums_next n es f at places h e =
     sum_by_push (count_at n es f) places at ∙ ap (λ s. s + count_at n es f at) e
     ∙ sym (weighed-take n f es at (entry_at es at).0 (entry_at es at).1 (here_at es at h))
 
--- ---- the term that an index adds
+-- ---- the term that is added for one index
 
 pub nothing_counted : (n : ℕ) (es : List (List ℕ × ℕ)) (f : List ℕ → List ℕ → ℕ) (at : ℕ) (z : ℤ) → (entry_at es at).1 ≡ 0 → z ≡ z +ℤ pos (count_at n es f at)
 nothing_counted n es f at z e =
@@ -100,7 +102,7 @@ pushed_small old new label z w e c l small t m = by (among_pushed old (label, z)
     by (inl k) = small t k
     by (inr d) = let q : t.1 ≡ z = ap (λ (x : List ℕ × ℤ). x.1) d in omega (arith, ints)
 
--- ---- the table has a count over 2^127 - 1
+-- ---- tables with a count of 2^127 or more
 
 pub reached_at : (n : ℕ) (es : List (List ℕ × ℕ)) (i : ℕ) (key : List ℕ) (w : ℕ) → weighed n (unreached n 4096) es ≡ 0 → slice_get es i ≡ Some (key, w) → 0 < w → IsReached n 4096 (take n key)
 reached_at n es i key w z h some = reached-tells n 4096 (take n key) (drop n key) (weighed-none n (unreached n 4096) es i key w z h some)
@@ -129,9 +131,9 @@ past_at n es at z l = by (cases_lt at (length es))
     by (inl h) = there (here_at es at h)
     by (inr h) = let e = ap (λ (x : List ℕ × ℕ). x.1) (past_at_end es at h) in absurd (omega arith)
 
--- ---- a canonical list is a table of terms
+-- ---- canonical lists as tables of terms
 
-table_of : (terms : WholeTerms) → IsCanonicalList printed_order is_label whole terms → IsCombination (pointwise nat_eq) is_label whole terms
+pub table_of : (terms : WholeTerms) → IsCanonicalList printed_order is_label whole terms → IsCombination (pointwise nat_eq) is_label whole terms
 table_of terms c = record {
   distinct = distinct-ordered printed_order printed_order-total same_partition terms (canonical-ordered printed_order is_label whole printed_order-total.trans terms c);
   proper = (and_parts (is_ordered printed_order terms) _ c).1;

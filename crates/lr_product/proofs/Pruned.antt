@@ -1,4 +1,4 @@
--- Letters that lead to no complete column, and sums that stay decreasing when a number is raised.
+-- Letters after which no column can be completed, and sums that stay weakly decreasing when a number is raised.
 use Rattle.std.proofs.Common.{◌≡◌, ℕ, zero, suc, ◌+◌, ◌-◌, ◌<◌, ◌≤◌, ◌==◌, ◌⊎◌, inl, inr, nat_le, nat_lt, Bool, true, false, cond, ◌&&◌, ◌||◌, List, [], ◌∷◌, ◌++◌, length, take, drop, get_or, length-append, refl, sym, ap, ap₂, ◌∙◌, arith}
 use Rattle.std.proofs.lemmas.Bool.{ne_eqb, lt-leb, le-leb, lt-ltb, le-ltb, cases_lt, and_parts, and_from, or_parts, or_cases, eqb-true, leb-true, leb-false, ltb-true, ltb-false, eqb-false, and_cases}
 use Rattle.sym_model.specs.GoodTableau.{is_falling}
@@ -10,13 +10,9 @@ use Rattle.lr_product.proofs.Ranges.{numbers-ext, range-front}
 use Rattle.sym_model.specs.Sum.{sum_by}
 use Rattle.sym_model.proofs.NumberSums.{sum_by-zero}
 use Rattle.lr_product.proofs.ColumnExtension.{end-within}
+use Rattle.std.proofs.lemmas.List.{get_or_append_left, get_or-take}
 
 -- ---- the numbers of a state after a letter is appended
-
-pub get-append : (s w : List ℕ) (j : ℕ) → j < length s → get_or (s ++ w) j 0 ≡ get_or s j 0
-get-append [] w j h = absurd (omega arith)
-get-append (a ∷ s) w zero h = refl
-get-append (a ∷ s) w (suc j) h = get-append s w j (omega arith)
 
 get-raised_before : (b j : ℕ) (s : List ℕ) → j + 1 < b → get_or (raised b s) j 0 ≡ get_or s j 0
 get-raised_before zero j s h = absurd (omega arith)
@@ -36,14 +32,14 @@ length-marked kept b s = let l = length-append (raised b s) (mark kept b) in let
 pub numbers-zero : (X : ℕ → ℕ) (low k : ℕ) → ((b : ℕ) → low ≤ b → b < low + k → X b ≡ 0) → sum_by X (numbers_from low k) ≡ 0
 numbers-zero X low k e = numbers-ext X (λ b. 0) low k e ∙ sum_by-zero (numbers_from low k)
 
--- a place outside the shape cannot be below a letter, so no column is complete
+-- if the first remaining place is outside the shape and the letter above it is not 0, the column cannot be completed, and the sum `extended` is 0
 none_outside : (kept : Bool) (n : ℕ) (line : List Bool) (right : List ℕ) (above : ℕ) (f : List ℕ → List ℕ → ℕ) (s : List ℕ) → 0 < above → extended kept n (false ∷ line) right above f s ≡ 0
 none_outside kept n line right above f s h =
     ap (λ t. sum_by (λ b. extended kept n line (drop 1 right) b f (raised b s ++ mark kept b)) (numbers_from 0 (cond t 1 0 - 0))) (ne_eqb above 0 (λ e. absurd (omega arith)))
 
--- ---- states that no column completes
+-- ---- states for which the sum `extended` is 0
 
--- f is 0 at every state with a decreasing sum that agrees with s at the places before `above`
+-- f is 0 at every state t whose sum is weakly decreasing and whose first `above` numbers are those of s
 abbrev pub Hopeless : ℕ → (List ℕ → List ℕ → ℕ) → ℕ → List ℕ → Type 0
 Hopeless n f above s = (t : List ℕ) → n ≤ length t → ((j : ℕ) → j < above → get_or t j 0 ≡ get_or s j 0) → cond (is_falling (take n t)) (at_state n f t) 0 ≡ 0
 
@@ -60,7 +56,7 @@ hopeless-zero kept n (true ∷ line) right above f s h k l none =
     (λ t long same. none t long (λ j q. same j (omega arith) ∙ still b j low q)))
   where
     still : (b j : ℕ) → above + 1 ≤ b → j < above → get_or (raised b s ++ mark kept b) j 0 ≡ get_or s j 0
-    still b j low q = get-append (raised b s) (mark kept b) j (let r = length-raised b s in omega arith) ∙ get-raised_before b j s (omega arith)
+    still b j low q = get_or_append_left (raised b s) (mark kept b) 0 j (let r = length-raised b s in omega arith) ∙ get-raised_before b j s (omega arith)
 
 not_falling : (i n : ℕ) (t : List ℕ) → suc i < n → n ≤ length t → get_or t i 0 < get_or t (suc i) 0 → is_falling (take n t) ≡ false
 not_falling i zero t h l g = absurd (omega arith)
@@ -74,12 +70,6 @@ not_falling (suc i) (suc (suc n)) (a ∷ b ∷ t) h l g = by (nat_le b a) (not_f
     by true e = e
     by false e = refl
 
-pub get-take : (i n : ℕ) (t : List ℕ) → i < n → get_or (take n t) i 0 ≡ get_or t i 0
-get-take i zero t h = absurd (omega arith)
-get-take i (suc n) [] h = refl
-get-take zero (suc n) (a ∷ t) h = refl
-get-take (suc i) (suc n) (a ∷ t) h = get-take i n t (omega arith)
-
 pub not_within : (i : ℕ) (ν bound : List ℕ) → i < length bound → get_or bound i 0 < get_or ν i 0 → pass_by_place nat_le ν bound ≡ false
 not_within i [] [] h g = absurd (omega arith)
 not_within i [] (b ∷ bound) h g = absurd (omega arith)
@@ -91,7 +81,8 @@ not_within (suc i) (a ∷ ν) (b ∷ bound) h g = by (nat_le a b) (not_within i 
     by true e = e
     by false e = refl
 
--- a letter leads to no complete column if its number in the sum cannot be raised
+-- if the number at the index i of s cannot be raised by 1 (`can_rise`), and f vanishes outside the bound, the state after the letter i + 1 is
+-- hopeless (`Hopeless`)
 pub stuck : (kept : Bool) (n : ℕ) (bound : List ℕ) (f : List ℕ → List ℕ → ℕ) (i : ℕ) (s : List ℕ) → VanishesOutside bound f → i < n → n ≤ length s → length bound ≤ n
     → can_rise bound i s ≡ false → Hopeless n f (suc i) (raised (suc i) s ++ mark kept (suc i))
 stuck kept n bound f i s vanishes h l m e t long same =
@@ -99,7 +90,7 @@ stuck kept n bound f i s vanishes h l m e t long same =
     (and_cases ((i == 0) || nat_lt (get_or s i 0) (get_or s (i - 1) 0)) (nat_le (length bound) i || nat_lt (get_or s i 0) (get_or bound i 0)) e)
   where
     here : get_or t i 0 ≡ get_or s i 0 + 1
-    here = same i (omega arith) ∙ get-append (raised (suc i) s) (mark kept (suc i)) i (let r = length-raised (suc i) s in omega arith) ∙ get-raised_at i s (omega arith)
+    here = same i (omega arith) ∙ get_or_append_left (raised (suc i) s) (mark kept (suc i)) 0 i (let r = length-raised (suc i) s in omega arith) ∙ get-raised_at i s (omega arith)
 
     ended : (x : Bool) (y : ℕ) → (x ≡ false) ⊎ (y ≡ 0) → cond x y 0 ≡ 0
     ended true y (inl q) = absurd (cc)
@@ -110,7 +101,7 @@ stuck kept n bound f i s vanishes h l m e t long same =
     above_it k p q =
         let one : i - 1 ≡ k = omega arith in
         let less : get_or s (i - 1) 0 ≤ get_or s i 0 = ltb-false _ _ q in
-        let before : get_or t k 0 ≡ get_or s k 0 = same k (omega arith) ∙ get-append (raised (suc i) s) (mark kept (suc i)) k (let r = length-raised (suc i) s in omega arith) ∙ get-raised_before (suc i) k s (omega arith) in
+        let before : get_or t k 0 ≡ get_or s k 0 = same k (omega arith) ∙ get_or_append_left (raised (suc i) s) (mark kept (suc i)) 0 k (let r = length-raised (suc i) s in omega arith) ∙ get-raised_before (suc i) k s (omega arith) in
         let moved : get_or s (i - 1) 0 ≡ get_or s k 0 = ap (λ j. get_or s j 0) one in
         let there : get_or t i 0 ≡ get_or t (suc k) 0 = ap (λ j. get_or t j 0) p in
         let raised_here = here in
@@ -123,7 +114,7 @@ stuck kept n bound f i s vanishes h l m e t long same =
     outside q =
         let short : i < length bound = leb-false _ _ q.0 in
         let most : get_or bound i 0 ≤ get_or s i 0 = ltb-false _ _ q.1 in
-        let taken : get_or (take n t) i 0 ≡ get_or t i 0 = get-take i n t h in
+        let taken : get_or (take n t) i 0 ≡ get_or t i 0 = get_or-take n t i 0 h in
         let raised_here = here in
         ended (is_falling (take n t)) (at_state n f t) (inr (vanishes (take n t) (drop n t) (not_within i (take n t) bound short (omega arith))))
 
@@ -131,7 +122,8 @@ stuck kept n bound f i s vanishes h l m e t long same =
     by (inl a) = high (or_parts (i == 0) (nat_lt (get_or s i 0) (get_or s (i - 1) 0)) a)
     by (inr b) = outside (or_parts (nat_le (length bound) i) (nat_lt (get_or s i 0) (get_or bound i 0)) b)
 
--- if fewer letters are left than places below, no column is complete
+-- let 0 < above ≤ n: if the number of remaining places exceeds the number n - above of letters greater than `above`, the column cannot be completed,
+-- and the sum `extended` is 0
 pub too_few : (kept : Bool) (n : ℕ) (line : List Bool) (right : List ℕ) (above : ℕ) (f : List ℕ → List ℕ → ℕ) (s : List ℕ) → 0 < above → above ≤ n → n < above + length line
     → extended kept n line right above f s ≡ 0
 too_few kept n [] right above f s h k l = absurd (omega arith)
@@ -142,7 +134,8 @@ too_few kept n (true ∷ line) right above f s h k l =
     let e = end-within n true right above in
     too_few kept n line (drop 1 right) b f (raised b s ++ mark kept b) (omega arith) (omega arith) (omega arith))
 
--- the letters for a place may end before too few are left for the places below
+-- the sum `extended` does not change if the letters of the first place are restricted to those that leave a greater letter up to n for each place
+-- below
 pub fewer_letters : (kept : Bool) (n : ℕ) (cell : Bool) (line : List Bool) (right : List ℕ) (above : ℕ) (f : List ℕ → List ℕ → ℕ) (s : List ℕ)
     → sum_by (λ b. extended kept n line (drop 1 right) b f (raised b s ++ mark kept b)) (numbers_from (least_letter cell above) (letters_end (n - length line) cell right above - least_letter cell above))
     ≡ extended kept n (cell ∷ line) right above f s
@@ -179,7 +172,7 @@ fewer_letters kept n true line right above f s = by (letters_end (n - length lin
             sym (numbers-ext X (λ b. cond (nat_lt b short) (X b) 0) (above + 1) (end - (above + 1)) (λ b low high. each b low (omega arith) (cases_lt b short))
             ∙ range-front (λ b. nat_lt b short) X short (above + 1) (end - (above + 1)) (λ b low high. lt-ltb b short high) (λ b low high g. le-ltb b short high) (omega arith))
 
--- ---- a sum is still decreasing after a number is raised
+-- ---- a weakly decreasing sum stays so if a number that can be raised is raised by 1
 
 raised-falls_first : (s : List ℕ) → is_falling s ≡ true → is_falling (raised 1 s) ≡ true
 raised-falls_first [] h = refl
@@ -200,6 +193,10 @@ raised-falls_next (suc i) (a ∷ b ∷ s) h g =
     let p = and_parts (nat_le b a) (is_falling (b ∷ s)) h in
     and_from (nat_le b a) (is_falling (b ∷ raised (suc i) s)) p.0 (raised-falls_next i (b ∷ s) p.1 g)
 
+pub take_none : {A : Type 0} (l : List A) → take 0 l ≡ []
+take_none [] = refl
+take_none (x ∷ l) = refl
+
 take-raised : (n b : ℕ) (s w : List ℕ) → n ≤ length s → take n (raised b s ++ w) ≡ raised b (take n s)
 take-raised zero b [] w h = by b w
   where
@@ -208,12 +205,8 @@ take-raised zero b [] w h = by b w
     by zero (a ∷ v) = refl
     by (suc x) [] = refl
     by (suc x) (a ∷ v) = refl
-take-raised zero b (a ∷ s) w h = nothing (raised b (a ∷ s) ++ w) ∙ by b
+take-raised zero b (a ∷ s) w h = take_none (raised b (a ∷ s) ++ w) ∙ by b
   where
-    nothing : (l : List ℕ) → take 0 l ≡ []
-    nothing [] = refl
-    nothing (x ∷ l) = refl
-
     by : (x : ℕ) → [] ≡ raised x []
     by zero = refl
     by (suc x) = refl
@@ -222,21 +215,21 @@ take-raised (suc n) zero (a ∷ s) w h = ap (λ l. a ∷ l) (take-raised n zero 
 take-raised (suc n) (suc zero) (a ∷ s) w h = ap (λ l. (a + 1) ∷ l) (take-raised n zero s w (omega arith))
 take-raised (suc n) (suc (suc b)) (a ∷ s) w h = ap (λ l. a ∷ l) (take-raised n (suc b) s w (omega arith))
 
--- the sum stays decreasing if its number at i can be raised
+-- if a sum is weakly decreasing, and its number at the index i can be raised by 1 (`can_rise`), the sum with this number raised is weakly decreasing
 pub falls-raised : (n : ℕ) (bound : List ℕ) (i : ℕ) (s w : List ℕ) → i < n → n ≤ length s → can_rise bound i s ≡ true → is_falling (take n s) ≡ true → is_falling (take n (raised (suc i) s ++ w)) ≡ true
 falls-raised n bound zero s w h l e falls = ap is_falling (take-raised n 1 s w l) ∙ raised-falls_first (take n s) falls
 falls-raised n bound (suc i) s w h l e falls =
     let p = and_parts ((suc i == 0) || nat_lt (get_or s (suc i) 0) (get_or s (suc i - 1) 0)) _ e in
     let one : suc i - 1 ≡ i = omega arith in
     let less : get_or s (suc i) 0 < get_or s i 0 = ltb-true _ _ (ap₂ (λ (t : Bool) (j : ℕ). t || nat_lt (get_or s (suc i) 0) (get_or s j 0)) (sym (ne_eqb (suc i) 0 (λ q. absurd (omega arith)))) (sym one) ∙ p.0) in
-    let here : get_or (take n s) (suc i) 0 ≡ get_or s (suc i) 0 = get-take (suc i) n s h in
-    let before : get_or (take n s) i 0 ≡ get_or s i 0 = get-take i n s (omega arith) in
+    let here : get_or (take n s) (suc i) 0 ≡ get_or s (suc i) 0 = get_or-take n s (suc i) 0 h in
+    let before : get_or (take n s) i 0 ≡ get_or s i 0 = get_or-take n s i 0 (omega arith) in
     ap is_falling (take-raised n (suc (suc i)) s w l) ∙ raised-falls_next i (take n s) falls (omega arith)
 
 pub falls-unraised : (n : ℕ) (s w : List ℕ) → n ≤ length s → is_falling (take n s) ≡ true → is_falling (take n (s ++ w)) ≡ true
 falls-unraised n s w l falls = ap is_falling (take-raised n zero s w l) ∙ falls
 
--- ---- a letter whose number in the sum can be raised, and one whose number cannot
+-- ---- a letter that cannot be added to the sum, and one that can
 
 pub no_room : (kept : Bool) (n : ℕ) (line : List Bool) (right : List ℕ) (f : List ℕ → List ℕ → ℕ) (bound : List ℕ) (b : ℕ) (s : List ℕ) → VanishesOutside bound f → b ≤ n → n ≤ length s → length bound ≤ n
     → ((b == 0) || can_rise bound (b - 1) s) ≡ false → extended kept n line right b f (raised b s ++ mark kept b) ≡ 0

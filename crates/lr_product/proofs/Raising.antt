@@ -1,12 +1,8 @@
--- A number of a list increased by 1, and the sum of the first numbers.
+-- A number of a list raised by 1, and the sum of the first n numbers.
 use Rattle.std.proofs.Common.{◌≡◌, ℕ, zero, suc, ◌+◌, ◌-◌, ◌<◌, ◌≤◌, Bool, true, false, cond, List, [], ◌∷◌, ◌++◌, length, take, get_or, set, length-append, refl, ap, ◌∙◌, arith}
-use Rattle.std.proofs.lemmas.Option.{slice_get_read, get_or_from_slice_get}
 use Rattle.sym_model.specs.Partition.{size}
 use Rattle.lr_product.specs.Extension.{raised, mark}
-
--- if x was read at the index i of s, the number of s at i is x
-pub read_number : (s : List ℕ) (i x : ℕ) → i < length s → x ≡ get_or s i x → get_or s i 0 ≡ x
-read_number s i x h e = get_or_from_slice_get s i x 0 (slice_get_read s (length s) i x refl h e)
+use Rattle.std.proofs.Math.Seq.{take-append_seam}
 
 pub raised-set : (b : ℕ) (s : List ℕ) → set s b (get_or s b 0 + 1) ≡ raised (suc b) s
 raised-set zero [] = refl
@@ -20,17 +16,12 @@ length-raised (suc b) [] = refl
 length-raised (suc zero) (a ∷ s) = refl
 length-raised (suc (suc b)) (a ∷ s) = ap suc (length-raised (suc b) s)
 
-pub take_all : (s w : List ℕ) → take (length s) (s ++ w) ≡ s
-take_all [] [] = refl
-take_all [] (a ∷ w) = refl
-take_all (a ∷ s) w = ap (λ l. a ∷ l) (take_all s w)
-
 pub raised-undone : (b : ℕ) (s w : List ℕ) → b < length s → take (length s) (set (raised (suc b) s ++ w) b (get_or (raised (suc b) s ++ w) b 0 - 1)) ≡ s
 raised-undone b [] w h = absurd (omega arith)
-raised-undone zero (a ∷ s) w h = let e : (a + 1) - 1 ≡ a = omega arith in ap (λ x. x ∷ take (length s) (s ++ w)) e ∙ ap (λ l. a ∷ l) (take_all s w)
+raised-undone zero (a ∷ s) w h = let e : (a + 1) - 1 ≡ a = omega arith in ap (λ x. x ∷ take (length s) (s ++ w)) e ∙ ap (λ l. a ∷ l) (take-append_seam s w)
 raised-undone (suc b) (a ∷ s) w h = ap (λ l. a ∷ l) (raised-undone b s w (omega arith))
 
--- a number of the first n is at most their sum
+-- for b < n, the number at the index b is at most the sum of the first n numbers
 pub index-size : (n b : ℕ) (s : List ℕ) → b < n → get_or s b 0 ≤ size (take n s)
 index-size n b [] h = omega arith
 index-size zero b (a ∷ s) h = absurd (omega arith)
@@ -44,7 +35,7 @@ size-appended zero (a ∷ s) w h = refl
 size-appended (suc n) [] w h = absurd (omega arith)
 size-appended (suc n) (a ∷ s) w h = ap (λ x. a + x) (size-appended n s w (omega arith))
 
--- increasing a number by 1 increases the sum of the first n by at most 1
+-- raising a number of the list s by 1 (`raised`) increases the sum of its first n numbers by at most 1
 pub size-raised : (n b : ℕ) (s w : List ℕ) → n ≤ length s → size (take n (raised b s ++ w)) ≤ size (take n s) + 1
 size-raised n zero s w h = let e = size-appended n s w h in omega arith
 size-raised zero (suc b) s w h = by (raised (suc b) s ++ w)
@@ -56,7 +47,7 @@ size-raised (suc n) (suc b) [] w h = absurd (omega arith)
 size-raised (suc n) (suc zero) (a ∷ s) w h = let e = size-appended n s w (omega arith) in omega arith
 size-raised (suc n) (suc (suc b)) (a ∷ s) w h = let i = size-raised n (suc b) s w (omega arith) in omega arith
 
--- increasing the number at b - 1 gives the raised list, and lowering it gives the list back
+-- if t is s with 1 added to the number at the index b - 1, for b > 0, t is `raised b s`
 pub placed : (b : ℕ) (s t : List ℕ) → 0 < b → t ≡ set s (b - 1) (get_or s (b - 1) 0 + 1) → t ≡ raised b s
 placed zero s t h e = absurd (omega arith)
 placed (suc b) s t h e = let p : suc b - 1 ≡ b = omega arith in e ∙ ap (λ i. set s i (get_or s i 0 + 1)) p ∙ raised-set b s
@@ -74,7 +65,7 @@ raised-none (suc b) s h = absurd (omega arith)
 pub length-placed : (b : ℕ) (s w : List ℕ) → length (raised b s ++ w) ≡ length s + length w
 length-placed b s w = length-append (raised b s) w ∙ ap (λ k. k + length w) (length-raised b s)
 
--- after a letter is placed, the length of the state plus the number of letters still to be kept is `width` as before
+-- when a letter is placed, the length of the state plus the number of letters still to be kept in it remains equal to `width`
 pub width_placed : (kept : Bool) (b : ℕ) (s : List ℕ) (rest line width : ℕ) → line ≡ rest + 1 → length s + cond kept line 0 ≡ width → length (raised b s ++ mark kept b) + cond kept rest 0 ≡ width
 width_placed true b s rest line width e h = let l = length-placed b s (b ∷ []) in omega arith
 width_placed false b s rest line width e h = let l = length-placed b s [] in omega arith

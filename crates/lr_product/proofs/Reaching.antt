@@ -1,4 +1,4 @@
--- Tables in which every state is reached: its sum is decreasing and of at most a given size.
+-- Tables in which each state of positive count is reached: its sum is weakly decreasing and has at most a given size.
 use Rattle.std.proofs.Common.{◌≡◌, ℕ, zero, suc, ◌*◌, ◌≤◌, Bool, ◌&&◌, cond, List, length, take, drop, ap, ap₂, ◌∙◌, arith}
 use Rattle.std.proofs.lemmas.Bool.{le-leb, eq-eqb}
 use Rattle.sym_model.specs.Partition.{size}
@@ -11,7 +11,7 @@ pub reached : (n m : ℕ) (ν right : List ℕ) → IsReached n m ν → unreach
 reached n m ν right r =
     ap₂ (λ (p q : Bool). cond (p && (q && is_falling ν)) 0 1) (eq-eqb (length ν) n r.long) (le-leb (size ν) m r.small) ∙ ap (λ (t : Bool). cond t 0 1) r.falls
 
--- if the states of a table are reached within m, they are reached within every number from m on
+-- for m ≤ m', if all states of positive count have sums of size at most m, they have sums of size at most m'
 pub weighed-weaker : (n m m' : ℕ) (es : List (List ℕ × ℕ)) → m ≤ m' → weighed n (unreached n m) es ≡ 0 → weighed n (unreached n m') es ≡ 0
 weighed-weaker n m m' es h z =
     sum_by-zeros (λ (e : List ℕ × ℕ). e.1 * at_state n (unreached n m') e.0) (λ (e : List ℕ × ℕ). e.1 * at_state n (unreached n m) e.0) es

@@ -1,7 +1,7 @@
--- One round of the loop that adds the columns of a shape.
+-- The loop of `with_columns`: its start, one pass, in which one column of the shape is added, and its end.
 use Rattle.std.proofs.Common.{◌≡◌, ℕ, zero, suc, ◌+◌, ◌-◌, ◌^◌, ◌<◌, ◌≤◌, ◌⊎◌, inl, inr, nat_le, nat_lt, Bool, true, false, ◌&&◌, cond, List, [], ◌∷◌, ◌++◌, length, take, drop, refl, sym, subst, ap, ap₂, ◌∙◌, arith}
-use Rattle.std.proofs.lemmas.Bool.{cases_lt, lt-ltb, le-ltb, lt-leb, le-leb}
-use Rattle.std.proofs.Math.Seq.{take-length}
+use Rattle.std.proofs.lemmas.Bool.{cases_lt, lt-ltb, le-ltb, lt-leb, le-leb, and_right}
+use Rattle.std.proofs.Math.Seq.{take-length, drop-length}
 use Rattle.sym_model.specs.Partition.{Falls, IsPartition, size, columns}
 use Rattle.sym_model.specs.Polynomial.{join, resize}
 use Rattle.sym_model.specs.Schur.{contains, content}
@@ -16,7 +16,9 @@ use Rattle.lr_product.specs.Capped.{Agree}
 use Rattle.lr_product.proofs.Agreeing.{agree_same, agree_then}
 use Rattle.lr_product.proofs.Reaching.{reached, weighed-weaker}
 use Rattle.sym_model.proofs.NumberSums.{sum_by-ext, sum_by-zero}
-use Rattle.lr_product.proofs.Heights.{column-cons, column-none, column-all, places-drop, places-lines}
+use Rattle.lr_product.proofs.Heights.{column-cons, column-none, places-drop, places-lines}
+use Rattle.sym_model.proofs.Lists.{drop-none}
+use Rattle.sym_model.proofs.Numbers.{second_false, zero_either}
 
 pub agree_zero : (a b : ℕ) → Agree a b → b ≡ 0 → a ≡ 0
 agree_zero a b p e = by (cases_lt a (2 ^ 127))
@@ -50,7 +52,7 @@ resize-full zero (a ∷ s) h l = absurd (omega arith)
 resize-full (suc n) [] h l = absurd (omega arith)
 resize-full (suc n) (a ∷ s) h l = ap (λ x. a ∷ x) (resize-full n s (omega arith) (omega arith))
 
--- ---- states that exceed the bound at some place
+-- ---- sums with a number that exceeds that of the bound
 
 within-more : (ν κ bound : List ℕ) → pass_by_place nat_le ν bound ≡ false → pass_by_place nat_le (join ν κ) bound ≡ false
 within-more [] κ [] h = absurd (cc)
@@ -59,39 +61,28 @@ within-more (a ∷ ν) κ [] h = absurd (cc)
 within-more (a ∷ ν) [] (b ∷ bound) h = h
 within-more (a ∷ ν) (x ∷ κ) (b ∷ bound) h = by (cases_lt b a) (λ g. within-more ν κ bound g)
   where
-    split : (t : Bool) → t ≡ true → t && pass_by_place nat_le ν bound ≡ false → pass_by_place nat_le ν bound ≡ false
-    split true e g = g
-    split false e g = absurd (cc)
-
-    with_rest : (t : Bool) → pass_by_place nat_le (join ν κ) bound ≡ false → t && pass_by_place nat_le (join ν κ) bound ≡ false
-    with_rest true e = e
-    with_rest false e = refl
-
     by : (b < a) ⊎ (a ≤ b) → (pass_by_place nat_le ν bound ≡ false → pass_by_place nat_le (join ν κ) bound ≡ false) → nat_le (a + x) b && pass_by_place nat_le (join ν κ) bound ≡ false
     by (inl l) rec = ap (λ t. t && pass_by_place nat_le (join ν κ) bound) (lt-leb (a + x) b (omega arith))
-    by (inr l) rec = with_rest (nat_le (a + x) b) (rec (split (nat_le a b) (le-leb a b l) h))
+    by (inr l) rec = and_right (nat_le (a + x) b) _ (rec (second_false (nat_le a b) (le-leb a b l) h))
 
 pub vanishes-next : (n : ℕ) (line : List Bool) (bound : List ℕ) (kept : Bool) (f : List ℕ → List ℕ → ℕ) → VanishesOutside bound f → VanishesOutside bound (next_states n line (seen kept f))
 vanishes-next n line bound kept f v ν right h =
-    sum_by-ext (λ c. cond (may_be_next n ν right c) (seen kept f (join ν (content n c)) c) 0) (λ c. 0) (λ c. under (may_be_next n ν right c) (seen_zero kept (join ν (content n c)) c (within-more ν (content n c) bound h))) (words_over n line)
+    sum_by-ext (λ c. cond (may_be_next n ν right c) (seen kept f (join ν (content n c)) c) 0) (λ c. 0) (λ c. zero_either (may_be_next n ν right c) (seen_zero kept (join ν (content n c)) c (within-more ν (content n c) bound h))) (words_over n line)
     ∙ sum_by-zero (words_over n line)
   where
     seen_zero : (k : Bool) (ν' r : List ℕ) → pass_by_place nat_le ν' bound ≡ false → seen k f ν' r ≡ 0
     seen_zero true ν' r e = v ν' r e
     seen_zero false ν' r e = v ν' [] e
 
-    under : (t : Bool) {x : ℕ} → x ≡ 0 → cond t x 0 ≡ 0
-    under true e = e
-    under false e = refl
-
--- a function that vanishes outside the bound does so too if it is given no column
+-- if f vanishes outside the bound, so does `seen kept f`, which is f itself if the column is kept, and otherwise f with the empty column
 vanishes-seen : (kept : Bool) (bound : List ℕ) (f : List ℕ → List ℕ → ℕ) → VanishesOutside bound f → VanishesOutside bound (seen kept f)
 vanishes-seen true bound f v ν right h = v ν right h
 vanishes-seen false bound f v ν right h = v ν [] h
 
--- ---- the table after one more column
+-- ---- the table at the start of the loop, and after one more column is added
 
--- before the first column the table counts the starts
+-- if at = columns outer, the list of the column lines after the first `at` is empty, and the sum over the ways to add these columns to the states of
+-- `starts` agrees with the weighed sum of `starts`
 pub start_counts : (n : ℕ) (outer inner : List ℕ) (starts : List (List ℕ × ℕ)) (at : ℕ) → Falls outer
     → contains outer inner ≡ true → at ≡ columns outer → (f : List ℕ → List ℕ → ℕ)
     → Agree (weighed n (seen (nat_lt 0 at) f) starts)
@@ -107,14 +98,15 @@ pub start_reached : (n m : ℕ) (outer inner : List ℕ) (starts : List (List �
 start_reached n m outer inner starts at z =
     weighed-weaker n m (m + places (drop at (column_lines outer inner))) starts (omega arith) z
 
--- the states of a table that counts only the start are weakly decreasing, with a sum of at most m
+-- let size start ≤ m, and let, for each f, the weighed sum of a table agree with the value of f at the state that consists of `start` and no column:
+-- then the states of positive count in the table have weakly decreasing sums of size at most m
 pub first_reached : (n m : ℕ) (start : List ℕ) (es : List (List ℕ × ℕ)) → IsPartition start → size start ≤ m
     → ((f : List ℕ → List ℕ → ℕ) → Agree (weighed n f es) (f (resize n start) []))
     → weighed n (unreached n m) es ≡ 0
 first_reached n m start es p room agree =
     agree_zero _ _ (agree (unreached n m)) (start_within n m start [] p room)
 
--- the lines from `at` - 1 on are the line of column `at` and those after it
+-- for 0 < at ≤ columns outer, the lines of the columns from `at` on are that of column `at`, followed by those of the columns after it
 last_column : (outer inner : List ℕ) (at : ℕ) → Falls outer → contains outer inner ≡ true → 0 < at → at ≤ columns outer
     → drop (at - 1) (column_lines outer inner) ≡ column_line at outer inner ∷ drop at (column_lines outer inner)
 last_column outer inner at fall c h k =
@@ -126,7 +118,7 @@ places_last : (outer inner : List ℕ) (at : ℕ) (line : List Bool) → Falls o
 places_last outer inner at line fall c h k is =
     ap places (last_column outer inner at fall c h k) ∙ ap (λ (l : List Bool). length l + places (drop at (column_lines outer inner))) (sym is)
 
--- before a column is added, the states have room for its cells
+-- before column `at` is added, the sums of the table have sizes of at most 4096 minus the number of places of this column
 pub round_room : (n m : ℕ) (outer inner : List ℕ) (es : List (List ℕ × ℕ)) (at : ℕ) (line : List Bool) → Falls outer
     → contains outer inner ≡ true → 0 < at → at ≤ columns outer → m + size outer ≤ 4096
     → line ≡ column_line at outer inner
@@ -138,7 +130,8 @@ round_room n m outer inner es at line fall c h k room is z =
     let s = places-lines outer inner c in
     (weighed-weaker n _ (4096 - length line) es (omega arith) z, omega arith)
 
--- after a column is added, the table counts all ways with one column more
+-- if the table counts the ways to add the columns after column `at`, and `new` is the table with column `at` added, then `new` counts the ways to add
+-- the columns from `at` on, for sums within the bound
 pub round_counts : (n : ℕ) (outer inner bound : List ℕ) (starts es new : List (List ℕ × ℕ)) (at : ℕ)
     (line : List Bool) (kept : Bool) → Falls outer → contains outer inner ≡ true → 0 < at → at ≤ columns outer
     → line ≡ column_line at outer inner → kept ≡ nat_lt 1 at
@@ -180,7 +173,7 @@ round_reached n m outer inner new at line fall c h k is z =
     let p = places_last outer inner at line fall c h k is in
     weighed-weaker n _ (m + places (drop (at - 1) (column_lines outer inner))) new (omega arith) z
 
--- after the last column, the table counts all ways to add the columns
+-- after the last column is added (at = 0), the weighed sums of the table agree with the sums over all ways to add the columns
 pub last_counts : (n : ℕ) (outer inner : List ℕ) (starts es : List (List ℕ × ℕ)) (at : ℕ) (f : List ℕ → ℕ) → at ≤ 0
     → Agree (weighed n (seen (nat_lt 0 at) (λ ν right. f ν)) es)
     (weighed n (over_states n (drop at (column_lines outer inner)) (seen (nat_lt 0 at) (λ ν right. f ν))) starts)
@@ -188,7 +181,7 @@ pub last_counts : (n : ℕ) (outer inner : List ℕ) (starts es : List (List ℕ
 last_counts n outer inner starts es at f h agree =
     let lines = column_lines outer inner in
     let z : at ≡ 0 = omega arith in
-    subst (λ ls. Agree (weighed n (λ ν right. f ν) es) (weighed n (over_states n ls (λ ν right. f ν)) starts)) (column-all lines)
+    subst (λ ls. Agree (weighed n (λ ν right. f ν) es) (weighed n (over_states n ls (λ ν right. f ν)) starts)) (drop-none lines)
     (subst (λ k. Agree (weighed n (seen (nat_lt 0 k) (λ ν right. f ν)) es) (weighed n (over_states n (drop k lines) (seen (nat_lt 0 k) (λ ν right. f ν))) starts)) z agree)
 
 pub last_reached : (n m : ℕ) (outer inner : List ℕ) (es : List (List ℕ × ℕ)) (at : ℕ) → contains outer inner ≡ true
@@ -199,9 +192,5 @@ last_reached n m outer inner es at c room z =
     let s = places-lines outer inner c in
     weighed-weaker n _ 4096 es (omega arith) z
 
-drop_whole : (s : List ℕ) → drop (length s) s ≡ []
-drop_whole [] = refl
-drop_whole (a ∷ s) = drop_whole s
-
 pub at_whole : (n : ℕ) (f : List ℕ → List ℕ → ℕ) (s : List ℕ) → length s ≡ n → at_state n f s ≡ f s []
-at_whole n f s e = ap₂ f (ap (λ k. take k s) (sym e) ∙ take-length s) (ap (λ k. drop k s) (sym e) ∙ drop_whole s)
+at_whole n f s e = ap₂ f (ap (λ k. take k s) (sym e) ∙ take-length s) (ap (λ k. drop k s) (sym e) ∙ drop-length s)

@@ -1,6 +1,6 @@
--- Letters of a row added to a number of the sum and taken back, and sums over rows outside a bound.
+-- Equal letters of a row added to the sum and taken back, and rows that lead to sums outside a bound.
 use Rattle.std.proofs.Common.{◌≡◌, ◌==◌, ℕ, zero, suc, ◌+◌, ◌-◌, ◌<◌, ◌≤◌, ◌⊎◌, inl, inr, nat_le, nat_lt, Bool, true, false, ◌&&◌, cond, List, [], ◌∷◌, ◌++◌, length, take, drop, get_or, set, max, length-append, refl, sym, ap, ap₂, ◌∙◌, arith}
-use Rattle.std.proofs.lemmas.Bool.{ne_eqb, cases_lt, lt-leb, le-leb, and_parts, and_from, leb-true, lt-ltb, le-ltb}
+use Rattle.std.proofs.lemmas.Bool.{ne_eqb, cases_lt, lt-leb, le-leb, and_parts, and_from, leb-true, lt-ltb, le-ltb, both_ways}
 use Rattle.sym_model.specs.Sum.{sum_by}
 use Rattle.sym_model.specs.Partition.{size}
 use Rattle.sym_model.specs.GoodTableau.{is_falling}
@@ -10,9 +10,12 @@ use Rattle.alternant_laws.proofs.StraightShapes.{falls_places}
 use Rattle.lr_product.specs.WeighedSum.{VanishesOutside}
 use Rattle.lr_product.specs.Extension.{numbers_from, mark}
 use Rattle.lr_product.specs.RowExtension.{added, filled, next_row, least_left, most_left}
-use Rattle.lr_product.proofs.Raising.{take_all}
-use Rattle.lr_product.proofs.Pruned.{not_within, get-take}
+use Rattle.lr_product.proofs.Pruned.{not_within, take_none}
 use Rattle.lr_product.proofs.LetterSums.{numbers-skipped}
+use Rattle.std.proofs.lemmas.List.{get_or-take, take-append-le, length-take-le}
+use Rattle.std.proofs.Math.Seq.{take-append_seam}
+use Rattle.tableau_laws.proofs.Grids.{pass-nothing}
+use Rattle.sym_model.proofs.Numbers.{zero_either}
 
 pub added-set : (t i : ℕ) (s : List ℕ) → set s t (get_or s t 0 + i) ≡ added t i s
 added-set zero i [] = refl
@@ -28,28 +31,17 @@ length-added (suc t) i (a ∷ s) = ap suc (length-added t i s)
 
 pub added-undone : (t i : ℕ) (s w : List ℕ) → t < length s → take (length s) (set (added t i s ++ w) t (get_or (added t i s ++ w) t 0 - i)) ≡ s
 added-undone t i [] w h = absurd (omega arith)
-added-undone zero i (a ∷ s) w h = let e : (a + i) - i ≡ a = omega arith in ap (λ x. x ∷ take (length s) (s ++ w)) e ∙ ap (λ l. a ∷ l) (take_all s w)
+added-undone zero i (a ∷ s) w h = let e : (a + i) - i ≡ a = omega arith in ap (λ x. x ∷ take (length s) (s ++ w)) e ∙ ap (λ l. a ∷ l) (take-append_seam s w)
 added-undone (suc t) i (a ∷ s) w h = ap (λ l. a ∷ l) (added-undone t i s w (omega arith))
-
-take_front : (n : ℕ) (s w : List ℕ) → n ≤ length s → take n (s ++ w) ≡ take n s
-take_front zero [] [] h = refl
-take_front zero [] (x ∷ w) h = refl
-take_front zero (a ∷ s) w h = refl
-take_front (suc n) [] w h = absurd (omega arith)
-take_front (suc n) (a ∷ s) w h = ap (λ l. a ∷ l) (take_front n s w (omega arith))
 
 added-nothing : (t i : ℕ) → added t i [] ≡ []
 added-nothing zero i = refl
 added-nothing (suc t) i = refl
 
-take_none : (l : List ℕ) → take 0 l ≡ []
-take_none [] = refl
-take_none (x ∷ l) = refl
-
 pub take-added : (n t i : ℕ) (s w : List ℕ) → n ≤ length s → take n (added t i s ++ w) ≡ added t i (take n s)
 take-added zero t i s w h = take_none (added t i s ++ w) ∙ sym (ap (added t i) (take_none s) ∙ added-nothing t i)
 take-added (suc n) t i [] w h = absurd (omega arith)
-take-added (suc n) zero i (a ∷ s) w h = ap (λ l. (a + i) ∷ l) (take_front n s w (omega arith))
+take-added (suc n) zero i (a ∷ s) w h = ap (λ l. (a + i) ∷ l) (take-append-le n s w (omega arith))
 take-added (suc n) (suc t) i (a ∷ s) w h = ap (λ l. a ∷ l) (take-added n t i s w (omega arith))
 
 size-added : (t i : ℕ) (s : List ℕ) → size (added t i s) ≤ size s + i
@@ -61,7 +53,7 @@ size-added (suc t) i (a ∷ s) = let e = size-added t i s in omega arith
 pub size-put : (n t i : ℕ) (s w : List ℕ) → n ≤ length s → size (take n (added t i s ++ w)) ≤ size (take n s) + i
 size-put n t i s w h = let e = ap size (take-added n t i s w h) in let f = size-added t i (take n s) in omega arith
 
--- a weakly decreasing list s remains so if i is added to its first number
+-- if the list s is weakly decreasing, it remains so if i is added to its first number
 falls_first : (i : ℕ) (s : List ℕ) → is_falling s ≡ true → is_falling (added 0 i s) ≡ true
 falls_first i [] h = refl
 falls_first i (a ∷ []) h = refl
@@ -80,22 +72,17 @@ falls_next (suc t) i (a ∷ b ∷ s) h l g =
     let p = and_parts (nat_le b a) (is_falling (b ∷ s)) h in
     and_from (nat_le b a) (is_falling (b ∷ added t i s)) p.0 (falls_next t i (b ∷ s) p.1 (omega arith) g)
 
-pub length_took : (n : ℕ) (s : List ℕ) → n ≤ length s → length (take n s) ≡ n
-length_took zero s h = ap (λ (l : List ℕ). length l) (take_none s)
-length_took (suc n) [] h = absurd (omega arith)
-length_took (suc n) (a ∷ s) h = ap suc (length_took n s (omega arith))
-
--- if i is added to the number at index t of s, it does not exceed the number before it
+-- the number at the index t of s, raised by i, is at most the number before it; always true for t = 0
 abbrev pub MayAdd : ℕ → ℕ → List ℕ → Type 0
 MayAdd t i s = (k : ℕ) → t ≡ suc k → get_or s t 0 + i ≤ get_or s k 0
 
 pub falls-put : (n t i : ℕ) (s w : List ℕ) → t < n → n ≤ length s → is_falling (take n s) ≡ true → MayAdd t i s → is_falling (take n (added t i s ++ w)) ≡ true
 falls-put n zero i s w l h f may = ap is_falling (take-added n 0 i s w h) ∙ falls_first i (take n s) f
 falls-put n (suc t) i s w l h f may =
-    let a = get-take (suc t) n s l in
-    let b = get-take t n s (omega arith) in
+    let a = get_or-take n s (suc t) 0 l in
+    let b = get_or-take n s t 0 (omega arith) in
     let m = may t refl in
-    let k = length_took n s h in
+    let k = length-take-le n s h in
     ap is_falling (take-added n (suc t) i s w h) ∙ falls_next t i (take n s) f (omega arith) (omega arith)
 
 pub width_put : (kept : Bool) (t i left : ℕ) (s : List ℕ) (up_to width : ℕ) → up_to ≡ t + 1 → length s + cond kept up_to 0 ≡ width → length (added t i s ++ mark kept left) + cond kept t 0 ≡ width
@@ -105,21 +92,12 @@ width_put false t i left s up_to width e h = let l = length-append (added t i s)
 pub length_put : (kept : Bool) (t i left : ℕ) (s : List ℕ) → length s ≤ length (added t i s ++ mark kept left)
 length_put kept t i left s = let l = length-append (added t i s) (mark kept left) in let k = length-added t i s in omega arith
 
--- ---- states whose sum is not within the bound
+-- ---- sums with a number that exceeds that of the bound
 
 nothing-within : (bound : List ℕ) → pass_by_place nat_le [] bound ≡ true
 nothing-within [] = refl
 nothing-within (b ∷ bound) = refl
 
-any-within : (ν : List ℕ) → pass_by_place nat_le ν [] ≡ true
-any-within [] = refl
-any-within (a ∷ ν) = refl
-
-not_both : {X : Type 0} (u : Bool) → u ≡ true → u ≡ false → X
-not_both true e g = absurd (cc)
-not_both false e g = absurd (cc)
-
--- let u' be false if u is, and p' if p is: then u' && p' is false if u && p is
 still_false : (u u' : Bool) {p p' : Bool} → u && p ≡ false → (u ≡ false → u' ≡ false) → (p ≡ false → p' ≡ false) → u' && p' ≡ false
 still_false true true e f g = g e
 still_false true false e f g = refl
@@ -131,24 +109,24 @@ smaller a i b e = by (cases_lt b a)
   where
     by : (b < a) ⊎ (a ≤ b) → nat_le (a + i) b ≡ false
     by (inl l) = lt-leb (a + i) b (omega arith)
-    by (inr l) = not_both (nat_le a b) (le-leb a b l) e
+    by (inr l) = absurd (both_ways (nat_le a b) e (le-leb a b l))
 
 within-longer : (n : ℕ) (s w bound : List ℕ) → pass_by_place nat_le (take n s) bound ≡ false → pass_by_place nat_le (take n (s ++ w)) bound ≡ false
-within-longer zero s w bound h = not_both (pass_by_place nat_le (take 0 s) bound) (ap (λ l. pass_by_place nat_le l bound) (take_none s) ∙ nothing-within bound) h
-within-longer (suc n) [] w bound h = not_both (pass_by_place nat_le [] bound) (nothing-within bound) h
+within-longer zero s w bound h = absurd (both_ways (pass_by_place nat_le (take 0 s) bound) h (ap (λ l. pass_by_place nat_le l bound) (take_none s) ∙ nothing-within bound))
+within-longer (suc n) [] w bound h = absurd (both_ways (pass_by_place nat_le [] bound) h (nothing-within bound))
 within-longer (suc n) (a ∷ s) w [] h = absurd (cc)
 within-longer (suc n) (a ∷ s) w (b ∷ bound) h = still_false (nat_le a b) (nat_le a b) h (λ e. e) (λ e. within-longer n s w bound e)
 
 within-put : (n t i : ℕ) (s w bound : List ℕ) → pass_by_place nat_le (take n s) bound ≡ false → pass_by_place nat_le (take n (added t i s ++ w)) bound ≡ false
-within-put zero t i s w bound h = not_both (pass_by_place nat_le (take 0 s) bound) (ap (λ l. pass_by_place nat_le l bound) (take_none s) ∙ nothing-within bound) h
-within-put (suc n) t i [] w bound h = not_both (pass_by_place nat_le [] bound) (nothing-within bound) h
+within-put zero t i s w bound h = absurd (both_ways (pass_by_place nat_le (take 0 s) bound) h (ap (λ l. pass_by_place nat_le l bound) (take_none s) ∙ nothing-within bound))
+within-put (suc n) t i [] w bound h = absurd (both_ways (pass_by_place nat_le [] bound) h (nothing-within bound))
 within-put (suc n) zero i (a ∷ s) w [] h = absurd (cc)
 within-put (suc n) (suc t) i (a ∷ s) w [] h = absurd (cc)
 within-put (suc n) zero i (a ∷ s) w (b ∷ bound) h = still_false (nat_le a b) (nat_le (a + i) b) h (λ e. smaller a i b e) (λ e. within-longer n s w bound e)
 within-put (suc n) (suc t) i (a ∷ s) w (b ∷ bound) h = still_false (nat_le a b) (nat_le a b) h (λ e. e) (λ e. within-put n t i s w bound e)
 
 within-take : (n : ℕ) (ν bound : List ℕ) → length bound ≤ n → pass_by_place nat_le (take n ν) bound ≡ pass_by_place nat_le ν bound
-within-take zero ν [] h = any-within (take 0 ν) ∙ sym (any-within ν)
+within-take zero ν [] h = pass-nothing nat_le (take 0 ν) ∙ sym (pass-nothing nat_le ν)
 within-take zero ν (b ∷ bound) h = absurd (omega arith)
 within-take (suc n) [] bound h = refl
 within-take (suc n) (a ∷ ν) [] h = refl
@@ -164,20 +142,22 @@ filled-outside kept n out (suc t) k above bound f s v o =
     (numbers_from (least_left out t k s) (most_left out t k above + 1 - least_left out t k s))
     ∙ sum_by-zero (numbers_from (least_left out t k s) (most_left out t k above + 1 - least_left out t k s))
 
--- if k - left letters added at index t exceed the bound there, and f is 0 outside the bound, the sum over the rest of the row is 0
+-- if f vanishes outside the bound, and the number at the index t, raised by k - left, exceeds that of the bound, the sum `filled` over the rest of
+-- the row is 0
 pub over_bound : (kept : Bool) (n out t k left : ℕ) (above bound : List ℕ) (f : List ℕ → List ℕ → ℕ) (s : List ℕ) → VanishesOutside bound f → t < n → n ≤ length s
     → t < length bound → get_or bound t 0 < get_or s t 0 + (k - left) → filled kept n out t left above f (added t (k - left) s ++ mark kept left) ≡ 0
 over_bound kept n out t k left above bound f s v l h b g =
     filled-outside kept n out t left above bound f (added t (k - left) s ++ mark kept left) v
     (not_within t (take n (added t (k - left) s ++ mark kept left)) bound b
-    (let a = get-take t n (added t (k - left) s ++ mark kept left) l in let c = here t s (omega arith) in omega arith))
+    (let a = get_or-take n (added t (k - left) s ++ mark kept left) t 0 l in let c = here t s (omega arith) in omega arith))
   where
     here : (j : ℕ) (v' : List ℕ) → j < length v' → get_or (added j (k - left) v' ++ mark kept left) j 0 ≡ get_or v' j 0 + (k - left)
     here j [] q = absurd (omega arith)
     here zero (a ∷ v') q = refl
     here (suc j) (a ∷ v') q = here j v' (omega arith)
 
--- if f is 0 outside the bound, the sum of `filled` may begin at `low`, the least number allowed by the sum and by the bound
+-- let f vanish outside the bound: the sum over x, the number of places that are left for letters up to t, may begin at `low`, the least x that the
+-- sum s and the bound allow
 pub bounded_low : (kept : Bool) (n out t k : ℕ) (above bound : List ℕ) (f : List ℕ → List ℕ → ℕ) (s : List ℕ) (low : ℕ) → VanishesOutside bound f → t < n → n ≤ length s
     → low ≡ max (max out (cond (t == 0) 0 (k - (get_or s (t - 1) 0 - get_or s t 0)))) (cond (nat_lt t (length bound)) (k - (get_or bound t 0 - get_or s t 0)) 0)
     → sum_by (λ x. filled kept n out t x (drop 1 above) f (added t (k - x) s ++ mark kept x)) (numbers_from low (most_left out t k above + 1 - low))
@@ -215,7 +195,8 @@ bounded_low kept n out t k above bound f s low v l h is =
     none : (x : ℕ) → least ≤ x → x < low → X x ≡ 0
     none x g q = by x q g (cases_lt t (length bound))
 
--- if x is at least `low`, adding k - x at index t of s does not exceed the number before it
+-- let the list s be weakly decreasing at the index t, and let x be at least `low`, the least number of places that the sum allows: then the number at
+-- t may be raised by k - x (`MayAdd`)
 pub may_add : (out t k x low : ℕ) (s : List ℕ) (rest : ℕ) → low ≡ max (max out (cond (t == 0) 0 (k - (get_or s (t - 1) 0 - get_or s t 0)))) rest
     → low ≤ x → ((j : ℕ) → get_or s (suc j) 0 ≤ get_or s j 0 ⊎ (t ≡ suc j → ⊥)) → MayAdd t (k - x) s
 may_add out t k x low s rest is g falls j e = by (falls j)
@@ -231,14 +212,10 @@ may_add out t k x low s rest is g falls j e = by (falls j)
     by (inl l) = let d = two t e in let m = ap (λ y. get_or s y 0) e in omega arith
     by (inr n) = absurd (n e)
 
--- ---- sums over rows that lead to states not within the bound
+-- ---- rows that lead to sums outside the bound
 
 pub vanishes-row : (n : ℕ) (kept : Bool) (out k : ℕ) (bound : List ℕ) (f : List ℕ → List ℕ → ℕ) → length bound ≤ n → VanishesOutside bound f → VanishesOutside bound (next_row n kept out k f)
-vanishes-row n kept out k bound f l v ν above h = by (may_precede nat_le k above) (filled-outside kept n out n k (drop 1 above) bound f ν v (within-take n ν bound l ∙ h))
-  where
-    by : (t : Bool) {x : ℕ} → x ≡ 0 → cond t x 0 ≡ 0
-    by true e = e
-    by false e = refl
+vanishes-row n kept out k bound f l v ν above h = zero_either (may_precede nat_le k above) (filled-outside kept n out n k (drop 1 above) bound f ν v (within-take n ν bound l ∙ h))
 
 pub may_put : (n out t k x low : ℕ) (s : List ℕ) (rest : ℕ) → low ≡ max (max out (cond (t == 0) 0 (k - (get_or s (t - 1) 0 - get_or s t 0)))) rest
     → low ≤ x → t < n → is_falling (take n s) ≡ true → MayAdd t (k - x) s
@@ -246,8 +223,8 @@ may_put n out t k x low s rest is g l falls = may_add out t k x low s rest is g 
   where
     by : (j : ℕ) → (suc j < n) ⊎ (n ≤ suc j) → get_or s (suc j) 0 ≤ get_or s j 0 ⊎ (t ≡ suc j → ⊥)
     by j (inl h) =
-        let a = get-take (suc j) n s h in
-        let b = get-take j n s (omega arith) in
+        let a = get_or-take n s (suc j) 0 h in
+        let b = get_or-take n s j 0 (omega arith) in
         let c = falls_places (take n s) falls j in
         inl (omega arith)
     by j (inr h) = inr (λ e. absurd (omega arith))

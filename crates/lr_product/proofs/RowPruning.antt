@@ -1,20 +1,23 @@
--- Rows after which some number of the sum stays below the bound, and the cells of the rows that are left.
-use Rattle.std.proofs.Common.{◌≡◌, ℕ, zero, suc, ◌+◌, ◌-◌, ◌<◌, ◌≤◌, ◌⊎◌, inl, inr, nat_le, nat_lt, min, Bool, true, false, cond, List, [], ◌∷◌, ◌++◌, length, take, drop, get_or, refl, sym, ap, ◌∙◌, arith}
+-- Rows after which some number of the sum cannot reach that of the bound any more, and the number of cells of the rows below.
+use Rattle.std.proofs.Common.{◌≡◌, ℕ, zero, suc, ◌+◌, ◌-◌, ◌<◌, ◌≤◌, ◌⊎◌, inl, inr, nat_le, nat_lt, min, Bool, cond, List, [], ◌∷◌, ◌++◌, length, take, drop, get_or, refl, sym, ap, ◌∙◌, arith}
 use Rattle.std.proofs.lemmas.Bool.{cases_lt, lt-ltb, le-ltb}
 use Rattle.sym_model.specs.Sum.{sum_by}
 use Rattle.sym_model.specs.Partition.{part}
 use Rattle.tableau_laws.specs.Grid.{may_precede}
 use Rattle.lr_product.specs.Extension.{numbers_from, mark}
 use Rattle.lr_product.specs.RowExtension.{added, filled, next_row, over_rows, least_left, most_left, cell_count, VanishesBelow}
-use Rattle.lr_product.proofs.Pruned.{get-append, get-take, numbers-zero}
-use Rattle.lr_product.proofs.RowFilling.{length_put, length_took, most_within}
+use Rattle.lr_product.proofs.Pruned.{numbers-zero}
+use Rattle.lr_product.proofs.RowFilling.{length_put, most_within}
+use Rattle.std.proofs.lemmas.List.{get_or_append_left, get_or-take, length-take-le}
+use Rattle.sym_model.proofs.Lists.{drop-none}
+use Rattle.sym_model.proofs.Numbers.{zero_either}
 
--- ---- the numbers of a state after letters are added
+-- ---- the numbers of a state after equal letters t + 1 are added
 
 get-added_other : (t i j : ℕ) (s w : List ℕ) → t < j → j < length s → get_or (added t i s ++ w) j 0 ≡ get_or s j 0
 get-added_other t i j [] w h l = absurd (omega arith)
 get-added_other zero i zero (a ∷ s) w h l = absurd (omega arith)
-get-added_other zero i (suc j) (a ∷ s) w h l = get-append s w j (omega arith)
+get-added_other zero i (suc j) (a ∷ s) w h l = get_or_append_left s w 0 j (omega arith)
 get-added_other (suc t) i zero (a ∷ s) w h l = absurd (omega arith)
 get-added_other (suc t) i (suc j) (a ∷ s) w h l = get-added_other t i j s w (omega arith) (omega arith)
 
@@ -26,17 +29,18 @@ get-added_at (suc t) i (a ∷ s) w l = get-added_at t i s w (omega arith)
 get-added_most : (t i j : ℕ) (s w : List ℕ) → j < length s → get_or (added t i s ++ w) j 0 ≤ get_or s j 0 + i
 get-added_most t i j [] w l = absurd (omega arith)
 get-added_most zero i zero (a ∷ s) w l = omega arith
-get-added_most zero i (suc j) (a ∷ s) w l = let e = get-append s w j (omega arith) in omega arith
+get-added_most zero i (suc j) (a ∷ s) w l = let e = get_or_append_left s w 0 j (omega arith) in omega arith
 get-added_most (suc t) i zero (a ∷ s) w l = omega arith
 get-added_most (suc t) i (suc j) (a ∷ s) w l = get-added_most t i j s w (omega arith)
 
--- ---- sums over rows that leave a number too small
+-- ---- rows that leave a number of the sum too small to reach that of the bound
 
--- if t ≤ j, letters up to t do not change the number at j: if this number plus m is below the bound, the sum of
--- `filled` is 0
+-- let f be 0 at each sum in which some number, plus m, is less than the number of the bound at the same index (`VanishesBelow`). If t ≤ j, and the
+-- number at the index j, plus m, is less than that of the bound, then the sum `filled` over letters up to t is 0, since these letters do not change
+-- this number
 below_fixed : (kept : Bool) (n out t k m j : ℕ) (above bound : List ℕ) (f : List ℕ → List ℕ → ℕ) (s : List ℕ) → VanishesBelow n m bound f → t ≤ j → j < n → n ≤ length s
     → j < length bound → get_or s j 0 + m < get_or bound j 0 → filled kept n out t k above f s ≡ 0
-below_fixed kept n out zero k m j above bound f s v h l g b q = v (take n s) (drop n s) j (length_took n s g) b (let e = get-take j n s l in omega arith)
+below_fixed kept n out zero k m j above bound f s v h l g b q = v (take n s) (drop n s) j (length-take-le n s g) b (let e = get_or-take n s j 0 l in omega arith)
 below_fixed kept n out (suc t) k m j above bound f s v h l g b q =
     numbers-zero (λ left. filled kept n out t left (drop 1 above) f (added t (k - left) s ++ mark kept left)) (least_left out t k s) (most_left out t k above + 1 - least_left out t k s)
     (λ left low high.
@@ -44,11 +48,11 @@ below_fixed kept n out (suc t) k m j above bound f s v h l g b q =
     let d = get-added_other t (k - left) j s (mark kept left) (omega arith) (omega arith) in
     below_fixed kept n out t left m j (drop 1 above) bound f (added t (k - left) s ++ mark kept left) v (omega arith) l (omega arith) b (omega arith))
 
--- a row of k places, of which `out` are outside the shape, adds at most k - out to the number at j: if this number plus
--- k - out plus m is below the bound, the sum of `filled` is 0
+-- let f be 0 at each sum in which some number, plus m, is less than the number of the bound at the same index (`VanishesBelow`). If the number at the
+-- index j, plus m and the k - out cells of the row, is less than that of the bound, then the sum `filled` is 0
 below_filled : (kept : Bool) (n out t k m j : ℕ) (above bound : List ℕ) (f : List ℕ → List ℕ → ℕ) (s : List ℕ) → VanishesBelow n m bound f → j < n → n ≤ length s → j < length bound
     → get_or s j 0 + (m + (k - out)) < get_or bound j 0 → filled kept n out t k above f s ≡ 0
-below_filled kept n out zero k m j above bound f s v l g b q = v (take n s) (drop n s) j (length_took n s g) b (let e = get-take j n s l in omega arith)
+below_filled kept n out zero k m j above bound f s v l g b q = v (take n s) (drop n s) j (length-take-le n s g) b (let e = get_or-take n s j 0 l in omega arith)
 below_filled kept n out (suc t) k m j above bound f s v l g b q =
     numbers-zero (λ left. filled kept n out t left (drop 1 above) f (added t (k - left) s ++ mark kept left)) (least_left out t k s) (most_left out t k above + 1 - least_left out t k s)
     (λ left low high.
@@ -64,24 +68,20 @@ below_filled kept n out (suc t) k m j above bound f s v l g b q =
 
 below_row : (n : ℕ) (kept : Bool) (out k m : ℕ) (bound : List ℕ) (f : List ℕ → List ℕ → ℕ) → length bound ≤ n → VanishesBelow n m bound f → VanishesBelow n (m + (k - out)) bound (next_row n kept out k f)
 below_row n kept out k m bound f l v ν above j e b h =
-    by (may_precede nat_le k above) (below_filled kept n out n k m j (drop 1 above) bound f ν v (omega arith) (omega arith) b h)
-  where
-    by : (t : Bool) {x : ℕ} → x ≡ 0 → cond t x 0 ≡ 0
-    by true q = q
-    by false q = refl
+    zero_either (may_precede nat_le k above) (below_filled kept n out n k m j (drop 1 above) bound f ν v (omega arith) (omega arith) b h)
 
 pub below_rows : (n : ℕ) (outer inner bound : List ℕ) (F : List ℕ → List ℕ → ℕ) → length bound ≤ n → VanishesBelow n 0 bound F → VanishesBelow n (cell_count outer inner) bound (over_rows n outer inner F)
 below_rows n [] inner bound F l v = v
 below_rows n (a ∷ outer) inner bound F l v =
     below_row n (nat_lt 0 (length outer)) (part inner 1) a (cell_count outer (drop 1 inner)) bound (over_rows n outer (drop 1 inner) F) l (below_rows n outer (drop 1 inner) bound F l v)
 
--- every f vanishes below the empty bound
+-- `VanishesBelow` holds for the empty bound and every f
 pub none_below : (n m : ℕ) (f : List ℕ → List ℕ → ℕ) → VanishesBelow n m [] f
 none_below n m f ν right j e b h = absurd (omega arith)
 
--- ---- the end of the range of the numbers of places that are left
+-- ---- the greatest numbers of places with letters up to t for which the bound can still be reached
 
--- a sum of X over a + d numbers is that over the first a, if the other terms are 0
+-- if X is 0 at the last d of the a + d numbers from low on, the sum of X over all of them is that over the first a
 numbers-cut : (X : ℕ → ℕ) (low a d : ℕ) → ((x : ℕ) → low + a ≤ x → x < low + a + d → X x ≡ 0) → sum_by X (numbers_from low (a + d)) ≡ sum_by X (numbers_from low a)
 numbers-cut X low zero d none = numbers-zero X low (0 + d) (λ x g h. none x (omega arith) (omega arith))
 numbers-cut X low (suc a) d none =
@@ -89,7 +89,8 @@ numbers-cut X low (suc a) d none =
     ap (λ k. sum_by X (numbers_from low k)) e
     ∙ ap (λ y. X low + y) (numbers-cut X (low + 1) a d (λ x g h. none x (omega arith) (omega arith)))
 
--- if f is 0 at sums that the bound exceeds by more than m, the terms of `filled` in which the number at t stays too small are 0
+-- let f be 0 at each sum in which some number, plus m, is less than the number of the bound at the same index (`VanishesBelow`). The sum over x, the
+-- number of places that are left for letters up to t, may be restricted to x < end, since for x ≥ end the number at the index t stays too small
 pub bounded_end : (kept : Bool) (n out t k m : ℕ) (above bound : List ℕ) (f : List ℕ → List ℕ → ℕ) (s : List ℕ) (low most end : ℕ) → VanishesBelow n m bound f → out ≤ k → t < n → n ≤ length s
     → most ≡ most_left out t k above
     → end ≡ min (cond (nat_lt t (length bound)) ((k + 1) - ((get_or bound t 0 - get_or s t 0) - m)) (k + 1)) (most + 1)
@@ -115,21 +116,13 @@ bounded_end kept n out t k m above bound f s low most end v o l g is e =
         let c = ap (λ u. cond {A = ℕ} u ((k + 1) - ((get_or bound t 0 - get_or s t 0) - m)) (k + 1)) (le-ltb t (length bound) b) in
         absurd (omega arith)
 
--- ---- the number of cells of the rows of a shape from one row on
+-- ---- the number of cells of the rows from a given row on
 
 pub cells_front : (row : ℕ) (outer inner : List ℕ) → row < length outer
     → cell_count (drop row outer) (drop row inner) ≡ cell_count (drop (row + 1) outer) (drop (row + 1) inner) + (get_or outer row 0 - get_or inner row 0)
 cells_front row [] inner l = absurd (omega arith)
-cells_front zero (a ∷ outer) [] l = ap (λ o. cell_count o [] + (a - 0)) (sym (none outer))
-  where
-    none : (v : List ℕ) → drop 0 v ≡ v
-    none [] = refl
-    none (x ∷ v) = refl
-cells_front zero (a ∷ outer) (b ∷ inner) l = ap (λ o. cell_count o (drop 0 inner) + (a - b)) (sym (none outer))
-  where
-    none : (v : List ℕ) → drop 0 v ≡ v
-    none [] = refl
-    none (x ∷ v) = refl
+cells_front zero (a ∷ outer) [] l = ap (λ o. cell_count o [] + (a - 0)) (sym (drop-none outer))
+cells_front zero (a ∷ outer) (b ∷ inner) l = ap (λ o. cell_count o (drop 0 inner) + (a - b)) (sym (drop-none outer))
 cells_front (suc row) (a ∷ outer) [] l =
     let e : suc row + 1 ≡ suc (row + 1) = omega arith in
     ap (cell_count (drop row outer)) (nothing row) ∙ cells_front row outer [] (omega arith)

@@ -1,4 +1,4 @@
--- One round of the loop over the rows of a shape, and its start.
+-- The loop of `with_rows`: its start, and one pass, in which one row of the shape is added.
 use Rattle.std.proofs.Common.{◌≡◌, ℕ, zero, suc, ◌+◌, ◌-◌, ◌*◌, ◌<◌, ◌≤◌, ◌⊎◌, inl, inr, nat_lt, Bool, true, List, [], ◌∷◌, length, take, drop, get_or, nat_abs, refl, sym, ap, ap₂, subst, ◌∙◌, arith}
 use Rattle.std.proofs.lemmas.Bool.{cases_lt, lt-ltb, le-ltb}
 use Rattle.sym_model.specs.Partition.{Falls, size, part}
@@ -15,8 +15,12 @@ use Rattle.lr_product.proofs.Steps.{positive_factor, reached-tells}
 use Rattle.lr_product.proofs.RowFilling.{vanishes-row}
 use Rattle.lr_product.proofs.RowFold.{rows_columns}
 use Rattle.lr_product.proofs.RowPruning.{below_rows}
+use Rattle.std.proofs.lemmas.List.{drop_all}
+use Rattle.sym_model.proofs.Lists.{drop-none}
+use Rattle.sym_model.proofs.Parts.{size-drop}
+use Rattle.std.proofs.Math.Seq.{drop-nil}
 
--- ---- the sums by rows and by columns over starts, states that are only a sum, without the numbers of a row or column
+-- ---- the sums by rows and by columns are equal for starts, that is, for states with no row or column added yet (`begun` is 0)
 
 fresh_tells : (ν right : List ℕ) → begun ν right ≡ 0 → right ≡ []
 fresh_tells ν [] e = refl
@@ -44,15 +48,11 @@ pub started-fresh : (n : ℕ) (terms : WholeTerms) → started n begun terms ≡
 started-fresh n [] = refl
 started-fresh n (t ∷ terms) = let e = started-fresh n terms in let z : nat_abs t.1 * 0 ≡ 0 = omega arith in omega arith
 
--- ---- one more row of the shape
+-- ---- the table after one more row is added
 
 nothing : (k : ℕ) → drop {A = ℕ} (suc k) [] ≡ drop k []
 nothing zero = refl
 nothing (suc k) = refl
-
-nothing' : (k : ℕ) → drop {A = ℕ} k [] ≡ []
-nothing' zero = refl
-nothing' (suc k) = refl
 
 later : (row m : ℕ) → nat_lt (row + 1) m ≡ nat_lt (suc row + 1) (suc m)
 later row m = by (cases_lt (row + 1) m)
@@ -61,32 +61,20 @@ later row m = by (cases_lt (row + 1) m)
     by (inl l) = lt-ltb (row + 1) m l ∙ sym (lt-ltb (suc row + 1) (suc m) (omega arith))
     by (inr l) = le-ltb (row + 1) m l ∙ sym (le-ltb (suc row + 1) (suc m) (omega arith))
 
+has_more : (o : List ℕ) → nat_lt 0 (length o) ≡ nat_lt 1 (suc (length o))
+has_more [] = refl
+has_more (x ∷ o) = lt-ltb 0 (suc (length o)) (omega arith) ∙ sym (lt-ltb 1 (suc (suc (length o))) (omega arith))
+
 rows_front : (n row : ℕ) (outer inner : List ℕ) (F : List ℕ → List ℕ → ℕ) → row < length outer
     → over_rows n (drop row outer) (drop row inner) F
     ≡ next_row n (nat_lt (row + 1) (length outer)) (get_or inner row 0) (get_or outer row 0) (over_rows n (drop (row + 1) outer) (drop (row + 1) inner) F)
 rows_front n row [] inner F l = absurd (omega arith)
-rows_front n zero (a ∷ outer) [] F l = ap₂ (λ (k : Bool) (o : List ℕ). next_row n k 0 a (over_rows n o [] F)) (more outer) (sym (none outer))
-  where
-    none : (v : List ℕ) → drop 0 v ≡ v
-    none [] = refl
-    none (x ∷ v) = refl
-
-    more : (o : List ℕ) → nat_lt 0 (length o) ≡ nat_lt 1 (suc (length o))
-    more [] = refl
-    more (x ∷ o) = lt-ltb 0 (suc (length o)) (omega arith) ∙ sym (lt-ltb 1 (suc (suc (length o))) (omega arith))
-rows_front n zero (a ∷ outer) (b ∷ inner) F l = ap₂ (λ (k : Bool) (o : List ℕ). next_row n k b a (over_rows n o (drop 0 inner) F)) (more outer) (sym (none outer))
-  where
-    none : (v : List ℕ) → drop 0 v ≡ v
-    none [] = refl
-    none (x ∷ v) = refl
-
-    more : (o : List ℕ) → nat_lt 0 (length o) ≡ nat_lt 1 (suc (length o))
-    more [] = refl
-    more (x ∷ o) = lt-ltb 0 (suc (length o)) (omega arith) ∙ sym (lt-ltb 1 (suc (suc (length o))) (omega arith))
+rows_front n zero (a ∷ outer) [] F l = ap₂ (λ (k : Bool) (o : List ℕ). next_row n k 0 a (over_rows n o [] F)) (has_more outer) (sym (drop-none outer))
+rows_front n zero (a ∷ outer) (b ∷ inner) F l = ap₂ (λ (k : Bool) (o : List ℕ). next_row n k b a (over_rows n o (drop 0 inner) F)) (has_more outer) (sym (drop-none outer))
 rows_front n (suc row) (a ∷ outer) [] F l =
     let e : suc row + 1 ≡ suc (row + 1) = omega arith in
     ap (λ o. over_rows n (drop row outer) o F) (nothing row) ∙ rows_front n row outer [] F (omega arith)
-    ∙ ap₂ (λ (k : Bool) (o : List ℕ). next_row n k 0 (get_or outer row 0) (over_rows n (drop (row + 1) outer) o F)) (later row (length outer)) (nothing' (row + 1) ∙ sym (nothing' (suc row + 1)))
+    ∙ ap₂ (λ (k : Bool) (o : List ℕ). next_row n k 0 (get_or outer row 0) (over_rows n (drop (row + 1) outer) o F)) (later row (length outer)) (drop-nil (row + 1) ∙ sym (drop-nil (suc row + 1)))
     ∙ ap (λ k. next_row n (nat_lt (suc row + 1) (suc (length outer))) 0 (get_or outer row 0) (over_rows n (drop k (a ∷ outer)) (drop (suc row + 1) []) F)) (sym e)
 rows_front n (suc row) (a ∷ outer) (b ∷ inner) F l =
     let e : suc row + 1 ≡ suc (row + 1) = omega arith in
@@ -100,20 +88,10 @@ vanishes-rows n (a ∷ outer) inner bound F l v = vanishes-row n (nat_lt 0 (leng
 
 size_front : (row : ℕ) (outer : List ℕ) → row < length outer → size (drop row outer) ≡ get_or outer row 0 + size (drop (row + 1) outer)
 size_front row [] l = absurd (omega arith)
-size_front zero (a ∷ outer) l = ap (λ o. a + size o) (sym (none outer))
-  where
-    none : (v : List ℕ) → drop 0 v ≡ v
-    none [] = refl
-    none (x ∷ v) = refl
+size_front zero (a ∷ outer) l = ap (λ o. a + size o) (sym (drop-none outer))
 size_front (suc row) (a ∷ outer) l = let e : suc row + 1 ≡ suc (row + 1) = omega arith in size_front row outer (omega arith) ∙ ap (λ k. get_or outer row 0 + size (drop k (a ∷ outer))) (sym e)
 
-size_drop : (row : ℕ) (outer : List ℕ) → size (drop row outer) ≤ size outer
-size_drop zero [] = omega arith
-size_drop zero (a ∷ outer) = omega arith
-size_drop (suc row) [] = omega arith
-size_drop (suc row) (a ∷ outer) = let e = size_drop row outer in omega arith
-
--- there is room for a row of a - b cells: b ≤ a ≤ 4096, and no state of the table has a sum of more than 4096 - (a - b)
+-- there is room for a row of a - b cells: b ≤ a ≤ 4096, and the states of positive count have sums of size at most 4096 - (a - b)
 pub record RowRoom (n row a b : ℕ) (es : List (List ℕ × ℕ)) : Type 0 where
   pub cells : b ≤ a
   pub short : a ≤ 4096
@@ -123,7 +101,7 @@ pub row_room : (n row : ℕ) (outer inner : List ℕ) (es : List (List ℕ × �
     → weighed n (unreached n (4096 - size (drop row outer))) es ≡ 0 → RowRoom n row (get_or outer row 0) (get_or inner row 0) es
 row_room n row outer inner es l holds room z =
     let f = size_front row outer l in
-    let d = size_drop row outer in
+    let d = size-drop row outer in
     record {
       cells = contains_places outer inner holds row;
       short = omega arith;
@@ -135,7 +113,7 @@ pub row_reached : (n row : ℕ) (outer inner : List ℕ) (new : List (List ℕ �
     → weighed n (unreached n (4096 - size (drop (row + 1) outer))) new ≡ 0
 row_reached n row outer inner new l room z =
     let f = size_front row outer l in
-    let d = size_drop row outer in
+    let d = size-drop row outer in
     weighed-weaker n (4096 - size (drop row outer) + (get_or outer row 0 - get_or inner row 0)) (4096 - size (drop (row + 1) outer)) new (omega arith) z
 
 pub row_counts : (n row : ℕ) (outer inner bound : List ℕ) (starts es new : List (List ℕ × ℕ)) (a b later : ℕ) (kept : Bool) → row < length outer → length bound ≤ n
@@ -159,10 +137,4 @@ pub last_row : (n row : ℕ) (outer inner : List ℕ) (starts es : List (List �
     → Agree (weighed n (over_rows n (drop row outer) (drop row inner) (λ ν r. f ν)) es) (weighed n (over_rows n outer inner (λ ν r. f ν)) starts)
     → Agree (weighed n (λ ν r. f ν) es) (weighed n (over_rows n outer inner (λ ν r. f ν)) starts)
 last_row n row outer inner starts es f l agree =
-    subst (λ (o : List ℕ). Agree (weighed n (over_rows n o (drop row inner) (λ ν r. f ν)) es) (weighed n (over_rows n outer inner (λ ν r. f ν)) starts)) (all row outer l) agree
-  where
-    all : (k : ℕ) (o : List ℕ) → length o ≤ k → drop k o ≡ []
-    all zero [] h = refl
-    all (suc k) [] h = refl
-    all zero (x ∷ o) h = absurd (omega arith)
-    all (suc k) (x ∷ o) h = all k o (omega arith)
+    subst (λ (o : List ℕ). Agree (weighed n (over_rows n o (drop row inner) (λ ν r. f ν)) es) (weighed n (over_rows n outer inner (λ ν r. f ν)) starts)) (drop_all row outer l) agree

@@ -1,4 +1,4 @@
--- The tests for good tableaux by columns and by rows agree.
+-- The test for good tableaux by rows gives the same result as that by columns.
 use Rattle.std.proofs.Common.{◌≡◌, ℕ, zero, suc, ◌+◌, ◌-◌, ◌<◌, ◌≤◌, ◌⊎◌, inl, inr, nat_le, Bool, true, ◌&&◌, List, [], ◌∷◌, map, length, drop, get_or, refl, sym, ap, ap₂, subst, ◌∙◌, arith}
 use Rattle.std.proofs.lemmas.Bool.{cases_lt, le-leb, leb-true, and_parts, and_from}
 use Rattle.std.proofs.lemmas.List.{get_or_past, length-map}
@@ -17,28 +17,27 @@ use Rattle.tableau_laws.proofs.RowSums.{pattern_lengths}
 use Rattle.tableau_laws.proofs.Grids.{grid-transposed}
 use Rattle.tableau_laws.proofs.Contents.{times_in-transposed}
 use Rattle.alternant_laws.proofs.Exchanges.{length_content}
-use Rattle.alternant_laws.proofs.StraightShapes.{at_content, falls_places}
+use Rattle.alternant_laws.proofs.StraightShapes.{at_content, falls_places, Places}
 use Rattle.schur_laws.proofs.RisingRows.{up_to_letter, Rises, counts_below}
 use Rattle.schur_laws.proofs.Interlacing.{add_up, add_up-same, add_up-none}
-use Rattle.schur_laws.proofs.TableauPlaces.{row, RowCounts, line_tells, fit_at, grid_back, letters_right, letters_in_all, good_back, sum_at, places_fall}
-use Rattle.schur_laws.proofs.GoodTableaux.{sum_of, all_up_to, tableau_tells, drop_none}
+use Rattle.schur_laws.proofs.TableauPlaces.{row, RowCounts, grid_back, letters_in_all, good_back, sum_at, places_fall, add_up-later}
+use Rattle.schur_laws.proofs.GoodTableaux.{sum_of, all_up_to, tableau_tells, sum_right, row_facts}
 use Rattle.schur_laws.proofs.Companions.{rows_compare, columns_compare}
 use Rattle.schur_laws.proofs.Duality.{contains_places}
 use Rattle.lr_product.proofs.RowWords.{places_down, strip_at, row_test}
+use Rattle.strip_laws.proofs.Strips.{falls_get}
+use Rattle.std.proofs.Math.Seq.{drop-nil}
 
--- whether the padded rows are those of a good tableau: each is weakly increasing and passes its test with the sum and the row before it
+-- whether the rows (with 0 at places outside the shape) are those of a good tableau for ν below the row described by `above`: each is weakly
+-- increasing and passes `row_test` with the sum reached and the row before it
 abbrev pub rows_test : ℕ → List ℕ → List ℕ → List (List ℕ) → Bool
 rows_test n ν above [] = true
 rows_test n ν above (w ∷ P) = (is_chain nat_le w && row_test n ν above w) && rows_test n (join ν (content n w)) (places_down n 0 w) P
 
 -- ---- the numbers of ν plus the content of a row
 
--- no number of ν is greater than the one before it
-abbrev Descends : List ℕ → Type 0
-Descends ν = (k : ℕ) → get_or ν (suc k) 0 ≤ get_or ν k 0
-
--- for all k and r, ν_(k+1) plus the number of letters k + 2 in the rows up to r is at most ν_k plus the number of
--- letters k + 1 in the rows before r
+-- for all k and r, ν_(k+1) plus the number of letters k + 2 in the rows 0, .., r of P is at most ν_k plus the number of letters k + 1 in the rows 0,
+-- .., r - 1
 abbrev Compares : List ℕ → List (List ℕ) → Type 0
 Compares ν P =
     (k r : ℕ) → get_or ν (suc k) 0 + add_up (λ i. times_in (suc (suc k)) (row P i)) 0 (suc r) ≤ get_or ν k 0 + add_up (λ i. times_in (suc k) (row P i)) 0 r
@@ -47,11 +46,7 @@ Compares ν P =
 abbrev HasLetters : ℕ → List (List ℕ) → Type 0
 HasLetters n P = (r k : ℕ) → n < k → times_in k (row P r) ≡ 0
 
-later_sum : (f : ℕ → ℕ) (a k : ℕ) → add_up f (suc a) k ≡ add_up (λ r. f (suc r)) a k
-later_sum f a zero = refl
-later_sum f a (suc k) = ap (λ n. f (suc a) + n) (later_sum f (suc a) k)
-
--- ν plus the content of w has at index k the number ν_k plus the number of letters k + 1 in w
+-- if w has no letter greater than n, the number at the index k of ν plus the content of w is ν_k plus the number of letters k + 1 in w
 sum_with : (n : ℕ) (ν w : List ℕ) → ((k : ℕ) → n < k → times_in k w ≡ 0) → (k : ℕ) → get_or (join ν (content n w)) k 0 ≡ get_or ν k 0 + times_in (suc k) w
 sum_with n ν w h k = get_or-join ν (content n w) k ∙ ap (λ x. get_or ν k 0 + x) (by (cases_lt k n))
   where
@@ -59,11 +54,15 @@ sum_with n ν w h k = get_or-join ν (content n w) k ∙ ap (λ x. get_or ν k 0
     by (inl l) = at_content n k w l
     by (inr l) = let e = length_content n w in get_or_past (content n w) k 0 (omega arith) ∙ sym (h (suc k) (omega arith))
 
--- ---- the test of one row
+-- ---- the test `row_test` of one row
 
 strip_back : (t : ℕ) (ν : List ℕ) (i : ℕ) → ((k : ℕ) → t ≡ suc k → get_or ν (suc k) 0 + i ≤ get_or ν k 0) → strip_at t ν i ≡ true
 strip_back zero ν i h = refl
 strip_back (suc t) ν i h = le-leb (get_or ν (suc t) 0 + i) (get_or ν t 0) (h t refl)
+
+drop_later : (k : ℕ) (v : List ℕ) → drop k (drop 1 v) ≡ drop (suc k) v
+drop_later k [] = drop-nil k
+drop_later k (a ∷ v) = ap (drop k) (drop-none v)
 
 row_back : (t : ℕ) (ν above w : List ℕ) → ((j : ℕ) → j < t → may_precede nat_le (up_to_letter (suc j) w) (drop (t - suc j) above) ≡ true)
     → ((k : ℕ) → suc k < t → get_or ν (suc k) 0 + times_in (suc (suc k)) w ≤ get_or ν k 0) → row_test t ν above w ≡ true
@@ -71,27 +70,16 @@ row_back zero ν above w h s = refl
 row_back (suc t) ν above w h s =
     and_from (may_precede nat_le (up_to_letter (suc t) w) above) (strip_at t ν (times_in (suc t) w) && row_test t ν (drop 1 above) w)
     (let e : suc t - suc t ≡ 0 = omega arith in
-    sym (ap (λ l. may_precede nat_le (up_to_letter (suc t) w) l) (ap (λ k. drop k above) e ∙ whole_list above)) ∙ h t (omega arith))
+    sym (ap (λ l. may_precede nat_le (up_to_letter (suc t) w) l) (ap (λ k. drop k above) e ∙ drop-none above)) ∙ h t (omega arith))
     (and_from (strip_at t ν (times_in (suc t) w)) (row_test t ν (drop 1 above) w)
     (strip_back t ν (times_in (suc t) w) (λ k e. (let g = s k (omega arith) in let x = ap (λ j. times_in (suc j) w) e in omega arith)))
     (row_back t ν (drop 1 above) w (λ j l.
     (let e : suc t - suc j ≡ suc (t - suc j) = omega arith in
-    ap (λ l'. may_precede nat_le (up_to_letter (suc j) w) l') (drop_more (t - suc j) above ∙ ap (λ k. drop k above) (sym e)) ∙ h j (omega arith)))
+    ap (λ l'. may_precede nat_le (up_to_letter (suc j) w) l') (drop_later (t - suc j) above ∙ ap (λ k. drop k above) (sym e)) ∙ h j (omega arith)))
     (λ k l. s k (omega arith))))
-  where
-    whole_list : (v : List ℕ) → drop 0 v ≡ v
-    whole_list [] = refl
-    whole_list (a ∷ v) = refl
 
-    nothing : (k : ℕ) → drop {A = ℕ} k [] ≡ []
-    nothing zero = refl
-    nothing (suc k) = refl
-
-    drop_more : (k : ℕ) (v : List ℕ) → drop k (drop 1 v) ≡ drop (suc k) v
-    drop_more k [] = nothing k
-    drop_more k (a ∷ v) = ap (drop k) (whole_list v)
-
--- the consequences of the test of a row w: it fits below the row above, and ν plus its content is weakly decreasing
+-- the consequences of `row_test` for a row w and the letters up to t: w fits below the row described by `above`, and for k + 1 < t, ν_(k+1) plus the
+-- number of letters k + 2 in w is at most ν_k
 pub record RowTold (t : ℕ) (ν above w : List ℕ) : Type 0 where
   pub below : (j : ℕ) → j < t → may_precede nat_le (up_to_letter (suc j) w) (drop (t - suc j) above) ≡ true
   pub strip : (k : ℕ) → suc k < t → get_or ν (suc k) 0 + times_in (suc (suc k)) w ≤ get_or ν k 0
@@ -107,27 +95,15 @@ row_tells (suc t) ν above w e =
       strip = λ k l. strip t k (cases_lt (suc k) t) l q.0 r;
     }
   where
-    whole_list : (v : List ℕ) → drop 0 v ≡ v
-    whole_list [] = refl
-    whole_list (a ∷ v) = refl
-
-    nothing : (k : ℕ) → drop {A = ℕ} k [] ≡ []
-    nothing zero = refl
-    nothing (suc k) = refl
-
-    drop_more : (k : ℕ) (v : List ℕ) → drop k (drop 1 v) ≡ drop (suc k) v
-    drop_more k [] = nothing k
-    drop_more k (a ∷ v) = ap (drop k) (whole_list v)
-
     below : (j : ℕ) → (j < t) ⊎ (t ≤ j) → j < suc t → may_precede nat_le (up_to_letter (suc t) w) above ≡ true → RowTold t ν (drop 1 above) w
         → may_precede nat_le (up_to_letter (suc j) w) (drop (suc t - suc j) above) ≡ true
     below j (inl l) h p r =
         let e : suc t - suc j ≡ suc (t - suc j) = omega arith in
-        ap (λ l'. may_precede nat_le (up_to_letter (suc j) w) l') (ap (λ k. drop k above) e ∙ sym (drop_more (t - suc j) above)) ∙ r.below j l
+        ap (λ l'. may_precede nat_le (up_to_letter (suc j) w) l') (ap (λ k. drop k above) e ∙ sym (drop_later (t - suc j) above)) ∙ r.below j l
     below j (inr l) h p r =
         let i : j ≡ t = omega arith in
         let e : suc t - suc j ≡ 0 = omega arith in
-        ap₂ (λ k l'. may_precede nat_le (up_to_letter (suc k) w) l') i (ap (λ k. drop k above) e ∙ whole_list above) ∙ p
+        ap₂ (λ k l'. may_precede nat_le (up_to_letter (suc k) w) l') i (ap (λ k. drop k above) e ∙ drop-none above) ∙ p
 
     strip : (t' k : ℕ) → (suc k < t') ⊎ (t' ≤ suc k) → suc k < suc t' → strip_at t' ν (times_in (suc t') w) ≡ true → RowTold t' ν (drop 1 above) w
         → get_or ν (suc k) 0 + times_in (suc (suc k)) w ≤ get_or ν k 0
@@ -137,7 +113,7 @@ row_tells (suc t) ν above w e =
         let i : k ≡ t' = omega arith in
         subst (λ j. get_or ν (suc j) 0 + times_in (suc (suc j)) w ≤ get_or ν j 0) (sym i) (leb-true (get_or ν (suc t') 0 + times_in (suc (suc t')) w) (get_or ν t' 0) q)
 
--- entry d - 1 - i of the numbers of the row w is the number of its letters up to i
+-- for i < d, the entry of `places_down d 0 w` at the index d - 1 - i is the number of letters of w up to i
 drop_places : (d i : ℕ) (x : ℕ) (w : List ℕ) → i < d → may_precede nat_le x (drop (d - suc i) (places_down d 0 w)) ≡ nat_le x (up_to_letter i w)
 drop_places zero i x w l = absurd (omega arith)
 drop_places (suc d) i x w l = by (cases_lt i d) (λ h. drop_places d i x w h)
@@ -151,14 +127,14 @@ drop_places (suc d) i x w l = by (cases_lt i d) (λ h. drop_places d i x w h)
         let z : 0 + d ≡ i = omega arith in
         ap (λ k. may_precede nat_le x (drop k (places_down (suc d) 0 w))) e ∙ ap (λ k. nat_le x (up_to_letter k w)) z
 
--- any number of places fits if no row is above
+-- if there is no row above, any number of places is allowed
 drop_nothing : (k x : ℕ) → may_precede nat_le x (drop k []) ≡ true
 drop_nothing zero x = refl
 drop_nothing (suc k) x = refl
 
--- ---- the test of all rows
+-- ---- the test of all rows of a filling
 
--- the first row of P fits below the row with the numbers `above`, if there is one
+-- the first row of P fits below the row described by `above`, if there is one
 abbrev FirstBelow : ℕ → List ℕ → List (List ℕ) → Type 0
 FirstBelow n above P = (j : ℕ) → j < n → may_precede nat_le (up_to_letter (suc j) (row P 0)) (drop (n - suc j) above) ≡ true
 
@@ -167,8 +143,8 @@ next_compares n ν w P h c k r =
     let a = sum_with n ν w h (suc k) in
     let b = sum_with n ν w h k in
     let x = c k (suc r) in
-    let y = later_sum (λ i. times_in (suc (suc k)) (row (w ∷ P) i)) 0 (suc r) in
-    let z = later_sum (λ i. times_in (suc k) (row (w ∷ P) i)) 0 r in
+    let y = add_up-later (λ i. times_in (suc (suc k)) (row (w ∷ P) i)) 0 (suc r) in
+    let z = add_up-later (λ i. times_in (suc k) (row (w ∷ P) i)) 0 r in
     omega arith
 
 rows_back : (n : ℕ) (ν above : List ℕ) (P : List (List ℕ)) → ((r : ℕ) → Rises (row P r)) → HasLetters n P
@@ -181,8 +157,7 @@ rows_back n ν above (w ∷ P) rises letters columns first compares =
     (λ j l. drop_places n j (up_to_letter (suc j) (row P 0)) w l ∙ le-leb (up_to_letter (suc j) (row P 0)) (up_to_letter j w) (columns 0 j))
     (next_compares n ν w P (letters 0) compares))
 
--- the consequences of the tests of the rows of P: each row is weakly increasing and fits below the one above, and the
--- sums remain weakly decreasing
+-- the consequences of `rows_test` for the rows P: each row is weakly increasing and fits below the row before it, and the sums satisfy `Compares`
 pub record RowsTold (n : ℕ) (ν above : List ℕ) (P : List (List ℕ)) : Type 0 where
   pub rises : (r : ℕ) → Rises (row P r)
   pub first : FirstBelow n above P
@@ -199,7 +174,7 @@ no_letters : (x a k : ℕ) → add_up (λ i. times_in x (row [] i)) a k ≡ 0
 no_letters x a zero = refl
 no_letters x a (suc k) = let e = none_in_rest x a in let f = no_letters x (suc a) k in omega arith
 
-rows_tell : (n : ℕ) (ν above : List ℕ) (P : List (List ℕ)) → length ν ≡ n → Descends ν → HasLetters n P
+rows_tell : (n : ℕ) (ν above : List ℕ) (P : List (List ℕ)) → length ν ≡ n → Places ν → HasLetters n P
     → ((j : ℕ) → j < n → may_precede nat_le 0 (drop (n - suc j) above) ≡ true) → rows_test n ν above P ≡ true → RowsTold n ν above P
 rows_tell n ν above [] long falls letters start e = record {
   rises = λ r. subst Rises (sym (get_or_past {X = List ℕ} [] r [] (omega arith))) refl;
@@ -244,55 +219,20 @@ rows_tell n ν above (w ∷ P) long falls letters start e =
         let a = sum_with n ν w (letters 0) (suc k) in
         let b = sum_with n ν w (letters 0) k in
         let x = rest.compares k r in
-        let y = later_sum (λ i. times_in (suc (suc k)) (row (w ∷ P) i)) 0 (suc r) in
-        let z = later_sum (λ i. times_in (suc k) (row (w ∷ P) i)) 0 r in
+        let y = add_up-later (λ i. times_in (suc (suc k)) (row (w ∷ P) i)) 0 (suc r) in
+        let z = add_up-later (λ i. times_in (suc k) (row (w ∷ P) i)) 0 r in
         omega arith
 
--- ---- the test by columns
-
-row_facts : (n : ℕ) (outer inner : List ℕ) (P : List (List ℕ)) → length P ≡ length outer → ((r : ℕ) → get_or inner r 0 ≤ get_or outer r 0)
-    → AllFit n (pattern_of outer inner) P → (r : ℕ) → RowCounts n (get_or inner r 0) (get_or outer r 0 - get_or inner r 0) (row P r)
-row_facts n outer inner P e inside f r = by (cases_lt r (length outer))
-  where
-    by : (r < length outer) ⊎ (length outer ≤ r) → RowCounts n (get_or inner r 0) (get_or outer r 0 - get_or inner r 0) (row P r)
-    by (inl l) = line_tells n (get_or inner r 0) (get_or outer r 0 - get_or inner r 0) (row P r) (fit_at n outer inner P f r l)
-    by (inr l) =
-        let past : row P r ≡ [] = get_or_past {X = List ℕ} P r [] (omega arith) in
-        let o = get_or_past outer r 0 l in
-        let i = inside r in
-        record {
-          zeros = ap (times_in 0) past ∙ omega arith;
-          long = ap (λ (w : List ℕ). length w) past ∙ omega arith;
-          letters = λ x m. ap (times_in x) past;
-        }
-
-outer_falls : (parts : List ℕ) → Falls parts → (r : ℕ) → get_or parts (suc r) 0 ≤ get_or parts r 0
-outer_falls [] f r = let e = get_or_past {X = ℕ} [] (suc r) 0 (omega arith) in omega arith
-outer_falls (a ∷ []) f zero = omega arith
-outer_falls (a ∷ []) f (suc r) = let e = get_or_past {X = ℕ} [] (suc r) 0 (omega arith) in omega arith
-outer_falls (a ∷ b ∷ parts) f zero = f.0
-outer_falls (a ∷ b ∷ parts) f (suc r) = outer_falls (b ∷ parts) f.1 r
-
--- if no letter of P is greater than n, the sum reached from ν by the columns of P from index j + 1 on has at index i the
--- number ν_i plus the number of letters i + 1 in these columns
-sum_right : (n : ℕ) (ν : List ℕ) (P : List (List ℕ)) → HasLetters n P → (j i : ℕ) → get_or (sum_reached n ν (drop (suc j) (transposed P))) i 0 ≡ sum_of (drop (suc j)) ν P i
-sum_right n ν P h j i =
-    sum_at n ν (drop (suc j) (transposed P)) (λ k l. letters_right k j P ∙ add_up-none (λ r. times_in k (drop (suc j) (row P r))) 0 (length P) (λ r m. none k (suc j) (row P r) (h r k l))) i
-    ∙ ap (λ x. get_or ν i 0 + x) (letters_right (suc i) j P)
-  where
-    none : (k d : ℕ) (w : List ℕ) → times_in k w ≡ 0 → times_in k (drop d w) ≡ 0
-    none k zero [] e = refl
-    none k (suc d) [] e = refl
-    none k zero (a ∷ w) e = e
-    none k (suc d) (a ∷ w) e = none k d w (omega arith)
+-- ---- the test by columns (`is_good_by_columns`), in terms of rows
 
 sum_in_all : (n : ℕ) (ν : List ℕ) (P : List (List ℕ)) → HasLetters n P → (i : ℕ) → get_or (sum_reached n ν (drop 0 (transposed P))) i 0 ≡ sum_of (drop 0) ν P i
 sum_in_all n ν P h i =
-    ap (λ (cs : List (List ℕ)). get_or (sum_reached n ν cs) i 0) (drop_none (transposed P))
+    ap (λ (cs : List (List ℕ)). get_or (sum_reached n ν cs) i 0) (drop-none (transposed P))
     ∙ sum_at n ν (transposed P) (λ k l. times_in-transposed k P ∙ letters_in_all k P ∙ add_up-none (λ r. times_in k (row P r)) 0 (length P) (λ r m. h r k l)) i
     ∙ ap (λ x. get_or ν i 0 + x) (times_in-transposed (suc i) P ∙ letters_in_all (suc i) P ∙ add_up-same (λ r. times_in (suc i) (row P r)) (λ r. times_in (suc i) (drop 0 (row P r))) 0 (length P) (λ r. ap (times_in (suc i)) (sym (drop-none (row P r)))))
 
--- for a filling P of outer/inner, the test by columns gives the same as the test by rows
+-- if ν is weakly decreasing and P is a filling of outer/inner with letters from 1 to n, the test of its columns and the test `rows_test` of its rows
+-- have the same result
 pub test_same : (n : ℕ) (ν outer inner : List ℕ) (P : List (List ℕ)) → Falls outer → contains outer inner ≡ true → length ν ≡ n → is_falling ν ≡ true
     → AllFit n (pattern_of outer inner) P → (are_tableau_columns (transposed P) && is_good_by_columns n ν (transposed P)) ≡ rows_test n ν [] P
 test_same n ν outer inner P falls holds long descends fit =
@@ -340,7 +280,7 @@ test_same n ν outer inner P falls holds long descends fit =
           where
             by : (k < n) ⊎ (n ≤ k) → up_to_letter (suc k) (row P (suc r)) ≤ up_to_letter k (row P r)
             by (inl l) = told.columns r k l
-            by (inr l) = let a = whole (suc k) (suc r) (omega arith) in let b = whole k r l in let f = outer_falls outer falls r in omega arith
+            by (inr l) = let a = whole (suc k) (suc r) (omega arith) in let b = whole k r l in let f = falls_get outer falls r in omega arith
 
         falling : (j : ℕ) → is_falling (sum_reached n ν (drop j (transposed P))) ≡ true
         falling zero = places_fall (sum_reached n ν (drop 0 (transposed P))) (λ i.
@@ -350,8 +290,8 @@ test_same n ν outer inner P falls holds long descends fit =
             let e = columns_compare ν P told.rises columns told.compares (suc j) i in
             let l = sum_right n ν P letters j (suc i) in let r = sum_right n ν P letters j i in omega arith)
 
--- if ν is weakly decreasing and the row w passes its test, ν plus the content of w is weakly decreasing
-pub row_descends : (n : ℕ) (ν above w : List ℕ) → length ν ≡ n → Descends ν → (is_chain nat_le w && row_test n ν above w) ≡ true → Descends (join ν (content n w))
+-- if ν is weakly decreasing and the row w is weakly increasing and passes `row_test`, ν plus the content of w is weakly decreasing
+pub row_descends : (n : ℕ) (ν above w : List ℕ) → length ν ≡ n → Places ν → (is_chain nat_le w && row_test n ν above w) ≡ true → Places (join ν (content n w))
 row_descends n ν above w long falls e k =
     let told = row_tells n ν above w (and_parts (is_chain nat_le w) (row_test n ν above w) e).1 in
     by (cases_lt (suc k) n) told

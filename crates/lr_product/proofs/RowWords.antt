@@ -1,7 +1,7 @@
--- Rows as weakly increasing words, and the sum over them taken letter by letter from the greatest down.
+-- Rows as weakly increasing words, and the sum over all rows computed letter by letter, from the greatest letter down.
 use Rattle.std.proofs.Common.{◌≡◌, ℕ, zero, suc, ◌+◌, ◌-◌, ◌<◌, ◌≤◌, nat_le, Bool, true, false, cond, ◌&&◌, ◌==◌, List, [], ◌∷◌, ◌++◌, map, length, replicate, take, drop, get_or, refl, sym, ap, ap₂, subst, ◌∙◌, arith, ℤ, pos, ◌+ℤ◌, append_assoc, append-nil}
 use Rattle.std.proofs.lemmas.Bool.Decides.{nat_tests}
-use Rattle.std.proofs.lemmas.Bool.{le-leb, lt-leb}
+use Rattle.std.proofs.lemmas.Bool.{le-leb, lt-leb, and_right}
 use Rattle.sym_model.specs.Sum.{total, sum_by}
 use Rattle.sym_model.specs.Partition.{after}
 use Rattle.sym_model.specs.Polynomial.{join}
@@ -21,9 +21,12 @@ use Rattle.lr_product.specs.Extension.{numbers_from, greatest_letter, mark}
 use Rattle.lr_product.specs.WeighedSum.{at_state}
 use Rattle.lr_product.specs.RowExtension.{added, most_left, least_left, filled, next_row}
 use Rattle.lr_product.proofs.Ranges.{range-passing, numbers-ext}
-use Rattle.lr_product.proofs.Raising.{take_all}
+use Rattle.sym_model.proofs.Integers.{nothing_either, nested_tests}
+use Rattle.std.proofs.Math.Seq.{take-append_seam, drop-append_seam}
+use Rattle.schur_laws.proofs.StripsRemoved.{times_in-higher, times_in-itself}
+use Rattle.tableau_laws.proofs.PaddedTableaux.{zeros_first, chain_row}
 
--- ---- the numbers of letters up to a given letter in a word
+-- ---- the number of letters of a word up to a given letter (`up_to_letter`)
 
 up_to-append : (k : ℕ) (v w : List ℕ) → up_to_letter k (v ++ w) ≡ up_to_letter k v + up_to_letter k w
 up_to-append k [] w = omega arith
@@ -41,14 +44,6 @@ up_to-all : (k t : ℕ) (v : List ℕ) → AreLetters t v → t ≤ k → up_to_
 up_to-all k t [] h l = refl
 up_to-all k t (a ∷ v) h l = let e = up_to-all k t v h.1 l in let q = h.0.1 in let f : cond {A = ℕ} (nat_le a k) 1 0 ≡ 1 = grind (arith, nat_tests) in omega arith
 
-times-late : (k t : ℕ) (v : List ℕ) → AreLetters t v → t < k → times_in k v ≡ 0
-times-late k t [] h l = refl
-times-late k t (a ∷ v) h l = let e = times-late k t v h.1 l in let q = h.0.1 in let f : cond {A = ℕ} (a == k) 1 0 ≡ 0 = grind (arith, nat_tests) in omega arith
-
-times-run : (i a : ℕ) → times_in a (replicate i a) ≡ i
-times-run zero a = refl
-times-run (suc i) a = let e = times-run i a in let f : cond {A = ℕ} (a == a) 1 0 ≡ 1 = grind (arith, nat_tests) in omega arith
-
 times-other : (k i a : ℕ) → a < k → times_in k (replicate i a) ≡ 0
 times-other k zero a l = refl
 times-other k (suc i) a l = let e = times-other k i a l in let f : cond {A = ℕ} (a == k) 1 0 ≡ 0 = grind (arith, nat_tests) in omega arith
@@ -63,9 +58,9 @@ up_to-padded k b w = let e = up_to-append k (replicate b 0) w in let f = up_to-r
 times-padded : (k b : ℕ) (w : List ℕ) → 0 < k → times_in k (padded b w) ≡ times_in k w
 times-padded k b w l = let e = times_in-append k (replicate b 0) w in let f = times_in-zeros k b l in omega arith
 
--- ---- the numbers of places of a row with letters up to each letter
+-- ---- the numbers of places of a row with letters up to t, for each t
 
--- the numbers of places of w with a letter at most t + d - 1, .., t
+-- for each of the letters t + d - 1, t + d - 2, .., t, the number of letters of w that are at most this letter
 abbrev pub places_down : ℕ → ℕ → List ℕ → List ℕ
 places_down zero t w = []
 places_down (suc d) t w = up_to_letter (t + d) w ∷ places_down d t w
@@ -78,12 +73,12 @@ places-last : (d t : ℕ) (w : List ℕ) → places_down (suc d) t w ≡ places_
 places-last zero t w = let e : t + 0 ≡ t = omega arith in ap (λ k. up_to_letter k w ∷ []) e
 places-last (suc d) t w = let e : t + suc d ≡ suc t + d = omega arith in ap₂ ◌∷◌ (ap (λ k. up_to_letter k w) e) (places-last d t w)
 
--- the numbers of places of w if the row is kept, otherwise the empty list
+-- `places_down d t w` if the row is kept (true), otherwise the empty list
 abbrev pub kept_row : Bool → ℕ → ℕ → List ℕ → List ℕ
 kept_row true d t w = places_down d t w
 kept_row false d t w = []
 
--- the numbers of letters t + 1, .., t + d in w
+-- for each of the letters t + 1, .., t + d, the number of times that it occurs in w
 abbrev counts : ℕ → ℕ → List ℕ → List ℕ
 counts zero t w = []
 counts (suc d) t w = times_in (suc t) w ∷ counts d (suc t) w
@@ -98,7 +93,7 @@ counts-content (suc d) t w = let e : t + 1 ≡ suc t = omega arith in ap₂ ◌�
 
 -- ---- the state while a row is filled
 
--- ν with the numbers κ added to its own from index t on
+-- the list ν with the numbers of κ added to those of ν from the index t on
 abbrev joined : ℕ → List ℕ → List ℕ → List ℕ
 joined zero ν κ = join ν κ
 joined (suc t) [] κ = []
@@ -120,41 +115,28 @@ joined-none [] = refl
 joined-none (a ∷ ν) = ap (λ s. a ∷ s) (joined-none ν)
 
 at-parts : (n : ℕ) (f : List ℕ → List ℕ → ℕ) (s w : List ℕ) → length s ≡ n → at_state n f (s ++ w) ≡ f s w
-at-parts n f s w e = ap₂ f (ap (λ k. take k (s ++ w)) (sym e) ∙ take_all s w) (ap (λ k. drop k (s ++ w)) (sym e) ∙ drop_all s)
-  where
-    drop_none : (v : List ℕ) → drop 0 v ≡ v
-    drop_none [] = refl
-    drop_none (a ∷ v) = refl
+at-parts n f s w e = ap₂ f (ap (λ k. take k (s ++ w)) (sym e) ∙ take-append_seam s w) (ap (λ k. drop k (s ++ w)) (sym e) ∙ drop-append_seam s w)
 
-    drop_all : (v : List ℕ) → drop (length v) (v ++ w) ≡ w
-    drop_all [] = drop_none w
-    drop_all (a ∷ v) = drop_all v
+-- ---- the test of a row
 
--- ---- the tests that a row must pass
-
--- whether i letters t + 1 may be added to ν as a horizontal strip: ν at index t, plus i, is at most ν at index t - 1
--- (always true for t = 0)
+-- whether i letters t + 1 may be added to ν as a part of a horizontal strip: ν_t + i ≤ ν_(t-1) (always true for t = 0)
 abbrev pub strip_at : ℕ → List ℕ → ℕ → Bool
 strip_at zero ν i = true
 strip_at (suc t) ν i = nat_le (get_or ν (suc t) 0 + i) (get_or ν t 0)
 
--- whether the letters up to t of w fit below the row with the numbers `above` and may be added to ν
+-- whether the letters of w up to t are allowed below the row described by `above`, and may be added to ν (`strip_at` for each letter)
 abbrev pub row_test : ℕ → List ℕ → List ℕ → List ℕ → Bool
 row_test zero ν above w = true
 row_test (suc t) ν above w =
     may_precede nat_le (up_to_letter (suc t) w) above && (strip_at t ν (times_in (suc t) w) && row_test t ν (drop 1 above) w)
 
--- whether b zeros and m letters up to t fit below the row with the numbers `above`
+-- whether a row that begins with b zeros and m letters up to t is allowed below the row described by `above`
 abbrev some_row : ℕ → ℕ → ℕ → List ℕ → Bool
 some_row zero b zero above = true
 some_row zero b (suc m) above = false
 some_row (suc t) b m above = may_precede nat_le (b + m) above
 
--- ---- sums of natural numbers as integers
-
-nothing_either : (t : Bool) → cond t (pos 0) (pos 0) ≡ pos 0
-nothing_either true = refl
-nothing_either false = refl
+-- ---- sums of natural numbers, as sums of integers
 
 pulled : (t j : ℕ) (p q : Bool) (r : List ℕ → Bool) (x : List ℕ → ℤ)
     → over_rising t j (λ v. cond (p && (q && r v)) (x v) (pos 0)) ≡ cond p (cond q (over_rising t j (λ v. cond (r v) (x v) (pos 0))) (pos 0)) (pos 0)
@@ -183,18 +165,19 @@ sum-tested true x low k = refl
 sum-tested false x low zero = refl
 sum-tested false x low (suc k) = let e = sum-tested false x (low + 1) k in let z : 0 + sum_by (λ left. cond {A = ℕ} false (x left) 0) (numbers_from (low + 1) k) ≡ sum_by (λ left. cond {A = ℕ} false (x left) 0) (numbers_from (low + 1) k) = omega arith in z ∙ e
 
--- ---- the sum over the rows, from the greatest letter down
+-- ---- the sum over all rows, from the greatest letter down
 
 module _ (n b : ℕ) (kept : Bool) (f : List ℕ → List ℕ → ℕ) (ν : List ℕ) (long : length ν ≡ n) (falls : (i : ℕ) → get_or ν (suc i) 0 ≤ get_or ν i 0) where
-  -- f of ν plus the content of w, and of the numbers of places of w if the row is kept
+  -- f applied to ν plus the content of w and, if the row is kept, to the numbers that describe w, otherwise to the empty list
   value : List ℕ → ℕ
   value w = f (join ν (content n w)) (kept_row kept n 0 w)
 
-  -- the state when the d letters greater than t are placed, as the word `tail`, and k places are left for the letters up to t
+  -- the state after the letters greater than t (d of them, t + 1, .., t + d) have been placed as the word `tail`, while k places are left for letters
+  -- up to t
   state : ℕ → ℕ → ℕ → List ℕ → List ℕ
   state d t k tail = joined t ν (counts d t tail) ++ kept_row kept d t (padded k tail)
 
-  -- adding i letters t + 1 to the state with k places left gives the state with left = k - i places left
+  -- if left + i = k, adding i letters t + 1 to the state with k places left gives the state with `left` places left
   state-next : (d t left i k : ℕ) (tail : List ℕ) → t < n → left + i ≡ k → up_to_letter (suc t) tail ≡ 0
       → added t i (state d (suc t) k tail) ++ mark kept left ≡ state (suc d) t left (replicate i (suc t) ++ tail)
   unfolding state
@@ -206,7 +189,7 @@ module _ (n b : ℕ) (kept : Bool) (f : List ℕ → List ℕ → ℕ) (ν : Lis
       here : i ≡ times_in (suc t) (replicate i (suc t) ++ tail)
       here =
           let a = times_in-append (suc t) (replicate i (suc t)) tail in
-          let r = times-run i (suc t) in
+          let r = times_in-itself (suc t) i in
           let z = few_times (suc t) tail in
           omega arith
 
@@ -238,7 +221,8 @@ module _ (n b : ℕ) (kept : Bool) (f : List ℕ → List ℕ → ℕ) (ν : Lis
           ap₂ (λ (m : List ℕ) (x : ℕ). m ++ (x ∷ [])) (places-ext d (suc t) (padded k tail) (padded left (replicate i (suc t) ++ tail)) after_t) (sym at_t)
           ∙ sym (places-last d t (padded left (replicate i (suc t) ++ tail)))
 
-  -- whether `left` of the k places may be left for letters up to t
+  -- whether k - left letters t + 1 may be added to ν, and a row in which `left` of the k places then remain for letters up to t is allowed below the
+  -- row described by `above`
   may_leave : ℕ → ℕ → List ℕ → ℕ → Bool
   may_leave t k above left = strip_at t ν (k - left) && some_row t b (left - b) above
 
@@ -281,18 +265,14 @@ module _ (n b : ℕ) (kept : Bool) (f : List ℕ → List ℕ → ℕ) (ν : Lis
 
       too_high : (x : ℕ) → least_left b (suc t) k s ≤ x → greatest_letter k above + 1 ≤ x → x ≤ k → (r : List ℕ) → above ≡ r → nat_le (get_or ν (suc t) 0 + (k - x)) (get_or ν t 0) && may_precede nat_le (b + (x - b)) above ≡ false
       too_high x g h q r is =
-          no_second (nat_le (get_or ν (suc t) 0 + (k - x)) (get_or ν t 0))
-          (ap (may_precede nat_le (b + (x - b))) is ∙ by r (subst (λ z. greatest_letter k z + 1 ≤ x) is h))
+          and_right (nat_le (get_or ν (suc t) 0 + (k - x)) (get_or ν t 0)) _ (ap (may_precede nat_le (b + (x - b))) is ∙ by r (subst (λ z. greatest_letter k z + 1 ≤ x) is h))
         where
-          no_second : (p : Bool) {y : Bool} → y ≡ false → p && y ≡ false
-          no_second true z = z
-          no_second false z = refl
-
           by : (r : List ℕ) → greatest_letter k r + 1 ≤ x → may_precede nat_le (b + (x - b)) r ≡ false
           by [] z = absurd (omega arith)
           by (a ∷ r) z = lt-leb (b + (x - b)) a (omega arith)
 
-  -- the sum over the words v of m letters up to t, in front of the placed letters `tail`, is that of `filled`
+  -- the sum over the rows that pass `row_test` and consist of b zeros, m letters up to t, and the letters `tail`, is the sum `filled` from the state
+  -- in which `tail` has been placed
   row_sum : (t d m : ℕ) (tail above : List ℕ) → t + d ≡ n → up_to_letter t tail ≡ 0
       → over_rising t m (λ v. cond (row_test t ν above (padded b (v ++ tail))) (pos (value (padded b (v ++ tail)))) (pos 0))
       ≡ pos (cond (some_row t b m above) (filled kept n b t (b + m) (drop 1 above) f (state d t (b + m) tail)) 0)
@@ -373,8 +353,8 @@ module _ (n b : ℕ) (kept : Bool) (f : List ℕ → List ℕ → ℕ) (ν : Lis
                   let a = times-padded (suc t) b (v ++ (replicate i (suc t) ++ tail)) (omega arith) in
                   let c = times_in-append (suc t) v (replicate i (suc t) ++ tail) in
                   let c' = times_in-append (suc t) (replicate i (suc t)) tail in
-                  let r = times-run i (suc t) in
-                  let s = times-late (suc t) t v q (omega arith) in
+                  let r = times_in-itself (suc t) i in
+                  let s = times_in-higher t (suc t) v q (omega arith) in
                   let z = few_times (suc t) tail in
                   omega arith
 
@@ -390,24 +370,6 @@ module _ (n b : ℕ) (kept : Bool) (f : List ℕ → List ℕ → ℕ) (ν : Lis
           (cond (strip_at t ν (b + m - left) && some_row t b (left - b) (drop 1 above)) (filled kept n b t left (drop 1 (drop 1 above)) f s) 0) 0)
           (sym (state-next d t left (b + m - left) (b + m) tail (omega arith) (omega arith) none))
 
--- zeros in front do not change whether a word is weakly increasing
-zeros_first : (b : ℕ) (w : List ℕ) → is_chain nat_le (replicate b 0 ++ w) ≡ is_chain nat_le w
-zeros_first zero w = refl
-zeros_first (suc b) w = ap (λ t. t && is_chain nat_le (replicate b 0 ++ w)) (from_zero (replicate b 0 ++ w)) ∙ zeros_first b w
-  where
-    from_zero : (v : List ℕ) → may_precede nat_le 0 v ≡ true
-    from_zero [] = refl
-    from_zero (a ∷ v) = le-leb 0 a (omega arith)
-
-chain_row : (w : List ℕ) → is_chain nat_le w ≡ row_rises w
-chain_row [] = refl
-chain_row (a ∷ []) = refl
-chain_row (a ∷ c ∷ w) = ap (λ p. nat_le a c && p) (chain_row (c ∷ w))
-
-two_tests : (p q : Bool) (z : ℤ) → cond (p && q) z (pos 0) ≡ cond p (cond q z (pos 0)) (pos 0)
-two_tests true q z = refl
-two_tests false q z = refl
-
 pub over_row_words : (n b m : ℕ) (kept : Bool) (f : List ℕ → List ℕ → ℕ) (ν above : List ℕ) → 0 < n → length ν ≡ n → ((i : ℕ) → get_or ν (suc i) 0 ≤ get_or ν i 0)
     → total (λ (w : List ℕ). cond (is_chain nat_le w && row_test n ν above w) (pos (f (join ν (content n w)) (kept_row kept n 0 w))) (pos 0)) (words_over n (line_of b m))
     ≡ pos (next_row n kept b (b + m) f ν above)
@@ -418,7 +380,7 @@ over_row_words (suc t) b m kept f ν above some long falls =
     ∙ total_map (λ (w : List ℕ). cond (is_chain nat_le w && row_test (suc t) ν above w) (pos (f (join ν (content (suc t) w)) (kept_row kept (suc t) 0 w))) (pos 0)) (λ (w : List ℕ). replicate b 0 ++ w) (words (suc t) m)
     ∙ total_ext (λ (v : List ℕ). cond (is_chain nat_le (padded b v) && row_test (suc t) ν above (padded b v)) (pos (f (join ν (content (suc t) (padded b v))) (kept_row kept (suc t) 0 (padded b v)))) (pos 0))
     (λ (v : List ℕ). cond (row_rises v) (cond (row_test (suc t) ν above (padded b (v ++ []))) (pos (f (join ν (content (suc t) (padded b (v ++ [])))) (kept_row kept (suc t) 0 (padded b (v ++ []))))) (pos 0)) (pos 0))
-    (λ v. two_tests (is_chain nat_le (padded b v)) (row_test (suc t) ν above (padded b v)) (pos (f (join ν (content (suc t) (padded b v))) (kept_row kept (suc t) 0 (padded b v))))
+    (λ v. sym (nested_tests (is_chain nat_le (padded b v)) (row_test (suc t) ν above (padded b v)) (pos (f (join ν (content (suc t) (padded b v))) (kept_row kept (suc t) 0 (padded b v)))))
     ∙ ap₂ (λ (p : Bool) (w : List ℕ). cond p (cond (row_test (suc t) ν above (padded b w)) (pos (f (join ν (content (suc t) (padded b w))) (kept_row kept (suc t) 0 (padded b w)))) (pos 0)) (pos 0)) (zeros_first b v ∙ chain_row v) (sym (append-nil v)))
     (words (suc t) m)
     ∙ row_sum (suc t) b kept f ν long falls (suc t) 0 m [] above (omega arith) refl

@@ -1,4 +1,4 @@
--- The table after one more column is added, one entry after another.
+-- The loop of `with_column`: one more column added to each entry of a table.
 use Rattle.std.proofs.Common.{◌≡◌, ℕ, zero, suc, ◌+◌, ◌*◌, ◌^◌, ◌<◌, ◌≤◌, ◌⊎◌, inl, inr, ◌==◌, nat_le, Bool, true, false, ◌&&◌, cond, List, [], ◌∷◌, length, take, drop, refl, sym, ap, ap₂, ◌∙◌, arith}
 use Rattle.std.specs.Prelude.{Some, slice_get}
 use Rattle.std.proofs.lemmas.Bool.{leb-true, eqb-true, cases_lt}
@@ -7,17 +7,14 @@ use Rattle.sym_model.specs.GoodTableau.{is_falling}
 use Rattle.lr_product.specs.WeighedSum.{at_state, weighed, unreached}
 use Rattle.lr_product.specs.Capped.{Agree}
 use Rattle.lr_product.proofs.Agreeing.{agree_same, agree_then, agree_sum, agree_times}
+use Rattle.sym_model.proofs.Lists.{drop-none}
 
 pub weighed-drop : (n : ℕ) (g : List ℕ → List ℕ → ℕ) (es : List (List ℕ × ℕ)) (i : ℕ) (p : List ℕ × ℕ) → slice_get es i ≡ Some p
     → weighed n g (drop i es) ≡ p.1 * at_state n g p.0 + weighed n g (drop (i + 1) es)
 weighed-drop n g [] i p h = cc
 weighed-drop n g (e ∷ es) zero p h =
     let here : e ≡ p = cc in
-    ap₂ (λ (x : List ℕ × ℕ) (ds : List (List ℕ × ℕ)). x.1 * at_state n g x.0 + weighed n g ds) here (none_dropped es)
-  where
-    none_dropped : (ds : List (List ℕ × ℕ)) → ds ≡ drop 0 ds
-    none_dropped [] = refl
-    none_dropped (d ∷ ds) = refl
+    ap₂ (λ (x : List ℕ × ℕ) (ds : List (List ℕ × ℕ)). x.1 * at_state n g x.0 + weighed n g ds) here (sym (drop-none es))
 weighed-drop n g (e ∷ es) (suc i) p h =
     let k : suc i + 1 ≡ suc (i + 1) = omega arith in
     weighed-drop n g es i p h ∙ ap (λ j. p.1 * at_state n g p.0 + weighed n g (drop j (e ∷ es))) (sym k)
@@ -34,11 +31,11 @@ weighed-none n g (e ∷ es) zero key w z h l =
     positive_factor w (at_state n g key) l (ap (λ (x : List ℕ × ℕ). x.1 * at_state n g x.0) (sym here) ∙ (let q : e.1 * at_state n g e.0 ≡ 0 = omega arith in q))
 weighed-none n g (e ∷ es) (suc i) key w z h l = weighed-none n g es i key w (omega arith) h l
 
--- 0 if all three truth values are true, else 1
+-- 0 if p, q and r are true, otherwise 1
 abbrev no_of : Bool → Bool → Bool → ℕ
 no_of p q r = cond (p && (q && r)) 0 1
 
--- ν is a weakly decreasing list of n numbers with a sum of at most m
+-- ν is a weakly decreasing list of n numbers that add up to at most m
 pub record IsReached (n m : ℕ) (ν : List ℕ) : Type 0 where
   pub long : length ν ≡ n
   pub small : size ν ≤ m

@@ -1,8 +1,8 @@
--- The count of a sum in a table, and the counts of products.
+-- The count of one partition in a table, and the counts of products.
 use Rattle.std.proofs.Common.{◌≡◌, ℕ, zero, suc, ◌+◌, ◌*◌, ◌^◌, ◌<◌, ◌≤◌, ◌==◌, ◌⊎◌, inl, inr, nat_le, Bool, true, false, cond, ◌&&◌, List, [], ◌∷◌, min, length, take, get_or, refl, sym, ap, ap₂, ◌∙◌, arith, pos}
 use Rattle.std.specs.Prelude.{nat_eq}
 use Rattle.std.specs.Cmp.Lexicographic.{pointwise}
-use Rattle.std.proofs.lemmas.Bool.{ne_eqb, le-leb, cases_lt}
+use Rattle.std.proofs.lemmas.Bool.{ne_eqb, le-leb, cases_lt, and_right}
 use Rattle.std.proofs.lemmas.Int.{ints}
 use Rattle.sym_model.specs.Partition.{ArePositive, IsPartition, rows, in_front, without_last_zeros}
 use Rattle.sym_model.specs.Polynomial.{same, resize}
@@ -17,6 +17,8 @@ use Rattle.lr_product.specs.Capped.{Agree}
 use Rattle.lr_product.proofs.Agreeing.{agree_same, agree_then}
 use Rattle.lr_product.proofs.Steps.{agree_entry}
 use Rattle.lr_product.proofs.ColumnsOfCounts.{over-states, over-ext}
+use Rattle.sym_model.proofs.Numbers.{second_false}
+use Rattle.sym_model.proofs.Integers.{pos-cond}
 
 pub same-whole : (s ν : List ℕ) → length s ≤ length ν → ArePositive ν → pointwise nat_eq s ν ≡ same (without_last_zeros s) ν
 same-whole [] [] h p = refl
@@ -41,11 +43,7 @@ pub begins : (s ν : List ℕ) → ArePositive ν → pointwise nat_eq (take (le
 begins s ν p = same-whole (take (length ν) s) ν (length_take (length ν) s) p
 
 pub pos_comes : (parts ν right : List ℕ) → pos (comes_to parts ν right) ≡ is_sum parts ν right
-pos_comes parts ν right = by (same (without_last_zeros ν) parts)
-  where
-    by : (t : Bool) → pos (cond t 1 0) ≡ cond t (pos 1) (pos 0)
-    by true = refl
-    by false = refl
+pos_comes parts ν right = pos-cond (same (without_last_zeros ν) parts) 1
 
 pub comes-begins : (parts key : List ℕ) (t : Bool) → ArePositive parts → t ≡ pointwise nat_eq (take (length parts) key) parts → at_state (length parts) (comes_to parts) key ≡ cond t 1 0
 comes-begins parts key t p e = sym (ap (λ s. cond s 1 0) (e ∙ begins key parts p))
@@ -61,18 +59,10 @@ agree_counted now rest all rest' ways x saturated next p e o s a =
 
 in_front-rest : (a : ℕ) (l : List ℕ) (b : ℕ) (outer : List ℕ) → same l outer ≡ false → same (in_front a l) (b ∷ outer) ≡ false
 in_front-rest zero [] b outer e = refl
-in_front-rest zero (x ∷ l) b outer e = and_false (0 == b) e
-  where
-    and_false : (t : Bool) {u : Bool} → u ≡ false → t && u ≡ false
-    and_false true e' = e'
-    and_false false e' = refl
-in_front-rest (suc a) l b outer e = and_false (suc a == b) e
-  where
-    and_false : (t : Bool) {u : Bool} → u ≡ false → t && u ≡ false
-    and_false true e' = e'
-    and_false false e' = refl
+in_front-rest zero (x ∷ l) b outer e = and_right (0 == b) _ e
+in_front-rest (suc a) l b outer e = and_right (suc a == b) _ e
 
--- if a sum exceeds `outer` at some place, it is not `outer` without its last zeros
+-- if some number of ν is greater than the part of `outer` at the same index, ν without the zeros at its end is not `outer`
 pub comes-inside : (outer ν right : List ℕ) → pass_by_place nat_le ν outer ≡ false → comes_to outer ν right ≡ 0
 comes-inside outer ν right h = ap (λ t. cond t 1 0) (by_places ν outer h)
   where
@@ -86,15 +76,11 @@ comes-inside outer ν right h = ap (λ t. cond t 1 0) (by_places ν outer h)
     by_places (a ∷ ν') [] g = absurd (cc)
     by_places (a ∷ ν') (b ∷ outer') g = split (cases_lt b a) (by_places ν' outer')
       where
-        tail : (t : Bool) → t ≡ true → t && pass_by_place nat_le ν' outer' ≡ false → pass_by_place nat_le ν' outer' ≡ false
-        tail true e k = k
-        tail false e k = absurd (cc)
-
         split : (b < a) ⊎ (a ≤ b) → (pass_by_place nat_le ν' outer' ≡ false → same (without_last_zeros ν') outer' ≡ false) → same (in_front a (without_last_zeros ν')) (b ∷ outer') ≡ false
         split (inl l) rec = front a (without_last_zeros ν') b outer' l
-        split (inr l) rec = in_front-rest a (without_last_zeros ν') b outer' (rec (tail (nat_le a b) (le-leb a b l) g))
+        split (inr l) rec = in_front-rest a (without_last_zeros ν') b outer' (rec (second_false (nat_le a b) (le-leb a b l) g))
 
--- if a sum is less than `outer` at some place, it is not `outer` without its last zeros
+-- if some number of a sum is less than the part of `outer` at the same index, the sum without the zeros at its end is not `outer`
 comes-below : (n : ℕ) (outer : List ℕ) → VanishesBelow n 0 outer (comes_to outer)
 comes-below n outer ν right j e h g = ap (λ t. cond t 1 0) (short ν outer j h (omega arith))
   where
@@ -109,7 +95,8 @@ comes-below n outer ν right j e h g = ap (λ t. cond t 1 0) (short ν outer j h
     short (a ∷ ν') (b ∷ outer') zero l q = first a (without_last_zeros ν') b outer' q
     short (a ∷ ν') (b ∷ outer') (suc i) l q = in_front-rest a (without_last_zeros ν') b outer' (short ν' outer' i (omega arith) q)
 
--- the number of ways to reach `content` by the columns of outer/inner is the count of the product
+-- if inner lies inside outer, the number of ways to reach the sum `content` from the empty start by the columns of outer/inner is the count of outer
+-- in the product of inner and content
 pub states-shape : (inner content outer : List ℕ) → IsPartition inner → IsPartition content → IsPartition outer → contains outer inner ≡ true
     → over_states (rows content) (column_lines outer inner) (comes_to content) (resize (rows content) []) [] ≡ product_count (rows outer) inner content outer
 states-shape inner content outer p q r h =

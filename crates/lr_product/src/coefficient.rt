@@ -1,4 +1,4 @@
-//! One coefficient of a product.
+//! One coefficient of a product of two Schur polynomials.
 ghost use Rattle.std.specs.Prelude.{◌≡◌, ℕ, ◌+◌, ◌^◌, ◌<◌, ◌≤◌, List, pos, length, take, nat_eq};
 ghost use Rattle.std.specs.Prelude.{IfOk, OnOk, IsErrOf};
 ghost use Rattle.std.specs.Cmp.Lexicographic.{pointwise};
@@ -19,10 +19,10 @@ use partitions::Partition;
 use std::alloc::Global;
 
 /// The coefficient of the Schur polynomial of `outer` in the product of those of `left` and
-/// `right`: the number of good tableaux T of the shape `right` such that `left` + content(T) is
-/// `outer`.
+/// `right`: the number of good tableaux T of the shape `right` for the start `left` such that
+/// `left` + content(T) = `outer`.
 ///
-/// Returns `Large` if and only if it exceeds 2^127 - 1.
+/// Unless memory runs out, returns `Large` if and only if this coefficient exceeds 2^127 - 1.
 pub fn coef(
     alloc: Global,
     outer: &Partition,
@@ -41,9 +41,9 @@ pub fn coef(
     count_in(alloc, outer, left, right)
 }
 
-/// The coefficient of `outer` in the product of `left` and `right`, as the number of lattice
-/// tableaux of the skew shape of `outer` by the factor with more cells, whose content is the other
-/// factor. With the factors exchanged, the skew shape would have at least as many cells.
+/// The coefficient of `outer` in the product of `left` and `right`: the number of lattice tableaux
+/// of the skew shape outer/inner with the content μ. Here inner is the factor that has more cells,
+/// and μ is the other factor; with the factors exchanged, the skew shape would not be smaller.
 fn count_in(
     alloc: Global,
     outer: &Partition,
@@ -64,8 +64,8 @@ fn count_in(
     count_inside(alloc, outer, left, right)
 }
 
-/// The number of lattice tableaux of the skew shape `outer`/`inner` with the content `content`.
-/// Only letters up to the number of its parts occur, so no others are tried.
+/// The number of lattice tableaux of the skew shape outer/inner with the content `content`. Their
+/// letters are at most the number of parts of `content`, so only these letters are tried.
 fn count_inside(
     alloc: Global,
     outer: &Partition,
@@ -93,8 +93,8 @@ fn count_inside(
     Ok(Int::new(count as i128))
 }
 
-/// The sum of the counts of the states that begin with `parts`, or the cap, 2^127, if it is
-/// greater.
+/// The sum of the counts of those states of the table that begin with `parts`, or 2^127 if the sum
+/// is greater.
 fn count_of(table: &States, parts: &[u16]) -> u128
     requires { ArePositive parts.now }
     ensures agrees { Agree result
@@ -112,7 +112,7 @@ fn count_of(table: &States, parts: &[u16]) -> u128
     count
 }
 
-/// Whether `numbers` begins with `parts`.
+/// Whether the first numbers of `numbers` are `parts`.
 fn begins_with(numbers: &[u16], parts: &[u16]) -> bool
     ensures { result ≡ pointwise nat_eq (take (length parts.now) numbers.now) parts.now }
 {

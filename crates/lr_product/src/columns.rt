@@ -1,4 +1,5 @@
-//! All columns of a shape added one by one, from the rightmost to the leftmost.
+//! The columns of a shape added one by one to the states of a table, from the rightmost column to
+//! the leftmost.
 ghost use Rattle.std.specs.Prelude.{◌≡◌, ℕ, ◌+◌, ◌-◌, ◌*◌, ◌^◌, ◌≤◌, true, List, [], length, IfOk};
 ghost use Rattle.std.specs.Prelude.{OnOk};
 ghost use Rattle.sym_model.specs.Partition.{IsPartition, size, rows};
@@ -18,9 +19,10 @@ use calc_base::NoMemory;
 use partitions::Partition;
 use std::alloc::Global;
 
-/// For each partition ν, the number, or 2^127 if it is greater, of the tableaux T of a skew shape
-/// with entries up to `letters` that are good for `start` and for which `start` + content(T) = ν. A
-/// ν may be missing if it differs from the bound at one of the places that the bound has.
+/// For each partition ν, the number of good tableaux T of outer/inner for `start`, with entries up
+/// to `letters`, such that start + content(T) = ν; 2^127 if the number is greater. If `bound` is
+/// not empty, this holds for those ν that begin with the numbers of `bound`; other ν may be missing
+/// or have smaller numbers.
 pub(crate) fn ways_by_columns(
     alloc: Global,
     start: &[u16],
@@ -49,8 +51,9 @@ pub(crate) fn ways_by_columns(
     with_shape(alloc, starts, outer, inner, letters, bound)
 }
 
-/// The table of the states after all columns of outer/inner are added to those of `starts`, with
-/// letters from 1 to `letters`. Its counts, capped at 2^127, are correct for sums within `bound`.
+/// The table of the states reached from those of `starts` by adding all columns of outer/inner,
+/// with letters from 1 to `letters`. Its counts, capped at 2^127, are correct for the sums of which
+/// no number exceeds that of `bound` at the same index.
 pub(crate) fn with_columns(
     alloc: Global,
     starts: States,
@@ -84,7 +87,8 @@ pub(crate) fn with_columns(
     Ok(table)
 }
 
-/// For each row that reaches a column, whether its place in the column is a cell.
+/// For each row of `outer` that has at least `column` cells, whether outer/inner has a cell in that
+/// row and column.
 fn line_of(alloc: Global, outer: &[u16], inner: &[u16], column: u16) -> Result<Vec<bool>, NoMemory>
     ensures { IfOk result (λ line. line.items ≡ column_line column outer.now inner.now) }
 {
@@ -98,7 +102,8 @@ fn line_of(alloc: Global, outer: &[u16], inner: &[u16], column: u16) -> Result<V
     Ok(line)
 }
 
-/// The table whose only state is the start, padded with zeros, before any column, with count 1.
+/// The table with a single state, whose count is 1. Its sum is `start` followed by zeros, `letters`
+/// numbers in all, and no column has been added to it.
 fn first_table(alloc: Global, start: &[u16], letters: u16) -> Result<States, NoMemory>
     requires { rows start.now ≤ letters }
     ensures { IfOk result (λ table. (f : List ℕ → List ℕ → ℕ)
@@ -110,7 +115,8 @@ fn first_table(alloc: Global, start: &[u16], letters: u16) -> Result<States, NoM
     Ok(states)
 }
 
-/// Adds a count to the state of a start, padded with zeros, before any column.
+/// Adds `count` to the count of one state of the table. The sum of this state is `start` followed
+/// by zeros, `letters` numbers in all, and no column has been added to it.
 pub(crate) fn add_start(
     alloc: Global,
     table: &mut Table,
@@ -130,7 +136,7 @@ pub(crate) fn add_start(
     table.add(&state, count)
 }
 
-/// The numbers followed by zeros, `len` numbers in all.
+/// The list `numbers` followed by zeros, `len` numbers in all.
 fn padded(alloc: Global, numbers: &[u16], len: u16) -> Result<Vec<u16>, NoMemory>
     requires { length numbers.now ≤ len }
     ensures { IfOk result (λ state. state.items ≡ resize len numbers.now) }

@@ -1,4 +1,4 @@
-//! Counts of good tableaux as lists of terms.
+//! Counts of good tableaux, as lists of terms.
 ghost use Rattle.std.specs.Prelude.{◌≡◌, ℕ, ◌+◌, ◌^◌, ◌<◌, ◌≤◌, ◌+ℤ◌, List, [], true, pos, length};
 ghost use Rattle.std.specs.Prelude.{nat_eq, IfOk, OnOk, IsErrOf};
 ghost use Rattle.std.specs.Cmp.Lexicographic.{pointwise};
@@ -18,10 +18,10 @@ use linear_combinations::{Lin, Terms};
 use partitions::Partition;
 use std::alloc::Global;
 
-/// For each partition ν, the number of the tableaux T of a skew shape with entries up to `letters`
-/// that are good for `start` and for which `start` + content(T) = ν.
+/// The list of terms in which each partition ν has as its coefficient the number of good tableaux T
+/// of outer/inner for `start`, with entries up to `letters`, such that start + content(T) = ν.
 ///
-/// Returns `Large` if and only if such a number exceeds 2^127 - 1.
+/// Unless memory runs out, returns `Large` if and only if one of these numbers exceeds 2^127 - 1.
 pub(crate) fn good_counts(
     alloc: Global,
     start: &[u16],
@@ -45,7 +45,7 @@ pub(crate) fn good_counts(
     terms_of_table(alloc, table, letters)
 }
 
-/// The list with no terms.
+/// The list without terms.
 pub(crate) fn no_terms(alloc: Global) -> Result<Terms<Partition, Int>, SumFault>
     ensures none { IfOk result (λ terms. terms ≡ []) }
     ensures small { ¬ IsErrOf result SumFault.Large }
@@ -54,8 +54,8 @@ pub(crate) fn no_terms(alloc: Global) -> Result<Terms<Partition, Int>, SumFault>
     Ok(terms.sorted_terms()?)
 }
 
-/// The list of terms that a table stands for: each label is a sum without its last zeros, and its
-/// coefficient the count of that sum.
+/// The list of terms for the states of a table: the label of a state is its sum without the zeros
+/// at the end, and the coefficient of a label is the total count of its states.
 pub(crate) fn terms_of_table(
     alloc: Global,
     table: States,
@@ -77,8 +77,8 @@ pub(crate) fn terms_of_table(
     collected_terms(alloc, table, letters)
 }
 
-/// The list of terms of a table that may have sums of several sizes, or one sum twice: the counts
-/// are collected by label.
+/// The list of terms for the states of a table, as in `terms_of_table`, made by adding up the
+/// counts by label. The sums may have different sizes, and a sum may occur more than once.
 fn collected_terms(
     alloc: Global,
     table: States,
@@ -106,8 +106,8 @@ fn collected_terms(
     Ok(terms.sorted_terms()?)
 }
 
-/// Adds a count to the coefficient of a sum without its last zeros. If the count is 2^127 or more,
-/// this returns `Large` before any memory is allocated.
+/// Adds `ways` to the coefficient of the label `sum` without the zeros at its end. If `ways` is
+/// 2^127 or more, returns `Large` before any memory is allocated.
 fn add_sum(
     alloc: Global,
     terms: &mut Lin<Partition, Int>,

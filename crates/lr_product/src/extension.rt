@@ -1,4 +1,4 @@
-//! Columns added letter by letter.
+//! A column of a tableau filled letter by letter, from top to bottom.
 ghost use Rattle.std.specs.Prelude.{◌≡◌, ℕ, ◌+◌, ◌*◌, ◌^◌, ◌≤◌, List, ◌∷◌, length, take};
 ghost use Rattle.std.specs.Prelude.{cond, true};
 ghost use Rattle.std.specs.Prelude.{OnOk};
@@ -16,21 +16,23 @@ use crate::letters::{
 use crate::table::Table;
 use calc_base::NoMemory;
 
-/// The data that do not change while a column is added.
+/// The parameters that do not change while a column is filled.
 #[derive(Clone, Copy)]
 pub(crate) struct Column {
-    /// The number of letters.
+    /// The number n of letters 1, .., n.
     pub(crate) letters: u16,
-    /// Whether the states reached keep the letters of this column after the sum, since a further
-    /// column needs them.
+    /// Whether the new states have the letters of this column after the sum, since one more column
+    /// is to be added left of it.
     pub(crate) is_kept: bool,
-    /// The number of ways to reach the state that the column is added to.
+    /// The number of ways to reach the state to which the column is added.
     pub(crate) ways: u128,
 }
 
-/// Adds the ways to complete a column from a state: `line` has the remaining places, which lie
-/// below the letter `above` and left of the column `right`. The state is not restored. A letter is
-/// placed at once if it is the least one allowed and its right neighbour allows no greater one.
+/// Adds to the table the states reached by completing a column in all ways, like `extend`. Unlike
+/// `extend`, it computes the set `free` itself, and does not restore `state` at the end. `line` has
+/// the remaining places of the column, below the letter `above` and left of the column `right`. If
+/// the first place of `line` is a cell and the letter at the right of it is `above` + 1, then this
+/// is the only letter possible there, and it is placed at once.
 pub(crate) fn extend_first(
     table: &mut Table,
     state: &mut Vec<u16>,
@@ -70,14 +72,16 @@ pub(crate) fn extend_first(
     extend(table, state, free, line, right, above, bound, column)
 }
 
-/// Adds the ways to complete a column from a state: `line` has the remaining places, which lie
-/// below the letter `above` and left of the column `right`. The state is the sum so far and the
-/// letters of the column so far, and `free` is the set of the letters greater than `above` and at
-/// most 64 that may be placed.
+/// Adds to the table, with the count `column.ways`, the states reached by completing a column in
+/// all ways: `line` has the remaining places of the column (true for a cell), below the letter
+/// `above` and left of the column `right`. `state` is the sum so far, followed by the letters of
+/// the column so far if they are kept; `free` is the set of the letters b, greater than `above` and
+/// at most 64, for which the sum stays weakly decreasing and within `bound` if its entry b, counted
+/// from 1, is increased by 1.
 ///
-/// `bound` has the greatest value of each number of the sum; it may be shorter than the sum. A
-/// letter is skipped if the sum would not be weakly decreasing with it or would exceed the bound,
-/// since no later letter repairs either.
+/// `bound` has a greatest value for each of the first numbers of the sum. A letter is skipped if
+/// with it the sum would not be weakly decreasing or would exceed the bound, since no later letter
+/// of the column repairs this.
 #[cycle(columns)]
 fn extend(
     table: &mut Table,
@@ -117,10 +121,9 @@ fn extend(
     place_letters(table, state, free, *cell, rest, right, above, bound, column)
 }
 
-/// Adds the ways to complete a column from a state: `cell` says whether the first remaining place
-/// is a cell, and `rest` has the places below it. These places lie below the letter `above` and
-/// left of the column `right`; `free` is the set of the letters greater than `above` and at most 64
-/// that may be placed.
+/// Does the work of `extend` for at least one remaining place: `cell` says whether the first one is
+/// a cell, and `rest` has the places below it. All these places are below the letter `above` and
+/// left of the column `right`. `free` is as in `extend`.
 #[cycle(columns)]
 #[inline(never)]
 fn place_letters(

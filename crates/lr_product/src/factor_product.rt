@@ -1,4 +1,4 @@
-//! The product of several Schur polynomials in Schur polynomials.
+//! The product of several Schur polynomials, expanded in Schur polynomials.
 ghost use Rattle.std.specs.Prelude.{◌≡◌, ℕ, false, ◌+◌, List, Option, [], ◌∷◌, ◌^◌, ◌≤◌, ◌<◌, ◌↔◌};
 ghost use Rattle.std.specs.Prelude.{length, map, slice_get, Some, IsTrue, IfOk, IfSome, OnOk, IsErrOf};
 ghost use Rattle.std.specs.Option.{ForSome};
@@ -20,10 +20,11 @@ use linear_combinations::Terms;
 use partitions::{Factors, Partition};
 use std::alloc::Global;
 
-/// The product of the Schur polynomials of all factors in Schur polynomials: in every number of
-/// variables, or in K variables, with only the labels of at most K rows, if `rows` is K.
+/// The product of the Schur polynomials of all factors, expanded in Schur polynomials. If `rows` is
+/// `None`, the expansion holds in every number of variables; if `rows` is K, it holds in K
+/// variables, and its labels have at most K rows.
 ///
-/// Returns `Large` if and only if a coefficient exceeds 2^127 - 1.
+/// Unless memory runs out, returns `Large` if and only if a coefficient exceeds 2^127 - 1.
 pub fn mult_all(
     alloc: Global,
     factors: &Factors,
@@ -36,7 +37,8 @@ pub fn mult_all(
         → HasPast (IsCoefficientOfProduct rows factors.now) }
     ensures fits { OnOk result (HasPast (IsCoefficientOfProduct rows factors.now) → ⊥) }
 
-    // In K variables the list is the product by its Schur coefficients (`classical_product`).
+    // If `rows` is k, the list has the Schur coefficients of the product in k variables
+    // (`classical_product`).
     ensures classical { IfOk result (λ terms. IfSome rows (λ k.
         Same terms (classical_product k factors.now))) }
 {
@@ -47,7 +49,7 @@ pub fn mult_all(
     product_in(alloc, factors, variables)
 }
 
-/// The factor at a place.
+/// The factor at the index `at`.
 fn factor_at(factors: &Factors, at: usize) -> &Partition
     requires { at < length factors.now }
     ensures { slice_get factors.now at ≡ Some result.now }
@@ -68,7 +70,8 @@ fn has_longer(factors: &Factors, k: u16) -> bool
     false
 }
 
-/// The product of the factors, each with at most `variables` rows, in that number of variables.
+/// The product of the factors in `variables` variables, expanded in Schur polynomials; each factor
+/// must have at most `variables` rows.
 fn product_in(
     alloc: Global,
     factors: &Factors,

@@ -1,4 +1,4 @@
-//! Coefficients that are 0 because a shape has no room for a content.
+//! A quick test that a skew shape has no lattice tableau with a given content.
 ghost use Rattle.std.specs.Prelude.{◌≡◌, ◌<◌, ◌≤◌, ◌↔◌, length, get_or, IsTrue, IsFalse};
 ghost use Rattle.sym_model.specs.Partition.{rows};
 ghost use Rattle.sym_model.specs.GoodTableau.{product_count};
@@ -8,9 +8,9 @@ ghost use Rattle.lr_product.specs.LetterRoom.{IsOverfull, MayHaveContent};
 
 use partitions::Partition;
 
-/// Whether sizes, containment or the room for small letters show that the skew shape
-/// `outer`/`inner` has no lattice tableau with this content. The test treats `inner` and the
-/// content alike, as exchanging them does not change the number of these tableaux.
+/// Whether the sizes, the containment of the shapes or the room for small letters show that
+/// outer/inner has no lattice tableau with this content. Exchanging `inner` and `content` does not
+/// change the number of these tableaux, so the test is made for both orders.
 pub(crate) fn has_no_room(outer: &Partition, inner: &Partition, content: &Partition) -> bool
     ensures none { IsTrue result
         → product_count (rows outer.now) inner.now content.now outer.now ≡ 0 }
@@ -33,8 +33,8 @@ pub(crate) fn has_no_room(outer: &Partition, inner: &Partition, content: &Partit
     is_overfull(outer.parts(), content.parts(), inner.parts())
 }
 
-/// Whether for some k the content has more letters from 1 to k than the columns of the shape can
-/// hold.
+/// Whether there is a k such that the content has more letters from 1 to k than the columns of
+/// outer/inner can have.
 fn is_overfull(outer: &[u16], inner: &[u16], content: &[u16]) -> bool
     requires outer { length outer.now ≤ 512 }
     requires content { length content.now ≤ 512 }
@@ -50,7 +50,8 @@ fn is_overfull(outer: &[u16], inner: &[u16], content: &[u16]) -> bool
     false
 }
 
-/// The number of letters from 1 to `k` that the columns of the shape can hold.
+/// The greatest number of letters from 1 to `k` that the columns of outer/inner can have: min(h, k)
+/// for each column of h cells.
 fn room_up_to(outer: &[u16], inner: &[u16], k: usize) -> u32
     requires { length outer.now ≤ 512 }
     ensures { result ≡ letter_room k outer.now inner.now (length outer.now) }
@@ -62,8 +63,8 @@ fn room_up_to(outer: &[u16], inner: &[u16], k: usize) -> u32
     room
 }
 
-/// The number of cells of a row, counted from 0, that have fewer than `k` cells above them in their
-/// columns.
+/// The number of cells of row `row` of outer/inner, counted from 0, that have fewer than `k` cells
+/// above them in their columns.
 fn room_in_row(outer: &[u16], inner: &[u16], k: usize, row: usize) -> u16
     ensures { result ≡ room_in_row_of k outer.now inner.now row }
 {
@@ -74,7 +75,7 @@ fn room_in_row(outer: &[u16], inner: &[u16], k: usize, row: usize) -> u16
     end.saturating_sub(part_at(inner, row))
 }
 
-/// The part of a row, counted from 0; 0 after the last row.
+/// The part at the index `row`, counted from 0; 0 after the last part.
 pub(crate) fn part_at(parts: &[u16], row: usize) -> u16
     ensures { result ≡ get_or parts.now row 0 }
 {

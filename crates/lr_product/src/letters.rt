@@ -1,4 +1,4 @@
-//! The letters of a column, and their effect on a state.
+//! The letters that can be placed in a column, and their effect on a state.
 ghost use Rattle.std.specs.Prelude.{◌≡◌, ◌+◌, ◌-◌, ◌^◌, ◌<◌, ◌≤◌, ◌==◌, ◌||◌, List, ℕ, true};
 ghost use Rattle.std.specs.Prelude.{◌++◌, ◌∷◌, false, nat_le, nat_lt};
 ghost use Rattle.std.specs.Prelude.{length, take, drop, slice_index, OnOk, IfOk, IfSome};
@@ -9,12 +9,12 @@ ghost use Rattle.lr_product.specs.Extension.{least_letter as least_letter_of, le
 
 use calc_base::NoMemory;
 
-/// The greatest letter that can be in a set of letters, which is a number of 64 bits.
+/// The greatest letter that can be in a set of letters, since a set is a number of 64 bits.
 const MARKED: u16 = 64;
 
-/// The set of the letters that may be placed, with which the sum stays weakly decreasing and within
-/// the bound, among those greater than `above` and at most `letters` and 64. The letter b has the
-/// binary digit b - 1.
+/// The set of the letters b that are greater than `above`, at most `letters` and at most 64, and
+/// for which `numbers` stays weakly decreasing and within `bound` if its entry b, counted from 1,
+/// is increased by 1. The set is a number, in which b has the binary digit b - 1.
 pub(crate) fn free_letters(numbers: &[u16], above: u16, letters: u16, bound: &[u16]) -> u64
     requires { letters ≤ length numbers.now }
     ensures { MarksFree letters above bound.now numbers.now result }
@@ -26,9 +26,11 @@ pub(crate) fn free_letters(numbers: &[u16], above: u16, letters: u16, bound: &[u
     free
 }
 
-/// The set of the letters greater than `letter`, which has just been placed, that may be placed
-/// now, from the set `free` of those that could be placed before. The next letter is added to it
-/// unless the bound forbids it, since the sum was weakly decreasing.
+/// The set of the letters b, greater than `letter`, for which the sum stays weakly decreasing and
+/// within `bound` if its entry b, counted from 1, is increased by 1. In `numbers`, which begins
+/// with the sum, the entry `letter` has just been increased by 1; `free` is the set of such letters
+/// before that. Only `letter` + 1 can be new in the set. It is added if the bound allows it, since
+/// the sum was weakly decreasing before. The digits of smaller letters have no meaning.
 pub(crate) fn free_after(free: u64, numbers: &[u16], letter: u16, bound: &[u16]) -> u64
     requires { length bound.now ≤ length numbers.now }
     ensures { (n above : ℕ) (before after : List ℕ) → numbers.now ≡ raised letter before ++ after
@@ -49,8 +51,10 @@ pub(crate) fn free_after(free: u64, numbers: &[u16], letter: u16, bound: &[u16])
     free
 }
 
-/// The least letter from `from` to `end - 1` that may be placed; `end` if there is none. Letters up
-/// to 64 are looked up in `free`.
+/// The least letter b from `from` to `end - 1` for which `numbers` stays weakly decreasing and
+/// within `bound` if its entry b, counted from 1, is increased by 1; the letter 0 is always
+/// allowed. `end` if there is no such letter. Letters up to 64 are looked up in `free`, the others
+/// are tested.
 pub(crate) fn next_letter(numbers: &[u16], free: u64, from: u16, end: u16, bound: &[u16]) -> u16
     requires length { end ≤ length numbers.now + 1 }
     requires free { MarksFree (end - 1) (from - 1) bound.now numbers.now free }
@@ -74,8 +78,9 @@ pub(crate) fn next_letter(numbers: &[u16], free: u64, from: u16, end: u16, bound
     letter.min(end)
 }
 
-/// The least letter from `from` to `end - 1` that may be placed, with a test of each; `end` if there
-/// is none.
+/// The least letter b from `from` to `end - 1` for which `numbers` stays weakly decreasing and
+/// within `bound` if its entry b, counted from 1, is increased by 1; `end` if there is no such
+/// letter. The letters are tested one after another.
 fn first_with_room(numbers: &[u16], from: u16, end: u16, bound: &[u16]) -> u16
     requires { end ≤ length numbers.now + 1 }
     ensures within { result ≤ end }
@@ -93,7 +98,8 @@ fn first_with_room(numbers: &[u16], from: u16, end: u16, bound: &[u16]) -> u16
     end
 }
 
-/// Whether a letter may be placed: the sum stays weakly decreasing, and within the bound.
+/// Whether `numbers` stays weakly decreasing and within `bound` if its entry `letter`, counted from
+/// 1, is increased by 1; always true for the letter 0.
 pub(crate) fn has_room(numbers: &[u16], letter: u16, bound: &[u16]) -> bool
     requires { letter ≤ length numbers.now }
     ensures { result ≡ ((letter == 0) || can_rise_at bound.now (letter - 1) numbers.now) }
@@ -101,7 +107,8 @@ pub(crate) fn has_room(numbers: &[u16], letter: u16, bound: &[u16]) -> bool
     letter == 0 || can_rise(numbers, usize::from(letter) - 1, bound)
 }
 
-/// Whether the number at an index may be raised by one.
+/// Whether `numbers` stays weakly decreasing and within `bound` if its number at the index `at` is
+/// increased by 1.
 fn can_rise(numbers: &[u16], at: usize, bound: &[u16]) -> bool
     requires { at < length numbers.now }
     ensures { result ≡ can_rise_at bound.now at numbers.now }
@@ -109,7 +116,8 @@ fn can_rise(numbers: &[u16], at: usize, bound: &[u16]) -> bool
     (at == 0 || numbers[at] < numbers[at - 1]) && is_allowed(numbers, at, bound)
 }
 
-/// Whether the bound allows the number at an index to be raised by one.
+/// Whether the bound allows the number at the index `at` to be raised by 1; true if `bound` has no
+/// number at this index.
 fn is_allowed(numbers: &[u16], at: usize, bound: &[u16]) -> bool
     requires { at < length bound.now → at < length numbers.now }
     ensures { result ≡ (nat_le (length bound.now) at
@@ -118,8 +126,8 @@ fn is_allowed(numbers: &[u16], at: usize, bound: &[u16]) -> bool
     bound.len() <= at || numbers[at] < bound[at]
 }
 
-/// The least letter allowed below the letter `above`: `above` + 1 at a cell, 0 at a place outside
-/// the shape.
+/// The least letter that is allowed below the letter `above` in a column: `above` + 1 at a cell, 0
+/// at a place outside the shape.
 pub(crate) fn least_letter(cell: bool, above: u16) -> u16
     requires { above ≤ 512 }
     ensures { result ≡ least_letter_of cell above }
@@ -127,8 +135,11 @@ pub(crate) fn least_letter(cell: bool, above: u16) -> u16
     if cell { above + 1 } else { 0 }
 }
 
-/// One more than the greatest letter for a place that leaves enough greater letters for the `below`
-/// places under it; 0 outside the shape if `above` is not 0, where no letter is allowed.
+/// The end of the letters at a place of a column: only letters less than the end are allowed there.
+/// The column has `below` places under this place, and the letter over it is `above`. At a cell,
+/// the end is one more than the greatest letter that is at most the right neighbour and leaves
+/// greater letters for the places under the cell. Outside the shape only the letter 0 is allowed,
+/// and only if `above` is 0: the end is then 1, otherwise 0.
 pub(crate) fn end_of_letters(
     letters: u16,
     cell: bool,
@@ -154,8 +165,8 @@ pub(crate) fn end_of_letters(
     }
 }
 
-/// The rest of a column, and that of the column to its right, below their first places; `None` unless
-/// the first place is a cell and its right neighbour is `letter`.
+/// If the first place of `line` is a cell and the first letter of `right` is `letter`, the
+/// remaining places of `line` and the remaining letters of `right`; otherwise `None`.
 pub(crate) fn left_of_letter<'a>(
     line: &'a [bool],
     right: &'a [u16],
@@ -175,15 +186,16 @@ pub(crate) fn left_of_letter<'a>(
     None
 }
 
-/// The column below its first place.
+/// The list without its first number.
 pub(crate) fn rest_of(right: &[u16]) -> &[u16]
     ensures { result.now ≡ drop 1 right.now }
 {
     if right.is_empty() { right } else { &right[1..] }
 }
 
-/// Adds 1 to the number of `letter` in the sum and, if the column is kept, appends the letter (0
-/// outside the shape). Returns the length before.
+/// Adds 1 to the entry `letter`, counted from 1, of the sum at the beginning of the state (to no
+/// entry for the letter 0). Appends the letter to the state if `is_kept`. Returns the length that
+/// the state had before.
 pub(crate) fn place(state: &mut Vec<u16>, letter: u16, is_kept: bool) -> Result<usize, NoMemory>
     requires within { letter ≤ length state.old.items }
     requires room { 0 < letter → slice_index state.old.items (letter - 1) < 2 ^ 16 - 1 }
@@ -199,7 +211,8 @@ pub(crate) fn place(state: &mut Vec<u16>, letter: u16, is_kept: bool) -> Result<
     Ok(len)
 }
 
-/// Adds 1 to the number of `letter` in the sum; the letter 0 has none.
+/// Adds 1 to the entry `letter`, counted from 1, of the sum at the beginning of the state; does
+/// nothing for the letter 0.
 fn raise(state: &mut Vec<u16>, letter: u16)
     requires within { letter ≤ length state.old.items }
     requires room { 0 < letter → slice_index state.old.items (letter - 1) < 2 ^ 16 - 1 }
@@ -212,7 +225,7 @@ fn raise(state: &mut Vec<u16>, letter: u16)
     }
 }
 
-/// Undoes `place` of a letter; `len` is the length that the state had before it.
+/// Undoes `place` for `letter`; `len` is the length of the state before `place`.
 pub(crate) fn take_back(state: &mut Vec<u16>, len: usize, letter: u16)
     requires within { letter ≤ length state.old.items }
     ensures { (before after : List ℕ) → state.old.items ≡ raised letter before ++ after

@@ -1,21 +1,22 @@
-//! Products of two to eight Schur polynomials, skew Schur polynomials and their coefficients, as
-//! counts of good tableaux: those for which a start, a partition, plus the content of the last
-//! columns is a partition for each number of last columns.
+//! Products of two to eight Schur polynomials, skew Schur polynomials, and single coefficients of
+//! products, as counts of good tableaux. A tableau is good for a partition, the start, if start
+//! plus the content of the last k columns is a partition for each k.
 //!
-//! A sum is the start plus the content of a part of a tableau. The tableaux are counted column by
-//! column, from the rightmost to the leftmost: a table maps each pair of the sum reached and the
-//! column added last to the number of ways to reach it. If the shape has at most five rows, and
-//! this is expected to need fewer states, they are counted row by row instead, from the first row
-//! on.
+//! The tableaux are counted column by column, from the rightmost to the leftmost. A sum is the
+//! start plus the content of the columns added so far; a table has, for each pair of a sum and the
+//! column added last, the number of ways to reach this pair. If the shape has at most five rows,
+//! and this is expected to need fewer pairs, the tableaux are counted row by row instead, from the
+//! first row on.
 //!
 //! What is proved:
 //!
 //! The coefficients of `mult`, `skew` and `coef` are counts of good tableaux (for `skew`, of
 //! lattice tableaux, which are good for the empty start), and these counts are the Schur
-//! coefficients, in every number of variables or in a given number. `coef` counts in the skew shape
-//! of `outer` by the factor with more cells. `mult_all` returns the product of 2 to 8 Schur
-//! polynomials in Schur polynomials, in every number of variables or in a given number. Each call
-//! returns `Large` if and only if a coefficient exceeds 2^127 - 1.
+//! coefficients, in every number of variables or in a given number. `coef` counts tableaux of a
+//! skew shape outer/inner, in which inner is the factor with more cells. `mult_all` returns the
+//! product of 2 to 8 Schur polynomials, expanded in Schur polynomials, in every number of variables
+//! or in a given number. Each call returns `Large` if and only if a coefficient exceeds 2^127 - 1,
+//! unless memory runs out.
 #![tactic(auto)]
 
 mod coefficient;

@@ -1,5 +1,5 @@
-//! A list of terms times one more factor: one table starts with all labels, and the shape of the
-//! factor is filled from each of them.
+//! A list of terms multiplied by one more factor. The table begins with one state for each label of
+//! the list, and the shape of the factor is filled from all these states at once.
 ghost use Rattle.std.specs.Prelude.{◌≡◌, ℕ, ◌^◌, ◌≤◌, ℤ, pos, ◌≤ℤ◌, nat_eq, List, IfOk, OnOk};
 ghost use Rattle.std.specs.Prelude.{IsErrOf};
 ghost use Rattle.std.specs.Cmp.Lexicographic.{pointwise};
@@ -26,7 +26,7 @@ use linear_combinations::Terms;
 use partitions::Partition;
 use std::alloc::Global;
 
-/// The greatest number of rows of a label of the list; 0 if there is none.
+/// The greatest number of rows of a label of the list; 0 if the list is empty.
 fn most_rows(product: &Terms<Partition, Int>) -> u16
     ensures most { (t : List ℕ × ℤ) → Among t product.now → rows t.0 ≤ result }
     ensures within { result ≤ 512 }
@@ -38,8 +38,9 @@ fn most_rows(product: &Terms<Partition, Int>) -> u16
     most
 }
 
-/// The table whose states are the labels of the list, in `letters` places and before any column,
-/// with their coefficients as counts.
+/// The table of the starts: for each label of the list `product` it has one state, whose count is
+/// the coefficient of the label. The sum of this state is the label followed by zeros, `letters`
+/// numbers in all; no column has been added to it.
 fn starts_of(
     alloc: Global,
     product: &Terms<Partition, Int>,
@@ -63,11 +64,12 @@ fn starts_of(
     Ok(table.into_states())
 }
 
-/// The product of a linear combination of Schur polynomials and the Schur polynomial of `next`, in
-/// `variables` variables. A label of the product has at most as many rows as `next` and the label
-/// with the most rows in the list together, so no greater letters are used.
+/// The product of the linear combination `product` of Schur polynomials and the Schur polynomial of
+/// `next`, in `variables` variables. Letters greater than the number of rows of `next` plus the
+/// greatest number of rows of a label of `product` are not tried, since no label of the result has
+/// more rows.
 ///
-/// Returns `Large` if and only if a coefficient exceeds 2^127 - 1.
+/// Unless memory runs out, returns `Large` if and only if a coefficient exceeds 2^127 - 1.
 pub(crate) fn times_factor(
     alloc: Global,
     product: &Terms<Partition, Int>,

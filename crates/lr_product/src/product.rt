@@ -1,4 +1,4 @@
-//! Products of two Schur polynomials.
+//! The product of two Schur polynomials, expanded in Schur polynomials.
 ghost use Rattle.std.specs.Prelude.{◌≡◌, ◌+◌, ◌^◌, ◌<◌, ◌≤◌, ℕ, List, [], ◌∷◌, false, IfOk, OnOk};
 ghost use Rattle.std.specs.Prelude.{IfSome, IsErrOf};
 ghost use Rattle.std.specs.Option.{ForSome};
@@ -21,12 +21,13 @@ use linear_combinations::Terms;
 use partitions::Partition;
 use std::alloc::Global;
 
-/// The product of the Schur polynomials of `left` and `right` in Schur polynomials: in every number
-/// of variables, or in K variables, with only the labels of at most K rows, if `rows` is K. The
-/// coefficient of a label ν is the number of good tableaux T of the shape `right` for the start
-/// `left` such that `left` + content(T) = ν (Littlewood and Richardson).
+/// The product of the Schur polynomials of `left` and `right`, expanded in Schur polynomials. If
+/// `rows` is `None`, the expansion holds in every number of variables; if `rows` is K, it holds in
+/// K variables, and its labels have at most K rows. The coefficient of a label ν is the number of
+/// good tableaux T of the shape `right` for the start `left` such that `left` + content(T) = ν
+/// (Littlewood and Richardson).
 ///
-/// Returns `Large` if and only if a coefficient exceeds 2^127 - 1.
+/// Unless memory runs out, returns `Large` if and only if a coefficient exceeds 2^127 - 1.
 pub fn mult(
     alloc: Global,
     left: &Partition,
@@ -39,7 +40,7 @@ pub fn mult(
     ensures meets { IfOk result (λ terms.
         ExpandsInSchurs rows (schur_product (left.now ∷ right.now ∷ [])) (as_fractions terms)) }
 
-    // The coefficients are counts of good tableaux.
+    // The coefficients are the counts `product_count` of good tableaux.
     ensures counts { IfOk result (λ terms.
         ListsCounts (variables_or rows (number_of_rows left.now + number_of_rows right.now))
         (product_count (variables_or rows (number_of_rows left.now + number_of_rows right.now))
@@ -49,9 +50,9 @@ pub fn mult(
         → HasPast (IsCoefficientOfProduct rows (left.now ∷ right.now ∷ [])) }
     ensures fits { OnOk result (HasPast (IsCoefficientOfProduct rows (left.now ∷ right.now ∷ [])) → ⊥) }
 
-    // In K variables the list is the product by its Schur coefficients (`classical_product`), and
-    // if the result is `Large`, the sum of the absolute values of all coefficients is at least
-    // 2^127.
+    // If `rows` is k, the list has the Schur coefficients of the product in k variables
+    // (`classical_product`); and if the result is `Large`, the absolute values of these
+    // coefficients add up to at least 2^127 (`classical_weight`).
     ensures classical { IfOk result (λ terms. IfSome rows (λ k.
         Same terms (classical_product k (left.now ∷ right.now ∷ [])))) }
     ensures heavy { IsErrOf result SumFault.Large → IfSome rows (λ k.
@@ -61,9 +62,9 @@ pub fn mult(
     counts_in(alloc, left, right, variables)
 }
 
-/// The counts of good tableaux of the shape `right` for the start `left`, for the partitions with
-/// no more rows than there are variables. The factor with fewer cells is the shape, as the two may
-/// be exchanged.
+/// For each partition ν with at most `variables` rows, the number of good tableaux T of the shape
+/// `right` for the start `left` such that `left` + content(T) = ν. The numbers do not change if the
+/// two factors are exchanged; the one with fewer cells is taken as the shape.
 pub(crate) fn counts_in(
     alloc: Global,
     left: &Partition,
@@ -87,9 +88,9 @@ pub(crate) fn counts_in(
     counts_from(alloc, left, right, variables)
 }
 
-/// The counts of good tableaux of the shape `right` for the start `left`, for the partitions with
-/// no more rows than there are variables, without exchanging the two. Letters greater than the
-/// number of rows of both factors together are in no good tableau.
+/// For each partition ν with at most `variables` rows, the number of good tableaux T of the shape
+/// `right` for the start `left` such that `left` + content(T) = ν. Letters greater than the number
+/// of rows of both factors together do not occur in good tableaux.
 fn counts_from(
     alloc: Global,
     left: &Partition,

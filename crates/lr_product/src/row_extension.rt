@@ -1,4 +1,4 @@
-//! Fills a row letter by letter, from the greatest letter to the least.
+//! A row of a tableau filled letter by letter, from the greatest letter to the least.
 ghost use Rattle.std.specs.Prelude.{◌≡◌, ℕ, ◌+◌, ◌-◌, ◌*◌, ◌^◌, ◌≤◌, List, length, take, cond, true};
 ghost use Rattle.std.specs.Prelude.{OnOk};
 ghost use Rattle.sym_model.specs.GoodTableau.{is_falling};
@@ -15,28 +15,30 @@ use calc_base::NoMemory;
 /// The parameters that do not change while a row is filled.
 #[derive(Clone, Copy)]
 pub(crate) struct Row {
-    /// The number n of letters.
+    /// The number n of letters 1, .., n.
     pub(crate) letters: u16,
-    /// The number of places outside the shape. They are the first of the row, with the letter 0.
+    /// The number of places of the row outside the shape. They come first and have the letter 0.
     pub(crate) outside: u16,
-    /// The number of cells of the rows below: they add at most this to a number of the sum.
+    /// The number of cells in all rows below this one, which is the most by which these rows can
+    /// raise a number of the sum.
     pub(crate) later: u16,
-    /// Whether the new states keep the row after the sum, for the row below: the numbers of places
-    /// with a letter at most n - 1, n - 2, .., 0.
+    /// Whether the new states have, after the sum, the numbers that describe this row, since one
+    /// more row is to be added below it: its numbers of places with a letter at most n - 1, n - 2,
+    /// .., 0.
     pub(crate) is_kept: bool,
-    /// The number of ways to reach the state that the row is added to.
+    /// The number of ways to reach the state to which the row is added.
     pub(crate) ways: u128,
 }
 
 /// Fills the first `placed` places of a row with letters up to `up_to` in all ways, and adds each
-/// state reached to the table, with the count `row.ways`. At the start `state` is the sum with the
-/// greater letters of the row, and the numbers kept for these; at the end it is the same again.
-/// Fails only if memory runs out.
+/// state reached to the table with the count `row.ways`. `state` is the sum with the greater
+/// letters of the row added, followed by the numbers kept for these letters; it is restored at the
+/// end. Fails only if memory runs out.
 ///
-/// A letter is allowed below a smaller one only: `above` has the numbers of places of the row above
-/// with a letter less than `up_to - 1`, `up_to - 2`, and so on, and is empty for the first row. No
-/// number of the sum may exceed the one before it, or that of the bound, and each must be able to
-/// reach that of the bound by the rows below.
+/// A letter must be greater than the letter above it: `above` has the numbers of places of the row
+/// above with a letter less than `up_to - 1`, less than `up_to - 2`, and so on, and is empty for
+/// the first row. No number of the sum may exceed the one before it or its number in `bound`, and
+/// each must be able to reach its number in `bound` by the cells of the rows below.
 pub(crate) fn fill(
     table: &mut Table,
     state: &mut Vec<u16>,

@@ -1,4 +1,4 @@
-//! Adds the letters of a row to a state, takes them back, and bounds their numbers.
+//! Equal letters added to a row: their effect on a state, and bounds for their number.
 ghost use Rattle.std.specs.Prelude.{◌≡◌, ◌+◌, ◌-◌, ◌<◌, ◌≤◌, ◌==◌, List, ℕ, ◌++◌, cond, max};
 ghost use Rattle.std.specs.Prelude.{length, nat_lt, slice_index, OnOk, IfOk};
 ghost use Rattle.lr_product.specs.Extension.{mark};
@@ -6,10 +6,10 @@ ghost use Rattle.lr_product.specs.RowExtension.{added, most_left as most_left_of
 
 use calc_base::NoMemory;
 
-/// The least number of places that may be left for smaller letters, if `placed` places have letters
-/// up to a = `at` + 1. All `outside` places are left. The places that are not left get the letter a
-/// and are added to the number at the index `at`, which may not exceed the one before it, or that
-/// of the bound.
+/// If `placed` places have letters up to a = `at` + 1, the least number of them that can have
+/// letters less than a. It is at least `outside`. The other places have the letter a. The entry of
+/// `numbers` at the index `at`, plus the number of these other places, must not exceed the entry
+/// before it or the number of `bound` at the same index.
 pub(crate) fn least_left(numbers: &[u16], at: u16, placed: u16, outside: u16, bound: &[u16]) -> u16
     requires { at < length numbers.now }
     ensures { result ≡ max (max outside
@@ -22,7 +22,8 @@ pub(crate) fn least_left(numbers: &[u16], at: u16, placed: u16, outside: u16, bo
         .max(left_by_bound(numbers, at, placed, bound))
 }
 
-/// The least number of places left such that the number at `at` does not exceed the one before it.
+/// The least x such that the number at the index `at`, raised by `placed` - x, does not exceed the
+/// number before it; 0 for the first index.
 fn left_by_sum(numbers: &[u16], at: u16, placed: u16) -> u16
     requires { at < length numbers.now }
     ensures { result ≡ cond (at == 0) 0
@@ -35,8 +36,8 @@ fn left_by_sum(numbers: &[u16], at: u16, placed: u16) -> u16
     placed.saturating_sub(numbers[index - 1].saturating_sub(numbers[index]))
 }
 
-/// The least number of places left such that the number at `at` does not exceed that of the bound;
-/// 0 if the bound has no number there.
+/// The least x such that the number at the index `at`, raised by `placed` - x, does not exceed its
+/// number in `bound`; 0 after the end of `bound`.
 fn left_by_bound(numbers: &[u16], at: u16, placed: u16, bound: &[u16]) -> u16
     requires { at < length numbers.now }
     ensures { result ≡ cond (nat_lt at (length bound.now))
@@ -49,9 +50,9 @@ fn left_by_bound(numbers: &[u16], at: u16, placed: u16, bound: &[u16]) -> u16
     0
 }
 
-/// One more than the greatest number of places that may be left for smaller letters such that the
-/// number at `at` reaches that of the bound, if it is later raised by `later`; `placed + 1` if the
-/// bound has no number there.
+/// One more than the greatest x ≤ `placed` such that the number at the index `at`, raised by
+/// `placed` - x and later by `later`, reaches its number in `bound`; 0 if there is no such x, and
+/// `placed` + 1 after the end of `bound`.
 pub(crate) fn end_by_bound(numbers: &[u16], at: u16, placed: u16, later: u16, bound: &[u16]) -> u16
     requires within { at < length numbers.now }
     requires placed { placed ≤ 4096 }
@@ -67,9 +68,10 @@ pub(crate) fn end_by_bound(numbers: &[u16], at: u16, placed: u16, later: u16, bo
     placed + 1
 }
 
-/// The greatest number of places that may be left for letters smaller than the one at the index
-/// `at`: `outside` at the least letter; otherwise `placed`, or `above[0]` if that is less, which is
-/// the number of places of the row above with a letter less than `at`.
+/// If `placed` places have letters up to `at` + 1, the greatest number of them that can have
+/// letters up to `at`. It is `outside` if `at` is 0. Otherwise it is `placed`, or `above[0]` if
+/// `above` is not empty and `above[0]` is less than `placed`. `above[0]` is the number of places of
+/// the row above with a letter less than `at`.
 pub(crate) fn most_left(at: u16, placed: u16, outside: u16, above: &[u16]) -> u16
     ensures { result ≡ most_left_of outside at placed above.now }
 {
@@ -82,8 +84,8 @@ pub(crate) fn most_left(at: u16, placed: u16, outside: u16, above: &[u16]) -> u1
     }
 }
 
-/// Adds `count` to the number at the index `at`, and appends `left` if the row is kept. Returns the
-/// length that the state had before. Fails only if memory runs out.
+/// Adds `count` to the number at the index `at` of the state, and appends `left` to the state if
+/// `is_kept`. Returns the length that the state had before. Fails only if memory runs out.
 pub(crate) fn put_letters(
     state: &mut Vec<u16>,
     at: u16,
@@ -105,7 +107,7 @@ pub(crate) fn put_letters(
     Ok(len)
 }
 
-/// Adds `count` to the number at the index `at`.
+/// Adds `count` to the number at the index `at` of the state.
 fn add_at(state: &mut Vec<u16>, at: u16, count: u16)
     requires within { at < length state.old.items }
     requires room { slice_index state.old.items at + count < 65536 }
@@ -116,8 +118,8 @@ fn add_at(state: &mut Vec<u16>, at: u16, count: u16)
     state[index] = number + count;
 }
 
-/// Undoes `put_letters`, which returned `len`: subtracts `count` at the index `at`, and cuts the
-/// state to the length `len`.
+/// Undoes `put_letters`, which returned `len`: subtracts `count` from the number at the index `at`,
+/// and shortens the state to the length `len`.
 pub(crate) fn take_letters(state: &mut Vec<u16>, len: usize, at: u16, count: u16)
     requires within { at < length state.old.items }
     ensures { (before after : List ℕ) → state.old.items ≡ added at count before ++ after

@@ -1,4 +1,4 @@
-//! Adds one more row to each state of a table.
+//! One more row added to each state of a table.
 ghost use Rattle.std.specs.Prelude.{◌≡◌, ℕ, ◌+◌, ◌-◌, ◌*◌, ◌^◌, ◌<◌, ◌≤◌, List, length, take};
 ghost use Rattle.std.specs.Prelude.{cond, true, nat_le, OnOk, IfOk};
 ghost use Rattle.sym_model.specs.GoodTableau.{is_falling};
@@ -15,11 +15,11 @@ use crate::table::{Table, capped};
 use calc_base::NoMemory;
 use std::alloc::Global;
 
-/// The table after one more row is filled with letters up to `letters`. Its counts, capped at
-/// 2^127, are correct for the sums within `bound` to which `later` more letters can bring each
-/// number to that of the bound. The row ends at the column `end`, and its first `outside` places
-/// are outside the shape; the rows below it have `later` cells. The new states keep the row if
-/// `is_kept`. Fails only if memory runs out.
+/// The table of the states reached from those of `table` by adding one row with letters up to
+/// `letters`. The row ends in column `end`, its first `outside` places are outside the shape, and
+/// the rows below it have `later` cells. New states keep the row if `is_kept`. The counts, capped
+/// at 2^127, are correct for the sums within `bound` whose numbers, raised by `later`, reach those
+/// of `bound`. Fails only if memory runs out.
 pub(crate) fn with_row(
     alloc: Global,
     table: &States,
@@ -62,7 +62,8 @@ pub(crate) fn with_row(
     Ok(next.into_states())
 }
 
-/// The length of a state after a row: `letters` for the sum, and again for the row if it is kept.
+/// The length of a state: `letters` numbers for the sum, and `letters` more for the row if it is
+/// kept.
 fn width_of(letters: u16, is_kept: bool) -> usize
     requires { letters ≤ 512 }
     ensures { result ≡ letters + cond is_kept letters 0 }
@@ -73,8 +74,8 @@ fn width_of(letters: u16, is_kept: bool) -> usize
     usize::from(letters)
 }
 
-/// Adds to `next` each state that a row below `state` reaches, with the count `row.ways`. It makes
-/// these states in the buffer `reached`. Fails only if memory runs out.
+/// Adds to `next`, with the count `row.ways`, the states reached from `state` by adding one more
+/// row in all ways. The new states are made in the buffer `reached`. Fails only if memory runs out.
 fn add_rows(
     reached: &mut Vec<u16>,
     next: &mut Table,
@@ -117,8 +118,8 @@ fn add_rows(
     fill(next, reached, row.letters, end, rest_of(above), bound, &row)
 }
 
-/// Whether a row of `end` places fits below the row that `above` describes: that row has at least
-/// `end` places with a letter less than the greatest. It always fits if `above` is empty.
+/// Whether a row of `end` places is allowed below the row that `above` describes: at least `end`
+/// places of that row have a letter less than the greatest letter. Always true if `above` is empty.
 fn may_stand_below(above: &[u16], end: u16) -> bool
     ensures { result ≡ may_precede nat_le end above.now }
 {

@@ -1,5 +1,5 @@
-//! Adds all rows of a shape one by one, from the first to the last, and chooses between rows and
-//! columns.
+//! The rows of a shape added one by one to the states of a table, from the first to the last, and
+//! the choice between filling a shape by rows and by columns.
 ghost use Rattle.std.specs.Prelude.{◌≡◌, ℕ, ◌+◌, ◌-◌, ◌≤◌, true, List, length, IfOk, OnOk};
 ghost use Rattle.sym_model.specs.Partition.{IsPartition, size};
 ghost use Rattle.sym_model.specs.Schur.{contains};
@@ -17,10 +17,10 @@ use calc_base::NoMemory;
 use partitions::Partition;
 use std::alloc::Global;
 
-/// The table after a whole skew shape is filled with letters up to `letters`. Its counts, capped at
-/// 2^127, are correct for the sums that begin with `bound`. The shape is filled by rows if
-/// `letters` is positive and `is_faster_by_rows` holds, otherwise by columns. Fails only if memory
-/// runs out.
+/// The table of the states reached from those of `starts` by filling the shape outer/inner with
+/// letters up to `letters`. Its counts, capped at 2^127, are correct for the sums that begin with
+/// the numbers of `bound`. The shape is filled by rows if `letters` is positive and
+/// `is_faster_by_rows` holds, otherwise by columns. Fails only if memory runs out.
 pub(crate) fn with_shape(
     alloc: Global,
     starts: States,
@@ -53,11 +53,11 @@ pub(crate) fn with_shape(
 }
 
 /// Whether a shape is probably filled faster by rows than by columns. If the sums have a bound,
-/// this holds for a shape of at most five rows, since a state is left out if one of its numbers
-/// cannot reach that of the bound even with all later cells. If they have none, the number of
-/// columns must be at least three times that of rows; moreover, the rows and letters together must
-/// be at most six, or there must be at most four rows, all of one length. For other shapes the
-/// table by rows usually has more states.
+/// this is assumed for shapes of at most five rows, since states are left out if one of their
+/// numbers can no longer reach that of the bound. If the sums have no bound, it is assumed only if
+/// two conditions hold: the number of columns is at least three times the number of rows; and
+/// either rows and letters together are at most six, or there are at most four rows, all of the
+/// same length. For other shapes the table by rows usually has more states.
 fn is_faster_by_rows(outer: &Partition, letters: u16, is_bounded: bool) -> bool
     ensures shape { IsPartition outer.now }
 {
@@ -75,9 +75,9 @@ fn is_faster_by_rows(outer: &Partition, letters: u16, is_bounded: bool) -> bool
     rows <= 4 && u32::from(outer.size()) == u32::from(rows) * u32::from(columns)
 }
 
-/// The table after all rows of a skew shape are filled with letters up to `letters`. Its counts,
-/// capped at 2^127, are correct for the sums that begin with `bound`. Fails only if memory runs
-/// out.
+/// The table of the states reached from those of `starts` by adding all rows of outer/inner, with
+/// letters up to `letters`. Its counts, capped at 2^127, are correct for the sums that begin with
+/// the numbers of `bound`. Fails only if memory runs out.
 fn with_rows(
     alloc: Global,
     starts: States,
@@ -115,7 +115,7 @@ fn with_rows(
     Ok(table)
 }
 
-/// The number of cells of a skew shape.
+/// The number of cells of outer/inner.
 fn number_of_cells(outer: &[u16], inner: &[u16]) -> u16
     requires { size outer.now ≤ 4096 }
     ensures count { result ≡ cell_count outer.now inner.now }

@@ -1,4 +1,4 @@
-//! Skew Schur polynomials in Schur polynomials.
+//! Skew Schur polynomials, expanded in Schur polynomials.
 ghost use Rattle.std.specs.Prelude.{◌≡◌, ◌^◌, ◌<◌, ◌≤◌, ℕ, List, true, false, IfOk, OnOk, IsErrOf};
 ghost use Rattle.std.specs.Option.{ForSome};
 ghost use Rattle.sym_model.specs.Partition.{IsPartition, rows as number_of_rows};
@@ -19,12 +19,13 @@ use linear_combinations::Terms;
 use partitions::Partition;
 use std::alloc::Global;
 
-/// The skew Schur polynomial of `outer`/`inner` in Schur polynomials: in every number of variables,
-/// or in K variables, with only the labels of at most K rows, if `rows` is K. It is 0 if `inner`
-/// does not lie inside `outer`; otherwise the coefficient of a label is the number of lattice
-/// tableaux of the skew shape `outer`/`inner` with this content.
+/// The skew Schur polynomial of outer/inner, expanded in Schur polynomials. If `rows` is `None`,
+/// the expansion holds in every number of variables; if `rows` is K, it holds in K variables, and
+/// its labels have at most K rows. The polynomial is 0 if `inner` does not lie inside `outer`;
+/// otherwise the coefficient of a label is the number of lattice tableaux of outer/inner whose
+/// content is this label.
 ///
-/// Returns `Large` if and only if a coefficient exceeds 2^127 - 1.
+/// Unless memory runs out, returns `Large` if and only if a coefficient exceeds 2^127 - 1.
 pub fn skew(
     alloc: Global,
     outer: &Partition,
@@ -35,7 +36,8 @@ pub fn skew(
     ensures meets { IfOk result (λ terms.
         ExpandsInSchurs rows (skew_schur outer.now inner.now) (as_fractions terms)) }
 
-    // The coefficients are counts of lattice tableaux.
+    // If `inner` lies inside `outer`, the coefficients are the counts `skew_count` of lattice
+    // tableaux.
     ensures counts { contains outer.now inner.now ≡ true
         → IfOk result (λ terms. ListsCounts (variables_or rows (number_of_rows outer.now))
         (skew_count outer.now inner.now)
@@ -52,9 +54,9 @@ pub fn skew(
     counts_in(alloc, outer, inner, variables)
 }
 
-/// The counts of lattice tableaux of outer/inner by their content, for the contents with no more
-/// rows than there are variables. Letters greater than the number of rows of `outer` are in no
-/// lattice tableau.
+/// For each partition with at most `variables` rows, the number of lattice tableaux of outer/inner
+/// with this content. Letters greater than the number of rows of `outer` do not occur in lattice
+/// tableaux.
 fn counts_in(
     alloc: Global,
     outer: &Partition,

@@ -1,4 +1,6 @@
-//! The labels and counts of a table in the printed order, taken straight from its states.
+//! Terms made from a table of states: the label of a term is the sum of a state, and its
+//! coefficient is the count of this state. The terms are sorted into the printed order; no counts
+//! are added up.
 ghost use Rattle.std.specs.Prelude.{◌≡◌, ℕ, ◌+◌, ◌^◌, ◌≤◌, ◌+ℤ◌, List, pos, IfOk, OnOk};
 ghost use Rattle.std.specs.Prelude.{IsErrOf};
 ghost use Rattle.std.specs.List.{sum_by};
@@ -15,8 +17,8 @@ use partitions::Partition;
 use std::alloc::Global;
 use std::cmp::Ordering;
 
-/// The sums of the states with a positive count, without their last zeros, with these counts: in
-/// the printed order if all sums have one size.
+/// For each state with a positive count, its sum without the zeros at the end, paired with its
+/// count. The pairs are in the printed order if all sums have the same size.
 pub(crate) fn sorted_pairs(
     alloc: Global,
     table: &States,
@@ -41,7 +43,7 @@ pub(crate) fn sorted_pairs(
     Ok(pairs)
 }
 
-/// The indices of all states.
+/// The indices of all states of the table.
 fn places_of(alloc: Global, table: &States) -> Result<Vec<usize>, NoMemory>
     ensures { IfOk result (λ places. (n : ℕ) (f : List ℕ → List ℕ → ℕ)
         → sum_by (count_at n table.now.entries f) places.items ≡ weighed n f table.now.entries) }
@@ -53,7 +55,7 @@ fn places_of(alloc: Global, table: &States) -> Result<Vec<usize>, NoMemory>
     Ok(places)
 }
 
-/// A key for each state, by which most sums can be compared.
+/// For each state, the key (`key_of`) of its sum, by which most sums can be compared.
 fn keys_of(alloc: Global, table: &States, letters: u16) -> Result<Vec<u64>, NoMemory> {
     let mut keys: Vec<u64> = Vec::with_capacity(alloc, table.len())?;
     for at in 0..table.len() {
@@ -62,8 +64,10 @@ fn keys_of(alloc: Global, table: &States, letters: u16) -> Result<Vec<u64>, NoMe
     Ok(keys)
 }
 
-/// The first eight numbers as the bytes of one number. The first number that is 255 or more counts
-/// as 255, and those after it as 0, so that different keys are ordered as the sums.
+/// A key of a sum: its first eight numbers as the bytes of one number, the first of them in the
+/// highest byte. The first number that is 255 or more counts as 255, and the numbers after it count
+/// as 0. So if two sums of the same length have different keys, the one with the greater key is
+/// lexicographically greater.
 fn key_of(sum: &[u16]) -> u64 {
     let mut key: u64 = 0;
     let mut most = 255;
@@ -76,13 +80,13 @@ fn key_of(sum: &[u16]) -> u64 {
     key
 }
 
-/// The key at an index; 0 if there is none.
+/// The key at the index `at`; 0 after the last key.
 fn key_at(keys: &[u64], at: usize) -> u64 {
     keys.get(at).copied().unwrap_or(0)
 }
 
-/// Sorts indices by the sums of their states, in decreasing lexicographic order. The sums are
-/// compared only if their keys are equal.
+/// Sorts the indices `places` of states by the sums of the states, in decreasing lexicographic
+/// order. Two sums are compared only if their keys are equal.
 fn sort_places(table: &States, keys: &[u64], letters: u16, places: &mut Vec<usize>)
     ensures { IsPermutation places.old.items places.new.items }
 {
@@ -92,7 +96,8 @@ fn sort_places(table: &States, keys: &[u64], letters: u16, places: &mut Vec<usiz
     });
 }
 
-/// The sum of the state at an index; empty if there is no such state.
+/// The sum of the state at the index `at`: its first `letters` numbers; empty if there is no such
+/// state.
 fn sum_at(table: &States, letters: u16, at: usize) -> &[u16] {
     match table.get(at) {
         Some((state, _)) => &state[..usize::from(letters).min(state.len())],
@@ -100,7 +105,8 @@ fn sum_at(table: &States, letters: u16, at: usize) -> &[u16] {
     }
 }
 
-/// Appends the sum at an index and its count, unless the count is 0.
+/// Appends to `pairs` the pair for the state at the index `at`: its sum without the zeros at the
+/// end, and its count. Does nothing if the count is 0.
 fn add_place(
     alloc: Global,
     pairs: &mut Vec<(Partition, Int)>,

@@ -1,4 +1,4 @@
-//! States of one length with their counts, in two vectors.
+//! A list of states of the same length with their counts, in two vectors.
 ghost use Rattle.std.specs.Prelude.{◌≡◌, ℕ, ◌+◌, ◌*◌, ◌^◌, ◌<◌, List, ◌∷◌, [], ◌++◌, min};
 ghost use Rattle.std.specs.Prelude.{length, slice_get, OnOk, IfOk, IsTrue, Some};
 ghost use Rattle.std.specs.Map.{keys_of};
@@ -10,12 +10,12 @@ use calc_base::NoMemory;
 use std::alloc::Global;
 use std::marker::Model;
 
-/// The cap: greater counts are kept as this number.
+/// The cap of the counts: a greater count is replaced by this number.
 pub(crate) const CAP: u128 = 1 << 127;
 
-/// States of one length, each with its count. A state is the sum reached, in one place for each
-/// letter, followed by the column added last, or by numbers for the row added last, if a further
-/// one needs them.
+/// States of the same length, each with its count. A state is the sum reached, with one number for
+/// each letter; if one more column or row is to be added, these numbers are followed by the letters
+/// of the column added last, or by numbers that describe the row added last.
 #[derive(Drop)]
 pub(crate) struct States {
     /// The length of each state.
@@ -40,7 +40,7 @@ impl Model for States {
 }
 
 impl States {
-    /// No states, of length `width`, with room for `room` of them.
+    /// An empty list of states of length `width`, with memory for `room` of them.
     pub(crate) fn with_room(alloc: Global, width: usize, room: usize) -> Result<States, NoMemory>
         ensures width { IfOk result (λ s. s.width ≡ width) }
         ensures none { IfOk result (λ s. s.entries ≡ []) }
@@ -60,7 +60,7 @@ impl States {
         self.counts.len()
     }
 
-    /// The state and the count at an index.
+    /// The state at the index `at` and its count.
     pub(crate) fn entry(&self, at: usize) -> (&[u16], u128)
         requires { at < length self.now.entries }
         ensures { slice_get self.now.entries at ≡ Some (result.0.now, result.1) }
@@ -69,7 +69,7 @@ impl States {
         (&self.numbers[start..start + self.width], self.counts[at])
     }
 
-    /// The state and the count at an index; `None` if and only if there is no such state.
+    /// The state at the index `at` and its count; `None` if and only if there is no such state.
     pub(crate) fn get(&self, at: usize) -> Option<(&[u16], u128)>
         ensures { option_map (λ e. (e.0.now, e.1)) result ≡ slice_get self.now.entries at }
     {
@@ -79,7 +79,7 @@ impl States {
         None
     }
 
-    /// Whether `state` is the one at an index.
+    /// Whether there is a state at the index `at` and it is equal to `state`.
     pub(crate) fn is_at(&self, at: usize, state: &[u16]) -> bool
         ensures within { IsTrue result → at < length self.now.entries }
         ensures state { IsTrue result → slice_get (keys_of self.now.entries) at ≡ Some state.now }
@@ -87,7 +87,7 @@ impl States {
         at < self.len() && self.entry(at).0 == state
     }
 
-    /// Appends a state with its count.
+    /// Appends `state` with the count `count`.
     pub(crate) fn push(&mut self, state: &[u16], count: u128) -> Result<(), NoMemory>
         requires { length state.now ≡ self.old.width }
         ensures width { OnOk result (self.new.width ≡ self.old.width) }
@@ -100,7 +100,8 @@ impl States {
         Ok(())
     }
 
-    /// Adds a count to the one at an index; a sum over the cap is replaced by the cap.
+    /// Adds `count` to the count of the state at the index `at`; a total over 2^127 is replaced by
+    /// 2^127.
     pub(crate) fn add_at(&mut self, at: usize, count: u128)
         requires { at < length self.old.entries }
         ensures width { self.new.width ≡ self.old.width }

@@ -13,8 +13,9 @@ use crate::table::{Table, capped};
 use calc_base::NoMemory;
 use std::alloc::Global;
 
-/// The table after one more column, which is given by `line`, is added, with letters from 1 to
-/// `letters`. Its counts, capped at 2^127, are correct for sums within `bound`.
+/// The table of the states reached from those of `table` by adding one column with letters from 1
+/// to `letters`; `line` says which of its places are cells. Its counts, capped at 2^127, are
+/// correct for the sums of which no number exceeds that of `bound` at the same index.
 pub(crate) fn with_column(
     alloc: Global,
     table: &States,
@@ -36,7 +37,8 @@ pub(crate) fn with_column(
         → weighed letters (unreached letters (m + length line.now)) next.entries ≡ 0) }
 {
     let width = width_of(letters, line, is_kept);
-    // If the room is a power of two, a table can mostly reuse the memory of the last but one.
+    // If each table is made with room for a number of states that is a power of two, it can mostly
+    // reuse the memory of the last table but one.
     let room = table.len().next_power_of_two();
     let mut next = Table::with_room(alloc, width, room)?;
     let mut reached: Vec<u16> = Vec::with_capacity(alloc, width)?;
@@ -52,7 +54,8 @@ pub(crate) fn with_column(
     Ok(next.into_states())
 }
 
-/// The length of a state after a column of this line.
+/// The length of a state to which a column with the places of `line` has been added: `letters`
+/// numbers for the sum, and one number for each place if the column is kept.
 fn width_of(letters: u16, line: &[bool], is_kept: bool) -> usize
     requires { length line.now ≤ 4096 }
     ensures { result ≡ letters + cond is_kept (length line.now) 0 }
@@ -63,8 +66,8 @@ fn width_of(letters: u16, line: &[bool], is_kept: bool) -> usize
     usize::from(letters)
 }
 
-/// Adds to the counts of `next` the ways to add a column to a state. The states that arise are made
-/// in the buffer `reached`.
+/// Adds to `next` the states reached from `state` by adding a column in all ways, each with the
+/// number of ways to reach it. The new states are made in the buffer `reached`.
 fn add_columns(
     reached: &mut Vec<u16>,
     next: &mut Table,

@@ -1,4 +1,4 @@
-//! A table from states to counts.
+//! A hash table from states to counts.
 ghost use Rattle.std.specs.Prelude.{◌≡◌, ℕ, ◌+◌, ◌*◌, ◌^◌, ◌<◌, ◌≤◌, List, ◌∷◌, [], ◌++◌};
 ghost use Rattle.std.specs.Prelude.{length, slice_get, OnOk, IfOk, Some};
 ghost use Rattle.std.specs.Map.{keys_of};
@@ -10,15 +10,17 @@ use calc_base::NoMemory;
 use std::alloc::Global;
 use std::marker::Model;
 
-/// The odd number next to 2^64 divided by the golden ratio, which spreads hashes.
+/// The odd number closest to 2^64 divided by the golden ratio; multiplying by it spreads hashes.
 const SPREAD: u64 = 0x9E37_79B9_7F4A_7C15;
 
-/// States with their counts, and the slots of a hash table by which a state is found.
+/// A list of states with their counts, and the slots of a hash table by which the index of a state
+/// is found.
 #[derive(Drop)]
 pub(crate) struct Table {
     states: States,
-    /// The slot of a state holds its index plus 1; a free slot holds 0. A state is in the first
-    /// slot, from that of its hash on, that was free. At most half of the slots are taken.
+    /// A slot that is taken by a state has the index of this state plus 1; a free slot has 0. The
+    /// slot of a state is the first slot, from the one given by its hash on, that was free when the
+    /// state was added. At most half of the slots are taken.
     slots: Vec<u32>,
 }
 
@@ -31,8 +33,8 @@ impl Model for Table {
 }
 
 impl Table {
-    /// An empty table for states of length `width`, with room for `room` of them, or for eight if
-    /// `room` is less.
+    /// An empty table for states of length `width`, with memory for `room` of them, and for at
+    /// least eight.
     pub(crate) fn with_room(alloc: Global, width: usize, room: usize) -> Result<Table, NoMemory>
         ensures width { IfOk result (λ t. t.width ≡ width) }
         ensures none { IfOk result (λ t. t.entries ≡ []) }
@@ -44,7 +46,7 @@ impl Table {
         })
     }
 
-    /// Adds a count to that of a state.
+    /// Adds `count` to the count of `state`, which is 0 if the table does not have the state.
     pub(crate) fn add(&mut self, state: &[u16], count: u128) -> Result<(), NoMemory>
         requires width { length state.now ≡ self.old.width }
         requires count { count ≤ 2 ^ 127 }
@@ -62,8 +64,8 @@ impl Table {
         }
     }
 
-    /// Adds a new state with its count in a free slot, and doubles the slots if half of them are
-    /// then taken.
+    /// Appends the new state `state` with the count `count`, writes its index into the free slot
+    /// `slot`, and doubles the slots if half of them are then taken.
     fn put(&mut self, slot: usize, state: &[u16], count: u128) -> Result<(), NoMemory>
         requires { length state.now ≡ self.old.width }
         ensures width { OnOk result (self.new.width ≡ self.old.width) }
@@ -79,7 +81,7 @@ impl Table {
         Ok(())
     }
 
-    /// The states with their counts.
+    /// The list of the states with their counts.
     pub(crate) fn into_states(self) -> States
         ensures { result ≡ self }
     {
@@ -91,7 +93,7 @@ impl Table {
     }
 }
 
-/// The index of a state as `Ok`, or the slot for it as `Err`.
+/// The index of `state` as `Ok`; if the table does not have it, the free slot for it as `Err`.
 fn find(slots: &[u32], states: &States, state: &[u16]) -> Result<usize, usize>
     ensures within { IfOk result (λ at. at < length states.now.entries) }
     ensures state { IfOk result (λ at. slice_get (keys_of states.now.entries) at
@@ -115,8 +117,8 @@ fn find(slots: &[u32], states: &States, state: &[u16]) -> Result<usize, usize>
     Err(slot)
 }
 
-/// The slot, among `len`, in which the search for a state begins. Four numbers are mixed in at a
-/// time.
+/// The slot, out of `len`, in which the search for a state begins. The hash takes in four numbers
+/// at a time.
 fn first_slot(state: &[u16], len: usize) -> usize {
     let (whole, rest) = state.as_chunks::<4>();
     let mut hash: u64 = 0;
@@ -130,12 +132,12 @@ fn first_slot(state: &[u16], len: usize) -> usize {
     ((hash >> 32).wrapping_mul(len as u64) >> 32) as usize
 }
 
-/// A hash after one more word.
+/// The hash that results from `hash` and one more word.
 fn mixed(hash: u64, word: u64) -> u64 {
     (hash.rotate_left(23) ^ word).wrapping_mul(SPREAD)
 }
 
-/// Up to three numbers in one word.
+/// Up to three numbers packed into one word.
 fn word_of(numbers: &[u16]) -> u64 {
     match numbers {
         [a, b, c] => joined(*a, *b, *c, 0),
@@ -145,12 +147,13 @@ fn word_of(numbers: &[u16]) -> u64 {
     }
 }
 
-/// Four numbers in one word, the first one in its lowest bits.
+/// Four numbers of 16 bits packed into one word, the first one in the lowest bits.
 fn joined(a: u16, b: u16, c: u16, d: u16) -> u64 {
     u64::from(a) | u64::from(b) << 16 | u64::from(c) << 32 | u64::from(d) << 48
 }
 
-/// Writes the index of a state into a slot. States after the first 2^32 get no slots.
+/// Writes the index `at` of a state, plus 1, into a slot; does nothing if this sum does not fit 32
+/// bits.
 fn note(slots: &mut [u32], slot: usize, at: usize) {
     let Ok(number) = u32::try_from(at.saturating_add(1)) else {
         return;
@@ -160,7 +163,7 @@ fn note(slots: &mut [u32], slot: usize, at: usize) {
     }
 }
 
-/// `len` slots, filled with the indices of these states.
+/// A list of `len` slots with the indices of the given states.
 fn slots_of(alloc: Global, states: &States, len: usize) -> Result<Vec<u32>, NoMemory> {
     let mut slots: Vec<u32> = vec![in alloc; 0; len]?;
     for at in 0..states.len() {
@@ -172,7 +175,7 @@ fn slots_of(alloc: Global, states: &States, len: usize) -> Result<Vec<u32>, NoMe
     Ok(slots)
 }
 
-/// The count, or the cap if the count exceeds it.
+/// The count, or 2^127 if the count is greater.
 pub(crate) fn capped(count: u128) -> u128
     ensures capped { Agree result count }
     ensures within { result ≤ 2 ^ 127 }

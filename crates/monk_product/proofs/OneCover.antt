@@ -9,13 +9,12 @@ use Rattle.sym_model.specs.Permutation.{IsOneLine, letter, with_fixed, swapped, 
 use Rattle.sym_model.specs.Polynomial.{same}
 use Rattle.sym_model.proofs.AfterLists.{length_after, after_among}
 use Rattle.sym_model.proofs.Exponents.{same_true}
-use Rattle.sym_model.proofs.Lists.{get_or-any}
 use Rattle.schubert_laws.proofs.LowerPermutations.{letter_added, letter_kept}
 use Rattle.schubert_laws.proofs.MonkFromOne.{swap_is}
-use Rattle.schubert_laws.proofs.TransitionFromOne.{get_past}
 use Rattle.schubert_laws.proofs.Swaps.{get_swap_left, get_swap_right, among_get}
 use Rattle.schubert_laws.proofs.Ranks.{letter_within}
 use Rattle.monk_product.specs.Monk.{count_of}
+use Rattle.std.proofs.lemmas.List.{get_or_past, get_or_default}
 
 reaches : (w : List ℕ) (j : ℕ) → j ≤ length (with_fixed j w)
 reaches w j =
@@ -32,7 +31,7 @@ letter_first i j w h l =
     letter_kept (swapped i j (with_fixed j w)) i h
     ∙ ap (λ v. get_or v (i - 1) i) (swap_is (with_fixed j w) (i - 1) (j - 1) a b)
     ∙ get_swap_left (i - 1) (j - 1) i (with_fixed j w) a b
-    ∙ get_or-any (with_fixed j w) (j - 1) i j b
+    ∙ get_or_default (with_fixed j w) (j - 1) i j b
     ∙ letter_added (j - length w) w j (omega arith)
 
 letter_second : (i j : ℕ) (w : List ℕ) → 1 ≤ i → i < j → letter (times_swap i j w) j ≡ letter w i
@@ -43,7 +42,7 @@ letter_second i j w h l =
     letter_kept (swapped i j (with_fixed j w)) j (omega arith)
     ∙ ap (λ v. get_or v (j - 1) j) (swap_is (with_fixed j w) (i - 1) (j - 1) a b)
     ∙ get_swap_right (i - 1) (j - 1) j (with_fixed j w) a b
-    ∙ get_or-any (with_fixed j w) (i - 1) j i a
+    ∙ get_or_default (with_fixed j w) (i - 1) j i a
     ∙ letter_added (j - length w) w i h
 
 -- ---- letters at different places differ
@@ -59,10 +58,10 @@ letters_apart : (w : List ℕ) (i j : ℕ) → IsOneLine w → 1 ≤ i → i < j
 letters_apart w i j o h l e = elim (cases_lt (j - 1) (length w)) [
   | inl m ↦ entries_apart w (i - 1) (j - 1) i j o.once (omega arith) m e
   | inr m ↦
-      let p = get_past w (j - 1) j m in
+      let p = get_or_past w (j - 1) j m in
       elim (cases_lt (i - 1) (length w)) [
         | inl k ↦ (let b = letter_within w i o (omega arith) in omega arith)
-        | inr k ↦ (let q = get_past w (i - 1) i k in omega arith)
+        | inr k ↦ (let q = get_or_past w (i - 1) i k in omega arith)
       ]
 ]
 

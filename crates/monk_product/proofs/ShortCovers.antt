@@ -1,4 +1,4 @@
--- The covers of a permutation, listed place after place.
+-- The covers of a permutation that exchange the letter at a given place, listed in the order of the other place of the exchange.
 use Rattle.std.proofs.Common.{◌≡◌, ℕ, ◌+◌, ◌-◌, ◌<◌, ◌==◌, Bool, List, [], ◌∷◌, ◌++◌, map, refl, sym, ap, ◌∙◌, subst, arith, ℤ}
 use Rattle.std.specs.Prelude.{Option, Some, None, MatchOption}
 use Rattle.std.specs.Option.{option_to_list}

@@ -1,5 +1,5 @@
 -- The 32 letters of a short permutation, and its letters without the fixed ones at the end.
-use Rattle.std.proofs.Common.{◌≡◌, ℕ, zero, suc, ◌+◌, ◌-◌, ◌<◌, ◌≤◌, ◌==◌, Bool, true, false, cond, List, [], ◌∷◌, ◌++◌, length, take, drop, refl, sym, ap, ap₂, ◌∙◌, subst, arith, length-append}
+use Rattle.std.proofs.Common.{◌≡◌, ℕ, zero, suc, ◌+◌, ◌-◌, ◌<◌, ◌≤◌, ◌==◌, Bool, cond, List, [], ◌∷◌, ◌++◌, length, take, drop, sym, ap, ap₂, ◌∙◌, subst, arith, length-append}
 use Rattle.std.specs.Prelude.{nat_eq}
 use Rattle.std.specs.List.{swap}
 use Rattle.std.specs.Cmp.Lexicographic.{pointwise}
@@ -16,6 +16,7 @@ use Rattle.perm_codes.specs.Limits.{IsShortPermutation, IsWithinLimits}
 use Rattle.perm_codes.proofs.CoverSteps.{swap_in, same_inversions}
 use Rattle.perm_codes.proofs.WithinLimits.{kept_limits, short_fixed, short_swap, length-with_fixed}
 use Rattle.monk_product.specs.ShortPerms.{IsFilled}
+use Rattle.sym_model.proofs.Exponents.{tests_agree}
 
 pub short_of : (u : List ℕ) (n : ℕ) → IsFilled u n → IsShortPermutation u
 short_of u n f = let l = f.long in record { one_line = f.one_line; some = omega arith; few = omega arith }
@@ -45,12 +46,7 @@ shown u =
     let t = kept_whole u in
     ap (take (length (kept u))) t.1 ∙ take-append_seam (kept u) (after (length (kept u)) t.0)
 
--- ---- equality of short permutations
-
-both : (s t : Bool) → (s ≡ true → t ≡ true) → (t ≡ true → s ≡ true) → s ≡ t
-both true t f g = sym (f refl)
-both false true f g = g refl
-both false false f g = refl
+-- ---- the test whether two short permutations are equal
 
 pub same_letters : (u v : List ℕ) → length u ≡ 32 → length v ≡ 32 → kept u ≡ kept v → u ≡ v
 same_letters u v l m e = sym (filled u l) ∙ ap (with_fixed 32) e ∙ filled v m
@@ -59,7 +55,7 @@ pub same_test : (u v : List ℕ) → length u ≡ 32 → length v ≡ 32 → poi
 same_test u v l m =
     let d = bytes_eq-Decides u v in
     let e = bytes_eq-Decides (kept u) (kept v) in
-    both (pointwise nat_eq u v) (pointwise nat_eq (kept u) (kept v)) (λ h. e.1 (ap kept (d.0 h))) (λ h. d.1 (same_letters u v l m (e.0 h)))
+    tests_agree (pointwise nat_eq u v) (pointwise nat_eq (kept u) (kept v)) (λ h. e.1 (ap kept (d.0 h))) (λ h. d.1 (same_letters u v l m (e.0 h)))
 
 -- ---- the short permutation equal to a given permutation
 
@@ -88,7 +84,7 @@ filled_of w u n e l s c =
       count_is = c ∙ sym (same_inversions w 32 (omega arith) l);
     })
 
--- ---- the exchange of two letters
+-- ---- the exchange of two letters of a short permutation
 
 pub swapped : (u v : List ℕ) (n a b : ℕ) → IsFilled u n → v ≡ swap u a b → length v ≡ length u → a < b → b < 32
     → inversions (swap u a b) ≡ inversions u + 1 → IsFilled v (n + 1)

@@ -11,7 +11,7 @@ use Rattle.linear_combinations.specs.Entries.{IsCombination}
 pub use Rattle.linear_combinations.specs.Gains.{over, mass, each_with}
 use Rattle.sym_model.specs.WholeTerms.{WholeTerms}
 
--- each permutation occurs once, within the limits of a label, with a coefficient that is not 0
+-- each permutation occurs once and is within the limits of a label (`is_permutation_label`), and no coefficient is 0
 abbrev pub IsPermutationTable : WholeTerms → Type 0
 IsPermutationTable terms = IsCombination (pointwise nat_eq) is_permutation_label whole terms
 

@@ -1,5 +1,5 @@
--- Lemmas that the implementations of `Factor` and `Rule` by `TimesVar` cite: a product of Schubert polynomials under
--- the transition rule, and the terms of Monk's rule.
+-- Lemmas for the implementations of the traits `Factor` and `Rule` by `TimesVar`: the transition rule for a product
+-- of two Schubert polynomials, and the terms of x_r·S_w by Monk's rule.
 use Rattle.std.proofs.Common.{◌≡◌, ℕ, ◌+◌, ◌≤◌, max, true, List, [], ◌∷◌, length, refl, sym, ap, ◌∙◌}
 use Rattle.std.proofs.Common.{arith, ℤ}
 use Rattle.std.proofs.Common.{pos, negsuc, ◌+ℤ◌}
@@ -47,9 +47,10 @@ mass_terms r w h =
     let n = count_covers r w h in
     omega arith
 
--- ---- the product of two Schubert polynomials, by the transition rule for the first
+-- ---- the product of two Schubert polynomials, with the transition rule applied to the first
 
--- S_id·S_label = S_label in n variables, paired with φ; id is the identity
+-- for the identity id, the product S_id·S_label in n variables has the same pairing (`pair`) with φ as S_label in n
+-- variables
 pub monk_start : (n : ℕ) (φ : List ℕ → ℤ) (label : List ℕ)
     → pair (times (schubert_in (1 ∷ []) n) (schubert_in label n)) φ ≡ pair (schubert_in label n) φ
 monk_start n φ label =
@@ -129,7 +130,7 @@ monk_step n r s φ w label o t is =
     (sym (over_terms r (λ x. pair (times (schubert_in (times_swap r s w) n) (schubert_in x n)) φ)
     label))
 
--- ---- Monk's rule adds at most one letter to a label
+-- ---- the terms of x_r·S_w by Monk's rule have at most one letter more than w
 
 pub monk_grows : (k r : ℕ) (v label : List ℕ) → IsShort k v → 1 ≤ r → r ≤ k → r ≤ 255 → k ≤ 254
     → length label ≤ k
@@ -146,7 +147,8 @@ monk_grows k r v label short first last place small few = record {
   few = let m = mass_terms r label first in omega arith;
 }
 
--- for labels of at most 31 letters, Monk's rule turns one of at most k letters into at most k labels of at most k + 1 letters
+-- for k ≤ 31 and r ≤ k, Monk's rule for x_r turns a label of at most k letters into at most k labels of at most k + 1
+-- letters
 pub monk_grows_short : (k r : ℕ) (v label : List ℕ) → IsShort k v → 1 ≤ r → r ≤ k → r ≤ 255
     → k ≤ 31 → length label ≤ k
     → GrowsBy length (λ w. (1 ≤ r) × (r ≤ 31) × (length w ≤ 31)) (monk_terms r) k 0 label

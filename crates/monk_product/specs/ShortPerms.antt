@@ -1,5 +1,4 @@
--- The fields of a short permutation: its letters with fixed ones up to place 32, and the number of
--- its inversions.
+-- The fields of a short permutation: its letters, followed by fixed letters up to the place 32, and the number of its inversions.
 use Rattle.std.specs.Prelude.{◌≡◌, ℕ, List, length}
 use Rattle.sym_model.specs.PlaceOrders.{inversions}
 use Rattle.sym_model.specs.Permutation.{IsOneLine}

@@ -2,16 +2,18 @@
 //!
 //! What is proved:
 //!
-//! `times_var` gives the product of a sum of Schubert polynomials and a variable as such a sum, by
-//! Monk's rule, in every number of variables; its weight (the sum of the absolute values of the
-//! coefficients) is at most that of the list times the greater of the place of the variable and the
-//! greatest number of letters, and `Large` is returned only if the weight of the list is 2^127 or
-//! more. `schubmult` gives the product of two Schubert polynomials, in every number of variables;
-//! `Large` is returned only if the bound of its documentation is 2^127 or more.
+//! `times_var` gives the product of a sum of Schubert polynomials and a variable x_r as a sum of
+//! Schubert polynomials, by Monk's rule, in every number of variables. The weight of a list is the
+//! sum of the absolute values of its coefficients, or 1 for the empty list. The weight of the
+//! product is at most W·max(r, n), for the weight W of the given list and the greatest number n of
+//! letters of its labels. `Large` is returned only if W is 2^127 or more. `schubmult` gives the
+//! product of two Schubert polynomials, in every number of variables; `Large` is returned only if
+//! the bound in the documentation of `schubmult` is 2^127 or more.
 //!
-//! If the greater number of letters and the smaller number of inversions add up to at most 32,
-//! `schubmult` uses permutations that allocate no memory (`ShortPerm`): the bound is that of
-//! `product_of`, and the covers are those of `Perm`.
+//! If the greater number of letters and the smaller number of inversions of the two permutations
+//! add up to at most 32, `schubmult` uses permutations that allocate no memory (`ShortPerm`). They
+//! have the same covers as permutations of the type `Perm`, and the bound for `Large` is the same
+//! for both types.
 #![tactic(auto)]
 
 mod monk;

@@ -26,9 +26,9 @@ use transition_walk::product_of;
 /// the printed order of their permutations. The greater number of letters and the smaller number of
 /// inversions must add up to at most 255.
 ///
-/// Returns `Large` only if S_w(1, .., 1)·(n + l)^l is 2^127 or more, with w the one of the two
-/// permutations that has fewer inversions, l the number of its inversions, and n the greater of the
-/// two numbers of letters.
+/// Let w be the one of the two permutations that has fewer inversions (`u` if both have the same
+/// number), let l be its number of inversions, and let n be the greater of the two numbers of
+/// letters. Returns `Large` only if S_w(1, .., 1)·(n + l)^l is 2^127 or more.
 pub fn schubmult(alloc: Global, u: &Perm, v: &Perm) -> Result<Terms<Perm, Int>, SumFault>
     requires { max (length u.now) (length v.now) + inversions (shorter u.now v.now) ≤ 255 }
     ensures meets { IfOk result (λ terms.
@@ -42,8 +42,7 @@ pub fn schubmult(alloc: Global, u: &Perm, v: &Perm) -> Result<Terms<Perm, Int>, 
     }
 }
 
-/// The product of S_w and S_other, by the transition rule on `w` with `other` as the label that is
-/// multiplied.
+/// The product of S_w and S_other as a sum of Schubert polynomials, by the transition rule on `w`.
 fn act(alloc: Global, w: &Perm, other: &Perm) -> Result<Terms<Perm, Int>, SumFault>
     requires { max (length w.now) (length other.now) + inversions w.now ≤ 255 }
     ensures value { IfOk result (λ terms. (n : ℕ)
@@ -60,9 +59,9 @@ fn act(alloc: Global, w: &Perm, other: &Perm) -> Result<Terms<Perm, Int>, SumFau
     Ok(sum.sorted_terms()?)
 }
 
-/// The product of S_w and S_other, by the transition rule on `w`, if the greater number of letters
-/// and the number of inversions of `w` add up to at most 32: no permutation that the transition
-/// rule meets has more than 32 letters.
+/// The product of S_w and S_other as a sum of Schubert polynomials, by the transition rule on `w`.
+/// The greater number of letters of `w` and `other`, plus the number of inversions of `w`, must be
+/// at most 32. So no permutation in the computation has more than 32 letters.
 fn act_shortly(alloc: Global, w: &Perm, other: &Perm) -> Result<Terms<Perm, Int>, SumFault>
     requires { max (length w.now) (length other.now) + inversions w.now ≤ 32 }
     ensures value { IfOk result (λ terms. (n : ℕ)

@@ -17,9 +17,9 @@ use transition_walk::Factor;
 /// A list of Schubert polynomials of short permutations with integer coefficients.
 type ShortSum = Lin<ShortPerm, Int>;
 
-/// Adds `c` to the coefficient of each cover of w that exchanges the letters at `place`, counted
-/// from 0, and at a greater place. Returns `Large` only if, at some label, the absolute values of
-/// the old coefficient and of the gains add up to 2^127 or more.
+/// For each cover of w that exchanges the letters at `place`, counted from 0, and at a greater
+/// place, adds `c` to its coefficient in `sum`. Returns `Large` only if, at some label, the
+/// absolute values of the old coefficient and of the added ones have a sum of 2^127 or more.
 fn add_covers_up(w: &ShortPerm, place: usize, c: Int, sum: &mut ShortSum) -> Result<(), SumFault>
     requires place { place + 1 ≤ 31 }
     requires few { length w.now ≤ 31 }
@@ -35,9 +35,9 @@ fn add_covers_up(w: &ShortPerm, place: usize, c: Int, sum: &mut ShortSum) -> Res
     Ok(())
 }
 
-/// Subtracts `c` from the coefficient of each cover of w that exchanges the letters at `place`,
-/// counted from 0, and at a smaller place. Returns `Large` only if, at some label, the absolute
-/// values of the old coefficient and of the gains add up to 2^127 or more.
+/// For each cover of w that exchanges the letters at `place`, counted from 0, and at a smaller
+/// place, subtracts `c` from its coefficient in `sum`. Returns `Large` only if, at some label, the
+/// absolute values of the old coefficient and of the subtracted ones have a sum of 2^127 or more.
 fn subtract_covers_down(
     w: &ShortPerm,
     place: usize,
@@ -102,7 +102,8 @@ impl Factor<ShortPerm> for TimesVar {
     ghost grows = { monk_grows_short };
 }
 
-/// The terms, with their permutations in the general type. Fails only if memory runs out.
+/// The given terms, with each permutation converted to the type `Perm`. Fails only if memory runs
+/// out.
 pub(crate) fn written_out(
     alloc: Global,
     terms: Terms<ShortPerm, Int>,

@@ -21,7 +21,7 @@ use std::marker::Model;
 /// The greatest number of letters of a short permutation.
 pub(crate) const MOST_LETTERS: usize = 32;
 
-/// The letters of the identity.
+/// The letters of the identity, at the places 1 to 32.
 const FIXED: [u8; MOST_LETTERS] = [
     1, 2, 3, 4, 5, 6, 7, 8, 9, 10, 11, 12, 13, 14, 15, 16, 17, 18, 19, 20, 21, 22, 23, 24, 25, 26,
     27, 28, 29, 30, 31, 32,
@@ -30,7 +30,7 @@ const FIXED: [u8; MOST_LETTERS] = [
 /// A permutation of at most 32 letters. It allocates no memory.
 #[derive(Drop)]
 pub(crate) struct ShortPerm {
-    /// The letters, with fixed ones up to place 32.
+    /// The letters at the places 1 to 32, fixed letters at the end included.
     letters: [u8; MOST_LETTERS],
     inversions: u16,
 }
@@ -62,7 +62,7 @@ impl ShortPerm {
         }
     }
 
-    /// The same permutation in the general type. Fails only if memory runs out.
+    /// This permutation in the type `Perm`. Fails only if memory runs out.
     pub fn perm(&self, alloc: Global) -> Result<Perm, NoMemory>
         ensures { IfOk result (λ w. w ≡ self.now) }
     {
@@ -73,7 +73,7 @@ impl ShortPerm {
         Perm::from_valid_letters(alloc, &letters[..self.len()])
     }
 
-    /// The number of letters without the fixed ones at the end.
+    /// The number of letters without the fixed letters at the end; 1 for the identity.
     pub fn len(&self) -> usize
         ensures { result ≡ length self.now }
     {
@@ -84,10 +84,11 @@ impl ShortPerm {
         len
     }
 
-    /// The permutation after exchanging the letters at two places, counted from 0, of which the
-    /// first is the smaller and both are below 32, if this makes exactly one more inversion: the
-    /// first letter is the smaller one, and no place between them has a letter between them in
-    /// value. Otherwise `None`.
+    /// This permutation with the letters at the places `first` and `second`, counted from 0,
+    /// exchanged; `None` unless this adds exactly one inversion. It does if and only if the letter
+    /// at `first` is smaller than that at `second`, and no letter at a place between them has a
+    /// value between these two letters. `first` must be less than `second`, and `second` less than
+    /// 32.
     pub fn cover(&self, first: usize, second: usize) -> Option<ShortPerm>
         requires order { first < second }
         requires inside { second < 32 }
@@ -108,7 +109,7 @@ impl ShortPerm {
         }
     }
 
-    /// The letters without the fixed ones at the end.
+    /// The letters of the permutation without the fixed letters at the end.
     fn letters(&self) -> &[u8]
         ensures { result.now ≡ self.now }
     {

@@ -1,11 +1,10 @@
--- The ways to write ν as an arrangement of one label plus an arrangement of the other (specs/MonomialProduct), counted part
--- by part of ν: each part x of ν is the sum of a number b from one label and x - b from the other.
---     arrangements-cons     the number for x ∷ ν as a sum over the different parts b of the left label, and b = 0
---     arrangements-lacking  the number is 0 if a label has a part greater than all parts of ν
---     arrangements-sizes    the number is 0 if the sizes of the labels do not add up to that of ν
---     arrangements-comm     the number does not change if the two labels are exchanged
-use Rattle.std.proofs.Common.{◌≤◌, ◌+◌, ◌≡◌, ◌⊎◌, ℕ, zero, suc, ◌-◌, Bool, true, false, ◌&&◌, cond, eqb, leb, List, [], ◌∷◌, length, sym, ◌∙◌, ap, ap₂, refl, inl, inr, arith, ℤ, pos, ◌*ℤ◌, map}
-use Rattle.std.proofs.lemmas.Int.{ints}
+-- The number `arrangements l r ν` of ways to write ν as an arrangement of l plus an arrangement of r (specs/MonomialProduct), counted part by
+-- part of ν: each part x of ν is the sum of a number b from l and x - b from r.
+--     arrangements-cons     the number for x ∷ ν as a sum over b, which is 0 or one of the different parts of l
+--     arrangements-lacking  the number is 0 if l has a part greater than all parts of ν
+--     arrangements-sizes    the number is 0 if |l| + |r| is not |ν|
+--     arrangements-comm     the number does not change if l and r are exchanged
+use Rattle.std.proofs.Common.{◌+◌, ◌≡◌, ◌⊎◌, ℕ, zero, suc, ◌-◌, Bool, true, false, ◌&&◌, cond, eqb, leb, List, [], ◌∷◌, length, sym, ◌∙◌, ap, ap₂, refl, inl, inr, arith, ℤ, pos, ◌*ℤ◌, map}
 use Rattle.std.proofs.lemmas.Bool.{cases_eq, eq-eqb, ne_eqb, eqb-true, leb-true, and_parts, and_from, cond-true}
 use Rattle.sym_model.specs.Sum.{total, Among}
 use Rattle.sym_model.specs.Polynomial.{same, coefficient, times}
@@ -13,7 +12,7 @@ use Rattle.sym_model.specs.Partition.{IsPartition, size, insert_part, sorted_par
 use Rattle.sym_model.specs.Bases.{has, down_from, monomial}
 use Rattle.sym_model.specs.RaisedPart.{without_one, distinct}
 use Rattle.monomial_laws.specs.MonomialProduct.{splits, arrangements}
-use Rattle.sym_model.proofs.Sums.{Among_from_each, Among_from_map, total_ext, total_among, total_none, total_exchange, length-select, total_cond}
+use Rattle.sym_model.proofs.Sums.{Among_from_each, Among_from_map, total_ext, total_among, total_none, total_exchange, length-select, total_cond, down_from-below}
 use Rattle.sym_model.proofs.Exponents.{tests_agree, same_true, same_from}
 use Rattle.sym_model.proofs.SortedParts.{size-sorted_parts, IsPartition-sorted_parts, IsPartition-without_one, insert_part-without_one, without_one-insert_part, has-insert_part, has_past, has-zero_or, without_one-zero}
 use Rattle.sym_model.proofs.Monomials.{total_down_from-only, coefficient-monomial, In-monomials}
@@ -21,15 +20,16 @@ use Rattle.sym_model.proofs.PolynomialLaws.{times_comm}
 use Rattle.monomial_laws.proofs.PowerSums.{total_distinct-only}
 use Rattle.monomial_laws.proofs.Splits.{total_splits, length-splits, coefficient_times, tests-product}
 use Rattle.sym_model.specs.Bounded.{AreBelow}
+use Rattle.sym_model.proofs.Integers.{pos_equal}
 
--- 1 if s.0 sorts to the partition l and s.1 to r, else 0
+-- 1 if s.0 sorts to the partition l and s.1 to the partition r, and 0 otherwise
 abbrev sorts_to_both : List ℕ → List ℕ → List ℕ × List ℕ → ℤ
 sorts_to_both l r s = cond (same (sorted_parts s.0) l && same (sorted_parts s.1) r) (pos 1) (pos 0)
 
 count : (l r ν : List ℕ) → pos (arrangements l r ν) ≡ total (sorts_to_both l r) (splits ν)
 count l r ν = length-select (λ (s : List ℕ × List ℕ). same (sorted_parts s.0) l && same (sorted_parts s.1) r) (splits ν)
 
--- inserting b into a partition gives l if and only if b is 0 or a part of l, and the partition is l without b
+-- inserting b into a partition p gives l if and only if b is 0 or a part of l, and p is l without one b
 inserted : (b : ℕ) (p l : List ℕ) → IsPartition p → IsPartition l → same (insert_part b p) l ≡ (has b (0 ∷ l) && same p (without_one b l))
 inserted zero p l h k =
     tests_agree (same p l) (has 0 (0 ∷ l) && same p (without_one 0 l))
@@ -48,7 +48,7 @@ inserted (suc b) p l h k =
     same_from (insert_part (suc b) p) l
     (ap (insert_part (suc b)) (same_true p (without_one (suc b) l) u.1) ∙ insert_part-without_one (suc b) l (omega arith) k.falls m))
 
--- a sum over the numbers up to x that occur in a list is a sum over the different numbers of the list that are at most x
+-- the sum of f over the numbers up to x that occur in a list is the sum of f over the different numbers of the list that are at most x
 among_up_to : (f : ℕ → ℤ) (x : ℕ) (numbers : List ℕ) → total (λ (b : ℕ). cond (has b numbers) (f b) (pos 0)) (down_from x) ≡ total (λ (c : ℕ). cond (leb c x) (f c) (pos 0)) (distinct numbers)
 among_up_to f x numbers =
     total_ext (λ (b : ℕ). cond (has b numbers) (f b) (pos 0)) (λ (b : ℕ). total (λ (c : ℕ). cond (eqb c b) (f c) (pos 0)) (distinct numbers)) (λ b. sym (total_distinct-only f b numbers)) (down_from x)
@@ -63,8 +63,8 @@ among_up_to f x numbers =
     ∙ total_down_from-only (λ b. f c) c x)
     (distinct numbers)
 
--- for partitions l and r, the number of ways to make x ∷ ν is the sum, over the different b ≤ x that are 0 or a part of l and for which x - b is 0 or
--- a part of r, of the number of ways to make ν from l without b and r without x - b
+-- for partitions l and r, `arrangements l r (x ∷ ν)` is the sum, over the different b ≤ x that are 0 or a part of l and for which x - b is 0 or a
+-- part of r, of `arrangements` of l without b, r without x - b, and ν
 pub arrangements-cons : (x : ℕ) (ν l r : List ℕ) → IsPartition l → IsPartition r
     → pos (arrangements l r (x ∷ ν))
     ≡ total (λ (b : ℕ). cond (leb b x) (cond (has (x - b) (0 ∷ r)) (pos (arrangements (without_one b l) (without_one (x - b) r) ν)) (pos 0)) (pos 0)) (distinct (0 ∷ l))
@@ -104,10 +104,7 @@ arrangements-cons x ν l r p q =
         (total_cond (has (x - b) (0 ∷ r)) (sorts_to_both (without_one b l) (without_one (x - b) r)) (splits ν)
         ∙ ap (λ z. cond (has (x - b) (0 ∷ r)) z (pos 0)) (sym (count (without_one b l) (without_one (x - b) r) ν)))
 
--- ---- labels l that have a part greater than all parts of ν
-
-as_number : {a b : ℕ} → pos a ≡ pos b → a ≡ b
-as_number {a} {b} e = omega (arith, ints)
+-- ---- if l has a part greater than all parts of ν, ν is not the sum of an arrangement of l and an arrangement of r
 
 has-without_one : (k b : ℕ) (numbers : List ℕ) → (b ≡ k → ⊥) → has k numbers ≡ true → has k (without_one b numbers) ≡ true
 has-without_one k b [] n h = h
@@ -118,12 +115,12 @@ has-without_one k b (c ∷ numbers) n h = by (cases_eq c b) (cases_eq c k) (has-
     by (inr i) (inl e) r = rw (ne_eqb c b i, eq-eqb c k e) refl
     by (inr i) (inr j) r = rw (ne_eqb c b i, ne_eqb c k j) (r (sym (has_past k c numbers j) ∙ h))
 
--- if l has a part k greater than all parts of ν, there is no way to make ν
+-- if l has a part k greater than all parts of ν, `arrangements l r ν` is 0
 pub arrangements-lacking : (k : ℕ) (ν l r : List ℕ) → IsPartition l → IsPartition r → has k l ≡ true → AreBelow k ν → arrangements l r ν ≡ 0
 arrangements-lacking k [] [] r p q h a = absurd (cc)
 arrangements-lacking k [] (c ∷ l) r p q h a = refl
 arrangements-lacking k (x ∷ ν) l r p q h a =
-    as_number
+    pos_equal
     (arrangements-cons x ν l r p q
     ∙ total_none
     (λ (b : ℕ). cond (leb b x) (cond (has (x - b) (0 ∷ r)) (pos (arrangements (without_one b l) (without_one (x - b) r) ν)) (pos 0)) (pos 0))
@@ -156,15 +153,9 @@ coefficient-product l r ν =
 
 pub arrangements-comm : (l r ν : List ℕ) → arrangements l r ν ≡ arrangements r l ν
 arrangements-comm l r ν =
-    as_number (sym (coefficient-product l r ν) ∙ times_comm (monomial l (length ν)) (monomial r (length ν)) ν ∙ coefficient-product r l ν)
+    pos_equal (sym (coefficient-product l r ν) ∙ times_comm (monomial l (length ν)) (monomial r (length ν)) ν ∙ coefficient-product r l ν)
 
--- ---- the sizes of l, r and ν
-
-pub down_from-below : (c b : ℕ) → Among b (down_from c) → b ≤ c
-down_from-below zero b (inl e) = omega arith
-down_from-below zero b (inr m) = absurd m
-down_from-below (suc c) b (inl e) = omega arith
-down_from-below (suc c) b (inr m) = omega (arith, down_from-below c b m)
+-- ---- if ν is the sum of an arrangement of l and an arrangement of r, then |l| + |r| = |ν|
 
 pub sizes-splits : (ν : List ℕ) (s : List ℕ × List ℕ) → Among s (splits ν) → size s.0 + size s.1 ≡ size ν
 sizes-splits [] s (inl e) = omega (arith, ap (λ (p : List ℕ × List ℕ). size p.0) e, ap (λ (p : List ℕ × List ℕ). size p.1) e)
@@ -176,10 +167,10 @@ sizes-splits (c ∷ ν) s m =
     let b = down_from-below c r.0 r.1 in
     omega (arith, ap (λ (p : List ℕ × List ℕ). size p.0) u.2, ap (λ (p : List ℕ × List ℕ). size p.1) u.2)
 
--- if |l| + |r| is not |ν|, there is no way to make ν
+-- if |l| + |r| is not |ν|, `arrangements l r ν` is 0
 pub arrangements-sizes : (l r ν : List ℕ) → (size l + size r ≡ size ν → ⊥) → arrangements l r ν ≡ 0
 arrangements-sizes l r ν n =
-    as_number
+    pos_equal
     (count l r ν
     ∙ total_none (sorts_to_both l r) (splits ν)
     (λ s m. ap (λ b. cond b (pos 1) (pos 0)) (by s m (same (sorted_parts s.0) l) (same (sorted_parts s.1) r) refl refl)))

@@ -1,4 +1,4 @@
--- e_k, h_k and p_k as lists of terms in m (specs/ExpressionTerms).
+-- e_k, h_k and p_k as lists of terms in m (`elementary_terms`, `complete_terms`, `power_sum_terms_of`).
 use Rattle.std.proofs.Common.{◌≡◌, ◌⊎◌, ℕ, zero, suc, ◌+◌, ◌<◌, ◌≤◌, Bool, true, false, cond, eqb, leb, List, [], ◌∷◌, length, replicate, sym, ◌∙◌, ap, ap₂, subst, refl, inl, inr, arith, ℤ, pos}
 use Rattle.std.proofs.lemmas.Bool.{cases_eq, cases_lt, eq-eqb, ne_eqb, eqb-true, le-leb, leb-true, and_parts, and_from, and_right}
 use Rattle.std.proofs.lemmas.List.{length-replicate}
@@ -20,7 +20,7 @@ use Rattle.monomial_laws.proofs.PowerSumCoefficients.{coefficient-monomial_terms
 use Rattle.monomial_laws.proofs.Splits.{In-monomial_terms}
 use Rattle.monomial_laws.proofs.ExpressionTerms.{list-monomial}
 
--- two tests that agree on the exponent lists of a degree give one sum of monomials
+-- if two tests agree on all exponent lists with the sum d, the sums of the monomials of degree d that pass them are the same polynomial
 monomials_agree : (test other : List ℕ → Bool) (n d : ℕ) → ((γ : List ℕ) → size γ ≡ d → test γ ≡ other γ) → Same (monomials test n d) (monomials other n d)
 monomials_agree test other n d h γ = coefficient-monomials test n d γ ∙ by (is_exponent_list n d γ) refl ∙ sym (coefficient-monomials other n d γ)
   where
@@ -28,8 +28,8 @@ monomials_agree test other n d h γ = coefficient-monomials test n d γ ∙ by (
     by true e = ap (λ t. cond t (pos 1) (pos 0)) (h γ (eqb-true (size γ) d (and_parts (eqb (length γ) n) (eqb (size γ) d) e).1))
     by false e = refl
 
--- if `test` holds, among the exponent lists γ with the sum d, exactly for those that sort to `parts`, the list with the one label `parts` is the sum
--- of the monomials that pass `test`
+-- let `parts` have the sum d. If the exponent lists γ with the sum d that pass `test` are those that sort to `parts`, then the list with the label
+-- `parts` and the coefficient 1 is the list in m of the sum of the x^γ
 list-one : (parts : List ℕ) (d : ℕ) (test : List ℕ → Bool) → size parts ≡ d → ((γ : List ℕ) → size γ ≡ d → same (sorted_parts γ) parts ≡ test γ) → IsList ((parts, pos 1) ∷ []) (λ n. monomials test n d)
 list-one parts d test s h n =
     Same_trans (in_monomials ((parts, pos 1) ∷ []) n) (monomial parts n) (monomials test n d)
@@ -37,7 +37,7 @@ list-one parts d test s h n =
     (subst (λ k. Same (monomials (λ α. same (sorted_parts α) parts) n k) (monomials test n d)) (sym s)
     (monomials_agree (λ α. same (sorted_parts α) parts) test n d h))
 
--- ---- e_k is the monomial symmetric polynomial of k ones
+-- ---- k ones are a decreasing list, and e_k is m_λ for the partition λ of k ones
 
 pub Falls-ones : (k : ℕ) → Falls (replicate k 1)
 Falls-ones zero = tt
@@ -76,7 +76,7 @@ list-elementary k =
     (λ t. at_most_one-from γ (let i = ap length (same_true (sorted_parts γ) (replicate k 1) t) ∙ length-replicate k 1 in omega arith))
     (λ t. same_from (sorted_parts γ) (replicate k 1) (sorted-at_most_one γ t ∙ ap (λ j. replicate j 1) e)))
 
--- ---- p_k is the monomial symmetric polynomial of one part
+-- ---- exponents with the sum 0 sort to the empty partition; p_k is m_λ for the partition λ = (k)
 
 sorted-none : (γ : List ℕ) → size γ ≡ 0 → sorted_parts γ ≡ []
 sorted-none [] e = refl
@@ -118,7 +118,7 @@ list-power_sum k h =
     positive : (γ : List ℕ) → sorted_parts γ ≡ k ∷ [] → 0 < times_in k γ
     positive γ e = omega (arith, times_in-sorted_parts k γ h, ap (times_in k) e, once)
 
--- ---- h_k is the sum of the monomial symmetric polynomials of all partitions of k
+-- ---- h_k is the sum of m_λ over all partitions λ of k
 
 pub list-complete : (k : ℕ) → IsList (complete_terms k) (complete_of k)
 list-complete k n =

@@ -1,7 +1,7 @@
--- A list with integer coefficients, each divided by D (specs/ExpressionTerms).
---     value-divided           the value of the list of fractions, with any polynomials for the labels
---     expansion_divided       the fractions expand the list divided by D
-use Rattle.std.proofs.Common.{◌≡◌, ◌⊎◌, ℕ, ◌*◌, ◌/◌, ◌%◌, ◌<◌, cond, List, [], ◌∷◌, map, sym, ◌∙◌, ap, ap₂, subst, refl, inl, inr, arith, ℤ, pos, ◌+ℤ◌, ◌*ℤ◌}
+-- Lists of terms with fractions as coefficients, each of which is equal to a list with integer coefficients divided by D (`IsDivided`).
+--     value-divided           the value of the list of fractions is that of the integer list divided by D, for any polynomials in place of the labels
+--     expansion_divided       if the integer list is the list of f in m, the list of fractions expands f divided by D
+use Rattle.std.proofs.Common.{◌≡◌, ◌⊎◌, ℕ, ◌*◌, ◌/◌, ◌%◌, ◌<◌, cond, List, [], ◌∷◌, map, sym, ◌∙◌, ap, ap₂, subst, refl, inl, inr, arith, ℤ, pos, ◌+ℤ◌, ◌*ℤ◌, ◌++◌}
 use Rattle.std.specs.Int.{◌∣◌}
 use Rattle.std.proofs.Math.Nat.{div-mul_cancel, dvd-mul_right, dvd-mul_left}
 use Rattle.std.proofs.lemmas.Nat.Gcd.{dvd_trans, dvd_of_mod-eq-zero}
@@ -18,12 +18,13 @@ use Rattle.sym_model.proofs.Polynomials.{coefficient_scale, pair_scale, pair_det
 use Rattle.sym_model.proofs.WholeTerms.{combined_respects, coefficient-combined}
 use Rattle.monomial_laws.proofs.ExpressionTerms.{list-scale}
 use lib.IntN.{+ℤ_idl, +ℤ_idr, *ℤ_comm, *ℤ-zero}
+use Rattle.std.proofs.lemmas.List.{map-append}
 
 -- the labels of a list of terms
 abbrev pub labels_of : Terms (List ℕ) → List (List ℕ)
 labels_of terms = map (λ (t : List ℕ × Fraction). t.0) terms
 
--- ---- the coefficients of a list over a common denominator
+-- ---- the coefficients of `over q terms`, in which the coefficients num/den are written over a common denominator q
 
 pub over-missing : (q : ℕ) (terms : Terms (List ℕ)) (label : List ℕ) → (Among label (labels_of terms) → ⊥) → coefficient (over q terms) label ≡ pos 0
 over-missing q terms label h =
@@ -45,7 +46,7 @@ over-there q (u ∷ terms) o t (inr m) =
     (over-there q terms o.1 t m)
     ∙ +ℤ_idl (t.1.0 *ℤ pos (q / t.1.1))
 
--- a label occurs in the list, or it does not
+-- a label occurs in a list of terms, or it does not
 pub among_or_not : (label : List ℕ) (terms : Terms (List ℕ)) → ((t : List ℕ × Fraction) × Among t terms × (t.0 ≡ label)) ⊎ (Among label (labels_of terms) → ⊥)
 among_or_not label [] = inr (λ m. m)
 among_or_not label (t ∷ terms) = by (same_or_not t.0 label) (among_or_not label terms)
@@ -60,16 +61,16 @@ among_or_not label (t ∷ terms) = by (same_or_not t.0 label) (among_or_not labe
         not_here (inl e) = n (sym e)
         not_here (inr m) = none m
 
--- each denominator divides their product
+-- each denominator of a list of terms divides the product of all denominators
 pub divides-denominators : (terms : Terms (List ℕ)) (t : List ℕ × Fraction) → Among t terms → t.1.1 ∣ denominators terms
 divides-denominators [] t m = absurd m
 divides-denominators (u ∷ terms) t (inl e) = subst (λ (v : List ℕ × Fraction). v.1.1 ∣ (u.1.1 * denominators terms)) (sym e) (dvd-mul_right u.1.1 (denominators terms))
 divides-denominators (u ∷ terms) t (inr m) = dvd_trans t.1.1 (divides-denominators terms t m) (dvd-mul_left (denominators terms) u.1.1)
 
--- ---- lists of fractions that are an integer list divided by D
+-- ---- lists of fractions that are a list with integer coefficients divided by D
 
--- each coefficient of the list is the integer coefficient of its label divided by D, and labels that do not occur
--- have the coefficient 0
+-- `terms` is the integer list `whole` divided by D: each coefficient is that of its label in `whole` divided by D, and labels that do not occur in
+-- `terms` have the coefficient 0 in `whole`; no label occurs twice in `terms`, and its denominators are positive
 pub record IsDivided (D : ℕ) (whole : WholeTerms) (terms : Terms (List ℕ)) : Type 0 where
   pub once : Once (labels_of terms)
   pub positive : 0 < denominators terms
@@ -108,8 +109,8 @@ cleared-combined polynomial q (t ∷ terms) = ap (plus (scale (t.1.0 *ℤ pos (q
 pub cleared-over : (q n : ℕ) (terms : Terms (List ℕ)) → cleared (λ label. monomial label n) q terms ≡ in_monomials (over q terms) n
 cleared-over q n terms = cleared-combined (λ label. monomial label n) q terms
 
--- with any polynomials for the labels, D times the value of the list of fractions is the product of its denominators times the value of the integer
--- list W
+-- let the labels stand for any polynomials, and let v be the value of the list of fractions, and q the product of its denominators: D·(q·v) is q
+-- times the value of the integer list W (`value_by` is q·v)
 pub value-divided : (polynomial : List ℕ → Poly) (D : ℕ) (W : WholeTerms) (terms : Terms (List ℕ)) → IsDivided D W terms → (α : List ℕ)
     → pos D *ℤ coefficient (value_by polynomial terms) α ≡ pos (denominators terms) *ℤ coefficient (combined polynomial W) α
 value-divided polynomial D W terms d α =
@@ -123,7 +124,7 @@ value-divided polynomial D W terms d α =
     ∙ pair_scale (pos (denominators terms)) W ψ
     ∙ ap (λ z. pos (denominators terms) *ℤ z) (sym (coefficient-combined polynomial W α))
 
--- if no label occurs twice, and each denominator is positive and divides m, the list is `over m terms` divided by m
+-- if no label occurs twice in `terms`, and each denominator is positive and divides m, then `terms` is the integer list `over m terms` divided by m
 pub IsDivided-over : (m : ℕ) (terms : Terms (List ℕ)) → 0 < denominators terms → Once (labels_of terms) → ((t : List ℕ × Fraction) → Among t terms → m % t.1.1 ≡ 0) → IsDivided m (over m terms) terms
 IsDivided-over m terms positive is w = record {
   once = is;
@@ -136,8 +137,8 @@ IsDivided-over m terms positive is w = record {
   missing = λ label n. over-missing m terms label n;
 }
 
--- if the fractions are the list `whole` divided by D, and `whole` is the list of f in m, the fractions expand f divided by D, in every number of
--- variables
+-- if the list of fractions is the integer list `whole` divided by D, and `whole` is the list of f in m, then the fractions are the expansion of f
+-- divided by D in m, in every number of variables
 pub expansion_divided : (D : ℕ) (whole : WholeTerms) (terms : Terms (List ℕ)) (f : ℕ → Poly) → IsDivided D whole terms → IsList whole f → (n : ℕ) → IsExpansionOf Basis.monomials terms n (f n) D
 expansion_divided D whole terms f d h n =
     let q = denominators terms in
@@ -155,3 +156,7 @@ expansion_divided D whole terms f d h n =
           (list-scale (pos q) whole n)
           (scale_respects (pos q) (in_monomials whole n) (f n) (h n)))));
     }
+
+pub over-append : (m : ℕ) (xs ys : Terms (List ℕ)) → over m (xs ++ ys) ≡ over m xs ++ over m ys
+over-append m xs ys = map-append (λ (t : List ℕ × Fraction). let term : List ℕ × ℤ =
+    (t.0, t.1.0 *ℤ pos (m / t.1.1)) in term) xs ys

@@ -1,5 +1,5 @@
--- Lists of terms in m that are the cleared value of an expression (specs/ExpressionTerms).
---     cleared-number .. cleared-product      the list of each kind of expression, from lists for its parts
+-- Lists of terms in m whose polynomial is the cleared value of an expression: its value times its common denominator (`IsCleared`).
+--     cleared-number .. cleared-product      the list of each kind of expression, computed from the lists of its subexpressions
 use Rattle.std.proofs.Common.{◌≡◌, ℕ, ◌/◌, List, [], ◌∷◌, sym, ◌∙◌, ap, ap₂, ℤ, pos, ◌+ℤ◌, ◌*ℤ◌, neg_ℤ}
 use Rattle.sym_model.specs.Polynomial.{Poly, coefficient, Same, one, pair, plus, scale, negate, times}
 use Rattle.sym_model.specs.Partition.{IsPartition}
@@ -15,7 +15,7 @@ use Rattle.monomial_laws.proofs.PowerSumLists.{monomial-none}
 use Rattle.monomial_laws.proofs.Splits.{terms_product}
 use lib.IntN.{+ℤ_idr}
 
--- ---- sums of lists of terms in m
+-- ---- the polynomial of a sum of lists of terms in m
 
 list-plus : (A B : WholeTerms) (n : ℕ) → Same (in_monomials (plus A B) n) (plus (in_monomials A n) (in_monomials B n))
 list-plus A B n =
@@ -44,16 +44,16 @@ list-negate A n =
     ∙ ap neg_ℤ (sym (pair-combined (λ label. monomial label n) A φ))
     ∙ sym (pair_negate (in_monomials A n) φ))
 
--- if B has the same summed coefficients as A, and A is the list of f in m, so is B
+-- if two lists A and B have the same coefficient at each label, and A is the list of f in m, then B is the list of f in m
 pub list_respects : (A B : WholeTerms) (f : ℕ → Poly) → Same A B → IsList A f → IsList B f
 list_respects A B f e h n =
     Same_trans (in_monomials B n) (in_monomials A n) (f n)
     (Same_sym (in_monomials A n) (in_monomials B n) (combined_respects (λ label. monomial label n) A B e))
     (h n)
 
--- ---- the list of each kind of expression
+-- ---- the list in m of each kind of expression
 
--- the list of one term, with the empty label and the coefficient a, is the number a
+-- the list of one term, with the empty label and the coefficient a, stands for the constant polynomial a
 list-number : (a n : ℕ) → Same (in_monomials (([], pos a) ∷ []) n) (scale (pos a) (one n))
 list-number a n =
     same_from_pair (in_monomials (([], pos a) ∷ []) n) (scale (pos a) (one n))
@@ -81,7 +81,8 @@ scaled q A e h n =
     (list-scale (pos q) A n)
     (scale_respects (pos q) (in_monomials A n) (cleared_value e n) (h n))
 
--- the lists of two expressions, times the factors to the least common multiple, add up to a list of their sum
+-- let A and B be lists in m of the cleared values of e and f, and let q be the least common multiple of the denominators of e and f. If A is
+-- multiplied by q/(denominator of e) and B by q/(denominator of f), the sum of the two lists is a list of the cleared value of e + f
 pub cleared-sum : (A B : WholeTerms) (e f : Tree) → IsCleared A e → IsCleared B f
     → IsCleared (plus (scale (pos (lcm (denominator e) (denominator f) / denominator e)) A) (scale (pos (lcm (denominator e) (denominator f) / denominator f)) B)) (sum e f)
 cleared-sum A B e f h k n =
@@ -97,7 +98,7 @@ cleared-sum A B e f h k n =
     (in_monomials (scale (pos r) B) n) (scale (pos r) (cleared_value f n))
     (scaled q A e h n) (scaled r B f k n))
 
--- a list with the coefficients of the product of A and B is a list of the product of f and g
+-- if A and B are the lists of f and g in m, and C has at each partition ν the coefficient `product_coefficient A B ν`, then C is the list of f·g
 pub list-product : (A B C : WholeTerms) (f g : ℕ → Poly) → IsList A f → IsList B g
     → ((ν : List ℕ) → IsPartition ν → coefficient C ν ≡ product_coefficient A B ν) → IsList C (λ n. times (f n) (g n))
 list-product A B C f g h k e n =
@@ -109,9 +110,9 @@ pub cleared-product : (A B C : WholeTerms) (e f : Tree) → IsCleared A e → Is
     → ((ν : List ℕ) → IsPartition ν → coefficient C ν ≡ product_coefficient A B ν) → IsCleared C (product e f)
 cleared-product A B C e f h k p = list-product A B C (cleared_value e) (cleared_value f) h k p
 
--- ---- the lists of e_k, h_k, p_k and m_λ
+-- ---- the lists in m of products over the parts of a label (no part, and one more part), and of m_λ
 
--- the list with the empty label and the coefficient 1 is the product over no factor, which is 1
+-- the list with the empty label and the coefficient 1 is the list in m of the product over no parts, which is 1
 pub list-no_factor : (f : ℕ → ℕ → Poly) → IsList (([], pos 1) ∷ []) (product_over f [])
 list-no_factor f n =
     same_from_pair (in_monomials (([], pos 1) ∷ []) n) (one n)
@@ -121,7 +122,7 @@ pub list-factor : (f : ℕ → ℕ → Poly) (k : ℕ) (parts : List ℕ) (A B C
     → ((ν : List ℕ) → IsPartition ν → coefficient C ν ≡ product_coefficient A B ν) → IsList C (product_over f (k ∷ parts))
 list-factor f k parts A B C h i e = list-product A B C (f k) (product_over f parts) h i e
 
--- the list with the one label λ and the coefficient 1 is m_λ
+-- the list with the label λ and the coefficient 1 is the list in m of m_λ
 pub list-monomial : (parts : List ℕ) → IsList ((parts, pos 1) ∷ []) (monomial parts)
 list-monomial parts n =
     same_from_pair (in_monomials ((parts, pos 1) ∷ []) n) (monomial parts n)

@@ -1,5 +1,6 @@
--- Factorials are positive and increasing, and the growth (specs/Weight) into every basis is at most that into p.
-use Rattle.std.proofs.Common.{◌≡◌, ℕ, zero, suc, ◌+◌, ◌-◌, ◌*◌, ◌^◌, ◌<◌, ◌≤◌, subst, arith}
+-- Factorials are positive and increasing; and `growth` (specs/Weight), a factor in the weight of a conversion into a basis, is greatest for the basis
+-- p: at the degree d it is d!·(2d)^d for p, h and e, and d^d for m and s, if d > 0.
+use Rattle.std.proofs.Common.{◌≡◌, ℕ, zero, suc, ◌+◌, ◌-◌, ◌*◌, ◌^◌, ◌<◌, ◌≤◌, subst, arith, ap, sym}
 use Rattle.std.proofs.lemmas.Nat.{mul-le}
 use Rattle.std.proofs.Math.Nat.{one-le-pow, pow-le-pow_left}
 use Rattle.sym_model.specs.Expansion.{Basis, elementaries, completes, power_sums, schurs}
@@ -21,7 +22,7 @@ factorial-far d (suc j) = let e : suc j + d ≡ suc (j + d) = omega arith in let
 pub factorial-mono : (d e : ℕ) → d ≤ e → factorial d ≤ factorial e
 factorial-mono d e h = let i : (e - d) + d ≡ e = omega arith in subst (λ k. factorial d ≤ factorial k) i (factorial-far d (e - d))
 
--- ---- the growth into p (specs/Weight) is at least the growth into every other basis, and at least 1
+-- ---- `growth` of p at the degree d is at least `growth` of every other basis, and at least 1
 
 plain-growth : (d : ℕ) → suc d ^ suc d ≤ factorial (suc d) * (2 * suc d) ^ suc d
 plain-growth d =
@@ -29,7 +30,7 @@ plain-growth d =
     let q = mul-le 1 (suc d ^ suc d) (factorial (suc d)) ((2 * suc d) ^ suc d) (factorial-positive (suc d)) p in
     omega arith
 
--- the growth into a target at the degree d is at most that into p
+-- `growth` of the basis `target` at the degree d is at most that of p
 pub growth-most : (target : Basis) (d : ℕ) → growth target d ≤ growth power_sums d
 growth-most target zero = omega arith
 growth-most Basis.monomials (suc d) = plain-growth d
@@ -41,3 +42,7 @@ growth-most schurs (suc d) = plain-growth d
 pub growth-one : (d : ℕ) → 1 ≤ growth power_sums d
 growth-one zero = omega arith
 growth-one (suc d) = mul-le 1 1 (factorial (suc d)) ((2 * suc d) ^ suc d) (factorial-positive (suc d)) (one-le-pow (suc d) (2 * suc d) (omega arith))
+
+pub factorial-step : (d : ℕ) → 0 < d → factorial d ≡ d * factorial (d - 1)
+factorial-step zero h = absurd (omega arith)
+factorial-step (suc d) h = let e : suc d - 1 ≡ d = omega arith in ap (λ k. suc d * factorial k) (sym e)

@@ -1,4 +1,5 @@
--- Pairings of polynomials and their majorants with a test function without negative values.
+-- For a polynomial f, and a function φ of exponent lists, let `pair f φ` be the sum of c·φ(α) over the terms c·x^α of f. If F is a majorant of f
+-- (`IsMajorant`), and no value of φ is negative, then `pair F φ` is at least the absolute value of `pair f φ`.
 use Rattle.std.proofs.Common.{◌≡◌, ◌⊎◌, ℕ, zero, suc, ◌≤◌, cond, not, List, [], ◌∷◌, length, sym, ap, subst, inl, inr, arith, ℤ, pos, ◌+ℤ◌, ◌*ℤ◌}
 use Rattle.std.specs.Prelude.{◌≤ℤ◌, nat_abs}
 use Rattle.std.proofs.lemmas.Int.{ints}
@@ -31,8 +32,7 @@ nonnegative_by_length (suc n) (t ∷ f) φ l h p =
 pub pair_nonnegative : (f : Poly) (φ : List ℕ → ℤ) → ((α : List ℕ) → pos 0 ≤ℤ coefficient f α) → ((α : List ℕ) → pos 0 ≤ℤ φ α) → pos 0 ≤ℤ pair f φ
 pair_nonnegative f φ h p = nonnegative_by_length (length f) f φ (omega arith) h p
 
--- for a test function without negative values, the pairing with a majorant is at least the absolute value of that
--- with the polynomial
+-- if F is a majorant of f, and no value of φ is negative, then `pair F φ` is at least the absolute value of `pair f φ`
 pub majorant-pair : (F f : Poly) (φ : List ℕ → ℤ) → IsMajorant F f → ((α : List ℕ) → pos 0 ≤ℤ φ α) → pos (nat_abs (pair f φ)) ≤ℤ pair F φ
 majorant-pair F f φ m p =
     let a = pair_nonnegative (plus F f) φ (λ α. omega (arith, ints, m α, coefficient_plus F f α)) p in

@@ -1,8 +1,10 @@
--- Majorants of polynomials (specs/Majorant), and bounds of the value of an expression.
+-- Majorants of polynomials (specs/Majorant), and bounds for the value of an expression. A polynomial in n variables is bounded by N at the degree d
+-- (`IsBounded`) if a sum of at most N powers of x_1 + .. + x_n, with exponents up to d, is a majorant of it.
 --     majorant-times                       majorants of products and multiples
 --     majorant-monomials, -product_over    (x_1 + .. + x_n)^d is a majorant of the atoms of degree d
---     bounded_value                        N of an expression bounds its value
---     coefficient_bound                    if N bounds f, the coefficient of x^α is at most N·|α|!/Π α_i! in absolute value
+--     bounded_value                        the cleared value of an expression e, which is the value of e times its common denominator, is bounded by
+--                                          `numerator e` at the degree of e
+--     coefficient_bound                    if f is bounded by N (at any degree), the coefficient of x^α is at most N·|α|!/Π α_i! in absolute value
 use Rattle.std.proofs.Common.{◌≡◌, ◌⊎◌, ℕ, map, zero, suc, ◌<◌, ◌+◌, ◌*◌, ◌/◌, ◌≤◌, max, Bool, true, false, cond, eqb, List, [], ◌∷◌, ◌++◌, length, sym, ◌∙◌, ap, subst, refl, inl, inr, arith, ℤ, pos, negsuc, ◌+ℤ◌, ◌*ℤ◌}
 use Rattle.std.specs.Prelude.{◌≤ℤ◌, nat_abs}
 use Rattle.std.proofs.lemmas.Int.{ints, unsigned_abs-mul}
@@ -27,8 +29,9 @@ use Rattle.monomial_laws.proofs.SchurMajorants.{In-schur, majorant-schur}
 use Rattle.sym_model.specs.ListWeight.{factorials}
 use native.Mathlib.Nat.{mul-le-mul_left}
 use lib.IntN.{+ℤ_idr}
+use Rattle.sym_model.proofs.Integers.{le_trans_ℤ}
 
--- ---- absolute values of sums of integers
+-- ---- upper bounds for the absolute value of a sum of integers
 
 pub total_within_total : {A : Type 0} (f g : A → ℤ) (xs : List A) → ((x : A) → Among x xs → pos (nat_abs (f x)) ≤ℤ g x) → pos (nat_abs (total f xs)) ≤ℤ total g xs
 total_within_total f g [] h = omega (arith, ints)
@@ -80,11 +83,11 @@ majorant-append : (n : ℕ) (ds es : List ℕ) (f g : Poly) → IsMajorant (powe
 majorant-append n ds es f g h k α =
     omega (arith, ints, powers-append ds es n α, coefficient_plus f g α, h α, k α)
 
--- if (x_1 + .. + x_n)^d is a majorant of f, so is the sum of the powers with the exponent list (d)
+-- if (x_1 + .. + x_n)^d is a majorant of f, so is the sum of powers with d as its only exponent
 majorant-one : (d n : ℕ) (f : Poly) → IsMajorant (power d n) f → IsMajorant (powers (d ∷ []) n) f
 majorant-one d n f h α = subst (λ z. pos (nat_abs (coefficient f α)) ≤ℤ z) (sym (coefficient-powers (d ∷ []) n α ∙ +ℤ_idr (coefficient (power d n) α))) (h α)
 
--- (x_1 + .. + x_n)^d is a majorant of each sum of different monomials of degree d
+-- (x_1 + .. + x_n)^d is a majorant of the sum of the monomials of degree d that pass a test
 
 pub majorant-monomials : (test : List ℕ → Bool) (n d : ℕ) → IsMajorant (power d n) (monomials test n d)
 majorant-monomials test n d γ = subst (λ z. pos (nat_abs z) ≤ℤ coefficient (power d n) γ) (sym (coefficient-monomials test n d γ)) (by (is_exponent_list n d γ) refl (test γ))
@@ -109,7 +112,7 @@ majorant-product_over f n i h (k ∷ parts) =
     (Same_refl (times (f k n) (product_over f parts n)))
     (majorant-times n (power k n) (power (size parts) n) (f k n) (product_over f parts n) (In-power k n) (In-power (size parts) n) (i k) (In-product_over f parts n i) (h k) (majorant-product_over f n i h parts))
 
--- ---- the value of an expression is bounded by its numerator and its degree
+-- ---- basis polynomials are in n variables; a bound for the cleared value of an expression, which is its value times its common denominator
 
 pub In-atom : (basis : Basis) (parts : List ℕ) (n : ℕ) → In n (basis_polynomial basis parts n)
 In-atom Basis.monomials parts n = In-monomials (λ α. same (sorted_parts α) parts) n (size parts)
@@ -142,7 +145,7 @@ In-cleared_value (difference e f) n =
     (In_negate n (scale (pos (q / denominator f)) (cleared_value f n)) (In_scale n (pos (q / denominator f)) (cleared_value f n) (In-cleared_value f n)))
 In-cleared_value (product e f) n = In_times n (cleared_value e n) (cleared_value f n) (In-cleared_value e n) (In-cleared_value f n)
 
--- if no exponent of ds is above d, none of ds repeated q times is
+-- if no exponent of the list ds is above d, neither is any exponent of ds repeated q times
 low-copies : (d q : ℕ) (ds : List ℕ) → ((k : ℕ) → Among k ds → k ≤ d) → (k : ℕ) → Among k (copies q ds) → k ≤ d
 low-copies d zero ds h k m = absurd m
 low-copies d (suc q) ds h k m = by (Among_from_append k ds (copies q ds) m) (low-copies d q ds h k)
@@ -164,7 +167,7 @@ low-sums d e ds es h i k m =
     let s = Among_from_map (λ (y : ℕ). r.0 + y) k es r.2 in
     omega (arith, h r.0 r.1, i s.0 s.1, s.2)
 
-low-one : (d k : ℕ) → Among k (d ∷ []) → k ≤ d
+pub low-one : (d k : ℕ) → Among k (d ∷ []) → k ≤ d
 low-one d k (inl e) = omega arith
 low-one d k (inr m) = absurd m
 
@@ -224,7 +227,7 @@ bounded-weaken N M d e n f h k b = record {
   majorant = b.majorant;
 }
 
--- if F is a majorant of f and is bounded by N at the degree d, so is f
+-- if F is a majorant of f, and F is bounded by N at the degree d (`IsBounded`), then f is bounded by N at the degree d
 pub bounded-majorant : (N d n : ℕ) (F f : Poly) → IsMajorant F f → IsBounded N d n F → IsBounded N d n f
 bounded-majorant N d n F f m b = record {
   exponents = b.exponents;
@@ -244,7 +247,8 @@ bounded_respects N d n f g e b = record {
   majorant = majorant_respects (powers b.exponents n) (powers b.exponents n) f g (Same_refl (powers b.exponents n)) e b.majorant;
 }
 
--- N and the degree of an expression bound its value, in every number of variables
+-- the cleared value of an expression e, which is the value of e times its common denominator, is bounded by `numerator e` at the degree of e
+-- (`IsBounded`), in every number of variables
 pub bounded_value : (e : Tree) (n : ℕ) → IsBounded (numerator e) (degree e) n (cleared_value e n)
 bounded_value (number a) n = bounded-number a n
 bounded_value (fraction a b) n = bounded-number a n
@@ -283,14 +287,11 @@ pub coefficient_bound : (N d n : ℕ) (f : Poly) → IsBounded N d n f → (α :
 coefficient_bound N top n f b α e =
     let d = size α in
     let within : pos (nat_abs (coefficient f α)) ≤ℤ (pos (length b.exponents) *ℤ coefficient (power d n) α) =
-    within_trans (pos (nat_abs (coefficient f α))) (coefficient (powers b.exponents n) α) (pos (length b.exponents) *ℤ coefficient (power d n) α) (b.majorant α) (powers-few b.exponents n d α e refl) in
+    le_trans_ℤ (pos (nat_abs (coefficient f α))) (coefficient (powers b.exponents n) α) (pos (length b.exponents) *ℤ coefficient (power d n) α) (b.majorant α) (powers-few b.exponents n d α e refl) in
     within_multiple (nat_abs (coefficient f α)) (length b.exponents) N (coefficient (power d n) α) (factorials α) (factorial d) within b.few (power-nonnegative d n α)
     (coefficient_power d n α e ∙ ap (λ t. cond t (pos (factorial d)) (pos 0)) (eq-eqb d d refl))
-  where
-    within_trans : (x y z : ℤ) → x ≤ℤ y → y ≤ℤ z → x ≤ℤ z
-    within_trans x y z h k = omega (arith, ints)
 
--- if f is bounded at the degree d, the coefficient of x^α is 0 for each α with a sum above d
+-- if f is bounded at the degree d (`IsBounded`), and the exponents α have a sum greater than d, then the coefficient of x^α in f is 0
 pub coefficient-higher : (N d n : ℕ) (f : Poly) → IsBounded N d n f → (α : List ℕ) → length α ≡ n → d < size α → coefficient f α ≡ pos 0
 coefficient-higher N d n f b α e high =
     let none : coefficient (powers b.exponents n) α ≡ pos 0 =

@@ -1,4 +1,4 @@
--- The coefficient of a monomial x^γ in the polynomial of a list of terms in the monomial basis.
+-- The coefficient of x^γ in the polynomial of a list of terms in m.
 use Rattle.std.proofs.Common.{◌≡◌, ℕ, cond, eqb, List, length, sym, ◌∙◌, ap, pos}
 use Rattle.std.proofs.lemmas.Bool.{eq-eqb, cond-true}
 use Rattle.sym_model.specs.Polynomial.{same, coefficient}
@@ -10,7 +10,7 @@ use Rattle.sym_model.proofs.Polynomials.{at_only, coefficient_pair, pair_ext}
 use Rattle.sym_model.proofs.Monomials.{coefficient-monomial}
 use Rattle.sym_model.proofs.WholeTerms.{coefficient-combined}
 
--- the coefficient at x^γ of a list of terms in the monomial basis is that of the partition that γ sorts to
+-- the coefficient of x^γ in the polynomial of a list of terms in m is the coefficient of the list at the partition that γ sorts to
 pub coefficient-monomial_terms : (terms : WholeTerms) (n : ℕ) (γ : List ℕ) → length γ ≡ n
     → coefficient (combined (λ label. monomial label n) terms) γ ≡ coefficient terms (sorted_parts γ)
 coefficient-monomial_terms terms n γ long =

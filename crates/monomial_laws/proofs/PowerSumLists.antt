@@ -1,5 +1,5 @@
--- The different numbers of a list, and m of the empty partition.
---     monomial-none              m of the empty partition is 1
+-- The different numbers of a list, and m_λ for the empty partition λ.
+--     monomial-none              m_λ is 1 if λ is empty
 use Rattle.std.proofs.Common.{◌≡◌, ℕ, Bool, true, false, ◌||◌, cond, eqb, List, [], ◌∷◌, sym, ◌∙◌, refl, inl, inr, pos, filter}
 use Rattle.std.proofs.lemmas.Bool.{eq-eqb, or_right, cond-true}
 use Rattle.sym_model.specs.Sum.{Among}
@@ -13,7 +13,7 @@ use Rattle.sym_model.proofs.Polynomials.{pair_monomials, pair_one, same_from_pai
 use Rattle.sym_model.proofs.SortedParts.{sorted_parts-zeros}
 use Rattle.sym_model.proofs.Monomials.{total_exponent_lists-zero}
 
--- the different numbers of a list occur in it
+-- each number of `distinct numbers` is a number of the list `numbers`
 pub has_from-distinct : (k : ℕ) (numbers : List ℕ) → Among k (distinct numbers) → has k numbers ≡ true
 has_from-distinct k [] m = absurd m
 has_from-distinct k (c ∷ numbers) m = by (has c numbers) m (has_from-distinct k numbers)
@@ -23,9 +23,9 @@ has_from-distinct k (c ∷ numbers) m = by (has c numbers) m (has_from-distinct 
     by false (inl e) r = rw (eq-eqb c k (sym e)) refl
     by false (inr m) r = or_right (eqb c k) (has k numbers) (r m)
 
--- ---- m of the empty partition
+-- ---- m_λ for the empty partition λ
 
--- m of the empty partition is 1
+-- m_λ is 1 if λ is the empty partition
 pub monomial-none : (n : ℕ) → Same (monomial [] n) (one n)
 monomial-none n =
     same_from_pair (monomial [] n) (one n)

@@ -1,9 +1,9 @@
--- A power sum times a monomial symmetric polynomial (specs/PowerSumProduct).
---     power_sum_times_monomial    p_a·m_λ is the sum of its terms `raised_terms a λ`, in every number of variables
+-- A power sum p_a times a monomial symmetric polynomial m_λ.
+--     power_sum_times_monomial    p_a·m_λ is the sum of the terms `raised_terms a λ`, in every number of variables
 --
--- The coefficient of x^α in p_a·m_λ counts the places of α from which a can be subtracted so that λ is left
--- (`coefficient-power_sum_times`). At such a place α has a number a + b with b a part of λ or 0, and α sorts to λ with b
--- raised by a; if there is one such place, every place of α with the same number is another.
+-- The coefficient of x^α in p_a·m_λ is the number of places of α from which a can be subtracted so that the list then sorts to λ
+-- (`coefficient-power_sum_times`). At such a place the entry of α is a + b with b a part of λ or 0, and α sorts to λ with one b
+-- replaced by a + b. If there is one such place, every place with the same entry is another one.
 use Rattle.std.proofs.Common.{◌≡◌, ◌⊎◌, ℕ, zero, suc, ◌+◌, ◌-◌, ◌<◌, ◌≤◌, Bool, true, false, ◌&&◌, ◌||◌, cond, eqb, leb, List, [], ◌∷◌, map, length, replicate, sym, ◌∙◌, ap, ap₂, refl, inl, inr, arith, ℤ, pos, ◌+ℤ◌, ◌*ℤ◌}
 use Rattle.std.proofs.lemmas.Int.{ints}
 use Rattle.std.proofs.lemmas.Bool.{cases_lt, cases_eq, le-leb, lt-leb, leb-true, eq-eqb, ne_eqb, eqb-true, and_parts, and_from}
@@ -24,11 +24,11 @@ use Rattle.sym_model.proofs.Monomials.{one_place, pair-power_sum_of, coefficient
 use Rattle.sym_model.proofs.WholeTerms.{coefficient-combined}
 use Rattle.sym_model.proofs.Ring.{product-one}
 use lib.IntN.{+ℤ_idl, +ℤ_idr, *ℤ-zero}
-use Rattle.monomial_laws.proofs.Splits.{nested-tests}
+use Rattle.sym_model.proofs.Integers.{nested_tests}
 
--- ---- the numbers of a list, each with the list of the other numbers
+-- ---- the entries of a list, each paired with the list of the other entries
 
--- each number of α with the list of the other numbers
+-- for each entry of α, the pair of this entry and the list of the other entries
 abbrev pub spots : List ℕ → List (ℕ × List ℕ)
 spots [] = []
 spots (c ∷ α) = (c, α) ∷ map (λ (s : ℕ × List ℕ). (s.0, c ∷ s.1)) (spots α)
@@ -43,7 +43,7 @@ length-lowered a (c ∷ α) γ m = by (leb a c) (Among_from_append γ (cond (leb
     by false (inl u) r = absurd u
     by b (inr u) r = let s = Among_from_map (λ (δ : List ℕ). c ∷ δ) γ (lowered a α) u in ap length s.2 ∙ ap suc (r s.0 s.1)
 
--- no list obtained by subtracting a at a place is empty
+-- no list obtained from α by subtracting a from one entry is empty
 total_lowered-empty : (a : ℕ) (α : List ℕ) → total (λ (γ : List ℕ). at_only γ []) (lowered a α) ≡ pos 0
 total_lowered-empty a [] = refl
 total_lowered-empty a (c ∷ α) =
@@ -54,7 +54,8 @@ total_lowered-empty a (c ∷ α) =
     by true = refl
     by false = refl
 
--- the number of ways to get α from β by adding a in one place is that to get β from α by subtracting a in one place
+-- if β has n places, the number of exponent lists ε with one a and zeros for which ε + β = α is the number of places at which subtracting a from α
+-- gives β
 pub total_one_place-join : (a n : ℕ) (β α : List ℕ) → length β ≡ n → total (λ (ε : List ℕ). at_only α (join ε β)) (one_place a n) ≡ total (λ (γ : List ℕ). at_only γ β) (lowered a α)
 total_one_place-join a zero [] α l = sym (total_lowered-empty a α)
 total_one_place-join a zero (b ∷ β) α l = absurd (omega arith)
@@ -92,7 +93,7 @@ total_one_place-join a (suc n) (b ∷ β) (c ∷ α) l =
         ∙ row (eqb b c) h
         ∙ sym (total_map (λ (γ : List ℕ). at_only γ (b ∷ β)) (λ (γ : List ℕ). c ∷ γ) (lowered a α))
 
--- the coefficient of x^α in p_a·g is the sum of those of g over the lists obtained from α by subtracting a at a place
+-- if a > 0, the coefficient of x^α in p_a·g is the sum of the coefficients of g at the lists obtained from α by subtracting a from one entry
 pub coefficient-power_sum_times : (a n : ℕ) (g : Poly) (α : List ℕ) → 0 < a → In n g → coefficient (times (power_sum_of a n) g) α ≡ total (coefficient g) (lowered a α)
 coefficient-power_sum_times a n g α h i =
     coefficient_pair (times (power_sum_of a n) g) α
@@ -103,8 +104,8 @@ coefficient-power_sum_times a n g α h i =
     ∙ pair_total g (λ (γ : List ℕ) (β : List ℕ). at_only γ β) (lowered a α)
     ∙ total_ext (λ (γ : List ℕ). pair g (at_only γ)) (coefficient g) (λ γ. sym (coefficient_pair g γ)) (lowered a α)
 
--- a sum of χ(γ sorted) over the lists γ obtained from α by subtracting a at a place is the sum of χ over the numbers c ≥ a of α, with c - a inserted
--- among the other numbers, sorted
+-- the sum of χ(γ sorted), over the lists γ obtained from α by subtracting a from one entry, is a sum over the entries c ≥ a of α: the sum of the
+-- values of χ at the list that has the other entries and c - a, sorted
 total_lowered-sorted : (a : ℕ) (χ : List ℕ → ℤ) (α : List ℕ) → total (λ (γ : List ℕ). χ (sorted_parts γ)) (lowered a α) ≡ total (λ (s : ℕ × List ℕ). cond (leb a s.0) (χ (insert_part (s.0 - a) (sorted_parts s.1))) (pos 0)) (spots α)
 total_lowered-sorted a χ [] = refl
 total_lowered-sorted a χ (c ∷ α) =
@@ -124,7 +125,7 @@ total_lowered-sorted a χ (c ∷ α) =
     by true = +ℤ_idr (χ (insert_part (c - a) (sorted_parts α)))
     by false = refl
 
--- inserting a number of α among the sorted other numbers gives α sorted
+-- inserting an entry of α into the sorted list of the other entries gives α sorted; here in a sum of ψ(entry, sorted list) over the entries
 total_spots-sorted : (ψ : ℕ → List ℕ → ℤ) (α : List ℕ) → total (λ (s : ℕ × List ℕ). ψ s.0 (insert_part s.0 (sorted_parts s.1))) (spots α) ≡ total (λ (c : ℕ). ψ c (sorted_parts α)) α
 total_spots-sorted ψ [] = refl
 total_spots-sorted ψ (c ∷ α) =
@@ -137,9 +138,9 @@ total_spots-sorted ψ (c ∷ α) =
     (spots α)
     ∙ total_spots-sorted (λ k l. ψ k (insert_part c l)) α)
 
--- ---- the places of α from which a can be subtracted so that λ is left
+-- ---- the places of α from which a can be subtracted so that the list then sorts to λ
 
--- 1 if a ≤ k, k - a is one of `parts` or 0, and the sorted list `whole` is `parts` with k - a raised to k; otherwise 0
+-- 1 if a ≤ k, k - a is 0 or one of `parts`, and the sorted list `whole` is `parts` with one k - a replaced by k; otherwise 0
 abbrev pub raised_here : ℕ → List ℕ → ℕ → List ℕ → ℤ
 raised_here a parts k whole = cond (leb a k) (cond (has (k - a) (0 ∷ parts)) (cond (same whole (raise a (k - a) parts)) (pos 1) (pos 0)) (pos 0)) (pos 0)
 
@@ -160,9 +161,10 @@ lowered_here a k ρ parts h q p = by (leb a k) refl
         let r = and_parts (has (k - a) (0 ∷ parts)) (same (insert_part k ρ) (raise a (k - a) parts)) t in
         same_from (insert_part (k - a) ρ) parts
         (lowered_from_raised a (k - a) ρ parts h p r.0 (ap (λ n. insert_part n ρ) back ∙ same_true (insert_part k ρ) (raise a (k - a) parts) r.1))))
-        ∙ sym (nested-tests (has (k - a) (0 ∷ parts)) (same (insert_part k ρ) (raise a (k - a) parts)))
+        ∙ sym (nested_tests (has (k - a) (0 ∷ parts)) (same (insert_part k ρ) (raise a (k - a) parts)) (pos 1))
 
--- the number of lists obtained from α by subtracting a at a place that sort to λ is the sum of `raised_here` over the entries of α
+-- if a > 0, the number of lists obtained from α by subtracting a from one entry that sort to the partition `parts` is the sum of `raised_here` over
+-- the entries of α
 total_lowered-is : (a : ℕ) (parts α : List ℕ) → 0 < a → IsPartition parts → total (λ (γ : List ℕ). cond (same (sorted_parts γ) parts) (pos 1) (pos 0)) (lowered a α) ≡ total (λ (k : ℕ). raised_here a parts k (sorted_parts α)) α
 total_lowered-is a parts α h p =
     total_lowered-sorted a (λ l. cond (same l parts) (pos 1) (pos 0)) α
@@ -175,8 +177,7 @@ total_lowered-is a parts α h p =
 
 -- ---- the terms of p_a·m_λ
 
--- a sum over the different numbers of a list, restricted to the number k, is its value at k, or 0 if k is not in
--- the list
+-- the sum of g, over the different numbers of a list that are equal to k, is g(k) if k is in the list, and 0 otherwise
 pub total_distinct-only : (g : ℕ → ℤ) (k : ℕ) (numbers : List ℕ) → total (λ (b : ℕ). cond (eqb b k) (g b) (pos 0)) (distinct numbers) ≡ cond (has k numbers) (g k) (pos 0)
 total_distinct-only g k [] = refl
 total_distinct-only g k (c ∷ numbers) = by (has c numbers) refl (cases_eq c k) (total_distinct-only g k numbers)
@@ -190,7 +191,7 @@ total_distinct-only g k (c ∷ numbers) = by (has c numbers) refl (cases_eq c k)
         rw (eq-eqb c k i) (omega (arith, ints, ap g i))
     by false e (inr n) r = rw (ne_eqb c k n) (+ℤ_idl (total (λ (b : ℕ). cond (eqb b k) (g b) (pos 0)) (distinct numbers)) ∙ r)
 
--- the multiplicity of k in α is the sum of 1 over the entries of α equal to k
+-- the number of times that k occurs in α is the sum of 1 over the entries of α equal to k
 pub total_times_in : (k : ℕ) (α : List ℕ) → total (λ (c : ℕ). cond (eqb c k) (pos 1) (pos 0)) α ≡ pos (times_in k α)
 total_times_in k [] = refl
 total_times_in k (c ∷ α) = by (eqb c k) (total_times_in k α)
@@ -199,9 +200,9 @@ total_times_in k (c ∷ α) = by (eqb c k) (total_times_in k α)
     by true e = omega (arith, ints)
     by false e = omega (arith, ints)
 
--- ---- p_a·m_λ is the sum of its terms
+-- ---- p_a·m_λ is the sum of the terms `raised_terms a λ`
 
--- c is a + b if and only if a ≤ c and b is c - a
+-- c = a + b if and only if a ≤ c and b = c - a; here for a number x that is counted under this condition
 taken : (a b c : ℕ) (x : ℤ) → cond (eqb c (a + b)) x (pos 0) ≡ cond (leb a c) (cond (eqb b (c - a)) x (pos 0)) (pos 0)
 taken a b c x = by (cases_lt c a)
   where
@@ -214,8 +215,8 @@ taken a b c x = by (cases_lt c a)
         (λ t. let u = eqb-true b (c - a) t in eq-eqb c (a + b) (omega arith)) in
         rw (e, le-leb a c h) refl
 
--- the multiplicity of a + b times the coefficient at α of m_μ, μ being `parts` with a part b raised to a + b, is a
--- sum over the entries of α
+-- let μ be `parts` with one b replaced by a + b. The multiplicity of a + b in μ times the coefficient of x^α in m_μ is, if α has n places, the number
+-- of entries a + b of α if α sorts to μ, and otherwise 0
 term_at : (a b n : ℕ) (parts α : List ℕ) → 0 < a
     → pos (times_in (a + b) (raise a b parts)) *ℤ coefficient (monomial (raise a b parts) n) α
     ≡ cond (eqb (length α) n) (total (λ (c : ℕ). cond (leb a c) (cond (eqb b (c - a)) (cond (same (sorted_parts α) (raise a b parts)) (pos 1) (pos 0)) (pos 0)) (pos 0)) α) (pos 0)
@@ -241,7 +242,8 @@ term_at a b n parts α h =
         ∙ sym (total_times_in (a + b) α)
         ∙ total_ext (λ (c : ℕ). cond (eqb c (a + b)) (pos 1) (pos 0)) (λ (c : ℕ). cond (leb a c) (cond (eqb b (c - a)) (pos 1) (pos 0)) (pos 0)) (λ c. taken a b c (pos 1)) α
 
--- the coefficient at α of the sum of the terms of p_a·m_λ is a sum of `raised_here` over the entries of α, or 0 if α does not have n places
+-- if α has n places, the coefficient of x^α in the sum of the terms `raised_terms a parts` is the sum of `raised_here` over the entries of α;
+-- otherwise it is 0
 coefficient-raised_terms : (a n : ℕ) (parts α : List ℕ) → 0 < a → coefficient (combined (λ label. monomial label n) (raised_terms a parts)) α ≡ cond (eqb (length α) n) (total (λ (k : ℕ). raised_here a parts k (sorted_parts α)) α) (pos 0)
 coefficient-raised_terms a n parts α h =
     coefficient-combined (λ label. monomial label n) (raised_terms a parts) α
@@ -264,7 +266,7 @@ coefficient-raised_terms a n parts α h =
     F : ℕ → ℕ → ℤ
     F c b = cond (leb a c) (cond (eqb b (c - a)) (X b) (pos 0)) (pos 0)
 
--- the coefficient of p_a·m_λ at α is a sum over the entries of α, or 0 if α does not have n places
+-- if α has n places, the coefficient of x^α in p_a·m_λ is the sum of `raised_here` over the entries of α, λ being `parts`; otherwise it is 0
 coefficient-power_sum_monomial : (a n : ℕ) (parts α : List ℕ) → 0 < a → IsPartition parts → coefficient (times (power_sum_of a n) (monomial parts n)) α ≡ cond (eqb (length α) n) (total (λ (k : ℕ). raised_here a parts k (sorted_parts α)) α) (pos 0)
 coefficient-power_sum_monomial a n parts α h p =
     coefficient-power_sum_times a n (monomial parts n) α h (In-monomials (λ α. same (sorted_parts α) parts) n (size parts))
@@ -276,6 +278,6 @@ coefficient-power_sum_monomial a n parts α h p =
     ∙ total_cond (eqb (length α) n) (λ (γ : List ℕ). cond (same (sorted_parts γ) parts) (pos 1) (pos 0)) (lowered a α)
     ∙ ap (λ x. cond (eqb (length α) n) x (pos 0)) (total_lowered-is a parts α h p)
 
--- p_a·m_λ in n variables is the sum of the terms `raised_terms a λ`
+-- p_a·m_λ in n variables is the sum of the c·m_μ over the terms c, μ of `raised_terms a λ`, if a > 0; here λ is `parts`
 pub power_sum_times_monomial : (a n : ℕ) (parts : List ℕ) → 0 < a → IsPartition parts → Same (times (power_sum_of a n) (monomial parts n)) (combined (λ label. monomial label n) (raised_terms a parts))
 power_sum_times_monomial a n parts h p α = coefficient-power_sum_monomial a n parts α h p ∙ sym (coefficient-raised_terms a n parts α h)

@@ -1,7 +1,8 @@
 -- The powers of x_1 + .. + x_n (specs/Majorant).
---     power-add                   a product of two powers is a power
---     coefficient_power           the coefficient of x^α times Π α_i! is d! if α has the sum d, else 0
---     powers-product              a product of two sums of powers
+--     power-add                   the product of the powers d and e is the power d + e
+--     coefficient_power           the coefficient of x^α in the power d, times Π α_i!, is d! if α has the sum d, and 0 otherwise
+--     powers-product              the product of two sums of powers is the sum of the powers d + e, for each exponent d of the first sum and each
+--                                 exponent e of the second
 use Rattle.std.proofs.Common.{◌≡◌, ◌⊎◌, ℕ, zero, suc, ◌+◌, ◌-◌, ◌*◌, ◌<◌, ◌≤◌, Bool, true, false, ◌&&◌, cond, eqb, leb, List, [], ◌∷◌, ◌++◌, map, length, replicate, sym, ◌∙◌, ap, ap₂, subst, refl, inl, inr, arith, ℤ, pos, negsuc, ◌+ℤ◌, ◌*ℤ◌, flat_map}
 use Rattle.std.specs.Prelude.{◌≤ℤ◌}
 use Rattle.std.proofs.lemmas.Int.{ints}
@@ -26,8 +27,9 @@ use Rattle.sym_model.specs.ListWeight.{factorials}
 use native.Mathlib.Nat.{mul-le-mul_left}
 use lib.IntN.{*ℤ-zero, zero-*ℤ, *ℤ_comm}
 use Rattle.std.proofs.Math.Nat.{mul_left_comm}
+use Rattle.sym_model.proofs.Integers.{pos-cond}
 
--- ---- the exponents of a product, and powers of x_1 + .. + x_n
+-- ---- products of polynomials in n variables, and products of powers of x_1 + .. + x_n
 
 pub In-product_over : (f : ℕ → ℕ → Poly) (parts : List ℕ) (n : ℕ) → ((k : ℕ) → In n (f k n)) → In n (product_over f parts n)
 In-product_over f [] n i = In_one n
@@ -56,7 +58,7 @@ power-add (suc d) e n =
 
 -- ---- the coefficient of x^α in (x_1 + .. + x_n)^d
 
--- if γ is α with 1 subtracted at a place, its sum is one less than that of α
+-- if γ is α with 1 subtracted from one entry, the sum of γ is 1 less than that of α
 size-lowered : (α γ : List ℕ) → Among γ (lowered 1 α) → suc (size γ) ≡ size α
 size-lowered [] γ m = absurd m
 size-lowered (c ∷ α) γ m = by (leb 1 c) refl (Among_from_append γ (cond (leb 1 c) (((c - 1) ∷ α) ∷ []) []) (map (λ (δ : List ℕ). c ∷ δ) (lowered 1 α)) m) (size-lowered α)
@@ -72,8 +74,8 @@ lowered-suc c α =
     ap (λ b. cond b (((suc c - 1) ∷ α) ∷ []) [] ++ map (λ (γ : List ℕ). suc c ∷ γ) (lowered 1 α)) (le-leb 1 (suc c) (omega arith))
     ∙ ap (λ n. (n ∷ α) ∷ map (λ (γ : List ℕ). suc c ∷ γ) (lowered 1 α)) (let e : suc c - 1 ≡ c = omega arith in e)
 
--- if γ is α with c replaced by c - 1 at a place, Π γ_i! is Π α_i! divided by c; so if f(γ)·Π γ_i! is the same k for all these γ, their sum times Π
--- α_i! is |α|·k
+-- let γ run over the lists that are α with one entry c replaced by c - 1; then Π γ_i! is Π α_i!/c. So if f(γ)·Π γ_i! = k for all these γ, the sum of
+-- the f(γ), times Π α_i!, is |α|·k
 factorials-lowered : (α : List ℕ) (f : List ℕ → ℤ) (k : ℤ) → ((γ : List ℕ) → Among γ (lowered 1 α) → f γ *ℤ pos (factorials γ) ≡ k)
     → total f (lowered 1 α) *ℤ pos (factorials α) ≡ pos (size α) *ℤ k
 factorials-lowered [] f k h = zero-*ℤ (pos 1) ∙ sym (zero-*ℤ k)
@@ -114,7 +116,7 @@ factorials-lowered (suc c ∷ α) f k h =
         sym (scaled (f (suc c ∷ γ)) (suc c * factorial c) (factorials γ))
         ∙ r (suc c ∷ γ) (inr (Among-map (λ (γ : List ℕ). suc c ∷ γ) γ (lowered 1 α) m))))
 
--- in the polynomial 1 the coefficient of x^α is 1 if all α_i are 0, and otherwise 0
+-- the coefficient of x^α in the polynomial 1, times Π α_i!, is 1 if all α_i are 0, and 0 otherwise
 coefficient-one : (α : List ℕ) → coefficient (one (length α)) α *ℤ pos (factorials α) ≡ cond (eqb (size α) 0) (pos 1) (pos 0)
 coefficient-one [] = refl
 coefficient-one (zero ∷ α) =
@@ -126,7 +128,7 @@ coefficient-one (suc c ∷ α) =
     ∙ zero-*ℤ (pos (factorials (suc c ∷ α)))
     ∙ ap (λ b. cond b (pos 1) (pos 0)) (sym (ne_eqb (suc c + size α) 0 (λ e. omega arith)))
 
--- if α has n places and the sum d, the coefficient of x^α in (x_1 + .. + x_n)^d times Π α_i! is d!; for another sum it is 0
+-- if α has n entries with the sum d, the coefficient of x^α in (x_1 + .. + x_n)^d times Π α_i! is d!; if the sum of α is not d, the coefficient is 0
 pub coefficient_power : (d n : ℕ) (α : List ℕ) → length α ≡ n → coefficient (power d n) α *ℤ pos (factorials α) ≡ cond (eqb (size α) d) (pos (factorial d)) (pos 0)
 coefficient_power zero n α long = ap (λ m. coefficient (one m) α *ℤ pos (factorials α)) (sym long) ∙ coefficient-one α
 coefficient_power (suc d) n α long =
@@ -161,12 +163,8 @@ factor (negsuc k) a b h e =
     let q : pos b +ℤ pos (suc k * a) ≡ pos 0 = ap (λ z. z +ℤ pos (suc k * a)) (sym e ∙ negation-product (pos (suc k)) (pos a)) ∙ omega (arith, ints) in
     absurd (omega (arith, ints))
 
-as_number : (b : Bool) (n : ℕ) → cond b (pos n) (pos 0) ≡ pos (cond b n 0)
-as_number true n = refl
-as_number false n = refl
-
 whole_coefficient : (d n : ℕ) (α : List ℕ) → length α ≡ n → coefficient (power d n) α *ℤ pos (factorials α) ≡ pos (cond (eqb (size α) d) (factorial d) 0)
-whole_coefficient d n α long = coefficient_power d n α long ∙ as_number (eqb (size α) d) (factorial d)
+whole_coefficient d n α long = coefficient_power d n α long ∙ sym (pos-cond (eqb (size α) d) (factorial d))
 
 -- no coefficient of (x_1 + .. + x_n)^d is negative
 pub power-nonnegative : (d n : ℕ) (α : List ℕ) → pos 0 ≤ℤ coefficient (power d n) α
@@ -199,7 +197,7 @@ coefficient-powers exponents n α =
     ∙ pair-powers exponents n (at_only α)
     ∙ total_ext (λ (d : ℕ). pair (power d n) (at_only α)) (λ (d : ℕ). coefficient (power d n) α) (λ d. sym (coefficient_pair (power d n) α)) exponents
 
--- the exponents of a product of two sums of powers
+-- the sums d + e for each exponent d of the first list and each exponent e of the second: the exponents of a product of two sums of powers
 abbrev pub sums : List ℕ → List ℕ → List ℕ
 sums ds es = flat_map (λ (d : ℕ). map (λ (e : ℕ). d + e) es) ds
 
@@ -229,7 +227,7 @@ pub length-sums : (ds es : List ℕ) → length (sums ds es) ≡ length ds * len
 length-sums [] es = omega arith
 length-sums (d ∷ ds) es = length-append (map (λ (e : ℕ). d + e) es) (sums ds es) ∙ ap₂ ◌+◌ (length-map es (λ (e : ℕ). d + e)) (length-sums ds es) ∙ omega arith
 
--- the list of exponents repeated q times
+-- a list of exponents repeated q times
 abbrev pub copies : ℕ → List ℕ → List ℕ
 copies zero ds = []
 copies (suc q) ds = ds ++ copies q ds
@@ -253,7 +251,8 @@ powers-copies (suc q) ds n α =
     more : (z : ℤ) → z +ℤ pos q *ℤ z ≡ pos (suc q) *ℤ z
     more z = ap (λ y. y +ℤ pos q *ℤ z) (sym (one-product z)) ∙ sym (distributes_right (pos 1) (pos q) z) ∙ ap (λ k. pos k *ℤ z) (let e : 1 + q ≡ suc q = omega arith in e)
 
--- the coefficient of x^α, α of sum d, in a sum of powers of x_1 + .. + x_n is at most that in the power d, times the number of powers
+-- if α has the sum d, the coefficient of x^α in the sum of the powers of x_1 + .. + x_n with the exponents ds is at most that in the power d, times
+-- the number of the exponents
 pub powers-few : (ds : List ℕ) (n d : ℕ) (α : List ℕ) → length α ≡ n → size α ≡ d → coefficient (powers ds n) α ≤ℤ (pos (length ds) *ℤ coefficient (power d n) α)
 powers-few ds n d α e i = rw (coefficient-powers ds n α) (by ds)
   where

@@ -1,5 +1,5 @@
--- (x_1 + .. + x_n)^d is the sum of x^content over all words of d letters, and a filling is such a word, row by row:
--- so (x_1 + .. + x_n)^|λ| is a majorant of s_λ.
+-- (x_1 + .. + x_n)^d is the sum of x^content over all words of d letters, and a filling of λ, read row by row, is a word of |λ| letters: so (x_1 + ..
+-- + x_n)^|λ| is a majorant of s_λ.
 use Rattle.std.proofs.Common.{◌≡◌, ℕ, zero, suc, ◌+◌, ◌<◌, Bool, true, false, cond, eqb, List, [], ◌∷◌, ◌++◌, map, sym, ◌∙◌, ap, ap₂, subst, refl, inl, inr, arith, ℤ, pos, ◌+ℤ◌, filter}
 use Rattle.std.specs.Prelude.{◌≤ℤ◌, nat_abs}
 use Rattle.std.proofs.lemmas.Int.{ints}
@@ -20,13 +20,13 @@ use Rattle.sym_model.proofs.Tableaux.{row_lengths-none}
 use Rattle.sym_model.proofs.Lists.{map-among, map-map}
 use Rattle.sym_model.proofs.Contents.{map-zeros, content-none}
 
--- ---- words and their content
+-- ---- words of letters and their contents
 
--- the number of times that each of the letters m + 1, .., m + n occurs in the word w
+-- for each of the letters m + 1, .., m + n, the number of times that it occurs in the word w
 abbrev content_after : ℕ → ℕ → List ℕ → List ℕ
 content_after m n w = map (λ (k : ℕ). times_in k w) (after m n)
 
--- the letters of `after (m + j + 1) n` are greater than m
+-- the letters m + j + 2, .., m + j + 1 + n, which `after (m + suc j) n` lists, are greater than m
 letters_past : (m n j a : ℕ) → Among a (after (m + suc j) n) → m < a
 letters_past m zero j a h = absurd h
 letters_past m (suc n) j a (inl e) = omega arith
@@ -37,7 +37,8 @@ past m zero a u = absurd u
 past m (suc n) a (inl e) = omega arith
 past m (suc n) a (inr u) = letters_past (m + 1) n zero a u
 
--- among the letters m + 1, .., m + n, the content of the word of one letter a has 1 at the place of a and 0 elsewhere
+-- the contents, for the letters m + 1, .., m + n, of the words that consist of one of these letters: each has one 1, and they are listed as by
+-- `one_place`
 one_place-letters : (m n : ℕ) → one_place 1 n ≡ map (λ (a : ℕ). content_after m n (a ∷ [])) (after m n)
 one_place-letters m zero = refl
 one_place-letters m (suc n) =
@@ -78,7 +79,7 @@ pair-power (suc d) n φ =
 
 -- ---- fillings, read row by row, are words
 
--- a sum over the words of j letters followed by words of k letters is the sum over the words of j + k letters
+-- the sum of h(v w), over the words v of j letters and the words w of k letters, is the sum of h over the words of j + k letters
 total_words-add : (n j k : ℕ) (h : List ℕ → ℤ) → total (λ (v : List ℕ). total (λ (w : List ℕ). h (v ++ w)) (words n k)) (words n j) ≡ total h (words n (j + k))
 total_words-add n zero k h = +ℤ_idr (total h (words n k)) ∙ ap (λ i. total h (words n i)) (let e : k ≡ 0 + k = omega arith in e)
 total_words-add n (suc j) k h =
@@ -94,7 +95,8 @@ total_words-add n (suc j) k h =
     ∙ sym (total_each h (λ (a : ℕ). map (λ (w : List ℕ). a ∷ w) (words n (j + k))) (after 0 n))
     ∙ ap (λ i. total h (words n i)) (let e : suc (j + k) ≡ suc j + k = omega arith in e)
 
--- a sum over the fillings with rows of the given lengths, read row by row, is the sum over the words with that number of letters
+-- the sum of h(filling read row by row), over the fillings with rows of the given lengths, is the sum of h over the words whose number of letters is
+-- the sum of the lengths
 total_fillings : (n : ℕ) (lengths : List ℕ) (h : List ℕ → ℤ) → total (λ (filling : List (List ℕ)). h (letters_of filling)) (fillings_of n lengths) ≡ total h (words n (size lengths))
 total_fillings n [] h = refl
 total_fillings n (k ∷ lengths) h =
@@ -108,14 +110,14 @@ total_fillings n (k ∷ lengths) h =
     (words n k)
     ∙ total_words-add n k (size lengths) h
 
--- ---- s_λ is bounded by the power |λ| of x_1 + .. + x_n
+-- ---- s_λ is a polynomial in n variables, and (x_1 + .. + x_n)^|λ| is a majorant of s_λ
 
 pub In-schur : (parts : List ℕ) (n : ℕ) → In n (schur parts n)
 In-schur parts n =
     In_map n (λ (filling : List (List ℕ)). (content n (letters_of filling), pos 1)) (tableaux n parts [])
     (λ filling m. length-map (after 0 n) (λ (k : ℕ). times_in k (letters_of filling)) ∙ length_after 0 n)
 
--- if f is nowhere negative, its sum over the elements that pass a test is at least 0 and at most its sum over all
+-- if no value of f is negative, the sum of f over the elements that pass a test is at least 0, and at most the sum of f over all elements
 total_select-within : {A : Type 0} (f : A → ℤ) (test : A → Bool) (xs : List A) → ((x : A) → pos 0 ≤ℤ f x) → (pos 0 ≤ℤ total f (filter test xs)) × (total f (filter test xs) ≤ℤ total f xs)
 total_select-within f test [] h = (omega (arith, ints), omega (arith, ints))
 total_select-within {A} f test (x ∷ xs) h = by (test x) (h x) (total_select-within f test xs h)

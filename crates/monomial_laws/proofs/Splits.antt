@@ -1,6 +1,6 @@
--- Products by their coefficients, and m_λ·m_μ (specs/MonomialProduct).
---     coefficient_times        the coefficient of x^α in f·g: over all ways to split α
---     monomial_product         m_λ·m_μ is each list of terms whose coefficient at ν is `arrangements λ μ ν`
+-- The coefficients of a product f·g, and of m_λ·m_μ.
+--     coefficient_times        the coefficient of x^α in f·g as a sum over the pairs (β, γ) with β + γ = α
+--     monomial_product         if the coefficient of a list of terms in m at each partition ν is `arrangements λ μ ν`, its polynomial is m_λ·m_μ
 use Rattle.std.proofs.Common.{◌≡◌, ◌⊎◌, ℕ, zero, suc, ◌+◌, ◌-◌, ◌<◌, ◌≤◌, Bool, true, false, ◌&&◌, cond, eqb, leb, List, [], ◌∷◌, map, length, sym, ◌∙◌, ap, ap₂, refl, inl, inr, arith, ℤ, pos, ◌+ℤ◌, ◌*ℤ◌}
 use Rattle.std.proofs.lemmas.Bool.{cases_lt, le-leb, lt-leb, eq-eqb, ne_eqb, eqb-true}
 use Rattle.sym_model.specs.Sum.{total, Among}
@@ -18,21 +18,19 @@ use Rattle.sym_model.proofs.WholeTerms.{pair-combined}
 use Rattle.monomial_laws.proofs.PowerSumCoefficients.{coefficient-monomial_terms}
 use Rattle.sym_model.proofs.Monomials.{total_down_from-only, In-monomials}
 use lib.IntN.{+ℤ_idr, zero-*ℤ, *ℤ_comm}
+use Rattle.sym_model.proofs.Integers.{nested_tests}
 
--- ---- 1 if two tests pass, otherwise 0
-
-pub nested-tests : (p q : Bool) → cond p (cond q (pos 1) (pos 0)) (pos 0) ≡ cond (p && q) (pos 1) (pos 0)
-nested-tests true q = refl
-nested-tests false q = refl
+-- ---- the number that is 1 if two tests pass, and 0 otherwise
 
 pub tests-product : (p q : Bool) → cond (p && q) (pos 1) (pos 0) ≡ cond p (pos 1) (pos 0) *ℤ cond q (pos 1) (pos 0)
 tests-product true true = refl
 tests-product true false = refl
 tests-product false q = sym (zero-*ℤ (cond q (pos 1) (pos 0)))
 
--- ---- pairs of exponent lists that add up to ν
+-- ---- pairs of exponent lists that add up to ν (`splits ν`)
 
--- a sum over the splits of c ∷ ν is the sum, over b ≤ c, of that over the splits of ν with b in front of one list and c - b in front of the other
+-- the sum of φ over the pairs of lists that add up to c ∷ ν is a double sum: over b ≤ c, and over the pairs that add up to ν, with b in front of the
+-- first list and c - b in front of the second
 pub total_splits : (φ : List ℕ → List ℕ → ℤ) (c : ℕ) (ν : List ℕ)
     → total (λ (s : List ℕ × List ℕ). φ s.0 s.1) (splits (c ∷ ν))
     ≡ total (λ (b : ℕ). total (λ (s : List ℕ × List ℕ). φ (b ∷ s.0) ((c - b) ∷ s.1)) (splits ν)) (down_from c)
@@ -44,7 +42,7 @@ total_splits φ c ν =
     (λ b. total_map (λ (s : List ℕ × List ℕ). φ s.0 s.1) (λ (s : List ℕ × List ℕ). (b ∷ s.0, (c - b) ∷ s.1)) (splits ν))
     (down_from c)
 
--- both lists of a split have the length of ν
+-- both lists of a pair in `splits ν` have the length of ν
 pub length-splits : (ν : List ℕ) (s : List ℕ × List ℕ) → Among s (splits ν) → (length s.0 ≡ length ν) × (length s.1 ≡ length ν)
 length-splits [] s (inl e) = (ap (λ (p : List ℕ × List ℕ). length p.0) e, ap (λ (p : List ℕ × List ℕ). length p.1) e)
 length-splits [] s (inr m) = absurd m
@@ -54,11 +52,11 @@ length-splits (c ∷ ν) s m =
     let k = length-splits ν u.0 u.1 in
     (ap (λ (p : List ℕ × List ℕ). length p.0) u.2 ∙ ap suc k.0, ap (λ (p : List ℕ × List ℕ). length p.1) u.2 ∙ ap suc k.1)
 
--- 1 if the two lists are β and γ, else 0
+-- 1 if the pair is (β, γ), and 0 otherwise
 abbrev both_only : List ℕ → List ℕ → List ℕ × List ℕ → ℤ
 both_only β γ s = cond (same β s.0) (cond (same γ s.1) (pos 1) (pos 0)) (pos 0)
 
--- for β and γ of the length of α, the pair (β, γ) is a split of α once if β + γ = α, and otherwise not at all
+-- if β and γ have the length of α, `splits α` lists the pair (β, γ) once if β + γ = α, and otherwise not at all
 total_splits-only : (α β γ : List ℕ) → length β ≡ length α → length γ ≡ length α
     → total (both_only β γ) (splits α) ≡ at_only α (join β γ)
 total_splits-only [] [] [] h k = refl
@@ -105,9 +103,9 @@ total_splits-only (a ∷ α) (b ∷ β) (c ∷ γ) h k =
         tests_agree (eqb c (a - b)) (eqb (b + c) a)
         (λ t. let u = eqb-true c (a - b) t in eq-eqb (b + c) a (omega arith))
         (λ t. let u = eqb-true (b + c) a t in eq-eqb c (a - b) (omega arith)) in
-        rw (le-leb b a l, e) (nested-tests (eqb (b + c) a) (same (join β γ) α))
+        rw (le-leb b a l, e) (nested_tests (eqb (b + c) a) (same (join β γ) α) (pos 1))
 
--- the coefficient of x^α in f·g is the sum, over all ways to split α, of the products of the coefficients of f and g
+-- the coefficient of x^α in f·g is the sum, over the pairs (β, γ) with β + γ = α, of the coefficient of f at β times that of g at γ
 pub coefficient_times : (n : ℕ) (f g : Poly) (α : List ℕ) → In n f → In n g → length α ≡ n
     → coefficient (times f g) α ≡ total (λ (s : List ℕ × List ℕ). coefficient f s.0 *ℤ coefficient g s.1) (splits α)
 coefficient_times n f g α i j long =
@@ -118,7 +116,7 @@ coefficient_times n f g α i j long =
     pair_in n g (λ γ. at_only α (join β γ)) (λ γ. total (λ (s : List ℕ × List ℕ). at_only s.0 β *ℤ at_only s.1 γ) (splits α)) j
     (λ γ l.
     sym (total_splits-only α β γ (k ∙ sym long) (l ∙ sym long))
-    ∙ total_ext (both_only β γ) (λ (s : List ℕ × List ℕ). at_only s.0 β *ℤ at_only s.1 γ) (λ s. nested-tests (same β s.0) (same γ s.1) ∙ tests-product (same β s.0) (same γ s.1)) (splits α))
+    ∙ total_ext (both_only β γ) (λ (s : List ℕ × List ℕ). at_only s.0 β *ℤ at_only s.1 γ) (λ s. nested_tests (same β s.0) (same γ s.1) (pos 1) ∙ tests-product (same β s.0) (same γ s.1)) (splits α))
     ∙ pair_total g (λ (s : List ℕ × List ℕ) (γ : List ℕ). at_only s.0 β *ℤ at_only s.1 γ) (splits α)
     ∙ total_ext
     (λ (s : List ℕ × List ℕ). pair g (λ γ. at_only s.0 β *ℤ at_only s.1 γ))
@@ -136,9 +134,9 @@ coefficient_times n f g α i j long =
     ∙ *ℤ_comm (coefficient g s.1) (coefficient f s.0))
     (splits α)
 
--- ---- sums over splits of functions of the two sorted lists
+-- ---- sums, over the pairs (β, γ) with β + γ = ν, of functions of β sorted and γ sorted: they depend only on ν sorted
 
--- the sum, over the splits (β, γ) of ν, of ψ(β sorted, γ sorted)
+-- the sum of ψ(β sorted, γ sorted) over the pairs (β, γ) with β + γ = ν
 abbrev pub sorted_total : (List ℕ → List ℕ → ℤ) → List ℕ → ℤ
 sorted_total ψ ν = total (λ (s : List ℕ × List ℕ). ψ (sorted_parts s.0) (sorted_parts s.1)) (splits ν)
 
@@ -153,7 +151,7 @@ sorted_total-cons ψ c ν = total_splits (λ x y. ψ (sorted_parts x) (sorted_pa
 sorted_total-zero : (ψ : List ℕ → List ℕ → ℤ) (ν : List ℕ) → sorted_total ψ (0 ∷ ν) ≡ sorted_total ψ ν
 sorted_total-zero ψ ν = sorted_total-cons ψ 0 ν ∙ +ℤ_idr (sorted_total ψ ν)
 
--- if the sums over the splits of ν and ρ are equal for every ψ, so are those over the splits of c ∷ ν and c ∷ ρ
+-- if `sorted_total ψ` has the same value at ν and ρ for every ψ, then also at c ∷ ν and c ∷ ρ
 sorted_total-rest : (ν ρ : List ℕ) → ((ψ : List ℕ → List ℕ → ℤ) → sorted_total ψ ν ≡ sorted_total ψ ρ) → (ψ : List ℕ → List ℕ → ℤ) (c : ℕ) → sorted_total ψ (c ∷ ν) ≡ sorted_total ψ (c ∷ ρ)
 sorted_total-rest ν ρ e ψ c =
     sorted_total-cons ψ c ν
@@ -210,7 +208,7 @@ sorted_total-sorted : (ν : List ℕ) (ψ : List ℕ → List ℕ → ℤ) → s
 sorted_total-sorted [] ψ = refl
 sorted_total-sorted (a ∷ ν) ψ = sorted_total-insert a (sorted_parts ν) ψ ∙ sorted_total-rest (sorted_parts ν) ν (sorted_total-sorted ν) ψ a
 
--- ---- the product of two lists of terms in m
+-- ---- the coefficients of the product of two lists of terms in m, by `arrangements`
 
 pub arrangements-total : (left right ν : List ℕ)
     → pos (arrangements left right ν) ≡ total (λ (s : List ℕ × List ℕ). at_only (sorted_parts s.0) left *ℤ at_only (sorted_parts s.1) right) (splits ν)
@@ -224,7 +222,8 @@ arrangements-total left right ν =
     ∙ ap₂ (λ (p q : Bool). cond p (pos 1) (pos 0) *ℤ cond q (pos 1) (pos 0)) (same_sym (sorted_parts s.0) left) (same_sym (sorted_parts s.1) right))
     (splits ν)
 
--- the coefficient at ν of the product of two lists is the sum, over all pairs of labels l and r, of their coefficients times `arrangements l r ν`
+-- the coefficient at ν of the product of two lists of terms in m is the sum, over the labels l of the first list and r of the second, of the product
+-- of the coefficients of l and r and `arrangements l r ν`
 pub product_coefficient-arrangements : (left right : WholeTerms) (ν : List ℕ)
     → product_coefficient left right ν ≡ pair left (λ l. pair right (λ r. pos (arrangements l r ν)))
 product_coefficient-arrangements left right ν =
@@ -259,8 +258,8 @@ In-monomial_terms terms n =
     In_each n (λ (t : List ℕ × ℤ). scale t.1 (monomial t.0 n)) terms
     (λ t m. In_scale n t.1 (monomial t.0 n) (In-monomials (λ α. same (sorted_parts α) t.0) n (size t.0)))
 
--- if a list of terms has `product_coefficient left right ν` as its coefficient at every partition ν, it is the product of the polynomials of `left`
--- and `right`, in every number of variables
+-- if the coefficient of `terms` at every partition ν is `product_coefficient left right ν`, then `terms` is the product of the lists `left` and
+-- `right` in m, in every number of variables
 pub terms_product : (left right terms : WholeTerms) → ((ν : List ℕ) → IsPartition ν → coefficient terms ν ≡ product_coefficient left right ν)
     → (n : ℕ) → Same (times (combined (λ label. monomial label n) left) (combined (λ label. monomial label n) right)) (combined (λ label. monomial label n) terms)
 terms_product left right terms h n =
@@ -280,7 +279,7 @@ terms_product left right terms h n =
     ∙ sym (h (sorted_parts α) (IsPartition-sorted_parts α))
     ∙ sym (coefficient-monomial_terms terms n α long))
 
--- the list with the one label λ and the coefficient 1 is m_λ
+-- the polynomial of the list in m with the one label λ and the coefficient 1 is m_λ
 single : (label : List ℕ) (n : ℕ) → Same (combined (λ l. monomial l n) ((label, pos 1) ∷ [])) (monomial label n)
 single label n =
     same_from_pair (combined (λ l. monomial l n) ((label, pos 1) ∷ [])) (monomial label n)
@@ -289,8 +288,8 @@ single label n =
     ∙ +ℤ_idr (pos 1 *ℤ pair (monomial label n) φ)
     ∙ one-product (pair (monomial label n) φ))
 
--- if the coefficient of `terms` at each partition ν is `arrangements left right ν`, the product of the monomial symmetric polynomials of `left` and
--- `right` is the polynomial of the list `terms` in m
+-- if the coefficient of `terms` at each partition ν is `arrangements left right ν`, then m_λ·m_μ for λ = `left` and μ = `right` is the polynomial of
+-- the list `terms` in m
 pub monomial_product : (left right : List ℕ) (terms : WholeTerms) → ((ν : List ℕ) → IsPartition ν → coefficient terms ν ≡ pos (arrangements left right ν))
     → (n : ℕ) → Same (times (monomial left n) (monomial right n)) (combined (λ label. monomial label n) terms)
 monomial_product left right terms h n =

@@ -1,7 +1,10 @@
--- The weight of an expression bounds every number of its conversion into m (specs/ExpressionTerms).
---     coefficient_within_factorial   a coefficient is at most N·d!, d being the degree
---     coefficient_within_growth      a coefficient is at most N times the growth at d
---     product_within_growth          the product of two lists, with absolute values, has coefficients of at most N·M times the growth at d + e
+-- The weight of an expression bounds every number that its conversion into m computes (specs/ExpressionTerms). Let f be bounded by N at the degree d
+-- (`IsBounded`): a sum of at most N powers of x_1 + .. + x_n, with exponents up to d, is a majorant of f. Let B(d) be `growth` of m at d, which is
+-- d^d, or 1 if d = 0.
+--     coefficient_within_factorial   no coefficient of f exceeds N·d! in absolute value
+--     coefficient_within_growth      no coefficient of f exceeds N·B(d) in absolute value
+--     product_within_growth          if g is bounded by M at e, no coefficient of the product of f and g, both with the absolute values of their
+--                                    coefficients, exceeds N·M·B(d + e)
 use Rattle.std.proofs.Common.{◌≡◌, ◌⊎◌, ℕ, zero, suc, ◌+◌, ◌-◌, ◌*◌, ◌/◌, ◌^◌, ◌<◌, ◌≤◌, cond, List, [], ◌∷◌, length, sym, ◌∙◌, ap, ap₂, subst, refl, inl, inr, arith, ℤ, pos, ◌+ℤ◌, ◌*ℤ◌}
 use Rattle.std.specs.Prelude.{nat_abs, ◌≤ℤ◌}
 use Rattle.std.proofs.lemmas.Int.{ints}
@@ -33,7 +36,7 @@ use Rattle.sym_model.proofs.Numbers.{times-more, positive_factor}
 use native.Mathlib.Nat.{div-mul_cancel, dvd-mul_left, mul-le-mul_left, pow-suc}
 use lib.IntN.{+ℤ_idl}
 
--- ---- bounds for factorials and for the growth
+-- ---- upper bounds for d!, and bounds for `growth` of m
 
 factorial-within : (d : ℕ) → factorial d ≤ suc d ^ d
 factorial-within zero = omega arith
@@ -43,7 +46,7 @@ factorial-within (suc d) =
     let r = mul-le (suc d) (factorial d) (suc (suc d)) (suc (suc d) ^ d) (omega arith) (omega arith) in
     rw (pow-suc (suc (suc d)) d) (omega arith)
 
--- d! is at most the growth into m at the degree d
+-- d! is at most `growth` of m at the degree d
 pub factorial-within_growth : (d : ℕ) → factorial d ≤ growth Basis.monomials d
 factorial-within_growth zero = omega arith
 factorial-within_growth (suc d) =
@@ -68,9 +71,9 @@ growth-mono d e h = let i : (e - d) + d ≡ e = omega arith in subst (λ k. grow
 pub growth-positive : (d : ℕ) → 0 < growth Basis.monomials d
 growth-positive d = let h = growth-mono 0 d (omega arith) in omega arith
 
--- ---- bounds for the coefficients of a bounded polynomial
+-- ---- upper bounds for the coefficients of a bounded polynomial (`IsBounded`)
 
--- if f is bounded by N at the degree d, no coefficient of f exceeds N·d! in absolute value
+-- if f is bounded by N at the degree d (`IsBounded`), no coefficient of f exceeds N·d! in absolute value
 pub coefficient_within_factorial : (N d n : ℕ) (f : Poly) → IsBounded N d n f → (α : List ℕ) → length α ≡ n → nat_abs (coefficient f α) ≤ N * factorial d
 coefficient_within_factorial N d n f b α e = by (cases_lt d (size α))
   where
@@ -82,7 +85,8 @@ coefficient_within_factorial N d n f b α e = by (cases_lt d (size α))
         let u = mul-le-mul_left (nat_abs (coefficient f α)) (factorials-positive α) in
         omega arith
 
--- if f is bounded by N at the degree d, no coefficient of f exceeds N times the growth at d in absolute value
+-- if f is bounded by N at the degree d (`IsBounded`), no coefficient of f exceeds, in absolute value, N times `growth` of m at d, which is d^d (1 if
+-- d = 0)
 pub coefficient_within_growth : (N d n : ℕ) (f : Poly) → IsBounded N d n f → (α : List ℕ) → length α ≡ n → nat_abs (coefficient f α) ≤ N * growth Basis.monomials d
 coefficient_within_growth N d n f b α e = by (cases_lt d (size α))
   where
@@ -96,7 +100,7 @@ coefficient_within_growth N d n f b α e = by (cases_lt d (size α))
         let u = mul-le-mul_left (nat_abs (coefficient f α)) (factorials-positive α) in
         omega arith
 
--- if a label does not occur in a list, it has the coefficient 0 there and in the list of absolute values
+-- if a label does not occur in a list of terms, its coefficient is 0 in this list and in the list of absolute values
 absolute-missing : (terms : WholeTerms) (label : List ℕ) → (Among label (labels terms) → ⊥) → (coefficient terms label ≡ pos 0) × (coefficient (absolute terms) label ≡ pos 0)
 absolute-missing [] label h = (refl, refl)
 absolute-missing (t ∷ terms) label h =
@@ -117,7 +121,8 @@ coefficient-absolute (t ∷ terms) label o = by (same_or_not t.0 label) (coeffic
     by (inr n) r =
         rw (same_apart t.0 label n, +ℤ_idl (coefficient terms label), +ℤ_idl (coefficient (absolute terms) label)) r
 
--- if a list in m is bounded by N at the degree d, so is the list with the absolute values of its coefficients
+-- if the polynomial of a list in m is bounded by N at the degree d (`IsBounded`), so is the polynomial of the list that has the absolute values of
+-- the coefficients
 pub bounded-absolute : (N d n : ℕ) (terms : WholeTerms) → Once (labels terms) → IsBounded N d n (in_monomials terms n) → IsBounded N d n (in_monomials (absolute terms) n)
 bounded-absolute N d n terms o b = record {
   exponents = b.exponents;
@@ -153,8 +158,8 @@ coefficient-list_product A B ν =
     (splits ν)
     (λ s m. let k = length-splits ν s m in ap₂ ◌*ℤ◌ (coefficient-monomial_terms A n s.0 k.0) (coefficient-monomial_terms B n s.1 k.1))
 
--- if the lists A and B are bounded by N at the degree d and by M at e, no coefficient of their product, computed with absolute values, exceeds N·M
--- times the growth into m at d + e
+-- let the polynomials of the lists A and B be bounded by N at the degree d and by M at the degree e (`IsBounded`). If the coefficients of A and B are
+-- replaced by their absolute values, no coefficient of the product exceeds N·M times `growth` of m at d + e
 pub product_within_growth : (N M d e : ℕ) (A B : WholeTerms) → Once (labels A) → Once (labels B)
     → ((n : ℕ) → IsBounded N d n (in_monomials A n)) → ((n : ℕ) → IsBounded M e n (in_monomials B n))
     → (ν : List ℕ) → nat_abs (product_coefficient (absolute A) (absolute B) ν) ≤ N * M * growth Basis.monomials (d + e)
@@ -166,7 +171,7 @@ product_within_growth N M d e A B o p h k ν =
     (bounded-absolute N d n A o (h n)) (bounded-absolute M e n B p (k n)))
     ν refl)
 
--- ---- weights of expressions
+-- ---- the weight of e is at least `numerator e` times `growth` of m at the degree of e, and at least `denominator e`
 
 -- (lcm(a, b)/a)·a is lcm(a, b)
 pub lcm-left : (a b : ℕ) → 0 < a → lcm a b / a * a ≡ lcm a b
@@ -198,7 +203,7 @@ denominator-positive (difference e f) h = lcm-positive (denominator e) (denomina
 denominator-positive (product e f) h =
     let r = mul-le (suc zero) (suc zero) (denominator e) (denominator f) (denominator-positive e h.0) (denominator-positive f h.1) in omega arith
 
--- if the denominators of e and f are positive, so is their least common multiple divided by that of e
+-- if all denominators of e and f are positive, the least common multiple of the denominators of e and f, divided by that of e, is positive
 pub complement_left : (e f : Tree) → HasDenominators e → HasDenominators f → 0 < lcm (denominator e) (denominator f) / denominator e
 complement_left e f h k =
     positive_factor (lcm (denominator e) (denominator f) / denominator e) (denominator e) (lcm (denominator e) (denominator f))
@@ -223,7 +228,7 @@ numerator-positive (difference e f) h =
 numerator-positive (product e f) h =
     let r = mul-le (suc zero) (suc zero) (numerator e) (numerator f) (numerator-positive e h.0) (numerator-positive f h.1) in omega arith
 
--- the weight of e is at least its numerator times the growth at its degree, and at least its denominator
+-- the weight of e is at least `numerator e` times `growth` of m at the degree of e
 pub growth-within_weight : (e : Tree) → HasDenominators e → numerator e * growth Basis.monomials (degree e) ≤ weight Basis.monomials e
 growth-within_weight e h = mul-le (numerator e) (growth Basis.monomials (degree e)) (numerator e * denominator e) (growth Basis.monomials (degree e)) (times-more (numerator e) (denominator e) (denominator-positive e h)) (omega arith)
 

@@ -1,15 +1,14 @@
--- Expressions as lists of terms in m, with no fraction on the way.
+-- Expressions as lists of terms in m with integer coefficients.
 --
--- An expression E with the denominator D stands for V/D, V being its cleared value, a polynomial
--- with whole coefficients.
--- A conversion into m keeps D and a list of labels with whole coefficients that is V:
+-- Let D be the common denominator of an expression E, and V its cleared value, which is D·E, a polynomial
+-- with integer coefficients. A conversion into m computes D and a list of terms in m with the value V:
 --   a number, a fraction     the one term of the empty label
---   an atom                  e_k, h_k and p_k as lists, multiplied over the parts
+--   an atom                  the lists of e_k, h_k or p_k, multiplied over the parts k of the label
 --   a negation               each coefficient negated
---   a sum, a difference      both lists times what is lacking to the least common multiple, then term by term
+--   a sum, a difference      both lists multiplied so that the denominator is the least common multiple, then added or subtracted
 --   a product                `product_coefficient` of the two lists
--- and at the end it divides each coefficient by D, in lowest terms. So every number on the way is a
--- coefficient of a part of the expression, and the weight bounds it.
+-- At the end each coefficient is divided by D, and the fraction reduced to lowest terms. So every number that is computed is a
+-- coefficient of the cleared value of a subexpression, and the weight bounds it.
 use Rattle.std.specs.Prelude.{ℕ, ◌*◌, ◌/◌, ◌<◌, ℤ, pos, nat_abs, ◌*ℤ◌, List, [], ◌∷◌, map}
 use Rattle.std.specs.Prelude.{replicate}
 use Rattle.sym_model.specs.Polynomial.{Poly, Same}
@@ -20,15 +19,15 @@ use Rattle.sym_model.specs.Expression.{Tree, number, fraction, atom, negation, s
 use Rattle.sym_model.specs.Expression.{product, cleared_value}
 use Rattle.sym_model.specs.WholeTerms.{WholeTerms, combined}
 
--- the polynomial in n variables of a list of terms in m
+-- the polynomial in n variables that a list of terms in m stands for: the sum of the c·m_λ over its terms c, λ
 abbrev pub in_monomials : WholeTerms → ℕ → Poly
 in_monomials terms n = combined (λ label. monomial label n) terms
 
--- the list has the value f n in n variables, for every n
+-- for every n, the polynomial in n variables of this list of terms in m is f n
 abbrev pub IsList : WholeTerms → (ℕ → Poly) → Type 0
 IsList terms f = (n : ℕ) → Same (in_monomials terms n) (f n)
 
--- the list is the cleared value of the expression e
+-- in every number of variables, the polynomial of this list of terms in m is the cleared value of the expression e
 abbrev pub IsCleared : WholeTerms → Tree → Type 0
 IsCleared terms e = IsList terms (cleared_value e)
 
@@ -44,11 +43,11 @@ complete_terms k = map (λ (parts : List ℕ). (parts, pos 1)) (partitions_of k)
 abbrev pub power_sum_terms_of : ℕ → WholeTerms
 power_sum_terms_of k = ((k ∷ []), pos 1) ∷ []
 
--- the labels with the absolute values of their coefficients
+-- the list of terms with each coefficient replaced by its absolute value
 abbrev pub absolute : WholeTerms → WholeTerms
 absolute terms = map (λ (t : List ℕ × ℤ). (t.0, pos (nat_abs t.1))) terms
 
--- the list over a common denominator q: each coefficient num/den becomes the integer num·(q/den)
+-- `over q terms`: the list of terms with each coefficient num/den replaced by the integer num·(q/den), for a common denominator q
 abbrev pub over : ℕ → Terms (List ℕ) → WholeTerms
 over q terms = map (λ (t : List ℕ × Fraction). (t.0, t.1.0 *ℤ pos (q / t.1.1))) terms
 

@@ -1,7 +1,7 @@
--- Subtracting a number from one part, the inverse of raising a part.
+-- Subtracting a number from one entry of a list.
 use Rattle.std.specs.Prelude.{ℕ, ◌-◌, List, [], ◌∷◌, ◌++◌, map, cond, nat_le}
 
--- the lists obtained by subtracting a from one number that is at least a
+-- `lowered a α`: the lists obtained by subtracting a from one entry of α that is at least a, one list for each such place
 abbrev pub lowered : ℕ → List ℕ → List (List ℕ)
 lowered a [] = []
 lowered a (c ∷ α) =

@@ -1,13 +1,13 @@
--- Bounds of all coefficients of a polynomial at once: majorants (Cauchy), here sums of powers of x_1 + .. + x_n. The
--- coefficient of x^α in (x_1 + .. + x_n)^d is the multinomial d!/Π α_i! if α has the sum d, and 0 otherwise. Sums and
--- products of majorants are majorants of sums and products, so a bound is a list of the exponents of the powers: for a
--- sum the two lists are appended, for a product each exponent of the one is added to each of the other.
+-- Bounds of all coefficients of a polynomial at once: majorants (Cauchy), here sums of powers of x_1 + .. + x_n. The coefficient of x^α in (x_1 + ..
+-- + x_n)^d is the multinomial d!/Π α_i! if α has the sum d, and 0 otherwise. A sum of majorants is a majorant of the sum, and a product of majorants
+-- one of the product. A sum of powers is given by the list of their exponents: for the sum of two such majorants the lists are appended, for the
+-- product each exponent of one list is added to each exponent of the other.
 use Rattle.std.specs.Prelude.{ℕ, ◌≤◌, pos, nat_abs, ◌≤ℤ◌, List, length, replicate, flat_map}
 use Rattle.sym_model.specs.Sum.{Among}
 use Rattle.sym_model.specs.Polynomial.{Poly, coefficient}
 use Rattle.sym_model.specs.Bases.{power_sum}
 
--- the absolute value of each coefficient of f is at most the coefficient of the majorant at the same exponents
+-- F is a majorant of f: for all exponents α, the coefficient of x^α in f is at most that in F, in absolute value
 abbrev pub IsMajorant : Poly → Poly → Type 0
 IsMajorant majorant f = (α : List ℕ) → pos (nat_abs (coefficient f α)) ≤ℤ coefficient majorant α
 
@@ -15,11 +15,11 @@ IsMajorant majorant f = (α : List ℕ) → pos (nat_abs (coefficient f α)) ≤
 abbrev pub power : ℕ → ℕ → Poly
 power d n = power_sum (replicate d 1) n
 
--- the sum of (x_1 + .. + x_n)^d over the given exponents d
+-- the sum of (x_1 + .. + x_n)^d over the exponents d of a list
 abbrev pub powers : List ℕ → ℕ → Poly
 powers exponents n = flat_map (λ d. power d n) exponents
 
--- f has a majorant that is a sum of at most N powers of x_1 + .. + x_n, with exponents up to d
+-- f is bounded by N at the degree d: it has a majorant in n variables that is a sum of at most N powers of x_1 + .. + x_n, with exponents up to d
 pub record IsBounded (N d n : ℕ) (f : Poly) : Type 0 where
   pub exponents : List ℕ
   pub few : length exponents ≤ N

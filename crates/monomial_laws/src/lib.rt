@@ -4,8 +4,9 @@
 //!
 //! What is proved:
 //!
-//! `monomial_product_law`: products in the monomial basis, in every number of variables.
-//! `expression_bound_law`: the coefficients of an expression are bounded by its weight.
+//! `monomial_product_law`: the coefficients of m_λ·m_μ, and of products of sums of such functions,
+//! in the monomial basis. `expression_bound_law`: bounds for the coefficients of the value of an
+//! expression, by its weight.
 #![tactic(auto)]
 
 mod bounds;

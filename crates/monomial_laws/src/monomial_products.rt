@@ -1,4 +1,4 @@
-//! Products of monomial symmetric polynomials.
+//! Products of monomial symmetric polynomials, and their coefficients in the monomial basis.
 
 ghost use Rattle.std.specs.Prelude.{◌≡◌, ℕ, pos, List, [], ◌∷◌};
 ghost use Rattle.sym_model.specs.Polynomial.{Same, coefficient, times};
@@ -7,10 +7,10 @@ ghost use Rattle.sym_model.specs.Bases.{monomial};
 ghost use Rattle.sym_model.specs.WholeTerms.{WholeTerms, combined};
 ghost use Rattle.monomial_laws.specs.MonomialProduct.{arrangements, product_coefficient};
 
-/// In the product of two monomial symmetric polynomials, the coefficient of a partition ν is the
-/// number of ways to write ν as an arrangement of one label plus an arrangement of the other, in
-/// every number of variables; so two lists of terms are multiplied coefficient by coefficient, over
-/// all pairs of their labels.
+/// The coefficient of m_ν in m_λ·m_μ is the number of ways to write ν as an arrangement of λ plus
+/// an arrangement of μ, with zeros inserted. The coefficient of m_ν in the product of two lists of
+/// terms in m is the sum of c·d times this number over all pairs of a term c·m_λ of the first list
+/// and a term d·m_μ of the second. This holds in every number of variables.
 ///
 /// Examples: m_(1)·m_(1) = m_(2) + 2·m_(1,1), and m_(2,1)·m_(1) has m_(2,1,1) twice.
 pub fn monomial_product_law()

@@ -1,5 +1,5 @@
--- The first arrangement of a list of numbers in decreasing lexicographic order, and the next one.
-use Rattle.std.proofs.Common.{◌≡◌, ◌⊎◌, ℕ, zero, suc, ◌+◌, ◌-◌, ◌<◌, ◌≤◌, Bool, true, false, cond, eqb, List, [], ◌∷◌, ◌++◌, map, length, replicate, refl, sym, ap, ap₂, subst, ◌∙◌, inl, inr, arith, nat_le, reverse, take, drop, get_or, length-append, length-drop, length-take, append_assoc, filter, flat_map}
+-- The arrangements of a list of numbers, in decreasing lexicographic order: the first one, and the one that follows a given one.
+use Rattle.std.proofs.Common.{◌≡◌, ◌⊎◌, ℕ, zero, suc, ◌+◌, ◌-◌, ◌<◌, ◌≤◌, cond, eqb, List, [], ◌∷◌, ◌++◌, map, length, replicate, refl, sym, ap, ap₂, subst, ◌∙◌, inl, inr, arith, reverse, take, drop, get_or, length-append, length-drop, length-take, append_assoc, filter, flat_map}
 use Rattle.std.proofs.Math.Nat.{eq-or-lt_of_le}
 use Rattle.std.proofs.lemmas.List.{length-reverse, length-replicate, reverse-append, take-append-drop, get_or-take, get_or-append-add, take_more}
 use Rattle.std.proofs.lemmas.Bool.{cases_eq, eq-eqb, ne_eqb}
@@ -14,16 +14,16 @@ use Rattle.sym_model.specs.Schur.{times_in}
 use Rattle.sym_model.specs.Arrangement.{arrangements}
 use Rattle.sym_model.proofs.Exponents.{same_apart, same_from, same_or_not}
 use Rattle.sym_model.proofs.Monomials.{members_of-exponent_lists}
-use Rattle.sym_model.proofs.SortedParts.{IsPartition-sorted_parts, times_in-insert_part, times_in-sorted_parts, rows-sorted_parts, size-sorted_parts, partition_from_counts, sorted_parts-partition, sorted_parts-padded, Falls_tail, insert_part-injective}
+use Rattle.sym_model.proofs.SortedParts.{IsPartition-sorted_parts, times_in-insert_part, times_in-sorted_parts, rows-sorted_parts, size-sorted_parts, partition_from_counts, sorted_parts-partition, sorted_parts-padded, Falls_tail, insert_part-injective, length-insert_part}
 use Rattle.sym_model.proofs.Contents.{times_in-append}
 use Rattle.sym_model.proofs.Parts.{size-append, Falls-zeros, size-zeros}
 use Rattle.sym_model.proofs.Lists.{select-each, select-map, select-none, select-ext, each-ext}
 use Rattle.partitions.specs.Arranging.{beginning_with, beginning_below, arrangements_after, Rises}
 use Rattle.sym_model.specs.Bounded.{AreAtLeast}
 
--- ---- lists made for each of the numbers a, .., 1
+-- ---- lists f(c) joined for c = a, .., 1
 
--- if f(c) is empty for each c from b + 1 to a, the lists of f for a, .., 1 are those for b, .., 1
+-- if f(c) is empty for each c from b + 1 to a, joining the lists f(c) for c = a, .., 1 gives the same as joining them for c = b, .., 1
 each-skip :
     (f : ℕ → List (List ℕ)) (a b : ℕ) → b ≤ a → ((c : ℕ) → b < c → c ≤ a → f c ≡ [])
     → flat_map f (down_from a) ≡ flat_map f (down_from b)
@@ -43,7 +43,7 @@ each-none f (suc a) none =
 -- ---- lists that sort to the same partition
 
 -- inserting b into two lists σ and τ gives equal lists if and only if σ and τ are equal
-same-insert_part : (b : ℕ) (σ τ : List ℕ) → same (insert_part b σ) (insert_part b τ) ≡ same σ τ
+pub same-insert_part : (b : ℕ) (σ τ : List ℕ) → same (insert_part b σ) (insert_part b τ) ≡ same σ τ
 same-insert_part b σ τ = by (same_or_not σ τ)
   where
     by : (σ ≡ τ) ⊎ (σ ≡ τ → ⊥) → same (insert_part b σ) (insert_part b τ) ≡ same σ τ
@@ -70,20 +70,14 @@ absent c α n d p none =
     times_in-insert_part c c (sorted_parts β) p ∙ ap (λ b. cond b 1 0 + times_in c (sorted_parts β)) (eq-eqb c c refl) in
     omega (arith, ap (times_in c) e, times_in-sorted_parts c α p))))
 
--- if all numbers of α are positive, sorting keeps all of them, so none of the arrangements has a 0
+-- if all numbers of α are positive, `sorted_parts α` has the length of α
 ArePositive-rows : (α : List ℕ) → ArePositive α → length (sorted_parts α) ≡ length α
 ArePositive-rows [] p = refl
 ArePositive-rows (a ∷ α) p = one_more a (sorted_parts α) p.0 ∙ ap suc (ArePositive-rows α p.1)
   where
     one_more : (a : ℕ) (parts : List ℕ) → 0 < a → length (insert_part a parts) ≡ suc (length parts)
     one_more zero parts h = absurd (omega arith)
-    one_more (suc a) [] h = refl
-    one_more (suc a) (b ∷ parts) h = by (nat_le b (suc a)) (one_more (suc a) parts h)
-      where
-        by : (t : Bool) → length (insert_part (suc a) parts) ≡ suc (length parts)
-            → length (cond t (suc a ∷ b ∷ parts) (b ∷ insert_part (suc a) parts)) ≡ suc (suc (length parts))
-        by true e = refl
-        by false e = ap suc e
+    one_more (suc a) parts h = length-insert_part a parts
 
 no_zero : (α : List ℕ) (n d : ℕ) → ArePositive α → n < length α → beginning_with 0 (sorted_parts α) n d ≡ []
 no_zero α n d p h =
@@ -95,7 +89,7 @@ no_zero α n d p h =
     let places = (members_of-exponent_lists β n (d - 0) m).0 in
     omega (arith, ap length e, ArePositive-rows α p))))
 
--- ---- the first arrangement of a list
+-- ---- the first arrangement of the numbers of a list
 
 -- the lists of n numbers with the sum d that sort to `parts`
 abbrev pub sorting_to : List ℕ → ℕ → ℕ → List (List ℕ)
@@ -109,7 +103,7 @@ sorting_to-each parts n d =
     ∙ each-ext (λ a. filter test (map (λ α. a ∷ α) (exponent_lists n (d - a)))) (λ b. beginning_with b parts n d) (down_from d)
     (λ a. select-map test (λ α. a ∷ α) (exponent_lists n (d - a)))
 
--- if g is the first arrangement of its numbers, the arrangements of b ∷ g that begin with b start with b ∷ g
+-- if g is the first arrangement of its numbers, the arrangements of b ∷ g that begin with b are b ∷ g and then b ∷ α for the arrangements α after g
 beginning_with-head :
     (b : ℕ) (g : List ℕ) → sorting_to (sorted_parts g) (length g) (size g) ≡ g ∷ arrangements_after g
     → beginning_with b (sorted_parts (b ∷ g)) (length g) (b + size g) ≡ (b ∷ g) ∷ map (λ α. b ∷ α) (arrangements_after g)
@@ -130,7 +124,7 @@ head zero g first = ap (λ xs. xs ++ []) (beginning_with-head zero g first)
 head (suc b) g first =
     ap (λ xs. xs ++ beginning_below (suc b) (sorted_parts (suc b ∷ g)) (length g) (suc b + size g)) (beginning_with-head (suc b) g first)
 
--- no number of a weakly decreasing list is greater than the first
+-- a number c greater than the first number b of a weakly decreasing list does not occur in the list
 greater_absent : (c b : ℕ) (g : List ℕ) → Falls (b ∷ g) → b < c → times_in c (b ∷ g) ≡ 0
 greater_absent c b [] f h = ap (λ t. cond t 1 0 + 0) (ne_eqb b c (omega arith))
 greater_absent c b (d ∷ g) f h =
@@ -149,7 +143,7 @@ first_arrangement (b ∷ g) f =
     (λ c h l. absent c (b ∷ g) (length g) (b + size g) (omega arith) (greater_absent c b g f h))
     ∙ head b g (first_arrangement g (Falls_tail b g f))
 
--- ---- the arrangement after a given one
+-- ---- the arrangement that follows a given one
 
 Rises_tail : (a : ℕ) (s : List ℕ) → Rises (a ∷ s) → Rises s
 Rises_tail a [] r = tt
@@ -186,8 +180,8 @@ arrangements_after-rising (a ∷ s) r =
         each_number (suc c) h z =
             absent (suc c) (suc b ∷ s) (length s) (suc b + size s) (omega arith) (smaller_absent (suc c) (suc b) s r (omega arith))
 
--- if the numbers after the first are weakly increasing, the next arrangement begins with the greatest number b below the first one a, followed by all
--- numbers but this b in weakly decreasing order
+-- let s be weakly increasing, b the greatest number of a ∷ s that is below a, and g the other numbers of a ∷ s in weakly decreasing order: the
+-- arrangement that follows a ∷ s is b ∷ g
 pub arrangements_after-step :
     (a b : ℕ) (s g : List ℕ) → Rises s → Falls g → b < a → length s ≡ length g
     → ((k : ℕ) → times_in k (a ∷ s) ≡ times_in k (b ∷ g)) → ((c : ℕ) → b < c → c < a → times_in c (a ∷ s) ≡ 0)
@@ -206,7 +200,7 @@ arrangements_after-step (suc a) b s g r f h l counts between =
     ∙ ap₂ (λ n d. flat_map (λ c. beginning_with c (sorted_parts (b ∷ g)) n d) (down_from b)) l sum
     ∙ head b g (first_arrangement g f)
 
--- if `next` follows `now`, and both have the same numbers, `front ++ next` follows `front ++ now`
+-- if the arrangement `next` follows `now`, and both have the same numbers, the arrangement `front ++ next` follows `front ++ now`
 pub arrangements_after-append :
     (front now next : List ℕ) → arrangements_after now ≡ next ∷ arrangements_after next
     → sorted_parts now ≡ sorted_parts next → length now ≡ length next
@@ -282,8 +276,8 @@ Falls-reverse (a ∷ s) r =
     subst Falls (sym (reverse-cons a s))
     (Falls-push (reverse s) a (Falls-reverse s (Rises_tail a s r)) (AtLeast-reverse a s (AtLeast-rising a a s (omega arith) r)))
 
--- if s is weakly increasing and b is the first number of the reversed s that is smaller than a, the arrangement after `before`, a, s is `before`, b
--- and the reversed s with a in place of b
+-- if s is weakly increasing and b is the first number of the reversed s that is smaller than a, the arrangement that follows before ++ a ∷ s is
+-- before ++ b ∷ t, for t the reversed s with this b replaced by a
 pub next_arrangement :
     (before s front back : List ℕ) (a b : ℕ) → Rises s → reverse s ≡ front ++ b ∷ back → AreAtLeast a front → b < a
     → arrangements_after (before ++ a ∷ s)
@@ -304,7 +298,7 @@ next_arrangement before s front back a b r e m h =
     arrangements_after-append before (a ∷ s) (b ∷ (front ++ a ∷ back)) step
     (sorted-from_counts (a ∷ s) (b ∷ (front ++ a ∷ back)) (λ k p. counts k)) (ap suc places)
 
--- ---- the next arrangement by the places of the buffer
+-- ---- the next arrangement, stated by indices of the numbers in the buffer
 
 Rises-short : (xs : List ℕ) → length xs ≤ 1 → Rises xs
 Rises-short [] h = tt
@@ -360,7 +354,7 @@ swap_parts before front back a b i j e f =
     ∙ set-append_seam (before ++ b ∷ front) b back a
     ∙ append_assoc before (b ∷ front) (a ∷ back)
 
--- if the end of `old` from the index `behind` on is reversed, the last number is then the old number at `behind`
+-- if the numbers of `old` from the index `behind` on are reversed, the last number of the new list is the number of `old` at `behind`
 pub last-turned :
     (old : List ℕ) (behind : ℕ) → behind < length old
     → get_or (take behind old ++ reverse (drop behind old)) (length (take behind old ++ reverse (drop behind old)) - 1) 0
@@ -376,8 +370,9 @@ last-turned old behind h =
     ap (λ l. get_or l (length l - 1) 0) parts ∙ ap (λ n. get_or (rest ++ c ∷ []) n 0) long
     ∙ get_or-append_seam rest c [] 0
 
--- if the numbers of `old` from `behind` on are weakly increasing, `turned` is `old` with these numbers reversed, and `new` is `turned` with the
--- number before them exchanged with the first one after it that is smaller, at `low`, then `new` is the next arrangement after `old`
+-- let the numbers of `old` from the index `behind` on be weakly increasing, and let `turned` be `old` with these numbers reversed. Let `low` be the
+-- first index from `behind` on at which `turned` has a smaller number than at the index before `behind`. If `new` is `turned` with these two numbers
+-- exchanged, then `new` is the arrangement that follows `old`
 pub next_by_places :
     (old turned new : List ℕ) (behind low : ℕ) → 0 < behind → behind < length old
     → Rises (drop behind old) → turned ≡ take behind old ++ reverse (drop behind old)

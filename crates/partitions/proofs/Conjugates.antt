@@ -1,4 +1,4 @@
--- The columns of a partition, counted one after another.
+-- The lengths of the columns of a partition, computed one after another.
 use Rattle.std.proofs.Common.{◌≡◌, ℕ, ◌+◌, ◌≤◌, List, [], ◌∷◌, ◌++◌, map, sym, ap, ap₂, ◌∙◌, arith}
 use Rattle.std.proofs.lemmas.List.{map-append}
 use Rattle.sym_model.specs.Partition.{columns, after}

@@ -1,16 +1,9 @@
--- Lists of factors with one factor more.
+-- Lists of factors with one more factor appended.
 use Rattle.std.proofs.Common.{◌≡◌, ℕ, ◌+◌, ◌≤◌, ◌<◌, ◌⊎◌, inl, inr, List, [], ◌∷◌, ◌++◌, length, length-append, sym, subst, arith}
 use Rattle.sym_model.specs.Sum.{Among}
 use Rattle.sym_model.specs.Partition.{IsPartition, size, rows}
 use Rattle.partitions.specs.FactorList.{AreTooBig, HasSums, cells_of, rows_of}
-
-pub more_cells : (shapes : List (List ℕ)) (next : List ℕ) → cells_of (shapes ++ next ∷ []) ≡ cells_of shapes + size next
-more_cells [] next = omega arith
-more_cells (shape ∷ shapes) next = let h = more_cells shapes next in omega arith
-
-pub more_rows : (shapes : List (List ℕ)) (next : List ℕ) → rows_of (shapes ++ next ∷ []) ≡ rows_of shapes + rows next
-more_rows [] next = omega arith
-more_rows (shape ∷ shapes) next = let h = more_rows shapes next in omega arith
+use Rattle.sym_model.proofs.Parts.{size-map_push}
 
 more_partitions : (shapes : List (List ℕ)) (next : List ℕ)
     → ((parts : List ℕ) → Among parts shapes → IsPartition parts) → IsPartition next
@@ -21,11 +14,11 @@ more_partitions (shape ∷ shapes) next are is parts (inl e) = are parts (inl e)
 more_partitions (shape ∷ shapes) next are is parts (inr later) =
     more_partitions shapes next (λ p among. are p (inr among)) is parts later
 
-not_more : (a b : ℕ) → (b < a → ⊥) → a ≤ b
+pub not_more : (a b : ℕ) → (b < a → ⊥) → a ≤ b
 not_more a b h = omega (arith, h)
 
--- if fewer than 8 factors `shapes` have `cells` cells and `many` rows in all, and are not too big with the partition `next` appended, the factors with
--- `next` appended have cells + size next cells and many + rows next rows
+-- let fewer than 8 factors `shapes` have `cells` cells and `many` rows in all; if they are not too big (`AreTooBig`) with the partition `next`
+-- appended, they have, with `next`, cells + size next cells and many + rows next rows in all
 pub HasSums-grown : (shapes items : List (List ℕ)) (next : List ℕ) (cells many a b : ℕ) → HasSums shapes cells many → IsPartition next
     → length shapes < 8 → (AreTooBig (shapes ++ next ∷ []) → ⊥) → items ≡ shapes ++ next ∷ [] → a ≡ size next → b ≡ rows next
     → HasSums items (cells + a) (many + b)
@@ -39,19 +32,19 @@ HasSums-grown shapes items next cells many a b had is room small e cells_are row
       rows = not_more (rows_of (shapes ++ next ∷ [])) 512 (λ h. small (inr h));
     };
   };
-  cells_are = let e = more_cells shapes next in omega (arith, had.cells_are);
-  rows_are = let e = more_rows shapes next in omega (arith, had.rows_are);
+  cells_are = let e = size-map_push size shapes next in omega (arith, had.cells_are);
+  rows_are = let e = size-map_push rows shapes next in omega (arith, had.rows_are);
 })
 
--- if `shapes` have `cells` cells and `many` rows in all, they are too big with `next` appended if and only if cells + size next exceeds 4096 or
--- many + rows next exceeds 512
+-- if `shapes` have `cells` cells and `many` rows in all, they are too big (`AreTooBig`) with `next` appended if and only if cells + size next exceeds
+-- 4096 or many + rows next exceeds 512
 pub AreTooBig-grown : (shapes : List (List ℕ)) (next : List ℕ) (cells many a b : ℕ) → HasSums shapes cells many
     → a ≡ size next → b ≡ rows next
     → (AreTooBig (shapes ++ next ∷ []) → (4096 < cells + a) ⊎ (512 < many + b))
     × ((4096 < cells + a) ⊎ (512 < many + b) → AreTooBig (shapes ++ next ∷ []))
 AreTooBig-grown shapes next cells many a b had cells_are rows_are =
-    let c : cells_of (shapes ++ next ∷ []) ≡ cells + a = let e = more_cells shapes next in omega (arith, had.cells_are) in
-    let r : rows_of (shapes ++ next ∷ []) ≡ many + b = let e = more_rows shapes next in omega (arith, had.rows_are) in (
+    let c : cells_of (shapes ++ next ∷ []) ≡ cells + a = let e = size-map_push size shapes next in omega (arith, had.cells_are) in
+    let r : rows_of (shapes ++ next ∷ []) ≡ many + b = let e = size-map_push rows shapes next in omega (arith, had.rows_are) in (
       λ big. elim big [ inl h ↦ inl (omega arith) | inr h ↦ inr (omega arith) ],
       λ big. elim big [ inl h ↦ inl (omega arith) | inr h ↦ inr (omega arith) ],
     )

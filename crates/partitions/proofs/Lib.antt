@@ -6,4 +6,4 @@ pub mod Listings
 pub mod Order
 pub mod Steps
 pub mod Arrangings
-mod Growing
+pub mod Growing

@@ -1,4 +1,4 @@
--- The first partition of a list, and the next one.
+-- The first of the partitions of a number in decreasing lexicographic order, and the partition that follows a given one.
 use Rattle.std.proofs.Common.{◌≡◌, ℕ, zero, suc, ◌+◌, ◌-◌, ◌<◌, ◌≤◌, min, List, [], ◌∷◌, ◌++◌, map, length, sym, ◌∙◌, ap, ap₂, refl, arith, flat_map}
 use Rattle.std.proofs.Math.Nat.{min-le_right, le-min, min-eq_left}
 use Rattle.sym_model.specs.Partition.{ArePositive, size}
@@ -7,7 +7,7 @@ use Rattle.sym_model.proofs.PartitionLists.{partitions_within-rows}
 use Rattle.sym_model.proofs.Parts.{size-append}
 use Rattle.partitions.specs.Listing.{greatest_within, partitions_after, AreOnes}
 
--- ---- the greatest partition of d with parts up to `most`
+-- ---- the lexicographically greatest partition of d with parts up to `most`
 
 min-positive : (m d : ℕ) → 0 < m → 0 < min m (suc d)
 min-positive m d h = let one : 1 ≤ m = omega arith in let other : 1 ≤ suc d = omega arith in le-min one other
@@ -32,8 +32,8 @@ ArePositive-greatest_within (suc rows) (suc d) most p =
     let positive : 0 < min most (suc d) = min-positive most d (p (omega arith)) in
     (positive, ArePositive-greatest_within rows (suc d - min most (suc d)) (min most (suc d)) (λ _. positive))
 
--- if d > 0, the greatest partition of d with parts up to `most` and at most rows ≥ 1 parts begins with a = min(most, d), followed by that of d - a with
--- parts up to a and at most rows - 1 parts
+-- let d > 0, rows ≥ 1 and a = min(most, d): the greatest partition of d with parts up to `most` and at most `rows` parts is a, followed by the
+-- greatest partition of d - a with parts up to a and at most rows - 1 parts
 pub greatest_within-step :
     (d most rows : ℕ) → 0 < d → 0 < rows
     → greatest_within d most rows ≡ min most d ∷ greatest_within (d - min most d) (min most d) (rows - 1)
@@ -44,7 +44,7 @@ greatest_within-step (suc d) most (suc rows) h g =
     let e : suc rows - 1 ≡ rows = omega arith in
     ap (λ r. min most (suc d) ∷ greatest_within (suc d - min most (suc d)) (min most (suc d)) r) (sym e)
 
--- ---- the greatest partition is the first one
+-- ---- the lexicographically greatest partition is the first one of the list
 
 partitions_within-none : (rows d : ℕ) → 0 < d → partitions_within d 0 rows ≡ []
 unfolding partitions_within
@@ -57,7 +57,8 @@ partitions_within-none (suc rows) (suc d) h =
 same_size : (d e m n : ℕ) → d ≡ e → m ≡ n → partitions_within d m d ≡ partitions_within e n e
 same_size d e m n p q = ap₂ (λ x y. partitions_within x y x) p q
 
--- if the partitions of suc d with the first part a begin with a ∷ g, then the partitions with a first part up to a are a ∷ g and those after a ∷ g
+-- let 0 < a ≤ d + 1; if the first of the partitions of d + 1 - a with parts up to a is g, the first of the partitions of d + 1 with parts up to a is
+-- a ∷ g, and after it come `partitions_after (a ∷ g)`
 starts :
     (rows d a : ℕ) (g : List ℕ) → 0 < a → a ≤ suc d → d ≤ rows → size g ≡ suc d - a
     → partitions_within (suc d - a) a rows ≡ g ∷ partitions_after g
@@ -92,13 +93,13 @@ partitions_within-first (suc rows) (suc d) most h p =
     (size-greatest_within rows (suc d - min most (suc d)) (min most (suc d)) room (λ _. positive))
     (partitions_within-first rows (suc d - min most (suc d)) (min most (suc d)) room (λ _. positive))
 
--- ---- the partition after a given one
+-- ---- the partition that follows a given one
 
 pub size-AreOnes : (xs : List ℕ) → AreOnes xs → size xs ≡ length xs
 size-AreOnes [] o = refl
 size-AreOnes (a ∷ xs) o = omega (arith, o.0, size-AreOnes xs o.1)
 
--- if all parts are 1, no partition follows
+-- if all parts are 1, no partition follows in decreasing lexicographic order
 pub partitions_after-ones : (xs : List ℕ) → AreOnes xs → partitions_after xs ≡ []
 unfolding partitions_after
 partitions_after-ones [] o = refl
@@ -109,7 +110,7 @@ partitions_after-ones (a ∷ xs) o =
     ∙ partitions_within-none (a + size xs) (a + size xs) (omega (arith, o.0)) in
     ap₂ (λ xs ys. map (λ x. a ∷ x) xs ++ ys) (partitions_after-ones xs o.1) none
 
--- if a part a > 1 is followed only by parts 1, the next partition is the greatest one of this size with no part above a - 1
+-- if a part a > 1 is followed only by parts 1, the partition that follows a ∷ ones is the greatest one of this size with no part above a - 1
 pub partitions_after-part :
     (a rows : ℕ) (ones : List ℕ) → 1 < a → AreOnes ones → a + length ones ≤ rows
     → partitions_after (a ∷ ones)
@@ -126,7 +127,7 @@ pub ArePositive-append : (xs ys : List ℕ) → ArePositive xs → ArePositive y
 ArePositive-append [] ys p q = q
 ArePositive-append (x ∷ xs) ys p q = (p.0, ArePositive-append xs ys p.1 q)
 
--- if `next` follows `now`, of the same size, then `front ++ next` follows `front ++ now`
+-- if the partition `next` follows `now`, of the same size, then `front ++ next` follows `front ++ now`
 pub partitions_after-append :
     (front now next : List ℕ) → partitions_after now ≡ next ∷ partitions_after next → size now ≡ size next
     → partitions_after (front ++ now) ≡ (front ++ next) ∷ partitions_after (front ++ next)

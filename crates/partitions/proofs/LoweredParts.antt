@@ -17,7 +17,7 @@ length-lowered [] i = refl
 length-lowered (a ∷ xs) zero = refl
 length-lowered (a ∷ xs) (suc i) = ap suc (length-lowered xs i)
 
--- a list remains decreasing if a part followed by a smaller one is lowered by 1
+-- a weakly decreasing list remains weakly decreasing if a number greater than the next one is lowered by 1
 pub Falls-lowered : (xs : List ℕ) (i : ℕ) → Falls xs → get_or xs (suc i) 0 < get_or xs i 0 → Falls (lowered_at (suc i) xs)
 Falls-lowered [] i f h = tt
 Falls-lowered (a ∷ []) zero f h = tt
@@ -31,13 +31,14 @@ ArePositive-lowered [] i p h = tt
 ArePositive-lowered (a ∷ xs) zero p h = (omega arith, p.1)
 ArePositive-lowered (a ∷ xs) (suc i) p h = (p.0, ArePositive-lowered xs i p.1 h)
 
--- if all numbers of xs are positive and the one at i is more than 1, lowering it by 1 leaves no zero to remove
+-- if all numbers of xs are positive and the one at the index i is more than 1, then after it is lowered by 1 there is no zero at the end of xs
 pub lowered_kept :
     (xs : List ℕ) (i : ℕ) → ArePositive xs → 1 < get_or xs i 0
     → without_last_zeros (lowered_at (suc i) xs) ≡ lowered_at (suc i) xs
 lowered_kept xs i p h = without_last_zeros-positive (lowered_at (suc i) xs) (ArePositive-lowered xs i p h)
 
--- if all numbers of xs are positive, and the one at i is 1 and greater than the next (0 after the last), it is the last, and lowering it removes it
+-- if all numbers of xs are positive, and the one at the index i is 1 and greater than the next (0 after the last), it is the last one, and lowering
+-- it by 1 and removing the zeros at the end removes it
 pub lowered_dropped :
     (xs : List ℕ) (i : ℕ) → ArePositive xs → get_or xs (suc i) 0 < get_or xs i 0 → get_or xs i 0 ≡ 1
     → without_last_zeros (lowered_at (suc i) xs) ≡ take (length xs - 1) (lowered_at (suc i) xs)
@@ -57,7 +58,7 @@ lowered_dropped (a ∷ b ∷ xs) (suc i) p h e =
         ap (λ m. a ∷ take m (lowered_at (suc i) (b ∷ xs))) e
         ∙ ap (λ m. take m (a ∷ lowered_at (suc i) (b ∷ xs))) f
 
--- if a part that is greater than the next one is lowered by 1, the partition has one cell less
+-- if a part that is greater than the next one is lowered by 1, the partition has one cell less, and is still within the limits
 pub HasCells-lowered :
     (parts new : List ℕ) (i cells : ℕ) → HasCells parts cells → get_or parts (suc i) 0 < get_or parts i 0
     → new ≡ without_last_zeros (lowered_at (suc i) parts) → HasCells new (cells - 1)

@@ -4,6 +4,7 @@ use Rattle.std.proofs.lemmas.List.{take_more, get_or-take}
 use Rattle.sym_model.specs.Partition.{IsPartition, Falls, ArePositive, size, in_front, without_last_zeros}
 use Rattle.sym_model.proofs.Parts.{without_last_zeros-zero, size-append, in_front-more}
 use Rattle.partitions.specs.Limits.{RisesFirstAt}
+use Rattle.strip_laws.proofs.Strips.{falls_get}
 
 pub size-take_more : (xs : List ℕ) (i : ℕ) → i < length xs → size (take (i + 1) xs) ≡ size (take i xs) + get_or xs i 0
 size-take_more xs i h = ap size (take_more xs i 0 h) ∙ size-append (take i xs) (get_or xs i 0 ∷ []) ∙ omega arith
@@ -12,7 +13,7 @@ in_front-push : (a : ℕ) (xs : List ℕ) (b : ℕ) → in_front a (xs ++ b ∷ 
 in_front-push a [] b = in_front-more a b []
 in_front-push a (x ∷ xs) b = in_front-more a x (xs ++ b ∷ [])
 
--- a list whose last number is positive has no zeros to remove
+-- a list whose last number is positive has no zeros at its end to remove
 pub without_last_zeros-positive :
     (xs : List ℕ) (b : ℕ) → 0 < b → without_last_zeros (xs ++ b ∷ []) ≡ xs ++ b ∷ []
 without_last_zeros-positive [] zero h = absurd (omega arith)
@@ -20,7 +21,7 @@ without_last_zeros-positive [] (suc b) h = refl
 without_last_zeros-positive (x ∷ xs) b h =
     ap (in_front x) (without_last_zeros-positive xs b h) ∙ in_front-push x xs b
 
--- if the number at index n is 0, the first n and the first n + 1 numbers give the same list without zeros
+-- if the number of xs at index n is 0, the first n and the first n + 1 numbers of xs are the same list once the zeros at the end are removed
 pub cut-zero :
     (xs : List ℕ) (n : ℕ) → n < length xs → get_or xs n 0 ≡ 0
     → without_last_zeros (take n xs) ≡ without_last_zeros (take (n + 1) xs)
@@ -28,7 +29,7 @@ cut-zero xs n h z =
     sym (ap without_last_zeros (take_more xs n 0 h) ∙ ap (λ a. without_last_zeros (take n xs ++ a ∷ [])) z
     ∙ without_last_zeros-zero (take n xs))
 
--- if the number at index n is positive, the first n + 1 numbers have no zeros to remove
+-- if the number of xs at index n is positive, the list of the first n + 1 numbers of xs has no zeros at its end
 pub cut-positive :
     (xs : List ℕ) (n : ℕ) → n < length xs → 0 < get_or xs n 0
     → without_last_zeros (take (n + 1) xs) ≡ take (n + 1) xs
@@ -43,13 +44,6 @@ Falls-from [] h = tt
 Falls-from (a ∷ []) h = tt
 Falls-from (a ∷ b ∷ xs) h = (h 0 (omega arith), Falls-from (b ∷ xs) (λ k q. h (suc k) (omega arith)))
 
-pub Falls-at :
-    (xs : List ℕ) → Falls xs → (k : ℕ) → suc k < length xs → get_or xs (suc k) 0 ≤ get_or xs k 0
-Falls-at [] f k h = absurd (omega arith)
-Falls-at (a ∷ []) f k h = absurd (omega arith)
-Falls-at (a ∷ b ∷ xs) f zero h = f.0
-Falls-at (a ∷ b ∷ xs) f (suc k) h = Falls-at (b ∷ xs) f.1 k (omega arith)
-
 pub Falls-take :
     (xs : List ℕ) (n : ℕ) → n ≤ length xs
     → ((k : ℕ) → suc k < n → get_or xs (suc k) 0 ≤ get_or xs k 0) → Falls (take n xs)
@@ -60,15 +54,15 @@ Falls-take xs n m h =
     let here : k < n = omega arith in
     rw (get_or-take n xs (suc k) 0, get_or-take n xs k 0) (h k below))
 
--- in a weakly decreasing list no number is greater than the one before it
+-- in a weakly decreasing list, no number is greater than the one before it, so no place is the first such place (`RisesFirstAt`)
 pub Falls-rises : (xs : List ℕ) (at : ℕ) → Falls xs → RisesFirstAt xs at → ⊥
 Falls-rises xs zero f r = omega (arith, r.later)
 Falls-rises xs (suc k) f r =
     let e : suc k - 1 ≡ k = omega arith in
     let up : get_or xs k 0 < get_or xs (suc k) 0 = subst (λ i. get_or xs i 0 < get_or xs (suc k) 0) e r.rises in
-    omega (arith, Falls-at xs f k r.within)
+    omega (arith, falls_get xs f k)
 
--- two places a < b cannot both be the first place with an increase
+-- of two places a < b, at most one is the first at which a number is greater than the one before it
 rises-first :
     (xs : List ℕ) (a b : ℕ) → RisesFirstAt xs a → RisesFirstAt xs b → a < b → ⊥
 rises-first xs zero b r s h = omega (arith, r.later)
@@ -78,16 +72,17 @@ rises-first xs (suc k) b r s h =
     let m : b ≤ length xs = omega (arith, s.within) in
     let shorter : suc k < length (take b xs) = omega (arith, length-take {A = ℕ} b xs) in
     let here : k < b = omega arith in
-    let down = Falls-at (take b xs) s.before k shorter in
+    let down = falls_get (take b xs) s.before k in
     let plain : get_or xs (suc k) 0 ≤ get_or xs k 0 =
     rw (get_or-take b xs (suc k) 0, get_or-take b xs k 0) at down in
     omega arith
 
--- if a and b are both the first place with an increase, a is b
+-- if a and b are both the first place with a number greater than the one before it, a is b
 pub rises-same : (xs : List ℕ) (a b : ℕ) → RisesFirstAt xs a → RisesFirstAt xs b → a ≡ b
 rises-same xs a b r s = omega (arith, rises-first xs a b r s, rises-first xs b a s r)
 
--- if xs has only positive numbers when it is weakly decreasing, so has a ∷ xs, or [] if a = 0 and xs = []
+-- suppose that the numbers of xs are positive if xs is weakly decreasing; then the same holds for `in_front a xs` (a ∷ xs, or [] if a = 0 and xs =
+-- [])
 in_front-positive : (a : ℕ) (xs : List ℕ) → (Falls xs → ArePositive xs) → Falls (in_front a xs) → ArePositive (in_front a xs)
 in_front-positive zero [] p f = tt
 in_front-positive (suc a) [] p f = (omega arith, tt)

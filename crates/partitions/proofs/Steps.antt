@@ -1,4 +1,4 @@
--- The steps of the lister of partitions on its buffer.
+-- The changes that the lister of partitions makes to its buffer.
 use Rattle.std.proofs.Common.{◌≡◌, ◌≢◌, ℕ, suc, ◌+◌, ◌-◌, ◌<◌, ◌≤◌, min, List, [], ◌∷◌, ◌++◌, length, take, drop, get_or, sym, ◌∙◌, ap, ap₂, subst, arith}
 use Rattle.std.proofs.Math.ListN.{set}
 use Rattle.std.proofs.Math.Seq.{drop-cons, take-append_seam}
@@ -10,13 +10,13 @@ use Rattle.sym_model.proofs.Parts.{size-append}
 use Rattle.partitions.specs.Listing.{greatest_within, partitions_after, AreOnes, HoldsParts}
 use Rattle.partitions.proofs.Listings.{greatest_within-step, size-AreOnes, partitions_after-part, partitions_after-append, ArePositive-append, size-greatest_within, ArePositive-greatest_within, partitions_within-first}
 
--- writing n numbers into a buffer makes them its first n places
+-- if the n numbers xs are written over the first n numbers of ys, the first n numbers of the result are xs
 pub all_written : (n : ℕ) (xs ys : List ℕ) → length xs ≡ n → take n (xs ++ drop (length xs) ys) ≡ xs
 all_written n xs ys e =
     subst (λ k. take k (xs ++ drop (length xs) ys) ≡ xs) e (take-append_seam xs (drop (length xs) ys))
 
--- writing a = min(part, left) into the buffer, and after it the greatest partition of left - a, gives the same list as writing the greatest partition
--- of `left`
+-- the first `at` numbers of the buffer xs, then p = min(part, left), then the greatest partition of left - p with parts up to p, are the same list as
+-- the first `at` numbers, then the greatest partition of `left` with parts up to `part`
 pub fill-step :
     (xs : List ℕ) (at left part p : ℕ) → at < length xs → 0 < left → p ≡ min part left
     → take (at + 1) (set xs at p) ++ greatest_within (left - p) p (length (set xs at p) - (at + 1))
@@ -38,8 +38,8 @@ ArePositive-back : (xs ys : List ℕ) → ArePositive (xs ++ ys) → ArePositive
 ArePositive-back [] ys p = p
 ArePositive-back (x ∷ xs) ys p = ArePositive-back xs ys p.1
 
--- the first `rows` numbers of the buffer are above - 1 positive ones, the number at the index above - 1, which is more than 1, and then only numbers 1;
--- their sum is the length of the buffer
+-- the first `rows` numbers of the buffer are: above - 1 numbers, then the number at the index above - 1, which is more than 1, and then only numbers
+-- 1; all are positive, and their sum is the length of the buffer
 pub record Cuts (buffer : List ℕ) (rows above : ℕ) : Type 0 where
   pub parts :
       take rows buffer ≡ take (above - 1) buffer ++ get_or buffer (above - 1) 0 ∷ drop above (take rows buffer)
@@ -95,8 +95,8 @@ cuts buffer rows above h nonzero within ones other_part =
       room = omega arith;
     }
 
--- if the parts in the buffer satisfy `Cuts`, those before the index above - 1, followed by the greatest partition of the remaining sum with parts less
--- than that at above - 1, are the next partition
+-- if the parts in the buffer satisfy `Cuts`, the partition that follows consists of the parts before the index above - 1 and the greatest partition
+-- of the remaining sum with parts less than the one at this index
 pub next_is :
     (buffer : List ℕ) (rows above : ℕ) (next : List ℕ) → Cuts buffer rows above
     → next ≡ take (above - 1) buffer
@@ -145,7 +145,7 @@ next_holds buffer next rows above result h c l r e =
           ∙ omega (arith, c.sum, l, size-greatest_within room (p + (rows - above)) (p - 1) fits (λ _. omega (arith, c.part)));
     }
 
--- a buffer of d ≤ 512 places that is filled with the greatest partition of d holds the parts of a partition of d
+-- if the greatest partition of d ≤ 512, which has `rows` parts, is written into a buffer of d numbers, the buffer satisfies `HoldsParts`
 pub first_holds :
     (d : ℕ) (before after : List ℕ) (rows : ℕ) → d ≤ 512 → length before ≡ d → length after ≡ d → rows ≤ length after
     → take rows after ≡ take 0 before ++ greatest_within d d (length before - 0) → HoldsParts after rows

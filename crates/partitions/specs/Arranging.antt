@@ -1,4 +1,4 @@
--- The order of the arrangements of numbers in places: the arrangements after a given one.
+-- Arrangements of numbers in places, and those that follow a given one in decreasing lexicographic order.
 use Rattle.std.specs.Prelude.{ℕ, zero, suc, ◌+◌, ◌-◌, ◌≤◌, List, [], ◌∷◌, ◌++◌, map, length, filter}
 use Rattle.std.specs.Prelude.{flat_map}
 use Rattle.sym_model.specs.Polynomial.{same}
@@ -7,19 +7,19 @@ use Rattle.sym_model.specs.Bases.{down_from, exponent_lists}
 use Rattle.partitions.specs.declared.listing.Stage.{Stage}
 use Rattle.partitions.specs.declared.listing.Stage.TheVariants.{New, Listing, Ended}
 
--- the lists of b and n further numbers, with the sum d in all, that sort to the partition `parts`
+-- the lists that consist of b and n further numbers, have the sum d in all, and sort to the partition `parts`
 abbrev pub beginning_with : ℕ → List ℕ → ℕ → ℕ → List (List ℕ)
 beginning_with b parts n d =
     map (λ α. b ∷ α) (filter (λ α. same (insert_part b (sorted_parts α)) parts)
     (exponent_lists n (d - b)))
 
--- the lists of a number b < a and n further numbers, with the sum d in all, that sort to the partition `parts`
+-- the lists that consist of a number b < a and n further numbers, have the sum d in all, and sort to the partition `parts`, by decreasing b
 abbrev pub beginning_below : ℕ → List ℕ → ℕ → ℕ → List (List ℕ)
 beginning_below zero parts n d = []
 beginning_below (suc a) parts n d = flat_map (λ b. beginning_with b parts n d) (down_from a)
 
--- the arrangements of the same numbers after this one in decreasing lexicographic order: first those with the same
--- first number, then those with a smaller one
+-- the arrangements of the numbers of a list that come after the list itself in decreasing lexicographic order: first those with the same first
+-- number, then those with a smaller one
 unfoldable pub arrangements_after : List ℕ → List (List ℕ)
 arrangements_after [] = []
 arrangements_after (a ∷ α) =
@@ -32,7 +32,7 @@ Rises [] = Unit {0}
 Rises (a ∷ []) = Unit {0}
 Rises (a ∷ b ∷ numbers) = (a ≤ b) × Rises (b ∷ numbers)
 
--- the arrangements that are still to be listed, if these numbers are in the buffer
+-- the arrangements that a lister with these numbers in its buffer is still to list, for each stage of the lister
 abbrev pub arrangements_at : Stage → List ℕ → List (List ℕ)
 arrangements_at New numbers = numbers ∷ arrangements_after numbers
 arrangements_at Listing numbers = arrangements_after numbers

@@ -1,4 +1,4 @@
--- The lists of numbers that the type `Partition` holds, and those that it refuses.
+-- The lists of numbers that are values of the type `Partition`, and the lists for which it returns errors.
 use Rattle.std.specs.Prelude.{◌≡◌, ℕ, ◌-◌, ◌<◌, ◌≤◌, List, length, take, slice_index}
 use Rattle.sym_model.specs.Partition.{IsPartition, Falls, size, rows}
 
@@ -8,7 +8,7 @@ pub record IsWithinLimits (parts : List ℕ) : Type 0 where
   pub few : rows parts ≤ 512
   pub small : size parts ≤ 4096
 
--- a partition with at most 512 rows and at most 4096 cells, and the number of its cells
+-- `parts` is a partition with at most 512 rows and at most 4096 cells, and `cells` is the number of its cells
 pub record HasCells (parts : List ℕ) (cells : ℕ) : Type 0 where
   pub limits : IsWithinLimits parts
   pub cells_are : cells ≡ size parts

@@ -1,4 +1,5 @@
-//! The arrangements of the parts of a partition in places, one at a time.
+//! A lister of the arrangements of the parts of a partition, with zeros, in a given number of
+//! places.
 ghost use Rattle.std.specs.Prelude.{◌≡◌, ℕ, ◌+◌, ◌-◌, ◌<◌, ◌≤◌, ◌↔◌, [], ◌∷◌, ◌++◌, length, take};
 ghost use Rattle.std.specs.Prelude.{drop, reverse, slice_index, IfOk, None, IsTrue};
 ghost use Rattle.std.specs.Bool.{OnTrue, OnFalse};
@@ -13,8 +14,8 @@ use calc_base::{Lister, NoMemory};
 use std::alloc::Global;
 use std::marker::Model;
 
-/// The distinct arrangements of the parts of a partition, and of zeros, in a number of places: in
-/// decreasing lexicographic order, each once. A `Lister` that uses one buffer.
+/// The distinct arrangements of the parts of a partition, with zeros added, in a given number of
+/// places: in decreasing lexicographic order, each once. A `Lister` that uses one buffer.
 #[derive(Drop)]
 pub struct Arrangements {
     numbers: Vec<u16>,
@@ -33,8 +34,8 @@ impl Model for Arrangements {
 }
 
 impl Arrangements {
-    /// A lister of the arrangements of the parts of `shape` in `places` places, without a current
-    /// one. There are at least as many places as parts, and at most 512.
+    /// A lister of the arrangements of the parts of `shape` in `places` places. It has no current
+    /// item yet. There are at least as many places as parts, and at most 512.
     pub fn new(alloc: Global, shape: &Partition, places: u16) -> Result<Arrangements, NoMemory>
         requires rows { rows shape.now ≤ places }
         requires few { places ≤ 512 }
@@ -79,7 +80,8 @@ impl Lister for Arrangements {
     }
 }
 
-/// Replaces this arrangement by the next one; returns false if this was the last one.
+/// Replaces the arrangement `numbers` by the next one in decreasing lexicographic order; returns
+/// false if it was the last one.
 fn next_in_place(numbers: &mut [u16]) -> bool
     ensures next { OnTrue result (arrangements_after numbers.old
         ≡ numbers.new ∷ arrangements_after numbers.new) }
@@ -97,7 +99,7 @@ fn next_in_place(numbers: &mut [u16]) -> bool
     true
 }
 
-/// The place at which the longest weakly increasing suffix begins.
+/// The place, counted from 0, at which the longest weakly increasing suffix begins.
 fn rising_end(numbers: &[u16]) -> usize
     ensures rises { Rises (drop result numbers.now) }
     ensures within { 0 < result → result < length numbers.now }
@@ -119,8 +121,8 @@ fn reverse_from(numbers: &mut [u16], start: usize)
     numbers[start..].reverse();
 }
 
-/// The first place from `start` on with a number below `bound`. The last number must be below
-/// `bound`.
+/// The first place, from `start` on, whose number is below `bound`. The last of all numbers must be
+/// below `bound`.
 fn first_below(numbers: &[u16], start: usize, bound: u16) -> usize
     requires within { start < length numbers.now }
     requires last { slice_index numbers.now (length numbers.now - 1) < bound }

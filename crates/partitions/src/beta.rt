@@ -30,7 +30,7 @@ impl Beta {
         Beta { entries }
     }
 
-    /// The entries.
+    /// The entries of the beta list.
     pub fn as_slice(&self) -> &[u16]
         ensures { result.now ≡ self.now }
     {
@@ -57,7 +57,7 @@ pub(crate) fn lengthened(
     Ok(entries)
 }
 
-/// Each entry minus the number of entries after it.
+/// The list in which each entry is replaced by the entry minus the number of entries after it.
 pub(crate) fn less_the_later(
     alloc: Global,
     entries: &[u16],

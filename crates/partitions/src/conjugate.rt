@@ -1,4 +1,4 @@
-//! The columns of a partition.
+//! The lengths of the columns of a partition.
 ghost use Rattle.std.specs.Prelude.{◌≡◌, ◌≤◌, length, IfOk, IsOk};
 ghost use Rattle.sym_model.specs.Conjugate.{conjugate, count_from};
 ghost use Rattle.sym_model.specs.Partition.{Falls, columns};
@@ -24,8 +24,8 @@ pub(crate) fn column_lengths(alloc: Global, parts: &[u16]) -> Result<SmallVec<u1
     Ok(lengths)
 }
 
-/// The number of weakly decreasing parts that are at least `least`; all of these are among the
-/// first `most`.
+/// The number of parts, in a weakly decreasing list, that are at least `least`. This number must be
+/// at most `most`.
 fn rows_reaching(parts: &[u16], most: usize, least: u16) -> usize
     requires falls { Falls parts.now }
     requires within { most ≤ length parts.now }

@@ -1,4 +1,4 @@
-//! Corners of a partition.
+//! Removal of the last cell of a row of a partition.
 ghost use Rattle.std.specs.Prelude.{◌≡◌, ◌+◌, ◌<◌, length, slice_index};
 ghost use Rattle.sym_model.specs.Partition.{IsPartition, without_last_zeros};
 ghost use Rattle.sym_model.specs.Slide.{lowered_at};
@@ -6,8 +6,8 @@ ghost use Rattle.smallvec.specs.SmallVec.{small_vec_len};
 
 use smallvec::SmallVec;
 
-/// Lowers the part at `place`, counted from 0, by 1, and removes it if it is then 0. The next part
-/// must be smaller.
+/// Lowers the part at `place`, counted from 0, by 1, and removes it if it is then 0. The part after
+/// it must be smaller (0 after the last part).
 pub(crate) fn lower_last(parts: &mut SmallVec<u16, 16>, place: usize)
     requires partition { IsPartition parts.old.items }
     requires corner { slice_index parts.old.items (place + 1) < slice_index parts.old.items place }

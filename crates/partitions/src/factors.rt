@@ -8,7 +8,8 @@ use calc_base::NoMemory;
 use std::alloc::Global;
 use std::marker::Model;
 
-/// The greatest number of factors, and of cells and rows of all factors together.
+/// The greatest number of factors; `MAX_CELLS` and `MAX_ROWS` bound the numbers of cells and of
+/// rows of all factors together.
 const MAX_FACTORS: usize = 8;
 
 const MAX_CELLS: u16 = 4096;
@@ -20,9 +21,9 @@ const MAX_ROWS: u16 = 512;
 #[derive(Debug, Drop)]
 pub struct Factors {
     factors: Vec<Partition>,
-    /// The cells of all factors together.
+    /// The number of cells of all factors together.
     cells: u16,
-    /// The rows of all factors together.
+    /// The number of rows of all factors together.
     rows: u16,
 }
 
@@ -38,7 +39,7 @@ impl Model for Factors {
 }
 
 impl Factors {
-    /// The list of these two factors.
+    /// The list of the two factors `left` and `right`.
     ///
     /// Returns `TooBig` if and only if they have more than 4,096 cells or more than 512 rows
     /// together.
@@ -62,11 +63,11 @@ impl Factors {
         })
     }
 
-    /// Appends one more factor.
+    /// Appends the factor `next`.
     ///
-    /// Returns `TooMany` if and only if there are eight factors, otherwise `TooBig` if and only if
-    /// the factors would have more than 4,096 cells or more than 512 rows in all. On an error the
-    /// factors are unchanged.
+    /// Returns `TooMany` if and only if there are already eight factors, otherwise `TooBig` if and
+    /// only if the factors with `next` would have more than 4,096 cells or more than 512 rows in
+    /// all. On an error the factors are unchanged.
     pub fn push(&mut self, next: Partition) -> Result<(), FactorsFault>
         ensures ok { OnOk result (self.new ≡ self.old ++ next ∷ []) }
         ensures kept { OnErr result (self.new ≡ self.old) }
@@ -84,15 +85,16 @@ impl Factors {
         Ok(())
     }
 
-    /// Whether the factors would have too many cells or rows with this one appended.
+    /// Whether the factors with `next` appended would have more than 4,096 cells or 512 rows in
+    /// all.
     fn is_too_big_with(&self, next: &Partition) -> bool
         ensures { IsTrue result ↔ AreTooBig (self.now ++ next.now ∷ []) }
     {
         is_too_big(self.cells + next.size(), self.rows + next.rows())
     }
 
-    /// Appends a factor; the caller guarantees that there are fewer than 8 and that the sums stay
-    /// within the limits.
+    /// Appends the factor `next`; the caller guarantees that there are fewer than 8 factors so far,
+    /// and that with `next` they have at most 4,096 cells and 512 rows in all.
     fn grow(&mut self, next: Partition) -> Result<(), NoMemory>
         requires room { length self.old < 8 }
         requires small { AreTooBig (self.old ++ next ∷ []) → ⊥ }
@@ -107,7 +109,7 @@ impl Factors {
         Ok(())
     }
 
-    /// The number of factors. It allocates no memory.
+    /// The number of factors. This function allocates no memory.
     pub fn len(&self) -> usize
         ensures value { result ≡ length self.now }
         ensures limits { AreFactors self.now }
@@ -116,7 +118,7 @@ impl Factors {
     }
 
     /// The factor at the place `i`, counted from 0; None if and only if there are at most `i`
-    /// factors. It allocates no memory.
+    /// factors. This function allocates no memory.
     pub fn get(&self, i: usize) -> Option<&Partition>
         ensures value { MatchOption result (length self.now ≤ i)
             (λ factor. slice_get self.now i ≡ Some factor.now) }
@@ -125,7 +127,7 @@ impl Factors {
         self.factors.get(i)
     }
 
-    /// The rows of all factors together. It allocates no memory.
+    /// The number of rows of all factors together. This function allocates no memory.
     pub fn rows(&self) -> u16
         ensures value { result ≡ rows_of self.now }
         ensures limits { AreFactors self.now }
@@ -149,7 +151,7 @@ impl Factors {
     }
 }
 
-/// Whether there are more cells or more rows than all factors may have.
+/// Whether `cells` exceeds 4,096 or `rows` exceeds 512, the limits for all factors together.
 fn is_too_big(cells: u16, rows: u16) -> bool
     ensures { IsTrue result ↔ ((4096 < cells) ⊎ (512 < rows)) }
 {

@@ -6,13 +6,13 @@ use calc_base::NoMemory;
 use std::alloc::{AllocError, AllocFailed};
 use thiserror::Error;
 
-/// The reasons for which a list of factors is not made, or takes no further factor.
+/// The reasons for which a list of factors cannot be formed, or no factor can be appended to it.
 #[derive(Clone, Copy, Debug, PartialEq, Eq, Hash, Error)]
 pub enum FactorsFault {
     /// There would be more than 8 factors.
     #[error("more than 8 factors")]
     TooMany,
-    /// The factors would have more than 4,096 cells or 512 rows together.
+    /// The factors would have more than 4,096 cells or more than 512 rows together.
     #[error("more than 4096 cells or 512 rows in all")]
     TooBig,
     /// Memory could not be allocated.

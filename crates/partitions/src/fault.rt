@@ -6,7 +6,8 @@ use calc_base::NoMemory;
 use std::alloc::AllocError;
 use thiserror::Error;
 
-/// The reasons for which a list of numbers is not a partition within the limits.
+/// The reasons for which a list of numbers is not a partition with at most 512 rows and 4,096
+/// cells.
 #[derive(Clone, Copy, Debug, PartialEq, Eq, Hash, Error)]
 pub enum PartFault {
     /// There are more than 512 parts.

@@ -1,4 +1,4 @@
-//! The partitions of a number, one at a time.
+//! A lister of the partitions of a number.
 ghost use Rattle.std.specs.Prelude.{◌≡◌, ◌+◌, ◌-◌, ◌<◌, ◌≤◌, ◌≢◌, [], ◌∷◌, ◌++◌, length, take};
 ghost use Rattle.std.specs.Prelude.{drop, slice_index, IfOk, IfSome, MatchOption, None};
 ghost use Rattle.sym_model.specs.PartitionList.{partitions_of};
@@ -8,7 +8,8 @@ use calc_base::{Lister, NoMemory};
 use std::alloc::Global;
 use std::marker::Model;
 
-/// Whether the parts in the buffer are still to come, are the current item, or were the last one.
+/// The stage of a lister: the parts in its buffer are its first item, still to be given (`New`),
+/// the current item (`Listing`), or the last item, already given (`Ended`).
 #[derive(Clone, Copy)]
 pub(crate) enum Stage {
     New,
@@ -16,13 +17,14 @@ pub(crate) enum Stage {
     Ended,
 }
 
-/// The partitions of a number in decreasing lexicographic order, each once: a `Lister` that uses
+/// A lister of the partitions of a number, each once, in decreasing lexicographic order. It uses
 /// one buffer.
 #[derive(Drop)]
 pub struct PartitionsOf {
-    /// One place for each row that a partition of the number can have.
+    /// A list of d numbers, for the lister of the partitions of d. It begins with the parts of the
+    /// current partition; a partition of d has at most d parts.
     buffer: Vec<u16>,
-    /// The number of places that the parts take.
+    /// The number of parts of the current partition.
     rows: usize,
     stage: Stage,
 }
@@ -44,7 +46,7 @@ impl Model for PartitionsOf {
 }
 
 impl PartitionsOf {
-    /// A lister of the partitions of `d`, without a current one. `d` is at most 512.
+    /// A lister of the partitions of `d`. It has no current item yet. `d` is at most 512.
     pub fn new(alloc: Global, d: u16) -> Result<PartitionsOf, NoMemory>
         requires { d ≤ 512 }
         ensures rest { IfOk result (λ l. ⟦<PartitionsOf as Lister>⟧.rest l ≡ partitions_of d) }
@@ -90,8 +92,9 @@ impl Lister for PartitionsOf {
     }
 }
 
-/// Replaces the partition in the first `rows` places by the next one, and returns its number of
-/// rows; None if that was the last one.
+/// Replaces the partition in the first `rows` places of the buffer by the next one in decreasing
+/// lexicographic order, and returns the number of rows of the new partition. If there is no next
+/// one, returns None, and the buffer is unchanged.
 fn next_in_place(buffer: &mut [u16], rows: usize) -> Option<usize>
     requires { HoldsParts buffer.old rows }
     ensures next { MatchOption result
@@ -109,7 +112,7 @@ fn next_in_place(buffer: &mut [u16], rows: usize) -> Option<usize>
     Some(fill(buffer, above - 1, part - 1, part + ones))
 }
 
-/// The number of parts before the parts 1 at the end.
+/// The number of parts before the parts equal to 1 at the end of the list.
 fn rows_above_one(parts: &[u16]) -> usize
     ensures within { result ≤ length parts.now }
     ensures ones { AreOnes (drop result parts.now) }
@@ -122,8 +125,8 @@ fn rows_above_one(parts: &[u16]) -> usize
     rows
 }
 
-/// Writes the lexicographically greatest partition of `left` with no part above `most` from the
-/// place `start` on, and returns the place after it.
+/// Writes into the buffer, from the place `start` on, the lexicographically greatest partition of
+/// `left` whose parts are at most `most`. Returns the place after its last part.
 fn fill(buffer: &mut [u16], start: usize, most: u16, left: u16) -> usize
     requires room { start + left ≤ length buffer.old }
     requires most { 0 < left → 0 < most }

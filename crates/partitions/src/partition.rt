@@ -27,7 +27,7 @@ use std::cmp::Ordering;
 use std::hash::{Hash, Hasher};
 use std::marker::Model;
 
-/// The greatest numbers of rows and of cells of a partition.
+/// The greatest number of rows of a partition; `MAX_CELLS` is the greatest number of cells.
 const MAX_ROWS: usize = 512;
 
 const MAX_CELLS: u32 = 4096;
@@ -53,7 +53,7 @@ impl Model for Partition {
 }
 
 impl Partition {
-    /// The partition with these parts, without the zeros at the end.
+    /// The partition obtained from the list `parts` by removing the zeros at its end.
     ///
     /// Returns `TooMany` if more than 512 numbers are left, otherwise `Rising` at the first place,
     /// counted from 0, with a number greater than the one before it, otherwise `TooBig` if their
@@ -87,8 +87,8 @@ impl Partition {
         Ok(with_cells(alloc, parts, cells as u16)?)
     }
 
-    /// The partition with these parts, which the caller guarantees to be a partition within the
-    /// limits. Up to 16 parts allocate no memory.
+    /// The partition with these parts. The caller guarantees that they are a partition with at most
+    /// 512 rows and 4,096 cells. Up to 16 parts allocate no memory.
     pub fn from_valid_parts(alloc: Global, parts: &[u16]) -> Result<Partition, NoMemory>
         requires { IsWithinLimits parts.now }
         ensures ok { IfOk result (λ p. p ≡ parts.now) }
@@ -97,8 +97,9 @@ impl Partition {
         with_cells(alloc, parts, sum_of(parts) as u16)
     }
 
-    /// The partition with these numbers without the zeros at the end, which the caller guarantees
-    /// to be a partition within the limits. Up to 16 parts allocate no memory.
+    /// The partition obtained from the list `numbers` by removing the zeros at its end. The caller
+    /// guarantees that this is a partition with at most 512 rows and 4,096 cells. Up to 16 parts
+    /// allocate no memory.
     pub fn from_valid_numbers(alloc: Global, numbers: &[u16]) -> Result<Partition, NoMemory>
         requires { IsWithinLimits (without_last_zeros numbers.now) }
         ensures ok { IfOk result (λ p. p ≡ without_last_zeros numbers.now) }
@@ -143,8 +144,8 @@ impl Partition {
         }
     }
 
-    /// Whether the shape of `inner` lies inside this one:
-    /// no part of `inner` is greater than the part of the same row.
+    /// Whether the shape of `inner` lies inside the shape of this partition: no part of `inner` is
+    /// greater than the part of this partition in the same row.
     pub fn contains(&self, inner: &Partition) -> bool
         ensures { IsTrue result ↔ Holds self.now inner.now }
     {
@@ -213,8 +214,8 @@ impl Partition {
         Ok(Beta::new(lengthened(*self.parts.allocator(), self.parts(), k)?))
     }
 
-    /// The partition whose beta list, of the length of `b`, is `b`, a strictly decreasing list of
-    /// at most 512 numbers. The partition must be within the limits.
+    /// The partition whose beta list of length k is `b`, a strictly decreasing list of k numbers, k
+    /// at most 512. The partition must have at most 512 rows and 4,096 cells.
     pub fn from_beta(alloc: Global, b: &[u16]) -> Result<Partition, NoMemory>
         requires few { length b.now ≤ 512 }
         requires limits { IsWithinLimits (from_beta b.now) }
@@ -263,7 +264,7 @@ fn with_cells(alloc: Global, parts: &[u16], cells: u16) -> Result<Partition, NoM
     })
 }
 
-/// The numbers without the zeros at their end.
+/// The list of numbers without the zeros at its end.
 fn numbers_before_zeros(numbers: &[u16]) -> &[u16]
     ensures { result.now ≡ without_last_zeros numbers.now }
 {
@@ -274,7 +275,7 @@ fn numbers_before_zeros(numbers: &[u16]) -> &[u16]
     &numbers[..len]
 }
 
-/// The first place with a number greater than the one before it.
+/// The first place, counted from 0, with a number greater than the one before it, if there is one.
 fn first_rise(numbers: &[u16]) -> Option<usize>
     ensures { MatchOption result (Falls numbers.now) (RisesFirstAt numbers.now) }
 {

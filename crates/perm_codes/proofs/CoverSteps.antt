@@ -1,7 +1,8 @@
--- Covers found one place after the other, in a list of letters with fixed ones added.
+-- The covers of a permutation that exchange a given letter, found by trying one place after another for the other letter; fixed letters are added to
+-- the list of letters of the permutation.
 use Rattle.std.proofs.Common.{◌≡◌, ℕ, zero, suc, ◌+◌, ◌-◌, ◌<◌, ◌≤◌, ◌==◌, max, Bool, true, false, cond, List, [], ◌∷◌, ◌++◌, map, length, refl, sym, ap, ap₂, ◌∙◌, arith, add-one, filter}
 use Rattle.std.specs.List.{swap}
-use Rattle.std.proofs.lemmas.List.{append-nil}
+use Rattle.std.proofs.lemmas.List.{append-nil, map_push}
 use Rattle.sym_model.specs.Partition.{after}
 use Rattle.sym_model.specs.PlaceOrders.{inversions}
 use Rattle.sym_model.specs.Permutation.{kept, with_fixed, times_swap, covers_among, covers_up, covers_down}
@@ -11,18 +12,7 @@ use Rattle.schubert_laws.proofs.MonkFromOne.{swap_is}
 use Rattle.schubert_laws.proofs.TransitionFromOne.{times_swap_kept, covers_down_kept, kept_swap}
 use Rattle.perm_codes.specs.Limits.{IsShortPermutation, IsWithinLimits}
 use Rattle.perm_codes.proofs.WithinLimits.{kept_fixed, length-with_fixed, short_fixed, short_swap}
-
-select-append : {A : Type 0} (test : A → Bool) (xs : List A) (x : A) → filter test (xs ++ x ∷ []) ≡ filter test xs ++ cond (test x) (x ∷ []) []
-select-append test [] x = refl
-select-append {A} test (y ∷ xs) x = by (test y) (filter test (xs ++ x ∷ [])) (filter test xs) (cond (test x) (x ∷ []) []) (select-append test xs x)
-  where
-    by : (t : Bool) (u v w : List A) → u ≡ v ++ w → cond t (y ∷ u) u ≡ cond t (y ∷ v) v ++ w
-    by true u v w e = ap (λ z. y ∷ z) e
-    by false u v w e = e
-
-map-push : {A B : Type 0} (f : A → B) (xs : List A) (x : A) → map f (xs ++ x ∷ []) ≡ map f xs ++ f x ∷ []
-map-push f [] x = refl
-map-push f (y ∷ xs) x = ap (λ z. f y ∷ z) (map-push f xs x)
+use Rattle.std.proofs.lemmas.List.Elements.{filter-append}
 
 -- if a < b are indices of w, `times_swap (a + 1) (b + 1) w` is w with the letters at a and b exchanged, without the
 -- fixed letters at its end
@@ -30,18 +20,19 @@ pub swap_in : (w : List ℕ) (a b : ℕ) → a < b → b < length w → times_sw
 swap_in w a b h l =
     ap₂ (λ i j. times_swap i j w) (add-one a) (add-one b) ∙ kept_swap w a b h l ∙ ap kept (sym (swap_is w a b (omega arith) l))
 
--- the covers of w among f(start + 1), .., f(start + n + 1) are those among the first n, and the last one if it has one inversion more than w
+-- the covers of w among f(start + 1), .., f(start + n + 1) are those among the first n of these, and then the last one if it has one inversion more
+-- than w
 pub one_more_place :
     (w : List ℕ) (f : ℕ → List ℕ) (start n : ℕ) (t : Bool) → (inversions (f (start + n + 1)) == inversions w + 1) ≡ t
     → covers_among w (map f (after start (n + 1))) ≡ covers_among w (map f (after start n)) ++ cond t (f (start + n + 1) ∷ []) []
 one_more_place w f start n t e =
     ap (λ l. covers_among w (map f l)) (after-more start n)
-    ∙ ap (covers_among w) (map-push f (after start n) (start + n + 1))
-    ∙ select-append (λ (v : List ℕ). inversions v == inversions w + 1) (map f (after start n)) (f (start + n + 1))
+    ∙ ap (covers_among w) (map_push f (after start n) (start + n + 1))
+    ∙ filter-append (λ (v : List ℕ). inversions v == inversions w + 1) (map f (after start n)) ((f (start + n + 1)) ∷ [])
     ∙ ap (λ s. covers_among w (map f (after start n)) ++ cond s (f (start + n + 1) ∷ []) []) e
 
--- for a permutation w of at most 255 letters, exchanging the places a + 1 and b + 1 gives a cover if and only if the list with these letters exchanged
--- has one inversion more than w
+-- for a permutation w of at most 255 letters and indices a < b, w·t_ij with i = a + 1 and j = b + 1 has one inversion more than w if and only if w
+-- with the letters at a and b exchanged has one more
 pub test_in :
     (w : List ℕ) (a b : ℕ) → a < b → b < length w → IsShortPermutation w
     → (inversions (times_swap (a + 1) (b + 1) w) == inversions w + 1) ≡ (inversions (swap w a b) == inversions w + 1)
@@ -74,9 +65,9 @@ pub covers_down_fixed : (w : List ℕ) (r n : ℕ) → n ≤ 255 → IsWithinLim
 covers_down_fixed w r n h l =
     sym (covers_down_kept r (with_fixed n w) (short_fixed n w h l).one_line) ∙ ap (covers_down r) (kept_fixed n w l)
 
--- ---- covers with one more place tried
+-- ---- the covers of w found so far, and after one more place is tried
 
--- the covers of w that exchange the letter at place p, counted from 0, with a later one of the first q letters
+-- the covers of w that exchange the letter at the index p, counted from 0, with a letter after it among the first q letters
 abbrev pub found_up_to : List ℕ → ℕ → ℕ → List (List ℕ)
 found_up_to w p q = covers_among w (map (λ j. times_swap (p + 1) j w) (after (p + 1) (q - (p + 1))))
 
@@ -104,7 +95,7 @@ pub passed_above :
     → (inversions (swap w p q) == inversions w + 1) ≡ false → list ≡ found_up_to w p q → list ≡ found_up_to w p (q + 1)
 passed_above w p q list h l s t e = e ∙ sym (append-nil (found_up_to w p q)) ∙ sym (step_above w p q false h l s t)
 
--- the covers of w that exchange the letter at place p, counted from 0, with one of the first q letters
+-- the covers of w that exchange the letter at the index p, counted from 0, with one of the first q letters
 abbrev pub found_below_to : List ℕ → ℕ → ℕ → List (List ℕ)
 found_below_to w p q = covers_among w (map (λ i. times_swap i (p + 1) w) (after 0 q))
 

@@ -17,19 +17,15 @@ use Rattle.sym_model.proofs.Orders.{nat_cmp-equal, then-equal}
 use Rattle.sym_model.proofs.Sums.{Among-append_right, length_within}
 use Rattle.sym_model.proofs.AfterLists.{length_after, among_after}
 use Rattle.perm_codes.specs.Limits.{IsWithinLimits}
+use Rattle.schubert_laws.proofs.FixedTails.{once_apart}
 
--- ---- a list that is a prefix of another one
-
-apart : (p u : List ℕ) (x : ℕ) → Once (p ++ u) → Among x u → Among x p → ⊥
-apart [] u x o m n = n
-apart (a ∷ p) u x o m (inl e) = o.0 (Among-append_right a p u (subst (λ y. Among y u) e m))
-apart (a ∷ p) u x o m (inr n) = apart p u x o.1 m n
+-- ---- the order of two lists, one of which is a prefix of the other
 
 pub above : (p u : List ℕ) → IsOneLine p → IsOneLine (p ++ u) → (x : ℕ) → Among x u → length p < x
 above p u o w x m = elim (cases_lt (length p) x) [
   | inl h ↦ h
   | inr h ↦
-      let more = length_within (places (length p)) (x ∷ p) (apart p u x w.once m, o.once) (within h) in
+      let more = length_within (places (length p)) (x ∷ p) ((λ n. once_apart p u x w.once n m), o.once) (within h) in
       let all = length_after 0 (length p) in
       absurd (omega arith)
 ]
@@ -59,7 +55,7 @@ beyond i b u e a o x m =
     let d : x ≡ b → ⊥ = λ q. o (subst (λ y. Among y u) q m) in
     omega arith
 
--- if the letters u are at the places from i + 1 on, either u comes after the fixed letters i + 1, i + 2, .. in the
+-- let u be the letters of a permutation at the places from i + 1 on: either u comes after the fixed letters i + 1, i + 2, .. in the lexicographic
 -- order, or all letters of u are fixed
 abbrev IsLater : ℕ → List ℕ → Type 0
 IsLater i u = ((rising_letters i [] u ≡ Less) × (rising_letters i u [] ≡ Greater)) ⊎ (without_fixed_from (i + 1) u ≡ [])
@@ -83,7 +79,7 @@ later i (b ∷ u) a o = elim (cases_eq b (i + 1)) [
     )
     by e (inr n) = inr (dropped (i + 1) b (without_fixed_from (i + 1 + 1) u) e n)
 
--- ---- two lists compared letter by letter
+-- ---- two lists compared letter by letter in the printed order
 
 front_tail : (i a : ℕ) (u w : List ℕ) → in_front_unless_fixed i a u ≡ a ∷ w → u ≡ w
 front_tail i a [] w e = by (a == i) e

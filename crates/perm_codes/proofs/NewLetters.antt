@@ -1,4 +1,4 @@
--- Tests, place by place, of lists that are permutations and of lists that are codes.
+-- Tests, place by place, whether a list is a permutation and whether a list is a code.
 use Rattle.std.proofs.Common.{◌≡◌, ℕ, zero, suc, ◌+◌, ◌<◌, ◌≤◌, List, [], ◌∷◌, length, take, get_or, sym, ap, subst, arith, inl, inr, true, ◌==◌, ◌||◌, ◌∙◌, eq-eqb}
 use Rattle.std.specs.List.{list_any}
 use Rattle.std.proofs.Math.Bool.{or-true}
@@ -8,7 +8,7 @@ use Rattle.sym_model.specs.Permutation.{IsOneLine, IsCode}
 use Rattle.schubert_laws.proofs.Swaps.{among_get}
 use Rattle.perm_codes.specs.Limits.{ExceedsFirstAt, IsNewLetter, IsShortPermutation, OffendsFirstAt}
 
--- ---- lists of letters that are permutations
+-- ---- a list of letters is a permutation if and only if each of its letters is new (`IsNewLetter`)
 
 place_of : (a : ℕ) (w : List ℕ) → Among a w → (k : ℕ) × (k < length w) × (get_or w k 0 ≡ a)
 place_of a [] m = absurd m
@@ -71,7 +71,7 @@ short_letter w k d s l =
     let r = (s.one_line.letters (get_or w k d) (among_get k d w l)).1 in
     omega arith
 
--- ---- lists of numbers that are codes
+-- ---- a list of numbers is a code if and only if each entry is at most the number of entries after it
 
 pub is_code_from : (cs : List ℕ) → ((k : ℕ) → k < length cs → get_or cs k 0 + k + 1 ≤ length cs) → IsCode cs
 is_code_from [] h = tt

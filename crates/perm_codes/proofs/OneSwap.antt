@@ -1,14 +1,13 @@
 -- The number of inversions of a list after two of its letters are exchanged: with d = 1 + 2·(the number of letters between them both in place and in
--- value), it increases by d if the first letter is smaller, and otherwise decreases by d.
+-- value), it increases by d if the left one of the two letters is smaller, and otherwise decreases by d.
 use Rattle.std.proofs.Common.{◌≡◌, ℕ, zero, suc, ◌+◌, ◌-◌, ◌*◌, ◌<◌, ◌≤◌, ◌&&◌, ◌||◌, ◌==◌, nat_lt, Bool, true, false, not, List, [], ◌∷◌, length, take, drop, get_or, set, refl, sym, ap, ap₂, ◌∙◌, subst, arith, cond, inl, inr, eq-eqb, add-one, count_by}
 use Rattle.std.specs.List.{swap, list_any}
-use Rattle.std.proofs.lemmas.List.{take-set-le}
+use Rattle.std.proofs.lemmas.List.{take-set-le, get_or_default}
 use Rattle.std.proofs.lemmas.List.Sums.{sum_by-cons}
-use Rattle.std.proofs.lemmas.Bool.{cases_lt, lt-ltb, ne_eqb}
+use Rattle.std.proofs.lemmas.Bool.{cases_lt, lt-ltb, ne_eqb, le-ltb, cond_below}
 use Rattle.sym_model.specs.Sum.{Among, Once}
 use Rattle.sym_model.specs.PlaceOrders.{smaller, inversions}
-use Rattle.sym_model.proofs.Numbers.{counts-not_less, counts-less, nat_lt-false}
-use Rattle.sym_model.proofs.Lists.{get_or-any}
+use Rattle.sym_model.proofs.Numbers.{counts-not_less}
 use Rattle.schubert_laws.proofs.MonkFromOne.{swap_is}
 use Rattle.schubert_laws.proofs.Transition.{once_get}
 use Rattle.schubert_laws.proofs.Swaps.{swap_at, length-swap_at, smaller_swap, once_swap, swap_twice, get_swap_left, get_swap_right, among_get}
@@ -25,50 +24,50 @@ within_both : (low high a : ℕ) → low < a → a < high → cond {A = ℕ} (li
 within_both low high a h l = ap₂ (λ s t. cond {A = ℕ} (s && t) 1 0) (lt-ltb low a h) (lt-ltb a high l)
 
 below_both : (low high a : ℕ) → a ≤ low → cond {A = ℕ} (lies_between low high a) 1 0 ≡ 0
-below_both low high a h = ap (λ s. cond {A = ℕ} (s && nat_lt a high) 1 0) (nat_lt-false low a h)
+below_both low high a h = ap (λ s. cond {A = ℕ} (s && nat_lt a high) 1 0) (le-ltb low a h)
 
 above_both : (low high a : ℕ) → low < a → high ≤ a → cond {A = ℕ} (lies_between low high a) 1 0 ≡ 0
-above_both low high a h l = ap₂ (λ s t. cond {A = ℕ} (s && t) 1 0) (lt-ltb low a h) (nat_lt-false a high l)
+above_both low high a h l = ap₂ (λ s t. cond {A = ℕ} (s && t) 1 0) (lt-ltb low a h) (le-ltb a high l)
 
--- a letter a that is neither low nor high has, after these two are exchanged, the same number of inversions with them, or 2 more if it is between
--- them
+-- let low < high, and let a be a letter other than these; the number of inversions in the list high, a, low that involve a exceeds that in low, a,
+-- high by 2 if a is between low and high in value, and by 0 otherwise
 one_letter : (low high a : ℕ) → low < high → (low ≡ a → ⊥) → (a ≡ high → ⊥)
     → cond {A = ℕ} (nat_lt a high) 1 0 + cond {A = ℕ} (nat_lt low a) 1 0
     ≡ cond {A = ℕ} (nat_lt a low) 1 0 + cond {A = ℕ} (nat_lt high a) 1 0 + 2 * cond {A = ℕ} (lies_between low high a) 1 0
 one_letter low high a h n m = elim (cases_lt low a) [
   | inl p ↦ elim (cases_lt a high) [
     | inl q ↦
-        let x = counts-less a high q in
-        let y = counts-less low a p in
+        let x = sym (cond_below {X = ℕ} a high 1 0 q) in
+        let y = sym (cond_below {X = ℕ} low a 1 0 p) in
         let z = counts-not_less a low (omega arith) in
         let t = counts-not_less high a (omega arith) in
         let b = within_both low high a p q in
         omega arith
     | inr q ↦
         let x = counts-not_less a high q in
-        let y = counts-less low a p in
+        let y = sym (cond_below {X = ℕ} low a 1 0 p) in
         let z = counts-not_less a low (omega arith) in
-        let t = counts-less high a (omega (arith, m)) in
+        let t = sym (cond_below {X = ℕ} high a 1 0 (omega (arith, m))) in
         let b = above_both low high a p q in
         omega arith
   ]
   | inr p ↦
-      let x = counts-less a high (omega arith) in
+      let x = sym (cond_below {X = ℕ} a high 1 0 (omega arith)) in
       let y = counts-not_less low a p in
-      let z = counts-less a low (omega (arith, n)) in
+      let z = sym (cond_below {X = ℕ} a low 1 0 (omega (arith, n))) in
       let t = counts-not_less high a (omega arith) in
       let b = below_both low high a p in
       omega arith
 ]
 
--- if x is smaller than the letter at index b of w, exchanging the two in x ∷ w adds 1 to the number of inversions, and 2 for each letter between them in
--- place and in value
+-- if x is smaller than the letter at the index b of w, exchanging x with it in x ∷ w adds 1 to the number of inversions, and 2 for each letter
+-- between them both in place and in value
 first_swapped : (x b : ℕ) (w : List ℕ) → b < length w → Once (x ∷ w) → x < get_or w b x
     → smaller (get_or w b x) (set w b x) + inversions (set w b x)
     ≡ smaller x w + inversions w + 1 + 2 * between x (get_or w b x) b w
 first_swapped x b [] l o h = absurd (omega arith)
 first_swapped x zero (y ∷ w) l o h =
-    let p = counts-less x y h in
+    let p = sym (cond_below {X = ℕ} x y 1 0 h) in
     let q = counts-not_less y x (omega arith) in
     omega arith
 first_swapped x (suc b) (z ∷ w) l o h =
@@ -78,15 +77,15 @@ first_swapped x (suc b) (z ∷ w) l o h =
     let k = sum_by-cons (λ a. cond (lies_between x (get_or w b x) a) 1 0) z (take b w) in
     omega arith
 
--- if the first of two letters is smaller, exchanging them adds 1 to the number of inversions, and 2 for each letter between them in place and in
--- value
+-- if the letter of w at a is smaller than that at b > a, exchanging them adds 1 to the number of inversions, and 2 for each letter between them both
+-- in place and in value
 swapped_rising : (a b n d : ℕ) (w : List ℕ) → b ≡ suc a + n → b < length w → Once w → get_or w a d < get_or w b d
     → inversions (swap_at a b w) ≡ inversions w + 1 + 2 * between (get_or w a d) (get_or w b d) n (drop (suc a) w)
 swapped_rising a b n d [] e l o h = absurd (omega arith)
 swapped_rising a zero n d (x ∷ w) e l o h = absurd (omega arith)
 swapped_rising zero (suc b) n d (x ∷ w) e l o h =
     let inside : b < length w = omega arith in
-    let g = get_or-any w b d x inside in
+    let g = get_or_default w b d x inside in
     let m : b ≡ n = omega arith in
     let r = first_swapped x b w inside o (subst (λ y. x < y) g h) in
     let q = ap₂ (λ y k. between x y k w) (sym g) m in
@@ -96,15 +95,15 @@ swapped_rising (suc a) (suc b) n d (x ∷ w) e l o h =
     let s = smaller_swap x a b w in
     omega arith
 
--- exchanging the letters at a and b does not change the letters between them
+-- exchanging the letters at the indices a < b does not change the letters at the indices between a and b
 same_between : (a b n : ℕ) (w : List ℕ) → b ≡ suc a + n → take n (drop (suc a) (swap_at a b w)) ≡ take n (drop (suc a) w)
 same_between a b n [] e = refl
 same_between a zero n (x ∷ w) e = absurd (omega arith)
 same_between zero (suc b) n (x ∷ w) e = take-set-le n w b x (omega arith)
 same_between (suc a) (suc b) n (x ∷ w) e = same_between a b n w (omega arith)
 
--- if the first of two letters is greater, exchanging them takes 1 from the number of inversions, and 2 for each letter between them in place and in
--- value
+-- if the letter of w at a is greater than that at b > a, exchanging them takes 1 from the number of inversions, and 2 for each letter between them
+-- both in place and in value
 swapped_falling : (a b n d : ℕ) (w : List ℕ) → b ≡ suc a + n → b < length w → Once w → get_or w b d < get_or w a d
     → inversions w ≡ inversions (swap_at a b w) + 1 + 2 * between (get_or w b d) (get_or w a d) n (drop (suc a) w)
 swapped_falling a b n d w e l o f =
@@ -117,10 +116,10 @@ swapped_falling a b n d w e l o f =
     ∙ ap₂ (λ low high. inversions (swap_at a b w) + 1 + 2 * between low high n (drop (suc a) (swap_at a b w))) x y
     ∙ ap (λ v. inversions (swap_at a b w) + 1 + 2 * count_by (lies_between (get_or w b d) (get_or w a d)) v) (same_between a b n w e)
 
--- ---- the number of inversions as a count
+-- ---- the number of letters between the exchanged ones as a `count_by`
 
--- if the letter at a is smaller than that at b > a, exchanging them adds 1 to the number of inversions, and 2 for each letter between them in place
--- and in value
+-- if the letter of w at a is smaller than that at b > a, exchanging them adds 1 to the number of inversions, and 2 for each letter between them both
+-- in place and in value, stated with `count_by`
 pub rising_count : (a b : ℕ) (w : List ℕ) → a < b → b < length w → Once w → get_or w a 0 < get_or w b 0
     → inversions (swap w a b)
     ≡ inversions w + 1 + 2 * count_by (lies_between (get_or w a 0) (get_or w b 0)) (take (b - (a + 1)) (drop (a + 1) w))
@@ -137,7 +136,7 @@ falling_count a b w h l o f =
     ∙ ap (λ k. inversions (swap_at a b w) + 1 + 2 * count_by (lies_between (get_or w b 0) (get_or w a 0)) (take (b - k) (drop k w))) (sym (add-one a))
     ∙ ap (λ v. inversions v + 1 + 2 * count_by (lies_between (get_or w b 0) (get_or w a 0)) (take (b - (a + 1)) (drop (a + 1) w))) (sym (swap_is w a b (omega arith) l))
 
--- ---- one more inversion, as a test of the letters between the exchanged ones
+-- ---- whether an exchange makes one more inversion, as a test of the letters between the exchanged ones
 
 none_step : (t s : Bool) (k : ℕ) → (t || s) ≡ false → (s ≡ false → k ≡ 0) → cond t 1 0 + k ≡ 0
 none_step true s k h r = cc
@@ -158,8 +157,8 @@ some_counted p (a ∷ w) h =
     let k = sum_by-cons (λ b. cond (p b) 1 0) a w in
     omega arith
 
--- if the letter at a is smaller than that at b > a, exchanging them makes one more inversion if and only if no letter between them in place is
--- between them in value
+-- if the letter of w at a is smaller than that at b > a, exchanging them makes exactly one more inversion if and only if no letter at a place between
+-- them has a value between them
 pub rising_test : (a b : ℕ) (w : List ℕ) → a < b → b < length w → Once w → get_or w a 0 < get_or w b 0
     → not (list_any (lies_between (get_or w a 0) (get_or w b 0)) (take (b - (a + 1)) (drop (a + 1) w)))
     ≡ (inversions (swap w a b) == inversions w + 1)
@@ -180,4 +179,4 @@ pub falling_test : (a b : ℕ) (w : List ℕ) → a < b → b < length w → Onc
     → nat_lt (get_or w a 0) (get_or w b 0) ≡ (inversions (swap w a b) == inversions w + 1)
 falling_test a b w h l o f =
     let c = falling_count a b w h l o f in
-    nat_lt-false (get_or w a 0) (get_or w b 0) f ∙ sym (ne_eqb (inversions (swap w a b)) (inversions w + 1) (λ q. omega arith))
+    le-ltb (get_or w a 0) (get_or w b 0) f ∙ sym (ne_eqb (inversions (swap w a b)) (inversions w + 1) (λ q. omega arith))

@@ -1,4 +1,5 @@
--- Lists of letters read from the left: counts of the letters after a place, and the fixed letters that are removed.
+-- Lists of letters: the number of letters smaller than a given one as a `count_by`, and the first n letters of a list without the fixed letters at
+-- their end.
 use Rattle.std.proofs.Common.{◌≡◌, ℕ, ◌+◌, ◌-◌, ◌<◌, ◌≤◌, nat_lt, List, [], ◌∷◌, ◌++◌, length, take, get_or, refl, sym, ap, ◌∙◌, arith, cond, true, false, inl, inr, Bool, length-take, count_by}
 use Rattle.std.proofs.lemmas.List.{take_more}
 use Rattle.std.proofs.lemmas.List.Recursion.{is_count_by}
@@ -7,7 +8,7 @@ use Rattle.sym_model.specs.PlaceOrders.{smaller}
 use Rattle.sym_model.specs.Permutation.{kept, without_fixed_from, in_front_unless_fixed}
 use Rattle.schubert_laws.proofs.FixedTails.{kept_added}
 
--- ---- counts of the letters after a place
+-- ---- the number of letters of a list that are smaller than a given one, as a `count_by`
 
 pub one_more : (t : Bool) (n : ℕ) → cond t 1 0 + n ≡ cond t (1 + n) n
 one_more true n = refl
@@ -16,7 +17,7 @@ one_more false n = omega arith
 pub smaller-count_by : (a : ℕ) (w : List ℕ) → smaller a w ≡ count_by (λ b. nat_lt b a) w
 smaller-count_by a w = is_count_by (smaller a) (λ b. nat_lt b a) refl (λ b v. one_more (nat_lt b a) (smaller a v)) w
 
--- ---- fixed letters at the end of a list
+-- ---- the first n letters of a list without the fixed letters at their end
 
 stays_in_front : (i a b : ℕ) (v : List ℕ) → in_front_unless_fixed i a (v ++ b ∷ []) ≡ a ∷ (v ++ b ∷ [])
 stays_in_front i a b [] = refl
@@ -39,7 +40,8 @@ last_of w n p l =
     let e : n - 1 + 1 ≡ n = omega arith in
     ap (λ m. take m w) (sym e) ∙ take_more w (n - 1) 0 (omega arith)
 
--- if the letter at place n > 1 is n, the first n - 1 and the first n letters give the same list without fixed letters at the end
+-- if the letter of w at place n > 1 is n, the first n - 1 and the first n letters of w are the same list once the fixed letters at the end are
+-- removed
 pub kept_without : (w : List ℕ) (n : ℕ) → 1 < n → n ≤ length w → get_or w (n - 1) 0 ≡ n → kept (take (n - 1) w) ≡ kept (take n w)
 kept_without w n p l e =
     let long : length (take (n - 1) w) ≡ n - 1 = omega (arith, length-take (n - 1) w) in

@@ -1,4 +1,4 @@
--- The covers of a permutation at a place, as a value.
+-- The covers of a permutation at a place, as a pair of lists.
 use Rattle.std.specs.Prelude.{ℕ, List}
 
 -- the covers w·t_rj with j > r, and the covers w·t_ir with i < r, of a permutation w at a place r

@@ -1,4 +1,4 @@
--- The permutations that the type `Perm` holds, and the lists of letters and codes that are refused.
+-- The permutations that are values of the type `Perm`, and the lists of letters and codes for which it returns errors.
 use Rattle.std.specs.Prelude.{◌≡◌, ℕ, ◌+◌, ◌<◌, ◌≤◌, List, length, take, slice_index}
 use Rattle.sym_model.specs.Sum.{Among}
 use Rattle.sym_model.specs.PlaceOrders.{inversions}
@@ -10,12 +10,12 @@ pub record IsShortPermutation (w : List ℕ) : Type 0 where
   pub some : 0 < length w
   pub few : length w ≤ 255
 
--- a permutation without fixed letters at its end, of at most 255 letters
+-- a permutation of at most 255 letters without fixed letters at its end, except that the identity is the one letter 1
 pub record IsWithinLimits (w : List ℕ) : Type 0 where
   pub kept : IsKept w
   pub few : length w ≤ 255
 
--- a permutation within the limits, and the number of its inversions
+-- w satisfies `IsWithinLimits`, and `count` is the number of its inversions
 pub record HasInversions (w : List ℕ) (count : ℕ) : Type 0 where
   pub limits : IsWithinLimits w
   pub count_is : count ≡ inversions w

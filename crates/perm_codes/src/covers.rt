@@ -13,8 +13,8 @@ use smallvec::SmallVec;
 use std::alloc::Global;
 use std::marker::Model;
 
-/// The covers of a permutation w at a place r: the permutations w·t_rj and w·t_ir with exactly one
-/// more inversion, which arise by exchanging the letter at r with another one.
+/// The covers of a permutation w at a place r: those among the permutations w·t_rj with j > r
+/// (`up`) and w·t_ir with i < r (`down`) that have exactly one inversion more than w.
 #[derive(Drop)]
 pub struct Covers {
     up: Vec<Perm>,
@@ -30,22 +30,23 @@ impl Model for Covers {
 }
 
 impl Covers {
-    /// The covers w·t_rj with j > r, by increasing j.
+    /// The covers w·t_rj with j > r of the permutation w at the place r, by increasing j.
     pub fn up(&self) -> &[Perm]
         ensures { result.now ≡ self.now.up }
     {
         self.up.as_slice()
     }
 
-    /// The covers w·t_ir with i < r, by increasing i.
+    /// The covers w·t_ir with i < r of the permutation w at the place r, by increasing i.
     pub fn down(&self) -> &[Perm]
         ensures { result.now ≡ self.now.down }
     {
         self.down.as_slice()
     }
 
-    /// The covers, at the place `place` counted from 0, of the permutation with these letters; only
-    /// places of these letters are tried. `count` is the number of inversions of a cover.
+    /// The covers at the place `place`, counted from 0, of the permutation with the letters
+    /// `letters`. Only covers that exchange two letters of this list are included. `count` is the
+    /// number of inversions of each cover.
     pub(crate) fn of_letters(
         alloc: Global,
         letters: &[u8],
@@ -68,8 +69,8 @@ impl Covers {
     }
 }
 
-/// The covers that exchange the letter at `place`, counted from 0, with one at a greater place;
-/// `count` is the number of inversions of a cover.
+/// The covers that exchange the letter at `place`, counted from 0, with one at a greater place of
+/// the list; `count` is the number of inversions of each cover.
 fn covers_above(
     alloc: Global,
     letters: &[u8],
@@ -94,7 +95,7 @@ fn covers_above(
 }
 
 /// The covers that exchange the letter at `place`, counted from 0, with one at a smaller place;
-/// `count` is the number of inversions of a cover.
+/// `count` is the number of inversions of each cover.
 pub(crate) fn covers_below(
     alloc: Global,
     letters: &[u8],

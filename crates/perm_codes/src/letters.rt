@@ -1,4 +1,4 @@
-//! Functions on lists of letters: tests, counts, and permutations made of letters or codes.
+//! Functions on lists of letters: tests, counts, and permutations from letters or codes.
 ghost use Rattle.std.specs.Prelude.{◌≡◌, ℕ, ◌+◌, ◌<◌, ◌≤◌, ◌==◌, ◌&&◌, nat_lt, length, take, swap};
 ghost use Rattle.std.specs.Prelude.{IsOk, IfOk, MatchOption};
 ghost use Rattle.std.specs.List.{count_by, list_any};
@@ -14,8 +14,8 @@ use std::alloc::{AllocError, Global};
 /// The letters of a permutation. Up to 16 letters allocate no memory.
 pub(crate) type Letters = SmallVec<u8, 16>;
 
-/// The first place, counted from 0, whose letter is 0,
-/// is greater than the number of letters or occurs earlier.
+/// The first place, counted from 0, whose letter is 0, is greater than the number of letters or
+/// occurs at an earlier place; None if the letters are a permutation.
 pub(crate) fn first_offence(letters: &[u16]) -> Option<usize>
     ensures { MatchOption result (IsOneLine letters.now) (OffendsFirstAt letters.now) }
 {
@@ -27,7 +27,8 @@ pub(crate) fn first_offence(letters: &[u16]) -> Option<usize>
     None
 }
 
-/// The first place, counted from 0, whose entry is greater than the number of entries after it.
+/// The first place, counted from 0, whose entry is greater than the number of entries after it;
+/// None if the list is a code.
 pub(crate) fn first_excess(code: &[u16]) -> Option<usize>
     requires { length code.now ≤ 255 }
     ensures { MatchOption result (IsCode code.now) (ExceedsFirstAt code.now) }
@@ -61,8 +62,8 @@ pub(crate) fn count_inversions(letters: &[u8]) -> u16
     count
 }
 
-/// The last place, counted from 1, whose letter is greater than the next one; None if there is
-/// none.
+/// The last place, counted from 1, whose letter is greater than the next one; None if there is no
+/// such place.
 pub(crate) fn find_last_descent(letters: &[u8]) -> Option<u16>
     requires some { 0 < length letters.now }
     requires few { length letters.now ≤ 255 }
@@ -78,7 +79,8 @@ pub(crate) fn find_last_descent(letters: &[u8]) -> Option<u16>
     None
 }
 
-/// The number of letters without the fixed ones at the end; the first letter is always counted.
+/// The number of letters that are left after the fixed letters at the end are removed; the first
+/// letter always stays.
 pub(crate) fn count_kept(letters: &[u8]) -> usize
     ensures { take result letters.now ≡ kept letters.now }
 {
@@ -89,8 +91,9 @@ pub(crate) fn count_kept(letters: &[u8]) -> usize
     len
 }
 
-/// Whether exchanging the letters at two places, counted from 0, makes exactly one more inversion:
-/// the first is the smaller one, and no letter between them in place is between them in value.
+/// Whether exchanging the letters at the places `first` < `second`, counted from 0, makes exactly
+/// one more inversion: the letter at `first` is the smaller one, and no letter at a place between
+/// `first` and `second` has a value between these two letters.
 pub(crate) fn makes_one_inversion(letters: &[u8], first: usize, second: usize) -> bool
     requires order { first < second }
     requires inside { second < length letters.now }
@@ -102,9 +105,11 @@ pub(crate) fn makes_one_inversion(letters: &[u8], first: usize, second: usize) -
     low < high && !has_between(&letters[first + 1..second], low, high)
 }
 
-/// The number of inversions after exchanging the letters at two places, counted from 0, if `count`
-/// is the number before. With d = 1 + 2·(letters between them both in place and in value) it is
-/// `count` + d if the first letter is smaller, and otherwise `count` - d.
+/// The number of inversions after exchanging the letters at the places `first` < `second`, counted
+/// from 0, if `count` is the number before. Let d be 1 plus twice the number of letters that are
+/// between these two letters both in place and in value. The result is `count` + d if the letter at
+/// `first` is smaller, otherwise `count`
+/// - d.
 pub(crate) fn inversions_exchanged(letters: &[u8], first: usize, second: usize, count: u16) -> u16
     requires permutation { IsShortPermutation letters.now }
     requires order { first < second }
@@ -154,7 +159,8 @@ pub(crate) fn narrow(alloc: Global, letters: &[u16]) -> Result<Letters, AllocErr
     Ok(list)
 }
 
-/// The letters with fixed ones added up to the place `last`.
+/// The list `letters`, followed by fixed letters up to the place `last`, counted from 1: the number
+/// of each of these places is its letter.
 pub(crate) fn add_fixed(alloc: Global, letters: &[u8], last: usize) -> Result<Letters, AllocError>
     requires { last ≤ 255 }
     ensures { IfOk result (λ list. list.items ≡ with_fixed last letters.now) }
@@ -166,8 +172,8 @@ pub(crate) fn add_fixed(alloc: Global, letters: &[u8], last: usize) -> Result<Le
     Ok(list)
 }
 
-/// The letters of the permutation with this code: for each entry a in turn, the unused letter that
-/// is greater than exactly a other unused ones.
+/// The letters of the permutation with this code: for each entry a in turn, the letter, among those
+/// not yet used, that is greater than exactly a of them.
 pub(crate) fn choose(alloc: Global, code: &[u16]) -> Result<Letters, AllocError>
     requires few { length code.now ≤ 255 }
     requires code { IsCode code.now }

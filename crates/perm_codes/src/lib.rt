@@ -2,11 +2,12 @@
 //!
 //! What is proved:
 //!
-//! In contracts, a `Perm` is its list of letters without fixed ones at the end. Each error of
-//! `from_letters` and `from_code` has its exact cause, and `letter`, `inversions`, `last_descent`,
-//! `code`, `times_swap` and `covers_at` agree with their definitions; `last_descent` gives None if
-//! and only if the permutation is the identity; `cmp_printed` is the printed order; equality is
-//! that of the letters, and hashing agrees with it.
+//! In contracts, a `Perm` is its list of letters without fixed letters at the end. `from_letters`
+//! and `from_code` return each of their errors under exactly the condition that their documentation
+//! says, and `letter`, `inversions`, `last_descent`, `code`, `times_swap` and `covers_at` agree
+//! with their definitions; `last_descent` returns None if and only if the permutation is the
+//! identity; `cmp_printed` is the printed order; two permutations are equal if and only if their
+//! letters are, and equal ones have equal hashes.
 #![tactic(auto)]
 
 mod covers;

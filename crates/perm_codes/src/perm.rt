@@ -29,8 +29,8 @@ use std::marker::Model;
 /// The greatest number of letters of a permutation.
 const MAX_LETTERS: usize = 255;
 
-/// A permutation in one-line form, of 1 to 255 letters, without fixed letters at its end; the
-/// identity keeps the letter 1. Up to 16 letters allocate no memory.
+/// A permutation in one-line form, of 1 to 255 letters, without fixed letters at its end, except
+/// that the identity is the one letter 1. Up to 16 letters allocate no memory.
 #[derive(Debug, Drop)]
 pub struct Perm {
     letters: Letters,
@@ -53,7 +53,7 @@ impl Perm {
     ///
     /// Returns `Empty` if there is no letter, `TooMany` if there are more than 255, otherwise
     /// `Letter` at the first place, counted from 0, whose letter is 0, is greater than the number
-    /// of letters or occurs earlier. Up to 16 letters allocate no memory.
+    /// of letters or occurs at an earlier place. Up to 16 letters allocate no memory.
     pub fn from_letters(alloc: Global, letters: &[u16]) -> Result<Perm, PermFault>
         ensures ok { IfOk result (λ w. w ≡ kept letters.now) }
         ensures limits { OnOk result (IsShortPermutation letters.now) }
@@ -86,7 +86,7 @@ impl Perm {
         Ok(Perm::trimmed(narrow(alloc, letters)?))
     }
 
-    /// The permutation whose code, followed by zeros up to the length of this list, is this list.
+    /// The permutation whose code is this list, up to zeros at the end of the list.
     ///
     /// Returns `Empty` if there is no number, `TooMany` if there are more than 255, otherwise
     /// `Letter` at the first place, counted from 0, whose entry is greater than the number of
@@ -127,7 +127,7 @@ impl Perm {
         self.letters().len() as u16
     }
 
-    /// The letter at place `i`, counted from 1; after the last letter each letter is fixed.
+    /// The letter at place `i`, counted from 1; `i` itself after the last letter.
     pub fn letter(&self, i: u16) -> u16
         requires { 1 ≤ i }
         ensures value { result ≡ letter self.now i }
@@ -157,8 +157,9 @@ impl Perm {
         find_last_descent(self.letters())
     }
 
-    /// Compares this permutation with `other` in the printed order: fewer inversions first, then
-    /// increasing lexicographic order of the letters. The result is `Equal` only if they are equal.
+    /// Compares this permutation with `other` in the printed order: by increasing number of
+    /// inversions, then by increasing lexicographic order of the letters. The result is `Equal`
+    /// only if the permutations are equal.
     pub fn cmp_printed(&self, other: &Perm) -> Ordering
         ensures value { result ≡ permutation_order self.now other.now }
         ensures equal { result ≡ Ordering.Equal → self.now ≡ other.now }
@@ -180,7 +181,7 @@ impl Perm {
         })
     }
 
-    /// The code: for each place the number of smaller letters to the right.
+    /// The code: for each place the number of smaller letters to the right of it.
     pub fn code(&self) -> Result<Word, NoMemory>
         ensures { IfOk result (λ word. word ≡ code self.now) }
     {
@@ -193,7 +194,7 @@ impl Perm {
     }
 
     /// The permutation with the letters at the places `i` and `j`, counted from 1, exchanged. `i`
-    /// is smaller than `j`, which is at most 255.
+    /// must be smaller than `j`, and `j` at most 255.
     pub fn times_swap(&self, i: u16, j: u16) -> Result<Perm, NoMemory>
         requires first { 1 ≤ i }
         requires order { i < j }
@@ -207,8 +208,9 @@ impl Perm {
         Ok(Perm::exchanged(letters, first, second, count))
     }
 
-    /// The permutations with exactly one more inversion that arise by exchanging the letter at
-    /// place `r`, counted from 1, with another one. `r` and the number of letters are at most 254.
+    /// The permutations that have exactly one inversion more than this one and result from it by
+    /// exchanging the letter at place `r`, counted from 1, with another letter. `r` and the number
+    /// of letters must be at most 254.
     pub fn covers_at(&self, r: u16) -> Result<Covers, NoMemory>
         requires place { 1 ≤ r }
         requires last { r ≤ 254 }
@@ -226,8 +228,8 @@ impl Perm {
         )
     }
 
-    /// The permutations w·t_ir with i < r, for w this permutation, that have exactly one more
-    /// inversion than w, by increasing i. The place `r`, counted from 1, is at most 255.
+    /// The permutations w·t_ir with i < r, for w this permutation, that have exactly one inversion
+    /// more than w, by increasing i. The place `r`, counted from 1, must be at most 255.
     pub fn covers_down(&self, r: u16) -> Result<Vec<Perm>, NoMemory>
         requires place { 1 ≤ r }
         requires last { r ≤ 255 }
@@ -251,8 +253,8 @@ impl Perm {
         Perm::of_count(letters, count)
     }
 
-    /// The permutation with these letters, without the fixed ones at the end; `count` is the number
-    /// of its inversions.
+    /// The permutation with these letters, without the fixed letters at the end; `count` is the
+    /// number of its inversions.
     fn of_count(letters: Letters, count: u16) -> Perm
         requires letters { IsShortPermutation letters.items }
         requires count { count ≡ inversions letters.items }
@@ -267,8 +269,9 @@ impl Perm {
         }
     }
 
-    /// The permutation with these letters, of which those at two places, counted from 0, are
-    /// exchanged; `count` is the number of its inversions.
+    /// The permutation obtained from the letters by exchanging those at the places `first` and
+    /// `second`, counted from 0, and removing the fixed letters at the end; `count` is its number
+    /// of inversions.
     pub(crate) fn exchanged(letters: Letters, first: usize, second: usize, count: u16) -> Perm
         requires permutation { IsShortPermutation letters.items }
         requires first { first < length letters.items }

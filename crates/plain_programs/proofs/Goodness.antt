@@ -1,10 +1,10 @@
--- Tests of the numbers 0, 1, .., k, one after another.
+-- A test of the numbers 0, .., k: it holds for all of them, or fails for one.
 use Rattle.std.proofs.Common.{◌≡◌, ℕ, zero, suc, ◌+◌, ◌<◌, Bool, true, false, ◌&&◌, List, [], ◌∷◌, ◌++◌, sym, ◌∙◌, ap, ap₂, refl, inl, inr, ◌⊎◌, arith}
 use Rattle.std.proofs.lemmas.Bool.{cases_eq}
 use Rattle.std.proofs.Math.Bool.{and_assoc, and-false}
 use Rattle.sym_model.specs.Partition.{after}
 use Rattle.sym_model.specs.GoodTableau.{every}
-use Rattle.plain_programs.proofs.WordLists.{after-more}
+use Rattle.sym_model.proofs.AfterLists.{after-more}
 
 every-append : (test : ℕ → Bool) (xs : List ℕ) (x : ℕ) → every test (xs ++ (x ∷ [])) ≡ (every test xs && test x)
 every-append test [] x = last (test x)

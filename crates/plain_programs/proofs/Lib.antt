@@ -4,7 +4,6 @@ pub mod Cells
 pub mod Sorting
 pub mod Reflecting
 pub mod Removing
-pub mod Parity
 pub mod Searching
 pub mod PlainTexts
 pub mod PlainExponents

@@ -1,18 +1,17 @@
 -- The degrees of the polynomials of the bases, and products of sums of monomials.
-use Rattle.std.proofs.Common.{◌≡◌, ℕ, zero, suc, ◌+◌, ◌-◌, ◌<◌, ◌≤◌, ◌^◌, Bool, true, false, ◌&&◌, cond, eqb, List, [], ◌∷◌, ◌++◌, map, length, get_or, take, drop, replicate, pos, ◌*ℤ◌, refl, sym, ap, ◌∙◌, subst, inl, inr, arith, filter, flat_map}
+use Rattle.std.proofs.Common.{◌≡◌, ℕ, zero, suc, ◌+◌, ◌-◌, ◌<◌, ◌≤◌, ◌^◌, Bool, true, false, cond, eqb, List, [], ◌∷◌, ◌++◌, map, length, get_or, take, drop, pos, ◌*ℤ◌, refl, sym, ap, ◌∙◌, subst, inl, inr, arith, filter, flat_map}
 use Rattle.std.specs.Global.{Vec}
-use Rattle.std.specs.Prelude.{nat_eq}
-use Rattle.std.specs.Cmp.Lexicographic.{pointwise}
-use Rattle.std.proofs.Math.Seq.{take-length}
 use Rattle.std.proofs.lemmas.Bool.{eqb-true}
 use Rattle.sym_model.specs.Sum.{Among}
-use Rattle.sym_model.specs.Polynomial.{Term, Poly, same, join, times, one}
+use Rattle.sym_model.specs.Polynomial.{Term, Poly, join, times, one}
 use Rattle.sym_model.specs.Partition.{size}
 use Rattle.sym_model.specs.Bases.{down_from, exponent_lists, monomials, product_over}
 use Rattle.sym_model.proofs.Exponents.{size-join}
 use Rattle.plain_programs.specs.PlainLists.{sum_of, part_polynomial, product_polynomial, keeps, CanMultiply}
 use Rattle.plain_programs.specs.declared.bases.PlainBasis.{PlainBasis}
 use Rattle.plain_programs.specs.declared.bases.PlainBasis.TheVariants.{Elementary, Complete, PowerSum}
+use Rattle.std.proofs.lemmas.List.{take_rest}
+use Rattle.sym_model.proofs.Parts.{size-zeros}
 
 -- the numbers of each list add up to d
 abbrev pub HaveSize : ℕ → List (List ℕ) → Type 0
@@ -40,7 +39,7 @@ have_size-select d test (α ∷ αs) h = by (have_size-select d test αs h.1) (t
     by rest true = (h.0, rest)
     by rest false = rest
 
--- each of the exponent lists of n places with the sum d has the sum d
+-- each list of `exponent_lists n d` has the sum d
 pub exponent_lists-size : (n d : ℕ) → HaveSize d (exponent_lists n d)
 exponent_lists-size zero d = by (eqb d 0) refl
   where
@@ -86,11 +85,7 @@ times-degree d e (s ∷ f) g h k =
     row (t ∷ g) k = (size-join s.0 t.0 ∙ (let a = h.0 in let b = k.0 in omega arith), row g k.1)
 
 one-degree : (n : ℕ) → HasDegree 0 (one n)
-one-degree n = (by n, tt)
-  where
-    by : (n : ℕ) → size (replicate n 0) ≡ 0
-    by zero = refl
-    by (suc n) = let h = by n in omega arith
+one-degree n = (size-zeros n, tt)
 
 pub product_over-degree : (f : ℕ → ℕ → Poly) → ((k n : ℕ) → HasDegree k (f k n)) → (parts : List ℕ) (n : ℕ) → HasDegree (size parts) (product_over f parts n)
 product_over-degree f h [] n = one-degree n
@@ -106,7 +101,7 @@ part_polynomial-is PowerSum k n = refl
 pub part_polynomial-degree : (basis : PlainBasis) (k n : ℕ) → HasDegree k (part_polynomial basis k n)
 part_polynomial-degree basis k n = subst (HasDegree k) (sym (part_polynomial-is basis k n)) (monomials-degree (keeps basis k) n k)
 
--- the product of two sums of monomials is the sum of the products
+-- the sum of the monomials αs times the sum of the monomials βs is the sum of all products of one of αs and one of βs
 pub sum_of-times : (αs βs : List (List ℕ)) → sum_of (flat_map (λ α. map (λ β. join α β) βs) αs) ≡ times (sum_of αs) (sum_of βs)
 sum_of-times [] βs = refl
 sum_of-times (α ∷ αs) βs =
@@ -120,35 +115,28 @@ sum_of-times (α ∷ αs) βs =
     row [] = refl
     row (β ∷ βs) = ap (λ zs. (join α β, pos 1) ∷ zs) (row βs)
 
--- the element of xs at a place i is among the lists of xs
+-- if x is the vector at the place i of xs, the list of the numbers of x is among the lists of the vectors of xs
 pub among-item : (xs : List (Vec ℕ)) (i : ℕ) (x : Vec ℕ) → i < length xs → x ≡ get_or xs i x → Among x.items (map (λ (y : Vec ℕ). y.items) xs)
 among-item [] i x h e = absurd (omega arith)
 among-item (y ∷ xs) zero x h e = inl (ap (λ (z : Vec ℕ). z.items) e)
 among-item (y ∷ xs) (suc i) x h e = inr (among-item xs i x (omega arith) e)
 
--- the monomials of two sums of the degrees d and e can be multiplied if d + e is below 2^64
+-- if αs are the monomials of a polynomial of degree d, βs those of a polynomial of degree e, and d + e < 2^64, then each of αs and each of βs can be
+-- multiplied (`CanMultiply`)
 pub can_multiply : (d e : ℕ) (f g : Poly) (αs βs : List (List ℕ)) → d + e < 2 ^ 64 → HasDegree d f → HasDegree e g → sum_of αs ≡ f → sum_of βs ≡ g → CanMultiply αs βs
 can_multiply d e f g αs βs h k l p q α β m n =
     let a = size-among d αs α (have_size-from_sum d αs (subst (HasDegree d) (sym p) k)) m in
     let b = size-among e βs β (have_size-from_sum e βs (subst (HasDegree e) (sym q) l)) n in
     omega arith
 
--- a slice without its first part is the list of the parts after the first
-pub rest-is : (parts : List ℕ) → 1 ≤ length parts → take (length parts - 1) (drop 1 parts) ≡ drop 1 parts
-rest-is [] h = absurd (omega arith)
-rest-is (a ∷ parts) h = ap (λ n. take n parts) (by (length parts)) ∙ take-length parts
-  where
-    by : (n : ℕ) → suc n - 1 ≡ n
-    by n = omega arith
-
 pub size-first : (parts : List ℕ) → 1 ≤ length parts → size parts ≡ get_or parts 0 0 + size (take (length parts - 1) (drop 1 parts))
 size-first [] h = absurd (omega arith)
-size-first (a ∷ parts) h = ap (λ ps. a + size ps) (sym (rest-is (a ∷ parts) h))
+size-first (a ∷ parts) h = ap (λ ps. a + size ps) (sym (take_rest (a ∷ parts) 1))
 
 -- the polynomial of the first part times the product over the other parts is the product over all parts
 pub product_over-first : (f : ℕ → ℕ → Poly) (parts : List ℕ) (n : ℕ) → 1 ≤ length parts → times (f (get_or parts 0 0) n) (product_over f (take (length parts - 1) (drop 1 parts)) n) ≡ product_over f parts n
 product_over-first f [] n h = absurd (omega arith)
-product_over-first f (k ∷ parts) n h = ap (λ ps. times (f k n) (product_over f ps n)) (rest-is (k ∷ parts) h)
+product_over-first f (k ∷ parts) n h = ap (λ ps. times (f k n) (product_over f ps n)) (take_rest (k ∷ parts) 1)
 
 -- if αs are the monomials of the first part, βs those of the product over the other parts, and `all` the products of each of αs with each of βs, then
 -- the sum of `all` is the product over all parts
@@ -156,14 +144,7 @@ pub product-is : (f : ℕ → ℕ → Poly) (parts : List ℕ) (n : ℕ) (αs β
 product-is f parts n αs βs all h p q e =
     ap sum_of e ∙ (sum_of-times αs βs ∙ (ap (λ g. times g (sum_of βs)) p ∙ (ap (λ g. times (f (get_or parts 0 0) n) g) q ∙ product_over-first f parts n h)))
 
--- the tests `same` and `pointwise nat_eq` of lists agree
-pub same-pointwise : (xs ys : List ℕ) → same xs ys ≡ pointwise nat_eq xs ys
-same-pointwise [] [] = refl
-same-pointwise [] (y ∷ ys) = refl
-same-pointwise (x ∷ xs) [] = refl
-same-pointwise (x ∷ xs) (y ∷ ys) = ap (λ b. eqb x y && b) (same-pointwise xs ys)
-
--- the polynomial of a partition is the product over its parts
+-- the polynomial of a partition is the product of the polynomials of its parts
 pub product_polynomial-is : (basis : PlainBasis) (parts : List ℕ) (n : ℕ) → product_polynomial basis parts n ≡ product_over (part_polynomial basis) parts n
 product_polynomial-is Elementary parts n = refl
 product_polynomial-is Complete parts n = refl

@@ -3,7 +3,7 @@ use Rattle.std.proofs.Common.{◌≡◌, ℕ, suc, ◌-◌, ◌≤◌, length, t
 use Rattle.std.proofs.Math.Seq.{take-length}
 use Rattle.sym_model.specs.PrintedBlock.{numbers_text}
 
--- each number with a comma in front
+-- the text of a list of numbers, each with a comma in front
 abbrev pub comma_numbers : List ℕ → List ℕ
 comma_numbers [] = []
 comma_numbers (a ∷ numbers) = 44 ∷ (decimal a ++ comma_numbers numbers)
@@ -12,7 +12,7 @@ pub numbers_text-first : (a : ℕ) (numbers : List ℕ) → numbers_text (a ∷ 
 numbers_text-first a [] = sym (append-nil (decimal a))
 numbers_text-first a (b ∷ numbers) = ap (λ text. decimal a ++ (44 ∷ text)) (numbers_text-first b numbers)
 
--- after the first number is written, each later number follows with a comma in front
+-- the text of a list of numbers with commas between them: the first number, followed by each later number with a comma in front
 pub first_written : (new old numbers : List ℕ) → 1 ≤ length numbers → new ≡ old ++ decimal (get_or numbers 0 0) → new ++ comma_numbers (drop 0 (take (length numbers - 1) (drop 1 numbers))) ≡ old ++ numbers_text numbers
 first_written new old [] h e = absurd (omega arith)
 first_written new old (a ∷ rest) h e =

@@ -1,11 +1,11 @@
--- One reflection of a list, and the reflections after it.
+-- One reflection of a list whose first entry exceeds its last by more than n, and the result of all reflections.
 use Rattle.std.proofs.Common.{◌≡◌, ℕ, ◌<◌, ◌≤◌, false, List, sym, ◌∙◌, ap, ap₂, arith, ℤ, Option}
 use Rattle.sym_model.specs.BetaList.{has_equal_entries, sorted_falling, sorting_sign}
 use Rattle.sym_model.specs.AlcoveReduction.{spread, squares, reflected, with_sign, reflected_into_alcove}
 use Rattle.strip_laws.proofs.Reflections.{reflect_again, squares_fall, squares_sorted}
 
--- `next` is the reflection of `list`, which has a spread over n, and has different entries; `falling` is `next` in decreasing order,
--- and `sign` the sign of sorting it
+-- the first entry of `list` exceeds its last by more than n, and `next` is the reflection of `list` and has no two equal entries; `falling` is `next`
+-- in decreasing order, and `sign` the sign of sorting `next`
 pub record Reflects (n : ℕ) (list next falling : List ℕ) (sign : ℤ) : Type 0 where
   pub positive : 1 ≤ n
   pub far : n < spread list

@@ -1,31 +1,23 @@
--- One removal of a rim hook, by its rows first, .., last, counted from 0.
---     removal_found      a removal leaves the rows of `left_part`
---     none_in_rows       if the tests fail, no removal has the rows first, .., last
---     fewer_rows         a removal does not increase the number of rows
+-- The removal of a rim hook with the rows first, .., last, counted from 0.
+--     removal_found      if the conditions `Fits` hold, a removal leaves the partition with the parts `left_part`
+--     none_in_rows       if they do not hold, no rim hook with the rows first, .., last can be removed
 use Rattle.std.proofs.Common.{◌≡◌, ℕ, ◌+◌, ◌-◌, ◌<◌, ◌≤◌, ◌⊎◌, List, length, get_or, sym, ◌∙◌, ap, subst, refl, inl, inr, arith}
 use Rattle.std.proofs.lemmas.Bool.{cases_lt, cases_eq}
 use Rattle.std.proofs.lemmas.Bool.Decides.{nat_tests}
-use Rattle.sym_model.specs.Partition.{Falls, IsPartition, size, part, without_last_zeros}
+use Rattle.sym_model.specs.Partition.{IsPartition, size, part, without_last_zeros}
 use Rattle.sym_model.specs.Strip.{height}
 use Rattle.strip_laws.specs.HookRows.{IsHookRows}
 use Rattle.sym_model.specs.RimHookReduction.{IsRemoval}
-use Rattle.strip_laws.proofs.Strips.{falls_part}
+use Rattle.strip_laws.proofs.Strips.{falls_part, falls_at}
 use Rattle.strip_laws.proofs.RimHooks.{hook_from_rows, height_of_rows}
 use Rattle.strip_laws.proofs.HookSizes.{hook_size}
 use Rattle.sym_model.proofs.SortedParts.{IsPartition-without_last_zeros}
-use Rattle.sym_model.proofs.Parts.{past_end, get_or-without_last_zeros, at_least_one, part-get_or, Falls_from_places}
+use Rattle.sym_model.proofs.Parts.{get_or-without_last_zeros, at_least_one, part-get_or, Falls_from_places}
 use Rattle.plain_programs.specs.Removed.{left_part, HasNoneInRows}
 
--- ---- parts of a partition, by place from 0
+-- ---- the parts of a partition, with places counted from 0
 
-falls_at : (parts : List ℕ) → Falls parts → (i : ℕ) → get_or parts (i + 1) 0 ≤ get_or parts i 0
-falls_at parts f i =
-    let a = part-get_or parts (i + 1) in
-    let b = part-get_or parts i in
-    let c = falls_part parts f (i + 1) (omega arith) in
-    omega (arith, a, b, c)
-
--- ---- the rows that are left after a removal
+-- ---- the parts `left_part` of the partition that is left after a removal
 
 left_above : (shape : List ℕ) (first last rest i : ℕ) → i < first → left_part shape first last rest i ≡ get_or shape i 0
 left_above shape first last rest i h = grind (arith, nat_tests)
@@ -39,7 +31,8 @@ left_last shape first last rest i h e = grind (arith, nat_tests)
 left_below : (shape : List ℕ) (first last rest i : ℕ) → first ≤ last → last < i → left_part shape first last rest i ≡ get_or shape i 0
 left_below shape first last rest i h l = grind (arith, nat_tests)
 
--- the tests for removing a rim hook of n cells with the rows first, .., last, counted from 0, from `shape`; row last keeps `rest` cells
+-- the conditions under which a rim hook of n cells with the rows first, .., last, counted from 0, can be removed from `shape` so that `rest` cells
+-- are left in row last
 pub record Fits (n : ℕ) (shape : List ℕ) (first last rest : ℕ) : Type 0 where
   pub partition : IsPartition shape
   pub ordered : first ≤ last
@@ -114,7 +107,7 @@ partition_left n shape numbers first last rest h v =
     let c = left_falls n shape first last rest i h in
     omega (arith, a, b, c)))
 
--- each row number i ≥ 1, counted from 1, is k + 1 for a row number k counted from 0
+-- each number i ≥ 1 (a row, counted from 1) is k + 1 for some k (the row, counted from 0)
 row_before : (i : ℕ) → 1 ≤ i → (k : ℕ) × (i ≡ k + 1)
 row_before i h = (i - 1, omega arith)
 
@@ -177,7 +170,7 @@ removal_found n shape numbers first last rest h v =
       height = omega (arith, t, o);
     }
 
--- ---- the rows first to last from which no rim hook can be removed
+-- ---- the cases in which no rim hook with the rows first, .., last can be removed
 
 -- the conditions on the number `rest` of cells left in row last after a rim hook of n cells with the rows first, .., last, counted from 0, is removed
 record Bounds (n : ℕ) (shape : List ℕ) (first last rest : ℕ) : Type 0 where
@@ -211,17 +204,3 @@ none_in_rows n shape first last (inr t) left p h e =
     let x = b.cells in
     let y = b.end in
     omega (arith, x, y, t)
-
--- ---- the number of rows after a removal
-
-pub fewer_rows : (n : ℕ) (shape left : List ℕ) → IsRemoval n shape left → length left ≤ length shape
-fewer_rows n shape left r = elim (cases_lt (length shape) (length left)) [
-  | inr h ↦ h
-  | inl h ↦ (
-      let a = at_least_one left r.partition.positive (length shape) h in
-      let b = past_end shape (length shape) (omega arith) in
-      let c = r.hook.holds (length shape + 1) in
-      let d = part-get_or left (length shape) in
-      let e = part-get_or shape (length shape) in
-      absurd (omega (arith, a, b, c, d, e)))
-]

@@ -1,7 +1,7 @@
--- The search for a removal through all first and last rows.
---     search_on       if no removal begins in the rows up to `done`, and none in row done + 1, none begins in the rows up to done + 1
---     no_removal      if no removal begins in any row, there is none
---     goes_on         a removal, and the removals after it
+-- The search for a rim hook that can be removed, through all first and last rows, and the result of all removals.
+--     search_on       if no removal has a first row up to `done`, and none has the first row done + 1, none has a first row up to done + 1
+--     no_removal      if no removal has its first row among the rows of the shape, no rim hook can be removed
+--     goes_on         if a removal from `shape` leaves `left`, and the removals from `left` end with `end` (`GoesTo`), so do those from `shape`
 use Rattle.std.proofs.Common.{◌≡◌, ℕ, suc, ◌+◌, ◌-◌, ◌<◌, ◌≤◌, ◌⊎◌, false, Option, Some, None, is_some, List, length, sym, ◌∙◌, ap, subst, inl, inr, arith, ℤ, ◌*ℤ◌}
 use Rattle.std.proofs.lemmas.Bool.{cases_lt}
 use Rattle.sym_model.specs.Partition.{IsPartition}
@@ -9,10 +9,10 @@ use Rattle.sym_model.specs.Strip.{height}
 use Rattle.strip_laws.specs.HookRows.{IsHookRows}
 use Rattle.sym_model.specs.PlaceOrders.{minus_one_to}
 use Rattle.sym_model.specs.RimHookReduction.{IsRemoval, HasNoRemoval, GoesTo}
-use Rattle.sym_model.proofs.Parts.{past_end}
 use Rattle.strip_laws.proofs.RimHooks.{hook_rows}
 use Rattle.plain_programs.specs.Removed.{HasNoneInRows, IsFoundFrom}
 use Rattle.plain_programs.specs.declared.removals.Removal.{Removal}
+use Rattle.std.proofs.lemmas.List.{get_or_past}
 
 pub search_on : (n : ℕ) (shape : List ℕ) (done : ℕ) → ((first last : ℕ) → first ≤ done → HasNoneInRows n shape first last)
     → ((last : ℕ) → HasNoneInRows n shape (done + 1) last) → (first last : ℕ) → first ≤ done + 1 → HasNoneInRows n shape first last
@@ -35,7 +35,7 @@ no_removal n shape p done h none left r =
     by first last (inr l) hook = none first last l left r.partition hook r.cells
     by first last (inl l) hook =
         let o = hook.ordered in
-        let e = past_end shape (last - 1) (omega arith) in
+        let e = get_or_past shape (last - 1) 0 (omega arith) in
         let g = hook.end in
         omega (arith, e, g)
 

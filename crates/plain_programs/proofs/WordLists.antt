@@ -1,23 +1,18 @@
--- Lists that are built by a loop, one element after another.
-use Rattle.std.proofs.Common.{◌≡◌, ℕ, zero, suc, ◌+◌, ◌-◌, ◌≢◌, List, [], ◌∷◌, ◌++◌, map, take, reverse, length, get_or, Bool, true, false, cond, ◌<◌, sym, ◌∙◌, ap, refl, arith, append-nil, add-one, filter, flat_map}
+-- Lists that a loop builds by appending one element or one list after another.
+use Rattle.std.proofs.Common.{◌≡◌, ℕ, ◌+◌, ◌-◌, ◌≢◌, List, [], ◌∷◌, ◌++◌, map, take, reverse, length, get_or, Bool, cond, ◌<◌, sym, ◌∙◌, ap, arith, append-nil, filter, flat_map}
 use Rattle.std.proofs.lemmas.List.{take_more, map-append, reverse-append}
 use Rattle.sym_model.specs.Partition.{after}
-use Rattle.sym_model.proofs.Lists.{each-append}
+use Rattle.std.proofs.lemmas.Grind.{flat_map-append}
+use Rattle.sym_model.proofs.AfterLists.{after-more}
+use Rattle.std.proofs.lemmas.List.Elements.{filter-append}
 
 pub each-one : {A B : Type 0} (f : A → List B) (x : A) → flat_map f (x ∷ []) ≡ f x
 each-one f x = append-nil (f x)
 
--- the list a + 1, .., a + k + 1 is the list a + 1, .., a + k followed by a + k + 1
-pub after-more : (a k : ℕ) → after a (k + 1) ≡ after a k ++ ((a + k + 1) ∷ [])
-after-more a zero = rw (add-one 0) (ap (λ n. n ∷ []) (omega arith))
-after-more a (suc k) =
-    let e : a + 1 + k + 1 ≡ a + suc k + 1 = omega arith in
-    rw (add-one (suc k)) (ap (λ l. (a + 1) ∷ l) (ap (after (a + 1)) (sym (add-one k)) ∙ after-more (a + 1) k ∙ ap (λ n. after (a + 1) k ++ (n ∷ [])) e))
-
 pub each_after-more : {B : Type 0} (f : ℕ → List B) (k : ℕ) → flat_map f (after 0 (k + 1)) ≡ flat_map f (after 0 k) ++ f (k + 1)
 each_after-more f k =
     let e : 0 + k + 1 ≡ k + 1 = omega arith in
-    ap (flat_map f) (after-more 0 k) ∙ each-append f (after 0 k) ((0 + k + 1) ∷ []) ∙ ap (λ z. flat_map f (after 0 k) ++ z) (each-one f (0 + k + 1) ∙ ap f e)
+    ap (flat_map f) (after-more 0 k) ∙ flat_map-append f (after 0 k) ((0 + k + 1) ∷ []) ∙ ap (λ z. flat_map f (after 0 k) ++ z) (each-one f (0 + k + 1) ∙ ap f e)
 
 -- the flat map of f over the first i + 1 elements is that over the first i, followed by f of the element at i
 pub each_take-more : {A B C : Type 0} (f : B → List C) (g : A → B) (xs : List A) (i : ℕ) (x : A) → i < length xs → x ≡ get_or xs i x
@@ -25,7 +20,7 @@ pub each_take-more : {A B C : Type 0} (f : B → List C) (g : A → B) (xs : Lis
 each_take-more f g xs i x h e =
     ap (λ l. flat_map f (map g l)) (take_more xs i x h ∙ ap (λ y. take i xs ++ (y ∷ [])) (sym e))
     ∙ ap (flat_map f) (map-append g (take i xs) (x ∷ []))
-    ∙ each-append f (map g (take i xs)) (g x ∷ [])
+    ∙ flat_map-append f (map g (take i xs)) (g x ∷ [])
     ∙ ap (λ l. flat_map f (map g (take i xs)) ++ l) (each-one f (g x))
 
 -- the flat map over j + k, .., j + 1 is f(j + k), followed by the flat map over j + k - 1, .., j + 1
@@ -43,18 +38,9 @@ map_after-more f k =
     let e : 0 + k + 1 ≡ k + 1 = omega arith in
     ap (map f) (after-more 0 k) ∙ map-append f (after 0 k) ((0 + k + 1) ∷ []) ∙ ap (λ n. map f (after 0 k) ++ (f n ∷ [])) e
 
-select-append : {A : Type 0} (test : A → Bool) (xs : List A) (x : A) → filter test (xs ++ (x ∷ [])) ≡ filter test xs ++ cond (test x) (x ∷ []) []
-select-append test [] x = refl
-select-append {A} test (y ∷ xs) x = by (test y) (select-append test xs x)
-  where
-    by : (b : Bool) → filter test (xs ++ (x ∷ [])) ≡ filter test xs ++ cond (test x) (x ∷ []) []
-        → cond b (y ∷ filter test (xs ++ (x ∷ []))) (filter test (xs ++ (x ∷ []))) ≡ cond b (y ∷ filter test xs) (filter test xs) ++ cond (test x) (x ∷ []) []
-    by true e = ap (λ l. y ∷ l) e
-    by false e = e
-
 pub select_take-more : {A B : Type 0} (test : B → Bool) (g : A → B) (xs : List A) (i : ℕ) (x : A) → i < length xs → x ≡ get_or xs i x
     → filter test (map g (take (i + 1) xs)) ≡ filter test (map g (take i xs)) ++ cond (test (g x)) (g x ∷ []) []
 select_take-more test g xs i x h e =
     ap (λ l. filter test (map g l)) (take_more xs i x h ∙ ap (λ y. take i xs ++ (y ∷ [])) (sym e))
     ∙ ap (filter test) (map-append g (take i xs) (x ∷ []))
-    ∙ select-append test (map g (take i xs)) (g x)
+    ∙ filter-append test (map g (take i xs)) ((g x) ∷ [])

@@ -1,4 +1,4 @@
--- The polynomials of the plain programs' lists of exponents.
+-- The polynomials that the plain programs return as lists of the exponents of their monomials.
 use Rattle.std.specs.Prelude.{ℕ, ◌+◌, ◌^◌, ◌<◌, Bool, true, pos, List, map}
 use Rattle.std.specs.Global.{Vec}
 use Rattle.sym_model.specs.Sum.{Among}
@@ -23,19 +23,19 @@ sum_of αs = map (λ α. (α, pos 1)) αs
 abbrev pub CanMultiply : List (List ℕ) → List (List ℕ) → Type 0
 CanMultiply αs βs = (α β : List ℕ) → Among α αs → Among β βs → size α + size β < 2 ^ 64
 
--- whether the monomial with these exponents, whose degree is the part k, occurs in e_k, h_k or p_k, by the basis
+-- whether the monomial with these exponents, of degree k, occurs in e_k, h_k or p_k, the one that the basis names
 abbrev pub keeps : PlainBasis → ℕ → List ℕ → Bool
 keeps Elementary part = at_most_one
 keeps Complete part = λ α. true
 keeps PowerSum part = has part
 
--- e_k, h_k or p_k of the part k, by the basis
+-- e_k, h_k or p_k for the part k, the one that the basis names
 abbrev pub part_polynomial : PlainBasis → ℕ → ℕ → Poly
 part_polynomial Elementary = elementary_of
 part_polynomial Complete = complete_of
 part_polynomial PowerSum = power_sum_of
 
--- e_λ, h_λ or p_λ of the partition λ, by the basis
+-- e_λ, h_λ or p_λ for the partition λ, the one that the basis names
 abbrev pub product_polynomial : PlainBasis → List ℕ → ℕ → Poly
 product_polynomial Elementary = elementary
 product_polynomial Complete = complete

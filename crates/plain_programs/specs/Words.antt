@@ -1,4 +1,4 @@
--- The lists that the vectors of this crate hold.
+-- The lists of numbers that the vectors of this crate hold.
 use Rattle.std.specs.Prelude.{ℕ, List, map, Vec}
 use Rattle.std.specs.declared.alloc.Global.{Global}
 

@@ -1,4 +1,5 @@
-//! Arrangements of the parts of a partition in places, and conjugates.
+//! Plain programs for the arrangements of the parts of a partition in n places, and for the
+//! conjugate of a partition.
 
 ghost use Rattle.std.specs.Prelude.{◌≡◌, ◌^◌, ◌<◌, ◌≤◌, IfOk, length};
 ghost use Rattle.sym_model.specs.Partition.{size};
@@ -13,9 +14,9 @@ use crate::numbers::number_at;
 use crate::printed_order::plain_size;
 use std::alloc::{AllocError, Global};
 
-/// The distinct arrangements of the parts and of zeros in n places, in decreasing lexicographic
-/// order; none if there are more parts than places. The sum of the parts is below 2^64. Fails only
-/// if memory runs out.
+/// The distinct lists of `places` numbers whose positive numbers are the parts in some order, the
+/// others being 0, in decreasing lexicographic order; none if there are more parts than places. The
+/// sum of the parts is below 2^64. Fails only if memory runs out.
 pub fn plain_arrangements(
     alloc: Global,
     parts: &[u64],

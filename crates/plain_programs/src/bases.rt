@@ -1,7 +1,8 @@
 //! Plain programs for the bases m, e, h and p in few variables, by their definitions.
 //!
-//! Each returns the polynomial as the exponent lists of its monomials, one for each term of the
-//! formal sum, with coefficient 1. A monomial that the sum has twice is listed twice.
+//! Each returns the polynomial, a formal sum in which all coefficients are 1, as a list of the
+//! exponent lists of its monomials, one for each term. A monomial that the sum has twice is listed
+//! twice.
 
 ghost use Rattle.std.specs.Prelude.{◌≡◌, ◌+◌, ◌^◌, ◌<◌, ◌++◌, ℕ, List, map, IfOk, OnOk, flat_map};
 ghost use Rattle.plain_programs.specs.PlainLists.{lists, sum_of, CanMultiply, keeps};
@@ -15,7 +16,7 @@ use crate::exponent_lists::{plain_exponent_lists, plain_join, plain_sorted_parts
 use crate::printed_order::plain_size;
 use std::alloc::{AllocError, Global};
 
-/// The bases in which the polynomial of a partition is the product over its parts.
+/// The bases in which the polynomial of a partition is the product of the polynomials of its parts.
 #[derive(Clone, Copy)]
 pub enum PlainBasis {
     /// Elementary symmetric polynomials.
@@ -48,8 +49,9 @@ pub(crate) fn sorts_to(alloc: Global, exponents: &[u64], parts: &[u64]) -> Resul
     Ok(sorted.as_slice() == parts)
 }
 
-/// The elementary, complete or power sum polynomial of the parts in `n` variables: the product over
-/// the parts. The sum of the parts is below 2^64. Fails only if memory runs out.
+/// The polynomial e_λ, h_λ or p_λ in `n` variables, for the partition λ with the given parts: the
+/// product of the polynomials of its parts. `basis` says which of the three it is. The sum of the
+/// parts is below 2^64. Fails only if memory runs out.
 pub fn plain_product(
     alloc: Global,
     basis: PlainBasis,
@@ -67,8 +69,8 @@ pub fn plain_product(
     times(alloc, &front, &back)
 }
 
-/// The elementary, complete or power sum polynomial of one part in `n` variables. Fails only if
-/// memory runs out.
+/// The polynomial e_k, h_k or p_k in `n` variables, for the part k = `part`. `basis` says which of
+/// the three it is. Fails only if memory runs out.
 pub fn plain_part_polynomial(
     alloc: Global,
     basis: PlainBasis,
@@ -126,8 +128,8 @@ fn one(alloc: Global, n: usize) -> Result<Vec<Vec<u64>>, AllocError>
     Ok(all)
 }
 
-/// The products of each first and each second monomial, whose exponents must fit 64 bits. Fails
-/// only if memory runs out.
+/// The products of each monomial of `first` and each monomial of `second`. The exponents of the
+/// products must fit 64 bits. Fails only if memory runs out.
 fn times(
     alloc: Global,
     first: &[Vec<u64>],

@@ -1,4 +1,5 @@
-//! Fillings of a skew shape and its semistandard tableaux, by listing all of them.
+//! Plain programs for the fillings of a skew shape, and for its semistandard tableaux, which are
+//! found by testing all fillings.
 
 ghost use Rattle.std.specs.Prelude.{◌≡◌, ◌∷◌, ◌++◌, map, IfOk, OnOk, filter, flat_map};
 ghost use Rattle.sym_model.specs.Schur.{row_lengths, fillings_of, semistandard, tableaux};
@@ -27,7 +28,8 @@ pub fn plain_tableaux(
     semistandard_among(alloc, inner, &fillings)
 }
 
-/// All fillings with letters from 1 to n of rows with these lengths. Fails only if memory runs out.
+/// All fillings of rows with the given lengths by letters from 1 to n. Fails only if memory runs
+/// out.
 pub fn plain_fillings(
     alloc: Global,
     n: u64,
@@ -64,7 +66,7 @@ fn push_row_lengths(lengths: &mut Vec<u64>, outer: &[u64], inner: &[u64]) -> Res
     }
 }
 
-/// The fillings that consist of one of the rows on top of one of the fillings.
+/// The fillings that consist of one of the given rows on top of one of the given fillings.
 fn stacked(
     alloc: Global,
     rows: &[Vec<u64>],
@@ -109,7 +111,7 @@ fn with_first_row(
     Ok(longer)
 }
 
-/// Appends a copy of each row.
+/// Appends copies of the rows to the list.
 pub(crate) fn push_rows(
     alloc: Global,
     list: &mut Vec<Vec<u64>>,

@@ -1,4 +1,4 @@
-//! Good tableaux, by listing all tableaux.
+//! Plain programs for the good tableaux of a skew shape, which are found by testing all tableaux.
 
 ghost use Rattle.std.specs.Prelude.{◌≡◌, [], ◌∷◌, ◌++◌, ◌+◌, ◌<◌, ◌≤◌, ◌^◌, IfOk, OnOk, cond};
 ghost use Rattle.std.specs.Prelude.{length, map, filter};
@@ -15,9 +15,9 @@ use crate::readings::{plain_column_reading, plain_reading_right_of};
 use crate::words::plain_words;
 use std::alloc::{AllocError, Global};
 
-/// The column readings, in increasing lexicographic order, of the good tableaux (`plain_is_good`)
-/// of the shape outer/inner with this start and entries from 1 to k; none if start has more than k
-/// parts. The number of cells is below 2^64. Fails only if memory runs out.
+/// The column readings, in increasing lexicographic order, of the tableaux of the shape outer/inner
+/// with entries from 1 to k that are good for the given start (`plain_is_good`); none if start has
+/// more than k parts. The number of cells is below 2^64. Fails only if memory runs out.
 pub fn plain_good_readings(
     alloc: Global,
     k: u64,
@@ -35,8 +35,9 @@ pub fn plain_good_readings(
     those_among(alloc, &words, &readings)
 }
 
-/// The good tableaux (`plain_is_good`) of the shape outer/inner with this start and entries from 1
-/// to k, each by its rows; none if start has more than k parts. Fails only if memory runs out.
+/// The tableaux of the shape outer/inner with entries from 1 to k that are good for the given start
+/// (`plain_is_good`), each by its rows; none if start has more than k parts. Fails only if memory
+/// runs out.
 pub fn plain_good_tableaux(
     alloc: Global,
     k: u64,
@@ -91,9 +92,9 @@ fn push_if(
     Ok(())
 }
 
-/// Whether a tableau is good for a start: start plus the content of the columns right of column j,
-/// in letters from 1 to k, is weakly decreasing for each j from 0 to the last column. Fails only if
-/// memory runs out.
+/// Whether a tableau of the shape outer/inner, given by its rows, is good for a start: for each j
+/// from 0 to the last column, start plus the content of the columns to the right of column j, in
+/// letters from 1 to k, is weakly decreasing. Fails only if memory runs out.
 pub fn plain_is_good(
     alloc: Global,
     k: u64,
@@ -130,7 +131,7 @@ fn falls_with(alloc: Global, k: u64, start: &[u64], word: &[u64]) -> Result<bool
     Ok(falls(&sums))
 }
 
-/// The number of times that each letter from 1 to k occurs in the word.
+/// The content of the word: for each letter from 1 to k, the number of times that it occurs.
 pub(crate) fn counts_of(alloc: Global, k: u64, word: &[u64]) -> Result<Vec<u64>, AllocError>
     ensures { IfOk result (λ counts. counts.items ≡ content k word.now) }
 {
@@ -153,7 +154,8 @@ fn count_of(letter: u64, word: &[u64]) -> u64
     if *first == letter { rest + 1 } else { rest }
 }
 
-/// Appends the sums of two lists, place by place, a missing number being 0.
+/// Appends to `sums` the sum of the two lists `first` and `second`, place by place, a missing
+/// number being 0.
 fn push_sums(sums: &mut Vec<u128>, first: &[u64], second: &[u64]) -> Result<(), AllocError>
     ensures { OnOk result (sums.new.items ≡ sums.old.items ++ join first.now second.now) }
 {

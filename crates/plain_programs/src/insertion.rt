@@ -1,4 +1,5 @@
-//! Row insertion of words, and the pair of tableaux that it makes.
+//! Plain programs for row insertion: the tableau after a letter is inserted, and the insertion and
+//! recording tableaux of a word.
 
 ghost use Rattle.std.specs.Prelude.{◌≡◌, ◌+◌, ◌<◌, ◌^◌, ◌++◌, Some, IfOk, OnOk, length};
 ghost use Rattle.sym_model.specs.Insertion.{row_with, bumped, inserted, with_step, inserted_from};
@@ -18,7 +19,8 @@ pub struct TableauPair {
     pub recording: Vec<Vec<u64>>,
 }
 
-/// The pair of tableaux of a word, by row insertion. Fails only if memory runs out.
+/// The insertion tableau and the recording tableau of a word, by row insertion. Fails only if
+/// memory runs out.
 pub fn plain_insertion_pair(alloc: Global, word: &[u64]) -> Result<TableauPair, AllocError>
     ensures { IfOk result (λ pair. tableaux_of pair ≡ insertion_pair word.now) }
 {
@@ -29,8 +31,9 @@ pub fn plain_insertion_pair(alloc: Global, word: &[u64]) -> Result<TableauPair, 
     inserted_from(alloc, 1, word, empty)
 }
 
-/// The pair of tableaux after the letters of a word are inserted into `pair` one by one, with
-/// `step` as the number of the first one.
+/// The pair of tableaux after the letters of a word are inserted into `pair` one by one; the
+/// recording tableau gets the number `step` for the first letter, and the following numbers for the
+/// others.
 fn inserted_from(
     alloc: Global,
     step: u64,
@@ -54,7 +57,7 @@ fn inserted_from(
     inserted_from(alloc, step + 1, others, next)
 }
 
-/// The rows of a tableau with a letter inserted. Fails only if memory runs out.
+/// The rows of the tableau after row insertion of a letter. Fails only if memory runs out.
 pub fn plain_inserted(
     alloc: Global,
     rows: &[Vec<u64>],
@@ -91,7 +94,8 @@ fn push_inserted(
     }
 }
 
-/// Appends the row with the letter inserted to the list.
+/// Appends to `list` the row after row insertion of the letter: it replaces the first greater
+/// letter, or comes at the end if there is no greater letter.
 fn push_row_with(list: &mut Vec<u64>, row: &[u64], letter: u64) -> Result<(), AllocError>
     ensures { OnOk result (list.new.items ≡ list.old.items ++ row_with letter row.now) }
 {
@@ -122,7 +126,8 @@ fn bumped_letter(row: &[u64], letter: u64) -> Option<u64>
     }
 }
 
-/// The recording tableau with the number of a step in the cell that only the insertion tableau has.
+/// The recording tableau with the number `step` added in the cell that the insertion tableau has
+/// and the recording tableau does not have yet.
 fn with_step(
     alloc: Global,
     step: u64,

@@ -1,7 +1,7 @@
 //! Plain programs for the bases, printed blocks and orders, fillings and lists of tableaux,
 //! insertion, removals of rim hooks, reflections and permutations, each with its definition as its
-//! contract. They are slow: they are for readers, and for comparisons with the results of the other
-//! crates.
+//! contract. They are slow. They are meant to be read, and to be compared with the results of the
+//! other crates.
 //!
 //! What is proved:
 //!

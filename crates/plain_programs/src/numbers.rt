@@ -1,8 +1,8 @@
-//! Lists of numbers, a missing number being 0.
+//! Access to lists of numbers, in which a number after the end is 0.
 
 ghost use Rattle.std.specs.Prelude.{◌≡◌, ◌+◌, ◌^◌, ◌<◌, slice_index, drop};
 
-/// The number at a place, or 0 after the end.
+/// The number at the index i, counted from 0, or 0 if the list ends before.
 pub(crate) fn number_at(numbers: &[u64], i: usize) -> u64
     ensures { result ≡ slice_index numbers.now i }
 {

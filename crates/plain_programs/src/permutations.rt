@@ -20,8 +20,8 @@ pub fn plain_inversions(letters: &[u64]) -> u64
     here + plain_inversions(rest)
 }
 
-/// The code: for each place the number of smaller letters to the right. Fails only if memory runs
-/// out.
+/// The code of a list of letters: for each place the number of smaller letters to the right. Fails
+/// only if memory runs out.
 pub fn plain_code(alloc: Global, letters: &[u64]) -> Result<Vec<u64>, AllocError>
     ensures { IfOk result (λ list. list.items ≡ code letters.now) }
 {

@@ -1,4 +1,4 @@
-//! A plain program for the printed order, which follows the definition.
+//! A plain program, by the definition, for the order in which terms are printed.
 
 ghost use Rattle.std.specs.Prelude.{◌≡◌, ◌^◌, ◌<◌};
 ghost use Rattle.sym_model.specs.Partition.{size};
@@ -7,8 +7,9 @@ ghost use Rattle.sym_model.specs.PrintedOrder.{falling_lexicographic, printed_or
 use crate::numbers::number_at;
 use std::cmp::Ordering;
 
-/// The printed order of two lists of numbers: the greater sum first, then decreasing lexicographic
-/// order, a missing number being 0. Both sums must be below 2^64. No memory is allocated.
+/// Compares two lists of numbers in the printed order: the list with the greater sum comes first;
+/// lists with equal sums are in decreasing lexicographic order, a missing number being 0. Both sums
+/// must be below 2^64. No memory is allocated.
 pub fn plain_printed_order(first: &[u64], second: &[u64]) -> Ordering
     requires first_fits { size first.now < 2 ^ 64 }
     requires second_fits { size second.now < 2 ^ 64 }
@@ -30,7 +31,8 @@ pub fn plain_size(parts: &[u64]) -> u64
     total
 }
 
-/// Decreasing lexicographic order, a missing number being 0. No memory is allocated.
+/// Compares two lists of numbers in decreasing lexicographic order, a missing number being 0. No
+/// memory is allocated.
 pub fn plain_falling_lexicographic(first: &[u64], second: &[u64]) -> Ordering
     ensures { result ≡ falling_lexicographic first.now second.now }
 {

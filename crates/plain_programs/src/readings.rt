@@ -1,4 +1,4 @@
-//! Column readings of fillings of skew shapes.
+//! Plain programs for the column readings of fillings of skew shapes.
 
 ghost use Rattle.std.specs.Prelude.{◌≡◌, ◌++◌, ◌+◌, ◌<◌, ◌≤◌, ◌^◌, IfOk, OnOk, length, reverse};
 ghost use Rattle.std.specs.Prelude.{flat_map};
@@ -23,7 +23,8 @@ pub fn plain_column_reading(
     plain_reading_right_of(alloc, 0, outer, inner, filling)
 }
 
-/// The part of the column reading in the columns right of column j. Fails only if memory runs out.
+/// The column reading of the columns of a filling to the right of column j: the columns from the
+/// rightmost on, each from top to bottom. Fails only if memory runs out.
 pub fn plain_reading_right_of(
     alloc: Global,
     j: u64,

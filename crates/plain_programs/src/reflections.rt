@@ -1,4 +1,5 @@
-//! The reduction of partitions by reflections of their beta lists.
+//! Plain programs for the reduction of partitions into the alcove, by reflections of their beta
+//! lists.
 
 ghost use Rattle.std.specs.Prelude.{◌≡◌, ℕ, ◌++◌, ◌+◌, ◌-◌, ◌≤◌, ◌<◌, ◌^◌, IfOk, OnOk, length};
 ghost use Rattle.std.specs.Prelude.{slice_index};
@@ -13,7 +14,7 @@ use crate::beta_lists::{
 use crate::numbers::number_at;
 use std::alloc::{AllocError, Global};
 
-/// A list of numbers with a sign.
+/// A list of numbers, with one sign for the whole list.
 #[derive(Drop)]
 pub struct Signed {
     /// The numbers of the list, without the sign.
@@ -23,8 +24,8 @@ pub struct Signed {
 }
 
 /// The reduction of a partition with at most k rows into the alcove of level n - k, for n at least
-/// 1: a partition with a sign, or None if it is 0. The greatest part plus k is below 2^64. Fails
-/// only if memory runs out.
+/// 1: a partition with a sign, or None if the reduction is 0. The greatest part plus k is below
+/// 2^64. Fails only if memory runs out.
 pub fn plain_alcove(
     alloc: Global,
     k: u64,
@@ -47,8 +48,9 @@ pub fn plain_alcove(
     }))
 }
 
-/// The result of reflecting a list until the first entry minus the last is below n, which is at
-/// least 1, with a sign; None if it is 0. Fails only if memory runs out.
+/// Reflects a list until its first entry exceeds its last by less than n, which is at least 1.
+/// Returns the list that is reached, with a sign; None if the reduction is 0. Fails only if memory
+/// runs out.
 pub fn plain_reflect(alloc: Global, n: u64, list: &[u64]) -> Result<Option<Signed>, AllocError>
     requires { 1 ≤ n }
     ensures { IfOk result (λ answer. signed_of answer ≡ reflected_into_alcove n list.now) }
@@ -81,7 +83,7 @@ pub fn plain_reflect(alloc: Global, n: u64, list: &[u64]) -> Result<Option<Signe
     }))
 }
 
-/// The difference of the first entry and the last.
+/// The first entry of the list minus the last; 0 if the last entry is greater or the list is empty.
 fn spread_of(list: &[u64]) -> u64
     ensures { result ≡ spread list.now }
 {

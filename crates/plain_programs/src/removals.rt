@@ -1,4 +1,4 @@
-//! The reduction of partitions by removals of rim hooks.
+//! Plain programs for the reduction of partitions by removals of rim hooks.
 
 ghost use Rattle.std.specs.Prelude.{◌≡◌, ℕ, ◌+◌, ◌-◌, ◌≤◌, ◌<◌, ◌^◌, IfOk, length, slice_index};
 ghost use Rattle.sym_model.specs.Partition.{IsPartition, size};
@@ -24,15 +24,15 @@ pub struct Removal {
 pub struct Core {
     /// The partition that is left at the end.
     pub shape: Vec<u64>,
-    /// Whether the sign is a minus.
+    /// Whether the sign is -1.
     pub is_negative: bool,
     /// The number of removed rim hooks.
     pub power: u64,
 }
 
 /// Removes rim hooks of n cells, n at least 1, from a partition with at most k rows and fewer than
-/// 2^64 cells until there is none; each multiplies the sign by (-1)^(k - height). Fails only if
-/// memory runs out.
+/// 2^64 cells, until no such rim hook can be removed; each removal multiplies the sign by (-1)^(k -
+/// height). Fails only if memory runs out.
 pub fn plain_core(alloc: Global, k: u64, n: u64, shape: &[u64]) -> Result<Core, AllocError>
     requires positive { 1 ≤ n }
     requires partition { IsPartition shape.now }
@@ -60,8 +60,8 @@ pub fn plain_core(alloc: Global, k: u64, n: u64, shape: &[u64]) -> Result<Core, 
     })
 }
 
-/// A removal of a rim hook of n cells from a partition; None if there is none. Fails only if memory
-/// runs out.
+/// A partition that is left when a rim hook of n cells is removed, with the height of this rim
+/// hook; None if no rim hook of n cells can be removed. Fails only if memory runs out.
 pub fn plain_removal(alloc: Global, n: u64, shape: &[u64]) -> Result<Option<Removal>, AllocError>
     requires { IsPartition shape.now }
     ensures { IfOk result (IsFound n shape.now) }
@@ -75,8 +75,8 @@ pub fn plain_removal(alloc: Global, n: u64, shape: &[u64]) -> Result<Option<Remo
     Ok(None)
 }
 
-/// A removal of a rim hook of n cells whose first row is `first`, counted from 0; None if there is
-/// none.
+/// A removal of a rim hook of n cells whose first row is `first`, counted from 0; None if no such
+/// rim hook can be removed.
 fn removal_from(
     alloc: Global,
     n: u64,
@@ -95,8 +95,8 @@ fn removal_from(
     Ok(None)
 }
 
-/// The removal of a rim hook of n cells with these first and last rows, counted from 0; None if
-/// there is none.
+/// The removal of a rim hook of n cells with the rows `first` to `last`, counted from 0; None if no
+/// such rim hook can be removed.
 fn removal_between(
     alloc: Global,
     n: u64,

@@ -6,8 +6,8 @@ ghost use Rattle.plain_programs.specs.Words.{words_of};
 
 use crate::numbers::{number_at, without_first};
 
-/// Whether rows are weakly and columns strictly increasing, in a filling of a skew shape with this
-/// inner partition, given by its rows. No memory is allocated.
+/// Whether all rows are weakly increasing and all columns strictly increasing in a filling of a
+/// skew shape, given by its rows and the inner partition. No memory is allocated.
 pub fn plain_semistandard(inner: &[u64], filling: &[Vec<u64>]) -> bool
     ensures { result ≡ semistandard inner.now (words_of filling.now) }
 {
@@ -23,7 +23,8 @@ pub fn plain_semistandard(inner: &[u64], filling: &[Vec<u64>]) -> bool
         && plain_semistandard(without_first(inner, 1), below)
 }
 
-/// Whether no part of the inner list is greater than the part of the outer list in the same row.
+/// Whether the shape `inner` lies inside `outer`: no part of `inner` is greater than the part of
+/// `outer` in the same row.
 pub fn plain_contains(outer: &[u64], inner: &[u64]) -> bool
     ensures { result ≡ contains outer.now inner.now }
 {
@@ -48,7 +49,8 @@ fn rises(row: &[u64]) -> bool
     *first <= *second && rises(later)
 }
 
-/// Whether each letter of the lower row is greater than the letter above it.
+/// Whether each letter of the lower row that has a letter above it in the upper row is greater than
+/// that letter.
 fn stands_on(upper: &[u64], lower: &[u64]) -> bool
     ensures { result ≡ columns_rise upper.now lower.now }
 {

@@ -1,4 +1,5 @@
-//! Lists of tableaux by their column readings, and the filling of a reading.
+//! Plain programs for lists of tableaux, in which a tableau is given by its column reading, and for
+//! the part of such a list after a given tableau.
 
 ghost use Rattle.std.specs.Prelude.{◌≡◌, ◌<◌, ◌^◌, IfOk, length, filter};
 ghost use Rattle.sym_model.specs.Polynomial.{same};
@@ -30,8 +31,9 @@ pub fn plain_tableau_readings(
     those_among(alloc, &words, &readings)
 }
 
-/// The column readings of the semistandard tableaux with this content, with entries up to the
-/// length of the content. The number of cells is below 2^64. Fails only if memory runs out.
+/// The column readings of the semistandard tableaux of the shape outer/inner with the content
+/// `counts`; the entries are from 1 to the length of the content. The number of cells is below
+/// 2^64. Fails only if memory runs out.
 pub fn plain_readings_with_content(
     alloc: Global,
     counts: &[u64],
@@ -64,7 +66,8 @@ fn those_with_content(
     Ok(list)
 }
 
-/// The lists after a word in a list of lists; none if it is not among them. No memory is allocated.
+/// The words that come after `word` in a list of words; none if `word` is not in the list. No
+/// memory is allocated.
 pub fn plain_later_than<'a>(word: &[u64], list: &'a [Vec<u64>]) -> &'a [Vec<u64>]
     ensures { words_of result.now ≡ later_than word.now (words_of list.now) }
 {

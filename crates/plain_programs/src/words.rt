@@ -1,4 +1,4 @@
-//! All words of one length, in lexicographic order.
+//! A plain program for all words of a given length, in lexicographic order.
 
 ghost use Rattle.std.specs.Prelude.{◌≡◌, ◌+◌, ◌∷◌, ◌++◌, map, IfOk, OnOk, flat_map};
 ghost use Rattle.sym_model.specs.Partition.{after};
@@ -20,7 +20,7 @@ pub fn plain_words(alloc: Global, n: u64, length: u64) -> Result<Vec<Vec<u64>>, 
     Ok(list)
 }
 
-/// Each letter from 1 to n in front of each of the words.
+/// The words that consist of a letter from 1 to n followed by one of the given words.
 fn prefixed(alloc: Global, n: u64, words: &[Vec<u64>]) -> Result<Vec<Vec<u64>>, AllocError>
     ensures { IfOk result (λ list. words_of list.items
         ≡ flat_map (λ a. map (λ w. a ∷ w) (words_of words.now)) (after 0 n)) }
@@ -47,7 +47,7 @@ fn push_prefixed(
     Ok(())
 }
 
-/// A letter in front of a word.
+/// The word that consists of the letter `first` followed by `word`.
 fn with_first(alloc: Global, first: u64, word: &[u64]) -> Result<Vec<u64>, AllocError>
     ensures { IfOk result (λ longer. longer.items ≡ first ∷ word.now) }
 {

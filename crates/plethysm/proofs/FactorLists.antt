@@ -1,9 +1,9 @@
--- p_k[G] and p_λ[G] of a list G in m, factor by factor.
+-- The plethysms p_k[G] and p_λ[G] for a list G in m, one factor p_k[G] of p_λ[G] after another.
 use Rattle.std.proofs.Common.{◌≡◌, ℕ, ◌+◌, ◌*◌, ◌^◌, ◌<◌, ◌≤◌, List, [], ◌∷◌, ◌++◌, length, sym, ap, subst, arith, ℤ, pos}
 use Rattle.std.proofs.lemmas.Int.{ints}
 use Rattle.std.proofs.lemmas.List.{map-append}
 use Rattle.std.proofs.lemmas.Nat.{mul-le, pow-add}
-use Rattle.std.proofs.Math.Nat.{pow-le-pow_right}
+use Rattle.std.proofs.Math.Nat.{pow-le-pow_right, le_trans}
 use Rattle.sym_model.specs.Sum.{Among, Once}
 use Rattle.sym_model.specs.Partition.{IsPartition, Falls, ArePositive, size}
 use Rattle.sym_model.specs.Plethysm.{multiplied, repeated_monomials}
@@ -40,7 +40,7 @@ use Rattle.plethysm.specs.BoundedSums.{IsBoundedSum}
 use Rattle.plethysm.specs.PathSums.{power_sum_in}
 use native.Mathlib.Nat.{mul-le-mul_left, mul-pos}
 
--- ---- labels with each part multiplied by k
+-- ---- partitions with each part multiplied by k
 
 pub size-multiplied : (k : ℕ) (parts : List ℕ) → size (multiplied k parts) ≡ k * size parts
 size-multiplied k [] = omega arith
@@ -66,14 +66,14 @@ IsWithinLimits-multiplied k parts h p low =
       small = omega arith;
     }
 
--- ---- the list of p_k[G]
+-- ---- the list of p_k[G] in m
 
 pub list-dilated : (k : ℕ) (W V : WholeTerms) → 0 < k → Same V (dilated k W) → IsList V (λ n. dilated k (in_monomials W n))
 list-dilated k W V h e =
     list_respects (dilated k W) V (λ n. dilated k (in_monomials W n)) (Same_sym V (dilated k W) e)
     (λ n. Same_sym (dilated k (in_monomials W n)) (in_monomials (dilated k W) n) (dilated-list k W n h))
 
--- ---- p_λ[G] with one more factor
+-- ---- p_λ[G] in m, and its product with one more factor p_k[G]
 
 module _ (W : WholeTerms) (K b : ℕ) (h : IsBoundedSum K b W) where
   pub monomial_sum_in : (n : ℕ) → IsMonomialSum b n (in_monomials W n)
@@ -104,14 +104,10 @@ module _ (W : WholeTerms) (K b : ℕ) (h : IsBoundedSum K b W) where
   large-later k rest l =
       let x : K ^ size rest ≤ K ^ (k + size rest) = pow-le-pow_right h.some (omega arith) in
       let y = growth-mono (size rest * b) ((k + size rest) * b) (omega arith) in
-      three (2 ^ 127) (K ^ size rest * growth Basis.monomials (size rest * b)) (K ^ (k + size rest) * growth Basis.monomials ((k + size rest) * b)) l
-      (mul-le (K ^ size rest) (growth Basis.monomials (size rest * b)) (K ^ (k + size rest)) (growth Basis.monomials ((k + size rest) * b)) x y)
-    where
-      three : (x y z : ℕ) → x ≤ y → y ≤ z → x ≤ z
-      three x y z h k = omega arith
+      le_trans l (mul-le (K ^ size rest) (growth Basis.monomials (size rest * b)) (K ^ (k + size rest)) (growth Basis.monomials ((k + size rest) * b)) x y)
 
--- if A is the list of p_k[G], and B that of the factors of `rest`, a list with the coefficients of A·B is that of
--- the factors of k ∷ rest
+-- let G be the polynomial of the list W, and λ be `rest`: if A is the list of p_k[G] in m, and B the list of p_λ[G] in m, then each list with the
+-- coefficients of A·B is the list of p_μ[G] in m, for μ = k ∷ rest
 pub list-more : (W : WholeTerms) (k : ℕ) (rest parts : List ℕ) (A B C : WholeTerms) → k ∷ rest ≡ parts → IsList A (λ n. dilated k (in_monomials W n)) → IsList B (power_sum_in W rest)
     → ((ν : List ℕ) → IsPartition ν → coefficient C ν ≡ product_coefficient A B ν) → IsList C (power_sum_in W parts)
 list-more W k rest parts A B C split h i e n =
@@ -122,7 +118,8 @@ list-none W V [] h e n =
     list_respects (([], pos 1) ∷ []) V (power_sum_in W []) (Same_sym V (([], pos 1) ∷ []) e) (list-no_factor (λ k m. dilated k (in_monomials W n))) n
 list-none W V (k ∷ parts) h e n = absurd (omega arith)
 
--- if the labels of two lists have at most a and b cells, those of a list whose labels are sums of theirs have at most a + b
+-- if the labels of `left` have at most a cells and those of `right` at most b, and the size of each label of `product` is the sum of the size of a
+-- label of `left` and the size of a label of `right` (`AreSums`), then the labels of `product` have at most d cells, for each d ≥ a + b
 pub within-product : (left right product : WholeTerms) (a b d : ℕ) → AreWithin a left → AreWithin b right → a + b ≤ d → AreSums left right product → AreWithin d product
 within-product left right product a b d h k l added t m =
     let (x, y, p, q, e) = added t m in
@@ -130,7 +127,8 @@ within-product left right product a b d h k l added t m =
     let r = k y q in
     omega arith
 
--- in the list with every part multiplied by k, the labels have at most k times the greatest size
+-- if `list` is `inner` with every part of every label multiplied by k, the size of each label of `list` is at most k times the greatest size of a
+-- label of `inner`
 pub within-dilated : (k : ℕ) (inner list : WholeTerms) → IsWholeTable list → Same list (dilated k inner) → AreWithin (k * greatest_size inner) list
 within-dilated k inner list is same =
     labels-same (λ (label : List ℕ). size label ≤ k * greatest_size inner) list (dilated k inner) is same
@@ -141,16 +139,16 @@ within-dilated k inner list is same =
     let h = size-multiplied k u.0.0 in
     omega arith)
 
--- ---- the loop over the terms of a list
+-- ---- the labels that a loop over the terms of a list visits
 
--- the label of each term of a list is a partition with at most as many cells as the greatest label
+-- the label of each term of a list of fractions is a partition whose size is at most the greatest size of a label
 pub label_of : (terms : Terms (List ℕ)) (label : List ℕ) (c : Fraction) → IsFractionTable terms → Among (label, c) terms → IsPartition label × (size label ≤ greatest_size terms)
 label_of terms label c is m = (
   (is_label-tells label (term-tests terms is (label, c) m).1).partition,
   greatest_size-among terms (label, c) m,
 )
 
--- the label of the next term of a table of integers is a partition with at most as many cells as the greatest label
+-- the label of the next term of a table of integers is a partition whose size is at most the greatest size of a label
 pub next_label : (terms done rest : WholeTerms) (label : List ℕ) (c : ℤ) → IsWholeTable terms → done ++ (label, c) ∷ rest ≡ terms → IsPartition label × (size label ≤ greatest_size terms)
 next_label terms done rest label c is e =
     let m = subst (λ (ts : WholeTerms). Among (label, c) ts) e (next_among done (label, c) rest) in

@@ -1,4 +1,4 @@
--- Bounds for the list in m of a plethysm, from those of its two lists: for its coefficients and for the sizes of its labels.
+-- Bounds for the coefficients and for the sizes of the labels of a plethysm in m, from the bounds of its two lists.
 use Rattle.std.proofs.Common.{ℕ, ◌+◌, ◌*◌, ◌^◌, List, length}
 use Rattle.sym_model.specs.Polynomial.{Same}
 use Rattle.sym_model.specs.Plethysm.{plethysm, repeated_monomials}
@@ -23,8 +23,8 @@ use Rattle.plethysm_laws.proofs.ListBounds.{bounded-list}
 use Rattle.plethysm.specs.BoundedSums.{IsBoundedSum}
 use Rattle.plethysm.proofs.FactorLists.{places, sums}
 
--- outer is the list in m of F, bounded by N and D, with labels of at most a cells; V is D times it; W is the list in m of G, bounded by K at the
--- degree b; `list` is the plethysm of V and W
+-- N and D bound the list `outer` in m (`listed.IsBounded`), whose labels have at most a cells; V is D times `outer`; K bounds the list W in m at the
+-- degree b (`IsBoundedSum`); and `list` is the plethysm V[W] in m
 module _ (N D a K b : ℕ) (outer : Terms (List ℕ)) (V W list : WholeTerms) (is : IsFractionTable outer) (bounded : listed.IsBounded N D outer) (within : AreWithin a outer)
     (same : Same V (over D outer)) (h : IsBoundedSum K b W) (also : IsWholeTable list) (value : IsList list (λ n. plethysm (in_monomials V) b n (in_monomials W n))) where
   bounded-at : (n : ℕ) → majorant.IsBounded (N * (a + 1) * K ^ a) (a * b) n (plethysm (in_monomials V) b n (in_monomials W n))

@@ -1,4 +1,4 @@
--- The number that bounds the list in m of a plethysm, and the limit of the sizes of its labels.
+-- The bound of a plethysm in m is at least 1, and the labels of the plethysm are within the limit of sizes of every target.
 use Rattle.std.proofs.Common.{ℕ, ◌+◌, ◌*◌, ◌^◌, ◌≤◌, arith}
 use Rattle.std.proofs.lemmas.Nat.{mul-le}
 use Rattle.std.proofs.Math.Nat.{one-le-pow}
@@ -10,7 +10,7 @@ positive-bound N a K b n k =
     let s = mul-le 1 1 N (a + 1) n (omega arith) in
     mul-le 1 1 (N * (a + 1)) ((K * (b + 1)) ^ a) (omega arith) (one-le-pow a (K * (b + 1)) (mul-le 1 1 K (b + 1) k (omega arith)))
 
--- the limit of the size of a label is at least 10 in every target
+-- the limit of the degree (`degree_limit`) is at least 10 for every target
 pub degree_limit-ten : (target : Basis) → 10 ≤ degree_limit target
 degree_limit-ten Basis.monomials = omega arith
 degree_limit-ten elementaries = omega arith

@@ -10,7 +10,7 @@ use Rattle.sym_model.proofs.Sums.{total_none, Among-map}
 use Rattle.sparse_polys.proofs.PartitionTerms.{once_before}
 
 module _ {X : Type 0} (h : X → ℤ) where
-  -- the labels, each with the integer h(c) of its coefficient c
+  -- the list with the integer h(c) in place of each coefficient c
   abbrev pub mapped : List (List ℕ × X) → WholeTerms
   mapped terms = map (λ (t : List ℕ × X). (t.0, h t.1)) terms
 
@@ -21,7 +21,7 @@ module _ {X : Type 0} (h : X → ℤ) where
   keys-mapped [] = refl
   keys-mapped (t ∷ terms) = ap (λ ks. t.0 ∷ ks) (keys-mapped terms)
 
-  -- in a list with different labels, the label of a term has the coefficient 0 in the list of the terms before it
+  -- if the labels of a list are different, and `done` are the terms before its term x, then the coefficient of the label of x in `mapped done` is 0
   pub none_before : (terms done rest : List (List ℕ × X)) (x : List ℕ × X) → Once (keys_of terms) → done ++ x ∷ rest ≡ terms → coefficient (mapped done) x.0 ≡ pos 0
   none_before terms done rest x is e =
       total_none (λ (t : List ℕ × ℤ). cond (same t.0 x.0) t.1 (pos 0)) (mapped done)

@@ -1,4 +1,4 @@
--- One more term added when a list in p is multiplied out with a list in m in place of the variables.
+-- For a list W in m: the sum of c·p_λ[W] over the terms c·p_λ of a list, and the sum after one more term of this list is added.
 use Rattle.std.proofs.Common.{◌≡◌, ℕ, ◌+◌, ◌*◌, ◌^◌, ◌≤◌, List, [], ◌∷◌, ◌++◌, length, sym, ◌∙◌, ap, ap₂, subst, inl, inr, arith, ℤ, pos, ◌+ℤ◌, ◌*ℤ◌, append-nil, append_assoc}
 use Rattle.std.specs.Prelude.{nat_abs}
 use Rattle.std.proofs.lemmas.Int.{ints, unsigned_abs-mul}
@@ -27,7 +27,8 @@ sum-value A B S z P e h n α =
     (pair_scale z B ψ ∙ ap (λ y. z *ℤ y) (sym (coefficient-combined (λ label. monomial label n) B α) ∙ h n α) ∙ sym (coefficient_scale z (P n) α))
     ∙ sym (coefficient_plus (in_monomials A n) (scale z (P n)) α)
 
--- if a sum A + z·B returns `Large`, then |A| + |z|·|B| is 2^127 or more at some partition ν
+-- if A, z·B or A + z·B has a coefficient of absolute value 2^127 or more (`SumIsLarge`), then |a| + |z|·|b| is 2^127 or more for the coefficients a
+-- of A and b of B at some partition ν
 pub sum-large : (A B : WholeTerms) (z : ℤ) (P : ℕ → Poly) → IsList B P → SumIsLarge A B (pos 1) z
     → (ν : List ℕ) × IsPartition ν × (2 ^ 127 ≤ nat_abs (coefficient A ν) + nat_abs z * nat_abs (coefficient (P (length ν)) ν))
 sum-large A B z P h (inl l) = (
@@ -69,7 +70,7 @@ met-append : (f : List ℕ → ℤ) (V U : WholeTerms) → met (V ++ U) f ≡ me
 met-append f [] U = omega arith
 met-append f (t ∷ V) U = omega (arith, met-append f V U)
 
--- if S is the sum over the terms done so far, and T is S with z times p_λ[W] added for the next term, then T is the sum with this term
+-- let x be the term z·p_λ: if S is the sum of c·p_μ[W] over the terms `done`, and T is S plus z·p_λ[W], then T is the sum over the terms `done` and x
 pub path-step : (n : ℕ) (W S T done : WholeTerms) (x : List ℕ × ℤ)
     → Same (in_monomials S n) (combined (λ label. power_sum_in W label n) done)
     → Same (in_monomials T n) (plus (in_monomials S n) (scale x.1 (power_sum_in W x.0 n)))
@@ -82,8 +83,8 @@ path-step n W S T done x h k α =
     ∙ sym (coefficient_plus (combined P done) (scale x.1 (power_sum_in W x.0 n)) α)
     ∙ sym (ap (λ f. coefficient f α) (combined-push P done x))
 
--- if |S| + |z|·|p_λ[W]| is at least m at ν, so is the sum over all terms of their absolute values at ν, for the next term
--- z·p_λ
+-- let S be the sum of c·p_μ[W] over the terms `done`, and x the next term z·p_λ, and let |P| be the absolute value of the coefficient of P at ν: if
+-- |S| + |z|·|p_λ[W]| is at least m, so is the sum of |c|·|p_μ[W]| over all terms c·p_μ
 pub path-past : (m : ℕ) (W S done rest : WholeTerms) (x : List ℕ × ℤ) (ν : List ℕ) → IsPartition ν
     → ((n : ℕ) → Same (in_monomials S n) (combined (λ label. power_sum_in W label n) done))
     → m ≤ nat_abs (coefficient S ν) + nat_abs x.1 * nat_abs (power_sum_at W ν x.0)

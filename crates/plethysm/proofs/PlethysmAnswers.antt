@@ -1,7 +1,6 @@
--- The list in m that multiplying out a list in p gives is the plethysm.
-use Rattle.std.proofs.Common.{◌≡◌, ℕ, ◌*◌, ◌<◌, ◌*ℤ◌, pos, ℤ, List, [], ◌∷◌, ◌++◌, length, replicate, sym, ◌∙◌, ap, ap₂, refl, arith, flat_map}
+-- If a list in p is k times a list F in m, then the sum of c·p_λ[W] over the terms c·p_λ of the list in p is k times the plethysm F[W].
+use Rattle.std.proofs.Common.{◌≡◌, ℕ, ◌*◌, ◌<◌, ◌*ℤ◌, pos, List, [], ◌∷◌, ◌++◌, length, replicate, sym, ◌∙◌, ap, ap₂, refl, flat_map}
 use Rattle.std.specs.Prelude.{nat_abs}
-use Rattle.std.proofs.lemmas.Int.{ints}
 use Rattle.sym_model.specs.Bases.{monomial, power_sum}
 use Rattle.sym_model.specs.ListWeight.{IsBounded}
 use Rattle.sym_model.specs.Polynomial.{Poly, Same, coefficient, scale}
@@ -9,7 +8,7 @@ use Rattle.sym_model.specs.Expansion.{Basis, basis_polynomial, power_sums, Terms
 use Rattle.sym_model.specs.Plethysm.{plethysm, substitute, exponent_lists_within, repeated_monomials}
 use Rattle.sym_model.specs.WholeTerms.{WholeTerms, combined}
 use Rattle.sym_model.proofs.Polynomials.{coefficient_scale}
-use Rattle.sym_model.proofs.Ring.{ring}
+use Rattle.sym_model.proofs.Ring.{product_left_comm, product_assoc}
 use Rattle.sym_model.proofs.WholeTerms.{combined_respects}
 use Rattle.monomial_laws.specs.ExpressionTerms.{in_monomials, IsList, over}
 use Rattle.monomial_laws.proofs.DividedTerms.{IsDivided-over}
@@ -26,7 +25,8 @@ use Rattle.plethysm.specs.PathSums.{power_sum_in}
 use Rattle.plethysm.proofs.FactorLists.{sums}
 use native.Mathlib.Nat.{mul-pos}
 
--- equal polynomials have the same monomials up to the degree d, each repeated according to its coefficient
+-- if f and g are the same polynomial (`Same`), the lists of their monomials of degree at most d, each repeated according to its coefficient, are
+-- equal
 pub repeated_same : (d n : ℕ) (f g : Poly) → Same f g → repeated_monomials d n f ≡ repeated_monomials d n g
 repeated_same d n f g e = by (exponent_lists_within n d)
   where
@@ -34,8 +34,8 @@ repeated_same d n f g e = by (exponent_lists_within n d)
     by [] = refl
     by (α ∷ αs) = ap₂ ◌++◌ (ap (λ z. replicate (nat_abs z) α) (e α)) (by αs)
 
--- let `terms` in p be k times the list `outer` in m: if the list S in m has the value of `terms` with p_λ[W] for each p_λ,
--- then S is k times the plethysm of `outer` and W
+-- let `terms` in p be k times the list `outer` in m: if the list S in m is the sum of c·p_λ[W] over the terms c·p_λ of `terms`, then S is k times the
+-- plethysm of `outer` and W
 pub composed : (k K b : ℕ) (outer terms W S : WholeTerms) → IsWholeTable terms → IsBoundedSum K b W → IsMultipleIn power_sums k outer terms
     → ((n : ℕ) → Same (in_monomials S n) (combined (λ label. power_sum_in W label n) terms))
     → IsList S (λ n. scale (pos k) (plethysm (in_monomials outer) b n (in_monomials W n)))
@@ -48,8 +48,8 @@ composed k K b outer terms W S is h multiple same_sum n α =
     ∙ substitute_respects n γs (combined (λ label. power_sum label m) terms) (scale (pos k) (in_monomials outer m)) (multiple m) α
     ∙ substitute-scale n γs (pos k) (in_monomials outer m) α
 
--- V is D times the outer list; `list` is V with the monomials γs substituted; E is q times `list` in the target, and the answer is E divided by
--- D·q: then the answer is the outer list with the monomials γs substituted
+-- let V be D times the list `outer` in m, `list` be V with the monomials γs in place of its variables, E be q·`list` in the target, and `answer` be E
+-- divided by D·q: if `outer` expands f divided by p, then `answer` expands f with the monomials γs in place of its variables, divided by p
 pub expansion-composed : (target : Basis) (N D q p n : ℕ) (γs : List (List ℕ)) (outer answer : Terms (List ℕ)) (V list E : WholeTerms) (f : Poly) → 0 < D → 0 < q
     → IsFractionTable outer → IsBounded N D outer → Same V (over D outer) → Same (in_monomials list n) (substitute n γs (in_monomials V (length γs)))
     → IsMultipleIn target q list E → IsFractionTable answer → Quotients (D * q) answer E
@@ -69,15 +69,9 @@ expansion-composed target N D q p n γs outer answer V list E f some positive is
     (λ α.
     coefficient_scale (pos p) (combined P E) α
     ∙ ap (λ z. pos p *ℤ z) (multiple n α ∙ coefficient_scale (pos q) (in_monomials list n) α ∙ ap (λ z. pos q *ℤ z) (substituted α))
-    ∙ turned (pos p) (pos q) (coefficient (S v) α)
+    ∙ product_left_comm (pos p) (pos q) (coefficient (S v) α)
     ∙ ap (λ z. pos q *ℤ z)
     (sym (coefficient_scale (pos p) (S v) α) ∙ sym (substitute-scale n γs (pos p) v α) ∙ substitute_respects n γs (scale (pos p) v) (scale (pos D) f) inner α
     ∙ substitute-scale n γs (pos D) f α ∙ coefficient_scale (pos D) (S f) α)
-    ∙ regrouped (pos q) (pos D) (coefficient (S f) α)
+    ∙ product_left_comm (pos q) (pos D) (coefficient (S f) α) ∙ sym (product_assoc (pos D) (pos q) (coefficient (S f) α))
     ∙ sym (coefficient_scale (pos (D * q)) (S f) α))
-  where
-    turned : (p q v : ℤ) → p *ℤ (q *ℤ v) ≡ q *ℤ (p *ℤ v)
-    turned p q v = simp ring (omega (arith, ints))
-
-    regrouped : (q D f : ℤ) → q *ℤ (D *ℤ f) ≡ (D *ℤ q) *ℤ f
-    regrouped q D f = simp ring (omega (arith, ints))

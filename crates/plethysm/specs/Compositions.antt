@@ -6,15 +6,15 @@ use Rattle.monomial_laws.specs.ExpressionTerms.{in_monomials, IsList}
 use Rattle.basis_change.specs.Clearing.{IsBoundedBy}
 use Rattle.plethysm.specs.BoundedSums.{IsBoundedSum}
 
--- the third list is F[G] in every number of variables, for the polynomials F and G of the first two lists, if no
--- coefficient of the second list is negative and the degree of G is at most b
+-- For lists in m with the polynomials F (`outer`), G (`inner`) and H (`list`), in every number of variables: for each b such that G has no negative
+-- coefficient and a degree of at most b (`IsBoundedSum`), H is F[G].
 abbrev pub IsComposition : WholeTerms → WholeTerms → WholeTerms → Type 0
 IsComposition outer inner list =
     (K b : ℕ) → IsBoundedSum K b inner
     → IsList list (λ n. plethysm (in_monomials outer) b n (in_monomials inner n))
 
--- for all N, D, K ≥ 1 and every b such that N bounds the first list, and K·(b + 1) bounds the second at the degree
--- b, the plethysm weight of N, D, a, K and b is 2^127 or more; a is to be the degree of the first list
+-- for all N, D, K ≥ 1 and each b for which N bounds the list `outer` (`IsBoundedBy`) and K·(b + 1) bounds the list `inner` at the degree b
+-- (`IsBoundedSum`), the plethysm weight of N, D, a, K and b is 2^127 or more; a is meant to be the degree of `outer`
 abbrev pub IsPastWeight : ℕ → WholeTerms → WholeTerms → Type 0
 IsPastWeight a outer inner =
     (N D K b : ℕ) → 1 ≤ N → 1 ≤ D → 1 ≤ K → IsBoundedBy N outer

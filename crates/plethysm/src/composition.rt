@@ -1,4 +1,4 @@
-//! Plethysm by way of power sums.
+//! The plethysm of two lists in m, computed by power sums.
 ghost use Rattle.std.specs.Prelude.{◌≡◌, ℕ, ◌*◌, ◌≤◌, ◌^◌, IfOk, IsErrOf};
 ghost use Rattle.sym_model.specs.Expansion.{monomials, IsExpansionOf};
 ghost use Rattle.sym_model.specs.ListWeight.{IsBounded};
@@ -22,19 +22,20 @@ use partitions::Partition;
 use sparse_polys::{Family, Whole, divided};
 use std::alloc::Global;
 
-/// The plethysm F[G]: the variables of F are replaced by the monomials of G, each repeated
-/// according to its coefficient (Macdonald, I.8). Both lists are in m; the result is an expansion
-/// in the target, in every number of variables.
+/// The plethysm F[G], for F = `outer` and G = `inner`: the variables of F are replaced by the
+/// monomials of G, each repeated according to its coefficient (Macdonald, I.8). Both lists are in
+/// m; the result is an expansion in the basis `target`, in every number of variables.
 ///
-/// Each list satisfies its bound, whose two numbers are at least 1. The coefficients of the inner
-/// list are integers and not negative, and its bound has the denominator 1. The greatest sizes a
-/// and b of the labels of the two lists are at most 10, and so is their product.
+/// The coefficients of G are integers and not negative. (N, D) is a bound of F, and (K, 1) is a
+/// bound of G, with N, D and K at least 1. This means that D is a multiple of all denominators in
+/// F, that |c|·D·Π λ_i! ≤ N·|λ|! for each term c·m_λ of F, and that |c|·Π λ_i! ≤ K·|λ|! for each
+/// term c·m_λ of G. The greatest sizes a and b of the labels of F and of G are at most 10, and so
+/// is a·b.
 ///
 /// If a is 0, the result is F for every G.
 ///
-/// Returns `Large` only if N·D·(a+1)·(K·(b+1))^a·max(B(a)·(ab)!,B(ab)) is 2^127 or more: N and D
-/// are the numbers of the outer bound, K is the numerator of the inner bound, B(0) is 1, and B(d)
-/// is d!·(2d)^d for d > 0.
+/// Let B(0) = 1, and B(d) = d!·(2d)^d for d > 0. Returns `Large` only if
+/// N·D·(a+1)·(K·(b+1))^a·max(B(a)·(ab)!,B(ab)) is 2^127 or more.
 ///
 /// Examples: h_2[h_2] = s_4 + s_(2,2); p_2[p_3] = p_6; h_2[3] = 6.
 pub fn plethysm(
@@ -73,8 +74,8 @@ pub fn plethysm(
     divided(alloc, &answer, den)
 }
 
-/// The plethysm F[G] in m, for the polynomials F and G of two lists in m; the labels of the first
-/// have at most `size` cells.
+/// The plethysm F[G] in m, for the lists F = `outer` and G = `inner` in m with integer
+/// coefficients; the labels of F have at most `size` cells.
 fn in_m(alloc: Global, outer: &Whole, size: u16, inner: &Whole) -> Result<Whole, SumFault>
     requires size { size ≤ 10 }
     requires table { IsWholeTable outer.now }

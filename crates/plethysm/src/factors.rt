@@ -1,4 +1,6 @@
-//! p_k[G] and p_λ[G] of a list G in m with integer coefficients.
+//! The plethysms p_k[G] and p_λ[G] for a list G in m with integer coefficients: p_k[G] is G with
+//! each variable replaced by its k-th power, and p_λ[G] is the product of the p_k[G] over the parts
+//! k of λ.
 ghost use Rattle.std.specs.Prelude.{◌≡◌, ℕ, ◌*◌, ◌<◌, ◌≤◌, ◌^◌, IfOk, IsErrOf};
 ghost use Rattle.sym_model.specs.Expansion.{monomials};
 ghost use Rattle.sym_model.specs.Partition.{ArePositive, size};
@@ -19,7 +21,7 @@ use partitions::Partition;
 use sparse_polys::{Whole, single, times_whole_in_m};
 use std::alloc::{AllocError, Global};
 
-/// Each part times k.
+/// The list `parts` with each part multiplied by k.
 fn multiplied(alloc: Global, parts: &[u16], k: u16) -> Result<Vec<u16>, AllocError>
     requires { k * size parts.now ≤ 512 }
     ensures { IfOk result (λ numbers. numbers.items ≡ multiplied k parts.now) }
@@ -31,7 +33,7 @@ fn multiplied(alloc: Global, parts: &[u16], k: u16) -> Result<Vec<u16>, AllocErr
     Ok(numbers)
 }
 
-/// p_k[G]: the list with every part multiplied by k.
+/// p_k[G], for G = `inner` in m: the list with every part of every label multiplied by k.
 fn dilated(alloc: Global, inner: &Whole, k: u16) -> Result<Whole, SumFault>
     requires positive { 0 < k }
     requires low { k * greatest_size inner.now ≤ 512 }
@@ -47,7 +49,8 @@ fn dilated(alloc: Global, inner: &Whole, k: u16) -> Result<Whole, SumFault>
     Ok(list)
 }
 
-/// p_λ[G]: the product of the p_k[G] over the parts k of λ.
+/// p_λ[G], for G = `inner` in m and λ with the parts `parts`: the product of the p_k[G] over the
+/// parts k of λ.
 pub(crate) fn over_parts(alloc: Global, inner: &Whole, parts: &[u16]) -> Result<Whole, SumFault>
     requires positive { ArePositive parts.now }
     requires low { size parts.now * greatest_size inner.now ≤ 512 }

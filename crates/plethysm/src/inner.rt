@@ -1,4 +1,4 @@
-//! The inner list of a plethysm, whose monomials replace the variables.
+//! The inner list G of a plethysm F[G]: its monomials replace the variables of F.
 ghost use Rattle.std.specs.Prelude.{IfOk, IsErrOf};
 ghost use Rattle.sym_model.specs.Polynomial.{Same};
 ghost use Rattle.sym_model.specs.WholeTerms.{numerators};
@@ -12,7 +12,8 @@ use partitions::Partition;
 use sparse_polys::Whole;
 use std::alloc::Global;
 
-/// The list with its numerators as coefficients: the same list, if all coefficients are integers.
+/// The list in which each coefficient is replaced by its numerator. It is the same list if all
+/// coefficients are integers.
 pub(crate) fn numerators(alloc: Global, list: &Lin<Partition, Frac>) -> Result<Whole, SumFault>
     ensures value { IfOk result (λ whole. Same whole (numerators list.now)) }
     ensures table { IfOk result IsWholeTable }

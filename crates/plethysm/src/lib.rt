@@ -1,12 +1,13 @@
-//! Plethysm: the variables of one symmetric polynomial replaced by the monomials of another, by way
-//! of power sums.
+//! Plethysm, computed by power sums: the variables of one symmetric polynomial F are replaced by
+//! the monomials of another one, G.
 //!
 //! What is proved:
 //!
-//! `plethysm`: for a list of f and a list of g in m, the second with integer coefficients that are
-//! not negative, the result is f[g] in the target, in every number of variables, with each monomial
-//! of g repeated according to its coefficient; if f has degree 0, it is f for every g. `Large` is
-//! returned only if the number that its documentation gives is 2^127 or more.
+//! `plethysm`: let F and G be lists in m, and let the coefficients of G be integers that are not
+//! negative. The result is F[G], expanded in the target basis, in every number of variables; each
+//! monomial of G is repeated according to its coefficient. If F has degree 0, the result is F for
+//! every G. `Large` is returned only if the weight N·D·(a+1)·(K·(b+1))^a·max(B(a)·(ab)!,B(ab)) is
+//! 2^127 or more; the documentation of `plethysm` defines these letters.
 #![tactic(auto)]
 
 mod composition;

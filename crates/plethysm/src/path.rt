@@ -1,5 +1,5 @@
-//! Multiplies out a list in power sums, with the monomials of a list in m in place of the
-//! variables.
+//! The sum of c·p_λ[G] over the terms c·p_λ of a list in power sums, for a list G in m whose
+//! monomials replace the variables.
 ghost use Rattle.std.specs.Prelude.{ℕ, ◌*◌, ◌≤◌, IfOk, IsErrOf};
 ghost use Rattle.sym_model.specs.Polynomial.{Same};
 ghost use Rattle.sym_model.specs.WholeTerms.{combined};
@@ -14,7 +14,8 @@ use linear_combinations::Lin;
 use sparse_polys::{Whole, sum_of};
 use std::alloc::Global;
 
-/// F[G] in m, for F in p.
+/// F[G] in m, for F = `outer` in p and G = `inner` in m: the sum of c·p_λ[G] over the terms c·p_λ
+/// of F.
 pub(crate) fn multiplied_out(alloc: Global, outer: &Whole, inner: &Whole) -> Result<Whole, SumFault>
     requires low { greatest_size outer.now * greatest_size inner.now ≤ 512 }
     ensures value { IfOk result (λ list. (n : ℕ) → Same (in_monomials list n)

@@ -1,4 +1,4 @@
-//! Divides the coefficients of a list by a number that divides them all.
+//! Division of the coefficients of a list by a number that divides them all.
 ghost use Rattle.std.specs.Prelude.{◌≡◌, ℕ, ◌<◌, ◌^◌, pos, int_div, IfOk, IsErrOf};
 ghost use Rattle.sym_model.specs.Polynomial.{Poly, scale};
 ghost use Rattle.monomial_laws.specs.ExpressionTerms.{IsList};
@@ -10,7 +10,7 @@ use linear_combinations::Lin;
 use sparse_polys::Whole;
 use std::alloc::Global;
 
-/// The integer quotient, rounded towards 0.
+/// The integer quotient c/k, rounded towards 0.
 fn quotient(c: Int, k: u128) -> Int
     requires { (0 < k) × (k < 2 ^ 127) }
     ensures { result ≡ int_div c (pos k) }
@@ -18,8 +18,8 @@ fn quotient(c: Int, k: u128) -> Int
     Int::new(c.get() / k as i128)
 }
 
-/// The list with each coefficient divided by the number: if it is k times the polynomials f, the
-/// result is f, in every number of variables. It never returns `Large`.
+/// The list in m with each coefficient divided by k. If in n variables, for every n, the list is k
+/// times a polynomial f(n), then in n variables the result is f(n). `Large` is never returned.
 pub(crate) fn quotients(alloc: Global, list: &Whole, k: u128) -> Result<Whole, SumFault>
     requires { (0 < k) × (k < 2 ^ 127) }
     ensures value { IfOk result (λ quotients. (f : ℕ → Poly)

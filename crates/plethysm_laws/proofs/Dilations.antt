@@ -16,7 +16,7 @@ use Rattle.sym_model.specs.Plethysm.{multiplied}
 use Rattle.plethysm_laws.specs.PowerSumPlethysm.{dilated}
 use Rattle.plethysm_laws.proofs.Substitutions.{pair-dilated, length-multiplied}
 
--- each number divided by k
+-- `divided k α`: each entry of α divided by k, rounded down
 abbrev divided : ℕ → List ℕ → List ℕ
 divided k α = map (λ a. a / k) α
 
@@ -27,7 +27,7 @@ divided-multiplied k (a ∷ α) h = ap₂ ◌∷◌ (mul-div_cancel_left a h) (d
 multiplied_cancel : (k : ℕ) (α β : List ℕ) → 0 < k → multiplied k α ≡ multiplied k β → α ≡ β
 multiplied_cancel k α β h e = sym (divided-multiplied k α h) ∙ ap (divided k) e ∙ divided-multiplied k β h
 
--- ---- multiplying each part by k keeps a list sorted
+-- ---- a part inserted into a sorted list; multiplying all entries by k > 0 and then sorting gives the sorted list with each part multiplied by k
 
 insert_front : (x b : ℕ) (parts : List ℕ) → 0 < x → b ≤ x → insert_part x (b ∷ parts) ≡ x ∷ b ∷ parts
 insert_front zero b parts h k = absurd (omega arith)
@@ -64,7 +64,7 @@ pub sorted_parts-multiplied : (k : ℕ) (α : List ℕ) → 0 < k → sorted_par
 sorted_parts-multiplied k [] h = refl
 sorted_parts-multiplied k (a ∷ α) h = ap (insert_part (k * a)) (sorted_parts-multiplied k α h) ∙ insert-multiplied k a (sorted_parts α) h
 
--- each number is a multiple of k
+-- each entry of the list is a multiple of k
 abbrev AreMultiples : ℕ → List ℕ → Type 0
 AreMultiples k [] = Unit {0}
 AreMultiples k (a ∷ α) = (k * (a / k) ≡ a) × AreMultiples k α
@@ -96,7 +96,7 @@ sorted_multiples k (a ∷ α) h m =
     let r = inserted_multiples k a (sorted_parts α) h m in
     (r.0, sorted_multiples k α h r.1)
 
--- ---- m_λ and lists in m, with each variable replaced by its k-th power
+-- ---- m_λ and lists of terms in m, with each variable replaced by its k-th power
 
 pub dilated-monomial : (k : ℕ) (parts : List ℕ) (n : ℕ) → 0 < k → Same (dilated k (monomial parts n)) (monomial (multiplied k parts) n)
 dilated-monomial k parts n h β =
@@ -142,7 +142,7 @@ dilated-monomial k parts n h β =
         (λ e. d (multiplied-divided k β (sorted_multiples k β h (subst (AreMultiples k) (sym e) (AreMultiples-multiplied k parts h))))))
         ∙ nothing_there (eqb (length β) n))
 
--- for k > 0, multiplying each part of a list in m by k replaces each variable of its polynomial by its k-th power
+-- for k > 0, multiplying each part of each label of a list in m by k replaces each variable of its polynomial by its k-th power
 pub dilated-list : (k : ℕ) (terms : WholeTerms) (n : ℕ) → 0 < k → Same (dilated k (in_monomials terms n)) (in_monomials (dilated k terms) n)
 dilated-list k terms n h =
     same_from_pair (dilated k (in_monomials terms n)) (in_monomials (dilated k terms) n)
@@ -154,7 +154,7 @@ dilated-list k terms n h =
     ∙ sym (pair-dilated k terms (λ label. pair (monomial label n) φ))
     ∙ sym (pair-combined (λ label. monomial label n) (dilated k terms) φ))
 
--- in a list in m with each part multiplied by k > 0, the coefficient of k·λ is that of λ in the list
+-- for k > 0, in the list W in m with each part of each label multiplied by k, the coefficient of k·λ is that of λ in W
 pub coefficient-dilated : (k : ℕ) (W : WholeTerms) (label : List ℕ) → 0 < k → coefficient (dilated k W) (multiplied k label) ≡ coefficient W label
 coefficient-dilated k W label h =
     coefficient_pair (dilated k W) (multiplied k label)

@@ -1,5 +1,5 @@
--- The polynomial of a list in m that is bounded (specs/ListWeight), with its fractions cleared, is bounded in every number
--- of variables (`IsBounded` of monomial_laws).
+-- If the coefficients of a list of terms in m are bounded (`IsBounded` of specs/ListWeight), then the polynomial of the list, multiplied by a common
+-- denominator, is bounded in every number of variables (`IsBounded` of monomial_laws).
 use Rattle.std.proofs.Common.{◌≡◌, ◌⊎◌, ℕ, zero, suc, ◌+◌, ◌*◌, ◌/◌, ◌<◌, ◌≤◌, cond, List, [], ◌∷◌, length, sym, ◌∙◌, ap, subst, refl, inl, inr, arith, ℤ, pos, negsuc, ◌+ℤ◌, ◌*ℤ◌}
 use Rattle.std.specs.Prelude.{nat_abs, ◌≤ℤ◌}
 use Rattle.std.proofs.lemmas.Int.{ints, unsigned_abs-mul}
@@ -22,11 +22,10 @@ use Rattle.monomial_laws.proofs.Majorants.{bounded-scale, bounded-weaken, bounde
 use Rattle.monomial_laws.proofs.DividedTerms.{labels_of, over-there, over-missing, among_or_not}
 use Rattle.std.proofs.Math.Nat.{le_of_mul-le-mul_right}
 use Rattle.sym_model.specs.ListWeight.{factorials}
-use Rattle.sym_model.proofs.Sums.{among_down_from, total_not_negative}
+use Rattle.sym_model.proofs.Sums.{among_down_from, total_not_negative, down_from-below}
 use native.Mathlib.Nat.{mul-le-mul_left}
-use Rattle.monomial_laws.proofs.Arrangements.{down_from-below}
 
--- a sum of numbers that are not negative is at least each of its summands
+-- if no value of f is negative, the sum of f over the elements of a list is at least f(x) for each element x
 member_within : {A : Type 0} (f : A → ℤ) (x : A) (xs : List A) → ((y : A) → pos 0 ≤ℤ f y) → Among x xs → f x ≤ℤ total f xs
 member_within f x [] h m = absurd m
 member_within f x (y ∷ xs) h (inl e) = let n = total_not_negative f xs h in subst (λ z. f z ≤ℤ (f y +ℤ total f xs)) (sym e) (omega (arith, ints))
@@ -39,7 +38,7 @@ length-down_from (suc a) = omega (arith, length-down_from a)
 powers-nonnegative : (ds : List ℕ) (n : ℕ) (α : List ℕ) → pos 0 ≤ℤ coefficient (powers ds n) α
 powers-nonnegative ds n α = subst (λ z. pos 0 ≤ℤ z) (sym (coefficient-powers ds n α)) (total_not_negative (λ (d : ℕ). coefficient (power d n) α) ds (λ d. power-nonnegative d n α))
 
--- ---- the polynomials of lists in m
+-- ---- bounds for the polynomials of lists of terms in m
 
 -- for F > 0 and P ≥ 0: if |z|·F ≤ N·s, P·F = s and P ≤ S, then |z| ≤ N·S
 within-power : (z P S : ℤ) (F N s : ℕ) → nat_abs z * F ≤ N * s → P *ℤ pos F ≡ pos s → 0 < F → pos 0 ≤ℤ P → P ≤ℤ S → pos (nat_abs z) ≤ℤ (pos N *ℤ S)

@@ -1,4 +1,4 @@
--- The value of an expression made of natural numbers and atoms by sums and products has no negative coefficient.
+-- The value of an expression without negation, difference and fraction (`HasNoSigns`) has no negative coefficient.
 use Rattle.std.proofs.Common.{◌≡◌, ℕ, ◌/◌, Bool, true, false, cond, List, [], ◌∷◌, map, sym, subst, inl, inr, refl, arith, ℤ, pos, ◌+ℤ◌, ◌*ℤ◌, filter}
 use Rattle.std.specs.Prelude.{◌≤ℤ◌}
 use Rattle.std.proofs.lemmas.Int.{ints}
@@ -72,7 +72,7 @@ nonnegative-value (sum e f) n h =
 nonnegative-value (difference e f) n h = absurd h
 nonnegative-value (product e f) n h = nonnegative-times (cleared_value e n) (cleared_value f n) (nonnegative-value e n h.0) (nonnegative-value f n h.1)
 
--- if an expression has no minus and no fraction, its denominator is 1
+-- if an expression has no negation, difference and fraction, its denominator is 1
 pub denominator-one : (e : Tree) → HasNoSigns e → denominator e ≡ 1
 denominator-one (number a) h = refl
 denominator-one (fraction a b) h = absurd h

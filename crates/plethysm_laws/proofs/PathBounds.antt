@@ -1,5 +1,5 @@
--- Bounds for the numbers that occur if a plethysm is computed by way of power sums. A polynomial in n variables is bounded
--- by K at the degree b if some sum of at most K powers of x_1 + .. + x_n, with exponents up to b, is a majorant of it.
+-- Bounds for the numbers that occur if a plethysm is computed by way of power sums. A polynomial in n variables is bounded by K at the degree b if a
+-- sum of at most K powers of x_1 + .. + x_n, with exponents up to b, is a majorant of it.
 use Rattle.std.proofs.Common.{◌≡◌, ℕ, ◌+◌, ◌*◌, ◌^◌, ◌<◌, ◌≤◌, List, [], ◌∷◌, length, sym, subst, refl, inl, inr, arith, ℤ, pos, ◌+ℤ◌, ◌*ℤ◌}
 use Rattle.std.specs.Prelude.{nat_abs}
 use Rattle.std.proofs.lemmas.Nat.{mul-le}
@@ -27,7 +27,7 @@ use Rattle.monomial_laws.proofs.Majorants.{bounded-weaken}
 use Rattle.plethysm_laws.proofs.SubstitutedBounds.{bounded-power_sum, bounded-dilated}
 use native.Mathlib.Nat.{mul-le-mul_left}
 
--- if g is bounded by K at the degree b, p_λ[g], as a product, is bounded by K^|λ| at the degree |λ|·b
+-- if g is bounded by K at the degree b, the product of the p_k[g] over the parts k of λ is bounded by K^|λ| at the degree |λ|·b; λ is `parts`
 pub bounded-path : (K b n : ℕ) (γs : List (List ℕ)) (g : Poly) (parts : List ℕ) → ArePositive parts → HavePlaces n γs → Same (monomial_sum γs) g → In n g → IsBounded K b n g
     → IsBounded (K ^ size parts) (size parts * b) n (product_over (λ k m. dilated k g) parts n)
 bounded-path K b n γs g parts p h e i r =
@@ -35,8 +35,8 @@ bounded-path K b n γs g parts p h e i r =
     (substitute-power_sum parts n γs g p h e)
     (bounded-power_sum K b n γs g parts h e i r)
 
--- if g is bounded by K ≥ 1 at the degree b and λ has at most a cells, the coefficients of p_λ[g] are at most K^a·(a·b)!
--- in absolute value
+-- if g is bounded by K ≥ 1 at the degree b, and λ has at most a cells, no coefficient of p_λ[g], the product of the p_k[g] over the parts k of λ,
+-- exceeds K^a·(a·b)! in absolute value
 pub path-coefficient : (K b a n : ℕ) (γs : List (List ℕ)) (g : Poly) (parts : List ℕ) → 1 ≤ K → size parts ≤ a → ArePositive parts → HavePlaces n γs → Same (monomial_sum γs) g → In n g → IsBounded K b n g
     → (α : List ℕ) → length α ≡ n → nat_abs (coefficient (product_over (λ k m. dilated k g) parts n) α) ≤ K ^ a * factorial (a * b)
 path-coefficient K b a n γs g parts o s p h e i r α l =
@@ -45,8 +45,9 @@ path-coefficient K b a n γs g parts o s p h e i r α l =
     (pow-le-pow_right o s) (mul-le (size parts) b a b s (omega arith)) (bounded-path K b n γs g parts p h e i r))
     α l
 
--- for g bounded by K at the degree b: if A is p_k[g] and B is p_λ[g], the coefficients of their product, computed with
--- absolute values, are at most K^(k + |λ|) times the growth into m at the degree (k + |λ|)·b
+-- let g be bounded by K at the degree b, and let the lists A and B in m have as their polynomials p_k[g] and p_λ[g], for λ = `rest`. If the
+-- coefficients of A and B are replaced by their absolute values, no coefficient of the product exceeds K^(k + |λ|) times `growth` of m at the degree
+-- (k + |λ|)·b
 pub path-product : (K b k : ℕ) (rest : List ℕ) (A B : WholeTerms) (γs : ℕ → List (List ℕ)) (g : ℕ → Poly) → 0 < k → ArePositive rest
     → ((n : ℕ) → HavePlaces n (γs n)) → ((n : ℕ) → Same (monomial_sum (γs n)) (g n)) → ((n : ℕ) → In n (g n)) → ((n : ℕ) → IsBounded K b n (g n))
     → Once (labels A) → Once (labels B) → IsList A (λ n. dilated k (g n)) → IsList B (λ n. product_over (λ k m. dilated k (g n)) rest n)
@@ -61,7 +62,8 @@ path-product K b k rest A B γs g l p h e i r o q x y ν =
     (bounded-path K b n (γs n) (g n) rest p (h n) (e n) (i n) (r n)))
     ν
 
--- the coefficient at α of a list's value is at most, in absolute value, the sum of the absolute values of its terms at α
+-- for any polynomials in place of the labels of W: the coefficient of x^α in the sum of the terms of W is at most, in absolute value, the sum of the
+-- absolute values of the coefficients of x^α in the terms (`met`)
 pub coefficient-met : (polynomial : List ℕ → Poly) (W : WholeTerms) (α : List ℕ) → nat_abs (coefficient (combined polynomial W) α) ≤ met W (λ label. coefficient (polynomial label) α)
 coefficient-met polynomial W α = subst (λ z. nat_abs z ≤ met W (λ label. coefficient (polynomial label) α)) (sym (coefficient_of_combined polynomial W α)) (by W)
   where
@@ -82,8 +84,8 @@ met-within B f (t ∷ W) h =
     let p = mul-le-mul_left (nat_abs t.1) (h t (inl refl)) in
     omega arith
 
--- for g bounded by K ≥ 1 at the degree b, and labels λ of W of at most a cells: the sum of |c|·|p_λ[g]|, at one exponent list,
--- over the terms (λ, c) of W is at most the sum of the |c| times K^a·(a·b)!
+-- let g be bounded by K ≥ 1 at the degree b, and let all labels λ of the terms c, λ of W have at most a cells: for each α, the sum of |c| times the
+-- absolute value of the coefficient of x^α in p_λ[g] is at most K^a·(a·b)! times the sum of the |c|
 pub path-met : (K b a n : ℕ) (γs : List (List ℕ)) (g : Poly) (W : WholeTerms) → 1 ≤ K → ((t : List ℕ × ℤ) → Among t W → ArePositive t.0 × (size t.0 ≤ a))
     → HavePlaces n γs → Same (monomial_sum γs) g → In n g → IsBounded K b n g
     → (α : List ℕ) → length α ≡ n → met W (λ label. coefficient (product_over (λ k m. dilated k g) label n) α) ≤ absolute_total W * (K ^ a * factorial (a * b))

@@ -1,4 +1,4 @@
--- The numbers that occur if a plethysm is computed by way of power sums are at most its weight.
+-- The bounds for the numbers that occur if a plethysm is computed by way of power sums are at most its weight (`plethysm_weight`).
 use Rattle.std.proofs.Common.{ℕ, zero, suc, ◌+◌, ◌*◌, ◌^◌, ◌≤◌, max, arith}
 use Rattle.std.proofs.lemmas.Nat.{mul-le}
 use Rattle.std.proofs.Math.Nat.{one-le-pow, pow-le-pow_left, pow-le-pow_right}
@@ -9,7 +9,6 @@ use Rattle.monomial_laws.proofs.Growths.{factorial-positive, factorial-mono, gro
 use Rattle.monomial_laws.proofs.WeightBounds.{growth-mono}
 use native.Mathlib.Nat.{mul-le-mul_left}
 
--- if D and s are at least 1 and Y is at most C, N·X·Y is at most N·D·s·X·C
 wide : (N D s X C Y : ℕ) → 1 ≤ D → 1 ≤ s → Y ≤ C → N * X * Y ≤ N * D * s * X * C
 wide N D s X C Y h k l =
     let p = mul-le-mul_left (N * X) l in
@@ -27,13 +26,14 @@ module _ (N D a K b : ℕ) (n : 1 ≤ N) (d : 1 ≤ D) (k : 1 ≤ K) where
   power-one : 1 ≤ (K * (b + 1)) ^ a
   power-one = one-le-pow a (K * (b + 1)) some
 
-  -- the bound for the sum of the absolute values at one label is at most the weight
+  -- the bound for the sum of the absolute values of all terms at one label, when the multiples of the p_λ[g] are added up, is at most the weight of
+  -- the plethysm
   pub weight-met : N * growth power_sums a * ((K * (b + 1)) ^ a * factorial (a * b)) ≤ plethysm_weight N D a K b
   weight-met =
       let w = wide N D (a + 1) ((K * (b + 1)) ^ a) (max (growth power_sums a * factorial (a * b)) (growth power_sums (a * b))) (growth power_sums a * factorial (a * b)) d (omega arith) (omega arith) in
       omega arith
 
-  -- the bound for the product of the p_k[g] over the parts k of a label of s ≤ a cells is at most the weight
+  -- the bound for the product of the p_k[g] over the parts k of a label of s ≤ a cells is at most the weight of the plethysm
   pub weight-product : (s : ℕ) → s ≤ a → (K * (b + 1)) ^ s * growth Basis.monomials (s * b) ≤ plethysm_weight N D a K b
   weight-product s l =
       let x : (K * (b + 1)) ^ s ≤ (K * (b + 1)) ^ a = pow-le-pow_right some l in
@@ -44,14 +44,14 @@ module _ (N D a K b : ℕ) (n : 1 ≤ N) (d : 1 ≤ D) (k : 1 ≤ K) where
       let t = times_more N ((K * (b + 1)) ^ a * growth power_sums (a * b)) n in
       omega arith
 
-  -- the bound for the change of the finished list into the target is at most the weight
+  -- the bound for the conversion of f[g] into the basis `target` is at most the weight of the plethysm
   pub weight-finished : (target : Basis) → N * (a + 1) * (K * (b + 1)) ^ a * D * growth target (a * b) ≤ plethysm_weight N D a K b
   weight-finished target =
       let z = growth-most target (a * b) in
       let p = mul-le-mul_left (N * D * (a + 1) * (K * (b + 1)) ^ a) (let o : growth target (a * b) ≤ max (growth power_sums a * factorial (a * b)) (growth power_sums (a * b)) = omega arith in o) in
       omega arith
 
-  -- the bound for the change of the outer list into p is at most the weight
+  -- the bound for the conversion of the outer expression f into p is at most the weight of the plethysm
   pub weight-outer : N * D * growth power_sums a ≤ plethysm_weight N D a K b
   weight-outer =
       let f = mul-le (growth power_sums a) 1 (growth power_sums a) (factorial (a * b)) (omega arith) (factorial-positive (a * b)) in
@@ -61,7 +61,7 @@ module _ (N D a K b : ℕ) (n : 1 ≤ N) (d : 1 ≤ D) (k : 1 ≤ K) where
       (omega arith) in
       omega arith
 
--- ---- the weight is increasing in the degrees
+-- ---- `growth` of p, and the weight of a plethysm, are increasing in the degrees
 
 growth-rises : (d e : ℕ) → d ≤ e → growth power_sums d ≤ growth power_sums e
 growth-rises zero e h = growth-one e
@@ -71,7 +71,7 @@ growth-rises (suc d) (suc e) h =
     let q : (2 * suc e) ^ suc d ≤ (2 * suc e) ^ suc e = pow-le-pow_right (let o : 1 ≤ 2 * suc e = omega arith in o) h in
     mul-le (factorial (suc d)) ((2 * suc d) ^ suc d) (factorial (suc e)) ((2 * suc e) ^ suc e) (factorial-mono (suc d) (suc e) h) (omega arith)
 
--- if K ≥ 1, a ≤ c and b ≤ d, the weight with the degrees a and b is at most that with c and d
+-- if K ≥ 1, a ≤ c and b ≤ d, the weight of a plethysm with the degrees a and b is at most that with the degrees c and d
 pub weight-rises : (N D a c K b d : ℕ) → 1 ≤ K → a ≤ c → b ≤ d → plethysm_weight N D a K b ≤ plethysm_weight N D c K d
 weight-rises N D a c K b d k h l =
     let base = mul-le-mul_left K (let o : b + 1 ≤ d + 1 = omega arith in o) in

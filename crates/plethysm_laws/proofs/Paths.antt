@@ -1,4 +1,4 @@
--- Plethysm by way of power sums: if each p_λ in a list of f is replaced by p_λ[g], the sum is f[g].
+-- Plethysm by way of power sums: if f is the sum of the terms c·p_λ, then f[g] is the sum of the c·p_λ[g].
 use Rattle.std.proofs.Common.{◌≡◌, ℕ, List, [], ◌∷◌, length, sym, ◌∙◌, ap, ap₂, refl, inl, inr, ℤ, ◌+ℤ◌, ◌*ℤ◌}
 use Rattle.sym_model.specs.Sum.{total}
 use Rattle.sym_model.specs.Partition.{ArePositive}
@@ -12,9 +12,9 @@ use Rattle.plethysm_laws.specs.PowerSumPlethysm.{dilated}
 use Rattle.plethysm_laws.specs.SumsOfMonomials.{HavePlaces, monomial_sum}
 use Rattle.plethysm_laws.proofs.Substitutions.{pair-substitute, substitute-power_sum}
 
--- ---- monomials substituted into a list in p
+-- ---- the monomials of g substituted for the variables of a list of terms c·p_λ
 
--- the sum over the terms c·p_λ of a list in p of c·p_λ[g]
+-- the sum of c·p_λ[g] over the terms c, λ of a list
 abbrev pub plethysm_of_power_sums : WholeTerms → Poly → ℕ → Poly
 plethysm_of_power_sums W g n = combined (λ label. product_over (λ k m. dilated k g) label n) W
 

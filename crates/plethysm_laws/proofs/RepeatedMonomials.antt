@@ -1,4 +1,4 @@
--- A polynomial without negative coefficients is the sum of its monomials, each repeated as often as its coefficient says.
+-- A polynomial without negative coefficients is the sum of its monomials, each repeated as often as its coefficient says (`repeated_monomials`).
 use Rattle.std.proofs.Common.{◌≡◌, ◌⊎◌, ℕ, zero, suc, ◌+◌, ◌-◌, ◌<◌, ◌≤◌, Bool, true, false, ◌&&◌, cond, eqb, leb, List, [], ◌∷◌, map, length, replicate, sym, ◌∙◌, ap, refl, inl, inr, arith, ℤ, pos, ◌+ℤ◌, ◌*ℤ◌}
 use Rattle.std.specs.Prelude.{nat_abs}
 use Rattle.std.proofs.lemmas.Int.{ints}
@@ -7,16 +7,17 @@ use Rattle.sym_model.specs.Sum.{total, Among}
 use Rattle.sym_model.specs.Polynomial.{Poly, same, coefficient, Same}
 use Rattle.sym_model.specs.Partition.{size}
 use Rattle.sym_model.specs.Bases.{down_from}
-use Rattle.sym_model.proofs.Ring.{product-one, distributes_right, one-product}
+use Rattle.sym_model.proofs.Ring.{distributes_right, one-product}
 use Rattle.sym_model.proofs.Sums.{total_ext, total_zero, total_none, total_map, total_each, Among_from_map, Among_from_each}
 use Rattle.sym_model.proofs.Exponents.{tests_agree}
 use Rattle.sym_model.proofs.Polynomials.{at_only, coefficient_pair, coefficient_outside, pair_monomials}
 use Rattle.sym_model.proofs.Monomials.{total_down_from-only}
 use Rattle.sym_model.specs.Plethysm.{exponent_lists_within, repeated_monomials}
 use Rattle.plethysm_laws.specs.SumsOfMonomials.{HavePlaces, IsMonomialSum, monomial_sum}
-use lib.IntN.{+ℤ_idr, *ℤ-zero, zero-*ℤ}
+use lib.IntN.{+ℤ_idr, zero-*ℤ}
+use Rattle.sym_model.proofs.Integers.{chosen_as_product, nested_tests}
 
--- whether γ has n places and a sum of at most d
+-- whether γ has n entries with a sum of at most d
 abbrev is_within : ℕ → ℕ → List ℕ → Bool
 is_within n d γ = eqb (length γ) n && leb (size γ) d
 
@@ -38,7 +39,7 @@ total_within-only φ (c ∷ γ) (suc n) d =
     (λ a. total_map F (λ (α : List ℕ). a ∷ α) (exponent_lists_within n (d - a)) ∙ row a (eqb a c) (total_within-only (λ α. φ (a ∷ α)) γ n (d - a)))
     (down_from d)
     ∙ total_down_from-only inner c d
-    ∙ both (leb c d) (is_within n (d - c) γ)
+    ∙ nested_tests (leb c d) (is_within n (d - c) γ) (φ (c ∷ γ))
     ∙ ap (λ b. cond b (φ (c ∷ γ)) (pos 0)) (tests_agree (leb c d && is_within n (d - c) γ) (is_within (suc n) d (c ∷ γ)) there back)
   where
     F : List ℕ → ℤ
@@ -51,10 +52,6 @@ total_within-only φ (c ∷ γ) (suc n) d =
         → total (λ (α : List ℕ). cond (b && same α γ) (φ (a ∷ α)) (pos 0)) (exponent_lists_within n (d - a)) ≡ cond b (inner a) (pos 0)
     row a true e = e
     row a false e = total_zero (exponent_lists_within n (d - a))
-
-    both : (x y : Bool) → cond x (cond y (φ (c ∷ γ)) (pos 0)) (pos 0) ≡ cond (x && y) (φ (c ∷ γ)) (pos 0)
-    both true y = refl
-    both false y = refl
 
     there : (leb c d && is_within n (d - c) γ) ≡ true → is_within (suc n) d (c ∷ γ) ≡ true
     there t =
@@ -73,7 +70,7 @@ total_within-only φ (c ∷ γ) (suc n) d =
         and_from (leb c d) (is_within n (d - c) γ) (le-leb c d (omega arith))
         (and_from (eqb (length γ) n) (leb (size γ) (d - c)) (eq-eqb (length γ) n (omega arith)) (le-leb (size γ) (d - c) (omega arith)))
 
--- ---- sums over monomials that are repeated
+-- ---- sums over the monomials of g, each repeated as often as its coefficient says
 
 total-replicate : {A : Type 0} (f : A → ℤ) (k : ℕ) (x : A) → total f (replicate k x) ≡ pos k *ℤ f x
 total-replicate f zero x = sym (zero-*ℤ (f x))
@@ -91,13 +88,9 @@ coefficient_repeated d n g β =
     ∙ total_ext
     (λ (α : List ℕ). total (at_only β) (replicate (nat_abs (coefficient g α)) α))
     (λ (α : List ℕ). cond (same α β) (pos (nat_abs (coefficient g α))) (pos 0))
-    (λ α. total-replicate (at_only β) (nat_abs (coefficient g α)) α ∙ inside (same α β) (pos (nat_abs (coefficient g α))))
+    (λ α. total-replicate (at_only β) (nat_abs (coefficient g α)) α ∙ sym (chosen_as_product (same α β) (pos (nat_abs (coefficient g α)))))
     (exponent_lists_within n d)
     ∙ total_within-only (λ α. pos (nat_abs (coefficient g α))) β n d
-  where
-    inside : (b : Bool) (c : ℤ) → c *ℤ cond b (pos 1) (pos 0) ≡ cond b c (pos 0)
-    inside true c = product-one c
-    inside false c = *ℤ-zero c
 
 pub repeated-sum : (d n : ℕ) (g : Poly) → IsMonomialSum d n g → Same (monomial_sum (repeated_monomials d n g)) g
 repeated-sum d n g h β = coefficient_repeated d n g β ∙ by (cases_eq (length β) n) (cases_lt d (size β))
@@ -107,7 +100,7 @@ repeated-sum d n g h β = coefficient_repeated d n g β ∙ by (cases_eq (length
     by (inl e) (inl l) = rw (eq-eqb (length β) n e, lt-leb (size β) d l) (sym (h.low β e l))
     by (inl e) (inr l) = rw (eq-eqb (length β) n e, le-leb (size β) d l) (let p = h.natural β in omega (arith, ints))
 
--- ---- the number of places of exponent lists
+-- ---- the listed exponent lists have n places
 
 length-within : (n d : ℕ) (α : List ℕ) → Among α (exponent_lists_within n d) → length α ≡ n
 length-within zero d α (inl e) = ap length e

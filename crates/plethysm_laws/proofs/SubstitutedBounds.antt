@@ -1,6 +1,5 @@
--- Substituting monomials for the variables turns majorants into majorants, and so bounds into bounds. A polynomial in n
--- variables is bounded by K at the degree b if some sum of at most K powers of x_1 + .. + x_n, with exponents up to b, is
--- a majorant of it.
+-- Substituting monomials for the variables turns majorants into majorants, and so bounds into bounds. A polynomial in n variables is bounded by K at
+-- the degree b if a sum of at most K powers of x_1 + .. + x_n, with exponents up to b, is a majorant of it.
 use Rattle.std.proofs.Common.{◌≡◌, ℕ, zero, suc, ◌+◌, ◌*◌, ◌^◌, ◌<◌, ◌≤◌, max, List, [], ◌∷◌, length, replicate, sym, ◌∙◌, subst, refl, inl, inr, arith, pos}
 use Rattle.std.specs.Prelude.{◌≤ℤ◌, nat_abs}
 use Rattle.std.proofs.lemmas.Int.{ints}
@@ -23,7 +22,7 @@ use Rattle.plethysm_laws.proofs.Substitutions.{pair-substitute, substitute-plus,
 use Rattle.sym_model.proofs.Parts.{ArePositive-ones}
 use native.Mathlib.Nat.{pow-suc, pow-zero}
 
--- ---- if F is a majorant of f, it still is after monomials are substituted for the variables of both
+-- ---- if F is a majorant of f, then F with monomials substituted for its variables is a majorant of f with the same monomials substituted
 
 pub majorant-substitute : (n : ℕ) (γs : List (List ℕ)) (F f : Poly) → IsMajorant F f → IsMajorant (substitute n γs F) (substitute n γs f)
 majorant-substitute n γs F f m α =
@@ -34,7 +33,7 @@ majorant-substitute n γs F f m α =
     at : (h : Poly) → coefficient (substitute n γs h) α ≡ pair h (λ β. at_only α (replaced n γs β))
     at h = coefficient_pair (substitute n γs h) α ∙ pair-substitute n γs h (at_only α)
 
--- ---- bounds of polynomials into which monomials are substituted
+-- ---- bounds for polynomials in which monomials are substituted for the variables
 
 -- if g is bounded by K at the degree b, g^s is bounded by K^s at the degree s·b
 bounded-product : (K b s n : ℕ) (g : Poly) → In n g → IsBounded K b n g → IsBounded (K ^ s) (s * b) n (product_over (λ k m. dilated k g) (replicate s 1) n)
@@ -49,8 +48,8 @@ bounded-product K b (suc s) n g i h =
     (bounded_respects K b n g (dilated 1 g) (Same_sym (dilated 1 g) g (dilated-once g)) h)
     (bounded-product K b s n g i h))
 
--- if g, the sum of m monomials, is bounded by K at the degree b, then (x_1 + .. + x_m)^s with these monomials substituted is g^s, so it is bounded by
--- K^s at the degree s·b
+-- let g be the sum of m monomials, and let it be bounded by K at the degree b. Substituting these monomials for x_1, .., x_m in (x_1 + .. + x_m)^s
+-- gives g^s, which is bounded by K^s at the degree s·b
 bounded-power : (K b s n : ℕ) (γs : List (List ℕ)) (g : Poly) → HavePlaces n γs → Same (monomial_sum γs) g → In n g → IsBounded K b n g
     → IsBounded (K ^ s) (s * b) n (substitute n γs (power s (length γs)))
 bounded-power K b s n γs g h e i k =
@@ -76,8 +75,8 @@ bounded-powers K b a n γs g (d ∷ ds) o h e i k low =
     (bounded-plus (K ^ d) (length ds * K ^ a) (d * b) (a * b) n first rest (bounded-power K b d n γs g h e i k)
     (bounded-powers K b a n γs g ds o h e i k (λ j m. low j (inr m)))))
 
--- if f is bounded by N at the degree a, and g by K ≥ 1 at the degree b, f with the monomials of g substituted is bounded by
--- N·K^a at the degree a·b
+-- let g be the sum of the monomials γs. If f is bounded by N at the degree a, and g by K ≥ 1 at the degree b, then f with these monomials substituted
+-- for its variables is bounded by N·K^a at the degree a·b
 pub bounded-substitute : (N a K b n : ℕ) (γs : List (List ℕ)) (f g : Poly) → 1 ≤ K → HavePlaces n γs → Same (monomial_sum γs) g → In n g → IsBounded K b n g
     → IsBounded N a (length γs) f → IsBounded (N * K ^ a) (a * b) n (substitute n γs f)
 bounded-substitute N a K b n γs f g o h e i k r =
@@ -97,7 +96,8 @@ bounded-dilated K b k n γs g l h e i r =
     (majorant-substitute n γs (power k (length γs)) (power_sum_of k (length γs)) (majorant-monomials (λ α. has k α) (length γs) k))
     (bounded-power K b k n γs g h e i r))
 
--- if g is bounded by K at the degree b, p_λ[g] is bounded by K^|λ| at the degree |λ|·b
+-- let g be the sum of the monomials γs. If g is bounded by K at the degree b, then p_λ with these monomials substituted for its variables is bounded
+-- by K^|λ| at the degree |λ|·b; λ is `parts`
 pub bounded-power_sum : (K b n : ℕ) (γs : List (List ℕ)) (g : Poly) (parts : List ℕ) → HavePlaces n γs → Same (monomial_sum γs) g → In n g → IsBounded K b n g
     → IsBounded (K ^ size parts) (size parts * b) n (substitute n γs (power_sum parts (length γs)))
 bounded-power_sum K b n γs g parts h e i r =

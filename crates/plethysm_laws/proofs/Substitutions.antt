@@ -1,4 +1,4 @@
--- Substitution of monomials for the variables is a homomorphism, and turns p_k into the sum of the k-th powers of the
+-- Substituting monomials for the variables of a polynomial is compatible with sums and products, and turns p_k into the sum of the k-th powers of the
 -- monomials.
 use Rattle.std.proofs.Common.{◌≡◌, ℕ, zero, suc, ◌+◌, ◌*◌, ◌<◌, List, [], ◌∷◌, length, replicate, sym, ◌∙◌, ap, ap₂, refl, inl, inr, arith, ℤ, ◌+ℤ◌, ◌*ℤ◌}
 use Rattle.std.proofs.lemmas.List.{length-map, length-replicate}
@@ -14,7 +14,7 @@ use Rattle.sym_model.specs.Plethysm.{multiplied, replaced, substitute}
 use Rattle.plethysm_laws.specs.SumsOfMonomials.{HavePlaces, monomial_sum}
 use Rattle.plethysm_laws.specs.PowerSumPlethysm.{dilated}
 
--- ---- exponent lists after substitution
+-- ---- the exponents of a monomial after substitution (`replaced`), and multiples of exponent lists (`multiplied`)
 
 pub multiplied-none : (γ : List ℕ) → multiplied 0 γ ≡ replicate (length γ) 0
 multiplied-none [] = refl
@@ -40,7 +40,7 @@ length-replaced n (γ ∷ γs) [] h = length-replicate n 0
 length-replaced n (γ ∷ γs) (a ∷ α) h =
     length-join_same n (multiplied a γ) (replaced n γs α) (length-multiplied a γ ∙ h γ (inl refl)) (length-replaced n γs α (λ δ m. h δ (inr m)))
 
--- in a sum of four exponent lists the middle two may be exchanged
+-- (α + β) + (γ + δ) = (α + γ) + (β + δ) for exponent lists
 regroup : (α β γ δ : List ℕ) → join (join α β) (join γ δ) ≡ join (join α γ) (join β δ)
 regroup α β γ δ =
     join_assoc α β (join γ δ)
@@ -58,7 +58,7 @@ replaced-join n (γ ∷ γs) (a ∷ α) (b ∷ β) h =
     ap₂ join (multiplied-add a b γ) (replaced-join n γs α β (λ δ m. h δ (inr m)))
     ∙ regroup (multiplied a γ) (multiplied b γ) (replaced n γs α) (replaced n γs β)
 
--- if the first exponent is 0, the monomial γ that replaces the first variable does not occur
+-- if x_1 has the exponent 0, the monomial γ substituted for x_1 does not occur in the result
 replaced-zero : (n : ℕ) (γ : List ℕ) (γs : List (List ℕ)) (α : List ℕ) → HavePlaces n (γ ∷ γs) → replaced n (γ ∷ γs) (0 ∷ α) ≡ replaced n γs α
 replaced-zero n γ γs α h =
     ap (λ x. join x (replaced n γs α)) (multiplied-none γ ∙ ap no_exponents (h γ (inl refl)))
@@ -69,7 +69,7 @@ replaced-zeros n k [] h = refl
 replaced-zeros n zero (γ ∷ γs) h = refl
 replaced-zeros n (suc k) (γ ∷ γs) h = replaced-zero n γ γs (no_exponents k) h ∙ replaced-zeros n k γs (λ δ m. h δ (inr m))
 
--- ---- substitution into sums and products
+-- ---- monomials substituted for the variables of sums and products
 
 pub pair-substitute : (n : ℕ) (γs : List (List ℕ)) (f : Poly) (φ : List ℕ → ℤ) → pair (substitute n γs f) φ ≡ pair f (λ α. φ (replaced n γs α))
 pair-substitute n γs f φ = total_map (λ (t : Term). t.1 *ℤ φ t.0) (λ (t : Term). (replaced n γs t.0, t.1)) f
@@ -120,7 +120,7 @@ substitute-one n k γs h =
     same_from_pair (substitute n γs (one k)) (one n)
     (λ φ. pair-substitute n γs (one k) φ ∙ pair_one k (λ α. φ (replaced n γs α)) ∙ ap φ (replaced-zeros n k γs h) ∙ sym (pair_one n φ))
 
--- ---- substitution into power sums
+-- ---- monomials substituted for the variables of power sums
 
 total-one_place : (k n : ℕ) (γs : List (List ℕ)) (φ : List ℕ → ℤ) → HavePlaces n γs
     → total (λ (α : List ℕ). φ (replaced n γs α)) (one_place k (length γs)) ≡ total (λ (γ : List ℕ). φ (multiplied k γ)) γs
@@ -138,7 +138,7 @@ total-one_place k n (γ ∷ γs) φ h =
     rest : HavePlaces n γs
     rest δ m = h δ (inr m)
 
--- for k > 0, substitution of the monomials of g turns p_k into p_k[g], the sum of their k-th powers
+-- for k > 0, substituting the monomials γs of g for the variables turns p_k into p_k[g], the sum of the k-th powers of these monomials
 pub substitute-power_sum_of : (k n : ℕ) (γs : List (List ℕ)) (g : Poly) → 0 < k → HavePlaces n γs → Same (monomial_sum γs) g
     → Same (substitute n γs (power_sum_of k (length γs))) (dilated k g)
 substitute-power_sum_of k n γs g l h e =
@@ -151,7 +151,7 @@ substitute-power_sum_of k n γs g l h e =
     ∙ pair_determined (monomial_sum γs) g (λ γ. φ (multiplied k γ)) e
     ∙ sym (pair-dilated k g φ))
 
--- for a partition λ, substitution of the monomials of g turns p_λ into the product of p_k[g] over the parts k of λ
+-- for a partition λ, substituting the monomials γs of g for the variables turns p_λ into the product of the p_k[g] over the parts k of λ
 pub substitute-power_sum : (parts : List ℕ) (n : ℕ) (γs : List (List ℕ)) (g : Poly) → ArePositive parts → HavePlaces n γs → Same (monomial_sum γs) g
     → Same (substitute n γs (power_sum parts (length γs))) (product_over (λ k m. dilated k g) parts n)
 substitute-power_sum [] n γs g p h e = substitute-one n (length γs) γs h
@@ -167,7 +167,7 @@ substitute-power_sum (k ∷ parts) n γs g p h e =
     (substitute-power_sum_of k n γs g p.0 h e)
     (substitute-power_sum parts n γs g p.1 h e))
 
--- ---- if g is in n variables, so is g with all exponents multiplied by k; for k = 1 this is g itself
+-- ---- `dilated k g`, the polynomial g with all exponents multiplied by k, is in n variables if g is in n variables, and is g if k = 1
 
 pub In-dilated : (k n : ℕ) (g : Poly) → In n g → In n (dilated k g)
 In-dilated k n g i = In_map n (λ (t : Term). (multiplied k t.0, t.1)) g (λ t m. length-multiplied k t.0 ∙ i t m)

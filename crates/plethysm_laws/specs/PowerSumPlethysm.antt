@@ -1,11 +1,11 @@
--- The plethysms p_k[g] and p_λ[g], and the numbers that occur when they are added up (Macdonald, I.8).
+-- The plethysms p_k[g] and p_λ[g], and the sums of absolute values that bound a sum of plethysms (Macdonald, I.8).
 use Rattle.std.specs.Prelude.{ℕ, nat_abs, ℤ, List, map}
 use Rattle.sym_model.specs.Polynomial.{Term, Poly}
 use Rattle.sym_model.specs.Bases.{product_over}
 use Rattle.sym_model.specs.Plethysm.{multiplied}
 use Rattle.sym_model.specs.WholeTerms.{WholeTerms, weighed}
 
--- p_k[g]: the polynomial with each variable replaced by its k-th power
+-- p_k[g]: the polynomial g with each variable replaced by its k-th power
 abbrev pub dilated : ℕ → Poly → Poly
 dilated k g = map (λ (t : Term). (multiplied k t.0, t.1)) g
 
@@ -13,6 +13,6 @@ dilated k g = map (λ (t : Term). (multiplied k t.0, t.1)) g
 abbrev pub power_sum_plethysm : List ℕ → Poly → ℕ → Poly
 power_sum_plethysm parts g n = product_over (λ k m. dilated k g) parts n
 
--- the sum of |c|·|value(label)| over the terms (label, c)
+-- the sum of |c|·|value(λ)| over the terms c, λ of the list W
 abbrev pub met : WholeTerms → (List ℕ → ℤ) → ℕ
 met W value = weighed (λ label. nat_abs (value label)) W

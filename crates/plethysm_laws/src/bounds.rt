@@ -1,4 +1,5 @@
-//! Bounds of plethysms.
+//! Bounds for the coefficients of plethysms, and for the numbers in their computation by power
+//! sums.
 
 ghost use Rattle.std.specs.Prelude.{◌≡◌, ℕ, ◌+◌, ◌*◌, ◌^◌, ◌≤◌, ℤ, List, length};
 ghost use Rattle.sym_model.specs.Sum.{Among, Once};
@@ -21,13 +22,13 @@ ghost use Rattle.plethysm_laws.specs.PowerSumPlethysm.{power_sum_plethysm, met};
 ///
 /// Let g have degree at most b and no negative coefficient, and let it be bounded by K ≥ 1 at the
 /// degree b. If f is bounded by N at the degree a, in every number of variables, then f[g] is
-/// bounded by N·K^a at the degree ab. If a list in p with labels λ of at most a cells is multiplied
-/// out, with p_λ[g] for each p_λ, the sum of the absolute values at each exponent list is at most
-/// the sum of the absolute values of its coefficients times K^a·(ab)!.
+/// bounded by N·K^a at the degree ab. For a list of terms c·p_λ, with all labels λ of at most a
+/// cells, and any exponents α, the sum of |c| times the absolute value of the coefficient of x^α in
+/// p_λ[g] is at most K^a·(ab)! times the sum of the |c|.
 ///
-/// Let a list in m have each label once, with at most a cells, and D as a common denominator, such
-/// that |c|·D·Π λ_i! ≤ N·|λ|! for the coefficient c of each label λ. Then D times its polynomial is
-/// bounded by N·(a+1) at the degree a.
+/// Let a list of terms c·m_λ have each label once, and let each label have at most a cells. Let D
+/// be a common denominator of the coefficients, and let |c|·D·Π λ_i! ≤ N·|λ|! for each term. Then D
+/// times its polynomial is bounded by N·(a+1) at the degree a.
 pub fn plethysm_bounds_law()
     ensures plethysm { (N a K b n : ℕ) (f : ℕ → Poly) (g : Poly)
         → 1 ≤ K → IsMonomialSum b n g → IsBounded K b n g

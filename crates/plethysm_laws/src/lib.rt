@@ -3,9 +3,9 @@
 //!
 //! What is proved:
 //!
-//! `power_sum_path_law`: f[g] is the combination of the p_λ[g] with the coefficients of the list of
-//! f in p, in every number of variables. `plethysm_bounds_law`: bounds of f and g give bounds of
-//! f[g], and of all numbers on the path through p.
+//! `power_sum_path_law`: if f is the sum of the c·p_λ, then f[g] is the sum of the c·p_λ[g], in
+//! every number of variables. `plethysm_bounds_law`: from bounds for the coefficients of f and g,
+//! bounds for those of f[g] and for all numbers in its computation by power sums.
 #![tactic(auto)]
 
 mod bounds;

@@ -1,4 +1,4 @@
-//! Plethysm by way of power sums.
+//! Plethysm by way of power sums: f[g] computed from the p_k[g].
 
 ghost use Rattle.std.specs.Prelude.{◌≡◌, ℕ, pos, List, [], ◌∷◌};
 ghost use Rattle.sym_model.specs.Partition.{ArePositive};
@@ -9,9 +9,9 @@ ghost use Rattle.sym_model.specs.WholeTerms.{WholeTerms, HaveLabels, combined};
 ghost use Rattle.plethysm_laws.specs.SumsOfMonomials.{IsMonomialSum};
 ghost use Rattle.plethysm_laws.specs.PowerSumPlethysm.{power_sum_plethysm};
 
-/// p_λ[g] is the product of the p_k[g] over the parts k of λ; so for each list of f in p, f[g] is
-/// the sum of such products with its coefficients, in every number of variables, if no coefficient
-/// of g is negative.
+/// If no coefficient of g is negative, p_λ[g] is the product of the p_k[g] over the parts k of λ;
+/// and if f is the sum of the c·p_λ over the terms of a list, then f[g] is the sum of the c·p_λ[g],
+/// in every number of variables.
 ///
 /// Examples: h_2[h_2] = s_4 + s_(2,2) and e_2[h_2] = s_(3,1), by coefficients in two variables;
 /// h_2[3] = 6.

@@ -1,4 +1,4 @@
--- A term without its sign is read as its label and the absolute value of its coefficient.
+-- The text of a term without its sign, such as 3*s[2,1], is read back as its label and the absolute value of its coefficient.
 use Rattle.std.proofs.Common.{◌≡◌, ℕ, ◌<◌, ◌≤◌, Bool, true, false, List, [], ◌∷◌, ◌++◌, length, cond, eqb, pos, nat_abs, refl, sym, ap, ◌∙◌, append_assoc, length-append, decimal, arith}
 use Rattle.std.proofs.lemmas.Bool.{eqb-true, and_parts}
 use Rattle.sym_model.specs.Expansion.{Basis, monomials, elementaries, completes, power_sums, schurs, Fraction}
@@ -9,14 +9,15 @@ use Rattle.printing_laws.proofs.NumberTexts.{AreShort, IsShortFraction, numbers_
 use Rattle.printing_laws.proofs.Pieces.{LacksSigns, cut_at-front, cut_at-whole}
 use Rattle.sym_model.specs.Bounded.{Lacks}
 
--- the numbers of the label and of the coefficient are below 10^64, so that the term can be read back
+-- the numbers of the label, and the numerator (in absolute value) and denominator of the coefficient, are below 10^64, so that the term can be read
+-- back
 pub record IsReadable (t : List ℕ × Fraction) : Type 0 where
   pub numbers : AreShort t.0
   pub fraction : IsShortFraction (without_sign t.1)
 
--- ---- the texts of atoms
+-- ---- the texts of atoms, such as s[2,1]
 
--- the text of an atom whose numbers are below 10^64 has no byte below the comma (the byte 44)
+-- if the numbers of an atom are below 10^64, its text has no byte below 44 (the comma)
 atom-lacks : (byte : ℕ) (basis : Basis) (numbers : List ℕ) → byte < 44 → AreShort numbers → Lacks byte (atom_text basis numbers)
 atom-lacks byte basis numbers low h = by basis
   where
@@ -30,7 +31,7 @@ atom-lacks byte basis numbers low h = by basis
     by power_sums = ((λ e. omega arith), rest)
     by schurs = ((λ e. omega arith), rest)
 
--- the text of an atom whose numbers are below 10^64 does not have the byte `-` (45)
+-- if the numbers of an atom are below 10^64, its text does not have the byte 45 (`-`)
 atom-lacks_minus : (basis : Basis) (numbers : List ℕ) → AreShort numbers → Lacks 45 (atom_text basis numbers)
 atom-lacks_minus basis numbers h = by basis
   where
@@ -58,7 +59,7 @@ numbers_in-atom basis numbers h = by basis
     by power_sums = inner
     by schurs = inner
 
--- an atom has at least three bytes
+-- the text of an atom has at least three bytes
 pub atom-long : (basis : Basis) (numbers : List ℕ) → 3 ≤ length (atom_text basis numbers)
 atom-long basis numbers = by basis
   where
@@ -74,7 +75,8 @@ atom-long basis numbers = by basis
 
 -- ---- the texts of coefficients without their signs
 
--- the text of a short coefficient without its sign has no byte below `/` (the byte 47), so no sign
+-- if the absolute value of the numerator of a coefficient and its denominator are below 10^64, the text of the coefficient without the sign has no
+-- byte below 47 (`/`), and so no `+` or `-`
 unsigned-lacks : (byte : ℕ) (c : Fraction) → byte < 47 → IsShortFraction (without_sign c) → Lacks byte (fraction_text (without_sign c))
 unsigned-lacks byte c low h = by (eqb c.1 1)
   where
@@ -82,7 +84,7 @@ unsigned-lacks byte c low h = by (eqb c.1 1)
     by true = decimal-lacks byte (nat_abs c.0) (omega arith) h.num
     by false = lacks-append byte (decimal (nat_abs c.0)) _ (decimal-lacks byte (nat_abs c.0) (omega arith) h.num) ((λ e. omega arith), decimal-lacks byte c.1 (omega arith) h.den)
 
--- if a coefficient is printed without its absolute value (`is_unit`), this value is 1
+-- if the text of a term omits the absolute value of the coefficient (`is_unit`), this value is 1
 unit-is : (c : Fraction) → is_unit c ≡ true → without_sign c ≡ (pos 1, 1)
 unit-is c h =
     let p = and_parts (eqb (nat_abs c.0) 1) (eqb c.1 1) h in

@@ -1,4 +1,4 @@
--- The orders of the labels of each kind are total, and labels within the limits that compare as equal are equal.
+-- The order of the labels is total for each kind of answer, and labels within the limits that compare as equal are equal.
 use Rattle.std.proofs.Common.{◌≡◌, ℕ, zero, suc, ◌+◌, ◌≤◌, true, List, [], ◌∷◌, length, eqb, ltb, refl, sym, ap, ap₂, ◌∙◌, arith}
 use Rattle.std.specs.Cmp.{IsTotalOrder}
 use Rattle.std.specs.Cmp.Lexicographic.{slice_cmp}
@@ -15,15 +15,15 @@ use Rattle.sym_model.specs.Kind.{Kind, number, expansion, product, pairs, powers
 use Rattle.sym_model.proofs.Orders.{printed_order-total, printed_order-equal, nat_cmp-equal, is_partition-tells, then-equal}
 use Rattle.sym_model.proofs.Exponents.{same_true}
 
--- ---- the orders of the labels are total
+-- ---- the order of the labels of each kind is total
 
--- the letters of w at the places i + 1, .., i + n; after the end of w, the letter at a place is the place
+-- the letters at the places i + 1, .., i + n of a permutation whose letters from the place i + 1 on are w: the letters after the end of w are fixed
 padded : ℕ → ℕ → List ℕ → List ℕ
 padded zero i w = []
 padded (suc n) i [] = (i + 1) ∷ padded n (i + 1) []
 padded (suc n) i (a ∷ w) = a ∷ padded n (i + 1) w
 
--- if v and w have at most n letters, their order is that of the lists padded to n letters, compared letter by letter
+-- if v and w have at most n letters, their order as permutations is the lexicographic order of these lists, both extended to n letters by `padded`
 rising_letters-padded : (n i : ℕ) (v w : List ℕ) → length v ≤ n → length w ≤ n → rising_letters i v w ≡ slice_cmp nat_cmp (padded n i v) (padded n i w)
 unfolding padded
 rising_letters-padded zero i [] [] h k = refl
@@ -52,7 +52,7 @@ rising_letters-total i = record { antisymm = antisymm; trans = trans; congr = co
         let n : ℕ = length x + (length y + length z) in
         rising_letters-padded n i x z (omega arith) (omega arith) ∙ (nat_list_cmp_total.congr (padded n i x) (padded n i y) (padded n i z) (sym (rising_letters-padded n i x y (omega arith) (omega arith)) ∙ h) ∙ sym (rising_letters-padded n i y z (omega arith) (omega arith)))
 
--- the order on the only label of a number is total
+-- the order of labels is total for the kind `number`, which has only one label
 one_label-total : IsTotalOrder (label_rules number).order
 one_label-total = record { antisymm = λ x y. refl; trans = λ x y z h k. h; congr = λ x y z h. refl }
 
@@ -95,11 +95,11 @@ monomials-tie x y h k e =
     let q = same_true (without_last_zeros y) y (and_parts _ _ (and_parts _ _ k).0).0 in
     sym p ∙ (falling_lexicographic-ties x y (then-equal (nat_cmp (size y) (size x)) (falling_lexicographic x y) e).1 ∙ q)
 
--- a letter a that is equal to its place i is dropped in front of the empty list
 fixed-nothing : (i a : ℕ) → a ≡ i → in_front_unless_fixed i a [] ≡ []
 fixed-nothing i a e = cond-true (eqb a i) [] (a ∷ []) (eq-eqb a i e)
 
--- if two lists of letters compare as equal, they are equal up to letters at their ends that are equal to their places
+-- if two lists of letters, from place i + 1 on, compare as equal, they are equal once the letters at their ends that are equal to their places are
+-- removed
 rising_letters-ties : (i : ℕ) (x y : List ℕ) → rising_letters i x y ≡ Equal → without_fixed_from (i + 1) x ≡ without_fixed_from (i + 1) y
 rising_letters-ties i [] [] e = refl
 rising_letters-ties i [] (b ∷ y) e =

@@ -1,4 +1,4 @@
--- The text of each label can be read, for every kind of answer.
+-- For every kind of answer, each label within the limits is read back from its text (`IsLegible`).
 use Rattle.std.proofs.Common.{◌≡◌, ℕ, ◌^◌, ◌<◌, ◌≤◌, Bool, true, false, ◌&&◌, List, [], ◌∷◌, length, leb, ltb, refl, ap, ◌∙◌, decimal, arith}
 use Rattle.std.specs.declared.cmp.Ordering.{Ordering}
 use Rattle.std.proofs.lemmas.Bool.{leb-true, ltb-true, and_parts}
@@ -10,7 +10,8 @@ use Rattle.printing_laws.proofs.Decimals.{lacks-append, decimal-lacks, decimal_v
 use Rattle.printing_laws.proofs.NumberTexts.{cut_at-space, AreShort, are_short-from_size, label_of-text, label_text-lacks}
 use Rattle.sym_model.specs.Bounded.{Lacks}
 
--- if the numbers of labels within the limits are below 10^64, labels that are lists of numbers can be read
+-- for labels that are lists of numbers: if all numbers in labels within the limits are below 10^64, these labels are read back from their texts
+-- (`IsLegible`)
 list_rules-legible : (order : List ℕ → List ℕ → Ordering) (limits : List ℕ → Bool) (has_fractions : Bool)
     → ((numbers : List ℕ) → limits numbers ≡ true → AreShort numbers) → IsLegible (list_rules order limits has_fractions)
 list_rules-legible order limits has_fractions short = record {
@@ -47,9 +48,9 @@ is_permutation-short w h =
     let letters = (and_parts _ _ (and_parts _ _ (and_parts _ _ p.0).0).0).0 in
     are_letters-short (length w) w low letters
 
--- ---- labels that are pairs of lists
+-- ---- labels that are pairs of lists of numbers
 
--- the rules of pairs of lists that are compared by `in_order` and limited by `in_limits`
+-- the rules for labels that are pairs of lists of numbers, with the order `in_order` and the limits `in_limits`
 abbrev pair_rules : (List ℕ × List ℕ → List ℕ × List ℕ → Ordering) → (List ℕ × List ℕ → Bool) → LabelRules (List ℕ × List ℕ)
 pair_rules in_order in_limits = record {
   text = pair_text;
@@ -59,7 +60,8 @@ pair_rules in_order in_limits = record {
   has_fractions = false;
 }
 
--- if the numbers of labels within the limits are below 10^64, labels that are pairs of lists can be read
+-- for labels that are pairs of lists of numbers: if all numbers in labels within the limits are below 10^64, these labels are read back from their
+-- texts (`IsLegible`)
 pair_rules-legible : (order : List ℕ × List ℕ → List ℕ × List ℕ → Ordering) (limits : List ℕ × List ℕ → Bool)
     → ((pair : List ℕ × List ℕ) → limits pair ≡ true → AreShort pair.0 × AreShort pair.1) → IsLegible (pair_rules order limits)
 pair_rules-legible order limits short = record { one_line = one_line; apart = λ pair h. refl; reads = reads }
@@ -110,7 +112,7 @@ powers-legible = record { one_line = one_line; apart = λ label h. refl; reads =
         ∙ (ap (λ n. (n, list_of (list_text label.1))) (decimal_value-decimal label.0 low)
         ∙ ap (λ shape. (label.0, shape)) (label_of-text label.1 (is_label-short label.1 p.1)))
 
--- the labels of each kind can be read
+-- for every kind of answer, each label within the limits is read back from its text
 pub legible : (kind : Kind) → IsLegible (label_rules kind)
 legible number = record { one_line = λ label h. tt; apart = λ label h. tt; reads = λ label h. refl }
 legible expansion = list_rules-legible _ _ _ is_label-short

@@ -1,4 +1,4 @@
--- A one-line form is an expression that denotes its list.
+-- The one-line form of a canonical list whose labels are partitions is an expression, and this expression denotes the list.
 use Rattle.std.proofs.Common.{◌≡◌, ℕ, Bool, true, ◌&&◌, List, [], ◌∷◌, refl}
 use Rattle.std.proofs.lemmas.Bool.{and_parts}
 use Rattle.sym_model.specs.Expansion.{Basis, Fraction, Terms}

@@ -1,4 +1,4 @@
--- No number of a one-line form exceeds 2^127 - 1 if no numerator is -2^127.
+-- If a canonical list has numbers of at most 128 bits, and no numerator is -2^127, then no number in its one-line form exceeds 2^127 - 1.
 use Rattle.std.proofs.Common.{◌≡◌, ℕ, suc, ◌+◌, ◌^◌, ◌<◌, nat_lt, Bool, true, false, cond, eqb, ◌&&◌, List, [], ◌∷◌, ◌++◌, length, map, ℤ, pos, negsuc, nat_abs, neg_ℤ, Option, Some, None, inl, inr, refl, sym, ap, ◌∙◌, subst, decimal, arith, flat_map}
 use Rattle.std.proofs.lemmas.Bool.{lt-leb, ltb-true, and_parts, cases_eq}
 use Rattle.sym_model.specs.Sum.{Among}
@@ -55,7 +55,7 @@ marks-narrow depth byte (operation operator left right) h m a =
     elim (Among_from_append m (marks depth byte left) (marks depth (byte + length (spelling left) + 1) right) a)
     [ inl b ↦ marks-narrow depth byte left h.0 m b | inr b ↦ marks-narrow depth (byte + length (spelling left) + 1) right h.1 m b ]
 
--- ---- errors of phrases with numbers below 2^127
+-- ---- the errors of phrases in which all numbers are below 2^127
 
 of_test : (b : Bool) (at : ℕ) (kind : OffenceKind) (o : WordOffence) → Among o (cond b ((at, kind) ∷ []) []) → (b ≡ true) × (o.1 ≡ kind)
 of_test true at kind o (inl e) = (refl, ap (λ (p : WordOffence). p.1) e)
@@ -94,7 +94,7 @@ none-literal target phrase h o a is =
         let found = Among_from_each offences_at o (marks 0 0 phrase) b in
         at_mark found.0 o (marks-narrow 0 0 phrase h found.0 found.1) found.2 is
 
--- ---- the errors of the whole line and its numbers
+-- ---- the errors of a one-line form, and the numbers in it
 
 narrow-decimal : (n : ℕ) → n < 2 ^ 127 → decimal_value (decimal n) < 2 ^ 127
 narrow-decimal n h = subst (λ k. k < 2 ^ 127) (sym (decimal_value-decimal n (omega arith))) h
@@ -135,7 +135,7 @@ narrow-line : (basis : Basis) (terms : Terms (List ℕ)) → AreNarrowTerms term
 narrow-line basis [] h = omega arith
 narrow-line basis (t ∷ terms) h = narrow-later basis (first_phrase basis t) terms (narrow-first basis t h.0) h.1
 
--- ---- in a printable list without the number -2^127, all absolute values are below 2^127
+-- ---- in a list with numbers of at most 128 bits and without -2^127, all absolute values are below 2^127
 
 below : (z : ℤ) → fits_128_bits z ≡ true → (z ≡ neg_ℤ (pos (2 ^ 127)) → ⊥) → nat_abs z < 2 ^ 127
 below (pos n) h other = ltb-true n (2 ^ 127) h
@@ -154,8 +154,8 @@ narrow-terms has_fractions (t ∷ terms) h k lacks =
     let cells = (is_label-tells t.0 (and_parts (is_coefficient has_fractions t.1) (is_label t.0) tests.0).1).size in
     (record { label = omega arith; num = below t.1.0 own.0 (lacks t (inl refl)); den = ltb-true t.1.1 (2 ^ 127) own.1 }, narrow-terms has_fractions terms tests.1 bits.1 (λ u a. lacks u (inr a)))
 
--- if the coefficients are valid and have 128 bits, the labels are within the limits and no numerator is -2^127, no number in
--- the line exceeds 2^127 - 1, so no error of the line is of the kind `literal`
+-- let each coefficient pass `is_coefficient`, each label be within the limits, the numbers have at most 128 bits, and no numerator be -2^127. Then no
+-- number in the one-line form exceeds 2^127 - 1, so no error of this form is of the kind `literal`
 pub line-no_literal : (has_fractions : Bool) (basis : Basis) (terms : Terms (List ℕ))
     → each_term (λ (t : List ℕ × Fraction). is_coefficient has_fractions t.1 && is_label t.0) terms ≡ true → is_printable terms ≡ true → LacksLowest terms
     → (target : Basis) (o : WordOffence) → Among o (offences target (line_phrase basis terms)) → o.1 ≡ literal → ⊥

@@ -1,4 +1,4 @@
--- The phrase of a one-line form: it is in the grammar, and its spelling is the line.
+-- The phrase that a one-line form spells: it is in the grammar, and its spelling is the one-line form without the LF.
 use Rattle.std.proofs.Common.{◌≡◌, ℕ, ◌^◌, ◌<◌, Bool, true, false, List, [], ◌∷◌, ◌++◌, map, cond, eqb, pos, negsuc, nat_abs, refl, sym, ap, ◌∙◌, append_assoc, append-nil, decimal, arith}
 use Rattle.std.specs.Prelude.{codes}
 use Rattle.sym_model.specs.Expansion.{Basis, Fraction, Terms}
@@ -11,19 +11,19 @@ use Rattle.printing_laws.proofs.NumberTexts.{AreShort, IsShortFraction}
 use Rattle.printing_laws.proofs.Atoms.{IsReadable}
 use Rattle.printing_laws.proofs.OneLines.{AreReadable}
 
--- the phrase of an atom
+-- the phrase of the atom, such as s[2,1], with a given basis and given numbers
 abbrev pub atom_phrase : Basis → List ℕ → Phrase
 atom_phrase basis numbers = label basis (map decimal numbers)
 
--- the phrase of a coefficient without its sign
+-- the phrase of the absolute value of a coefficient
 abbrev pub coefficient_phrase : Fraction → Phrase
 coefficient_phrase c = cond (eqb c.1 1) (numeral (decimal (nat_abs c.0))) (ratio (decimal (nat_abs c.0)) (decimal c.1))
 
--- the phrase of a term without its sign
+-- the phrase of a term without its sign: the label with the absolute value of its coefficient
 abbrev pub term_phrase : Basis → List ℕ × Fraction → Phrase
 term_phrase basis t = cond (is_unit t.1) (atom_phrase basis t.0) (operation times (coefficient_phrase t.1) (atom_phrase basis t.0))
 
--- the phrase `left` of the earlier terms, followed by `+` or `-` and the phrase of the term t
+-- the phrase `left` of the terms before the term t, followed by `+` or `-` and the phrase of t without its sign
 abbrev pub joined : Basis → Phrase → List ℕ × Fraction → Phrase
 joined basis left t = operation (cond (is_negative t.1.0) minus plus) left (term_phrase basis t)
 
@@ -34,12 +34,12 @@ later_phrase basis left (t ∷ terms) = later_phrase basis (joined basis left t)
 abbrev pub first_phrase : Basis → List ℕ × Fraction → Phrase
 first_phrase basis t = cond (is_negative t.1.0) (minus_first (term_phrase basis t)) (term_phrase basis t)
 
--- the phrase of a line
+-- the phrase of the one-line form of a list of terms
 abbrev pub line_phrase : Basis → Terms (List ℕ) → Phrase
 line_phrase basis [] = numeral (codes "0")
 line_phrase basis (t ∷ terms) = later_phrase basis (first_phrase basis t) terms
 
--- ---- the phrase of a line is in the grammar
+-- ---- the phrase of a one-line form is in the grammar
 
 number_word : (n : ℕ) → n < 10 ^ 64 → IsNumberWord (decimal n)
 number_word n h = record { nonempty = decimal-nonempty n h; digits = decimal-digits n h }
@@ -78,7 +78,7 @@ pub line_is : (basis : Basis) (terms : Terms (List ℕ)) → AreReadable terms �
 line_is basis [] r = record { nonempty = omega arith; digits = ((omega arith, omega arith), tt) }
 line_is basis (t ∷ terms) r = later_is basis (first_phrase basis t) terms (first_is basis t r.0) r.1
 
--- ---- the spelling of the phrase of a line
+-- ---- the spelling of the phrase of a one-line form
 
 commas : (numbers : List ℕ) → comma_separated (map decimal numbers) ≡ numbers_text numbers
 commas [] = refl

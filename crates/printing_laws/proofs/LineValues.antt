@@ -1,4 +1,4 @@
--- The expression of a one-line form denotes its list.
+-- The expression that a one-line form spells denotes the list whose form it is.
 use Rattle.std.proofs.Common.{◌≡◌, ℕ, suc, ◌*◌, ◌/◌, ◌<◌, Bool, true, false, List, [], ◌∷◌, map, cond, eqb, ℤ, pos, negsuc, nat_abs, neg_ℤ, ◌+ℤ◌, ◌*ℤ◌, refl, sym, ap, ap₂, ◌∙◌, subst, decimal, arith}
 use Rattle.std.proofs.lemmas.Int.{ints}
 use Rattle.std.proofs.lemmas.Bool.{eqb-true, and_parts}
@@ -23,7 +23,7 @@ use Rattle.printing_laws.proofs.LinePhrases.{atom_phrase, coefficient_phrase, te
 use Rattle.std.proofs.Math.IntN.{+ℤ_assoc}
 use native.Mathlib.Nat.{mul-pos}
 
--- ---- equations between integers, with which values of terms are multiplied, added and negated
+-- ---- equations between integers, for multiples, sums and negatives of the values of terms
 
 of_term : (d r a c q : ℤ) → r *ℤ d ≡ q → d *ℤ ((a *ℤ r) *ℤ c) ≡ q *ℤ (a *ℤ c)
 of_term d r a c q e = subst (λ z. d *ℤ ((a *ℤ r) *ℤ c) ≡ z *ℤ (a *ℤ c)) e (simp ring (omega (arith, ints)))
@@ -50,7 +50,7 @@ of_negation l s q x e =
 of_sign : (a r c : ℤ) → (neg_ℤ a *ℤ r) *ℤ c ≡ neg_ℤ ((a *ℤ r) *ℤ c)
 of_sign a r c = simp ring (omega (arith, ints))
 
--- ---- the trees of phrases
+-- ---- the trees (expressions) of the phrases of one-line forms
 
 values : (numbers : List ℕ) → AreShort numbers → map decimal_value (map decimal numbers) ≡ numbers
 values [] h = refl
@@ -59,7 +59,7 @@ values (a ∷ numbers) h = ap₂ ◌∷◌ (decimal_value-decimal a h.0) (values
 tree_atom : (basis : Basis) (numbers : List ℕ) → AreShort numbers → ArePositive numbers → tree (atom_phrase basis numbers) ≡ atom basis numbers
 tree_atom basis numbers h p = ap (λ ns. atom basis (without_last_zeros ns)) (values numbers h) ∙ ap (atom basis) (without_last_zeros-positive numbers p)
 
--- the term can be read back, its label has only positive parts, and its denominator is positive, so that its expression denotes it
+-- the term can be read back (`IsReadable`), the parts of its label are positive, and the denominator of its coefficient is positive
 pub record IsProper (t : List ℕ × Fraction) : Type 0 where
   pub readable : IsReadable t
   pub positive : ArePositive t.0
@@ -69,17 +69,17 @@ abbrev pub AreProper : Terms (List ℕ) → Type 0
 AreProper [] = Unit {0}
 AreProper (t ∷ terms) = IsProper t × AreProper terms
 
--- the denominator of each coefficient divides q
+-- the denominator of the coefficient of each term divides q
 abbrev pub AreDivisors : ℕ → Terms (List ℕ) → Type 0
 AreDivisors q [] = Unit {0}
 AreDivisors q (t ∷ terms) = (q / t.1.1 * t.1.1 ≡ q) × AreDivisors q terms
 
 module _ (basis : Basis) (n : ℕ) (α : List ℕ) where
-  -- the coefficient of x^α in the polynomial of a label
+  -- the coefficient of x^α in the polynomial of a label, for the given basis, in n variables
   abbrev pub at_label : List ℕ → ℤ
   at_label numbers = coefficient (basis_polynomial basis numbers n) α
 
-  -- q times the coefficient of x^α in a term without its sign
+  -- q times the coefficient of x^α in a term without its sign, if the denominator of the term divides q
   abbrev unsigned_share : ℕ → List ℕ × Fraction → ℤ
   unsigned_share q t = (pos (nat_abs t.1.0) *ℤ pos (q / t.1.1)) *ℤ at_label t.0
 
@@ -93,12 +93,12 @@ module _ (basis : Basis) (n : ℕ) (α : List ℕ) where
       coefficient_plus (scale (t.1.0 *ℤ pos (q / t.1.1)) (basis_polynomial basis t.0 n)) (cleared (λ label. basis_polynomial basis label n) q terms) α
       ∙ ap₂ ◌+ℤ◌ (coefficient_scale (t.1.0 *ℤ pos (q / t.1.1)) (basis_polynomial basis t.0 n) α) (coefficient-cleared q terms)
 
-  -- q times the coefficient of x^α in the expression e is s
+  -- s is q times the coefficient of x^α in the value of the expression e, and the denominator of e is positive
   pub record Stands (q : ℕ) (e : Tree) (s : ℤ) : Type 0 where
     pub positive : 0 < denominator e
     pub equal : pos (denominator e) *ℤ s ≡ pos q *ℤ coefficient (cleared_value e n) α
 
-  -- the coefficient of x^α in a times an atom is a times that in the atom
+  -- the coefficient of x^α in a·P, for P the polynomial of an atom, is a times the coefficient of x^α in P
   scaled_atom : (a : ℕ) (numbers : List ℕ) → coefficient (product_of (scale (pos a) (one n)) (basis_polynomial basis numbers n)) α ≡ pos a *ℤ at_label numbers
   scaled_atom a numbers =
       sym (scale-times (pos a) (one n) (basis_polynomial basis numbers n) α)
@@ -220,7 +220,7 @@ module _ (basis : Basis) (n : ℕ) (α : List ℕ) where
       none q c = simp ring (omega (arith, ints))
   stands-line q (t ∷ terms) h divides = stands-later q (first_phrase basis t) ((t.1.0 *ℤ pos (q / t.1.1)) *ℤ at_label t.0) terms h.1 divides.1 (stands-first q t h.0 divides.0)
 
--- ---- the common denominator of a list of terms
+-- ---- a common denominator of the coefficients of a list of terms
 
 divisors : (k : ℕ) (terms : Terms (List ℕ)) → AreProper terms → AreDivisors (k * denominators terms) terms
 divisors k [] h = tt

@@ -1,4 +1,5 @@
--- A number below 10^64, and a fraction or a list of numbers below 10^64, is read back from its text.
+-- A number below 10^64, a list of such numbers, and a fraction whose numerator (in absolute value) and denominator are below 10^64, are read back
+-- from their texts.
 use Rattle.std.proofs.Common.{◌≡◌, ℕ, ◌^◌, ◌<◌, Bool, true, false, List, [], ◌∷◌, ◌++◌, length, map, cond, eqb, refl, sym, ap, ◌∙◌, decimal, length-append, arith}
 use Rattle.std.specs.Fmt.{signed_decimal}
 use Rattle.std.proofs.lemmas.Bool.{eq-eqb, ne_eqb, eqb-true, cond-true, cond-false}
@@ -9,19 +10,19 @@ use Rattle.sym_model.specs.Kind.{BeginsWithSpace}
 use Rattle.printing_laws.proofs.Decimals.{lacks-append, decimal-lacks, decimal-nonempty, decimal_value-decimal, IsShort, signed_decimal-lacks, signed_value-signed_decimal}
 use Rattle.sym_model.specs.Bounded.{Lacks}
 
--- if the separator does not occur in a text, splitting the text gives one piece
+-- if the separator s does not occur in a text, splitting the text at s gives the text itself as the one piece
 pub split_at-whole : (s : ℕ) (text : List ℕ) → Lacks s text → split_at s text ≡ text ∷ []
 split_at-whole s [] h = refl
 split_at-whole s (b ∷ text) h =
     cond-false (eqb b s) _ _ (ne_eqb b s h.0) ∙ ap (before_first b) (split_at-whole s text h.1)
 
--- if a piece has no separator, the piece, the separator and a rest are split into the piece and the pieces of the rest
+-- if the separator s does not occur in `piece`, splitting `piece`, s and `rest` at s gives `piece` and then the pieces of `rest`
 pub split_at-piece : (s : ℕ) (piece rest : List ℕ) → Lacks s piece → split_at s (piece ++ (s ∷ rest)) ≡ piece ∷ split_at s rest
 split_at-piece s [] rest h = cond-true (eqb s s) _ _ (eq-eqb s s refl)
 split_at-piece s (b ∷ piece) rest h =
     cond-false (eqb b s) _ _ (ne_eqb b s h.0) ∙ ap (before_first b) (split_at-piece s piece rest h.1)
 
--- if `front` has no space and `rest` begins with one, `front ++ rest` is cut between them
+-- if `front` has no space and `rest` is empty or begins with one, cutting `front ++ rest` at its first space gives `front` and `rest`
 pub cut_at-space : (front rest : List ℕ) → Lacks 32 front → BeginsWithSpace rest → cut_at 32 (front ++ rest) ≡ (front, rest)
 cut_at-space [] [] h k = refl
 cut_at-space [] (b ∷ rest) h k = cond-true (eqb b 32) _ _ (eq-eqb b 32 k)
@@ -37,14 +38,14 @@ pub are_short-from_size : (numbers : List ℕ) → size numbers < 10 ^ 64 → Ar
 are_short-from_size [] h = tt
 are_short-from_size (a ∷ numbers) h = (omega arith, are_short-from_size numbers (omega arith))
 
--- if the numbers are below 10^64, splitting their text at its commas gives these numbers
+-- if the numbers of a list are below 10^64 and the list is not empty, splitting its text at the commas and reading the pieces gives these numbers
 pub split_at-numbers : (a : ℕ) (numbers : List ℕ) → AreShort (a ∷ numbers) → map decimal_value (split_at 44 (numbers_text (a ∷ numbers))) ≡ a ∷ numbers
 split_at-numbers a [] h =
     ap (map decimal_value) (split_at-whole 44 (decimal a) (decimal-lacks 44 a (omega arith) h.0)) ∙ ap (λ n. n ∷ []) (decimal_value-decimal a h.0)
 split_at-numbers a (b ∷ numbers) h =
     ap (map decimal_value) (split_at-piece 44 (decimal a) (numbers_text (b ∷ numbers)) (decimal-lacks 44 a (omega arith) h.0)) ∙ (ap (λ n. n ∷ map decimal_value (split_at 44 (numbers_text (b ∷ numbers)))) (decimal_value-decimal a h.0) ∙ ap (λ ns. a ∷ ns) (split_at-numbers b numbers h.1))
 
--- a byte below 48 other than the comma does not occur in the text of numbers below 10^64
+-- a byte below 48 other than the comma (44) does not occur in the text of a list of numbers below 10^64
 pub numbers_text-lacks : (byte : ℕ) (numbers : List ℕ) → byte < 48 → (44 ≡ byte → ⊥) → AreShort numbers → Lacks byte (numbers_text numbers)
 numbers_text-lacks byte [] low other h = tt
 numbers_text-lacks byte (a ∷ []) low other h = decimal-lacks byte a low h.0
@@ -78,12 +79,12 @@ pub label_text-lacks : (byte : ℕ) (numbers : List ℕ) → byte < 40 → AreSh
 label_text-lacks byte numbers low h =
     ((λ e. omega arith), lacks-append byte (numbers_text numbers) _ (numbers_text-lacks byte numbers (omega arith) (λ e. omega arith) h) ((λ e. omega arith), tt))
 
--- the numerator and the denominator are below 10^64
+-- the absolute value of the numerator and the denominator are below 10^64
 pub record IsShortFraction (c : Fraction) : Type 0 where
   pub num : IsShort c.0
   pub den : c.1 < 10 ^ 64
 
--- a fraction with numerator and denominator below 10^64 is read back from its text
+-- a fraction whose numerator (in absolute value) and denominator are below 10^64 is read back from its text
 pub fraction_of-text : (c : Fraction) → IsShortFraction c → fraction_of (fraction_text c) ≡ c
 fraction_of-text c h = by (eqb c.1 1) refl
   where

@@ -1,4 +1,4 @@
--- A one-line form is read back as the list whose form it is.
+-- The one-line form of a list of terms is read back as this list.
 use Rattle.std.proofs.Common.{◌≡◌, ℕ, ◌^◌, ◌<◌, Bool, true, false, ◌&&◌, List, [], ◌∷◌, ◌++◌, length, map, cond, eqb, ℤ, pos, negsuc, nat_abs, Some, None, refl, sym, ap, ap₂, ◌∙◌, subst, append_assoc, append-nil, length-append, arith}
 use Rattle.std.specs.Prelude.{codes}
 use Rattle.std.proofs.lemmas.Bool.{ltb-true, and_parts, and_from, cond-true, cond-false, ne_eqb}
@@ -25,21 +25,23 @@ is_sign-byte : (z : ℤ) → is_sign (sign_byte z) ≡ true
 is_sign-byte (pos n) = refl
 is_sign-byte (negsuc n) = refl
 
--- the text of a later term with its sign in front
+-- the text of a term that is not the first one of a line: the sign of the term, then the text of the term without the sign
 abbrev later_piece : Basis → List ℕ × Fraction → List ℕ
 later_piece basis t = sign_byte t.1.0 ∷ unsigned_text basis t
 
--- each term after the first begins with a sign
+-- let t be the first of some terms that do not begin a line: the text of these terms is the sign of t, the text of t without its sign, and the text
+-- of the terms after t
 later_text-more : (basis : Basis) (t : List ℕ × Fraction) (terms : Terms (List ℕ)) → later_text basis (t ∷ terms) ≡ sign_byte t.1.0 ∷ (unsigned_text basis t ++ later_text basis terms)
 later_text-more basis (label, (pos n, den)) terms = refl
 later_text-more basis (label, (negsuc n, den)) terms = refl
 
--- ---- cutting a line at its signs gives its pieces
+-- ---- a line cut before each sign gives the texts of its terms
 
 abbrev later_pieces : Basis → Terms (List ℕ) → List (List ℕ)
 later_pieces basis terms = map (later_piece basis) terms
 
--- if the terms can be read, a text without signs and the terms after it are cut into the text and the pieces of the terms
+-- let `front` be a text without signs, and let the terms be such that they can be read back (`IsReadable`): if `front`, followed by the text of the
+-- terms, is cut before each sign, the pieces are `front` and then the text of each term
 pieces-later : (basis : Basis) (front : List ℕ) (terms : Terms (List ℕ)) → LacksSigns front → AreReadable terms
     → cut_at_signs (front ++ later_text basis terms) ≡ front ∷ later_pieces basis terms
 pieces-later basis front terms lacks h =
@@ -53,7 +55,7 @@ pieces-later basis front terms lacks h =
         (cut_at_signs-front (unsigned_text basis t) (later_text basis terms) [] (later_pieces basis terms) (unsigned_text-lacks_signs basis t h.0) (behind terms h.1)
         ∙ ap (λ p. p ∷ later_pieces basis terms) (append-nil (unsigned_text basis t)))
 
--- the text of the first term, with `-` in front if it is negative
+-- the text of the first term of a line, with `-` in front if the term is negative
 abbrev first_piece : Basis → List ℕ × Fraction → List ℕ
 first_piece basis t = cond (is_negative t.1.0) (codes "-") [] ++ unsigned_text basis t
 
@@ -76,13 +78,13 @@ pieces-line basis t terms r h = by (is_negative t.1.0)
         pieces-without_sign (unsigned_text basis t) (later_text basis terms) (later_pieces basis terms) (let e = unsigned_text-long basis t r in omega arith) lacks
         (λ rest l. pieces-later basis rest terms l h)
 
--- ---- each piece is read as its term
+-- ---- the text of each term is read as this term
 
 later-term : (basis : Basis) (t : List ℕ × Fraction) → IsReadable t → term_of_piece (later_piece basis t) ≡ t
 later-term basis (label, (pos n, den)) r = unsigned_term-text basis (label, (pos n, den)) r
 later-term basis (label, (negsuc n, den)) r = ap negated (unsigned_term-text basis (label, (negsuc n, den)) r)
 
--- a piece without a sign is read as a term without a sign
+-- a text that is not empty and has no sign is read as a term (`term_of_piece`) in the same way as a term without its sign is read (`unsigned_term`)
 unsigned-piece : (piece : List ℕ) → 0 < length piece → LacksSigns piece → term_of_piece piece ≡ unsigned_term piece
 unsigned-piece [] some lacks = refl
 unsigned-piece (b ∷ piece) some lacks =
@@ -98,9 +100,9 @@ later-terms : (basis : Basis) (terms : Terms (List ℕ)) → AreReadable terms �
 later-terms basis [] h = refl
 later-terms basis (t ∷ terms) h = ap₂ ◌∷◌ (later-term basis t h.0) (later-terms basis terms h.1)
 
--- ---- the line is read back
+-- ---- the one-line form is read back as the list of terms
 
--- the one-line form is the first term, the later terms and a line feed
+-- the one-line form consists of the text of the first term, the texts of the other terms and a line feed
 one_line-front : (basis : Basis) (t : List ℕ × Fraction) (terms : Terms (List ℕ)) → one_line basis (t ∷ terms) ≡ (first_piece basis t ++ later_text basis terms) ++ (10 ∷ [])
 one_line-front basis t terms = simp append_assoc refl
 
@@ -113,7 +115,7 @@ not_nothing basis t terms r e =
     let k = length-append (cond (is_negative t.1.0) (codes "-") []) (unsigned_text basis t) in
     omega arith
 
--- if the terms can be read, their one-line form is read as these terms
+-- if each term can be read back (`IsReadable`), the one-line form of the terms is read as these terms
 pub terms_on-line : (basis : Basis) (terms : Terms (List ℕ)) → AreReadable terms → terms_on_line (one_line basis terms) ≡ terms
 terms_on-line basis [] h = refl
 terms_on-line basis (t ∷ terms) h =
@@ -123,7 +125,7 @@ terms_on-line basis (t ∷ terms) h =
     ∙ (ap (λ pieces. map {B = List ℕ × Fraction} term_of_piece pieces) (pieces-line basis t terms h.0 h.1)
     ∙ ap₂ ◌∷◌ (first-term basis t h.0) (later-terms basis terms h.1))))
 
--- ---- the terms of canonical lists can be read back
+-- ---- the terms of a canonical list with numbers of at most 128 bits can be read back
 
 short-abs : (z : ℤ) → fits_128_bits z ≡ true → nat_abs z < 10 ^ 64
 short-abs (pos n) h = let e = ltb-true n (2 ^ 127) h in omega arith
@@ -132,7 +134,8 @@ short-abs (negsuc n) h = let e = ltb-true n (2 ^ 127) h in omega arith
 short-den : (d : ℕ) → fits_128_bits (pos d) ≡ true → d < 10 ^ 64
 short-den d h = let e = ltb-true d (2 ^ 127) h in omega arith
 
--- if a list is canonical with numbers of 128 bits and the numbers of its labels are below 10^64, its terms can be read back
+-- if a list is canonical with numbers of at most 128 bits, and the numbers of labels within the limits are below 10^64, each term satisfies
+-- `IsReadable`
 pub are_readable : (rules : LabelRules (List ℕ)) → ((label : List ℕ) → rules.is_within_limits label ≡ true → AreShort label) → (terms : Terms (List ℕ))
     → each_term (λ (t : List ℕ × Fraction). is_coefficient rules.has_fractions t.1 && rules.is_within_limits t.0) terms ≡ true → is_printable terms ≡ true → AreReadable terms
 are_readable rules short [] h k = tt
@@ -142,7 +145,7 @@ are_readable rules short (t ∷ terms) h k =
     let fraction : IsShortFraction (without_sign t.1) = record { num = short-abs t.1.0 bits.0; den = short-den t.1.1 bits.1 } in
     (record { numbers = short t.0 tests.1; fraction = fraction }, are_readable rules short terms (and_parts _ _ h).1 (and_parts _ _ k).1)
 
--- the terms are canonical and printable, and `text` is their one-line form
+-- whether the terms are canonical and printable (numbers of at most 128 bits), and `text` is their one-line form
 abbrev pub is_line_of : Basis → LabelRules (List ℕ) → List ℕ → Terms (List ℕ) → Bool
 is_line_of basis rules text terms = is_canonical_by rules terms && is_printable terms && same (one_line basis terms) text
 
@@ -155,13 +158,14 @@ read_one_line-line basis rules short terms h k =
     let passes = and_from _ _ (and_from _ _ h k) (same_refl (one_line basis terms)) in
     ap (accepted_line basis rules (one_line basis terms)) e ∙ cond-true (is_line_of basis rules (one_line basis terms) terms) _ _ passes
 
--- the text is the line of the terms, which are canonical and printable
+-- `text` is the one-line form of the terms, which are canonical and printable
 pub record ReadsLine (basis : Basis) (rules : LabelRules (List ℕ)) (text : List ℕ) (terms : Terms (List ℕ)) : Type 0 where
   pub canonical : is_canonical_by rules terms ≡ true
   pub printable : is_printable terms ≡ true
   pub line : one_line basis terms ≡ text
 
--- if `text` is read as the list `terms`, then `text` is their one-line form and they are canonical and printable
+-- if the reader of one-line forms reads `text` as the list `terms`, then `text` is the one-line form of these terms, which are canonical and
+-- printable
 pub read_one_line-tells : (basis : Basis) (rules : LabelRules (List ℕ)) (text : List ℕ) (terms : Terms (List ℕ)) → read_one_line basis rules text ≡ Some terms → ReadsLine basis rules text terms
 read_one_line-tells basis rules text terms h = by (is_line_of basis rules text (terms_on_line text)) refl h
   where

@@ -1,4 +1,5 @@
--- The text of a canonical and printable list in a printed form, a block or one line, is read back as that list.
+-- A canonical and printable list has a text in each of the two printed forms: the block, with a line for each term, and the one-line form. Each of
+-- these texts is read back as that list.
 use Rattle.std.proofs.Common.{◌≡◌, ℕ, List, Some, true}
 use Rattle.sym_model.specs.Expansion.{Terms}
 use Rattle.sym_model.specs.Kind.{Kind, Label, number, expansion, product, pairs, powers, permutations, polynomial, shifts, label_rules}
@@ -8,7 +9,7 @@ use Rattle.printing_laws.proofs.Blocks.{read_by-block, read_by-tells}
 use Rattle.printing_laws.proofs.LegibleKinds.{legible, is_label-short}
 use Rattle.printing_laws.proofs.OneLines.{read_one_line-line, read_one_line-tells}
 
--- if the terms are canonical and printable, their text in a form is read as these terms
+-- if the terms are canonical and printable, their text in a printed form is read in this form as these terms
 pub read_in-text : (form : PrintedForm) (kind : Kind) (terms : Terms (Label kind)) → is_canonical_by (label_rules kind) terms ≡ true → is_printable terms ≡ true
     → read_in form kind (text_in form kind terms) ≡ Some terms
 read_in-text as_block kind terms h k = read_by-block (label_rules kind) (legible kind) terms h k
@@ -21,7 +22,7 @@ read_in-text (as_line basis) permutations terms h k = read_by-block (label_rules
 read_in-text (as_line basis) polynomial terms h k = read_by-block (label_rules polynomial) (legible polynomial) terms h k
 read_in-text (as_line basis) shifts terms h k = read_by-block (label_rules shifts) (legible shifts) terms h k
 
--- the text is that of the terms, which are canonical and printable
+-- `text` is the text of the terms in the printed form `form`, and the terms are canonical and printable
 pub record ReadsIn (form : PrintedForm) (kind : Kind) (text : List ℕ) (terms : Terms (Label kind)) : Type 0 where
   pub canonical : is_canonical_by (label_rules kind) terms ≡ true
   pub printable : is_printable terms ≡ true
@@ -32,7 +33,7 @@ block_tells kind text terms h =
     let r = read_by-tells (label_rules kind) text terms h in
     record { canonical = r.canonical; printable = r.printable; text_is = r.block }
 
--- if `text` is read in a form as the list `terms`, then `text` is their text in this form and they are canonical and printable
+-- if `text` is read in the printed form `form` as the list `terms`, then `text` is their text in this form, and they are canonical and printable
 pub read_in-tells : (form : PrintedForm) (kind : Kind) (text : List ℕ) (terms : Terms (Label kind)) → read_in form kind text ≡ Some terms → ReadsIn form kind text terms
 read_in-tells as_block kind text terms h = block_tells kind text terms h
 read_in-tells (as_line basis) expansion text terms h =

@@ -1,4 +1,5 @@
-//! A one-line form has one reading, and a list one such form for each basis.
+//! The text of a list of terms in each printed form, a block (a line for each term) or one line in
+//! a basis, and the one list that is read back from it.
 
 ghost use Rattle.std.specs.Prelude.{◌≡◌, ℕ, List, IsTrue, Some};
 ghost use Rattle.sym_model.specs.Expansion.{Terms};
@@ -6,10 +7,11 @@ ghost use Rattle.sym_model.specs.Kind.{Kind, Label, label_rules};
 ghost use Rattle.sym_model.specs.Canonical.{IsCanonicalBy, is_printable};
 ghost use Rattle.sym_model.specs.PrintedForm.{PrintedForm, text_in, read_in};
 
-/// In each form: the text of a canonical list (labels within the limits, in the printed order and
-/// each once; coefficients in lowest terms, not 0) with numbers of 128 bits reads back as that
-/// list, and a text that reads as a list is the text of that list, which is canonical with numbers
-/// of 128 bits.
+/// In each printed form, let a list be canonical (labels within the limits, each once and in the
+/// printed order; coefficients in lowest terms, not 0), and let its numerators and denominators
+/// have at most 128 bits. Then its text is read back as this list. Conversely, if a text is read
+/// back as a list, then this list is canonical, its numerators and denominators have at most 128
+/// bits, and the text is the text of this list.
 pub fn printed_form_law()
     ensures reads { (form : PrintedForm) (kind : Kind) (terms : Terms (Label kind))
         → IsCanonicalBy (label_rules kind) terms

@@ -1,4 +1,5 @@
--- Expansions of products of Schur polynomials with one more factor, by the classical products of the labels.
+-- If a list expands a product of factors in Schur polynomials, then the product with one more factor is expanded by a sum of classical products:
+-- those of the labels of the list with this factor.
 use Rattle.std.proofs.Common.{◌≡◌, ℕ, ◌+◌, ◌≤◌, ◌<◌, inl, inr, List, [], ◌∷◌, ◌++◌, map, flat_map}
 use Rattle.std.proofs.Common.{Option, Some, None, pos, refl, sym, ◌∙◌, ap, ap₂, subst, arith}
 use Rattle.sym_model.specs.Sum.{Among}
@@ -22,7 +23,7 @@ use Rattle.product_laws.proofs.Expansions.{every_step, limited_step}
 use Rattle.product_laws.specs.CountedProducts.{IsShownIn}
 use Rattle.product_laws.proofs.Growing.{two_rows}
 
--- ---- expansions of products of two factors
+-- ---- the classical product of two factors expands their product
 
 pub two_listed : (k m : ℕ) (left right : List ℕ) → IsPartition left → IsPartition right → m ≤ k
     → ((t : Term) → Among t (classical_product k (left ∷ right ∷ [])) → rows t.0 ≤ m)
@@ -44,7 +45,7 @@ two_expand (Some given) k left right p q h shown =
     mult_meets (Some given) left right (as_fractions (classical_product k (left ∷ right ∷ []))) p q
     (two_listed k given left right p q (omega (arith, shown)) (λ t m. let c = classical_product-term k (left ∷ right ∷ []) t m in let f = c.few in omega (arith, shown)))
 
--- ---- expansions of products with one more factor
+-- ---- an expansion of a product of factors, multiplied label by label with one more factor
 
 each_same : {A : Type 0} (f g : A → WholeTerms) (xs : List A) → ((x : A) → f x ≡ g x)
     → flat_map f xs ≡ flat_map g xs
@@ -56,7 +57,7 @@ by_products k next terms =
     each_same (λ (t : Term). scale t.1 (numerators (as_fractions (classical_product k (t.0 ∷ next ∷ []))))) (λ (t : Term). scale t.1 (classical_product k (t.0 ∷ next ∷ []))) terms
     (λ t. ap (λ (l : WholeTerms). scale t.1 l) (numerators-as_fractions (classical_product k (t.0 ∷ next ∷ []))))
 
--- no label has more rows than there are variables, if their number is given
+-- if a number of variables is given, no label of the terms has more rows
 abbrev HasFewRows : Option ℕ → Terms (List ℕ) → Type 0
 HasFewRows None terms = Unit {0}
 HasFewRows (Some given) terms = (t : List ℕ × Fraction) → Among t terms → rows t.0 ≤ given
@@ -78,8 +79,9 @@ expands_next (Some given) k front next terms after w v q labels few e is =
     e (subst (λ (l : WholeTerms). Same (numerators after) l) (sym (by_products k next (numerators terms))) is)
     few
 
--- if `product` expands the product of `front`, and its labels are partitions with at most k rows, the sum `after` of the products of its labels with
--- `next` expands the product of `front` and `next`
+-- let the list `product` expand the product of the factors `front`, let its labels be partitions with at most k rows, and let k be large enough for
+-- the product with `next` (`IsShownIn`). If the labels of `after` have at most k rows, and `after` has the coefficients of `multiplied k next
+-- product`, then `after` expands the product of `front` and `next`
 pub expands_whole : (given : Option ℕ) (k : ℕ) (front : List (List ℕ)) (next : List ℕ)
     (product after : WholeTerms) → IsPartition next
     → ((t : Term) → Among t product
@@ -109,7 +111,7 @@ expands_whole given k front next product after q labels few e is shown =
         let d = ap (λ (v : List ℕ × Fraction). rows v.0) u.2 in
         omega (arith, s)
 
--- ---- a factor with more rows than there are variables
+-- ---- a product with a factor that has more rows than there are variables is 0
 
 times-nothing_left : (f g : Poly) → Same f nothing → Same (times f g) nothing
 times-nothing_left f g e = times_respects f nothing g g e (Same_refl g)

@@ -1,11 +1,10 @@
--- The exponent lists of n places with the sum d are all lists of n numbers with this sum, each once.
+-- `exponent_lists n d` has exactly the lists of n numbers with the sum d, each once.
 use Rattle.std.proofs.Common.{◌≡◌, ℕ, zero, suc, ◌-◌, Bool, true, false, cond, ◌==◌, List, [], ◌∷◌, map, length, drop, get_or, refl, sym, ◌∙◌, ap, subst, inl, arith}
 use Rattle.std.proofs.lemmas.Bool.{eq-eqb}
 use Rattle.sym_model.specs.Sum.{Among, Once}
 use Rattle.sym_model.specs.Partition.{size}
 use Rattle.sym_model.specs.Bases.{down_from, exponent_lists}
-use Rattle.sym_model.proofs.Sums.{Among-each, Among-map, Among_from_map, Once-each, Once-map, among_down_from}
-use Rattle.monomial_laws.proofs.Arrangements.{down_from-below}
+use Rattle.sym_model.proofs.Sums.{Among-each, Among-map, Among_from_map, Once-each, Once-map, among_down_from, down_from-below}
 
 once_down_from : (d : ℕ) → Once (down_from d)
 once_down_from zero = (λ m. m, tt)

@@ -1,8 +1,9 @@
--- Reflecting into the alcove after each factor.
---     window_value          the coefficient at a label after an alternant a_b is reflected into the alcove, from the sum and the remainders of b
---     window_unique         the reflections of the terms of a_b have this coefficient at the label
---     reflected_early       a partition can be reflected before it is multiplied by a factor
---     fusion_step           reflecting after each factor gives the result of reflecting once
+-- Products of factors that are reflected into the alcove after each factor.
+--     window_value          the coefficient at a label if an alternant a_b is reflected into the alcove, computed from the sum of b and from the
+--                           remainders of its entries
+--     window_unique         the reflections of the terms of a_b have the coefficient `window_value` at the label
+--     reflected_early       reflecting a partition before it is multiplied by a factor does not change the reflected product
+--     fusion_step           reflecting after each factor gives the result of reflecting the whole product once
 use Rattle.std.proofs.Common.{◌≡◌, ◌⊎◌, ℕ, zero, suc, ◌+◌, ◌%◌, ◌<◌, ◌≤◌, ◌==◌, Bool, true, false, cond, List, [], ◌∷◌, ◌++◌, map, length, drop, refl, sym, ◌∙◌, ap, ap₂, subst, inl, inr, arith, ℤ, pos, neg_ℤ, ◌*ℤ◌, Option, Some, None}
 use Rattle.std.proofs.lemmas.Bool.{cases_eq, eq-eqb, eqb-true, le-leb, or_cases}
 use Rattle.std.proofs.lemmas.List.{length-map, map-append}
@@ -39,9 +40,9 @@ use Rattle.product_laws.proofs.ManyFactors.{sums-schur, added, join-beta, pair_s
 use Rattle.alternant_laws.proofs.FailingColumns.{at_sum}
 use Rattle.strip_laws.proofs.Reflections.{last_of}
 
--- ---- entries moved into a window of n numbers
+-- ---- lists in which each entry is replaced by the number with the same remainder in a window of n numbers
 
--- each entry replaced by the number with its remainder in the window of n numbers from t on
+-- each entry of the list replaced by the number of the window [t, t + n) with the same remainder modulo n
 abbrev pub ups : ℕ → ℕ → List ℕ → List ℕ
 ups n t b = map (up n t) b
 
@@ -62,7 +63,7 @@ end_sorted n t b c h end lies =
     ∙ ap sorted_falling (window_back n t c h lies)
     ∙ sorted-falling c (strict_falls c end.strict)
 
--- the least entry of a strictly decreasing list
+-- the last entry of a strictly decreasing list, which is its least one; 0 if the list is empty
 abbrev bottom : List ℕ → ℕ
 bottom [] = 0
 bottom (a ∷ b) = last_of a b
@@ -71,7 +72,7 @@ lies_from_bottom : (n : ℕ) (c : List ℕ) → FallsStrictly c → spread c < n
 lies_from_bottom n [] f l = tt
 lies_from_bottom n (a ∷ b) f l = narrow_lie n a b f l
 
--- ---- the coefficient that an alternant a_b gives at a label
+-- ---- the coefficient at a label if an alternant a_b is reflected into the alcove (`window_value`)
 
 abbrev pub value : Bool → Bool → Bool → ℤ → ℤ
 value equal sum there sign = cond equal (pos 0) (cond sum (cond there sign (pos 0)) (pos 0))
@@ -82,7 +83,7 @@ value-negated false true true sign = refl
 value-negated false true false sign = refl
 value-negated false false there sign = refl
 
--- the sign of sorting u, if u sorts to the beta list of the label and has the given sum; otherwise 0
+-- if u has no equal entries, sorts to the beta list of the label, and has the sum `sum`: the sign of sorting u; otherwise 0
 abbrev sorted_value : List ℕ → List ℕ → ℕ → ℤ
 sorted_value label u sum = value (has_equal_entries u) (size u == sum) (same (from_beta (sorted_falling u)) label) (sorting_sign u)
 
@@ -113,7 +114,7 @@ window_value-exchange n t label left x y right =
     ∙ ap (λ s. neg_ℤ (sorted_value label (ups n t left ++ (up n t y ∷ up n t x ∷ ups n t right)) s)) (size-exchange left x y right)
     ∙ ap (λ u. neg_ℤ (sorted_value label u (size (left ++ (y ∷ x ∷ right))))) (sym (map-append (up n t) left (y ∷ x ∷ right)))
 
--- `window_value` at a label depends only on the sum of a list and its remainders
+-- `window_value n t label b` depends only on the sum of b and on the remainders of its entries modulo n
 window_value-periodic : (n t : ℕ) (label b c : List ℕ) → remainders n b ≡ remainders n c → size b ≡ size c → window_value n t label b ≡ window_value n t label c
 window_value-periodic n t label b c e s =
     ap₂ (sorted_value label) (sym (ups_of_remainders n t b) ∙ ap (ups n t) e ∙ ups_of_remainders n t c) s
@@ -121,9 +122,9 @@ window_value-periodic n t label b c e s =
 window_value-equal : (n t : ℕ) (label b : List ℕ) → has_equal_entries (ups n t b) ≡ true → window_value n t label b ≡ pos 0
 window_value-equal n t label b e = ap (λ v. value v (size (ups n t b) == size b) (same (from_beta (sorted_falling (ups n t b))) label) (sorting_sign (ups n t b))) e
 
--- ---- strictly decreasing lists of exponents
+-- ---- `window_value` for a strictly decreasing list of exponents is the coefficient at the label of its reduction into the alcove
 
--- the start of the window of the beta list of the label
+-- the least entry of the beta list of the label, at which the window of n numbers begins
 abbrev pub start_of : ℕ → List ℕ → ℕ
 start_of k label = bottom (beta k label)
 
@@ -170,7 +171,7 @@ window_value-strict k n label b h l f = by (reflected_into_alcove n b) (alcove_r
                 absurd (other (ap from_beta (alcove_only n b a.0 (sorted_falling (ups n (start_of k label) b)) h end (end_found n (start_of k label) b h distinct (eqb-true _ _ e))) ∙ there))
             none false true e (inr n') = ap (λ v. cond v (sorting_sign (ups n (start_of k label) b)) (pos 0)) (same_apart (from_beta (sorted_falling (ups n (start_of k label) b))) label n')
 
--- ---- the reflections of an alternant of any list of exponents
+-- ---- the reflections of an alternant a_b for any list b of k exponents
 
 window_unique : (k n : ℕ) (label b : List ℕ) → 1 ≤ n → length b ≡ k → pair (alternant b) (on_strict (alcove_share k n label)) ≡ window_value n (start_of k label) label b
 window_unique k n label b h = sort_back P b kept sorted
@@ -202,9 +203,9 @@ window_unique k n label b h = sort_back P b kept sorted
             ∙ sym (window_value-equal n (start_of k label) label (sorted_falling b) (equal_map (up n (start_of k label)) (sorted_falling b) e))
         by false e = at_strict_list (sorted_falling b) l (sorted_strict b (sym (equal-sorted b) ∙ e))
 
--- ---- the reflections at a label of the terms of a_b times a Schur polynomial
+-- ---- the coefficient at a label if the terms of a_b·s_next are reflected into the alcove
 
--- the coefficient at `label` of the reflections of the terms of a_b·s_next
+-- the coefficient at `label` of the list that results if the terms of a_b·s_next are reflected into the alcove
 abbrev multiplied_value : ℕ → ℕ → List ℕ → List ℕ → List ℕ → ℤ
 multiplied_value k n next label b = pair (alternant b) (added k next (on_strict (alcove_share k n label)))
 
@@ -236,9 +237,9 @@ multiplied-periodic k n next label b c h q l m e s =
     (λ α. window_value-periodic n (start_of k label) label (join b α) (join c α) (remainders-join n b c α e) (let x = size-join b α in let y = size-join c α in omega arith))
     ∙ sym (multiplied_windows k n next label c h q m)
 
--- ---- lists in which two entries leave the same remainder
+-- ---- lists b in which two entries leave the same remainder modulo n: `multiplied_value` is 0
 
--- if r is the remainder of some entry of b, then b is `middle` followed by an entry y with this remainder and by `right`
+-- if r is the remainder modulo n of some entry of b, then b is a list `middle`, followed by an entry y with the remainder r, and by a list `right`
 place_of : (n r : ℕ) (b : List ℕ) → has r (remainders n b) ≡ true → (middle : List ℕ) × (y : ℕ) × (right : List ℕ) × (b ≡ middle ++ (y ∷ right)) × (y % n ≡ r)
 place_of n r [] e = absurd (cc)
 place_of n r (c ∷ b) e = by (or_cases (c % n == r) (has r (remainders n b)) e) (λ t. place_of n r b t)
@@ -249,7 +250,7 @@ place_of n r (c ∷ b) e = by (or_cases (c % n == r) (has r (remainders n b)) e)
     by (inl t) later = ([], c, b, refl, eqb-true (c % n) r t)
     by (inr t) later = let p = later t in (c ∷ p.0, p.1, p.2, ap (λ l. c ∷ l) p.3, p.4)
 
--- two entries of a list leave the same remainder modulo n
+-- two entries x and y of the list b leave the same remainder modulo n
 pub record Repeats (n : ℕ) (b : List ℕ) : Type 0 where
   pub left : List ℕ
   pub x : ℕ
@@ -308,14 +309,14 @@ multiplied-repeated k n next label b h q l e =
     ap (multiplied_value k n next label) r.is
     ∙ opposite_is_zero (multiplied_value k n next label first) (turned ∙ ap neg_ℤ (sym same_value))
 
--- ---- a label may be reflected before it is multiplied
+-- ---- reflecting a label before it is multiplied by `next` does not change the reflected product
 
--- the value of χ at a reflected partition, times its sign; 0 if the reflection is 0
+-- the sign of a reduction into the alcove times the value of χ at its partition; 0 if the reduction is 0
 abbrev pub at_reduced : (List ℕ → ℤ) → Option (List ℕ × ℤ) → ℤ
 at_reduced χ None = pos 0
 at_reduced χ (Some a) = a.1 *ℤ χ a.0
 
--- a reflection is 0 or a partition with at most k rows
+-- the reduction into the alcove is 0, or its partition has at most k rows
 abbrev IsAnswer : ℕ → Option (List ℕ × ℤ) → Type 0
 IsAnswer k None = Unit {0}
 IsAnswer k (Some a) = IsShape k a.0
@@ -354,7 +355,7 @@ reflected_early k n next label parts h q p =
     (subst (λ z. IsReducedEarly k n next label z (as_partition (reflected_into_alcove n (beta k parts))))
     (sym (ap (λ b. pair (alternant b) (added k next (on_strict (alcove_share k n label)))) (join-beta k parts p))) r)
 
--- ---- reflecting the product with one more factor
+-- ---- the reflected product with one more factor, computed from the reflected product of the earlier factors
 
 pair-reflected : (k n : ℕ) (terms : WholeTerms) (χ : List ℕ → ℤ) → pair (reflected_terms k n terms) χ ≡ pair terms (λ parts. at_reduced χ (alcove_reduction k n parts))
 pair-reflected k n terms χ =

@@ -1,7 +1,8 @@
 -- Reflecting into the alcove after each factor gives the same as reflecting the whole product once.
---     fusion_steps_meet    the result of steps through all factors is the whole classical product, reflected once
---     fusion_steps_answer  the result of steps meets the definition of the command `fusion`
---     fusion_in_steps      a collected list that is the classical product, reflected once, is the result of steps
+--     fusion_steps_meet    the result of multiplying and reflecting, factor by factor, is the whole classical product, reflected once
+--     fusion_steps_answer  this result satisfies the definition of the answer of the command `fusion`
+--     fusion_in_steps      a collected list (`AreCollected`) that is the classical product, reflected once, results from multiplying and reflecting
+--                          factor by factor
 use Rattle.std.proofs.Common.{◌≡◌, ℕ, ◌+◌, ◌≤◌, List, [], ◌∷◌, ◌++◌, length, append-nil}
 use Rattle.std.proofs.Common.{append_assoc, ℤ, pos, inl, refl, sym, ◌∙◌, ap, subst, arith}
 use Rattle.sym_model.specs.Polynomial.{Same, same, coefficient, scale}
@@ -20,7 +21,8 @@ use Rattle.product_laws.proofs.LeadingSteps.{last_changed, last_is, some_lead}
 use Rattle.sym_model.specs.Partition.{ArePartitions}
 use Rattle.sym_model.specs.Reductions.{IsAlcoveReductionOf}
 
--- ---- from steps to the reflection of the whole product
+-- ---- if all lists of front ++ back are partitions, so are those of `front`; products that are reflected after each factor are the whole product,
+-- reflected once
 
 pub are_front : (front back : List (List ℕ)) → ArePartitions (front ++ back) → ArePartitions front
 are_front front back p parts m = p parts (Among-append_left parts front back m)
@@ -42,8 +44,8 @@ later_steps k n front (factor ∷ factors) terms last h p e lead label =
     lead.2 label
     ∙ ap (λ (l : List (List ℕ)). coefficient (reflected_terms k n (classical_product k l)) label) whole
 
--- multiplying a list by 1 does not change it
-scale_one : (xs : WholeTerms) → scale (pos 1) xs ≡ xs
+-- multiplying a list of terms by 1 does not change it
+pub scale_one : (xs : WholeTerms) → scale (pos 1) xs ≡ xs
 scale_one [] = refl
 scale_one (x ∷ xs) =
     let term : ℤ → WholeTerms → WholeTerms = λ c l. (x.0, c) ∷ l in
@@ -62,7 +64,8 @@ fusion_steps_meet k n (first ∷ second ∷ factors) terms h l p s =
     (λ label. s.1.sums label ∙ ap (λ (xs : WholeTerms). coefficient xs label) (first_step k n first second))
     s.2
 
--- if a list of terms with integer coefficients results from steps through the factors, it meets the definition of the command `fusion`
+-- if a list of terms with integer coefficients results from multiplying and reflecting, factor by factor (`IsReflectedInSteps`), it satisfies the
+-- definition of the answer of `fusion`
 pub fusion_steps_answer : (k level : ℕ) (factors : List (List ℕ)) (terms : WholeTerms)
     → 1 ≤ k + level → 2 ≤ length factors → ArePartitions factors
     → IsReflectedInSteps k (k + level) factors terms
@@ -72,7 +75,7 @@ fusion_steps_answer k level factors terms h l p s =
     subst (λ (list : WholeTerms). Same list reflected) (sym (numerators-as_fractions terms))
     (fusion_steps_meet k (k + level) factors terms h l p s)
 
--- ---- from the reflection of the whole product to steps
+-- ---- a collected list (`AreCollected`) that is the whole product, reflected once, results from multiplying and reflecting factor by factor
 
 pub fusion_step_some : (k n : ℕ) (factor : List ℕ) (terms : WholeTerms) → (next : WholeTerms) × IsFusionStep k n factor terms next
 fusion_step_some k n factor terms = (

@@ -1,19 +1,21 @@
--- Equal labels of a list collected: the resulting list, and its coefficients.
+-- A list of terms with the terms of equal labels collected: the resulting list has each label once, no coefficient 0, and the same coefficients.
 use Rattle.std.proofs.Common.{◌≡◌, ◌⊎◌, zero, suc, Bool, true, false, cond, [], ◌∷◌, sym, ◌∙◌, ap, refl, inl, inr, arith, ℤ, pos, negsuc, ◌+ℤ◌}
 use Rattle.std.proofs.lemmas.Int.{ints}
 use Rattle.std.proofs.Math.IntN.{+ℤ_idl}
 use Rattle.sym_model.specs.Sum.{Among}
 use Rattle.sym_model.specs.WholeTerms.{WholeTermsOf, coefficient_by}
 use Rattle.sym_model.specs.ReductionSteps.{AreCollected}
+use Rattle.sym_model.proofs.Integers.{sum_left_comm}
 
 module _ {L : Type 0} (test : L → L → Bool) (test_true : (a b : L) → test a b ≡ true → a ≡ b) (test_self : (a : L) → test a a ≡ true) where
-  -- the list with the term in front; the list unchanged if the coefficient of the term is 0
+  -- the list xs with the term of this label and coefficient in front; xs itself if the coefficient is 0
   abbrev kept : L → ℤ → WholeTermsOf L → WholeTermsOf L
   kept label (pos zero) xs = xs
   kept label (pos (suc n)) xs = (label, pos (suc n)) ∷ xs
   kept label (negsuc n) xs = (label, negsuc n) ∷ xs
 
-  -- the list with c added to the coefficient of `label`, which is appended if it does not occur
+  -- the list with c added to the coefficient of `label`; if the label does not occur, its term is added at the end, and if its coefficient becomes 0,
+  -- its term is dropped
   abbrev put : L → ℤ → WholeTermsOf L → WholeTermsOf L
   put label c [] = kept label c []
   put label c (x ∷ xs) = cond (test x.0 label) (kept x.0 (x.1 +ℤ c) xs) (x ∷ put label c xs)
@@ -22,7 +24,7 @@ module _ {L : Type 0} (test : L → L → Bool) (test_true : (a b : L) → test 
   gathered [] = []
   gathered (x ∷ xs) = put x.0 x.1 (gathered xs)
 
-  -- ---- the coefficients of gathered lists are those of the list
+  -- ---- collecting the terms of a list does not change its coefficients
 
   coefficient-kept : (label : L) (c : ℤ) (xs : WholeTermsOf L) (other : L) → coefficient_by test (kept label c xs) other ≡ cond (test label other) c (pos 0) +ℤ coefficient_by test xs other
   coefficient-kept label (pos zero) xs other = by (test label other)
@@ -41,9 +43,6 @@ module _ {L : Type 0} (test : L → L → Bool) (test_true : (a b : L) → test 
       joined true y z r = omega (arith, ints)
       joined false y z r = omega (arith, ints)
 
-      moved : (a b r : ℤ) → a +ℤ (b +ℤ r) ≡ b +ℤ (a +ℤ r)
-      moved a b r = omega (arith, ints)
-
       by : (b : Bool) → test x.0 label ≡ b → coefficient_by test (put label c xs) other ≡ cond (test label other) c (pos 0) +ℤ coefficient_by test xs other
           → coefficient_by test (cond b (kept x.0 (x.1 +ℤ c) xs) (x ∷ put label c xs)) other
           ≡ cond (test label other) c (pos 0) +ℤ (cond (test x.0 other) x.1 (pos 0) +ℤ coefficient_by test xs other)
@@ -53,13 +52,13 @@ module _ {L : Type 0} (test : L → L → Bool) (test_true : (a b : L) → test 
           ∙ ap (λ (l : L). cond (test l other) c (pos 0) +ℤ (cond (test x.0 other) x.1 (pos 0) +ℤ coefficient_by test xs other)) (test_true x.0 label e)
       by false e r =
           ap (λ z. cond (test x.0 other) x.1 (pos 0) +ℤ z) r
-          ∙ moved (cond (test x.0 other) x.1 (pos 0)) (cond (test label other) c (pos 0)) (coefficient_by test xs other)
+          ∙ sum_left_comm (cond (test x.0 other) x.1 (pos 0)) (cond (test label other) c (pos 0)) (coefficient_by test xs other)
 
   pub coefficient-gathered : (xs : WholeTermsOf L) (other : L) → coefficient_by test (gathered xs) other ≡ coefficient_by test xs other
   coefficient-gathered [] other = refl
   coefficient-gathered (x ∷ xs) other = coefficient-put x.0 x.1 (gathered xs) other ∙ ap (λ z. cond (test x.0 other) x.1 (pos 0) +ℤ z) (coefficient-gathered xs other)
 
-  -- ---- gathered lists have each label once and no coefficient 0
+  -- ---- the collected list has each label once, and no coefficient 0
 
   collected-kept : (label : L) (c : ℤ) (xs : WholeTermsOf L) → ((u : L × ℤ) → Among u xs → test label u.0 ≡ false) → AreCollected test xs → AreCollected test (kept label c xs)
   collected-kept label (pos zero) xs apart h = h
@@ -73,7 +72,7 @@ module _ {L : Type 0} (test : L → L → Bool) (test_true : (a b : L) → test 
   among-kept label (negsuc n) xs u (inl e) = inl (ap (λ (v : L × ℤ). v.0) e)
   among-kept label (negsuc n) xs u (inr m) = inr m
 
-  -- each label of the list with a term added is that of the term or one of the list
+  -- each label of the list `put label c xs` is `label` or a label of xs
   among-put : (label : L) (c : ℤ) (xs : WholeTermsOf L) (u : L × ℤ) → Among u (put label c xs) → (u.0 ≡ label) ⊎ ((v : L × ℤ) × Among v xs × (u.0 ≡ v.0))
   among-put label c [] u m = elim (among-kept label c [] u m) [ inl e ↦ inl e | inr n ↦ absurd n ]
   among-put label c (x ∷ xs) u m = by (test x.0 label) (among-put label c xs u) m

@@ -1,6 +1,6 @@
--- Classical products with one more factor: no coefficient is negative, no label has more rows than all factors together, and some coefficient is at
--- least c if the product of the earlier factors has a coefficient of at least c.
-use Rattle.std.proofs.Common.{◌≡◌, ℕ, zero, suc, ◌+◌, ◌≤◌, ◌<◌, ◌⊎◌, inl, inr, Bool, true, false, cond, List, [], ◌∷◌, ◌++◌, append_assoc, append-nil, map, refl, sym, ◌∙◌, ap, subst, arith, ℤ, pos, ◌*ℤ◌, filter}
+-- Classical products with one more factor: no coefficient is negative, no label has more rows than all factors together, and if the product of the
+-- earlier factors has a coefficient of at least c, so has the product with one more factor.
+use Rattle.std.proofs.Common.{◌≡◌, ℕ, ◌+◌, ◌≤◌, ◌<◌, ◌⊎◌, inl, inr, Bool, true, false, cond, List, [], ◌∷◌, ◌++◌, append_assoc, append-nil, map, refl, sym, ◌∙◌, ap, subst, arith, ℤ, pos, ◌*ℤ◌, filter}
 use Rattle.std.specs.Prelude.{◌≤ℤ◌, nat_abs, nat_le, nat_lt}
 use Rattle.std.proofs.lemmas.Bool.{cases_lt}
 use Rattle.std.proofs.lemmas.Int.{ints}
@@ -16,7 +16,7 @@ use Rattle.sym_model.proofs.PartitionLists.{partitions_of-tells}
 use Rattle.sym_model.proofs.Exponents.{same_true}
 use Rattle.sym_model.proofs.SortedParts.{IsPartition-none}
 use Rattle.sym_model.proofs.Polynomials.{coefficient_scale, at_only-nonnegative}
-use Rattle.sym_model.proofs.Integers.{product-at_least}
+use Rattle.sym_model.proofs.Integers.{product-at_least, at_least_one}
 use Rattle.tableau_laws.proofs.ColumnCounts.{contains_nothing}
 use Rattle.alternant_laws.proofs.ClassicalProducts.{classical_product-coefficient, classical_product-term, classical_product-once, IsClassicalTerm}
 use Rattle.alternant_laws.proofs.CountedTerms.{schur_coefficient_of_schur, product_coefficients, coefficient_counts, no_long_labels}
@@ -26,6 +26,7 @@ use Rattle.product_laws.specs.CountedProducts.{Reaches}
 use Rattle.sym_model.specs.WholeTerms.{AreCounts}
 use Rattle.product_laws.proofs.CountLists.{counts-coefficient, counts-scale, counts-each, coefficient-each, some_term, coefficient_of_once}
 use Rattle.product_laws.proofs.SomeLabel.{some_label}
+use Rattle.sym_model.proofs.Parts.{size-map_push}
 
 -- the coefficient of a term of the classical product is the Schur coefficient of the product of the factors at the label of the term
 pub term_is : (k : ℕ) (factors : List (List ℕ)) (t : Term) → Among t (classical_product k factors) → t.1 ≡ schur_coefficient k t.0 (schur_product factors k)
@@ -33,7 +34,7 @@ term_is k factors t m =
     let c = classical_product-term k factors t m in
     sym (coefficient_of_once (classical_product k factors) (classical_product-once k factors) t m) ∙ classical_product-coefficient k factors t.0 c.partition c.few
 
--- the label of a term has the size of all factors together
+-- the size of each label of a classical product is the sum of the sizes of the factors
 pub label_size : (k : ℕ) (factors : List (List ℕ)) (t : Term) → Among t (classical_product k factors) → size t.0 ≡ size (map size factors)
 label_size k factors t m =
     let few : List (List ℕ) = filter (λ (parts : List ℕ). nat_le (rows parts) k) (partitions_of (size (map size factors))) in
@@ -42,7 +43,7 @@ label_size k factors t m =
     let c = Among_from_select (λ (parts : List ℕ). nat_le (rows parts) k) b.0 (partitions_of (size (map size factors))) b.1 in
     ap (λ (u : Term). size u.0) b.2 ∙ (partitions_of-tells (size (map size factors)) b.0 c.0).1
 
--- ---- products of two factors are counts
+-- ---- the classical product of two factors has no negative coefficient
 
 pub two_counts : (k : ℕ) (left right : List ℕ) → IsPartition left → IsPartition right → AreCounts (classical_product k (left ∷ right ∷ []))
 two_counts k left right p q t m =
@@ -64,9 +65,9 @@ two_rows k left right p q h t m = by (cases_lt (rows left + rows right) (rows t.
         ∙ coefficient_counts k k left right [] t.0 (omega arith) p q IsPartition-none c.partition c.few
         ∙ no_long_labels k left right [] t.0 p q IsPartition-none (contains_nothing right) h l))
 
--- ---- products whose coefficients are counts
+-- ---- classical products without negative coefficients, and with bounded numbers of rows
 
--- the product is a list of counts, at labels with no more rows than all factors have
+-- no coefficient of the classical product of the factors is negative, and no label has more rows than all factors together
 pub record IsCounted (k : ℕ) (factors : List (List ℕ)) : Type 0 where
   pub counts : AreCounts (classical_product k factors)
   pub row_bound : (t : Term) → Among t (classical_product k factors) → rows t.0 ≤ size (map rows factors)
@@ -99,7 +100,7 @@ multiplied_counts k next terms is q c =
 labels_are : (k : ℕ) (front : List (List ℕ)) (t : Term) → Among t (classical_product k front) → IsPartition t.0
 labels_are k front t m = let c = classical_product-term k front t m in c.partition
 
--- the label occurs in the classical product of some label of `terms` with the factor `next`
+-- `label` is a label of the classical product, in k variables, of `next` and the label of some term of `terms`
 record ComesFrom (k : ℕ) (next : List ℕ) (terms : WholeTerms) (label : List ℕ) : Type 0 where
   from : Term
   among : Among from terms
@@ -114,11 +115,8 @@ comes_from k next terms label h =
     let w = Among_from_map (λ (v : Term). let scaled : Term = (v.0, s.0.1 *ℤ v.1) in scaled) u.0 (classical_product k (s.0.0 ∷ next ∷ [])) s.2 in
     record { from = s.0; among = s.1; term = w.0; made = w.1; is = sym (ap (λ (v : Term). v.0) w.2) ∙ u.2 }
 
-rows-push : (front : List (List ℕ)) (next : List ℕ) → size (map rows (front ++ (next ∷ []))) ≡ size (map rows front) + rows next
-rows-push [] next = omega arith
-rows-push (parts ∷ front) next = let h = rows-push front next in omega arith
-
--- the coefficient of a term of the product with `next` is that of its label in the list of the products of the earlier labels with `next`
+-- each term of the classical product of the factors `front` and `next` has the coefficient that its label has in the list `multiplied`: the sum of
+-- the c·(classical product of λ and `next`) over the terms c, λ of the classical product of `front`
 step_coefficient : (k : ℕ) (front : List (List ℕ)) (next : List ℕ) → ArePartitions front → IsPartition next → (t : Term)
     → Among t (classical_product k (front ++ (next ∷ []))) → t.1 ≡ coefficient (multiplied k next (classical_product k front)) t.0
 step_coefficient k front next p q t m =
@@ -137,11 +135,12 @@ counted-push k front next p q h = record {
       let a = two_rows k f.from.0 next d.partition q d.few f.term f.made in
       let b = h.row_bound f.from f.among in
       let e = ap rows f.is in
-      let r = rows-push front next in
+      let r = size-map_push rows front next in
       omega arith;
 }
 
--- if the product of `front` has a coefficient of at least c, so has its product with one more factor, `next`
+-- if the classical product of `front` has a coefficient c or more at a partition with at most k rows, so has the classical product of `front` and one
+-- more factor `next` of at most k rows
 
 step_reaches : (k c : ℕ) (front : List (List ℕ)) (next : List ℕ) → ArePartitions front → IsPartition next → rows next ≤ k → 1 ≤ c → IsCounted k front
     → Reaches k c (classical_product k front) → Reaches k c (classical_product k (front ++ (next ∷ [])))
@@ -172,15 +171,10 @@ step_reaches k c front next p q few one h r =
           (coefficient (multiplied k next terms) u.0) (coefficient (classical_product k (front ++ (next ∷ []))) u.0) r.reaches t_is grows scaled within step;
     }
   where
-    at_least_one : (z : ℤ) → pos 0 ≤ℤ z → (z ≡ pos 0 → ⊥) → pos 1 ≤ℤ z
-    at_least_one (pos zero) g n = absurd (n refl)
-    at_least_one (pos (suc a)) g n = omega (arith, ints)
-    at_least_one z g n = absurd (omega (arith, ints))
-
     chain : (a b c d e f g : ℤ) → a ≤ℤ b → b ≡ c → c ≤ℤ d → e ≡ d → e ≤ℤ f → g ≡ f → a ≤ℤ g
     chain a b c d e f g h i j k l m = omega (arith, ints)
 
--- ---- products with any number of further factors
+-- ---- classical products with any number of further factors
 
 pub counted-append : (k : ℕ) (front rest : List (List ℕ)) → ArePartitions front → ArePartitions rest → IsCounted k front → IsCounted k (front ++ rest)
 counted-append k front [] p q h = subst (λ factors. IsCounted k factors) (sym (append-nil front)) h

@@ -1,7 +1,7 @@
--- Steps from factor to factor, for any relation as the step.
---     last_changed    the last list of the steps can be replaced by an equal one
---     last_is         a property that each step gives to its result holds of the last list
---     some_lead       if each list has a step for each factor, there are steps through all factors
+-- Chains of lists of terms, one step for each factor, for any relation `step` between a factor, a list and the next list.
+--     last_changed    if each step to the last list is also a step to another list, the chain can end at that list
+--     last_is         if each step leads to a list with the property P, the last list has the property P
+--     some_lead       if for each factor and list there is a step to some list, there is a chain through all factors
 use Rattle.std.proofs.Common.{ℕ, List, [], ◌∷◌, refl, subst}
 use Rattle.sym_model.specs.WholeTerms.{WholeTermsOf}
 use Rattle.sym_model.specs.ReductionSteps.{StepsLead}

@@ -1,6 +1,7 @@
--- The classical product of several factors, one factor after another.
---     classical_pairing    the alternants a_(ν + ρ) of the terms of the classical product add up to a_ρ times the product
---     classical_step       the product with one more factor
+-- The classical product of several factors, multiplied one after another.
+--     classical_pairing    the sum of c·a_(ν + ρ) over the terms c, ν of the classical product is a_ρ times the product of the Schur polynomials
+--     classical_step       the classical product with one more factor is the sum, over the terms c, ν of the classical product without it, of c times
+--                          the classical product of ν and this factor
 use Rattle.std.proofs.Common.{◌≡◌, ℕ, List, [], ◌∷◌, ◌++◌, length, refl, sym, ◌∙◌, ap, subst, inl, inr, arith, ℤ, ◌*ℤ◌}
 use Rattle.sym_model.specs.Polynomial.{Poly, Term, In, Same, join, one, times, pair, no_exponents, scale}
 use Rattle.sym_model.specs.Partition.{IsPartition, ArePartitions}
@@ -26,9 +27,9 @@ use Rattle.product_laws.specs.FactorSteps.{multiplied}
 use Rattle.product_laws.proofs.Straightened.{IsShape, on_strict, pair-value, straightened_sum, pair-straightened, straightened-shape, coefficient-straightened, same_shapes}
 use Rattle.alternant_laws.proofs.FailingColumns.{at_sum}
 
--- ---- products of an alternant and a polynomial
+-- ---- the product of an alternant and a polynomial, as a sum of alternants
 
--- f is a polynomial in k variables, and a_β·f is the sum of c·a_(β + α) over the terms c·x^α of f, for every β
+-- f is a polynomial in k variables, and for every β with k entries, a_β·f is the sum of c·a_(β + α) over the terms c·x^α of f
 pub record SumsAlternants (k : ℕ) (f : Poly) : Type 0 where
   pub within : In k f
   pub sums : (β : List ℕ) (φ : List ℕ → ℤ) → length β ≡ k → pair (times (alternant β) f) φ ≡ pair f (λ α. pair (alternant (join β α)) φ)
@@ -71,7 +72,7 @@ sums-product k (parts ∷ []) p = sums-schur k parts (p parts (inl refl))
 sums-product k (parts ∷ next ∷ factors) p =
     sums-times k (schur parts k) (schur_product (next ∷ factors) k) (sums-schur k parts (p parts (inl refl))) (sums-product k (next ∷ factors) (λ x m. p x (inr m)))
 
--- ---- the classical product is a straightened sum
+-- ---- the classical product is the straightened sum of the alternants a_(ρ + α) over the terms of the product
 
 classical_straightened : (k : ℕ) (factors : List (List ℕ)) → ArePartitions factors → Same (classical_product k factors) (straightened_sum (staircase k) (schur_product factors k))
 classical_straightened k factors p =
@@ -108,7 +109,7 @@ product-last k (parts ∷ second ∷ front) next =
     (times_respects (schur parts k) (schur parts k) _ _ (Same_refl (schur parts k)) (product-last k (second ∷ front) next))
     (Same_sym _ _ (times_assoc (schur parts k) (schur_product (second ∷ front) k) (schur next k)))
 
--- the sum of c·φ(γ + δ) over the terms c·x^δ of s_next
+-- the sum of c·φ(γ + δ) over the terms c·x^δ of s_next in k variables
 abbrev pub added : ℕ → List ℕ → (List ℕ → ℤ) → List ℕ → ℤ
 added k next φ γ = pair (schur next k) (λ δ. φ (join γ δ))
 
@@ -146,7 +147,7 @@ two_pairing k parts next φ p q =
     are_two x (inr (inl e)) = subst IsPartition (sym e) q
     are_two x (inr (inr m)) = absurd m
 
--- ---- the pairing with a function of partitions
+-- ---- the list λ + ρ is the beta list of λ; pairings of alternants with functions that depend on partitions
 
 pub join-beta : (k : ℕ) (parts : List ℕ) → IsShape k parts → join parts (staircase k) ≡ beta k parts
 join-beta k parts p =

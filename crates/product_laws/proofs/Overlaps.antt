@@ -1,4 +1,5 @@
--- Exponents that do not add a strip cancel: in pairs, or as alternants with two equal exponents.
+-- Pieri's rules: in the sum of the alternants a_(μ + ρ + α), the terms for which μ + α is not μ with a strip added cancel in pairs, or have two equal
+-- exponents.
 use Rattle.std.proofs.Common.{◌≡◌, ◌⊎◌, ℕ, zero, suc, ◌+◌, ◌-◌, ◌<◌, ◌≤◌, Bool, true, false, ◌&&◌, ◌||◌, not, cond, nat_le, List, [], ◌∷◌, ◌++◌, map, length, drop, refl, sym, ◌∙◌, ap, ap₂, subst, inl, inr, arith, ℤ, pos, ◌+ℤ◌, neg_ℤ, filter}
 use Rattle.std.proofs.lemmas.Bool.{cases_lt, and_parts, le-leb, leb-true, lt-leb, or_right}
 use Rattle.sym_model.specs.Sum.{total, Among}
@@ -17,7 +18,7 @@ use Rattle.product_laws.proofs.ExponentLists.{among_exponent_lists, once_exponen
 use Rattle.product_laws.proofs.StripShapes.{keeps_below}
 use lib.IntN.{+ℤ_idr}
 
--- U changes its sign if two neighbouring entries of its list are exchanged
+-- the value of U changes its sign if two neighbouring entries of its list are exchanged
 abbrev pub Turns : (List ℕ → ℤ) → Type 0
 Turns U = (left : List ℕ) (p q : ℕ) (right : List ℕ) → U (left ++ (p ∷ q ∷ right)) ≡ neg_ℤ (U (left ++ (q ∷ p ∷ right)))
 
@@ -26,14 +27,14 @@ alternants_turn φ left p q right =
     pair_determined (alternant (left ++ (p ∷ q ∷ right))) (negate (alternant (left ++ (q ∷ p ∷ right)))) φ (alternant_exchange left [] right p q)
     ∙ pair_negate (alternant (left ++ (q ∷ p ∷ right))) φ
 
--- ---- the first two exponents changed so that their sums with a + n + 1 and b + n are exchanged
+-- ---- the exponents with the first two changed so that their sums with a + n + 1 and b + n are exchanged
 
 abbrev changed : ℕ → ℕ → List ℕ → List ℕ
 changed a b [] = []
 changed a b (x ∷ []) = x ∷ []
 changed a b (x ∷ y ∷ α) = (b + y - (a + 1)) ∷ (a + 1 + x - b) ∷ α
 
--- `keeps_below` does not depend on the first exponent of α
+-- whether `keeps_below` holds does not depend on the first exponent of α
 first_free : (b : ℕ) (m : List ℕ) (y z : ℕ) (α : List ℕ) → keeps_below (b ∷ m) (y ∷ α) ≡ keeps_below (b ∷ m) (z ∷ α)
 first_free b [] y z α = refl
 first_free b (c ∷ m) y z [] = refl
@@ -54,7 +55,8 @@ above a b y t e h = by (cases_lt a (b + y))
 not_above : (a b y : ℕ) (t : Bool) → a < b + y → not (nat_le (b + y) a && t) ≡ true
 not_above a b y t h = ap (λ (s : Bool). not (s && t)) (lt-leb (b + y) a h)
 
--- ---- sums over the exponents that pass a narrower and a wider test
+-- ---- a sum over the elements that pass a narrow test does not change if the elements are first restricted to those that pass a wider test; the
+-- tests are `keeps_below` with and without the first place
 
 narrowed : {A : Type 0} (f : A → ℤ) (wide narrow : A → Bool) (xs : List A) → ((x : A) → Among x xs → narrow x ≡ true → wide x ≡ true) → total f (filter narrow (filter wide xs)) ≡ total f (filter narrow xs)
 narrowed {A} f wide narrow xs h =
@@ -191,7 +193,7 @@ strips_remain (suc (suc n)) (a ∷ b ∷ m) U l f t d =
         ∙ sym (total_each kept rows_of (down_from d))
         ∙ sym (total_select F wide lists)
 
--- ---- exponents of at most 1, which add at most one cell to each row
+-- ---- exponents of at most 1: if μ + α is not weakly decreasing, μ + ρ + α has two equal entries
 
 pub equal_found : (n : ℕ) (m α : List ℕ) → length m ≡ n → length α ≡ n → Falls m → at_most_one α ≡ true → is_falling (join m α) ≡ false
     → has_equal_entries (join (join m (staircase n)) α) ≡ true

@@ -1,8 +1,9 @@
--- Reducing by rim hooks after each factor.
---     ends_value        the coefficient at a label and a power of q after an alternant a_b is reduced, from the sum and the remainders of b
---     ends_unique       the reductions of the terms of a_b have this coefficient at the label and the power
---     lowered_early     a partition can be reduced before it is multiplied by a factor
---     quantum_step      reducing after each factor gives the result of reducing once
+-- Products of factors that are reduced by rim hooks after each factor.
+--     ends_value        the coefficient at a label and a power of q if an alternant a_b is reduced, computed from the sum of b and from the
+--                       remainders of its entries
+--     ends_unique       the reductions of the terms of a_b have the coefficient `ends_value` at the label and the power
+--     lowered_early     reducing a partition before it is multiplied by a factor does not change the reduced product
+--     quantum_step      reducing after each factor gives the result of reducing the whole product once
 use Rattle.std.proofs.Common.{◌≡◌, ◌⊎◌, ℕ, zero, suc, ◌+◌, ◌-◌, ◌*◌, ◌%◌, ◌<◌, ◌≤◌, ◌==◌, ◌&&◌, nat_le, Bool, true, false, cond, List, [], ◌∷◌, ◌++◌, map, length, refl, sym, ◌∙◌, ap, ap₂, subst, inl, inr, arith, ℤ, pos, neg_ℤ, ◌+ℤ◌, ◌*ℤ◌, Some, None}
 use Rattle.std.proofs.lemmas.Bool.{cases_eq, cases_lt, eq-eqb, or_cases, or_parts, ne_eqb}
 use Rattle.std.proofs.lemmas.Bool.Decides.{nat_tests}
@@ -33,7 +34,7 @@ use Rattle.beta_list_laws.specs.LowestList.{alike, lowest, end_of, end_sign, pow
 use Rattle.beta_list_laws.proofs.Windows.{has_alike, lacks_alike}
 use Rattle.beta_list_laws.proofs.Ends.{goes_to_end, goes_cells, narrow, wide}
 use Rattle.beta_list_laws.proofs.AlcoveEnds.{equal_map, equal_inside}
-use Rattle.beta_list_laws.proofs.ReducedSums.{reduced_value, reduced_share, reduced_sum, times_chosen}
+use Rattle.beta_list_laws.proofs.ReducedSums.{reduced_value, reduced_share, reduced_sum}
 use Rattle.sym_model.specs.WholeTerms.{WholeTerms, WholeTermsOf, coefficient_by, same_power}
 use Rattle.sym_model.specs.Reductions.{Reduction, reduced_terms}
 use Rattle.sym_model.specs.Products.{classical_product}
@@ -45,8 +46,9 @@ use Rattle.product_laws.proofs.Fusion.{repeated, remainders-join, exchanged_rema
 use Rattle.sym_model.specs.Bounded.{AreBelow}
 use Rattle.alternant_laws.proofs.FailingColumns.{at_sum}
 use Rattle.sym_model.specs.ReductionSteps.{with_power}
+use Rattle.sym_model.proofs.Integers.{times_chosen}
 
--- ---- lists in which no two entries leave the same remainder
+-- ---- lists in which no two entries leave the same remainder modulo n: the lowest list has the remainders as its entries
 
 lowest-distinct : (n : ℕ) (b : List ℕ) → has_equal_entries (remainders n b) ≡ false → lowest n b ≡ remainders n b
 lowest-distinct n [] d = refl
@@ -74,8 +76,8 @@ narrow_columns k n (a ∷ l) h e f u =
     let c : columns (from_beta (a ∷ l)) ≡ a - length l = part-from_beta (a ∷ l) 1 in
     omega arith
 
--- the sum of the beta list of `parts` is that of its remainders plus power·n, and `parts` reduces to the partition that the remainders sort to, with
--- this power
+-- `parts` reduces to the partition whose beta list has the remainders of the beta list of `parts`, sorted; power·n is the number of cells that are
+-- removed
 record IsDistinctEnd (k n : ℕ) (parts : List ℕ) : Type 0 where
   power : ℕ
   sum : size (beta k parts) ≡ size (remainders n (beta k parts)) + power * n
@@ -107,7 +109,7 @@ distinct_end k n parts h p d =
           ∙ ap₂ (λ e s. Some (e, s, power_of k n parts)) end_is sign;
     }
 
--- ---- lists in which two entries leave the same remainder
+-- ---- lists in which two entries leave the same remainder modulo n: the reduction is 0
 
 -- some entry of the list is at least m
 abbrev HasAtLeast : ℕ → List ℕ → Type 0
@@ -155,9 +157,10 @@ repeated_end k n parts h p e =
     wide k n parts (wide_end k n (sorted_falling (lowest n b)) (length-sorted (lowest n b) ∙ (length-lowest n b ∙ length-beta k parts))
     (sorted_falls (lowest n b)) (sort_reach (HasAtLeast n) (lowest n b) (high_kept n) (high_lowest n b h e)))
 
--- ---- the coefficient that an alternant a_b gives at a label and a power of q
+-- ---- the coefficient at a label and a power of q if an alternant a_b is reduced (`ends_value`)
 
--- (-1)^(power·(k + 1)) times the sign of sorting u, if u sorts to the beta list of the label and s is its sum plus `power`·n; otherwise 0
+-- if u has no equal entries and sorts to the beta list of the label, and s is the sum of u plus power·n: (-1)^(power·(k + 1)) times the sign of
+-- sorting u; otherwise 0
 abbrev sorted_value : ℕ → ℕ → ℕ → List ℕ → List ℕ → ℕ → ℤ
 sorted_value k n power label u s =
     value (has_equal_entries u) (s == size u + power * n) (same (from_beta (sorted_falling u)) label) (minus_one_to (power * (k + 1)) *ℤ sorting_sign u)
@@ -200,7 +203,6 @@ ends_value-equal : (k n power : ℕ) (label b : List ℕ) → has_equal_entries 
 ends_value-equal k n power label b e =
     ap (λ v. value v (size b == size (remainders n b) + power * n) (same (from_beta (sorted_falling (remainders n b))) label) (minus_one_to (power * (k + 1)) *ℤ sorting_sign (remainders n b))) e
 
--- if p·n = q·n for n ≥ 1, then p = q
 powers_differ : (n p q : ℕ) → 1 ≤ n → p * n ≡ q * n → p ≡ q
 powers_differ n p q h e = elim (cases_lt p q) [
   | inl l ↦ (let m = mul-le-mul_left n l in absurd (omega arith))
@@ -235,7 +237,7 @@ ends_value-shape k n power label parts h p = by (has_equal_entries (remainders n
             (ne_eqb (size b) (size r + power * n) (λ e'. m (powers_differ n q power h (omega arith))))
             ∙ sym (ap (λ v. cond (v && same (from_beta (sorted_falling r)) label) (minus_one_to (q * (k + 1)) *ℤ sorting_sign r) (pos 0)) (ne_eqb q power m))
 
--- ---- the reductions of an alternant of any list of exponents
+-- ---- the reductions of an alternant a_b for any list b of k exponents
 
 ends_unique : (k n power : ℕ) (label b : List ℕ) → 1 ≤ n → length b ≡ k → pair (alternant b) (on_strict (reduced_share k n (power, label))) ≡ ends_value k n power label b
 ends_unique k n power label b h = sort_back P b kept sorted
@@ -265,9 +267,9 @@ ends_unique k n power label b h = sort_back P b kept sorted
             ∙ sym (ends_value-equal k n power label (sorted_falling b) (equal_map (λ z. z % n) (sorted_falling b) e))
         by false e = at_strict_list (sorted_falling b) l (sorted_strict b (sym (equal-sorted b) ∙ e))
 
--- ---- the reductions at a label of the terms of a_b times a Schur polynomial
+-- ---- the coefficient at a label and a power of q if the terms of a_b·s_next are reduced
 
--- the coefficient at `power` and `label` of the reductions of the terms of a_b·s_next
+-- the coefficient at `label` and q^power of the list that results if the terms of a_b·s_next are reduced by rim hooks of n cells
 abbrev multiplied_value : ℕ → ℕ → List ℕ → ℕ → List ℕ → List ℕ → ℤ
 multiplied_value k n next power label b = pair (alternant b) (added k next (on_strict (reduced_share k n (power, label))))
 
@@ -303,7 +305,7 @@ multiplied-repeated k n next power label b h q l e =
     ap (multiplied_value k n next power label) r.is
     ∙ opposite_is_zero (multiplied_value k n next power label first) (turned ∙ ap neg_ℤ (sym same_value))
 
--- ---- lowering the entries to their remainders
+-- ---- `multiplied_value` for a list b, computed from that for the remainders of its entries modulo n: the sign and the power of q change
 
 scaled_value : (c : ℤ) (equal sum there : Bool) (x : ℤ) → value equal sum there (c *ℤ x) ≡ c *ℤ value equal sum there x
 scaled_value c true sum there x = sym (*ℤ-zero c)
@@ -373,18 +375,18 @@ multiplied-past k n next q power label b h p l less s =
     ∙ pair_ext (schur next k) (λ α. ends_value k n power label (join b α)) (λ α. pos 0) (λ α. past_value k n q power label b α h less s)
     ∙ pair_zero (schur next k)
 
--- ---- a label may be reduced before it is multiplied
+-- ---- reducing a label before it is multiplied by `next` does not change the reduced product
 
--- f(power - q) if q is at most `power`, and otherwise 0
+-- f(power - q) if q is at most `power`, and 0 otherwise
 abbrev within : ℕ → ℕ → (ℕ → ℤ) → ℤ
 within power q f = cond (nat_le q power) (f (power - q)) (pos 0)
 
--- the value of f at the partition and the remaining power of a reduction, times its sign; 0 if the reduction is 0
+-- `at_power power f r`: if the reduction r consists of a sign, a partition ν and a power q ≤ `power`, the sign times f(power - q, ν); otherwise 0
 abbrev at_power : ℕ → (ℕ → List ℕ → ℤ) → Reduction → ℤ
 at_power power f None = pos 0
 at_power power f (Some a) = a.1 *ℤ within power a.2 (λ p. f p a.0)
 
--- the coefficient at `power` and `label` of the reduced product of the partition `parts` and the factor `next`
+-- the coefficient at `label` and q^power of the classical product of `parts` and `next`, reduced by rim hooks of n cells
 abbrev two_reduced : ℕ → ℕ → List ℕ → List ℕ → ℕ → List ℕ → ℤ
 two_reduced k n next label power parts = pair (classical_product k (parts ∷ next ∷ [])) (reduced_share k n (power, label))
 
@@ -423,9 +425,9 @@ lowered_early k n next power label parts h q p = by (has_equal_entries (remainde
             *ℤ-zero (minus_one_to (m * (k + 1)) *ℤ sorting_sign r)
             ∙ sym (multiplied-past k n next m power label b h q (length-beta k parts) past s)
 
--- ---- labels with powers of q, written as lists
+-- ---- labels with powers of q, written as one list of numbers
 
--- the terms with each power and label written as one list, the power in front
+-- the terms with each label (power, partition) written as one list, which has the power in front
 abbrev coded : WholeTermsOf (ℕ × List ℕ) → WholeTerms
 coded terms = map (λ (t : (ℕ × List ℕ) × ℤ). (t.0.0 ∷ t.0.1, t.1)) terms
 
@@ -490,7 +492,7 @@ reduced_pairing k n power f (t ∷ terms) = by (reduction_by_remainders k n t.0)
     by None e = e ∙ sym (ap (λ z. z +ℤ rest) (*ℤ-zero t.1) ∙ +ℤ_idl rest)
     by (Some a) e = ap₂ ◌+ℤ◌ (product_assoc t.1 a.1 (within power a.2 (λ p. f p a.0))) e
 
--- ---- reducing the product with one more factor
+-- ---- the reduced product with one more factor, computed from the reduced product of the earlier factors
 
 pub quantum_step : (k n : ℕ) (front : List (List ℕ)) (next : List ℕ) (terms : WholeTermsOf (ℕ × List ℕ)) → 1 ≤ n → ArePartitions front → IsPartition next
     → ((label : ℕ × List ℕ) → coefficient_by same_power terms label ≡ coefficient_by same_power (reduced_product k n front) label)

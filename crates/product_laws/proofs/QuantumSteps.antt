@@ -1,9 +1,10 @@
 -- Reducing by rim hooks after each factor gives the same as reducing the whole product once.
---     quantum_step_made       conditions that are enough for a list to be the result of a step
---     quantum_step_is         conditions that the result of each step meets
---     quantum_steps_meet      the result of steps through all factors is the whole classical product, reduced once
---     quantum_steps_answer    the result of steps meets the definition of the command `quantum`
---     quantum_in_steps        a collected list that is the classical product, reduced once, is the result of steps
+--     quantum_step_made       a collected list (`AreCollected`) with the coefficients of `quantized` is the result of a step, which is to multiply
+--                             by a factor and to reduce by rim hooks
+--     quantum_step_is         the result of each step is collected and has the coefficients of `quantized`
+--     quantum_steps_meet      the result of the steps for all factors is the whole classical product, reduced once
+--     quantum_steps_answer    this result satisfies the definition of the answer of the command `quantum`
+--     quantum_in_steps        a collected list that is the classical product, reduced once, is the result of the steps for all factors
 use Rattle.std.proofs.Common.{◌≡◌, ℕ, ◌+◌, ◌≤◌, true, List, [], ◌∷◌, ◌++◌, map, length, refl, sym, ◌∙◌, ap, ap₂, subst, inl, arith, append-nil, append_assoc, ℤ, pos}
 use Rattle.std.proofs.lemmas.Bool.{and_parts, and_from, eq-eqb, eqb-true}
 use Rattle.sym_model.specs.Expansion.{Terms}
@@ -26,7 +27,7 @@ use Rattle.product_laws.proofs.GatheredLists.{gathered, coefficient-gathered, co
 use Rattle.product_laws.proofs.LeadingSteps.{last_changed, last_is, some_lead}
 use Rattle.sym_model.specs.Partition.{ArePartitions}
 
--- ---- labels with powers of q
+-- ---- labels that consist of a power of q and a partition
 
 pub power_true : (a b : ℕ × List ℕ) → same_power a b ≡ true → a ≡ b
 power_true a b e =
@@ -37,7 +38,7 @@ power_true a b e =
 pub power_self : (a : ℕ × List ℕ) → same_power a a ≡ true
 power_self a = and_from _ _ (eq-eqb a.0 a.0 refl) (same_refl a.1)
 
--- ---- the reductions of the product of each term with one more factor
+-- ---- the reductions of the classical product of each term with one more factor
 
 abbrev reductions_each : ℕ → ℕ → List ℕ → PowerTerms → List (List Reduction)
 reductions_each k n factor terms = map (λ (t : (ℕ × List ℕ) × ℤ). reductions_of k n (classical_product k (t.0.1 ∷ factor ∷ []))) terms
@@ -60,7 +61,7 @@ each_only k n factor (t ∷ terms) [] h a = absurd a
 each_only k n factor (t ∷ terms) (r ∷ reductions) h a =
     ap₂ ◌∷◌ (classical_only k n (t.0.1 ∷ factor ∷ []) r h a.0) (each_only k n factor terms reductions h a.1)
 
--- ---- one step from factor to factor
+-- ---- one step: multiplying by a factor, and reducing by rim hooks of n cells
 
 pub quantum_step_made : (k n : ℕ) (factor : List ℕ) (terms next : PowerTerms) → 1 ≤ n → AreCollected same_power next
     → ((label : ℕ × List ℕ) → coefficient_by same_power next label ≡ coefficient_by same_power (quantized k n factor terms) label)
@@ -79,7 +80,7 @@ quantum_step_is k n factor terms next h s label =
     ∙ ap (λ (r : List (List Reduction)). coefficient_by same_power (reduced_each k factor terms r) label) (each_only k n factor terms s.reductions h s.reduce)
     ∙ ap (λ (l : PowerTerms). coefficient_by same_power l label) (reduced_each-quantized k n factor terms)
 
--- ---- from steps to the reduction of the whole product
+-- ---- products that are reduced after each factor are the whole product, reduced once
 
 later_steps : (k n : ℕ) (front factors : List (List ℕ)) (terms last : PowerTerms) → 1 ≤ n → ArePartitions (front ++ factors)
     → ((label : ℕ × List ℕ) → coefficient_by same_power terms label ≡ coefficient_by same_power (reduced_product k n front) label)
@@ -99,7 +100,7 @@ later_steps k n front (factor ∷ factors) terms last h p e lead label =
     lead.2 label
     ∙ ap (λ (l : List (List ℕ)). coefficient_by same_power (reduced_product k n l) label) whole
 
--- adding the power 0 to each label and multiplying by 1 does not change a list
+-- adding 0 to the powers of all labels and multiplying by 1 does not change a list of terms
 raised_itself : (xs : PowerTerms) → with_power 0 (pos 1) xs ≡ xs
 raised_itself [] = refl
 raised_itself (x ∷ xs) =
@@ -130,7 +131,8 @@ quantum_steps_meet k n factors terms h l p s = record {
   sums = steps_whole k n factors (numerators terms) h l p s;
 }
 
--- if a list of terms with integer coefficients results from steps through the factors, it meets the definition of the command `quantum`
+-- if a list of terms with integer coefficients results from multiplying and reducing, factor by factor (`IsReducedInSteps`), it satisfies the
+-- definition of the answer of `quantum`
 pub quantum_steps_answer : (k width : ℕ) (factors : List (List ℕ)) (terms : PowerTerms)
     → 1 ≤ k + width → 2 ≤ length factors → ArePartitions factors
     → IsReducedInSteps k (k + width) factors terms
@@ -139,7 +141,7 @@ quantum_steps_answer k width factors terms h l p s =
     quantum_steps_meet k (k + width) factors (as_fractions terms) h l p
     (subst (IsReducedInSteps k (k + width) factors) (sym (numerators-as_fractions terms)) s)
 
--- ---- from the reduction of the whole product to steps
+-- ---- a collected list (`AreCollected`) that is the whole product, reduced once, results from multiplying and reducing factor by factor
 
 pub quantum_step_some : (k n : ℕ) → 1 ≤ n → (factor : List ℕ) (terms : PowerTerms) → (next : PowerTerms) × IsQuantumStep k n factor terms next
 quantum_step_some k n h factor terms =

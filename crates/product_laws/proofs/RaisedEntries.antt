@@ -1,5 +1,5 @@
--- One entry of a strictly decreasing list raised: if the raised list has no equal entries, the entry moves in front of
--- some entries, and the list is the beta list of a greater partition.
+-- One entry of a strictly decreasing list raised by k: if no two entries are then equal, sorting moves the raised entry in front of some entries, and
+-- the sorted list is the beta list of a greater partition.
 use Rattle.std.proofs.Common.{◌≡◌, ◌⊎◌, ℕ, zero, suc, ◌+◌, ◌<◌, ◌≤◌, true, false, ◌==◌, List, [], ◌∷◌, ◌++◌, map, length, replicate, drop, get_or, refl, sym, ◌∙◌, ap, ap₂, subst, inl, inr, arith, ℤ, pos, neg_ℤ, ◌*ℤ◌, append_assoc}
 use Rattle.std.proofs.lemmas.Int.{ints}
 use Rattle.std.proofs.lemmas.Bool.{cases_lt, cases_eq, both_ways, eq-eqb, or_parts, or_right}
@@ -20,7 +20,7 @@ use Rattle.product_laws.proofs.Overlaps.{Turns}
 use Rattle.sym_model.proofs.Ring.{negation-product, one-product}
 use Rattle.std.proofs.Math.Seq.{append_snoc}
 
--- ---- an entry moved in front of other entries
+-- ---- a function of lists whose value does not change if two neighbours are exchanged: one entry moved in front of other entries
 
 pub moved : {A : Type 0} (f : List ℕ → A) → ((left : List ℕ) (a b : ℕ) (right : List ℕ) → f (left ++ (a ∷ b ∷ right)) ≡ f (left ++ (b ∷ a ∷ right)))
     → (left middle right : List ℕ) (z : ℕ) → f (left ++ (z ∷ (middle ++ right))) ≡ f (left ++ (middle ++ (z ∷ right)))
@@ -50,7 +50,7 @@ sign_twice k x = elim (parity_of k) [ inl e ↦ ap (λ s. s *ℤ (s *ℤ x)) e.1
     twice : (x : ℤ) → neg_ℤ (pos 1) *ℤ (neg_ℤ (pos 1) *ℤ x) ≡ x
     twice x = omega (arith, ints)
 
--- ---- entries of strictly decreasing lists
+-- ---- strictly decreasing lists with an entry left out or replaced
 
 strict_without : (front : List ℕ) (x : ℕ) (rest : List ℕ) → FallsStrictly (front ++ (x ∷ rest)) → FallsStrictly (front ++ rest)
 strict_without [] x rest f = strict_tail x rest f
@@ -72,7 +72,7 @@ first_apart z (a ∷ front) rest h =
     by g (inl e) r = absurd (both_ways (has a (front ++ (z ∷ rest))) g (stands front z rest a (sym e)))
     by g (inr n) r = has_past z a front n ∙ r
 
--- ---- adding k at one place of a list turns front ++ (x ∷ rest) into front ++ ((x + k) ∷ rest)
+-- ---- adding the exponents α of `one_place k n` to a list raises one entry by k: front ++ (x ∷ rest) becomes front ++ ((x + k) ∷ rest)
 
 raised_at : (k n : ℕ) (b α : List ℕ) → length b ≡ n → Among α (one_place k n)
     → (front : List ℕ) × (x : ℕ) × (rest : List ℕ) × (b ≡ front ++ (x ∷ rest)) × (join b α ≡ front ++ ((x + k) ∷ rest))
@@ -112,7 +112,8 @@ split (a ∷ front) z x rest l f h =
     by g (inl o) (inr n) r = ([], a ∷ front, refl, (o, strict_without (a ∷ front) x rest f))
     by g (inr o) (inr n) r = (a ∷ r.0, r.1, ap (λ t. a ∷ t) r.2, over r.0 r.1 (omega (arith, o, n)) r.2 r.3)
 
--- α raises one entry of b by k: b is left ++ middle ++ entry ∷ rest, and in decreasing order the raised entry is before `middle`
+-- b is left ++ middle ++ (entry ∷ rest), and b + α is the same list with entry + k in place of `entry`; moving entry + k in front of `middle` makes
+-- it strictly decreasing
 pub record Raises (k : ℕ) (b α : List ℕ) : Type 0 where
   pub left : List ℕ
   pub middle : List ℕ
@@ -146,7 +147,7 @@ length-raised k n b α l m = let q = raised_at k n b α l m in ap length q.4 ∙
     changed [] z x rest = refl
     changed (a ∷ front) z x rest = ap suc (changed front z x rest)
 
--- `one_place k n` has no list twice
+-- no list occurs twice in `one_place k n`
 
 pub once_one_place : (k n : ℕ) → 1 ≤ k → Once (one_place k n)
 once_one_place k zero h = tt
@@ -162,7 +163,7 @@ head_lost : (k c : ℕ) (b β : List ℕ) → 1 ≤ k → FallsStrictly (c ∷ b
 head_lost k c b β h f same =
     both_ways (has c ((c + k) ∷ b)) (has_past c (c + k) b (λ e. omega (arith, e, h)) ∙ not_below c c b f (omega arith)) (same c ∙ has_here c (c + 0) β (omega arith))
 
--- if b is strictly decreasing, and b + α and b + β have no equal entries and consist of the same numbers, then α is β
+-- let b be strictly decreasing, and α and β in `one_place k n`. If b + α and b + β have no equal entries and consist of the same numbers, then α = β
 pub same_place : (k n : ℕ) (b α β : List ℕ) → 1 ≤ k → length b ≡ n → FallsStrictly b → Among α (one_place k n) → Among β (one_place k n)
     → has_equal_entries (join b α) ≡ false → has_equal_entries (join b β) ≡ false → ((x : ℕ) → has x (join b α) ≡ has x (join b β)) → α ≡ β
 same_place k zero b α β h l f m i d e same = absurd m

@@ -1,4 +1,5 @@
--- The labels of classical products have no reductions by rim hooks other than those that are computed by remainders.
+-- The reductions by rim hooks of the labels of a classical product are the reductions by remainders (`reduction_by_remainders`), and there are no
+-- others.
 use Rattle.std.proofs.Common.{◌≡◌, ◌≤◌, ℕ, List, [], ◌∷◌, refl, ap₂, inl, inr, ℤ}
 use Rattle.sym_model.specs.Sum.{Among}
 use Rattle.sym_model.specs.Partition.{IsPartition, rows}
@@ -9,7 +10,7 @@ use Rattle.alternant_laws.proofs.ClassicalProducts.{classical_product-term}
 use Rattle.beta_list_laws.specs.ReductionLists.{reductions_of}
 use Rattle.beta_list_laws.proofs.Ends.{reduces_only}
 
--- if all labels of the terms are partitions, the only list of reductions of these labels is that of their reductions by remainders
+-- if all labels of the terms are partitions, and `reductions` are reductions of these labels by the definition, they are the reductions by remainders
 are_only : (k n : ℕ) (terms : WholeTerms) (reductions : List Reduction) → 1 ≤ n → ((t : List ℕ × ℤ) → Among t terms → IsPartition t.0)
     → AreReductions k n terms reductions → reductions ≡ reductions_of k n terms
 are_only k n [] [] h p a = refl
@@ -21,7 +22,7 @@ are_only k n (t ∷ terms) (r ∷ reductions) h p a = ap₂ ◌∷◌ (reduces_o
 pub classical_labels : (k : ℕ) (factors : List (List ℕ)) → HaveLabels (λ shape. IsPartition shape × (rows shape ≤ k)) (classical_product k factors)
 classical_labels k factors t m = let c = classical_product-term k factors t m in (c.partition, c.few)
 
--- the reductions of the labels of a classical product are those by remainders
+-- if `reductions` are reductions of the labels of a classical product by the definition, they are the reductions by remainders
 pub classical_only : (k n : ℕ) (factors : List (List ℕ)) (reductions : List Reduction) → 1 ≤ n → AreReductions k n (classical_product k factors) reductions
     → reductions ≡ reductions_of k n (classical_product k factors)
 classical_only k n factors reductions h =

@@ -1,5 +1,5 @@
--- The rule of Murnaghan and Nakayama: p_k times an alternant raises one exponent by k; if no two exponents are then
--- equal, a rim hook of k cells is added.
+-- The rule of Murnaghan and Nakayama: p_k·a_b is the sum of the alternants with one exponent of b raised by k; if no two exponents are then equal,
+-- they are, sorted, the beta list of the partition of b with a rim hook of k cells added.
 use Rattle.std.proofs.Common.{◌≡◌, ℕ, ◌+◌, ◌-◌, ◌≤◌, Bool, true, false, not, cond, nat_le, List, ◌∷◌, ◌++◌, map, length, refl, sym, ◌∙◌, ap, ap₂, subst, arith, ℤ, pos, ◌*ℤ◌, append_assoc, filter, flat_map}
 use Rattle.std.proofs.lemmas.Bool.{leb-true, le-leb, not-true}
 use Rattle.sym_model.specs.Sum.{total, Among, Within}
@@ -30,7 +30,7 @@ use Rattle.product_laws.proofs.Overlaps.{alternants_turn}
 use Rattle.schur_laws.proofs.SymmetricPolynomials.{symmetric-monomials}
 use Rattle.product_laws.proofs.RaisedEntries.{moved, turned_past, sign_twice, place_found, Raises, raises, length-raised, once_one_place, same_place}
 
--- for a partition μ with at most n rows, μ + ρ in n places is the beta list of length n
+-- if the partition μ has at most n rows, μ + ρ in n places is the beta list of μ for n rows
 beta_joined : (n : ℕ) (parts : List ℕ) → IsPartition parts → rows parts ≤ n → join parts (staircase n) ≡ beta n parts
 beta_joined n parts p h =
     ap₂ (λ l k. join l (staircase k)) (sym (from_beta-beta n parts p h)) (sym (length-beta n parts))
@@ -44,8 +44,9 @@ apart b α = not (has_equal_entries (join b α))
 abbrev pub raised_shape : List ℕ → List ℕ → List ℕ
 raised_shape b α = from_beta (sorted_falling (join b α))
 
--- if b + α has no equal entries, b being the beta list of `parts`, then `raised_shape` is a partition from which removing a rim hook of k cells
--- leaves `parts`
+-- let b be the beta list of `parts` for n rows, and let b + α have no equal entries. `raised_shape b α` is a partition ν with at most n rows from
+-- which removing a rim hook of k cells leaves `parts`, and the alternant of b + α is (-1)^(h - 1) times that of ν + ρ, h being the height of the rim
+-- hook
 record Shows (n k : ℕ) (parts α : List ℕ) (φ : List ℕ → ℤ) : Type 0 where
   removal : IsRemoval k (raised_shape (beta n parts) α) parts
   partition : IsPartition (raised_shape (beta n parts) α)
@@ -104,7 +105,8 @@ shows n k parts α φ h p few m e = by (raises k n (beta n parts) α (length-bet
               ∙ ap (λ l. pair (alternant l) φ) (sym r.is));
         }
 
--- each partition ν from which removing a rim hook of k cells leaves `parts` is made by raising an entry of the beta list of `parts`
+-- if ν has at most n rows, and removing a rim hook of k cells from ν leaves `parts`, then raising some entry of the beta list of `parts` by k gives
+-- the beta list of ν, unsorted
 pub found : (n k : ℕ) (parts ν : List ℕ) → IsPartition parts → IsPartition ν → rows ν ≤ n → IsRemoval k ν parts
     → (α : List ℕ) × Among α (one_place k n) × (has_equal_entries (join (beta n parts) α) ≡ false) × (raised_shape (beta n parts) α ≡ ν)
 found n k parts ν p q few r =
@@ -125,7 +127,7 @@ found n k parts ν p q few r =
         ap sorted_falling is ∙ sym (moved sorted_falling sorted-exchange front middle rest (y + k)) ∙ ap sorted_falling (sym u) ∙ sorted-falling (beta n ν) (strict_falls (beta n ν) strict) in
         (f.0, subst (λ j. Among f.0 (one_place k j)) size_is f.1, distinct, ap from_beta sorted ∙ from_beta-beta n ν q few)
 
--- ---- the sum over the rim hooks that can be added
+-- ---- the sum of the alternants with one exponent raised by k, as a sum over the partitions with one more rim hook
 
 hooks_total : (n k : ℕ) (parts : List ℕ) (list : List (List ℕ)) (φ : List ℕ → ℤ) → 1 ≤ k → IsPartition parts → rows parts ≤ n → ListsEach (AddsRimHook k parts) list
     → total (λ (α : List ℕ). pair (alternant (join (beta n parts) α)) φ) (one_place k n)

@@ -1,5 +1,5 @@
--- The product of two Schur polynomials of partitions with at most k rows is not 0 in k variables, so it has a label: if all
--- variables are 1, each factor is the number of its tableaux.
+-- The product of two Schur polynomials of partitions with at most k rows is not 0 in k variables, so its expansion has a label: if all variables are
+-- 1, each Schur polynomial has as its value the number of its tableaux, which is positive.
 use Rattle.std.proofs.Common.{◌≡◌, ℕ, suc, ◌≤◌, inl, inr, cond, List, [], ◌∷◌, length, map, refl, sym, ◌∙◌, ap, subst, arith, ℤ, pos, ◌*ℤ◌}
 use Rattle.std.proofs.lemmas.Int.{ints}
 use Rattle.std.proofs.Math.Nat.{mul-suc}

@@ -1,4 +1,4 @@
--- A product with a Schur polynomial, determined by its products with alternants.
+-- The expansion of a product f·s_λ in Schur polynomials is determined by the product a_ρ·f·s_λ.
 use Rattle.std.proofs.Common.{◌≡◌, ◌⊎◌, ℕ, ◌<◌, ◌≤◌, cond, nat_le, List, length, sym, ◌∙◌, ap, inl, inr, arith, ℤ, pos, ◌*ℤ◌, filter, flat_map}
 use Rattle.std.proofs.lemmas.Bool.{cases_lt, lt-leb, le-leb}
 use Rattle.sym_model.specs.Sum.{total, Among}
@@ -11,16 +11,15 @@ use Rattle.sym_model.proofs.Sums.{total_among, total_none, total_select}
 use Rattle.sym_model.proofs.Exponents.{length-join}
 use Rattle.sym_model.proofs.Polynomials.{pair_times_each, pair_ext, pair_zero, pair_factor, pair_each, pair_times, pair_determined, same_from_pair, times_respects, Same_refl, Same_sym, Same_trans, In_each, In_times}
 use Rattle.sym_model.proofs.PolynomialLaws.{times_assoc, times_comm}
-use Rattle.sym_model.proofs.Parts.{length-staircase}
+use Rattle.sym_model.proofs.Parts.{length-staircase, rows_held}
 use Rattle.monomial_laws.proofs.SchurMajorants.{In-schur}
 use Rattle.alternant_laws.proofs.AlternantProducts.{alternant_times, pair_alternants_over}
 use Rattle.alternant_laws.proofs.Staircase.{staircase_cancels}
 use Rattle.alternant_laws.proofs.SchurProducts.{bialternant, schur_few_variables}
 use lib.IntN.{*ℤ-zero}
 use Rattle.strip_laws.proofs.Containment.{Holds-get_or}
-use Rattle.product_laws.proofs.StripShapes.{rows_held}
 
--- a_ρ·f·s_λ, for λ = `parts`, is the sum of c·a_(λ + ρ + α) over the terms c·x^α of f, by pairings with φ
+-- let λ be `parts`: a_ρ·f·s_λ is the sum of c·a_(λ + ρ + α) over the terms c·x^α of f; here as an equality of pairings with φ
 staircase_first : (n : ℕ) (parts : List ℕ) (f : Poly) (φ : List ℕ → ℤ) → IsPartition parts → rows parts ≤ n → In n f → Symmetric f
     → pair (times (alternant (staircase n)) (times f (schur parts n))) φ ≡ pair f (λ α. pair (alternant (join (join parts (staircase n)) α)) φ)
 staircase_first n parts f φ p h i s =
@@ -45,7 +44,8 @@ staircase_first n parts f φ p h i s =
         (Same_sym (times (times A S) f) (times A (times S f)) (times_assoc A S f))
         (times_respects (times A S) (alternant (join parts (staircase n))) f f (bialternant n parts p h) (Same_refl f)))
 
--- f·s_λ, for λ = `parts`, is the sum of c(ν)·s_ν over `list`, if a_ρ·f·s_λ is the sum of c(ν)·a_(ν + ρ) over the ν of `list` with at most n rows
+-- let λ be `parts`, f be symmetric, and `list` be a list of partitions that contain λ: if a_ρ·f·s_λ is the sum of c(ν)·a_(ν + ρ) over the ν of `list`
+-- with at most n rows, then f·s_λ is the sum of c(ν)·s_ν over `list`
 pub strip_product : (n : ℕ) (parts : List ℕ) (f : Poly) (h : List ℕ → Poly) (c : List ℕ → ℤ) (list : List (List ℕ)) → IsPartition parts → In n f → Symmetric f
     → ((ν : List ℕ) → In n (h ν)) → ((ν : List ℕ) (φ : List ℕ → ℤ) → pair (h ν) φ ≡ c ν *ℤ pair (schur ν n) φ)
     → ((ν : List ℕ) → Among ν list → IsPartition ν × Holds ν parts)

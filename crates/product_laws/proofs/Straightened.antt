@@ -1,7 +1,7 @@
--- A sum of alternants as a sum over partitions.
---     `straightened_sum`         the terms of the sum of c·a_b over a list of terms (b, c)
---     pair-straightened      a sum of alternants and its straightened sum have the same pairings
---     pair-value             the pairing of the alternant of a strictly decreasing list with a test function is its value there
+-- A sum of alternants as a sum over partitions, by sorting the exponents (straightening).
+--     `straightened_sum`     the terms of the sum of c·a_(β + α) over the terms c·x^α of f, with partitions as labels
+--     pair-straightened      the sum of c·a_(ν + ρ) over these terms is the given sum of alternants, as an equality of pairings
+--     pair-value             the pairing of `on_strict χ` with the alternant of a strictly decreasing list is χ at its partition
 use Rattle.std.proofs.Common.{◌≡◌, ◌⊎◌, ℕ, ◌<◌, ◌≤◌, Bool, true, false, ◌&&◌, cond, nat_lt, List, [], ◌∷◌, length, refl, sym, ◌∙◌, ap, subst, inl, inr, arith, ℤ, pos, ◌+ℤ◌, ◌*ℤ◌, flat_map}
 use Rattle.std.proofs.lemmas.Bool.{and_parts, cond-true, cond-false}
 use Rattle.std.proofs.lemmas.Bool.Decides.{nat_tests}
@@ -26,7 +26,7 @@ use Rattle.alternant_laws.proofs.SortedAlternants.{alternant-equal, alternant-so
 use Rattle.sym_model.specs.Bounded.{AreBelow}
 use Rattle.alternant_laws.proofs.FailingColumns.{at_sum}
 
--- ---- lists that are strictly decreasing
+-- ---- strictly decreasing lists, as defined and as tested (`is_strict`)
 
 below_raise : (a b : ℕ) (l : List ℕ) → b < a → AreBelow b l → AreBelow a l
 below_raise a b [] h u = tt
@@ -53,9 +53,10 @@ is_strict_from [] f = refl
 is_strict_from (a ∷ []) f = refl
 is_strict_from (a ∷ b ∷ l) f = let r = is_strict_from (b ∷ l) f.1 in let h : b < a = f.0 in grind (arith, nat_tests)
 
--- ---- functions of partitions as test functions of exponents
+-- ---- functions of partitions, as functions of lists of exponents
 
--- a function of partitions as a test function of exponents: its value at the partition of a strictly decreasing list
+-- a function of partitions as a function of lists of exponents: at a strictly decreasing list, its value at the partition with this beta list; 0 at
+-- other lists
 abbrev pub on_strict : (List ℕ → ℤ) → List ℕ → ℤ
 on_strict χ b = cond (is_strict b) (χ (from_beta b)) (pos 0)
 
@@ -80,7 +81,7 @@ pair-value b χ f =
         inr (cond-false (is_strict α) (χ (from_beta α)) (pos 0) e
         ∙ sym (ap (λ u. χ (from_beta b) *ℤ cond u (pos 1) (pos 0)) (same_apart α b (λ i. n (sym i))) ∙ *ℤ-zero (χ (from_beta b))))
 
--- ---- alternants a_(λ+ρ) of partitions λ
+-- ---- the alternants a_(λ + ρ) of partitions λ with at most k rows
 
 -- a partition with at most k rows
 pub record IsShape (k : ℕ) (parts : List ℕ) : Type 0 where
@@ -93,8 +94,8 @@ shape_of_strict k b e f = let r = rows-from_beta b in record { partition = from_
 pub at_strict : (k : ℕ) (b : List ℕ) (φ : List ℕ → ℤ) → length b ≡ k → FallsStrictly b → at_sum k φ (from_beta b) ≡ pair (alternant b) φ
 at_strict k b φ e f = ap (λ l. pair (alternant l) φ) (ap (λ m. join (from_beta b) (staircase m)) (sym e) ∙ from_beta-join b f)
 
--- the alternant of the beta list of `parts`, as a sum over partitions, has the coefficient 1 at `parts` and 0 at every other partition with at most k
--- rows
+-- if `parts` and `label` are partitions with at most k rows, the coefficient of x^(label + ρ) in the alternant a_(parts + ρ) is 1 if `label` is
+-- `parts`, and 0 otherwise
 pub at_shape-only : (k : ℕ) (label parts : List ℕ) → IsShape k label → IsShape k parts → at_sum k (at_only (join label (staircase k))) parts ≡ at_only label parts
 at_shape-only k label parts p q =
     sym (coefficient_pair (alternant (join parts (staircase k))) (join label (staircase k)))
@@ -102,13 +103,14 @@ at_shape-only k label parts p q =
     ∙ coefficient_at_partition k (resize k parts) label (length-resize k parts) (falling-resize k parts q.partition.falls) p.partition p.few (falling-resize k label p.partition.falls)
     ∙ ap (λ l. cond (same l label) (pos 1) (pos 0)) (without_last_zeros-resize k parts q.partition.positive q.few)
 
--- ---- the terms of sums of alternants
+-- ---- the terms, with partitions as labels, of sums of alternants
 
--- the term of c·a_b: b in decreasing order as a partition, with c times the sign of sorting b; none if two entries of b are equal
+-- the term of c·a_b: its label is the partition whose beta list is b sorted, its coefficient is c times the sign of sorting b; no term if two entries
+-- of b are equal
 abbrev pub straight : List ℕ → ℤ → WholeTerms
 straight b c = cond (has_equal_entries b) [] ((from_beta (sorted_falling b), c *ℤ sorting_sign b) ∷ [])
 
--- the terms of the sum of c·a_(β + α) over the terms (α, c) of f
+-- the terms, with partitions as labels, of the sum of c·a_(β + α) over the terms c·x^α of f
 abbrev pub straightened_sum : List ℕ → Poly → WholeTerms
 straightened_sum β f = flat_map (λ (u : Term). straight (join β u.0) u.1) f
 
@@ -150,7 +152,7 @@ coefficient-straightened k β label f e i p =
     (λ t m. ap (λ z. t.1 *ℤ z) (sym (at_shape-only k label t.0 p (straightened-shape k β f t e i m))))
     ∙ pair-straightened k β f (at_only (join label (staircase k))) e i
 
--- ---- lists of terms whose labels have at most k rows
+-- ---- lists of terms whose labels are partitions with at most k rows
 
 found : (label : List ℕ) (xs : WholeTerms) → ((t : Term) × Among t xs × (t.0 ≡ label)) ⊎ (coefficient xs label ≡ pos 0)
 found label [] = inr refl
@@ -161,7 +163,8 @@ found label (x ∷ xs) = by (same_or_not x.0 label) (found label xs)
     by (inr n) (inl t) = inl (t.0, inr t.1, t.2)
     by (inr n) (inr e) = inr (ap (λ b. cond b x.1 (pos 0) +ℤ coefficient xs label) (same_apart x.0 label n) ∙ +ℤ_idl (coefficient xs label) ∙ e)
 
--- two lists whose labels are partitions with at most k rows are equal if they have the same coefficients at those
+-- if all labels of f and g are partitions with at most k rows, and f and g have the same coefficients at these partitions, then f and g have the same
+-- coefficients
 pub same_shapes : (k : ℕ) (f g : WholeTerms) → ((t : Term) → Among t f → IsShape k t.0) → ((t : Term) → Among t g → IsShape k t.0)
     → ((label : List ℕ) → IsShape k label → coefficient f label ≡ coefficient g label) → Same f g
 same_shapes k f g p q e label = by (found label f) (found label g)

@@ -1,4 +1,4 @@
--- Bounds for the numbers of strips and of rim hooks of k cells that can be added to a partition.
+-- Upper bounds for the number of strips and of rim hooks of k cells that can be added to a partition.
 use Rattle.std.proofs.Common.{◌≡◌, ℕ, zero, suc, ◌+◌, ◌-◌, ◌*◌, ◌^◌, ◌≤◌, Bool, cond, List, [], ◌∷◌, map, length, refl, ◌∙◌, ap, subst, arith, length-append, pow-suc, flat_map}
 use Rattle.std.proofs.lemmas.Bool.{ne_eqb}
 use Rattle.std.proofs.lemmas.List.{length-map}
@@ -24,7 +24,7 @@ use Rattle.product_laws.proofs.RimHookSums.{raised_shape, found}
 use native.Mathlib.Nat.{mul-le-mul_right}
 use Rattle.strip_laws.proofs.Containment.{Holds-get_or}
 
--- ---- there are at most n^d exponent lists of n places with the sum d
+-- ---- a bound for a sum of powers; there are at most n^d exponent lists of n places with the sum d
 
 next_power : (n p q s t : ℕ) → 1 ≤ p → s ≤ q → t ≤ p * (q * n) → s + t ≤ p * suc n * q
 next_power n p q s t h l m =
@@ -70,7 +70,7 @@ length_one_place : (k n : ℕ) → length (one_place k n) ≡ n
 length_one_place k zero = refl
 length_one_place k (suc n) = ap suc (length-map (one_place k n) (λ (α : List ℕ). 0 ∷ α) ∙ length_one_place k n)
 
--- ---- bounds for the numbers of strips and of rim hooks
+-- ---- upper bounds for the number of strips and of rim hooks of k cells that can be added to a partition
 
 pub shapes_within : (k : ℕ) (parts : List ℕ) (S : List ℕ → Type 0) (list : List (List ℕ)) → IsPartition parts → ((ν : List ℕ) → S ν → Holds ν parts)
     → ListsEach (λ ν. IsPartition ν × (size ν ≡ size parts + k) × S ν) list → length list ≤ (size parts + k) ^ k

@@ -1,4 +1,5 @@
--- A partition in n places plus a list of exponents: the sums that are strips around the partition.
+-- A partition, padded with zeros to n places, plus a list of exponents: the exponents for which the sum is the partition with a horizontal or a
+-- vertical strip added.
 use Rattle.std.proofs.Common.{◌≡◌, ℕ, zero, suc, ◌+◌, ◌-◌, ◌≤◌, Bool, true, ◌&&◌, nat_le, List, [], ◌∷◌, length, get_or, refl, sym, ◌∙◌, ap, ap₂, subst, arith, ℤ, filter}
 use Rattle.std.proofs.lemmas.Bool.{and_parts, and_from, le-leb, leb-true}
 use Rattle.sym_model.specs.Sum.{total, Among}
@@ -21,9 +22,9 @@ use Rattle.alternant_laws.proofs.FallingAlternants.{resize-without_last_zeros, w
 use Rattle.product_laws.specs.StripLists.{ListsEach}
 use Rattle.product_laws.proofs.ExponentLists.{among_exponent_lists, once_exponent_lists}
 
--- ---- parts of padded lists and of shortened lists
+-- ---- the parts of a list padded with zeros, and of a list without the zeros at its end
 
-get-padded : (n : ℕ) (parts : List ℕ) (k : ℕ) → length parts ≤ n → get_or (resize n parts) k 0 ≡ get_or parts k 0
+pub get-padded : (n : ℕ) (parts : List ℕ) (k : ℕ) → length parts ≤ n → get_or (resize n parts) k 0 ≡ get_or parts k 0
 get-padded zero [] k h = refl
 get-padded zero (a ∷ parts) k h = absurd (omega arith)
 get-padded (suc n) [] zero h = refl
@@ -31,15 +32,10 @@ get-padded (suc n) [] (suc k) h = get-padded n [] k (omega arith)
 get-padded (suc n) (a ∷ parts) zero h = refl
 get-padded (suc n) (a ∷ parts) (suc k) h = get-padded n parts k (omega arith)
 
-pub rows_held : (inner outer : List ℕ) → ArePositive inner → ((k : ℕ) → get_or inner k 0 ≤ get_or outer k 0) → length inner ≤ length outer
-rows_held [] outer p h = omega arith
-rows_held (a ∷ inner) [] p h = let q = p.0 in let r = h 0 in absurd (omega arith)
-rows_held (a ∷ inner) (b ∷ outer) p h = let q = rows_held inner outer p.1 (λ k. h (suc k)) in omega arith
-
 pub size-padded : (n : ℕ) (parts : List ℕ) → ArePositive parts → length parts ≤ n → size (resize n parts) ≡ size parts
 size-padded n parts p h = sym (size-without_last_zeros (resize n parts)) ∙ ap size (without_last_zeros-resize n parts p h)
 
--- ---- the exponents that are added to one partition to get another
+-- ---- the exponents that are the differences of the parts of two partitions
 
 pub join_less : (n : ℕ) (inner outer : List ℕ) → ((k : ℕ) → get_or inner k 0 ≤ get_or outer k 0) → join (resize n inner) (row_lengths (resize n outer) (resize n inner)) ≡ resize n outer
 join_less zero inner outer h = refl
@@ -54,7 +50,7 @@ less_join [] (x ∷ α) e = absurd (omega arith)
 less_join (a ∷ inner) [] e = absurd (omega arith)
 less_join (a ∷ inner) (x ∷ α) e = ap₂ (λ (y : ℕ) l. y ∷ l) (let d : a + x - a ≡ x = omega arith in d) (less_join inner α (omega arith))
 
--- ---- a sum over exponents as a sum over shapes
+-- ---- a sum over lists of exponents as a sum over the partitions that they add up to
 
 pub shapes_total : (n k : ℕ) (parts : List ℕ) → IsPartition parts → rows parts ≤ n → (test : List ℕ → Bool) (S : List ℕ → Type 0)
     → ((α : List ℕ) → length α ≡ n → test α ≡ true → Falls (join (resize n parts) α) × S (without_last_zeros (join (resize n parts) α)))
@@ -129,9 +125,9 @@ shapes_total n k parts p few test S sound complete held list l g =
         let e = (lists α i).0 in
         ap (λ z. row_lengths z m) (resize-without_last_zeros n (join m α) (wide α e)) ∙ less_join m α (length-resize n parts ∙ sym e)
 
--- ---- exponents that add a horizontal strip to a list
+-- ---- exponents that add a horizontal strip to a partition
 
--- whether a_(i+1) + α_(i+1) is at most a_i for each i, so that the cells added form a horizontal strip
+-- whether m_(i+1) + α_(i+1) is at most m_i for each i, so that the cells added to m form a horizontal strip
 abbrev pub keeps_below : List ℕ → List ℕ → Bool
 keeps_below [] α = true
 keeps_below (a ∷ []) α = true
@@ -209,7 +205,7 @@ horizontal_complete n parts α fall h e falls s = below_from (resize n parts) α
         let c = get-padded n parts k h in
         omega (arith, u, v, a, b, c)
 
--- ---- exponents that add a vertical strip to a list
+-- ---- exponents that add a vertical strip to a partition
 
 -- whether no exponent of α is greater than 1 and m + α is weakly decreasing, so that the cells added form a vertical strip
 abbrev pub adds_column : List ℕ → List ℕ → Bool

@@ -1,4 +1,4 @@
--- Products of several factors, one factor after another.
+-- Several factors multiplied one after another, and the product reduced after each factor.
 use Rattle.std.specs.Prelude.{ℕ, List, [], ◌∷◌, ℤ, flat_map, ◌<◌}
 use Rattle.sym_model.specs.Sum.{Among}
 use Rattle.sym_model.specs.Polynomial.{scale}
@@ -10,36 +10,34 @@ use Rattle.sym_model.specs.Reductions.{reduced_terms, reflected_terms}
 use Rattle.beta_list_laws.specs.ReductionLists.{reductions_of}
 use Rattle.sym_model.specs.ReductionSteps.{with_power}
 
--- each label replaced by its classical product in k variables with `next`, times its coefficient
+-- the product of `terms` and s_next in k variables: for each term c, λ, c times the classical product of λ and `next`
 abbrev pub multiplied : ℕ → List ℕ → WholeTerms → WholeTerms
 multiplied k next terms =
     flat_map (λ (t : List ℕ × ℤ). scale t.1 (classical_product k (t.0 ∷ next ∷ []))) terms
 
--- each label replaced by its classical product in k variables with `next`, times its coefficient, reflected into the
--- alcove of level n - k
+-- for each term c, λ of `terms`: c times the classical product of λ and `next` in k variables, reflected into the alcove of level n - k
 abbrev pub fused : ℕ → ℕ → List ℕ → WholeTerms → WholeTerms
 fused k n next terms =
     flat_map (λ (t : List ℕ × ℤ). scale t.1
     (reflected_terms k n (classical_product k (t.0 ∷ next ∷ [])))) terms
 
--- each label replaced by the list of terms that a function gives for it
+-- for each term c, λ of `terms`: c times the list of terms `products λ`
 abbrev pub products_of : (List ℕ → Terms (List ℕ)) → WholeTerms → WholeTerms
 products_of products terms =
     flat_map (λ (t : List ℕ × ℤ). scale t.1 (numerators (products t.0))) terms
 
--- the classical product of the factors in k variables with its labels reduced by rim hooks of n cells
+-- the classical product of the factors in k variables, with each of its labels reduced by rim hooks of n cells
 abbrev pub reduced_product : ℕ → ℕ → List (List ℕ) → WholeTermsOf (ℕ × List ℕ)
 reduced_product k n factors =
     reduced_terms (classical_product k factors) (reductions_of k n (classical_product k factors))
 
--- each label replaced by its product with `next` for k rows, reduced by rim hooks of n cells, times its coefficient,
--- with the powers of q added
+-- for each term c, (power, λ): c·q^power times the classical product of λ and `next` in k variables, reduced by rim hooks of n cells
 abbrev pub quantized : ℕ → ℕ → List ℕ → WholeTermsOf (ℕ × List ℕ) → WholeTermsOf (ℕ × List ℕ)
 quantized k n next terms =
     flat_map (λ (t : (ℕ × List ℕ) × ℤ). with_power t.0.0 t.1
     (reduced_product k n (t.0.1 ∷ next ∷ []))) terms
 
--- lists of terms with integer coefficients whose labels are a power of q and a partition
+-- lists of terms with integer coefficients; a label is a pair of a power of q and a partition
 abbrev pub PowerTerms : Type 0
 PowerTerms = WholeTermsOf (ℕ × List ℕ)
 

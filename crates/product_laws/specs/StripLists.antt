@@ -1,10 +1,10 @@
--- Lists of the partitions made by adding a strip or a rim hook to a partition.
+-- Lists of the partitions that are obtained from a partition by adding a horizontal strip, a vertical strip or a rim hook.
 use Rattle.std.specs.Prelude.{◌≡◌, ◌↔◌, ℕ, ◌+◌, List}
 use Rattle.sym_model.specs.Sum.{Among, Once}
 use Rattle.sym_model.specs.Partition.{IsPartition, size}
 use Rattle.sym_model.specs.Strip.{IsHorizontalStrip, IsVerticalStrip, IsRimHook}
 
--- the list has exactly the lists of numbers with the property, each once
+-- the list has exactly the lists of numbers with the property P, each once
 pub record ListsEach (P : List ℕ → Type 0) (list : List (List ℕ)) : Type 0 where
   pub once : Once list
   pub members : (ν : List ℕ) → Among ν list ↔ P ν

@@ -1,4 +1,4 @@
-//! Reducing the classical product after each factor.
+//! Products of several factors that are reduced after each factor, by rim hooks or into the alcove.
 
 ghost use Rattle.std.specs.Prelude.{◌↔◌, ℕ, ◌≤◌, List, length};
 ghost use Rattle.sym_model.specs.Polynomial.{Same, same};
@@ -10,12 +10,15 @@ ghost use Rattle.sym_model.specs.Reductions.{IsRimHookReduction, reflected_terms
 ghost use Rattle.sym_model.specs.Products.{classical_product};
 ghost use Rattle.sym_model.specs.Partition.{ArePartitions};
 
-/// A list is the product of two factors or more, reduced after each factor by rim hooks of n cells
-/// or by reflections into the alcove, if and only if its terms are collected (each label once, no
-/// coefficient 0) and it is the result of reducing the whole classical product once.
+/// Let two or more factors be given. A list of terms results from multiplying them one by one, with
+/// a reduction by rim hooks of n cells (or by reflections into the alcove) after each factor, if
+/// and only if two conditions hold: each label occurs in the list once, with a coefficient other
+/// than 0; and the list is a reduction of the product of all factors in k variables
+/// (`classical_product`).
+///
 /// Example: in two variables, with rim hooks of four cells, the product of (1) and (1) is (2) +
-/// (1,1), and its product with (1) is 2·(2,1) + (3); here (3) reduces to 0. The whole product, (3)
-/// + 2·(2,1), reduces to the same.
+/// (1,1), and multiplying this by (1) gives 2·(2,1) + (3); here (3) reduces to 0. The product of
+/// all three, (3) + 2·(2,1), reduces to the same list.
 pub fn reductions_in_steps_law()
     ensures rim_hooks { (k n : ℕ) (factors : List (List ℕ)) (terms : Terms (ℕ × List ℕ))
         → 1 ≤ n → 2 ≤ length factors → ArePartitions factors

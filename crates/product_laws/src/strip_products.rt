@@ -1,5 +1,5 @@
-//! Products of Schur polynomials, and of sums of them, with h_k, e_k and p_k,
-//! in every number of variables.
+//! The products of a Schur polynomial with h_k, e_k and p_k, in every number of variables: the
+//! rules of Pieri and of Murnaghan and Nakayama.
 
 ghost use Rattle.std.specs.Prelude.{ℕ, ◌-◌, ◌≤◌, List, flat_map};
 ghost use Rattle.sym_model.specs.Partition.{IsPartition};
@@ -12,9 +12,9 @@ ghost use Rattle.product_laws.specs.StripLists.{ListsEach, AddsHorizontalStrip, 
 ghost use Rattle.product_laws.specs.StripLists.{AddsRimHook};
 
 /// Pieri's rules, in every number n of variables: h_k·s_μ is the sum of the s_ν for which ν/μ is a
-/// horizontal strip of k cells, and e_k·s_μ that over the vertical strips, for any list that has
-/// exactly these ν, each once (Macdonald, I.5). A Schur polynomial with more rows than there are
-/// variables is 0.
+/// horizontal strip of k cells, and e_k·s_μ is the sum of the s_ν for which ν/μ is a vertical strip
+/// of k cells; each sum is over any list that has exactly these ν, each once (Macdonald, I.5). A
+/// Schur polynomial with more rows than there are variables is 0.
 ///
 /// Example: h_2·s_(1) = s_(3) + s_(2,1), and e_2·s_(1) = s_(2,1) + s_(1,1,1).
 pub fn pieri_law()
@@ -26,10 +26,10 @@ pub fn pieri_law()
         → Same (times (elementary_of k n) (schur parts n)) (flat_map (λ ν. schur ν n) list) }
 {}
 
-/// The rule of Murnaghan and Nakayama, in every number n of variables: for k at least 1, p_k·s_μ is
-/// the sum of (-1)^(height - 1)·s_ν over the ν for which ν/μ is a rim hook of k cells, for any list
-/// that has exactly these ν, each once (Macdonald, I.3; the height is the number of rows of the rim
-/// hook).
+/// The rule of Murnaghan and Nakayama, in every number n of variables: for k ≥ 1, p_k·s_μ is the
+/// sum of (-1)^(height - 1)·s_ν over the ν for which ν/μ is a rim hook of k cells; the sum is over
+/// any list that has exactly these ν, each once (Macdonald, I.3). The height is the number of rows
+/// of the rim hook.
 ///
 /// Example: p_2·s_(1) = s_(3) - s_(1,1,1).
 pub fn murnaghan_nakayama_law()

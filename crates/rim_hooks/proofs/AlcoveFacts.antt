@@ -1,9 +1,9 @@
--- The reduction into the alcove, computed by moving the entries of the beta list into a window of n numbers.
+-- The reduction into the alcove, as reflections.rt computes it: the entries of the beta list are moved by multiples of n into a window of n numbers.
 use Rattle.std.proofs.Common.{◌≡◌, ℕ, zero, suc, ◌+◌, ◌-◌, ◌*◌, ◌/◌, ◌%◌, ◌<◌, ◌≤◌, ◌||◌, inl, inr, Bool, true, false, cond, nat_le, List, [], ◌∷◌, map, length, get_or, set, drop, replicate, refl, sym, ◌∙◌, ap, ap₂, subst, arith, ℤ, Option, Some, None, Fits, w16}
 use Rattle.std.proofs.lemmas.Bool.{cases_lt}
 use Rattle.std.proofs.lemmas.Bool.Decides.{nat_tests}
-use Rattle.std.proofs.lemmas.List.{length-map}
-use Rattle.std.proofs.Math.Nat.{div-add-mod, div-le_self, mul-le-mul_left, mul-le-mul_right, mod-lt, mod-mod, mod-add-div', add-mul-mod_self_right}
+use Rattle.std.proofs.lemmas.List.{length-map, drop_all, drop_more}
+use Rattle.std.proofs.Math.Nat.{div-add-mod, div-le_self, mul-le-mul_left, mul-le-mul_right, mod-lt, mod-mod, mod-add-div', add-mul-mod_self_right, mul-add}
 use Rattle.std.proofs.Math.Bool.{or-true}
 use Rattle.sym_model.specs.Partition.{size, rows}
 use Rattle.sym_model.specs.Alternant.{staircase}
@@ -24,13 +24,13 @@ use Rattle.rim_hooks.specs.Sorting.{Sorts}
 use Rattle.rim_hooks.specs.Turns.{AreTurned}
 use Rattle.rim_hooks.specs.Signs.{sign_of}
 use Rattle.rim_hooks.specs.declared.sorted.Sorted.{Sorted}
-use Rattle.rim_hooks.proofs.LowestEntries.{drop_step, drop_end, drop_none, no_counts, count_more, count_found}
+use Rattle.rim_hooks.proofs.LowestEntries.{drop_none, no_counts, count_more, count_found}
 
--- ---- the remainders of the entries modulo n, counted
+-- ---- the loop that counts the remainders of the entries modulo n
 
 pub turned_start : (n : ℕ) (entries counts : List ℕ) (at : ℕ) → n ≤ 512 → at ≡ length entries → counts ≡ replicate 512 0 → AreTurned n counts (drop at entries) 0
 turned_start n entries counts at h l e =
-    let d : drop at entries ≡ [] = drop_end entries at (omega arith) in
+    let d : drop at entries ≡ [] = drop_all at entries (omega arith) in
     subst (λ b. AreTurned n counts b 0) (sym d) (record { differ = refl; counted = no_counts n counts h e; sum = omega arith; bound = omega arith })
 
 turned_more : (n : ℕ) (b counts : List ℕ) (x place turns : ℕ) → 1 ≤ n → n ≤ 512 → x < 65536 → place ≡ x % n → get_or counts place 0 ≡ 0 → AreTurned n counts b turns
@@ -55,7 +55,7 @@ pub turned_step : (n : ℕ) (entries counts : List ℕ) (at place turns : ℕ) �
     → place ≡ get_or entries (at - 1) 0 % n → get_or counts place 0 ≡ 0 → AreTurned n counts (drop at entries) turns
     → AreTurned n (set counts place (get_or counts place 0 + 1)) (drop (at - 1) entries) (turns + get_or entries (at - 1) 0 / n)
 turned_step n entries counts at place turns h m p l f e z w =
-    let d = drop_step entries (at - 1) at (omega arith) (omega arith) in
+    let d = drop_more entries (at - 1) 0 (omega arith) ∙ ap (λ k. get_or entries (at - 1) 0 ∷ drop k entries) (let next : (at - 1) + 1 ≡ at = omega arith in next) in
     subst (λ b. AreTurned n (set counts place (get_or counts place 0 + 1)) b (turns + get_or entries (at - 1) 0 / n)) (sym d)
     (turned_more n (drop at entries) counts (get_or entries (at - 1) 0) place turns h m f e z w)
 
@@ -70,7 +70,7 @@ pub turned_equal : (n : ℕ) (entries counts : List ℕ) (at place turns : ℕ) 
     → place ≡ get_or entries (at - 1) 0 % n → 0 < get_or counts place 0 → AreTurned n counts (drop at entries) turns → has_equal_entries (remainders n entries) ≡ true
 turned_equal n entries counts at place turns h p l e z w =
     let x = get_or entries (at - 1) 0 in
-    let d = drop_step entries (at - 1) at (omega arith) (omega arith) in
+    let d = drop_more entries (at - 1) 0 (omega arith) ∙ ap (λ k. get_or entries (at - 1) 0 ∷ drop k entries) (let next : (at - 1) + 1 ≡ at = omega arith in next) in
     let c = count_found n counts (drop at entries) x place h e w.counted in
     let here = has_alike n x (drop at entries) (omega arith) in
     equal_before n entries (at - 1)
@@ -92,7 +92,7 @@ turned_bound n entries counts at turns x l f w =
     dropped (x ∷ xs) zero = omega arith
     dropped (x ∷ xs) (suc i) = let r = dropped xs i in omega arith
 
--- ---- the window of n numbers into which the entries are moved by multiples of n
+-- ---- the window of n numbers into which the entries can be moved by multiples of n without changing their sum
 
 pub record Window (n : ℕ) (entries : List ℕ) (start left : ℕ) : Type 0 where
   pub sum : size (map (up n start) entries) + n * left ≡ size entries
@@ -121,10 +121,7 @@ window_once n entries counts turns start h w =
     omega arith
 
 split_left : (n left count : ℕ) → count ≤ left → n * left ≡ n * (left - count) + n * count
-split_left n left count h = let e : left ≡ left - count + count = omega arith in ap (λ m. n * m) e ∙ mul_dist n (left - count) count
-  where
-    mul_dist : (a b c : ℕ) → a * (b + c) ≡ a * b + a * c
-    mul_dist a b c = omega arith
+split_left n left count h = let e : left ≡ left - count + count = omega arith in ap (λ m. n * m) e ∙ mul-add n (left - count) count
 
 pub window_step : (n : ℕ) (entries counts : List ℕ) (turns start left : ℕ) → 1 ≤ n → 0 < left → AreTurned n counts entries turns → Window n entries start left
     → Window n entries (start + 1) (left - get_or counts (start % n) 0)
@@ -150,7 +147,7 @@ pub size_fits : (b : List ℕ) → ((i : ℕ) → Fits w16 (get_or b i 0)) → s
 size_fits [] f = omega arith
 size_fits (x ∷ b) f = let h = f 0 in let r = size_fits b (λ i. f (suc i)) in omega arith
 
--- ---- an entry moved into the window by multiples of n
+-- ---- one entry moved by a multiple of n into the window
 
 pub raised_low : (n start entry : ℕ) → 1 ≤ n → start - start % n + entry % n < start → up n start entry ≡ start - start % n + entry % n + n
 raised_low n start entry h l =
@@ -168,24 +165,24 @@ raised_high n start entry h l =
     let e : start - start % n + entry % n ≡ entry % n + start / n * n = omega arith in
     up_is n start entry (start - start % n + entry % n) h l (omega arith) (ap (λ v. v % n) e ∙ add-mul-mod_self_right (entry % n) (start / n) n ∙ mod-mod entry n)
 
--- ---- the moved entries in decreasing order
+-- ---- the moved entries, sorted into decreasing order
 
 pub raised_start : (n start : ℕ) (entries : List ℕ) (sorted : Sorted) (at : ℕ) → at ≡ length entries → Sorts sorted [] → Sorts sorted (map (up n start) (drop at entries))
 raised_start n start entries sorted at l s =
-    let d : drop at entries ≡ [] = drop_end entries at (omega arith) in
+    let d : drop at entries ≡ [] = drop_all at entries (omega arith) in
     subst (λ b. Sorts sorted (map (up n start) b)) (sym d) s
 
 pub raised_step : (n start : ℕ) (entries : List ℕ) (old new : Sorted) (at value : ℕ) → 0 < at → at ≤ length entries → value ≡ up n start (get_or entries (at - 1) 0)
     → ((list : List ℕ) → Sorts old list → Sorts new (value ∷ list)) → Sorts old (map (up n start) (drop at entries)) → Sorts new (map (up n start) (drop (at - 1) entries))
 raised_step n start entries old new at value p l e put s =
-    let d = drop_step entries (at - 1) at (omega arith) (omega arith) in
+    let d = drop_more entries (at - 1) 0 (omega arith) ∙ ap (λ k. get_or entries (at - 1) 0 ∷ drop k entries) (let next : (at - 1) + 1 ≡ at = omega arith in next) in
     subst (λ b. Sorts new (map (up n start) b)) (sym d)
     (subst (λ v. Sorts new (v ∷ map (up n start) (drop at entries))) e (put (map (up n start) (drop at entries)) s))
 
 pub raised_end : (n start : ℕ) (entries : List ℕ) (sorted : Sorted) (at : ℕ) → at ≡ 0 → Sorts sorted (map (up n start) (drop at entries)) → Sorts sorted (map (up n start) entries)
 raised_end n start entries sorted at e s = subst (λ b. Sorts sorted (map (up n start) b)) (drop_none entries at e) s
 
--- ---- the reduction of a partition into the alcove
+-- ---- the result: the reduction of a partition into the alcove
 
 pub entries_few : (k : ℕ) (shape b : List ℕ) → 1 ≤ k → k ≤ 512 → b ≡ beta k shape → (1 ≤ length b) × (length b ≤ 512)
 entries_few k shape b h l e = let d = ap length e in let m = length-beta k shape in (omega arith, omega arith)
@@ -199,8 +196,9 @@ pub alcove_equal : (k n : ℕ) (shape b : List ℕ) → 1 ≤ n → rows shape �
 alcove_equal k n shape b h r l e d =
     sym (alcove_is k n shape r ∙ ap as_partition (alcove_none n (beta k shape) h (beta_strict k shape l.partition.falls) (ap (λ c. has_equal_entries (remainders n c)) (sym e) ∙ d)))
 
--- the entries of the beta list b of `shape` differ modulo n, keep their sum when moved by multiples of n into the n numbers from `start`
--- on, and are then in decreasing order `numbers`; `odd` is the parity of sorting them
+-- the entries of b, the beta list of `shape`, have different remainders modulo n. If they are moved by multiples of n to the numbers start, .., start
+-- + n - 1, their sum does not change, and in decreasing order they are `numbers`; `odd` says whether an odd number of exchanges sorts the moved
+-- entries
 pub record HoldsWindow (k n start : ℕ) (shape b numbers : List ℕ) (odd : Bool) : Type 0 where
   pub entries : b ≡ beta k shape
   pub differ : has_equal_entries (remainders n b) ≡ false
@@ -282,8 +280,8 @@ alcove_some k n start shape b numbers end odd sign h r l w e s =
     ∙ ap (λ x. f x (sorting_sign (map (up n start) b))) (sym e)
     ∙ ap (f end) (sym (s ∙ w.turns)))
 
--- if the entries of the beta list b of `shape` differ modulo n, and keep their sum when moved by multiples of n into the n numbers from `start`
--- on, the partition `end` of the moved entries is the reduction of `shape` into the alcove, with the sign of sorting them
+-- if `HoldsWindow` holds, the partition `end` with the beta list `numbers` is the reduction of `shape` into the alcove, with the sign of sorting the
+-- moved entries
 pub alcove_told : (k n start : ℕ) (shape b numbers end : List ℕ) (odd : Bool) (sign : ℤ) → 1 ≤ n → IsWithinLimits shape → HoldsWindow k n start shape b numbers odd
     → end ≡ from_beta numbers → sign ≡ sign_of odd → IsAlcoveOf k n shape end sign
 alcove_told k n start shape b numbers end odd sign h l w e s =

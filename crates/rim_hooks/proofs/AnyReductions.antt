@@ -1,7 +1,7 @@
 -- Sums of reductions do not depend on the order in which rim hooks are removed.
---     any_reductions         a list of fractions that is the sum of some reductions of the classical product is the sum of any
---     any_whole_reductions   a list of integers that is the sum of some reductions is the sum of any
---     any_step_reductions    the reductions of the product with one more factor
+--     any_reductions         if a list of fractions is the sum of one list of reductions of the classical product, it is the sum of every such list
+--     any_whole_reductions   the same for a list of integers
+--     any_step_reductions    the same for the product of a list of terms and one more factor
 use Rattle.std.proofs.Common.{ℕ, ◌≤◌, List, sym, ◌∙◌, ap, subst}
 use Rattle.sym_model.specs.Expansion.{Terms}
 use Rattle.sym_model.specs.ReductionSteps.{IsQuantumStep, ReduceEach, reduced_each}
@@ -28,7 +28,7 @@ any_reductions k n factors terms reductions h a r label =
     (classical_only k n factors r.reductions h r.reduce
     ∙ sym (classical_only k n factors reductions h a))
 
--- if a list of integers is the sum of some reductions of the classical product, it is the sum of every list of reductions of that product
+-- if a list of integers is the sum of one list of reductions of the classical product, it is the sum of every list of reductions of that product
 pub any_whole_reductions : (k n : ℕ) (factors : List (List ℕ)) (terms : WholeTermsOf (ℕ × List ℕ))
     (reductions : List Reduction) → 1 ≤ n
     → AreReductions k n (classical_product k factors) reductions
@@ -39,7 +39,8 @@ any_whole_reductions k n factors terms reductions h a r =
     (reduced_terms (classical_product k factors) reductions)) (numerators-as_fractions terms)
     (any_reductions k n factors (as_fractions terms) reductions h a r)
 
--- if `next` is a quantum step from `terms` with the factor, it has the sums of any reductions of the products of the terms with the factor
+-- if a step of a quantum product with the given factor leads from `terms` to `next`, then `next` is the sum of `reductions`, for every list
+-- `reductions` of reductions of the products of the terms with this factor (`ReduceEach`)
 pub any_step_reductions : (k n : ℕ) (factor : List ℕ) (terms next : WholeTermsOf (ℕ × List ℕ))
     (reductions : List (List Reduction)) → 1 ≤ n
     → ReduceEach k n factor terms reductions → IsQuantumStep k n factor terms next

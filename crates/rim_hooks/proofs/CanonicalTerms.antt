@@ -1,4 +1,4 @@
--- The terms of a canonical list are collected: each label occurs once, with a coefficient other than 0.
+-- In a canonical list each label occurs once, with a coefficient other than 0 (`AreCollected`).
 use Rattle.std.proofs.Common.{◌≡◌, nat_abs, Bool, true, false, ◌&&◌, [], ◌∷◌, map, refl, ap, ◌∙◌}
 use Rattle.std.proofs.Common.{inl, inr, arith, ℤ}
 use Rattle.std.proofs.lemmas.Bool.{and_parts}
@@ -14,7 +14,7 @@ use Rattle.sym_model.proofs.Orders.{is_reduced-tells}
 use Rattle.printing_laws.proofs.LabelOrders.{label_order-total}
 
 module _ {L : Type 0} (test : L → L → Bool) (test_true : (a b : L) → test a b ≡ true → a ≡ b) where
-  -- if a label does not occur in the list, the test of equal labels is false for it and each label of the list
+  -- if `label` is not a label of the list, the test of equality of `label` with each label of the list is false
   apart : (label : L) (terms : Terms L) → (Among label (map (λ (t : L × Fraction). t.0) terms) → ⊥)
       → (u : L × ℤ) → Among u (numerators terms) → test label u.0 ≡ false
   apart label [] none u m = absurd m

@@ -1,6 +1,6 @@
 -- The classical product as a list of terms, and its weight.
---     classical_long_left, classical_long_right    the list of two factors is empty if one has more rows than there are variables
---     weight_within       a canonical list with the same coefficients has absolute values that add up to at most the weight
+--     classical_long_left, classical_long_right    the list for two factors is empty if one of them has more rows than there are variables
+--     weight_within       the absolute values of a canonical list with the coefficients of the product add up to at most the weight
 use Rattle.std.proofs.Common.{◌≡◌, ℕ, ◌<◌, ◌≤◌, cond, true, arith, nat_le, nat_lt, List, [], ◌∷◌, map, refl, ◌∙◌, ap, subst, ℤ, pos, filter}
 use Rattle.std.specs.Prelude.{nat_abs}
 use Rattle.std.proofs.lemmas.Bool.{and_parts}
@@ -41,7 +41,7 @@ once_canonical terms c =
 
 -- ---- the coefficients of the classical product
 
--- if f is 0 at each partition, the list of the terms (μ, f(μ)) without those with the coefficient 0 is empty
+-- if f is 0 at each list of numbers, the list of the terms f(μ)·μ for the μ in `shapes`, without those with the coefficient 0, is empty
 all_zero : (f : List ℕ → ℤ) → ((parts : List ℕ) → f parts ≡ pos 0) → (shapes : List (List ℕ)) → (let pairs : WholeTerms = map (λ (parts : List ℕ). (parts, f parts)) shapes in nonzero pairs) ≡ []
 all_zero f z [] = refl
 all_zero f z (parts ∷ shapes) =
@@ -49,7 +49,7 @@ all_zero f z (parts ∷ shapes) =
     let chosen : ℤ → WholeTerms = λ c. cond {A = WholeTerms} (nat_lt 0 (nat_abs c)) ((parts, f parts) ∷ nonzero rest) (nonzero rest) in
     ap chosen (z parts) ∙ all_zero f z shapes
 
--- if the polynomial f is 0, each of its Schur coefficients is 0
+-- if all coefficients of the polynomial f are 0, its Schur coefficients are 0
 none_of_nothing : (k : ℕ) (f : Poly) (parts : List ℕ) → Same f nothing → schur_coefficient k parts f ≡ pos 0
 none_of_nothing k f parts s =
     times_respects (alternant (staircase k)) (alternant (staircase k)) f nothing (Same_refl (alternant (staircase k))) s (join parts (staircase k))
@@ -74,7 +74,7 @@ classical_long_left k left right p h =
     classical_nothing k (left ∷ right ∷ [])
     (times_respects (schur left k) nothing (schur right k) (schur right k) (schur_few_variables k left p h) (Same_refl (schur right k)))
 
--- the mass of a list is the sum of the absolute values of its coefficients
+-- `mass` and `absolute_total` of a list of terms are equal: both are the sum of the absolute values of the coefficients
 pub mass_total : (terms : WholeTerms) → mass terms ≡ absolute_total terms
 mass_total [] = refl
 mass_total (t ∷ terms) = let e = mass_total terms in omega arith

@@ -1,5 +1,5 @@
--- The result of removing rim hooks, computed from the beta list with its entries lowered by multiples of n as far as
--- they stay different (the lowest list), and then sorted.
+-- The result of removing rim hooks, as removals.rt computes it: the entries of the beta list are lowered by multiples of n as far as they stay
+-- different (`lowest`), and then sorted.
 use Rattle.std.proofs.Common.{◌≡◌, ℕ, ◌+◌, ◌-◌, ◌*◌, ◌/◌, ◌<◌, ◌≤◌, Bool, true, false, List, length, refl, sym, ◌∙◌, ap, ap₂, subst, arith, ℤ, ◌*ℤ◌, Option, Some, None, to_z, of_z, w8}
 use Rattle.sym_model.specs.Partition.{size, rows, columns}
 use Rattle.sym_model.specs.PlaceOrders.{minus_one_to}
@@ -22,8 +22,8 @@ pub kept_sign : (b : Bool) → to_z w8 (of_z w8 (sign_of b)) ≡ sign_of b
 kept_sign true = refl
 kept_sign false = refl
 
--- the numbers are the entries of the beta list of `shape`, lowered by multiples of n as far as they stay different, in decreasing
--- order, and `odd` is the parity of sorting them
+-- `numbers` are the entries of the beta list of `shape`, lowered by multiples of n as far as they stay different (`lowest`), in decreasing order, and
+-- `odd` says whether an odd number of exchanges sorts them
 pub record Holds (k n : ℕ) (shape numbers : List ℕ) (odd : Bool) : Type 0 where
   pub numbers_are : numbers ≡ sorted_falling (lowest n (beta k shape))
   pub turns : sign_of odd ≡ sorting_sign (lowest n (beta k shape))

@@ -1,7 +1,7 @@
--- Steps from factor to factor, for any kind of step.
---     vanishes            if a factor has more than k rows, steps can lead to the empty list
---     factor_at           the factors from the place i on are the one at i, and those after it
---     lead_on, heavy_here, heavy_later    steps through all factors from one step and the steps after it
+-- Steps from factor to factor, for any kind of step: a relation between a factor, a list of terms and the next list of terms.
+--     vanishes            if a factor has more than k rows, the steps can lead to the empty list
+--     factor_at           the list of factors without the first i is the factor at the index i, followed by the list without the first i + 1
+--     lead_on, heavy_here, heavy_later    the steps through x ∷ rest: a step with x, followed by the steps through `rest`
 use Rattle.std.proofs.Common.{◌≡◌, ◌⊎◌, ℕ, ◌+◌, ◌^◌, ◌<◌, ◌≤◌, List, [], ◌∷◌, suc, drop, drop-cons, add-one, refl, sym, ◌∙◌, ap, subst, inl, inr, arith, Some}
 use Rattle.std.specs.Prelude.{slice_get}
 use Rattle.std.proofs.lemmas.Option.{slice_get_within, get_or_from_slice_get}
@@ -10,9 +10,9 @@ use Rattle.sym_model.specs.Sum.{Among}
 use Rattle.sym_model.specs.Partition.{IsPartition, rows, ArePartitions}
 use Rattle.sym_model.specs.WholeTerms.{WholeTermsOf}
 use Rattle.sym_model.specs.ReductionSteps.{StepsLead, step_weight}
-use Rattle.schur_laws.proofs.GoodTableaux.{drop_none}
 use Rattle.rim_hooks.specs.HeavySteps.{HasHeavyStep}
 use Rattle.product_laws.specs.FactorSteps.{HasLong}
+use Rattle.sym_model.proofs.Lists.{drop-none}
 
 module _ {L : Type 0} (step : List ℕ → WholeTermsOf L → WholeTermsOf L → Type 0) where
   module _ (k : ℕ) (none : (factor : List ℕ) → step factor [] [])
@@ -32,7 +32,7 @@ module _ {L : Type 0} (step : List ℕ → WholeTermsOf L → WholeTermsOf L →
         by (inr few) (inl e) r = let l = subst (λ parts. k < rows parts) e h.2 in absurd (omega arith)
         by (inr few) (inr m) r = ((some factor terms).0, (some factor terms).1, r m)
 
--- ---- the factors from the place i on
+-- ---- the list of factors from the index i on
 
 pub factor_at : (xs : List (List ℕ)) (i : ℕ) (x : List ℕ) → slice_get xs i ≡ Some x → drop i xs ≡ x ∷ drop (i + 1) xs
 factor_at xs i x e =
@@ -41,12 +41,12 @@ factor_at xs i x e =
     ∙ ap (λ j. x ∷ drop j xs) (sym (add-one i))
 
 pub first_two : (xs : List (List ℕ)) (x y : List ℕ) → slice_get xs 0 ≡ Some x → slice_get xs 1 ≡ Some y → xs ≡ x ∷ y ∷ drop 2 xs
-first_two xs x y e d = sym (drop_none xs) ∙ factor_at xs 0 x e ∙ ap (λ (l : List (List ℕ)). x ∷ l) (factor_at xs 1 y d)
+first_two xs x y e d = sym (drop-none xs) ∙ factor_at xs 0 x e ∙ ap (λ (l : List (List ℕ)). x ∷ l) (factor_at xs 1 y d)
 
 pub long_here : (k : ℕ) (x : List ℕ) (xs rest : List (List ℕ)) → xs ≡ x ∷ rest → k < rows x → HasLong k xs
 long_here k x xs rest e h = subst (HasLong k) (sym e) (x, inl refl, h)
 
--- ---- steps through x and then the factors `rest`: one step through x, followed by the steps through `rest`
+-- ---- the steps through x ∷ rest: a step with the factor x, followed by the steps through `rest`
 
 module _ {L : Type 0} (shape : L → List ℕ) (step : List ℕ → WholeTermsOf L → WholeTermsOf L → Type 0) where
   pub lead_on : (xs rest : List (List ℕ)) (x : List ℕ) (terms next last : WholeTermsOf L) → xs ≡ x ∷ rest → step x terms next → StepsLead step next rest last

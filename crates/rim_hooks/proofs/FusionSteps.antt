@@ -1,5 +1,5 @@
--- Fusion products in steps.
---     fusion_none          if one of at least two factors has more than k rows, steps lead to the empty list
+-- Fusion products that are reduced after each factor.
+--     fusion_none          if there are at least two factors, and one has more than k rows, the steps lead to the empty list
 use Rattle.std.proofs.Common.{◌≡◌, ◌⊎◌, ℕ, ◌<◌, ◌≤◌, List, [], ◌∷◌, ◌++◌, length, refl, sym, ◌∙◌, ap, subst, inl, inr, arith, pos}
 use Rattle.sym_model.specs.Sum.{Among}
 use Rattle.sym_model.specs.Polynomial.{coefficient, scale}
@@ -12,7 +12,7 @@ use Rattle.product_laws.proofs.FusionSteps.{fusion_step_some}
 use Rattle.rim_hooks.proofs.ClassicalLists.{classical_long_left, classical_long_right}
 use Rattle.rim_hooks.proofs.FactorSteps.{none_stays, vanishes}
 
--- ---- if one of at least two factors has more than k rows, steps lead to the empty list
+-- ---- products in which a factor has more than k rows: the steps lead to the empty list
 
 step_none : (k n : ℕ) (factor : List ℕ) → IsFusionStep k n factor [] []
 step_none k n factor = record { collected = tt; sums = λ label. refl }

@@ -1,8 +1,8 @@
--- The lowest list (each entry lowered by multiples of n as far as they stay different), computed from the last entry to
--- the first, with counts of remainders.
+-- The list `lowest` (each entry lowered by multiples of n as far as the entries stay different), computed from the last entry to the first with the
+-- counts of the remainders.
 use Rattle.std.proofs.Common.{◌≡◌, ℕ, zero, suc, ◌+◌, ◌-◌, ◌*◌, ◌%◌, ◌<◌, ◌≤◌, ◌⊎◌, inl, inr, List, [], ◌∷◌, length, get_or, set, drop, replicate, refl, sym, ◌∙◌, ap, subst, arith}
 use Rattle.std.proofs.lemmas.Bool.{cases_eq}
-use Rattle.std.proofs.lemmas.List.{get_or-set_same, get_or-set_other, get_or-replicate, length-set, length-replicate}
+use Rattle.std.proofs.lemmas.List.{get_or-set_same, get_or-set_other, get_or-replicate, length-set, length-replicate, drop_all, drop_more}
 use Rattle.std.proofs.Math.Nat.{mod-lt, mod-mod, mod-eq_of_lt}
 use Rattle.beta_list_laws.specs.StrictFall.{FallsStrictly}
 use Rattle.beta_list_laws.proofs.BetaLists.{strict_tail}
@@ -13,19 +13,7 @@ use Rattle.rim_hooks.specs.Counts.{Counts}
 use Rattle.rim_hooks.specs.Sorting.{Sorts}
 use Rattle.rim_hooks.specs.declared.sorted.Sorted.{Sorted}
 
--- ---- the entries of a list from a place on
-
-pub drop_step : (xs : List ℕ) (i j : ℕ) → j ≡ i + 1 → i < length xs → drop i xs ≡ get_or xs i 0 ∷ drop j xs
-drop_step [] i j e h = absurd (omega arith)
-drop_step (x ∷ xs) zero j e h = let d : suc zero ≡ j = omega arith in ap (λ k. x ∷ drop k (x ∷ xs)) d
-drop_step (x ∷ xs) (suc i) zero e h = absurd (omega arith)
-drop_step (x ∷ xs) (suc i) (suc j) e h = drop_step xs i j (omega arith) (omega arith)
-
-pub drop_end : (xs : List ℕ) (i : ℕ) → length xs ≤ i → drop i xs ≡ []
-drop_end [] zero h = refl
-drop_end [] (suc i) h = refl
-drop_end (x ∷ xs) zero h = absurd (omega arith)
-drop_end (x ∷ xs) (suc i) h = drop_end xs i (omega arith)
+-- ---- the entries of a list from an index on
 
 pub drop_none : (xs : List ℕ) (i : ℕ) → i ≡ 0 → drop i xs ≡ xs
 drop_none [] zero e = refl
@@ -38,7 +26,7 @@ drop_strict [] (suc i) f = tt
 drop_strict (x ∷ xs) zero f = f
 drop_strict (x ∷ xs) (suc i) f = drop_strict xs i (strict_tail x xs f)
 
--- ---- the counts of entries by remainder
+-- ---- the number of entries for each remainder modulo n
 
 pub no_counts : (n : ℕ) (table : List ℕ) → n ≤ 512 → table ≡ replicate 512 0 → Counts n table []
 no_counts n table h e = record {
@@ -68,13 +56,13 @@ count_more n table b x at h m e c = record {
         ∙ c.counts r l
         ∙ sym (alike-past n r x b (λ g. d (sym (mod-eq_of_lt l) ∙ sym g ∙ sym e)))
 
--- the table has, at the remainder `at` of x modulo n, the number of entries of b with this remainder
+-- if `table` has the counts of the list b, its number at the index x % n is the number of entries of b with the same remainder modulo n as x
 pub count_found : (n : ℕ) (table b : List ℕ) (x at : ℕ) → 1 ≤ n → at ≡ x % n → Counts n table b → get_or table at 0 ≡ alike n x b
 count_found n table b x at h e c =
     let k = mod-lt x h in
     c.counts at (omega arith) ∙ alike-remainder n at x b (ap (λ v. v % n) e ∙ mod-mod x n)
 
--- ---- the loop that lowers each entry
+-- ---- the loop of `lowest_entries`, which lowers one entry after another
 
 pub record Lowered (n : ℕ) (entries counts : List ℕ) (sorted : Sorted) (at : ℕ) : Type 0 where
   pub sorts : Sorts sorted (lowest n (drop at entries))
@@ -82,7 +70,7 @@ pub record Lowered (n : ℕ) (entries counts : List ℕ) (sorted : Sorted) (at :
 
 pub lowered_start : (n : ℕ) (entries counts : List ℕ) (sorted : Sorted) (at : ℕ) → n ≤ 512 → at ≡ length entries → counts ≡ replicate 512 0 → Sorts sorted [] → Lowered n entries counts sorted at
 lowered_start n entries counts sorted at h l e s =
-    let d : drop at entries ≡ [] = drop_end entries at (omega arith) in
+    let d : drop at entries ≡ [] = drop_all at entries (omega arith) in
     record {
       sorts = subst (λ b. Sorts sorted (lowest n b)) (sym d) s;
       counted = subst (Counts n counts) (sym d) (no_counts n counts h e);
@@ -93,7 +81,7 @@ pub lowered_value : (n : ℕ) (entries counts : List ℕ) (sorted : Sorted) (at 
     → get_or entries (at - 1) 0 % n + get_or counts place 0 * n ≤ get_or entries (at - 1) 0
 lowered_value n entries counts sorted at place h p l f e w =
     let x = get_or entries (at - 1) 0 in
-    let d = drop_step entries (at - 1) at (omega arith) (omega arith) in
+    let d = drop_more entries (at - 1) 0 (omega arith) ∙ ap (λ k. get_or entries (at - 1) 0 ∷ drop k entries) (let next : (at - 1) + 1 ≡ at = omega arith in next) in
     let strict = subst FallsStrictly d (drop_strict entries (at - 1) f) in
     let c = ap (λ a. a * n) (count_found n counts (drop at entries) x place h e w.counted) in
     let k = lowered_below n x (drop at entries) strict in
@@ -106,7 +94,7 @@ pub lowered_step : (n : ℕ) (entries counts : List ℕ) (old new : Sorted) (at 
 lowered_step n entries counts old new at place h m p l e put w =
     let x = get_or entries (at - 1) 0 in
     let b = drop at entries in
-    let d = drop_step entries (at - 1) at (omega arith) (omega arith) in
+    let d = drop_more entries (at - 1) 0 (omega arith) ∙ ap (λ k. get_or entries (at - 1) 0 ∷ drop k entries) (let next : (at - 1) + 1 ≡ at = omega arith in next) in
     let c = ap (λ a. x % n + a * n) (count_found n counts b x place h e w.counted) in
     record {
       sorts = subst (λ b. Sorts new (lowest n b)) (sym d) (subst (λ v. Sorts new (v ∷ lowest n b)) c (put (lowest n b) w.sorts));

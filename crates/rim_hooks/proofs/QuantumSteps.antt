@@ -1,5 +1,5 @@
--- Quantum products in steps.
---     quantum_none         if one of at least two factors has more than k rows, steps lead to the empty list
+-- Quantum products that are reduced after each factor.
+--     quantum_none         if there are at least two factors, and one has more than k rows, the steps lead to the empty list
 use Rattle.std.proofs.Common.{◌≡◌, ◌⊎◌, ℕ, ◌<◌, ◌≤◌, List, [], ◌∷◌, ◌++◌, length, refl, sym, ◌∙◌, ap, subst, inl, inr, arith, pos}
 use Rattle.sym_model.specs.Sum.{Among}
 use Rattle.sym_model.specs.Partition.{IsPartition, rows, ArePartitions}
@@ -12,7 +12,7 @@ use Rattle.product_laws.proofs.QuantumSteps.{quantum_step_made, quantum_step_som
 use Rattle.rim_hooks.proofs.ClassicalLists.{classical_long_left, classical_long_right}
 use Rattle.rim_hooks.proofs.FactorSteps.{none_stays, vanishes}
 
--- ---- steps from the empty list
+-- ---- products in which a factor has more than k rows: the steps lead to the empty list
 
 step_none : (k n : ℕ) → 1 ≤ n → (factor : List ℕ) → IsQuantumStep k n factor [] []
 step_none k n h factor = quantum_step_made k n factor [] [] h tt (λ label. refl)

@@ -1,9 +1,9 @@
 -- Products that are reduced after each factor, for any reduction.
---     mass_multiplied     the mass of the next list is at most the weight of the step
---     gains_classical     a list with the coefficients of the classical product may be replaced by it
---     overflow_taken, overflow_list    overflows in the product of a label and a factor
---     heavy_step          a step with an overflow has a weight of 2^127 or more
---     room_next           the labels of the next list have room for the cells of the further factors
+--     mass_multiplied     the absolute values of the coefficients of the next list add up to at most the weight of the step
+--     gains_classical     the list of a classical product may be replaced by any list with the same coefficients
+--     overflow_taken, overflow_list    overflows when the reduced product of a label and a factor is added
+--     heavy_step          if a step has an overflow, it has a weight of 2^127 or more
+--     room_next           the labels of the next list have room for the cells of the factors that remain
 use Rattle.std.proofs.Common.{◌≡◌, ℕ, zero, suc, ◌+◌, ◌*◌, ◌^◌, ◌≤◌, Bool, true, cond, List, [], ◌∷◌, ◌++◌, append-nil, length, map, refl, sym, ◌∙◌, ap, subst, inl, inr, arith, ℤ, pos, ◌*ℤ◌, Some}
 use Rattle.std.specs.Prelude.{nat_abs, slice_get}
 use Rattle.std.specs.Cmp.{IsEquivalence}
@@ -25,7 +25,6 @@ use Rattle.product_laws.proofs.Growing.{label_size}
 use Rattle.product_laws.proofs.LeadingSteps.{last_changed}
 use Rattle.linear_combinations.specs.Entries.{IsCombination, IsCanonicalList, is_ordered, are_terms}
 use Rattle.linear_combinations.specs.Gains.{WholeTermsOf, HaveLabels, Gains, Overflows, over, mass, replaced, scaled}
-use Rattle.linear_combinations.proofs.Found.{sums_same}
 use Rattle.linear_combinations.proofs.Gains.{gains_as, overflows_alone, overflows_both, replaced_append, replaced_over, scaled_append, scaled_over}
 use Rattle.linear_combinations.proofs.Masses.{labels_gained, labels_replaced, mass_append, mass_replaced, mass_scaled, overflow_mass}
 use Rattle.linear_combinations.proofs.Totals.{term-among}
@@ -33,15 +32,16 @@ use Rattle.rim_hooks.specs.FactorRows.{AreFew}
 use Rattle.rim_hooks.specs.Reductions.{products, multiplied, HaveRoom, OverflowsWithin}
 use Rattle.rim_hooks.proofs.ClassicalLists.{mass_total}
 use native.Mathlib.Nat.{mul-le-mul_left}
+use Rattle.sym_model.proofs.Polynomials.{pair_determined}
 
--- no coefficient of a table is 0
+-- each term of a table has a coefficient other than 0
 pub counted : {L : Type 0} (eq : L → L → Bool) (is_label : L → Bool) (terms : WholeTermsOf L) → IsCombination eq is_label whole terms → (t : L × ℤ) → Among t terms → 1 ≤ nat_abs t.1
 counted eq is_label terms c t m =
     let r = is_reduced-tells (whole t.1) (and_parts (is_reduced (whole t.1)) _ (term-among is_label whole terms c.proper t m)).0 in
     let n = r.nonzero in
     omega arith
 
--- the weight of a list of two pieces is the sum of the weights of the pieces
+-- the weight of the step from the list xs ++ ys is the weight of that from xs plus that from ys
 pub weight-append : {L : Type 0} (shape : L → List ℕ) (k : ℕ) (factor : List ℕ) (xs ys : WholeTermsOf L)
     → step_weight shape k factor (xs ++ ys) ≡ step_weight shape k factor xs + step_weight shape k factor ys
 weight-append shape k factor [] ys = omega arith
@@ -66,8 +66,9 @@ module _ {L : Type 0} (k : ℕ) (shape : L → List ℕ) (reduced : L → List �
       let d = mass_multiplied factor terms in
       omega arith
 
-  -- if adding c times the reductions of a list overflows, and the absolute values of its coefficients add up to at most w, adding some list
-  -- of which they add up to at most |c|·w overflows
+  -- if the absolute values of the coefficients of `list` add up to at most w, and adding c times the reductions of `list` to `old` overflows, then
+  -- `OverflowsWithin` holds for `old` and |c|·w: there is a list for which the absolute values of the coefficients add up to at most |c|·w, and which
+  -- overflows when it is added to `old`
   pub overflow_list : (eq : L → L → Bool) (old : WholeTermsOf L) (l : L) (c : ℤ) (list : WholeTerms) (w : ℕ) → mass list ≤ w
       → Overflows eq old (scaled c (replaced (reduced l) list)) → OverflowsWithin eq old (nat_abs c * w)
   overflow_list eq old l c list w h o =
@@ -76,8 +77,8 @@ module _ {L : Type 0} (k : ℕ) (shape : L → List ℕ) (reduced : L → List �
       let d = mul-le-mul_left (nat_abs c) b in
       (scaled c (replaced (reduced l) list), omega arith, o)
 
-  -- if a list has the coefficients of the classical product of a label and a factor, adding c times the reductions of its terms adds c times
-  -- those of the product
+  -- if `list` has the coefficients of the classical product of the shape of l and the factor, adding c times the reductions of `list` is the same as
+  -- adding c times the reduced product of l and the factor
   pub gains_classical : (old new : WholeTermsOf L) (l : L) (c : ℤ) (factor : List ℕ) (list : WholeTerms) → Same list (classical_product k (shape l ∷ factor ∷ []))
       → Gains old (scaled c (replaced (reduced l) list)) new → Gains old (scaled c (products k shape reduced factor l)) new
   gains_classical old new l c factor list s =
@@ -85,10 +86,11 @@ module _ {L : Type 0} (k : ℕ) (shape : L → List ℕ) (reduced : L → List �
       gains_as old (scaled c (replaced (reduced l) list)) (scaled c (products k shape reduced factor l)) new
       (λ φ.
       scaled_over c φ (replaced (reduced l) list)
-      ∙ ap (λ z. c *ℤ z) (replaced_over (reduced l) φ list ∙ sums_same list product s (λ μ. over φ (reduced l μ)) ∙ sym (replaced_over (reduced l) φ product))
+      ∙ ap (λ z. c *ℤ z) (replaced_over (reduced l) φ list ∙ pair_determined list product (λ μ. over φ (reduced l μ)) s ∙ sym (replaced_over (reduced l) φ product))
       ∙ sym (scaled_over c φ (products k shape reduced factor l)))
 
-  -- if adding the reduced product of the term p to those of the terms before it overflows, the step has a weight of 2^127 or more
+  -- let `cur` be the sum of the reduced products of the terms before p with the factor: if `OverflowsWithin` holds for `cur` and |coefficient of p|
+  -- times the classical weight of p and the factor, the step has a weight of 2^127 or more
   pub heavy_step : (eq : L → L → Bool) (factor : List ℕ) (done : WholeTermsOf L) (p : L × ℤ) (rest terms cur : WholeTermsOf L) → done ++ p ∷ rest ≡ terms
       → Gains [] (multiplied k shape reduced factor done) cur → OverflowsWithin eq cur (nat_abs p.1 * classical_weight k (shape p.0 ∷ factor ∷ []))
       → 2 ^ 127 ≤ step_weight shape k factor terms
@@ -101,7 +103,9 @@ module _ {L : Type 0} (k : ℕ) (shape : L → List ℕ) (reduced : L → List �
       let m = o.1 in
       omega arith
 
-  -- if cells(l) + |factor| + more ≤ 4096, each label m of the reduced product of l and the factor has at most k rows and cells(m) + more ≤ 4096
+  -- suppose that, for each label l and each partition μ with at most k rows, each label m of the list `reduced l μ` has at most k rows and cells(m) +
+  -- |shape l| ≤ cells(l) + |μ|. If cells(l) + |factor| + more ≤ 4096, then each label m of the reduced product of l and the factor has at most k rows
+  -- and cells(m) + more ≤ 4096
   module _ (cells : L → ℕ)
       (room : (l : L) (μ : List ℕ) → IsPartition μ → rows μ ≤ k → HaveLabels (λ m. (rows (shape m) ≤ k) × (cells m + size (shape l) ≤ cells l + size μ)) (reduced l μ)) where
     fits : (factor : List ℕ) (more : ℕ) (l : L) → cells l + (size factor + more) ≤ 4096 → HaveLabels (λ m. (rows (shape m) ≤ k) × (cells m + more ≤ 4096)) (products k shape reduced factor l)
@@ -127,27 +131,27 @@ module _ {L : Type 0} (k : ℕ) (shape : L → List ℕ) (reduced : L → List �
           (labels_replaced (products k shape reduced factor) (λ m. (rows (shape m) ≤ k) × (cells m + more ≤ 4096)) terms (λ t n. let r = h t n in fits factor more t.0 r.1))
           gains is
 
--- if w ≥ 2^127 and a ≥ 1, adding some list whose absolute values add up to at most a·w overflows
+-- if w ≥ 2^127 and a ≥ 1, there is a list of terms for which the absolute values of the coefficients add up to at most a·w, and which overflows when
+-- it is added to `old` (`OverflowsWithin`)
 pub overflow_taken : {L : Type 0} {eq : L → L → Bool} (laws : IsEquivalence eq) (same : (x y : L) → eq x y ≡ true → x ≡ y) (old : WholeTermsOf L) (l : L) (a w : ℕ)
     → 1 ≤ a → 2 ^ 127 ≤ w → OverflowsWithin eq old (a * w)
 overflow_taken laws same old l a w some large =
     let p : w * 1 ≤ w * a = mul-le-mul_left w some in
     ((l, pos (2 ^ 127)) ∷ [], omega arith, overflows_alone laws same old l (pos (2 ^ 127)) (omega arith))
 
--- if |c| is at least 2^127, adding c at a label overflows
+-- if |c| ≥ 2^127, adding the term c·l to `old` overflows
 pub overflow_one : {L : Type 0} (eq : L → L → Bool) (old : WholeTermsOf L) (l : L) (c : ℤ) → eq l l ≡ true → 2 ^ 127 ≤ nat_abs c → Overflows eq old ((l, c) ∷ [])
 overflow_one eq old l c e large = let h = ap (λ b. cond b (nat_abs c) 0) e in (l, omega arith)
 
--- ---- images of lists of terms, one term after another
+-- ---- lists of terms with each label replaced by its image
 
 pub reductions_append : {K L : Type 0} (c : ℤ) (image : K → WholeTermsOf L) (xs ys : WholeTermsOf K) → scaled c (replaced image (xs ++ ys)) ≡ scaled c (replaced image xs) ++ scaled c (replaced image ys)
 reductions_append c image xs ys = ap (scaled c) (replaced_append image xs ys) ∙ scaled_append c (replaced image xs) (replaced image ys)
 
--- if all labels of a list, read as fractions, have at most k rows, so have the labels of the list of integers
+-- if the labels of a list, with its coefficients read as fractions, have at most k rows, so have the labels of the list itself
 pub rows_listed : (k : ℕ) (list : WholeTerms) → ((t : List ℕ × Fraction) → Among t (as_fractions list) → rows t.0 ≤ k) → HaveLabels (λ μ. rows μ ≤ k) list
 rows_listed k list h t m = h (t.0, (t.1, 1)) (Among-map (λ (u : List ℕ × ℤ). let term : List ℕ × Fraction = (u.0, (u.1, 1)) in term) t list m)
 
--- if P holds of k and x, and k = m and x = y, it holds of m and y
 pub seen : (P : ℕ → List ℕ → Type 0) (k m : ℕ) (x y : List ℕ) → k ≡ m → x ≡ y → P k x → P m y
 seen P k m x y e d h = subst (λ z. P m z) d (subst (λ n. P n x) e h)
 
@@ -156,9 +160,10 @@ few_at k [] at x e f = cc
 few_at k (y ∷ factors) zero x e f = let same : y ≡ x = cc in subst (λ z. rows z ≤ k) same (f y (inl refl))
 few_at k (y ∷ factors) (suc at) x e f = few_at k factors at x e (λ parts m. f parts (inr m))
 
--- ---- the step from the first factor to the product of two
+-- ---- the step from the first factor to the product of the first two
 
--- the step with the factor `second` from the list of l, with the coefficient 1, gives the reduced product of l and `second`
+-- the step with the factor `second` from the list that has only the term l, with the coefficient 1: the result of the step is the reduced product of
+-- l and `second`, and if the step overflows, its weight is 2^127 or more
 module _ {L : Type 0} (k : ℕ) (shape : L → List ℕ) (reduced : L → List ℕ → WholeTermsOf L) (l : L) (second : List ℕ) (one : ℤ) (is : one ≡ pos 1) where
   pub gains_first : (new : WholeTermsOf L) → Gains [] (scaled one (products k shape reduced second l)) new → Gains [] (multiplied k shape reduced second ((l, pos 1) ∷ [])) new
   gains_first new a = subst (λ z. Gains [] z new) (ap (λ z. scaled z (products k shape reduced second l)) is ∙ sym (append-nil (scaled (pos 1) (products k shape reduced second l)))) a
@@ -170,14 +175,15 @@ module _ {L : Type 0} (k : ℕ) (shape : L → List ℕ) (reduced : L → List �
       let b : nat_abs one * classical_weight k (shape l ∷ second ∷ []) ≡ 1 * classical_weight k (shape l ∷ second ∷ []) = ap (λ z. nat_abs z * classical_weight k (shape l ∷ second ∷ [])) is in
       omega arith
 
--- if each step to `last` is also one to `other`, and steps through at least two factors lead to `last`, they also lead to `other`
+-- if there are at least two factors, the steps through them lead to `last`, and each step to `last` is also a step to `other`, then the steps through
+-- the factors also lead to `other`
 pub leads_sorted : {L : Type 0} (step : List ℕ → WholeTermsOf L → WholeTermsOf L → Type 0) (start : List ℕ → L) (factors : List (List ℕ)) (last other : WholeTermsOf L) → 2 ≤ length factors
     → ((factor : List ℕ) (terms : WholeTermsOf L) → step factor terms last → step factor terms other) → LeadsTo step start factors last → LeadsTo step start factors other
 leads_sorted step start [] last other l e s = absurd (omega arith)
 leads_sorted step start (first ∷ []) last other l e s = absurd (omega arith)
 leads_sorted step start (first ∷ second ∷ factors) last other l e s = last_changed step last other e factors second ((start first, pos 1) ∷ []) s
 
--- a label of a canonical list has at most 4096 cells
+-- each label of a canonical list is a partition of size at most 4096
 pub label_small : (terms : WholeTerms) → IsCanonicalList printed_order is_label whole terms → (t : List ℕ × ℤ) → Among t terms → size t.0 ≤ 4096
 label_small terms c t m =
     (is_label-tells t.0 (and_parts (is_reduced (whole t.1)) (is_label t.0) (term-among is_label whole terms (and_parts (is_ordered printed_order terms) (are_terms whole is_label terms) c).1 t m)).1).size

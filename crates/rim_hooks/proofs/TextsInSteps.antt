@@ -1,5 +1,4 @@
--- Texts that read back as a quantum or a fusion product, and as one that is reduced after each
--- factor.
+-- A text reads back as a quantum or a fusion product if and only if it reads back as a list that results from reducing after each factor.
 use Rattle.std.proofs.Common.{◌≡◌, ℕ, ◌+◌, ◌≤◌, List, length, Some, arith}
 use Rattle.sym_model.specs.Polynomial.{same}
 use Rattle.sym_model.specs.Expansion.{Terms}

@@ -1,4 +1,4 @@
--- The rows of the factors of a reduced product.
+-- The number of rows of the factors of a product.
 use Rattle.std.specs.Prelude.{ℕ, ◌≤◌, List}
 use Rattle.sym_model.specs.Sum.{Among}
 use Rattle.sym_model.specs.Partition.{rows}

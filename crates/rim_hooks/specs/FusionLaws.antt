@@ -1,4 +1,4 @@
--- Lemmas that the implementation of `Reduction` by reflections into the alcove cites.
+-- Lemmas used by the implementation of the trait `Reduction` for reflections into the alcove.
 use Rattle.std.proofs.Common.{◌≡◌, ℕ, ◌+◌, ◌<◌, ◌≤◌, Bool, true, cond, nat_le, nat_eq, List, []}
 use Rattle.std.proofs.Common.{◌∷◌, ◌++◌, length, refl, sym, ◌∙◌, ap, ap₂, subst, inl, inr, arith, ℤ}
 use Rattle.std.proofs.Common.{pos, ◌*ℤ◌, Option, Some, None}
@@ -25,12 +25,12 @@ use Rattle.sparse_polys.proofs.Accumulating.{at_same}
 use Rattle.linear_combinations.specs.Entries.{IsCombination}
 use Rattle.linear_combinations.specs.Gains.{over, mass, scaled, replaced, HaveLabels, Gains}
 use Rattle.linear_combinations.specs.Labels.{same_partition}
-use Rattle.linear_combinations.proofs.Found.{same_sums}
 use Rattle.rim_hooks.specs.Collected.{IsSign}
 use Rattle.rim_hooks.specs.ReducedLists.{at_shape, reduced_shape}
 use Rattle.rim_hooks.specs.Reductions.{multiplied}
 use Rattle.rim_hooks.specs.SignLaws.{answer_sign, alcove_is, sign_light}
 use Rattle.rim_hooks.specs.StepLaws.{collected_table, sums_gained}
+use Rattle.sym_model.proofs.Polynomials.{same_from_pair}
 
 pub start_shape : (first : List ℕ) → (first ≡ first) × (size first ≡ size first)
 start_shape first = (refl, refl)
@@ -45,12 +45,12 @@ shape_light k n label μ = by (alcove_reduction k n μ) (alcove_is k n μ)
     by None s = omega arith
     by (Some r) s = let l = sign_light r.1 s in omega arith
 
--- ---- shapes with at most k rows and a bounded size
+-- ---- partitions with at most k rows and at most a given number of cells
 
 abbrev pub ShapeFits : ℕ → ℕ → List ℕ → Type 0
 ShapeFits k most shape = (rows shape ≤ k) × (size shape ≤ most)
 
--- the partition at the end of the reflections, if there is one, has at most k rows and at most `most` cells
+-- if the reduction is not None, its partition has at most k rows and at most `most` cells
 abbrev pub EndFits : ℕ → ℕ → Option (List ℕ × ℤ) → Type 0
 EndFits k most None = Unit {0}
 EndFits k most (Some end) = ShapeFits k most end.0
@@ -123,12 +123,12 @@ shape_made k n factor terms next rule is gains = record {
   collected =
       collected_table (pointwise nat_eq) same same_partition at_same same_true same_refl is_label
       next is;
-  sums = same_sums next (fused k n factor terms)
-      (λ φ. sums_gained (multiplied k (λ shape. shape) (reduced_shape k n) factor terms) next gains
+  sums = same_from_pair next (fused k n factor terms) (λ φ. sums_gained (multiplied k (λ shape. shape) (reduced_shape k n) factor terms) next gains
       φ ∙ ap (λ l. over φ l) (multiplied_fused k n factor terms));
 }
 
--- if `next` is a step from `terms`, so is every other table with the same sums
+-- if `next` is a step of a fusion product from `terms` with the factor, each table `other` that has, for every φ, the same sum of coefficient times
+-- φ(label) as `next` is also such a step
 pub shape_other : (k n : ℕ) (factor : List ℕ) (terms next other : WholeTerms)
     → IsCombination (pointwise nat_eq) is_label whole other
     → ((φ : List ℕ → ℤ) → over φ other ≡ over φ next) → IsFusionStep k n factor terms next
@@ -137,5 +137,5 @@ shape_other k n factor terms next other is e s = record {
   collected =
       collected_table (pointwise nat_eq) same same_partition at_same same_true same_refl is_label
       other is;
-  sums = λ label. same_sums other next e label ∙ s.sums label;
+  sums = λ label. same_from_pair other next e label ∙ s.sums label;
 }

@@ -1,10 +1,10 @@
--- Steps of a weight of 2^127 or more.
+-- Products of several factors that are reduced after each factor: some step has a weight of 2^127 or more.
 use Rattle.std.specs.Prelude.{ℕ, List}
 use Rattle.sym_model.specs.PastLimit.{HasHeavy}
 use Rattle.sym_model.specs.ReductionSteps.{IsStepWeight}
 use Rattle.sym_model.specs.WholeTerms.{WholeTermsOf}
 
--- one of the steps from the terms through the factors has a weight of 2^127 or more
+-- the terms are multiplied by the factors one after another, each product being reduced (`step`): the weight of one of these steps is 2^127 or more
 abbrev pub HasHeavyStep : {Label : Type 0}
     → (Label → List ℕ)
     → (List ℕ → WholeTermsOf Label → WholeTermsOf Label → Type 0)

@@ -1,4 +1,4 @@
--- Lemmas that the implementation of `Reduction` by rim hooks cites.
+-- Lemmas used by the implementation of the trait `Reduction` for rim hooks.
 use Rattle.std.proofs.Common.{◌≡◌, ℕ, ◌+◌, ◌*◌, ◌<◌, ◌≤◌, true, ◌&&◌, nat_eq, List, [], ◌∷◌, ◌++◌}
 use Rattle.std.proofs.Common.{refl, sym, ◌∙◌, ap, ap₂, subst, inl, inr, arith, ℤ, pos, ◌*ℤ◌, Some}
 use Rattle.std.proofs.Common.{None}
@@ -44,7 +44,7 @@ power_light k n label μ = by (reduction_by_remainders k n μ) (core_is k n μ)
     by None s = omega arith
     by (Some r) s = let l = sign_light r.1 s in omega arith
 
--- ---- the power of q and the cells of a reduced label are at most the cells of the product
+-- ---- the power of q plus the number of cells of a reduced label is at most the number of cells of the partition that is reduced
 
 power_cells : (k n cells : ℕ) (end : List ℕ) (power : ℕ) → 1 ≤ n → cells ≡ size end + power * n
     → power + size end ≤ cells
@@ -74,7 +74,7 @@ power_room k n label μ rule p few =
         (goes_rows k n μ r.0 r.1 r.2 g.0, omega arith)
     by (Some r) g t (inr m) = absurd m
 
--- ---- one step of a quantum product
+-- ---- a step of a quantum product: one more factor, and the reduction of the product
 
 products_raised : (k n : ℕ) (c : ℤ) (label : ℕ × List ℕ) (xs : WholeTerms)
     → scaled c (replaced (reduced_power k n label) xs)
@@ -114,7 +114,8 @@ power_made k n factor terms next rule is gains =
     (λ φ. sums_gained (multiplied k shape_of (reduced_power k n) factor terms) next gains φ
     ∙ ap (λ l. over φ l) (multiplied_quantized k n factor terms)))
 
--- if `next` is a step from `terms`, so is every other table with the same sums
+-- if `next` is a step of a quantum product from `terms` with the factor, each table `other` that has, for every φ, the same sum of coefficient times
+-- φ(label) as `next` is also such a step
 pub power_other : (k n : ℕ) (factor : List ℕ) (terms next other : PowerTerms)
     → IsCombination (λ a b. nat_eq a.0 b.0 && pointwise nat_eq a.1 b.1) is_power_label whole other
     → ((φ : ℕ × List ℕ → ℤ) → over φ other ≡ over φ next) → IsQuantumStep k n factor terms next

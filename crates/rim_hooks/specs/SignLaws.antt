@@ -1,4 +1,4 @@
--- The signs of reductions are 1 or -1, so a reduction increases no absolute value.
+-- The signs of reductions are 1 or -1, so reducing a list does not increase the sum of the absolute values of its coefficients.
 use Rattle.std.proofs.Common.{◌≡◌, ℕ, ◌+◌, ◌*◌, ◌≤◌, ◌==◌, ◌||◌, zero, suc, inl, inr, Bool, true}
 use Rattle.std.proofs.Common.{false, cond, nat_le, nat_lt, List, refl, sym, ap, ap₂, ◌∙◌, subst}
 use Rattle.std.proofs.Common.{arith, ℤ, pos, negsuc, neg_ℤ, ◌*ℤ◌, Option, Some, None}

@@ -1,5 +1,5 @@
--- Tables of integers as the lists of a step: each label occurs once, with a coefficient other than 0, and sums
--- determine the coefficients.
+-- The results of steps are lists in which each label occurs once, with a coefficient other than 0. The coefficients of a list are determined by its
+-- sums of coefficient times φ(label), for all functions φ.
 use Rattle.std.proofs.Common.{◌≡◌, Bool, true, false, cond, ◌&&◌, [], ◌∷◌, sym, ◌∙◌, ap, ℤ, pos}
 use Rattle.std.proofs.Common.{◌*ℤ◌, subst, inl, inr, arith}
 use Rattle.std.specs.List.{IsDistinct, AllByRecursion}
@@ -13,12 +13,11 @@ use Rattle.sym_model.specs.Sum.{Among}
 use Rattle.sym_model.specs.WholeTerms.{WholeTermsOf, coefficient_by}
 use Rattle.sym_model.specs.ReductionSteps.{AreCollected}
 use Rattle.sym_model.proofs.Exponents.{tests_agree}
-use Rattle.sym_model.proofs.Ring.{product-one}
 use Rattle.sym_model.proofs.Sums.{total_ext}
 use Rattle.linear_combinations.specs.Entries.{IsCombination, are_terms}
 use Rattle.linear_combinations.specs.Gains.{over, Gains}
 use Rattle.linear_combinations.proofs.LowestTerms.{not_zero-is_reduced}
-use lib.IntN.{*ℤ-zero}
+use Rattle.sym_model.proofs.Integers.{chosen_as_product}
 
 module _ {L : Type 0} (eq test : L → L → Bool) (eq_true : (a b : L) → eq a b ≡ true → a ≡ b) (eq_self : (a : L) → eq a a ≡ true)
     (test_true : (a b : L) → test a b ≡ true → a ≡ b) (test_self : (a : L) → test a a ≡ true) where
@@ -47,24 +46,20 @@ module _ {L : Type 0} (eq test : L → L → Bool) (eq_true : (a b : L) → eq a
         collected is_label terms (IsDistinct-tail eq t.0 (keys_of terms) d) here.1,
       )
 
-  -- each label of a table occurs once, with a coefficient other than 0
+  -- in a table of terms each label occurs once, with a coefficient other than 0 (`AreCollected`)
   pub collected_table : (is_label : L → Bool) (terms : WholeTermsOf L)
       → IsCombination eq is_label whole terms → AreCollected test terms
   collected_table is_label terms c = collected is_label terms c.distinct c.proper
 
--- the coefficient of a label is the sum, over the terms, of coefficient times 1 for this label and 0 for any other
+-- the coefficient of a label in a list is the sum of coefficient times φ over its terms, where φ is 1 for this label and 0 for all others
 by_over : {L : Type 0} (test : L → L → Bool) (terms : WholeTermsOf L) (label : L)
     → coefficient_by test terms label ≡ over (λ l. cond (test l label) (pos 1) (pos 0)) terms
 by_over {L} test terms label =
     total_ext (λ (t : L × ℤ). cond (test t.0 label) t.1 (pos 0))
     (λ (t : L × ℤ). t.1 *ℤ cond (test t.0 label) (pos 1) (pos 0))
-    (λ t. by (test t.0 label) t.1) terms
-  where
-    by : (b : Bool) (c : ℤ) → cond b c (pos 0) ≡ c *ℤ cond b (pos 1) (pos 0)
-    by true c = sym (product-one c)
-    by false c = sym (*ℤ-zero c)
+    (λ t. chosen_as_product (test t.0 label) t.1) terms
 
--- if two lists have the same sums against every test function, they have the same coefficient at each label
+-- if two lists have, for every φ, the same sum of coefficient times φ(label) over their terms, they have the same coefficient at each label
 pub same_by : {L : Type 0} (test : L → L → Bool) (first second : WholeTermsOf L)
     → ((φ : L → ℤ) → over φ first ≡ over φ second) → (label : L)
     → coefficient_by test first label ≡ coefficient_by test second label
@@ -72,7 +67,7 @@ same_by {L} test first second e label =
     by_over test first label ∙ e (λ l. cond (test l label) (pos 1) (pos 0))
     ∙ sym (by_over test second label)
 
--- if an empty table gains the terms `gained`, the sum of c·φ(label) over the new table is that over `gained`
+-- if adding the terms `gained` to the empty table gives `new`, then for each φ the sum of coefficient times φ(label) over `new` is that over `gained`
 pub sums_gained : {L : Type 0} (gained new : WholeTermsOf L) → Gains [] gained new → (φ : L → ℤ)
     → over φ new ≡ over φ gained
 sums_gained gained new a φ = let s = a.sums φ in omega (arith, ints)

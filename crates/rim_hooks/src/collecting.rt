@@ -1,4 +1,4 @@
-//! Terms with signs, added to a table.
+//! Adds terms with signs to a linear combination.
 ghost use Rattle.std.specs.Prelude.{[], ◌∷◌, OnOk, IsErrOf};
 ghost use Rattle.coeff_rings.specs.Fractions.{whole};
 ghost use Rattle.linear_combinations.specs.Entries.{IsCombination};
@@ -9,7 +9,7 @@ use calc_base::SumFault;
 use coeff_rings::{Int, Ring};
 use linear_combinations::{Label, Lin};
 
-/// Adds sign·c to the coefficient of `label`.
+/// Adds sign·c to the coefficient of `label` in `sums`.
 pub(crate) fn add_signed<L: Label>(
     sums: &mut Lin<L, Int>,
     label: L,

@@ -1,4 +1,4 @@
-//! Fusion products of several Schur classes.
+//! Fusion products of several Schur functions.
 ghost use Rattle.std.specs.Prelude.{◌≡◌, ◌+◌, ◌≤◌, IfOk, IsErrOf};
 ghost use Rattle.sym_model.specs.ReductionSteps.{IsReflectedInSteps};
 ghost use Rattle.sym_model.specs.WholeTerms.{as_fractions};
@@ -18,7 +18,7 @@ use linear_combinations::{Lin, Terms};
 use partitions::{Factors, Partition};
 use std::alloc::Global;
 
-/// The rule that reflects partitions with at most `k` rows into the alcove of level `n - k`.
+/// The `Reduction` that reflects partitions with at most `k` rows into the alcove of level `n - k`.
 #[derive(Drop)]
 struct Reflections {
     k: u16,
@@ -93,14 +93,15 @@ impl Reduction<Partition> for Reflections {
     ghost changed = { λ rule. shape_other rule.k rule.n };
 }
 
-/// The fusion product of the factors for partitions with at most `rows` rows at a level: the
-/// product of their Schur polynomials in `rows` variables, with each term reflected into the alcove
-/// of that level. `rows` and the level are from 1 to 64. Terms are reflected after each factor. The
-/// product is 0 if a factor has more than `rows` rows.
+/// The fusion product of the factors, for partitions with at most `rows` rows at the level `level`:
+/// the product of their Schur polynomials in `rows` variables, with each term reflected into the
+/// alcove of that level. `rows` and `level` are from 1 to 64. Terms are reflected after each
+/// factor. The product is 0 if a factor has more than `rows` rows.
 ///
-/// Returns `Large` only if a weight of a step is 2^127 or more: the sum, over the terms of the
-/// product so far, of the absolute value of the coefficient times the sum of the coefficients of
-/// the classical product of the shape and the next factor.
+/// Returns `Large` only if the weight of a step is 2^127 or more. The step multiplies the terms of
+/// the product so far by the next factor. Its weight is the sum, over these terms, of the absolute
+/// value of the coefficient times the sum of all coefficients of the classical product of the label
+/// and the next factor.
 pub fn fusion(
     alloc: Global,
     factors: &Factors,
@@ -112,7 +113,9 @@ pub fn fusion(
     ensures meets { IfOk result (λ terms.
         IsAlcoveReductionOf rows (rows + level) (classical_product rows factors.now) (as_fractions terms)) }
 
-    // Each step collects the reflections of the product of the terms so far and the next factor.
+    // The list results from steps (`IsReflectedInSteps`), each of which multiplies the terms so far
+    // by the next factor, reflects the partitions of the product and adds up the terms with equal
+    // labels. If the result is `Large`, a step has a weight of 2^127 or more.
     ensures steps { IfOk result (IsReflectedInSteps rows (rows + level) factors.now) }
     ensures large { IsErrOf result SumFault.Large
         → HasHeavy (IsFusionWeight rows (rows + level) factors.now) }

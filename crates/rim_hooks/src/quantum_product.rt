@@ -1,4 +1,4 @@
-//! Quantum products of several Schur classes.
+//! Quantum products of several Schur functions.
 ghost use Rattle.std.specs.Prelude.{◌≡◌, ◌+◌, ◌≤◌, List, IfOk, IsErrOf};
 ghost use Rattle.sym_model.specs.Reductions.{AreReductions, Reduction as TermReduction, reduced_terms};
 ghost use Rattle.sym_model.specs.Products.{classical_product};
@@ -21,7 +21,7 @@ use partitions::{Factors, Partition};
 use sparse_polys::Power;
 use std::alloc::Global;
 
-/// The rule that removes rim hooks of `n` cells from partitions with at most `k` rows.
+/// The `Reduction` that removes rim hooks of `n` cells from partitions with at most `k` rows.
 #[derive(Drop)]
 struct RimHooks {
     k: u16,
@@ -102,14 +102,15 @@ impl Reduction<Power> for RimHooks {
     ghost changed = { λ rule. power_other rule.k rule.n };
 }
 
-/// The quantum product of the factors for partitions with at most `rows` rows and `cols` columns:
-/// the product of their Schur polynomials in `rows` variables, with each term reduced by rim hooks
-/// of `rows + cols` cells. `rows` and `cols` are from 1 to 64. Terms are reduced after each factor.
-/// The product is 0 if a factor has more than `rows` rows.
+/// The quantum product of the factors, for partitions with at most `rows` rows and `cols` columns:
+/// the product of their Schur polynomials in `rows` variables, with each term reduced by removing
+/// rim hooks of `rows + cols` cells. `rows` and `cols` are from 1 to 64. Terms are reduced after
+/// each factor. The product is 0 if a factor has more than `rows` rows.
 ///
-/// Returns `Large` only if a weight of a step is 2^127 or more: the sum, over the terms of the
-/// product so far, of the absolute value of the coefficient times the sum of the coefficients of
-/// the classical product of the shape and the next factor.
+/// Returns `Large` only if the weight of a step is 2^127 or more. The step multiplies the terms of
+/// the product so far by the next factor. Its weight is the sum, over these terms, of the absolute
+/// value of the coefficient times the sum of all coefficients of the classical product of the
+/// partition of the term and the next factor.
 pub fn quantum(
     alloc: Global,
     factors: &Factors,
@@ -121,13 +122,16 @@ pub fn quantum(
     ensures meets { IfOk result (λ terms.
         IsRimHookReduction rows (rows + cols) (classical_product rows factors.now) (as_fractions terms)) }
 
-    // Any list of reductions of the classical product has the same sums, whichever rim hooks are
-    // removed first.
+    // For any list of reductions of the terms of the classical product, whichever rim hooks are
+    // removed first, the terms of these reductions have the same total coefficient at each label as
+    // the result.
     ensures only { IfOk result (λ terms. (reductions : List TermReduction)
         → AreReductions rows (rows + cols) (classical_product rows factors.now) reductions
         → HaveSameSums terms (reduced_terms (classical_product rows factors.now) reductions)) }
 
-    // Each step collects the reductions of the product of the terms so far and the next factor.
+    // The list results from steps (`IsReducedInSteps`), each of which multiplies the terms so far
+    // by the next factor, reduces the partitions of the product and adds up the terms with equal
+    // labels. If the result is `Large`, a step has a weight of 2^127 or more.
     ensures steps { IfOk result (IsReducedInSteps rows (rows + cols) factors.now) }
     ensures large { IsErrOf result SumFault.Large
         → HasHeavy (IsQuantumWeight rows (rows + cols) factors.now) }

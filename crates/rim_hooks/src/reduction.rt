@@ -1,4 +1,4 @@
-//! The trait of the reductions that are applied to a product after each factor.
+//! The trait of the reductions that can be applied to a product after each factor.
 ghost use Rattle.std.specs.Prelude.{◌≡◌, ℕ, ◌+◌, ◌≤◌, ℤ, ◌*ℤ◌, List, [], IfOk, OnOk, IsErrOf};
 ghost use Rattle.coeff_rings.specs.Fractions.{whole};
 ghost use Rattle.sym_model.specs.Partition.{IsPartition, rows, size};
@@ -12,45 +12,48 @@ use linear_combinations::{Label, Lin};
 use partitions::Partition;
 use std::alloc::Global;
 
-/// A reduction of shapes, and the labels of the reduced terms: each shape of the product of a label
-/// and a factor becomes one label with a sign, or nothing.
+/// A reduction of partitions, with labels of the type `L` for the reduced terms. If the product of
+/// a factor and the partition of a label has a term with the partition μ, then the reduction makes
+/// one new label with a sign from the label and μ, or nothing.
 pub(crate) trait Reduction<L: Label> {
     // The parameters of the reduction are within their limits.
     ghost is_rule: { Self → Type 0 };
 
-    // The number of variables.
+    // The number of variables of the products.
     ghost variables: { Self → ℕ };
 
-    // The shape of a label.
+    // The partition of a label.
     ghost shape: { L → List ℕ };
 
-    // The number of cells of a label: that of its shape, plus its power of q if it has one.
+    // The number of cells of a label: the size of its partition, plus its power of q if it has one.
     ghost cells: { L → ℕ };
 
-    // The label of the first factor.
+    // The label of the first factor. A product begins with this label as its only term.
     ghost start: { List ℕ → L };
 
-    // The reduced term, or none, for a label and a shape of its product with a factor.
+    // For a label, and for a partition in the product of a factor and the label's partition: the
+    // list with the one reduced term, or the empty list if the partition reduces to 0.
     ghost reduced: { Self → L → List ℕ → List (L × ℤ) };
 
-    // The second list is the reduced product of the first and one more factor.
+    // The second list is obtained from the first by multiplying it by the factor and reducing the
+    // product.
     ghost step: { Self → List ℕ → List (L × ℤ) → List (L × ℤ) → Type 0 };
 
-    /// The number of variables.
+    /// The number of variables of the products.
     fn variables(&self) -> u16
         ensures { result ≡ variables self.now };
 
-    /// The shape of a label.
+    /// The partition of a label.
     fn shape(label: &L) -> &Partition
         ensures { result.now ≡ shape label.now };
 
-    /// The label of the first factor.
+    /// The label of the first factor. A product begins with this label as its only term.
     fn start(first: &Partition) -> Result<L, NoMemory>
         ensures { IfOk result (λ label. label ≡ start first.now) };
 
-    /// Adds c·d times the reduced term for a label and the shape `grown` of its product with a
-    /// factor, in which `grown` has the coefficient `d`. Returns `Large` only if adding this term
-    /// overflows.
+    /// Adds to `sums` c·d times the reduced term for `label` and `grown`. Here `grown` is a
+    /// partition in the product of a factor and the partition of `label`, and `d` is its
+    /// coefficient in this product. Returns `Large` only if adding this term overflows.
     fn add_reduced(
         &self,
         alloc: Global,

@@ -1,4 +1,4 @@
-//! The reduction of partitions into the alcove.
+//! The reduction of partitions into the alcove, by reflections.
 ghost use Rattle.std.specs.Prelude.{◌≡◌, ◌+◌, ◌*◌, ◌<◌, ◌≤◌, false, true, length, map, IfOk};
 ghost use Rattle.std.specs.Prelude.{MatchOption};
 ghost use Rattle.sym_model.specs.Partition.{rows, size};
@@ -16,18 +16,18 @@ use calc_base::NoMemory;
 use partitions::Partition;
 use std::alloc::Global;
 
-/// The result of reflecting a partition into the alcove.
+/// The result of reflecting a partition into the alcove, if it is not 0.
 #[derive(Debug, Drop)]
 pub struct Alcove {
-    /// The resulting partition.
+    /// The partition in the alcove.
     pub shape: Partition,
-    /// The sign, 1 or -1.
+    /// The sign of the reflections, 1 or -1.
     pub sign: i8,
 }
 
-/// The partition with at most `k` rows to which `shape` reduces in the alcove of level `n - k`,
-/// with its sign; `None` if and only if the reduction is 0. `shape` must have at most `k` rows, and
-/// 1 ≤ k < n ≤ 512.
+/// The partition to which `shape` reduces in the alcove of level `n - k` for `k` rows, with its
+/// sign; `None` if and only if the reduction is 0. `shape` must have at most `k` rows, and 1 ≤ k <
+/// n ≤ 512.
 pub fn alcove_of(
     alloc: Global,
     shape: &Partition,
@@ -39,8 +39,9 @@ pub fn alcove_of(
     ensures value { IfOk result (λ alcove. signed_partition alcove
         ≡ alcove_reduction k n shape.now) }
 
-    // The reduction is 0 if and only if two entries of the beta list have the same remainder;
-    // otherwise the remainders and the sum of the entries determine it.
+    // The reduction is 0 if and only if two entries of the beta list have the same remainder modulo
+    // n; otherwise the remainders of the entries and the sum of the entries determine the reduction
+    // (`IsAlcoveOf`).
     ensures remainders { IfOk result (λ alcove. MatchOption alcove
         (has_equal_entries (remainders n (beta k shape.now)) ≡ true)
         (λ a. IsAlcoveOf k n shape.now a.shape a.sign)) }
@@ -57,14 +58,15 @@ pub fn alcove_of(
     }))
 }
 
-/// For entries whose remainders modulo `n` all differ: the number of times that each remainder
-/// occurs (0 or 1), and the sum of the quotients of the entries by `n`.
+/// For a list of entries with different remainders modulo n: the number of entries for each
+/// remainder (0 or 1), and the sum of the quotients of the entries by n, rounded down.
 struct Turns {
     counts: [u16; MAX_CELLS],
     turns: u32,
 }
 
-/// The counts of the remainders of the entries modulo `n`; `None` if and only if two are equal.
+/// The numbers of entries for each remainder modulo `n`, and the sum of the quotients; `None` if
+/// and only if two entries have the same remainder.
 fn turns_of(entries: &[u16], n: u16) -> Option<Turns>
     requires few { length entries.now ≤ 512 }
     requires cells { (2 ≤ n) × (n ≤ 512) }
@@ -85,8 +87,9 @@ fn turns_of(entries: &[u16], n: u16) -> Option<Turns>
     Some(Turns { counts, turns })
 }
 
-/// The first number of the window of `n` numbers into which the entries can be moved by multiples
-/// of `n` with the same sum; `None` if and only if two entries have the same remainder.
+/// A number `start` such that moving each entry by a multiple of `n` to one of the numbers start,
+/// .., start + n - 1 does not change the sum of the entries; `None` if and only if two entries have
+/// the same remainder modulo `n`.
 fn window_start(entries: &[u16], n: u16) -> Option<u32>
     requires few { (1 ≤ length entries.now) × (length entries.now ≤ 512) }
     requires cells { (2 ≤ n) × (n ≤ 512) }
@@ -106,8 +109,8 @@ fn window_start(entries: &[u16], n: u16) -> Option<u32>
     Some(start)
 }
 
-/// The entries, each moved by a multiple of `n` to one of the numbers start, .., start + n - 1, in
-/// decreasing order.
+/// The entries, each moved by a multiple of `n` to one of the numbers start, .., start + n - 1,
+/// sorted into decreasing order.
 fn raised_entries(alloc: Global, entries: &[u16], n: u16, start: u32) -> Result<Sorted, NoMemory>
     requires { (1 ≤ n) × (start + n ≤ 65536) }
     ensures { IfOk result (λ sorted. Sorts sorted (map (up n start) entries.now)) }
@@ -119,7 +122,7 @@ fn raised_entries(alloc: Global, entries: &[u16], n: u16, start: u32) -> Result<
     Ok(sorted)
 }
 
-/// The least number of at least `start` that has the same remainder modulo `n` as the entry.
+/// The least number that is at least `start` and has the same remainder modulo `n` as `entry`.
 fn raised(entry: u16, n: u16, start: u32) -> u16
     requires { (1 ≤ n) × (start + n ≤ 65536) }
     ensures { result ≡ up n start entry }

@@ -1,4 +1,5 @@
-//! Reductions by rim hooks, whichever of them are removed first.
+//! The law that reductions by rim hooks do not depend on the order in which the rim hooks are
+//! removed.
 
 ghost use Rattle.std.specs.Prelude.{◌≡◌, ◌↔◌, ℕ, ◌≤◌, List};
 ghost use Rattle.sym_model.specs.Expansion.{Terms};
@@ -10,14 +11,16 @@ ghost use Rattle.sym_model.specs.Reductions.{reduced_terms};
 ghost use Rattle.sym_model.specs.WholeTerms.{WholeTermsOf, numerators, same_power};
 ghost use Rattle.rim_hooks.specs.AnyOrder.{HaveSameSums};
 
-/// The order in which rim hooks are removed does not matter in a quantum product: a list is the sum
-/// of some reductions of the classical product if and only if it is the sum of every list of
-/// reductions of that product. The same holds for one more factor in a product that is reduced
-/// after each factor.
+/// The order in which rim hooks are removed does not matter in a quantum product. Take any
+/// reductions of all terms of the classical product. Then a list of terms is the sum of such
+/// reductions, these or others, if and only if at each label it has the same total coefficient as
+/// the sum of these. The same holds for the step with one more factor in a product that is reduced
+/// after each factor, if each label occurs once in the list of terms, with a coefficient other than
+/// 0.
 ///
-/// Example: from (2,2), rim hooks of two cells remove the second column or the second row first,
-/// and then the two cells that remain. Both ways end with the empty partition, q^2 and the sign 1
-/// for two rows.
+/// Example: from (2,2), a rim hook of two cells can be removed in the second column or in the
+/// second row; then the two cells that remain are removed. Both orders end with the empty
+/// partition, q^2 and, for two rows, the sign 1.
 pub fn removal_order_law()
     ensures whole { (k n : ℕ) (factors : List (List ℕ)) (terms : Terms (ℕ × List ℕ))
         (reductions : List Reduction) → 1 ≤ n

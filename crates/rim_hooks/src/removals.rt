@@ -1,4 +1,4 @@
-//! The reduction of partitions by rim hooks.
+//! The reduction of partitions by removing rim hooks.
 ghost use Rattle.std.specs.Prelude.{◌≡◌, ◌+◌, ◌*◌, ◌<◌, ◌≤◌, length, IfOk};
 ghost use Rattle.sym_model.specs.Partition.{rows};
 ghost use Rattle.sym_model.specs.PlaceOrders.{minus_one_to};
@@ -16,27 +16,29 @@ use calc_base::NoMemory;
 use partitions::Partition;
 use std::alloc::Global;
 
-/// The result of removing rim hooks from a partition as long as possible.
+/// The result of removing rim hooks of n cells from a partition until no more of them can be
+/// removed.
 #[derive(Debug, Drop)]
 pub struct Core {
-    /// The resulting partition.
+    /// The partition that is left.
     pub shape: Partition,
     /// The product of the signs of the removed rim hooks, 1 or -1.
     pub sign: i8,
-    /// The number of removals.
+    /// The number of rim hooks removed: the power of q.
     pub power: u32,
 }
 
-/// The partition that is left after removing rim hooks of `n` cells from `shape` as long as
-/// possible, with its sign and the number of removals; `None` if and only if the partition that is
-/// left has more than `n - k` columns. The order of the removals does not matter. `shape` must have
-/// at most `k` rows, and 1 ≤ k < n ≤ 512.
+/// The partition that is left after removing rim hooks of `n` cells from `shape` until no more of
+/// them can be removed, with the product of their signs and the number of removals; `None` if and
+/// only if the partition that is left has more than `n - k` columns. The order of the removals does
+/// not matter. `shape` must have at most `k` rows, and 1 ≤ k < n ≤ 512.
 pub fn core_of(alloc: Global, shape: &Partition, k: u16, n: u16) -> Result<Option<Core>, NoMemory>
     requires rows { (rows shape.now ≤ k) × (1 ≤ k) }
     requires cells { (k < n) × (n ≤ 512) }
     ensures reduces { IfOk result (λ core. ReducesTo k n shape.now (reduction core)) }
 
-    // Every order of the removals gives the same result.
+    // Removing the rim hooks in any other order gives the same result; it is also the reduction
+    // computed from remainders, `reduction_by_remainders`.
     ensures only { IfOk result (λ core. (other : Reduction) → ReducesTo k n shape.now other
         → other ≡ reduction core) }
     ensures remainders { IfOk result
@@ -57,16 +59,16 @@ pub fn core_of(alloc: Global, shape: &Partition, k: u16, n: u16) -> Result<Optio
     }))
 }
 
-/// Whether the factors (-1)^(k + 1) of `power` removals multiply to -1. The sign of the exchanges
-/// that sort the entries is not counted here.
+/// Whether (-1)^(power·(k + 1)) is -1: the factor that `power` removals contribute to the sign in
+/// addition to the sign of sorting the entries.
 fn turns_the_sign(power: u16, k: u16) -> bool
     ensures { sign_of result ≡ minus_one_to (power * (k + 1)) }
 {
     is_odd(usize::from(power) * (usize::from(k) + 1))
 }
 
-/// The entries, lowered by multiples of `n` as far as possible so that they stay different, in
-/// decreasing order.
+/// The least numbers to which the entries can be lowered by multiples of `n` while they stay
+/// different and not negative, sorted into decreasing order.
 fn lowest_entries(alloc: Global, entries: &[u16], n: u16) -> Result<Sorted, NoMemory>
     requires strict { FallsStrictly entries.now }
     requires cells { (2 ≤ n) × (n ≤ 512) }

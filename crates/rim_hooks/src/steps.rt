@@ -1,4 +1,4 @@
-//! Products that are reduced after each factor.
+//! Products computed by multiplying by one factor after another and reducing after each factor.
 ghost use Rattle.std.specs.Prelude.{◌≡◌, ◌+◌, ◌*◌, ◌^◌, ◌<◌, ◌≤◌, [], ◌∷◌, nat_abs, length};
 ghost use Rattle.std.specs.Prelude.{slice_get, Some, IfOk, OnOk, IsErrOf};
 ghost use Rattle.coeff_rings.specs.Fractions.{whole};
@@ -21,8 +21,7 @@ use lr_product::mult;
 use partitions::{Factors, Partition};
 use std::alloc::Global;
 
-/// Adds, for each of the terms, `c` times its coefficient times the reduced term for the label and
-/// the shape of the term.
+/// Adds to `sums`, for each term d·μ of `terms`, c·d times the reduced term for `label` and μ.
 fn add_reductions<L: Label, R: Reduction<L>>(
     alloc: Global,
     rule: &R,
@@ -48,9 +47,10 @@ fn add_reductions<L: Label, R: Reduction<L>>(
     Ok(())
 }
 
-/// Adds the product of a label and a factor, with each shape reduced, times `c`.
+/// For each term d·μ of the classical product of `factor` and the partition of `label`, adds c·d
+/// times the reduced term for `label` and μ to `sums`.
 ///
-/// Returns `Large` only if `c` times the coefficients of the classical product overflow.
+/// Returns `Large` only if adding `c` times the coefficients of the classical product overflows.
 fn add_reduced_product<L: Label, R: Reduction<L>>(
     alloc: Global,
     rule: &R,
@@ -77,7 +77,8 @@ fn add_reduced_product<L: Label, R: Reduction<L>>(
     add_reductions(alloc, rule, label, &classical, c, sums)
 }
 
-/// The product of the terms and a factor, reduced.
+/// The product of the linear combination `terms` and `factor`, with each partition of the product
+/// reduced.
 fn times_factor<L: Label, R: Reduction<L>>(
     alloc: Global,
     rule: &R,
@@ -100,7 +101,7 @@ fn times_factor<L: Label, R: Reduction<L>>(
     Ok(sums)
 }
 
-/// The factor at a place.
+/// The factor at the index `at`.
 fn factor_at(factors: &Factors, at: usize) -> &Partition
     requires { at < length factors.now }
     ensures { slice_get factors.now at ≡ Some result.now }
@@ -108,8 +109,8 @@ fn factor_at(factors: &Factors, at: usize) -> &Partition
     factors.get(at).unwrap()
 }
 
-/// The product of factors that have at most as many rows as there are variables, reduced after each
-/// factor, in the printed order.
+/// The product of the factors, reduced after each factor, as a list in the printed order. Each
+/// factor must have at most as many rows as there are variables.
 pub(crate) fn product_in_steps<L: Label, R: Reduction<L>>(
     alloc: Global,
     rule: &R,
@@ -139,7 +140,7 @@ pub(crate) fn product_in_steps<L: Label, R: Reduction<L>>(
     Ok(terms.sorted_terms()?)
 }
 
-/// The list with no terms.
+/// The list without terms.
 pub(crate) fn no_terms<L: Label>(alloc: Global) -> Result<Terms<L, Int>, SumFault>
     ensures none { IfOk result (λ terms. terms ≡ []) }
     ensures small { ¬ IsErrOf result SumFault.Large }

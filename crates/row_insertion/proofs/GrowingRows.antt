@@ -1,16 +1,18 @@
--- Rows that grow by a cell, place by place.
+-- Row insertion in vectors, as computed by growing.rt.
 use Rattle.std.proofs.Common.{◌≡◌, ℕ, zero, suc, ◌+◌, ◌<◌, ◌≤◌, List, [], ◌∷◌, ◌++◌, length, take, drop, get_or, Vec, Option, Some, None, ◌∙◌, ap, ap₂, sym, refl, subst, arith, append_assoc}
 use Rattle.std.specs.declared.alloc.Global.{Global}
 use Rattle.std.proofs.Math.ListN.{set}
-use Rattle.std.proofs.lemmas.List.{length-append, map-append}
+use Rattle.std.proofs.lemmas.List.{length-append, map-append, drop_more, set_split}
 use Rattle.sym_model.specs.Insertion.{row_with, bumped, inserted}
 use Rattle.sym_model.specs.Tableau.{shape_of}
 use Rattle.sym_model.specs.Growth.{grown, with_end}
 use Rattle.insertion_laws.proofs.InsertedRows.{with-less, with-more, bumped-less, bumped-more, with-end, length-with, inserted-none}
 use Rattle.insertion_laws.proofs.Removals.{grown-here, grown-below}
 use Rattle.row_insertion.specs.RowLists.{rows_in}
+use Rattle.std.proofs.Math.Seq.{drop-length, take-length}
+use Rattle.std.proofs.lemmas.Grind.{take-set_at}
 
--- ---- one row into which a letter is inserted
+-- ---- a letter inserted into one row
 
 pub put_here :
     (a at x : ℕ) (row : List ℕ) → at < length row → ((k : ℕ) → k < at → get_or row k 0 ≤ a) → x ≡ get_or row at x → a < x
@@ -38,7 +40,7 @@ put_last a (x ∷ row) h =
     let r = put_last a row (λ k n. h (suc k) (omega arith)) in
     (with-more a x row first ∙ ap (λ w. x ∷ w) r.0, bumped-more a x row first ∙ r.1)
 
--- ---- lists of vectors as lists of rows
+-- ---- a list of vectors as a list of rows (`rows_in`)
 
 pub rows_in-set : (rows : List (Vec ℕ Global)) (i : ℕ) (row : Vec ℕ Global) → rows_in (set rows i row) ≡ set (rows_in rows) i row.items
 rows_in-set [] i row = refl
@@ -55,7 +57,7 @@ pub length-rows_in : (rows : List (Vec ℕ Global)) → length (rows_in rows) �
 length-rows_in [] = refl
 length-rows_in (r ∷ rows) = ap suc (length-rows_in rows)
 
--- ---- a cell at the end of a row
+-- ---- a number appended to row i (`with_end`)
 
 pub end-here : (i k : ℕ) (rows : List (List ℕ)) → i < length rows → with_end i k rows ≡ set rows i (get_or rows i [] ++ k ∷ [])
 end-here i k [] h = absurd (omega arith)
@@ -67,37 +69,17 @@ end-new i k [] h = refl
 end-new zero k (row ∷ rows) h = absurd (omega arith)
 end-new (suc i) k (row ∷ rows) h = ap (λ (l : List (List ℕ)). row ∷ l) (end-new i k rows (omega arith))
 
--- ---- insertion, row by row
+-- ---- the insertion of a letter, row by row
 
--- inserting `first` into `start` gives the rows before i of `rows`, followed by those from i on with `letter` inserted, and adds a cell in the same row
+-- inserting `first` into the tableau `start` gives the first i rows of `rows`, followed by the other rows of `rows` with `letter` inserted into them,
+-- and the cell added is in the same row of the whole tableau for both insertions
 pub record IsInserting (start : List (List ℕ)) (first i : ℕ) (rows : List (List ℕ)) (letter : ℕ) : Type 0 where
   pub rest : inserted start (Some first) ≡ take i rows ++ inserted (drop i rows) (Some letter)
   pub row : grown (shape_of (inserted start (Some first))) (shape_of start)
       ≡ i + grown (shape_of (inserted (drop i rows) (Some letter))) (shape_of (drop i rows))
 
-split_at : (i : ℕ) (rows : List (List ℕ)) → i < length rows → drop i rows ≡ get_or rows i [] ∷ drop (i + 1) rows
-split_at i rows h = let e : i + 1 ≡ suc i = omega arith in by i rows h ∙ ap (λ n. get_or rows i [] ∷ drop n rows) (sym e)
-  where
-    by : (i : ℕ) (rows : List (List ℕ)) → i < length rows → drop i rows ≡ get_or rows i [] ∷ drop (suc i) rows
-    by i [] h = absurd (omega arith)
-    by zero (row ∷ rows) h = refl
-    by (suc i) (row ∷ rows) h = by i rows (omega arith)
-
 changed : (i : ℕ) (rows : List (List ℕ)) (row : List ℕ) → i < length rows → set rows i row ≡ take i rows ++ row ∷ drop (i + 1) rows
-changed i rows row h = let e : i + 1 ≡ suc i = omega arith in by i rows h ∙ ap (λ n. take i rows ++ row ∷ drop n rows) (sym e)
-  where
-    by : (i : ℕ) (rows : List (List ℕ)) → i < length rows → set rows i row ≡ take i rows ++ row ∷ drop (suc i) rows
-    by i [] h = absurd (omega arith)
-    by zero (r ∷ rows) h = refl
-    by (suc i) (r ∷ rows) h = ap (λ (l : List (List ℕ)). r ∷ l) (by i rows (omega arith))
-
-taken : (i : ℕ) (rows : List (List ℕ)) (row : List ℕ) → i < length rows → take (i + 1) (set rows i row) ≡ take i rows ++ row ∷ []
-taken i rows row h = let e : i + 1 ≡ suc i = omega arith in ap (λ n. take n (set rows i row)) e ∙ by i rows h
-  where
-    by : (i : ℕ) (rows : List (List ℕ)) → i < length rows → take (suc i) (set rows i row) ≡ take i rows ++ row ∷ []
-    by i [] h = absurd (omega arith)
-    by zero (r ∷ rows) h = refl
-    by (suc i) (r ∷ rows) h = ap (λ (l : List (List ℕ)). r ∷ l) (by i rows (omega arith))
+changed i rows row h = let e : i + 1 ≡ suc i = omega arith in set_split rows i row h ∙ ap (λ n. take i rows ++ row ∷ drop n rows) (sym e)
 
 left : (i : ℕ) (rows : List (List ℕ)) (row : List ℕ) → drop (i + 1) (set rows i row) ≡ drop (i + 1) rows
 left i rows row =
@@ -117,7 +99,7 @@ inserting_more start first i rows letter b h e s =
     let row = get_or rows i [] in
     let new = row_with letter row in
     let below = drop (i + 1) rows in
-    let split = split_at i rows h in
+    let split = drop_more rows i [] h in
     let step : inserted (drop i rows) (Some letter) ≡ new ∷ inserted below (Some b) =
     ap (λ (l : List (List ℕ)). inserted l (Some letter)) split ∙ ap (λ (o : Option ℕ). new ∷ inserted below o) e in
     let far =
@@ -126,7 +108,7 @@ inserting_more start first i rows letter b h e s =
       rest =
           s.rest ∙ ap (λ (l : List (List ℕ)). take i rows ++ l) step
           ∙ sym (append_assoc (take i rows) (new ∷ []) (inserted below (Some b)))
-          ∙ ap₂ (λ (x y : List (List ℕ)). x ++ inserted y (Some b)) (sym (taken i rows new h)) (sym (left i rows new));
+          ∙ ap₂ (λ (x y : List (List ℕ)). x ++ inserted y (Some b)) (sym (take-set_at rows i (i + 1) new refl h)) (sym (left i rows new));
       row =
           s.row ∙ ap₂ (λ (x y : List (List ℕ)). i + grown (shape_of x) (shape_of y)) step split ∙ ap (λ n. i + n) far
           ∙ omega (
@@ -144,7 +126,7 @@ inserting_end start first i rows letter h e s =
     let row = get_or rows i [] in
     let new = row_with letter row in
     let below = drop (i + 1) rows in
-    let split = split_at i rows h in
+    let split = drop_more rows i [] h in
     let step : inserted (drop i rows) (Some letter) ≡ new ∷ below =
     ap (λ (l : List (List ℕ)). inserted l (Some letter)) split ∙ ap (λ (o : Option ℕ). new ∷ inserted below o) e
     ∙ ap (λ (l : List (List ℕ)). new ∷ l) (inserted-none below) in
@@ -155,26 +137,18 @@ inserting_end start first i rows letter h e s =
           ∙ omega arith,
     )
 
-pub nothing_left : (rows : List (List ℕ)) → drop (length rows) rows ≡ []
-nothing_left [] = refl
-nothing_left (row ∷ rows) = nothing_left rows
-
-all_taken : (rows : List (List ℕ)) → take (length rows) rows ≡ rows
-all_taken [] = refl
-all_taken (row ∷ rows) = ap (λ (l : List (List ℕ)). row ∷ l) (all_taken rows)
-
 pub inserting_new :
     (start : List (List ℕ)) (first i : ℕ) (rows : List (List ℕ)) (letter : ℕ) → i ≡ length rows → IsInserting start first i rows letter
     → (inserted start (Some first) ≡ rows ++ (letter ∷ []) ∷ [])
     × (grown (shape_of (inserted start (Some first))) (shape_of start) ≡ i)
 inserting_new start first i rows letter h s =
-    let none : drop i rows ≡ [] = ap (λ n. drop n rows) h ∙ nothing_left rows in
-    let all : take i rows ≡ rows = ap (λ n. take n rows) h ∙ all_taken rows in (
+    let none : drop i rows ≡ [] = ap (λ n. drop n rows) h ∙ drop-length rows in
+    let all : take i rows ≡ rows = ap (λ n. take n rows) h ∙ take-length rows in (
       s.rest ∙ ap₂ (λ (x y : List (List ℕ)). x ++ inserted y (Some letter)) all none,
       s.row ∙ ap (λ (y : List (List ℕ)). i + grown (shape_of (inserted y (Some letter))) (shape_of y)) none ∙ omega arith,
     )
 
--- ---- insertion in a list of vectors
+-- ---- the insertion of a letter into a list of vectors
 
 pub row_now :
     (rows : List (Vec ℕ Global)) (i : ℕ) (row : Vec ℕ Global) → i < length rows → row ≡ get_or rows i row

@@ -1,4 +1,4 @@
--- Tableaux made from their rows, and rows copied from tableaux.
+-- Tableaux made from their rows, copies of the rows of a tableau, and the reading word, as the code computes them.
 use Rattle.std.proofs.Common.{◌≡◌, ℕ, zero, suc, ◌+◌, ◌-◌, ◌<◌, ◌≤◌, true, List, [], ◌∷◌, ◌++◌, length, take, drop, get_or, reverse, Vec, ◌∙◌, ap, ap₂, sym, refl, arith, append-nil}
 use Rattle.std.specs.declared.alloc.Global.{Global}
 use Rattle.std.proofs.lemmas.Bool.{and_from}
@@ -8,7 +8,6 @@ use Rattle.sym_model.specs.Schur.{letters_of, semistandard}
 use Rattle.sym_model.specs.Tableau.{SkewFilling, shape_of, are_letters}
 use Rattle.sym_model.specs.TableauList.{reading_cells, letter_of_cell}
 use Rattle.sym_model.proofs.SortedParts.{rows_within_size}
-use Rattle.sym_model.proofs.Lists.{each-append}
 use Rattle.sym_model.proofs.Tableaux.{row_lengths-none}
 use Rattle.partitions.specs.Limits.{IsWithinLimits}
 use Rattle.skew_shapes.specs.CellFillings.{filled_with, is_tableau, row_of}
@@ -17,9 +16,11 @@ use Rattle.insertion_laws.specs.Rows.{AreRows}
 use Rattle.insertion_laws.proofs.TableauRows.{tableau_from}
 use Rattle.row_insertion.specs.RowLists.{rows_in, straight}
 use Rattle.row_insertion.proofs.GrowingRows.{rows_in-at, length-rows_in}
-use Rattle.row_insertion.proofs.Overwriting.{IsWritingRows, length-at}
+use Rattle.row_insertion.proofs.Overwriting.{IsWritingRows}
+use Rattle.std.proofs.lemmas.Grind.{flat_map-append}
+use Rattle.sym_model.proofs.Lists.{length-at}
 
--- ---- the shape of the rows
+-- ---- the straight shape whose parts are the lengths of the rows
 
 pub row_within : (rows : List (Vec ℕ Global)) (i : ℕ) (row : Vec ℕ Global) → i < length rows → row ≡ get_or rows i row → length row.items ≤ size (shape_of (rows_in rows))
 row_within [] i row h e = absurd (omega arith)
@@ -49,7 +50,7 @@ shape_within rows h l =
       small = omega arith;
     }
 
--- ---- the filling to which the rows are written
+-- ---- the filling into which the rows are written one by one
 
 pub rows_start :
     (p : List (List ℕ)) (shape : List ℕ × List ℕ) (w : List ℕ) (filled : SkewFilling) → shape ≡ (shape_of p, [])
@@ -80,7 +81,7 @@ is_tableau_then rows t h e =
     let made = tableau_from rows h in
     ap is_tableau e ∙ and_from (are_letters (letters_of rows)) (semistandard [] rows) made.letters made.order
 
--- ---- copies of the rows
+-- ---- the rows copied one by one from a tableau
 
 pub row_copied :
     (list after : List (Vec ℕ Global)) (row : Vec ℕ Global) (rows : List (List ℕ)) (at : ℕ) → at < length rows
@@ -90,7 +91,7 @@ row_copied list after row rows at h e a f =
     ap rows_in a ∙ map-append (λ (v : Vec ℕ Global). v.items) list (row ∷ [])
     ∙ ap₂ (λ (l : List (List ℕ)) w. l ++ w ∷ []) e (f ∙ ap (λ n. get_or rows n []) place) ∙ sym (take_more rows at [] h)
 
--- ---- the reading of the rows from the bottom up
+-- ---- the reading word: the rows from the last to the first
 
 pub read_more :
     (w after row : List ℕ) (rows : List (List ℕ)) (i : ℕ) → 0 < i → i ≤ length rows → w ≡ letters_of (reverse (drop i rows))
@@ -100,7 +101,7 @@ read_more w after row rows (suc i) h l e f a =
     let place : suc i - 1 ≡ i = omega arith in
     a ∙ ap₂ (λ x y. x ++ y) e (f ∙ ap (λ n. get_or rows n []) place)
     ∙ ap (λ x. letters_of (reverse (drop (suc i) rows)) ++ x) (sym (append-nil (get_or rows i [])))
-    ∙ sym (each-append (λ (r : List ℕ). r) (reverse (drop (suc i) rows)) (get_or rows i [] ∷ []))
+    ∙ sym (flat_map-append (λ (r : List ℕ). r) (reverse (drop (suc i) rows)) (get_or rows i [] ∷ []))
     ∙ ap letters_of (sym (reverse-append (get_or rows i [] ∷ []) (drop (suc i) rows)))
     ∙ ap (λ (l : List (List ℕ)). letters_of (reverse l)) (sym (split i rows l))
     ∙ ap (λ n. letters_of (reverse (drop n rows))) (sym place)

@@ -1,11 +1,12 @@
--- A list written over another one of its length, place by place, and a filling written over another one, row by row.
+-- A list overwritten by another one of the same length, number by number, and a filling overwritten row by row.
 use Rattle.std.proofs.Common.{◌≡◌, ℕ, zero, suc, ◌+◌, ◌-◌, ◌<◌, ◌≤◌, List, [], ◌∷◌, ◌++◌, length, take, drop, get_or, ◌∙◌, ap, ap₂, sym, refl, arith}
 use Rattle.std.proofs.Math.ListN.{set}
-use Rattle.std.proofs.lemmas.List.{get_or-set_same, length-map}
+use Rattle.std.proofs.lemmas.List.{get_or-set_same, length-map, set-set, get_or_past, get_or_default}
 use Rattle.sym_model.specs.Partition.{part, rows}
 use Rattle.sym_model.specs.Tableau.{SkewFilling, shape_of}
 use Rattle.skew_shapes.specs.CellFillings.{row_of, place_in_row, with_entry}
 use Rattle.row_insertion.specs.RowLists.{with_row, straight}
+use Rattle.sym_model.proofs.Lists.{length-at}
 
 pub overwritten :
     {A : Type 0} (at : ℕ) (new old : List A) (x : A) → at < length new → length new ≡ length old → x ≡ get_or new at x
@@ -29,27 +30,12 @@ all_written at (y ∷ new) [] h l = absurd (omega arith)
 all_written zero (y ∷ new) (z ∷ old) h l = absurd (omega arith)
 all_written (suc at) (y ∷ new) (z ∷ old) h l = ap (λ v. y ∷ v) (all_written at new old (omega arith) (omega arith))
 
-set-set : {A : Type 0} (xs : List A) (i : ℕ) (x y : A) → set (set xs i x) i y ≡ set xs i y
-set-set [] i x y = refl
-set-set (z ∷ xs) zero x y = refl
-set-set (z ∷ xs) (suc i) x y = ap (λ v. z ∷ v) (set-set xs i x y)
-
 no_part : (row : ℕ) → part [] row ≡ 0
-no_part row = by (row - 1)
-  where
-    by : (i : ℕ) → get_or {A = ℕ} [] i 0 ≡ 0
-    by zero = refl
-    by (suc i) = refl
+no_part row = get_or_past {X = ℕ} [] (row - 1) 0 (omega arith)
 
-pub length-at : (rows : List (List ℕ)) (i : ℕ) → length (get_or rows i []) ≡ get_or (shape_of rows) i 0
-length-at [] zero = refl
-length-at [] (suc i) = refl
-length-at (row ∷ rows) zero = refl
-length-at (row ∷ rows) (suc i) = length-at rows i
+-- ---- a row of a filling overwritten number by number
 
--- ---- a row written over another one
-
--- `now` is the filling `old` with the first `at` numbers of the row overwritten by those of `numbers`
+-- `now` is the filling `old` with the first `at` numbers of row `row` replaced by the first `at` numbers of `numbers`
 pub record IsWriting (old now : SkewFilling) (row : ℕ) (numbers : List ℕ) (at : ℕ) : Type 0 where
   pub filling : now ≡ with_row old row (take at numbers ++ drop at (row_of old.rows row))
 
@@ -77,9 +63,9 @@ pub row_length :
     → length numbers ≡ length (row_of old.rows row)
 row_length old row numbers s l = l ∙ ap (λ p. part p row) (sym s) ∙ sym (length-at old.rows (row - 1))
 
--- ---- all rows of a filling overwritten
+-- ---- all rows of a filling overwritten, one after another
 
--- `now` is the straight filling whose rows before `at` are those of p and whose other rows are those of `zeros`
+-- `now` is the filling of straight shape whose first `at` rows are those of p and whose other rows are those of `zeros`, which has the same shape
 pub record IsWritingRows (p zeros : List (List ℕ)) (now : SkewFilling) (at : ℕ) : Type 0 where
   pub shape : shape_of zeros ≡ shape_of p
   pub filling : now ≡ (let t : SkewFilling = record { outer = shape_of p; inner = []; rows = take at p ++ drop at zeros } in t)
@@ -119,9 +105,4 @@ rows_end p zeros now at h s =
     (all_written at p zeros h (same_count p zeros (sym s.shape)))
 
 pub any_default : {A : Type 0} (xs : List A) (i n : ℕ) (d x : A) → i < length xs → n ≡ i → x ≡ get_or xs n d → x ≡ get_or xs i x
-any_default {A = A} xs i n d x h e f = f ∙ ap (λ j. get_or xs j d) e ∙ by xs i h
-  where
-    by : (xs : List A) (i : ℕ) → i < length xs → get_or xs i d ≡ get_or xs i x
-    by [] i h = absurd (omega arith)
-    by (y ∷ xs) zero h = refl
-    by (y ∷ xs) (suc i) h = by xs i (omega arith)
+any_default {A = A} xs i n d x h e f = f ∙ ap (λ j. get_or xs j d) e ∙ get_or_default xs i d x h

@@ -1,5 +1,5 @@
--- Rows that lose a cell, place by place.
-use Rattle.std.proofs.Common.{eqb-true, ◌==◌, true, false, ◌≡◌, ◌≢◌, ◌⊎◌, ℕ, zero, suc, ◌+◌, ◌-◌, ◌<◌, ◌≤◌, List, [], ◌∷◌, ◌++◌, length, take, drop, get_or, Vec, Option, Some, None, IsSome, unwrap_or, ◌∙◌, ap, ap₂, sym, refl, subst, inl, inr, arith}
+-- Row insertion undone in vectors, as computed by shrinking.rt.
+use Rattle.std.proofs.Common.{◌≡◌, ◌≢◌, ◌⊎◌, ℕ, zero, suc, ◌+◌, ◌-◌, ◌<◌, ◌≤◌, List, [], ◌∷◌, ◌++◌, length, take, drop, get_or, Vec, Option, Some, None, IsSome, unwrap_or, ◌∙◌, ap, ap₂, sym, refl, subst, inl, inr, arith}
 use Rattle.std.specs.declared.alloc.Global.{Global}
 use Rattle.std.specs.List.{remove}
 use Rattle.std.proofs.Math.ListN.{set}
@@ -11,7 +11,7 @@ use Rattle.insertion_laws.proofs.RowsBack.{back-more, back-here, letter-more, le
 use Rattle.insertion_laws.proofs.Removals.{ending-here, ending-below, without-here, without-below}
 use Rattle.row_insertion.specs.RowLists.{rows_in, row_at, without_end}
 
--- ---- the last letter of a row removed
+-- ---- a row without its last letter
 
 pub take_front : (row : List ℕ) → take (length row - 1) row ≡ without_last row
 take_front [] = refl
@@ -27,7 +27,7 @@ at_end (a ∷ b ∷ row) d h =
     let e : length (a ∷ b ∷ row) - 1 ≡ suc (length (b ∷ row) - 1) = omega arith in
     ap (λ n. get_or (a ∷ b ∷ row) n d) e ∙ at_end (b ∷ row) d (omega arith)
 
--- ---- the row that ends with a number
+-- ---- the first row that ends with a given number (`row_ending`)
 
 pub ending_at :
     (k i : ℕ) (rows : List (List ℕ)) → i < length rows → ((j : ℕ) → j < i → last_of (row_at rows j) ≢ k) → last_of (row_at rows i) ≡ k
@@ -51,7 +51,7 @@ without_ending k (row ∷ rows) = elim (cases_eq (last_of row) k) [
       ∙ sym (without-below k row rows n)
 ]
 
--- ---- rows of which one loses its last number
+-- ---- the last number removed from row i (`without_end`)
 
 pub shorter_row :
     (rows : List (Vec ℕ Global)) (i : ℕ) (new : Vec ℕ Global) → i < length rows → new.items ≡ without_last (row_at (rows_in rows) i)
@@ -68,7 +68,7 @@ no_row [] i new h e f = absurd (omega arith)
 no_row (r ∷ rows) zero new h e f = ap (λ w. row_over w (rows_in rows)) (sym f ∙ e)
 no_row (r ∷ rows) (suc i) new h e f = ap (λ (l : List (List ℕ)). r.items ∷ l) (no_row rows i new (omega arith) e f)
 
--- ---- the last letter of a row that is smaller than the one moving up
+-- ---- the last letter of a row that is smaller than a given letter, and its replacement (`row_back`, `letter_back`)
 
 pub back_at :
     (b i : ℕ) (row : List ℕ) → i < length row → ((k : ℕ) → 1 ≤ k → k ≤ i → get_or row k 0 < b)
@@ -99,10 +99,10 @@ back_at b (suc i) (a ∷ c ∷ row) l h e =
         let s : suc i + 1 ≡ suc (i + 1) = omega arith in
         inr (subst (λ j. b ≤ get_or (a ∷ c ∷ row) j 0) s n)
 
--- ---- the letter moving up through the rows
+-- ---- the insertion undone, row by row from row `at` upwards
 
--- the letter has moved up from row `at` to `above`: the rows before `above` are still those of `start`, and the rows from there on are changed by
--- `removed`
+-- the insertion that ended in row `at` of `start` has been undone in the rows from `above` on: `now` has the first `above` rows of `start`, followed
+-- by the rows that `removed` gives for the others, and `letter` is the letter taken from row `above`
 pub record IsRising (start : List (List ℕ)) (at above : ℕ) (now : List (List ℕ)) (letter : ℕ) : Type 0 where
   pub under : above ≤ at
   pub rows : now ≡ take above start ++ (removed (at - above) (drop above start)).0
@@ -144,7 +144,7 @@ set_last i [] rest row h = absurd (omega arith)
 set_last zero (r ∷ start) rest row h = refl
 set_last (suc i) (r ∷ start) rest row h = ap (λ (l : List (List ℕ)). r ∷ l) (set_last i start rest row (omega arith))
 
--- the row above row `above` has not been changed yet
+-- if above = i + 1 and the insertion has been undone in the rows from `above` on, row i of `now` is that of `start`
 pub row_above :
     (start now : List (List ℕ)) (at above letter i : ℕ) → at < length start → above ≡ suc i → IsRising start at above now letter
     → (row_at now i ≡ row_at start i) × (i < length now)
@@ -196,11 +196,3 @@ popped (a ∷ row) n None e f g = let h = f 0 (omega arith) in cc
 popped row n (Some x) e f g =
     let some : 0 < n = g refl in
     some_same x (get_or row (n - 1) 0) (f 0 some) ∙ ap (λ m. get_or row (m - 1) 0) e ∙ at_end row 0 (omega arith)
-
-pub no_items : (row : List ℕ) → (length row == 0) ≡ true → row ≡ []
-no_items [] h = refl
-no_items (a ∷ row) h = let e = eqb-true (length (a ∷ row)) 0 h in absurd (omega arith)
-
-pub some_items : (row : List ℕ) → (length row == 0) ≡ false → 0 < length row
-some_items [] h = cc
-some_items (a ∷ row) h = omega arith

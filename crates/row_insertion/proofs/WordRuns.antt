@@ -1,4 +1,4 @@
--- A word inserted letter by letter, and taken out again step by step.
+-- A word inserted letter by letter, and the insertions of a pair of tableaux undone one by one.
 use Rattle.std.proofs.Common.{◌≡◌, ℕ, zero, suc, ◌+◌, ◌<◌, ◌≤◌, true, nat_le, List, [], ◌∷◌, ◌++◌, length, drop, get_or, reverse, Some, ◌∙◌, ap, ap₂, sym, subst, arith, append-nil, append_assoc}
 use Rattle.std.proofs.lemmas.Bool.{leb-true, and_parts}
 use Rattle.std.proofs.lemmas.List.{reverse-append, length-map}
@@ -24,7 +24,7 @@ use Rattle.row_insertion.proofs.ShrinkingRows.{without_ending}
 
 -- ---- a word inserted letter by letter
 
--- p and q are the pair of tableaux of the first `at` letters of w, and inserting the other letters gives the pair of w
+-- p and q are the insertion tableau and the recording tableau of the first `at` letters of w; inserting the other letters gives the pair of w
 pub record IsRun (w : List ℕ) (at : ℕ) (p q : List (List ℕ)) : Type 0 where
   pub pair : IsPairAt 1 at p q
   pub rest : insertion_pair w ≡ inserted_from (at + 1) (drop at w) p q
@@ -78,9 +78,10 @@ run_more w at a i p q next after h l e s f g r =
 pub run_standard : (w : List ℕ) (at : ℕ) (p q : List (List ℕ)) → IsRun w at p q → IsStandard q
 run_standard w at p q s = standard_from 1 at p q s.pair
 
--- ---- letters taken out step by step
+-- ---- the insertions undone, from the last one to the first
 
--- the letters of the steps after `step` have been taken out of p and q, the last one first, and `now` and `after` are left
+-- undoing the insertions n, n - 1, .., step + 1 of the pair p, q has given `letters`, the last letter of the word first, and the pair `now`, `after`
+-- of the first `step` insertions is left
 pub record IsUnwinding (p q : List (List ℕ)) (n step : ℕ) (now after : List (List ℕ)) (letters : List ℕ) : Type 0 where
   pub start : IsPairAt 1 n p q
   pub pair : IsPairAt 1 step now after
@@ -95,7 +96,8 @@ corner_within (suc i) [] h = absurd h
 corner_within zero (a ∷ shape) h = omega arith
 corner_within (suc i) (a ∷ shape) h = omega (arith, corner_within i shape h)
 
--- the row of the recording tableau that ends with the number of the last step is a row of both tableaux
+-- for step > 0, let i = `row_ending step after` be the index of the row of the recording tableau `after` that ends with `step`: both `after` and
+-- `now` have a row at the index i
 pub unwinding_row :
     (p q : List (List ℕ)) (n step : ℕ) (now after : List (List ℕ)) (letters : List ℕ) → IsUnwinding p q n step now after letters
     → 0 < step → (row_ending step after < length after) × (row_ending step after < length now)
@@ -140,13 +142,14 @@ unwinding_ends p q n step now after letters word e f s =
           sym (word_again other) ∙ ap (λ (r : List (List ℕ) × List (List ℕ)). word_back r.0 r.1) g ∙ ap (λ k. steps_back k p q) count ∙ same;
     }
 
--- ---- the pair of tableaux at the start
+-- ---- the given pair of tableaux, from which the insertions are undone
 
 straight_shape :
     (t : SkewFilling) (rows : List (List ℕ)) → shape_of rows ≡ row_lengths t.outer t.inner → t.inner ≡ [] → shape_of rows ≡ t.outer
 straight_shape t rows h e = h ∙ ap (row_lengths t.outer) e ∙ row_lengths-none t.outer
 
--- if p is a tableau, q is standard, and both have one straight shape of n cells, their rows are a pair of tableaux with the recorded numbers 1, .., n
+-- if p is a tableau, q is standard, and both have the same straight shape of n cells, their rows are a pair (`IsPairAt`) in which q has the numbers
+-- 1, .., n
 pub given_pair :
     (p q : SkewFilling) (n : ℕ) (ps qs : List (List ℕ)) → IsTableauWithin p → IsStandard q.rows → HaveOneShape p q
     → n + size p.inner ≡ size p.outer → ps ≡ p.rows → shape_of ps ≡ row_lengths p.outer p.inner → qs ≡ q.rows

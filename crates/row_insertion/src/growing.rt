@@ -1,4 +1,5 @@
-//! Rows that grow by a cell, in place.
+//! Functions that change rows in place: the row insertion of a letter, and the appending of a
+//! number to a row.
 ghost use Rattle.std.specs.Prelude.{◌≡◌, ◌≤◌, Some, IfOk, length, [], ◌∷◌, ◌++◌};
 ghost use Rattle.sym_model.specs.Insertion.{row_with, bumped, inserted};
 ghost use Rattle.sym_model.specs.Tableau.{shape_of};
@@ -8,8 +9,8 @@ ghost use Rattle.row_insertion.specs.RowLists.{rows_in};
 use std::alloc::AllocError;
 use std::mem;
 
-/// Inserts a letter into the rows of a tableau, and returns the number of the row, counted from 0,
-/// that has grown.
+/// Inserts `letter` into the rows of a tableau by row insertion, and returns the index, counted
+/// from 0, of the row that has become one cell longer.
 pub(crate) fn insert(rows: &mut Vec<Vec<u16>>, letter: u16) -> Result<usize, AllocError>
     ensures rows { IfOk result (λ at. rows_in rows.new.items
         ≡ inserted (rows_in rows.old.items) (Some letter)) }
@@ -28,7 +29,8 @@ pub(crate) fn insert(rows: &mut Vec<Vec<u16>>, letter: u16) -> Result<usize, All
     Ok(count)
 }
 
-/// Writes a letter into a row: over the first greater letter, which is returned, or at the end.
+/// Inserts `letter` into one row: it replaces the first greater letter, or is appended if no letter
+/// is greater. Returns the letter replaced, if there is one.
 fn put_in(row: &mut Vec<u16>, letter: u16) -> Result<Option<u16>, AllocError>
     ensures row { IfOk result (λ other. row.new.items ≡ row_with letter row.old.items) }
     ensures other { IfOk result (λ other. other ≡ bumped letter row.old.items) }
@@ -42,8 +44,8 @@ fn put_in(row: &mut Vec<u16>, letter: u16) -> Result<Option<u16>, AllocError>
     Ok(None)
 }
 
-/// Appends a number to a row, counted from 0; after the last row it begins a new one. Fails only if
-/// memory runs out.
+/// Appends `number` to row `at`, counted from 0; if `at` is the number of rows, a new row is begun.
+/// Fails only if memory runs out.
 pub fn push_at(rows: &mut Vec<Vec<u16>>, at: usize, number: u16) -> Result<(), AllocError>
     requires { at ≤ length rows.old.items }
     ensures { IfOk result (λ done. rows_in rows.new.items

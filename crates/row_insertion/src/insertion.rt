@@ -1,4 +1,4 @@
-//! The pair of tableaux of a word.
+//! The insertion tableau and the recording tableau of a word.
 ghost use Rattle.std.specs.Prelude.{◌≡◌, ◌≤◌, true, length, IfOk};
 ghost use Rattle.sym_model.specs.Insertion.{insertion_pair};
 ghost use Rattle.sym_model.specs.Tableau.{are_letters};
@@ -11,11 +11,11 @@ use calc_base::NoMemory;
 use skew_shapes::{Standard, Tableau};
 use std::alloc::Global;
 
-/// The insertion tableau and the recording tableau of a word with at most 512 letters, each at
-/// least 1 (Robinson, Schensted and Knuth): the letters are inserted one by one, and the second
-/// tableau has in each cell the step at which that cell was added. The first one is the only
-/// straight tableau whose reading word is in the Knuth class of the word. Fails only if memory runs
-/// out.
+/// The insertion tableau and the recording tableau of a word of at most 512 letters, each at least
+/// 1 (Robinson, Schensted and Knuth): the letters are inserted one by one by row insertion, and the
+/// recording tableau has in each cell the number of the insertion that added it. The insertion
+/// tableau is the only straight tableau whose reading word is in the Knuth class of the word. Fails
+/// only if memory runs out.
 pub fn insert_word(alloc: Global, letters: &[u16]) -> Result<(Tableau, Standard), NoMemory>
     requires few { length letters.now ≤ 512 }
     requires letters { are_letters letters.now ≡ true }

@@ -1,4 +1,4 @@
-//! The word of a pair of tableaux.
+//! The word with a given insertion tableau and a given recording tableau.
 ghost use Rattle.std.specs.Prelude.{◌≤◌, length, IfOk};
 ghost use Rattle.sym_model.specs.Schur.{letters_of};
 ghost use Rattle.row_insertion.specs.Pairs.{HaveOneShape, IsTheWordOf};
@@ -10,8 +10,8 @@ use calc_base::NoMemory;
 use skew_shapes::{Standard, Tableau};
 use std::alloc::Global;
 
-/// The one word that `insert_word` takes to this pair of tableaux of one straight shape with at
-/// most 512 cells. Fails only if memory runs out.
+/// The only word with the insertion tableau `p` and the recording tableau `q`, which must have the
+/// same straight shape with at most 512 cells. Fails only if memory runs out.
 pub fn word_of_pair(alloc: Global, p: &Tableau, q: &Standard) -> Result<Word, NoMemory>
     requires one_shape { HaveOneShape p.now q.now }
     requires few { length (letters_of p.now.rows) ≤ 512 }

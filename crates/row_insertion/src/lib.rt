@@ -1,11 +1,12 @@
-//! Row insertion: the pair of tableaux of a word, the word of a pair, and the reading word of a
-//! tableau; and standard tableaux that are built row by row.
+//! Row insertion: the insertion tableau and the recording tableau of a word, the word of such a
+//! pair, and the reading word of a tableau; also tableaux made from their rows.
 //!
 //! What is proved:
 //!
-//! `insert_word` gives the two tableaux of a word by row insertion; both have one straight shape,
-//! and the first one is the only straight tableau of the word's Knuth class. `word_of_pair` gives
-//! the only word that insertion takes to a given pair of a straight and a standard tableau of one
+//! `insert_word` gives the insertion tableau and the recording tableau of a word; they have the
+//! same straight shape, and the insertion tableau is the only straight tableau whose reading word
+//! is in the Knuth class of the word. `word_of_pair` gives the only word whose insertion tableau
+//! and recording tableau are a given straight tableau and a given standard tableau of the same
 //! shape. `reading_word` gives the rows of a tableau from the bottom up. `push_at` appends a number
 //! to a row, and `standard_of` gives the standard tableau with given rows. Each of these fails only
 //! if memory runs out.

@@ -12,7 +12,8 @@ use partitions::Partition;
 use skew_shapes::{Filled, Skew, Standard, Tableau, filling_with_reading};
 use std::alloc::Global;
 
-/// The straight tableau with these rows.
+/// The tableau of straight shape with these rows, which must be those of a semistandard tableau of
+/// at most 512 cells.
 pub(crate) fn tableau_of(alloc: Global, rows: &[Vec<u16>]) -> Result<Tableau, NoMemory>
     requires tableau { AreRows 1 (rows_in rows.now) }
     requires few { size (shape_of (rows_in rows.now)) ≤ 512 }
@@ -28,7 +29,7 @@ pub(crate) fn tableau_of(alloc: Global, rows: &[Vec<u16>]) -> Result<Tableau, No
     }
 }
 
-/// The straight shape of these rows.
+/// The straight shape whose parts are the lengths of these rows.
 fn straight_shape(alloc: Global, rows: &[Vec<u16>]) -> Result<Skew, NoMemory>
     requires tableau { AreRows 1 (rows_in rows.now) }
     requires few { size (shape_of (rows_in rows.now)) ≤ 512 }
@@ -46,7 +47,8 @@ fn straight_shape(alloc: Global, rows: &[Vec<u16>]) -> Result<Skew, NoMemory>
     }
 }
 
-/// Writes the numbers of one row, counted from 1, into a straight filling.
+/// Replaces the numbers of row `row`, counted from 1, of a filling of straight shape with
+/// `numbers`.
 fn put_row(filled: &mut Filled, row: u16, numbers: &[u16])
     requires straight { filled.old.inner ≡ [] }
     requires shape { shape_of filled.old.rows ≡ filled.old.outer }
@@ -73,7 +75,7 @@ pub fn standard_of(alloc: Global, rows: &[Vec<u16>]) -> Result<Standard, NoMemor
     }
 }
 
-/// The rows of a tableau.
+/// A copy of the rows of a tableau.
 pub(crate) fn rows_of(alloc: Global, t: &Tableau) -> Result<Vec<Vec<u16>>, NoMemory>
     ensures rows { IfOk result (λ list. rows_in list.items ≡ t.now.rows) }
     ensures lengths { IfOk result

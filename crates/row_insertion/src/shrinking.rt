@@ -1,4 +1,5 @@
-//! Rows that lose a cell, in place.
+//! Row insertion undone, in place: the last letter of a row is removed from a tableau, and letters
+//! of the rows above are replaced.
 ghost use Rattle.std.specs.Prelude.{◌≡◌, ◌<◌, length, slice_index, slice_set};
 ghost use Rattle.insertion_laws.specs.Removal.{last_of, letter_back, removed, row_back, row_ending};
 ghost use Rattle.insertion_laws.specs.Removal.{without_last};
@@ -7,7 +8,8 @@ ghost use Rattle.row_insertion.specs.RowLists.{row_at, rows_in, without_end};
 
 use std::mem;
 
-/// The first row, counted from 0, that ends with the number; if there is none, the number of rows.
+/// The first row, counted from 0, whose last number is `number`; the number of rows if there is no
+/// such row.
 pub(crate) fn row_ending(rows: &[Vec<u16>], number: u16) -> usize
     ensures { result ≡ row_ending number (rows_in rows.now) }
 {
@@ -29,9 +31,9 @@ fn last_of(row: &[u16]) -> u16
     *last
 }
 
-/// Removes the last letter of a row, counted from 0, from the rows of a tableau: it moves up, and
-/// in each row takes the place of the last smaller letter, which moves on. Returns the letter that
-/// leaves the first row.
+/// Undoes the row insertion that ended in row `at`, counted from 0: takes the last letter off this
+/// row; in each row above, from the bottom up, the letter taken replaces the last smaller letter,
+/// which is taken next. Returns the letter taken from the first row.
 pub(crate) fn take_out(rows: &mut Vec<Vec<u16>>, at: usize) -> u16
     requires tableau { AreRows 1 (rows_in rows.old.items) }
     requires row { at < length rows.old.items }
@@ -46,8 +48,8 @@ pub(crate) fn take_out(rows: &mut Vec<Vec<u16>>, at: usize) -> u16
     letter
 }
 
-/// Removes the last number of a row, counted from 0, and returns it; a row that becomes empty is
-/// dropped.
+/// Removes the last number of row `at`, counted from 0, and returns it; if the row becomes empty,
+/// it is dropped.
 pub(crate) fn take_last(rows: &mut Vec<Vec<u16>>, at: usize) -> u16
     requires { at < length rows.old.items }
     ensures rows { rows_in rows.new.items ≡ without_end at (rows_in rows.old.items) }
@@ -68,8 +70,8 @@ fn pop_last(row: &mut Vec<u16>) -> u16
     row.pop().unwrap_or(0)
 }
 
-/// Writes a letter over the last smaller one of a row that begins with a smaller one, and returns
-/// the letter that was there.
+/// Replaces the last letter of the row that is smaller than `letter` with `letter`, and returns the
+/// letter replaced. The row must not be empty; its first letter counts as smaller in any case.
 fn put_back(row: &mut Vec<u16>, letter: u16) -> u16
     requires { 0 < length row.old.items }
     ensures row { row.new.items ≡ row_back letter row.old.items }
@@ -79,8 +81,8 @@ fn put_back(row: &mut Vec<u16>, letter: u16) -> u16
     mem::replace(&mut row[place], letter)
 }
 
-/// The place, counted from 0, of the last letter smaller than `letter` in a row that begins with a
-/// smaller one.
+/// The index, counted from 0, of the last letter of the row that is smaller than `letter`; 0 if no
+/// letter after the first one is smaller.
 fn last_smaller(row: &[u16], letter: u16) -> usize
     requires { 0 < length row.now }
     ensures within { result < length row.now }

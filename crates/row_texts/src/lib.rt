@@ -1,4 +1,5 @@
-//! Prints lines for the programs that print results of library calls, one line for each call.
+//! Prints lines for the programs whose output shows the results of library calls, one line for each
+//! call.
 //!
 //! A function that prints computed values is expensive to prove, and so is one that drops several
 //! values between several `?`. So the printing is done here, and a list of results is printed by
@@ -8,12 +9,12 @@
 use anyhow::Result;
 use std::fmt::Display;
 
-/// Prints a line with a name and a result.
+/// Prints a line with the name `what`, a colon and a result.
 pub fn said<T: Display>(rt: &impl Print, what: &str, answer: &T) -> Result<()> {
     Ok(println!(rt; "{what}: {answer}")?)
 }
 
-/// Prints a line for each name and result.
+/// Prints a line for each name and result of a list.
 pub fn each_said<T: Display>(rt: &impl Print, rows: &[(&str, T)]) -> Result<()> {
     for (what, answer) in rows {
         said(rt, what, answer)?;
@@ -21,24 +22,24 @@ pub fn each_said<T: Display>(rt: &impl Print, rows: &[(&str, T)]) -> Result<()> 
     Ok(())
 }
 
-/// Prints a line with yes or no.
+/// Prints a line with the name `what` and yes or no.
 pub fn truth(rt: &impl Print, what: &str, answer: bool) -> Result<()> {
     said(rt, what, &if answer { "yes" } else { "no" })
 }
 
-/// Prints a line with a text of bytes in quotes.
+/// Prints a line with the name `what` and a text, given by its bytes, in quotes.
 pub fn text(rt: &impl Print, what: &str, bytes: &[u8]) -> Result<()> {
     Ok(println!(rt; "{what}: \"{}\"", str::from_utf8(bytes)?)?)
 }
 
-/// Prints a line with numbers in brackets.
+/// Prints a line with the name `what` and a list of numbers in brackets.
 pub fn line<T: Display>(rt: &impl Print, what: &str, parts: &[T]) -> Result<()> {
     print!(rt; "{what}: ")?;
     label(rt, parts)?;
     end(rt)
 }
 
-/// Prints numbers in brackets.
+/// Prints a list of numbers in brackets, with commas between them and without a line feed.
 pub fn label<T: Display>(rt: &impl Print, parts: &[T]) -> Result<()> {
     print!(rt; "(")?;
     for (at, part) in parts.iter().enumerate() {
@@ -48,7 +49,7 @@ pub fn label<T: Display>(rt: &impl Print, parts: &[T]) -> Result<()> {
     Ok(print!(rt; ")")?)
 }
 
-/// Begins a line of terms.
+/// Begins a line of terms: prints the name `what` and a colon.
 pub fn start(rt: &impl Print, what: &str) -> Result<()> {
     Ok(print!(rt; "{what}:")?)
 }
@@ -59,7 +60,7 @@ pub fn term<C: Display, T: Display>(rt: &impl Print, c: &C, parts: &[T]) -> Resu
     label(rt, parts)
 }
 
-/// Ends a line.
+/// Ends a line of terms.
 pub fn end(rt: &impl Print) -> Result<()> {
     Ok(println!(rt)?)
 }

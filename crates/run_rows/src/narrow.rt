@@ -2,7 +2,8 @@
 use std::io;
 use std::io::{ErrorKind, Read, Write};
 
-/// A reader that gives a byte, fails, gives a byte, and has ended.
+/// A reader whose first call gives one byte, whose second call fails, and whose third gives one
+/// byte; then it has ended.
 #[derive(Drop)]
 pub struct NarrowReader {
     reads: u8,
@@ -50,7 +51,7 @@ impl NarrowWriter {
         }
     }
 
-    /// The bytes that were written.
+    /// The bytes that were written to the writer, at most 8.
     pub fn taken(&self) -> &[u8] {
         &self.taken[..self.count.min(8)]
     }

@@ -1,12 +1,12 @@
-//! Runs over inputs that are given two bytes at a time, in which a call of the sink or of the
-//! source may fail, with their outcomes.
+//! Runs of the calculator, with their outcomes. The input is given two bytes at a time, and in most
+//! runs a call of the sink or of the source fails.
 use anyhow::Result;
 use calc_app::run;
 use calc_base::{MemSink, MemSource};
 use std::alloc::{AllocError, Global};
 
-/// A run: the words of the command, its input, the calls of the source and of the sink that fail,
-/// and the number of bytes for which the sink has room.
+/// A run of the calculator: the words of the command, its input, the calls of the source and of the
+/// sink that fail, and the number of bytes for which the sink has room.
 struct Run {
     what: &'static str,
     words: &'static [&'static str],
@@ -159,8 +159,8 @@ fn words(alloc: Global, texts: &[&str]) -> Result<Vec<String>, AllocError> {
     Ok(words)
 }
 
-/// Runs a command, and prints its status, the numbers of failed calls of the source and of the
-/// sink, and the bytes that were written.
+/// Runs a command over a source and a sink in memory, and prints its status, the numbers of failed
+/// calls of the source and of the sink, and the bytes that were written.
 fn ended(
     rt: &(impl Print + Alloc<A = Global>),
     words: &[String],

@@ -6,7 +6,8 @@ use row_texts::{end, said, start, term, text};
 use std::alloc::Global;
 use std::io::BufWriter;
 
-/// Prints the outcomes of calls of sinks in memory, in a buffer, without bytes and over a writer.
+/// Prints the outcomes of calls of four kinds of sinks: in memory, in a buffer of fixed size, one
+/// that only counts, and one over a writer.
 pub fn print(rt: &(impl Print + Alloc<A = Global>)) -> Result<()> {
     in_memory(
         rt,
@@ -40,7 +41,7 @@ fn counted(rt: &impl Print) -> Result<()> {
 
 fn written(rt: &(impl Print + Alloc<A = Global>)) -> Result<()> {
     let mut writer = NarrowWriter::new();
-    // A buffer without room writes each piece at once.
+    // A `BufWriter` of capacity 0 passes each piece to its writer at once.
     let straight = BufWriter::with_capacity(rt.alloc(), 0, &mut writer)?;
     put_and_finish_twice(rt, StdOut::new(straight))?;
     text(rt, "written", writer.taken())
@@ -52,7 +53,7 @@ fn put_and_finish_twice<K: Sink + Drop>(rt: &impl Print, sink: K) -> Result<()> 
     finish(rt, &mut sink)
 }
 
-/// Writes the pieces and finishes, and prints the outcome of each call.
+/// Writes the pieces to the sink and calls `finish`, and prints the outcome of each call.
 fn put_each<K: Sink>(rt: &impl Print, sink: &mut K, pieces: &[&str]) -> Result<()> {
     for piece in pieces {
         put(rt, sink, piece)?;

@@ -25,7 +25,7 @@ fn take_four<S: Source>(rt: &impl Print, what: &str, source: &mut S) -> Result<(
     Ok(())
 }
 
-/// Prints the result of a call with room for four bytes.
+/// Takes bytes from the source into a buffer of four bytes, and prints the result of the call.
 fn take<S: Source>(rt: &impl Print, what: &str, source: &mut S) -> Result<()> {
     let mut buf = [0; 4];
     match source.take(&mut buf) {

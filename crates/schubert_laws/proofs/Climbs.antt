@@ -1,7 +1,8 @@
--- Divided differences as operators on test functions of two numbers, the exponents of the two variables.
---     climb φ a b       the sum of φ c d over c < a, with c + d one less than a + b
---     across φ a b      the pairing of φ with ∂ x^a y^b
---     stepped φ a b     the pairing of φ with (x - y)·x^a·y^b: the inverse of a climb
+-- Divided differences in two variables x and y as operators on functions φ of two numbers, the exponents of x and y. The pairing of φ with a
+-- polynomial is the sum of c·φ(a, b) over the terms c·x^a·y^b of the polynomial.
+--     climb φ a b       the sum of φ(c, a + b - 1 - c) over c = 0, .., a - 1
+--     across φ a b      the pairing of φ with ∂(x^a y^b)
+--     stepped φ a b     the pairing of φ with (x - y)·x^a·y^b; `stepped (climb φ)` is φ, and `climb (stepped φ)` at a, b is φ(a, b) - φ(0, a + b)
 use Rattle.std.proofs.Common.{◌≡◌, ℕ, zero, suc, ◌+◌, refl, sym, ap, ap₂, arith, ℤ, pos, ◌+ℤ◌, ◌-ℤ◌, neg_ℤ}
 use Rattle.std.proofs.lemmas.Int.{ints}
 
@@ -15,7 +16,7 @@ across φ a b = climb φ a b -ℤ climb φ b a
 abbrev pub stepped : (ℕ → ℕ → ℤ) → ℕ → ℕ → ℤ
 stepped φ a b = φ (suc a) b -ℤ φ a (suc b)
 
--- ---- equal test functions have equal climbs
+-- ---- `climb` of equal functions, of sums and of negatives
 
 pub climb_ext : (φ ψ : ℕ → ℕ → ℤ) → ((a b : ℕ) → φ a b ≡ ψ a b) → (a b : ℕ) → climb φ a b ≡ climb ψ a b
 climb_ext φ ψ e zero b = refl
@@ -45,7 +46,7 @@ across_minus φ ψ a b =
     let n = across_neg ψ a b in
     omega (arith, ints)
 
--- ---- `climb` and `stepped` undo each other
+-- ---- `stepped` of `climb φ` is φ, and `climb` of `stepped φ` at a, b is φ(a, b) - φ(0, a + b)
 
 pub stepped_climb : (φ : ℕ → ℕ → ℤ) (a b : ℕ) → stepped (climb φ) a b ≡ φ a b
 stepped_climb φ a b = omega (arith, ints)
@@ -54,14 +55,14 @@ climb_stepped : (φ : ℕ → ℕ → ℤ) (a b n : ℕ) → a + b ≡ n → cli
 climb_stepped φ zero b n e = let d : b ≡ n = omega arith in let f = ap (φ 0) d in omega (arith, ints)
 climb_stepped φ (suc a) b n e = let h = climb_stepped φ a (suc b) n (omega arith) in omega (arith, ints)
 
--- `across (stepped φ) a b` is φ a b less φ b a: ∂ of (x - y)·f is f less f with x and y exchanged
+-- `across (stepped φ) a b` is φ(a, b) - φ(b, a): ∂((x - y)·f) is f minus f with x and y exchanged
 pub across_stepped : (φ : ℕ → ℕ → ℤ) (a b : ℕ) → across (stepped φ) a b ≡ φ a b -ℤ φ b a
 across_stepped φ a b =
     let e = climb_stepped φ a b (a + b) refl in
     let d = climb_stepped φ b a (a + b) (omega arith) in
     omega (arith, ints)
 
--- if φ changes its sign when its two numbers are exchanged, `across φ` is 0
+-- if φ(b, a) = -φ(a, b) for all a and b, then `across φ` is 0
 pub across_alternating : (φ : ℕ → ℕ → ℤ) → ((a b : ℕ) → φ b a ≡ neg_ℤ (φ a b)) → (a b : ℕ) → across φ a b ≡ pos 0
 across_alternating φ h a b =
     let e = across_ext (λ c d. φ c d +ℤ φ c d) (stepped (λ c d. climb φ c d +ℤ climb φ d c)) (λ c d. let k = h c d in omega (arith, ints)) a b in
@@ -69,18 +70,18 @@ across_alternating φ h a b =
     let f = across_stepped (λ c d. climb φ c d +ℤ climb φ d c) a b in
     omega (arith, ints)
 
--- ∂ f is symmetric: `across φ` is the same if the numbers of φ are exchanged
+-- `across φ` does not change if the two numbers of φ are exchanged: ∂ f is symmetric in x and y
 pub across_exchanged : (φ : ℕ → ℕ → ℤ) (a b : ℕ) → across (λ c d. φ d c) a b ≡ across φ a b
 across_exchanged φ a b =
     let z = across_alternating (λ c d. φ d c -ℤ φ c d) (λ c d. omega (arith, ints)) a b in
     let m = across_minus (λ c d. φ d c) φ a b in
     omega (arith, ints)
 
--- applying `across` twice gives 0: the square of ∂ is 0
+-- `across (across φ)` is 0: ∂(∂ f) = 0
 pub across_across : (φ : ℕ → ℕ → ℤ) (a b : ℕ) → across (across φ) a b ≡ pos 0
 across_across φ a b = across_alternating (across φ) (λ c d. omega (arith, ints)) a b
 
--- the rule of products (Leibniz): ∂(f·g) = ∂f·g + f'·∂g, f' being f with x and y exchanged
+-- the Leibniz rule for products: ∂(f·g) = ∂f·g + f'·∂g for monomials f = x^a y^b and g = x^p y^q; f' is f with x and y exchanged
 pub across_product : (φ : ℕ → ℕ → ℤ) (a b p q : ℕ)
     → across φ (a + p) (b + q) ≡ across (λ c d. φ (c + p) (d + q)) a b +ℤ across (λ c d. φ (b + c) (a + d)) p q
 across_product φ a b p q =

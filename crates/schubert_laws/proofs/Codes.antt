@@ -3,7 +3,7 @@ use Rattle.std.proofs.Common.{◌≡◌, ℕ, zero, suc, ◌+◌, ◌<◌, ◌�
 use Rattle.std.specs.List.{remove}
 use Rattle.std.proofs.lemmas.Int.{ints}
 use Rattle.std.proofs.lemmas.List.{append-nil, length-replicate}
-use Rattle.std.proofs.lemmas.Bool.{cases_eq, cases_lt}
+use Rattle.std.proofs.lemmas.Bool.{cases_eq, cases_lt, cond_below}
 use Rattle.sym_model.specs.Sum.{total, Among, Once, Within}
 use Rattle.sym_model.specs.Partition.{size, after}
 use Rattle.sym_model.specs.PlaceOrders.{places, smaller, inversions}
@@ -16,10 +16,10 @@ use Rattle.schubert_laws.proofs.PathsFromOne.{below_next}
 use Rattle.schubert_laws.proofs.Swaps.{among_get}
 use Rattle.schubert_laws.proofs.Transition.{last_descent_is}
 use Rattle.sym_model.proofs.AfterLists.{length_after, after_among, among_after}
-use Rattle.sym_model.proofs.Numbers.{counts-not_less, counts-less}
+use Rattle.sym_model.proofs.Numbers.{counts-not_less}
 use Rattle.sym_model.proofs.Lists.{smaller-within}
 
--- ---- the inversions and the code of a list
+-- ---- the sum, the length and the entries of the code of a list
 
 pub inversions-code : (w : List ℕ) → inversions w ≡ size (code w)
 inversions-code [] = refl
@@ -33,7 +33,7 @@ pub code_is_code : (w : List ℕ) → IsCode (code w)
 code_is_code [] = tt
 code_is_code (a ∷ w) = (let e = smaller-within a w in let l = length-code w in omega arith, code_is_code w)
 
--- ---- strictly increasing lists
+-- ---- strictly increasing lists, and such lists with an entry removed
 
 abbrev Ascends : List ℕ → Type 0
 Ascends [] = Unit {0}
@@ -69,18 +69,19 @@ smaller-remove x (suc c) (y ∷ l) h = let e = smaller-remove x c l (omega arith
 weak : (x : ℕ) (l : List ℕ) → ((y : ℕ) → Among y l → x < y) → (y : ℕ) → Among y l → x ≤ y
 weak x l h y m = let k = h y m in omega arith
 
--- the entry at place c, counted from 0, of a strictly increasing list has c smaller ones
+-- in a strictly increasing list, the entry at place c, counted from 0, has exactly c smaller entries
 smaller_index : (c : ℕ) (l : List ℕ) → Ascends l → c < length l → smaller (get_or l c 0) l ≡ c
 smaller_index c [] a h = absurd (omega arith)
 smaller_index zero (x ∷ l) a h = let n = counts-not_less x x (omega arith) in let e = smaller_of_none x l (weak x l a.0) in omega arith
 smaller_index (suc c) (x ∷ l) a h =
     let e = smaller_index c l a.1 (omega arith) in
-    let n = counts-less x (get_or l c 0) (a.0 (get_or l c 0) (among_get c 0 l (omega arith))) in
+    let n = sym (cond_below {X = ℕ} x (get_or l c 0) 1 0 (a.0 (get_or l c 0) (among_get c 0 l (omega arith)))) in
     omega arith
 
--- ---- the letters that a code chooses
+-- ---- the letters that a code chooses from an increasing list (`letters_by_code`), and their code
 
--- if a code chooses the letters of the list l, the chosen letters and those of l have the same number of letters below x
+-- if the code cs has the length of the list l, the list of the letters that cs chooses from l has, for each x, the same number of letters below x as
+-- l
 smaller-letters : (x : ℕ) (cs l : List ℕ) → IsCode cs → length l ≡ length cs → smaller x (letters_by_code cs l) ≡ smaller x l
 smaller-letters x [] l i e = refl
 smaller-letters x (c ∷ cs) l i e =
@@ -152,7 +153,7 @@ one_line_letters cs i =
 pub one_line_from_code : (cs : List ℕ) → IsCode cs → IsOneLine (from_code cs)
 one_line_from_code cs i = one_line_kept (letters_by_code cs (places (length cs))) (one_line_letters cs i)
 
--- the code of a permutation followed by fixed letters is its code followed by zeros; a code cs is the code of `from_code cs`, followed by zeros
+-- the code of a permutation w followed by fixed letters is the code of w followed by zeros
 
 code_zeros : (k : ℕ) (w : List ℕ) → IsOneLine w → code (w ++ after (length w) k) ≡ code w ++ replicate k 0
 code_zeros zero w o = ap code (append-nil w) ∙ sym (append-nil (code w))
@@ -172,20 +173,20 @@ code_from_code cs i =
           ∙ code-letters cs (places (length cs)) i (length_after 0 (length cs)) (ascends_after 0 (length cs)),
     )
 
--- ---- a permutation, its code, and the permutation of this code
+-- ---- the permutation of the code of a permutation w is w, up to fixed letters at the end
 
--- the lists w and l have the same length, and the same number of entries below each number x
+-- the lists w and l have the same length and, for each x, the same number of entries below x
 record IsRearranged (w l : List ℕ) : Type 0 where
   pub lengths : length l ≡ length w
   pub counts : (x : ℕ) → smaller x w ≡ smaller x l
 
--- an entry a of a strictly increasing list l is at the place given by the number of smaller entries
+-- if a is an entry of a strictly increasing list l, it is at the place, counted from 0, that is the number of entries smaller than a
 found : (a : ℕ) (l : List ℕ) → Ascends l → smaller a l < smaller (suc a) l → get_or l (smaller a l) 0 ≡ a
 found a [] s h = absurd (omega arith)
 found a (y ∷ l) s h = elim (cases_lt y a) [
   | inl k ↦
-      let p = counts-less y a k in
-      let q = counts-less y (suc a) (omega arith) in
+      let p = sym (cond_below {X = ℕ} y a 1 0 k) in
+      let q = sym (cond_below {X = ℕ} y (suc a) 1 0 (omega arith)) in
       let r = found a l s.1 (omega arith) in
       let e : smaller a (y ∷ l) ≡ suc (smaller a l) = omega arith in
       ap (λ n. get_or (y ∷ l) n 0) e ∙ r
@@ -210,7 +211,7 @@ letters-code (a ∷ w) l s r =
     let own = counts-not_less a a (omega arith) in
     let here = r.counts a in
     let next = r.counts (suc a) in
-    let up = counts-less a (suc a) (omega arith) in
+    let up = sym (cond_below {X = ℕ} a (suc a) 1 0 (omega arith)) in
     let more = smaller_grows a w in
     let c : smaller a w ≡ smaller a l = omega arith in
     let inside = smaller_below_length a l (omega arith) in
@@ -228,29 +229,30 @@ letters-code (a ∷ w) l s r =
     smaller_grows : (b : ℕ) (v : List ℕ) → smaller b v ≤ smaller (suc b) v
     smaller_grows b [] = omega arith
     smaller_grows b (y ∷ v) = let e = smaller_grows b v in elim (cases_lt y b) [
-      | inl k ↦ let p = counts-less y b k in let q = counts-less y (suc b) (omega arith) in omega arith
+      | inl k ↦ let p = sym (cond_below {X = ℕ} y b 1 0 k) in let q = sym (cond_below {X = ℕ} y (suc b) 1 0 (omega arith)) in omega arith
       | inr k ↦ let p = counts-not_less y b k in omega arith
     ]
 
     smaller_below_length : (b : ℕ) (v : List ℕ) → smaller b v < smaller (suc b) v → smaller b v < length v
     smaller_below_length b v h = let m = smaller-within (suc b) v in omega arith
 
--- the number of smaller entries is a sum over the entries, and so does not depend on their order
+-- the number of entries of w that are smaller than x, as a sum over the entries, which does not depend on their order
 pub smaller_total : (x : ℕ) (w : List ℕ) → pos (smaller x w) ≡ total (λ b. pos (cond (nat_lt b x) 1 0)) w
 smaller_total x [] = refl
 smaller_total x (b ∷ w) = let e = smaller_total x w in omega (arith, ints)
+
+-- the letters of w in one-line notation are among the numbers from 1 to its length
+pub letters_in_places : (w : List ℕ) → IsOneLine w → Within w (places (length w))
+letters_in_places w o a m = let r = o.letters a m in let p = r.0 in let q = r.1 in among_after 0 (length w) a (omega arith) (omega arith)
 
 pub from_code-code : (w : List ℕ) → IsOneLine w → from_code (code w) ≡ kept w
 from_code-code w o =
     ap (λ n. kept (letters_by_code (code w) (places n))) (length-code w)
     ∙ ap kept (letters-code w (places (length w)) (ascends_after 0 (length w)) (record { lengths = length_after 0 (length w); counts = counts }))
   where
-    inside : Within w (places (length w))
-    inside a m = let r = o.letters a m in let p = r.0 in let q = r.1 in among_after 0 (length w) a (omega arith) (omega arith)
-
     counts : (x : ℕ) → smaller x w ≡ smaller x (places (length w))
     counts x =
-        let e = total_within (λ b. pos (cond (nat_lt b x) 1 0)) (places (length w)) w o.once inside (sym (length_after 0 (length w))) in
+        let e = total_within (λ b. pos (cond (nat_lt b x) 1 0)) (places (length w)) w o.once (letters_in_places w o) (sym (length_after 0 (length w))) in
         let p = smaller_total x w in
         let q = smaller_total x (places (length w)) in
         omega (arith, ints)
@@ -258,9 +260,9 @@ from_code-code w o =
 pub code_of_letters : (cs : List ℕ) → IsCode cs → code (letters_by_code cs (places (length cs))) ≡ cs
 code_of_letters cs i = code-letters cs (places (length cs)) i (length_after 0 (length cs)) (ascends_after 0 (length cs))
 
--- ---- the code of the identity
+-- ---- the permutation whose code has only zeros is the identity
 
--- if each entry of a code is 0, the letters are chosen in order
+-- a code that has only zeros chooses all letters of a list in their order
 letters_by_zeros : (n : ℕ) (left : List ℕ) → length left ≡ n → letters_by_code (replicate n 0) left ≡ left
 letters_by_zeros zero left e = refl
 letters_by_zeros (suc n) [] e = absurd (omega arith)

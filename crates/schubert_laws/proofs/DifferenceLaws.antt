@@ -1,4 +1,4 @@
--- The laws of divided differences as laws of polynomials. Places count from 0 here: `differences_after k` is ∂_(k+1).
+-- The laws of divided differences of polynomials, with the variables counted from 0: `differences_after k` is ∂_(k+1).
 use Rattle.std.proofs.Common.{◌≡◌, ℕ, zero, suc, ◌+◌, ◌-◌, ◌<◌, ◌≤◌, List, [], ◌∷◌, ◌++◌, map, length, replicate, refl, sym, ◌∙◌, ap, ap₂, arith, ℤ, pos, ◌+ℤ◌, ◌-ℤ◌, ◌*ℤ◌, neg_ℤ}
 use Rattle.std.proofs.lemmas.Int.{ints}
 use Rattle.std.specs.List.{range_with_len}
@@ -60,7 +60,7 @@ differences_braid k f =
     ∙ pair_differences k (differences_after (suc k) f) (along (suc k) φ)
     ∙ pair_differences (suc k) f (along k (along (suc k) φ))))
 
--- ---- divided differences do not change the number of variables
+-- ---- if f is in n variables, so are its divided differences
 
 In_powers : (sign : ℤ) (a b n : ℕ) (rest : List ℕ) → suc (suc (length rest)) ≡ n → In n (powers_between sign a b rest)
 In_powers sign a b n rest e = In_map n (λ c. (c ∷ (a + b - 1 - c) ∷ rest, sign)) (range_with_len b (a - b)) (λ c m. e)
@@ -76,7 +76,7 @@ In_difference (suc k) n (a ∷ rest) l =
 pub In_differences : (k n : ℕ) (f : Poly) → In n f → In n (differences_after k f)
 In_differences k n f i = In_each n (λ (t : Term). scale t.1 (difference_after k t.0)) f (λ t m. In_scale n t.1 (difference_after k t.0) (In_difference k n t.0 (i t m)))
 
--- ---- exchanges of two neighbouring variables
+-- ---- polynomials with two neighbouring variables exchanged
 
 -- the polynomial f with the two variables at the places k and k + 1, counted from 0, exchanged
 abbrev pub exchange_variables : ℕ → Poly → Poly
@@ -85,7 +85,7 @@ exchange_variables k f = map (λ (t : Term). (exchange_at k t.0, t.1)) f
 pub pair_exchange_variables : (k : ℕ) (f : Poly) (φ : List ℕ → ℤ) → pair (exchange_variables k f) φ ≡ pair f (λ α. φ (exchange_at k α))
 pair_exchange_variables k f φ = total_map (λ (t : Term). t.1 *ℤ φ t.0) (λ (t : Term). (exchange_at k t.0, t.1)) f
 
--- ---- the rule of products (Leibniz)
+-- ---- the Leibniz rule for the divided difference of a product
 
 along_product : (k : ℕ) (φ : List ℕ → ℤ) (α β : List ℕ) → length α ≡ length β → suc k < length α
     → along k φ (join α β) ≡ along k (λ γ. φ (join γ β)) α +ℤ along k (λ γ. φ (join (exchange_at k α) γ)) β
@@ -125,9 +125,9 @@ differences-times k n f g i j h =
         ∙ pair_add g (λ β. along k (λ γ. φ (join γ β)) α) (along k (λ γ. φ (join (exchange_at k α) γ)))
         ∙ ap (λ x. x +ℤ right φ α) (along_pair k g (λ γ β. φ (join γ β)) α)
 
--- ---- ∂_i f times x_i - x_(i+1) is f less f with both variables exchanged
+-- ---- ∂_i f times x_i - x_(i+1) is f minus f with x_i and x_(i+1) exchanged
 
--- the variable with the index k + 1
+-- the variable x_(k+1)
 abbrev pub variable_after : ℕ → Poly
 variable_after k = x_to (replicate k 0 ++ (1 ∷ []))
 
@@ -144,7 +144,7 @@ along_quotient zero φ (a ∷ []) h = absurd (omega arith)
 along_quotient zero φ (a ∷ b ∷ α) h = across_stepped (λ c d. φ (c ∷ d ∷ α)) a b
 along_quotient (suc k) φ (a ∷ α) h = along_quotient k (λ γ. φ (a ∷ γ)) α (omega arith)
 
--- let x and y be the variables at the places k and k + 1, counted from 0: then (x - y)·∂ f is f less f with x and y exchanged
+-- if f is in n variables, and k + 1 < n, then (x_(k+1) - x_(k+2))·∂_(k+1) f is f minus f with x_(k+1) and x_(k+2) exchanged
 pub difference_quotient : (k n : ℕ) (f : Poly) → In n f → suc k < n
     → Same (times (plus (variable_after k) (negate (variable_after (suc k)))) (differences_after k f)) (plus f (negate (exchange_variables k f)))
 difference_quotient k n f i h =

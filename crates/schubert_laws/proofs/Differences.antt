@@ -1,7 +1,8 @@
--- Divided differences of polynomials through their pairings with test functions.
---     along k φ              the pairing of φ with ∂ of a monomial, in the two variables after the first k
---     pair_differences       the pairing of ∂ f is that of f with `along`
---     along_square, along_braid, along_commute                     the laws of divided differences, on test functions
+-- Divided differences of polynomials, described by the pairings of polynomials with functions φ of exponent lists: the pairing of φ with f is the sum
+-- of c·φ(α) over the terms c·x^α of f.
+--     along k φ              at α, the pairing of φ with ∂_(k+1) x^α, the divided difference in the two variables after the first k
+--     pair_differences       the pairing of φ with ∂_(k+1) f is the pairing of `along k φ` with f
+--     along_square, along_braid, along_commute                     the laws of divided differences, as equations of `along`
 use Rattle.std.proofs.Common.{◌≡◌, ℕ, zero, suc, ◌+◌, ◌-◌, ◌≤◌, List, [], ◌∷◌, ◌++◌, refl, sym, ◌∙◌, ap, arith, ℤ, pos, ◌+ℤ◌, ◌*ℤ◌, neg_ℤ, inl, inr}
 use Rattle.std.proofs.lemmas.Int.{ints}
 use Rattle.std.proofs.lemmas.Bool.{cases_lt}
@@ -14,7 +15,7 @@ use Rattle.sym_model.proofs.Polynomials.{pair_plus, pair_each, pair_scale}
 use Rattle.schubert_laws.proofs.Climbs.{climb, across, across_ext, across_add, across_neg, across_across}
 use Rattle.schubert_laws.proofs.TripleClimbs.{front_back}
 
--- ---- the sums of powers in a divided difference are climbs
+-- ---- the sums of powers in the divided difference of a monomial, as values of `across`
 
 range_more : (f : ℕ → ℤ) (p m n : ℕ) → total f (range_with_len p (m + n)) ≡ total f (range_with_len p m) +ℤ total f (range_with_len (p + m) n)
 range_more f p zero n =
@@ -40,7 +41,7 @@ climb_range φ (suc a) b s e =
     let k = ap (φ a) d in
     omega (arith, ints)
 
--- the sum of φ c (s - 1 - c) over the c from b to a - 1 is `across φ a b`, a difference of climbs
+-- if a + b = s and b ≤ a, the sum of φ(c, s - 1 - c) over c = b, .., a - 1 is `across φ a b`
 between : (φ : ℕ → ℕ → ℤ) (a b s : ℕ) → a + b ≡ s → b ≤ a → total (λ c. φ c (s - 1 - c)) (range_with_len b (a - b)) ≡ across φ a b
 between φ a b s e h =
     let f : b + (a - b) ≡ a = omega arith in
@@ -78,7 +79,7 @@ pair_two a b rest φ =
           omega (arith, ints)
     ]
 
--- ---- the pairing of a divided difference
+-- ---- the pairing of a function with a divided difference (`along`)
 
 abbrev pub along : ℕ → (List ℕ → ℤ) → List ℕ → ℤ
 along zero φ [] = pos 0
@@ -102,7 +103,7 @@ pair_differences k f φ =
     ∙ total_ext (λ (t : Term). pair (scale t.1 (difference_after k t.0)) φ) (λ (t : Term). t.1 *ℤ along k φ t.0)
     (λ t. pair_scale t.1 (difference_after k t.0) φ ∙ ap (λ n. t.1 *ℤ n) (pair_difference k t.0 φ)) f
 
--- ---- equal test functions, sums and multiples under `along`
+-- ---- `along` of equal functions, of sums and of multiples
 
 pub along_ext : (k : ℕ) (φ ψ : List ℕ → ℤ) → ((α : List ℕ) → φ α ≡ ψ α) → (α : List ℕ) → along k φ α ≡ along k ψ α
 along_ext zero φ ψ e [] = refl
@@ -132,7 +133,7 @@ along_neg zero φ (a ∷ b ∷ rest) = across_neg (λ c d. φ (c ∷ d ∷ rest)
 along_neg (suc k) φ [] = refl
 along_neg (suc k) φ (a ∷ rest) = along_neg k (λ β. φ (a ∷ β)) rest
 
--- ---- the laws of divided differences, on test functions
+-- ---- the laws of divided differences, as equations of `along`
 
 pub along_square : (k : ℕ) (φ : List ℕ → ℤ) (α : List ℕ) → along k (along k φ) α ≡ pos 0
 along_square zero φ [] = refl
@@ -164,7 +165,7 @@ along_across k φ a b α =
     let f = along_climb k φ b a α in
     omega (arith, ints)
 
--- if j + 2 ≤ k, the divided differences at j and at k commute
+-- if j + 2 ≤ k, `along j` and `along k` commute: the divided differences share no variable
 pub along_commute : (j k : ℕ) (φ : List ℕ → ℤ) (α : List ℕ) → j + 2 ≤ k → along j (along k φ) α ≡ along k (along j φ) α
 along_commute j zero φ α h = absurd (omega arith)
 along_commute zero (suc zero) φ α h = absurd (omega arith)

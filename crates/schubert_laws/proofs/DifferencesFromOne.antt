@@ -1,4 +1,4 @@
--- The laws of divided differences with places counted from 1, as their law function states them.
+-- The laws of divided differences with variables counted from 1, as `divided_difference_law` states them.
 use Rattle.std.proofs.Common.{◌≡◌, ℕ, zero, suc, ◌+◌, ◌-◌, ◌<◌, ◌≤◌, refl, sym, ◌∙◌, ap, ap₂, subst, arith, ℤ, ◌*ℤ◌}
 use Rattle.sym_model.specs.Polynomial.{Term, Poly, Same, In, nothing, plus, scale, negate, times, coefficient}
 use Rattle.sym_model.specs.Permutation.{exchanged}
@@ -45,7 +45,7 @@ pub In_divided : (i n : ℕ) (f : Poly) → In n f → In n (divided_difference 
 In_divided zero n f h = λ t m. absurd m
 In_divided (suc k) n f h = In_differences k n f h
 
--- ---- exchanged variables, by places counted from 1
+-- ---- polynomials with x_i and x_(i+1) exchanged, i counted from 1
 
 pub with_exchanged_is : (k n : ℕ) (f : Poly) → In n f → suc k < n → Same (with_exchanged (suc k) f) (exchange_variables k f)
 with_exchanged_is k n f i h =

@@ -1,7 +1,8 @@
--- If a list is dominant, that is, its code is decreasing, its Schubert polynomial is the monomial of the code.
+-- If the letters of a list w are different, and its code is weakly decreasing (w is dominant), then the Schubert polynomial of w is the monomial
+-- whose exponents are the code.
 use Rattle.std.proofs.Common.{◌≡◌, ℕ, zero, suc, ◌+◌, ◌<◌, ◌≤◌, List, [], ◌∷◌, length, refl, sym, ◌∙◌, ap, ap₂, subst, arith, inl, inr, ◌⊎◌, cond, nat_lt, Bool, true, false, None, ℤ}
 use Rattle.std.proofs.lemmas.Int.{ints}
-use Rattle.std.proofs.lemmas.Bool.{cases_eq, cases_lt, lt-ltb, ltb-true, ltb-false}
+use Rattle.std.proofs.lemmas.Bool.{cases_eq, cases_lt, lt-ltb, ltb-true, ltb-false, cond_below}
 use lib.IntN.{+ℤ_idr}
 use Rattle.sym_model.specs.Sum.{Among, Once}
 use Rattle.sym_model.specs.Polynomial.{Same, pair, coefficient}
@@ -15,7 +16,7 @@ use Rattle.sym_model.specs.Schubert.{schubert, schubert_over}
 use Rattle.sym_model.proofs.Ring.{one-product}
 use Rattle.sym_model.proofs.SortedParts.{Falls_tail}
 use Rattle.sym_model.proofs.Polynomials.{same_from_pair}
-use Rattle.sym_model.proofs.Numbers.{counts-not_less, counts-less}
+use Rattle.sym_model.proofs.Numbers.{counts-not_less}
 use Rattle.schubert_laws.proofs.Climbs.{across}
 use Rattle.schubert_laws.proofs.Differences.{along, pair_differences}
 use Rattle.schubert_laws.proofs.Exchanges.{exchange_at, Rises, IsFirstAscent, first_ascent_cases, rising_pairs_exchange, length-exchange_at}
@@ -26,7 +27,7 @@ use Rattle.std.proofs.Math.Arith.{lt_of_le-ne}
 pub pair_x_to : (α : List ℕ) (φ : List ℕ → ℤ) → pair (x_to α) φ ≡ φ α
 pair_x_to α φ = +ℤ_idr _ ∙ one-product (φ α)
 
--- ---- counts of smaller letters after an exchange
+-- ---- the number of smaller letters, and the letters, of a list after two neighbours are exchanged
 
 pub smaller_exchange : (x k : ℕ) (w : List ℕ) → smaller x (exchange_at k w) ≡ smaller x w
 smaller_exchange x zero [] = refl
@@ -66,9 +67,9 @@ smaller_step a b (c ∷ w) h = by (nat_lt c a) refl (nat_lt c b) refl (smaller_s
     by false e true d l = omega arith
     by false e false d l = omega arith
 
--- ---- if a list has no ascent, its code is the staircase
+-- ---- a list of different letters without an ascent has the staircase as its code
 
--- a letter that is greater than all others has the number of them as its entry of the code
+-- if a is greater than all letters of w, the number of letters of w smaller than a is the length of w
 pub smaller_of_all : (a : ℕ) (w : List ℕ) → ((x : ℕ) → Among x w → x < a) → smaller a w ≡ length w
 smaller_of_all a [] h = refl
 smaller_of_all a (b ∷ w) h =
@@ -98,9 +99,10 @@ first_or d (a ∷ w) = a
 strict : (a b : ℕ) → (a ≡ b → ⊥) → (a < b → ⊥) → b < a
 strict a b d n = elim (cases_lt b a) [ inl l ↦ l | inr l ↦ absurd (n (omega arith)) ]
 
--- ---- the step: exchanging the first ascent raises one of two equal entries of the code by one
+-- ---- let the code of w be weakly decreasing: if w increases at two neighbouring places, the entries of the code there are equal, and exchanging the
+-- letters adds 1 to the first of these entries
 
--- in the list c the entries at places k and k + 1, counted from 0, are equal, and d is c with the first of them increased by 1
+-- the entries of c at the places k and k + 1, counted from 0, are equal, and d is c with 1 added to the first of these two entries
 abbrev pub IsOneUp : ℕ → List ℕ → List ℕ → Type 0
 IsOneUp k [] d = ⊥
 IsOneUp zero (a ∷ []) d = ⊥
@@ -128,13 +130,13 @@ one_up zero (a ∷ b ∷ w) f r =
     let h = f.0 in
     let s = smaller_step a b w (omega arith) in
     let d = counts-not_less b a (omega arith) in
-    let u = counts-less a b r in
+    let u = sym (cond_below {X = ℕ} a b 1 0 r) in
     (omega arith, ap₂ (λ x y. x ∷ y ∷ code w) (omega arith) (omega arith))
 one_up (suc k) (a ∷ w) f r = (sym (smaller_exchange a k w), one_up k w (Falls_tail (smaller a w) (code w) f) r)
 
 smaller_below : (a b : ℕ) (w : List ℕ) → b < a → suc (smaller b w) ≤ smaller a (b ∷ w)
 smaller_below a b w h =
-    let e = counts-less b a h in
+    let e = sym (cond_below {X = ℕ} b a 1 0 h) in
     let s = smaller_step b a w (omega arith) in
     omega arith
 
@@ -163,7 +165,7 @@ falls_exchange (suc (suc k)) (a ∷ b ∷ w) o f r n =
     let h = f.0 in
     (omega arith, rest)
 
--- ---- the Schubert polynomials of dominant lists
+-- ---- the Schubert polynomials of lists whose code is weakly decreasing
 
 pub over_exchange : (w : List ℕ) (k : ℕ) → schubert_over (x_to (staircase (length w))) (exchange_at k w) ≡ schubert (exchange_at k w)
 over_exchange w k = ap (λ n. schubert_over (x_to (staircase n)) (exchange_at k w)) (sym (length-exchange_at k w))
@@ -190,6 +192,6 @@ dominant_within (suc n) w b o f = by (first_ascent_cases w) (λ v c p q. dominan
     by (inr none) rec α =
         ap (λ u. coefficient u α) (over_top (x_to (staircase (length w))) (rising_pairs w) w none.0 ∙ ap x_to (sym (code_no_ascent w o none.1)))
 
--- if the code of a list of different letters is decreasing, its Schubert polynomial is the monomial of the code
+-- if the letters of w are different and the code of w is weakly decreasing, S_w is the monomial whose exponents are the code of w
 pub dominant : (w : List ℕ) → Once w → Falls (code w) → Same (schubert w) (x_to (code w))
 dominant w o f = dominant_within (suc (rising_pairs w)) w (omega arith) o f

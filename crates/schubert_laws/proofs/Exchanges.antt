@@ -1,7 +1,7 @@
--- Neighbours exchanged, and one entry raised, by recursion on the place, counted from 0.
---     exchange_at k w     the entries at the places k and k + 1 exchanged: `exchanged` as a recursion
---     raise k α           the list with the entry at the place k increased by 1: the exponents of a product with a variable
---     `Rises k w`         the entry at the place k is smaller than the next
+-- Two neighbouring entries of a list exchanged, and one entry increased by 1, defined by recursion on the place, counted from 0.
+--     exchange_at k w     w with the entries at the places k and k + 1 exchanged; it is `exchanged (k + 1) w`
+--     raise k α           α with 1 added to the entry at place k: the exponents of x^α times a variable
+--     `Rises k w`         the entry of w at place k is smaller than the next one
 use Rattle.std.proofs.Common.{◌≡◌, ℕ, zero, suc, ◌+◌, ◌-◌, ◌<◌, List, [], ◌∷◌, ◌++◌, length, replicate, set, get_or, refl, ap, ap₂, arith, inl, inr, ◌⊎◌, cond, nat_lt, Bool, true, false, Some, None}
 use Rattle.std.specs.List.{swap}
 use Rattle.std.proofs.lemmas.Bool.{lt-ltb, ltb-true, ltb-false, le-ltb}
@@ -46,13 +46,13 @@ length-raise k [] = refl
 length-raise zero (a ∷ α) = refl
 length-raise (suc k) (a ∷ α) = ap suc (length-raise k α)
 
--- multiplying a monomial by the variable with the index k + 1 increases its exponent at place k, counted from 0
+-- multiplying x^α by x_(k+1) adds 1 to the exponent at place k, counted from 0
 pub join_raise : (k : ℕ) (α : List ℕ) → k < length α → join (replicate k 0 ++ (1 ∷ [])) α ≡ raise k α
 join_raise k [] h = absurd (omega arith)
 join_raise zero (a ∷ α) h = let e : 1 + a ≡ suc a = omega arith in ap (λ b. b ∷ α) e
 join_raise (suc k) (a ∷ α) h = let e : 0 + a ≡ a = omega arith in ap₂ ◌∷◌ e (join_raise k α (omega arith))
 
--- ---- `exchanged` is the exchange of two neighbours
+-- ---- `exchange_at k` is `exchanged (k + 1)`
 
 set_two : (k : ℕ) (w : List ℕ) (d : ℕ) → suc k < length w → set (set w k (get_or w (suc k) d)) (suc k) (get_or w k d) ≡ exchange_at k w
 set_two k [] d h = absurd (omega arith)
@@ -76,7 +76,7 @@ rises_within zero (a ∷ []) r = absurd r
 rises_within zero (a ∷ b ∷ w) r = omega arith
 rises_within (suc k) (a ∷ w) r = let h = rises_within k w r in omega arith
 
--- ---- exchanging an ascent removes one increasing pair
+-- ---- exchanging two increasing neighbours removes one increasing pair
 
 pub greater_exchange : (x k : ℕ) (w : List ℕ) → greater x (exchange_at k w) ≡ greater x w
 greater_exchange x zero [] = refl
@@ -97,9 +97,10 @@ rising_pairs_exchange (suc k) (a ∷ w) r =
     let g = greater_exchange a k w in
     omega arith
 
--- ---- the first ascent of a list
+-- ---- the first ascent of a list (`IsFirstAscent`), and lists without one: they have no ascent at any place
 
--- the first ascent is at place k + 1, counted from 1; the entries at places k and k + 1, counted from 0, increase, and no neighbours before them do
+-- k + 1 is the first ascent of w, counted from 1: the entries at the places k and k + 1, counted from 0, increase, and no two neighbours before them
+-- do
 pub record IsFirstAscent (w : List ℕ) (k : ℕ) : Type 0 where
   pub is : first_ascent w ≡ Some (suc k)
   pub rises : Rises k w

@@ -1,4 +1,4 @@
--- A fixed letter added at the end does not change the Schubert polynomial.
+-- A fixed letter added at the end of a permutation does not change its Schubert polynomial.
 use Rattle.std.proofs.Common.{◌≡◌, ℕ, zero, suc, ◌+◌, ◌<◌, List, [], ◌∷◌, ◌++◌, length, refl, sym, ◌∙◌, ap, ap₂, subst, arith, inl, inr, ◌⊎◌, cond, nat_lt, ◌==◌, ◌&&◌, Some, None, Option, ℤ, pos}
 use Rattle.sym_model.specs.Sum.{Among, Once}
 use Rattle.sym_model.specs.Polynomial.{Term, Poly, Same, In, pair, coefficient, resize, all_zero, fits_in, restrict}
@@ -22,13 +22,13 @@ use Rattle.sym_model.proofs.Sums.{Among_from_append}
 use Rattle.sym_model.proofs.Parts.{length-staircase}
 use Rattle.sym_model.proofs.Numbers.{counts-not_less}
 
--- ---- the number of variables of a Schubert polynomial
+-- ---- the Schubert polynomial of a list of n letters is in n variables
 
 pub In_x_to : (n : ℕ) (α : List ℕ) → length α ≡ n → In n (x_to α)
 In_x_to n α e t (inl d) = ap (λ (s : Term). length s.0) d ∙ e
 In_x_to n α e t (inr m) = absurd m
 
--- if g is a polynomial in n variables, so is `descended g`, which takes divided differences of it
+-- if g is a polynomial in n variables, so is `descended g fuel w`, which is computed from g by divided differences
 pub In_descended : (g : Poly) (n : ℕ) (fuel : ℕ) (w : List ℕ) → In n g → In n (descended g fuel w)
 In_descended g n zero w i = i
 In_descended g n (suc fuel) w i = by (first_ascent w) (λ k. In_descended g n fuel (exchanged k w) i)
@@ -40,7 +40,7 @@ In_descended g n (suc fuel) w i = by (first_ascent w) (λ k. In_descended g n fu
 pub In_schubert : (w : List ℕ) → In (length w) (schubert w)
 In_schubert w = In_descended (x_to (staircase (length w))) (length w) (rising_pairs w) w (In_x_to (length w) (staircase (length w)) (length-staircase (length w)))
 
--- ---- a zero added to the exponents of a polynomial
+-- ---- a polynomial in n variables as a polynomial in n + 1 variables
 
 one_more : (n : ℕ) (α : List ℕ) → length α ≡ n → resize (suc n) α ≡ α ++ (0 ∷ [])
 one_more zero [] e = refl
@@ -48,7 +48,7 @@ one_more zero (a ∷ α) e = absurd (omega arith)
 one_more (suc n) [] e = absurd (omega arith)
 one_more (suc n) (a ∷ α) e = ap (λ β. a ∷ β) (one_more n α (omega arith))
 
--- a polynomial in n variables, read in n + 1 variables, is paired by adding a zero to its exponents
+-- if f is in n variables, the pairing of φ with f as a polynomial in n + 1 variables is the pairing of f with φ(α followed by 0)
 pub pair_one_more : (n : ℕ) (f : Poly) (φ : List ℕ → ℤ) → In n f → pair (restrict (suc n) f) φ ≡ pair f (λ α. φ (α ++ (0 ∷ [])))
 pair_one_more n f φ i =
     pair_restrict (suc n) f φ
@@ -61,7 +61,7 @@ along_one_more zero φ (a ∷ []) h = absurd (omega arith)
 along_one_more zero φ (a ∷ b ∷ α) h = refl
 along_one_more (suc k) φ (a ∷ α) h = along_one_more k (λ γ. φ (a ∷ γ)) α (omega arith)
 
--- a divided difference in the first n variables commutes with reading a polynomial in n variables as one in n + 1 variables
+-- if f is in n variables and k + 1 < n, then taking the divided difference of f at k and passing to n + 1 variables may be done in either order
 pub differences_one_more : (k n : ℕ) (f : Poly) → In n f → suc k < n → Same (differences_after k (restrict (suc n) f)) (restrict (suc n) (differences_after k f))
 differences_one_more k n f i h =
     same_from_pair (differences_after k (restrict (suc n) f)) (restrict (suc n) (differences_after k f)) (λ φ.
@@ -70,7 +70,7 @@ differences_one_more k n f i h =
     ∙ pair_in n f (λ α. along k φ (α ++ (0 ∷ []))) (along k (λ γ. φ (γ ++ (0 ∷ [])))) i (λ α l. along_one_more k φ α (omega arith))
     ∙ sym (pair_one_more n (differences_after k f) φ (In_differences k n f i) ∙ pair_differences k f (λ γ. φ (γ ++ (0 ∷ [])))))
 
--- ---- a fixed letter added to a list
+-- ---- lists with a last letter that is greater than all others
 
 pub smaller_added : (a m : ℕ) (w : List ℕ) → a < m → smaller a (w ++ (m ∷ [])) ≡ smaller a w
 smaller_added a m [] h = let e = counts-not_less m a (omega arith) in omega arith
@@ -143,13 +143,28 @@ fixed_within (suc n) m w b o h = by (first_ascent_cases w) (λ v c p q. fixed_wi
         ∙ ap (λ i. coefficient (restrict (suc i) (x_to (staircase (length w)))) α) (length-staircase (length w))
         ∙ ap (λ u. coefficient (restrict (suc (length w)) u) α) (sym (over_top (x_to (staircase (length w))) (rising_pairs w) w none.0))
 
--- if m is greater than all letters of w, which are different, the Schubert polynomial of w followed by m is S_w, read in one more variable
+-- if the letters of w are different and smaller than m, the Schubert polynomial of w followed by m is S_w as a polynomial in one more variable
 pub last_letter : (m : ℕ) (w : List ℕ) → Once w → ((a : ℕ) → Among a w → a < m) → Same (schubert (w ++ (m ∷ []))) (restrict (suc (length w)) (schubert w))
 last_letter m w o h = fixed_within (suc (rising_pairs w)) m w (omega arith) o h
 
--- ---- Schubert polynomials in any number of variables
+-- ---- Schubert polynomials of permutations, restricted to any number of variables
 
--- if a polynomial in n variables is read in n + 1 variables, its restriction to N variables does not change
+-- a further exponent 0 at the end of a list of exponents changes neither the tests `all_zero` and `fits_in` nor the list resized to m exponents
+pub all_zero_added : (α : List ℕ) → all_zero (α ++ (0 ∷ [])) ≡ all_zero α
+all_zero_added [] = refl
+all_zero_added (a ∷ α) = ap (λ b. (a == 0) && b) (all_zero_added α)
+
+pub fits_in_added : (m : ℕ) (α : List ℕ) → fits_in m (α ++ (0 ∷ [])) ≡ fits_in m α
+fits_in_added zero α = all_zero_added α
+fits_in_added (suc m) [] = fits_in_zeros m 0
+fits_in_added (suc m) (a ∷ α) = fits_in_added m α
+
+pub resize_added : (m : ℕ) (α : List ℕ) → resize m (α ++ (0 ∷ [])) ≡ resize m α
+resize_added zero α = refl
+resize_added (suc m) [] = refl
+resize_added (suc m) (a ∷ α) = ap (λ β. a ∷ β) (resize_added m α)
+
+-- if f is in n variables, then f taken as a polynomial in n + 1 variables has the same restriction to N variables as f
 restrict_one_more : (N n : ℕ) (f : Poly) → In n f → Same (restrict N (restrict (suc n) f)) (restrict N f)
 restrict_one_more N n f i =
     same_from_pair (restrict N (restrict (suc n) f)) (restrict N f) (λ φ.
@@ -158,20 +173,6 @@ restrict_one_more N n f i =
     ∙ pair_ext f (λ α. cond (fits_in N (α ++ (0 ∷ []))) (φ (resize N (α ++ (0 ∷ [])))) (pos 0)) (λ α. cond (fits_in N α) (φ (resize N α)) (pos 0)) (λ α.
     ap₂ (λ b γ. cond b (φ γ) (pos 0)) (fits_in_added N α) (resize_added N α))
     ∙ sym (pair_restrict N f φ))
-  where
-    all_zero_added : (α : List ℕ) → all_zero (α ++ (0 ∷ [])) ≡ all_zero α
-    all_zero_added [] = refl
-    all_zero_added (a ∷ α) = ap (λ b. (a == 0) && b) (all_zero_added α)
-
-    fits_in_added : (m : ℕ) (α : List ℕ) → fits_in m (α ++ (0 ∷ [])) ≡ fits_in m α
-    fits_in_added zero α = all_zero_added α
-    fits_in_added (suc m) [] = fits_in_zeros m 0
-    fits_in_added (suc m) (a ∷ α) = fits_in_added m α
-
-    resize_added : (m : ℕ) (α : List ℕ) → resize m (α ++ (0 ∷ [])) ≡ resize m α
-    resize_added zero α = refl
-    resize_added (suc m) [] = refl
-    resize_added (suc m) (a ∷ α) = ap (λ β. a ∷ β) (resize_added m α)
 
 pub last_letter_in : (m : ℕ) (w : List ℕ) (N : ℕ) → Once w → ((a : ℕ) → Among a w → a < m) → Same (schubert_in (w ++ (m ∷ [])) N) (schubert_in w N)
 last_letter_in m w N o h =

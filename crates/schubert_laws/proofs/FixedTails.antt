@@ -1,10 +1,10 @@
--- Fixed letters: added to a permutation up to a place, and dropped at its end.
+-- Fixed letters that are added at the end of a permutation, or dropped there.
 --     one_line_added     a permutation with fixed letters added is a permutation
---     schubert_added     fixed letters at the end, added or dropped, do not change the Schubert polynomial in n variables
+--     schubert_added     adding or dropping fixed letters at the end does not change the Schubert polynomial in n variables
 --     inversions_added   fixed letters at the end do not change the number of inversions
 use Rattle.std.proofs.Common.{◌≡◌, ℕ, zero, suc, ◌+◌, ◌<◌, ◌≤◌, List, [], ◌∷◌, ◌++◌, length, refl, sym, ◌∙◌, ap, ap₂, subst, arith, inl, inr, cond, ◌==◌, Bool, true, false, length-append, append_assoc, eqb-true, eq-eqb}
 use Rattle.std.proofs.lemmas.List.{append-nil}
-use Rattle.std.proofs.lemmas.Bool.{cases_lt}
+use Rattle.std.proofs.lemmas.Bool.{cases_lt, cond_below}
 use Rattle.sym_model.specs.Sum.{Among, Once}
 use Rattle.sym_model.specs.Polynomial.{Same, coefficient}
 use Rattle.sym_model.specs.Partition.{after}
@@ -16,10 +16,10 @@ use Rattle.sym_model.proofs.Sums.{Among_from_append, Among-append_left, Among-ap
 use Rattle.schubert_laws.proofs.FixedLetters.{once_added, smaller_added}
 use Rattle.schubert_laws.proofs.PathsFromOne.{below_next, fixed_letter_in}
 use Rattle.sym_model.proofs.AfterLists.{length_after, among_after}
-use Rattle.sym_model.proofs.Numbers.{counts-not_less, counts-less}
+use Rattle.sym_model.proofs.Numbers.{counts-not_less}
 use Rattle.std.proofs.Math.Arith.{lt_of_le-ne}
 
--- ---- a permutation with fixed letters added one at a time
+-- ---- permutations with fixed letters added at the end
 
 pub one_line_next : (w : List ℕ) → IsOneLine w → IsOneLine (w ++ ((length w + 1) ∷ []))
 one_line_next w o = record { letters = letters; once = once_added (length w + 1) w o.once (below_next w o) }
@@ -61,9 +61,9 @@ inversions_added (suc k) w o =
     ∙ inversions_added k (w ++ ((length w + 1) ∷ [])) (one_line_next w o)
     ∙ inversions_next (length w + 1) w (below_next w o)
 
--- ---- a permutation with its last fixed letters dropped
+-- ---- permutations without the fixed letters at their end (`kept`)
 
--- w is v followed by the letters p + length v + 1, .., so that these are fixed and are dropped
+-- w is v followed by the letters p + length v + 1, p + length v + 2, ..; if w is a permutation without its first p letters, these letters are fixed
 abbrev pub IsTail : ℕ → List ℕ → List ℕ → Type 0
 IsTail p v w = (k : ℕ) × (w ≡ v ++ after (p + length v) k)
 
@@ -89,7 +89,7 @@ pub once_front : (v u : List ℕ) → Once (v ++ u) → Once v
 once_front [] u o = tt
 once_front (a ∷ v) u o = (λ m. o.0 (Among-append_left a v u m), once_front v u o.1)
 
-once_apart : (v u : List ℕ) (x : ℕ) → Once (v ++ u) → Among x v → Among x u → ⊥
+pub once_apart : (v u : List ℕ) (x : ℕ) → Once (v ++ u) → Among x v → Among x u → ⊥
 once_apart [] u x o m n = m
 once_apart (a ∷ v) u x o (inl e) n = o.0 (Among-append_right a v u (subst (λ y. Among y u) e n))
 once_apart (a ∷ v) u x o (inr m) n = once_apart v u x o.1 m n
@@ -127,9 +127,9 @@ inversions_kept w o =
     let t = kept_tail w in
     sym (inversions_added t.0 (kept w) (one_line_kept w o)) ∙ ap inversions (sym (t.1 ∙ tail_from_zero (kept w) t.0))
 
--- ---- each pair of different letters is increasing or an inversion
+-- ---- in a list of different letters each pair of places is an increasing pair or an inversion
 
--- the number of pairs of two of n places, n·(n - 1)/2
+-- the number of pairs of different places among n places, n·(n - 1)/2
 unfoldable pub pairs : ℕ → ℕ
 pairs zero = 0
 pairs (suc n) = n + pairs n
@@ -139,8 +139,8 @@ greater_or_smaller a [] n = refl
 greater_or_smaller a (b ∷ w) n =
     let e = greater_or_smaller a w (λ m. n (inr m)) in
     elim (cases_lt a b) [
-      | inl l ↦ let p = counts-less a b l in let q = counts-not_less b a (omega arith) in omega arith
-      | inr l ↦ let q = counts-less b a (lt_of_le-ne l (λ d. n (inl (sym d)))) in let p = counts-not_less a b l in omega arith
+      | inl l ↦ let p = sym (cond_below {X = ℕ} a b 1 0 l) in let q = counts-not_less b a (omega arith) in omega arith
+      | inr l ↦ let q = sym (cond_below {X = ℕ} b a 1 0 (lt_of_le-ne l (λ d. n (inl (sym d))))) in let p = counts-not_less a b l in omega arith
     ]
 
 rising_or_inversion : (w : List ℕ) → Once w → rising_pairs w + inversions w ≡ pairs (length w)
@@ -148,14 +148,14 @@ unfolding pairs
 rising_or_inversion [] o = refl
 rising_or_inversion (a ∷ w) o = let e = rising_or_inversion w o.1 in let g = greater_or_smaller a w o.0 in omega arith
 
--- for lists w and v of one length, each with different entries: w has one increasing pair more than v if and only if v has one inversion more than w
+-- let w and v be lists of different entries, of the same length: if w has one increasing pair more than v, then v has one inversion more than w
 pub one_more_inversion : (w v : List ℕ) → Once w → Once v → length v ≡ length w → rising_pairs w ≡ suc (rising_pairs v) → inversions v ≡ inversions w + 1
 one_more_inversion w v o p l e = let a = rising_or_inversion w o in let b = rising_or_inversion v p in let c = ap pairs l in omega arith
 
 pub one_less_rising : (w v : List ℕ) → Once w → Once v → length v ≡ length w → inversions v ≡ inversions w + 1 → rising_pairs w ≡ suc (rising_pairs v)
 one_less_rising w v o p l e = let a = rising_or_inversion w o in let b = rising_or_inversion v p in let c = ap pairs l in omega arith
 
--- ---- fixed letters at the end change neither the kept letters nor the swaps
+-- ---- fixed letters at the end change neither the kept letters (`kept`) nor the permutations w·t_ij (`times_swap`)
 
 dropped_added : (p i k : ℕ) (w : List ℕ) → i ≡ p + 1 → without_fixed_from i (w ++ after (p + length w) k) ≡ without_fixed_from i w
 dropped_added p i zero [] e = refl

@@ -1,11 +1,11 @@
--- The transition rule ends: each permutation on its right side is lower, and each permutation except the identity has places r and s at which the
--- rule applies.
+-- The transition rule ends: each permutation on its right side is lower (`IsLower`) than the one on its left side, and for each permutation except
+-- the identity there are places r and s to which the rule applies (`IsTransition`).
 use Rattle.std.proofs.Common.{◌≡◌, ℕ, zero, suc, ◌+◌, ◌-◌, ◌<◌, ◌≤◌, List, [], ◌∷◌, ◌++◌, ◌==◌, map, length, get_or, refl, sym, ◌∙◌, ap, ap₂, subst, arith, inl, inr, ◌⊎◌, cond, nat_lt, length-append, eqb-true, Some, None, Option, option_map, unwrap_or, replicate}
 use Rattle.std.specs.Option.{option_or}
 use Rattle.std.proofs.Math.ListN.{get_or-append}
 use Rattle.std.proofs.Math.Seq.{get_or-append_seam}
-use Rattle.std.proofs.lemmas.List.{append-nil, get_or_past}
-use Rattle.std.proofs.lemmas.Bool.{cases_eq, cases_lt}
+use Rattle.std.proofs.lemmas.List.{append-nil, get_or_past, get_or_default}
+use Rattle.std.proofs.lemmas.Bool.{cases_eq, cases_lt, le-ltb}
 use Rattle.sym_model.specs.Sum.{Among, Once}
 use Rattle.sym_model.specs.Polynomial.{Same, coefficient, one, restrict}
 use Rattle.sym_model.specs.Partition.{after, Falls}
@@ -25,11 +25,10 @@ use Rattle.schubert_laws.proofs.MonkFromOne.{one_line_swap}
 use Rattle.schubert_laws.proofs.Transition.{IsStep, RisesFrom, last_descent_is, one_fewer, rises_chain, get_swap_other, once_get}
 use Rattle.schubert_laws.proofs.TransitionFromOne.{step_of, kept_swap, covers_down_kept}
 use Rattle.sym_model.proofs.AfterLists.{after_among}
-use Rattle.sym_model.proofs.Numbers.{counts-not_less, nat_lt-false}
-use Rattle.sym_model.proofs.Lists.{get_or-any}
+use Rattle.sym_model.proofs.Numbers.{counts-not_less}
 use Rattle.sym_model.proofs.Parts.{Falls-zeros}
 
--- ---- fixed letters at the end change neither letters nor descents
+-- ---- fixed letters at the end change neither the letter at a place nor the last descent
 
 letter_next : (w : List ℕ) (i : ℕ) → 1 ≤ i → letter (w ++ ((length w + 1) ∷ [])) i ≡ letter w i
 letter_next w i h = elim (cases_lt (i - 1) (length w)) [
@@ -49,10 +48,10 @@ pub letter_added : (k : ℕ) (w : List ℕ) (i : ℕ) → 1 ≤ i → letter (w 
 letter_added zero w i h = ap (λ v. letter v i) (append-nil w)
 letter_added (suc k) w i h = ap (λ v. letter v i) (next_after w k) ∙ letter_added k (w ++ ((length w + 1) ∷ [])) i h ∙ letter_next w i h
 
--- a last letter that is greater than all others does not change the last descent
+-- if m is greater than all letters of w, w followed by m has the last descent of w
 last_descent_next : (m : ℕ) (w : List ℕ) → ((a : ℕ) → Among a w → a < m) → last_descent (w ++ (m ∷ [])) ≡ last_descent w
 last_descent_next m [] h = refl
-last_descent_next m (a ∷ []) h = ap (λ t. cond t (Some 1) None) (nat_lt-false m a (let g = h a (inl refl) in omega arith))
+last_descent_next m (a ∷ []) h = ap (λ t. cond t (Some 1) None) (le-ltb m a (let g = h a (inl refl) in omega arith))
 last_descent_next m (a ∷ b ∷ w) h = ap (λ o. option_or (option_map suc o) (cond (nat_lt b a) (Some 1) None)) (last_descent_next m (b ∷ w) (λ x i. h x (inr i)))
 
 pub last_descent_added : (k : ℕ) (w : List ℕ) → IsOneLine w → last_descent (w ++ after (length w) k) ≡ last_descent w
@@ -74,7 +73,7 @@ letter_kept w i h = let t = kept_whole w in sym (letter_added t.0 (kept w) i h) 
 pub last_descent_kept : (w : List ℕ) → IsOneLine w → last_descent (kept w) ≡ last_descent w
 last_descent_kept w o = let t = kept_whole w in sym (last_descent_added t.0 (kept w) (one_line_kept w o)) ∙ ap last_descent (sym t.1)
 
--- ---- the list with the letters at places q and b swapped
+-- ---- the list w·t_qb, in which the letters at the places q and b of the transition rule are swapped
 
 fewer : (w : List ℕ) (q b : ℕ) → IsOneLine w → IsStep w q b → inversions (kept (swap_at q b w)) < inversions w
 fewer w q b o s =
@@ -84,7 +83,8 @@ fewer w q b o s =
     let k = inversions_kept (swap_at q b w) (one_line_swap q b w (omega arith) inside o) in
     omega arith
 
--- if w increases after place q, so does w with the letters at q and b swapped
+-- if q and b are the places of the transition rule for w, then the list w·t_qb, which is w with the letters at q and b swapped, is weakly increasing
+-- after place q
 still_rises : (w : List ℕ) (q b : ℕ) → IsStep w q b → RisesFrom q (swap_at q b w)
 still_rises w q b s c h l =
     let order = s.order in
@@ -112,7 +112,7 @@ still_rises w q b s c h l =
           ]
     ]
 
--- ---- the covers of the swapped list that swap q with a place before it
+-- ---- the covers of w·t_qb in which the letter at q is swapped with an earlier one
 
 pub cover_falls : (u : List ℕ) (p q : ℕ) → Once u → p < q → q < length u → rising_pairs u ≡ suc (rising_pairs (swap_at p q u)) → get_or u p 0 < get_or u q 0
 cover_falls u p q o h l e = elim (cases_lt (get_or u p 0) (get_or u q 0)) [
@@ -123,7 +123,7 @@ cover_falls u p q o h l e = elim (cases_lt (get_or u p 0) (get_or u q 0)) [
   ]
 ]
 
--- the last descent of y is before the place q + 1, or at it with a letter below `top`
+-- the last descent of y, counted from 1, is less than q + 1, or it is q + 1 and the letter there is smaller than `top`
 abbrev IsEarlier : List ℕ → ℕ → ℕ → Type 0
 IsEarlier y q top = (last_descent_place y < suc q) ⊎ ((last_descent_place y ≡ suc q) × (letter y (last_descent_place y) < top))
 
@@ -143,7 +143,7 @@ earlier y q top r l t = by (last_descent y) refl
           | inr h ↦ elim (cases_eq f.0 q) [
             | inl g ↦
                 let i : last_descent_place y - 1 ≡ q = omega arith in
-                let x = ap (λ j. get_or y j (last_descent_place y)) i ∙ get_or-any y q (last_descent_place y) 0 l in
+                let x = ap (λ j. get_or y j (last_descent_place y)) i ∙ get_or_default y q (last_descent_place y) 0 l in
                 inr (omega arith, omega arith)
             | inr n ↦ let x = r f.0 (omega arith) f2 in absurd (omega arith)
           ]
@@ -180,7 +180,7 @@ lowered_cover w p q b o s d h e =
     let dk : last_descent_place (kept (swap_at p q (swap_at q b w))) ≡ last_descent_place (swap_at p q (swap_at q b w)) = ap (λ t. unwrap_or t 0) (last_descent_kept (swap_at p q (swap_at q b w)) oy) in
     let dw : last_descent_place w ≡ suc q = ap (λ t. unwrap_or t 0) d in
     let i : suc q - 1 ≡ q = omega arith in
-    let lw = ap (letter w) dw ∙ ap (λ t. get_or w t (suc q)) i ∙ get_or-any w q (suc q) 0 (omega arith) in
+    let lw = ap (letter w) dw ∙ ap (λ t. get_or w t (suc q)) i ∙ get_or_default w q (suc q) 0 (omega arith) in
     inr (
       omega arith,
       elim ear [
@@ -201,7 +201,7 @@ transition_lowers w r s o t =
     subst (λ i. IsLower (times_swap i s w) w) (sym p.2) (subst (λ j. IsLower (times_swap (suc p.0) j w) w) (sym p.3)
     (subst (λ v. IsLower v w) (sym (kept_swap w p.0 p.1 g.order g.inside)) (inl (fewer w p.0 p.1 o g))))
 
--- for the places r and s of the transition rule, w has one inversion more than w·t_rs
+-- if r and s are the places of the transition rule for w, then w has one inversion more than w·t_rs
 pub transition_inversions : (w : List ℕ) (r s : ℕ) → IsOneLine w → IsTransition w r s → inversions w ≡ inversions (times_swap r s w) + 1
 transition_inversions w r s o t =
     let p = step_of w r s o t in
@@ -241,9 +241,9 @@ transition_covers_lower w r s o t x m =
     let c : covers_down r (times_swap r s w) ≡ covers_down (suc p.0) (swap_at p.0 p.1 w) = ap₂ covers_down p.2 e ∙ covers_down_kept (suc p.0) (swap_at p.0 p.1 w) ou in
     covers_lower w p.0 p.1 x o g (t.descent ∙ ap Some p.2) (subst (Among x) c m)
 
--- ---- the places r and s of the transition rule exist for each permutation except the identity
+-- ---- each permutation except the identity has places r and s to which the transition rule applies (`IsTransition`)
 
--- c is the last place from l to m with an entry smaller than top
+-- c is the last of the places l, .., m of w whose entry is smaller than `top`
 abbrev IsLastSmaller : List ℕ → ℕ → ℕ → ℕ → ℕ → Type 0
 IsLastSmaller w top l m c = (l ≤ c) × (c ≤ m) × (get_or w c 0 < top) × ((d : ℕ) → c < d → d ≤ m → top ≤ get_or w d 0)
 
@@ -284,9 +284,9 @@ transition_exists w r o e =
     let c1 = c.1.1 in
     let c2 = c.1.2 in
     let i : r - 1 ≡ f.0 = omega arith in
-    let lr = ap (λ t. get_or w t r) i ∙ get_or-any w f.0 r 0 (omega arith) in
+    let lr = ap (λ t. get_or w t r) i ∙ get_or_default w f.0 r 0 (omega arith) in
     let j : suc c.0 - 1 ≡ c.0 = omega arith in
-    let ls = ap (λ t. get_or w t (suc c.0)) j ∙ get_or-any w c.0 (suc c.0) 0 (omega arith) in
+    let ls = ap (λ t. get_or w t (suc c.0)) j ∙ get_or_default w c.0 (suc c.0) 0 (omega arith) in
     let m = (o.letters (get_or w f.0 0) (among_get f.0 0 w (omega arith))).1 in (
       suc c.0,
       record {
@@ -295,7 +295,7 @@ transition_exists w r o e =
         smaller = omega arith;
         last = λ d h. elim (cases_lt (d - 1) (length w)) [
           | inl l ↦
-              let x = get_or-any w (d - 1) d 0 l in
+              let x = get_or_default w (d - 1) d 0 l in
               let y = c.1.3 (d - 1) (omega arith) (omega arith) in
               omega arith
           | inr l ↦ let x = get_or_past w (d - 1) d l in omega arith
@@ -303,7 +303,8 @@ transition_exists w r o e =
       },
     )
 
--- ---- a permutation without a descent is the identity
+-- ---- if a is at most every letter of w, no letter of w is smaller than a; and a permutation without a descent is the identity, with some number of
+-- fixed letters
 
 pub smaller_of_none : (a : ℕ) (w : List ℕ) → ((b : ℕ) → Among b w → a ≤ b) → smaller a w ≡ 0
 smaller_of_none a [] h = refl

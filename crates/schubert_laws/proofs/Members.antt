@@ -1,4 +1,4 @@
--- The lists on the right side of the transition rule are permutations with no more letters than the one on the left.
+-- The permutations on the right side of the transition rule have at most as many letters as the one on the left side.
 use Rattle.std.proofs.Common.{◌≡◌, ℕ, ◌+◌, ◌-◌, ◌<◌, ◌≤◌, List, ◌==◌, map, length, sym, ap, subst, arith, length-append, eqb-true}
 use Rattle.sym_model.specs.Sum.{Among}
 use Rattle.sym_model.specs.Partition.{after}
@@ -58,7 +58,7 @@ short_cover n r u x s h m =
     let g1 = g.1 in
     subst (IsShort n) (sym c.2) (short_swap n u c.0 r s (omega arith) (omega arith) h)
 
--- each cover of u in `covers_down r u` has one inversion more than u
+-- each member of `covers_down r u` has one inversion more than u
 pub cover_inversions : (r : ℕ) (u x : List ℕ) → Among x (covers_down r u) → inversions x ≡ inversions u + 1
 cover_inversions r u x m =
     let a = Among_from_select (λ (v : List ℕ). inversions v == inversions u + 1) x (map (λ i. times_swap i r u) (after 0 (r - 1))) m in

@@ -1,9 +1,9 @@
--- Monk's rule for permutations in every number of variables, with places counted from 1.
+-- Monk's rule for permutations, in every number of variables, with places counted from 1.
 use Rattle.std.proofs.Common.{◌≡◌, ℕ, zero, suc, ◌+◌, ◌-◌, ◌<◌, ◌≤◌, max, List, [], ◌∷◌, ◌++◌, map, length, get_or, set, refl, sym, ◌∙◌, ap, ap₂, subst, arith, cond, ◌==◌, ℤ, pos, ◌+ℤ◌, neg_ℤ, length-append, append_assoc, eqb-true, eq-eqb}
 use Rattle.std.specs.List.{swap}
 use Rattle.std.proofs.Math.ListN.{get_or-append}
 use Rattle.std.proofs.lemmas.Int.{ints}
-use Rattle.std.proofs.lemmas.List.{append-nil, set-append_left}
+use Rattle.std.proofs.lemmas.List.{append-nil, set-append_left, get_or_default}
 use Rattle.sym_model.specs.Sum.{total, Once}
 use Rattle.sym_model.specs.Polynomial.{Poly, Same, plus, negate, times, pair, nothing, restrict}
 use Rattle.sym_model.specs.Partition.{after}
@@ -26,15 +26,14 @@ use Rattle.schubert_laws.proofs.PlaceSums.{sum_below, sum_below_ext}
 use Rattle.schubert_laws.proofs.MonkStep.{covered, value, signed_up, signed_down, signed_same, covered_sym, IsMonk}
 use Rattle.schubert_laws.proofs.MonkRule.{no_factors, monk_last, over_swap}
 use Rattle.sym_model.proofs.AfterLists.{length_after, after_among, after-append}
-use Rattle.sym_model.proofs.Lists.{get_or-any}
 
--- ---- two ways to write a swap are equal
+-- ---- swapping the letters at two places, by `set` and by `swap_at`
 
 sets_are_swap : (w : List ℕ) (i j d : ℕ) → i < length w → j < length w → set (set w i (get_or w j d)) j (get_or w i d) ≡ swap_at i j w
 sets_are_swap [] i j d h l = absurd (omega arith)
 sets_are_swap (x ∷ w) zero zero d h l = refl
-sets_are_swap (x ∷ w) zero (suc j) d h l = ap (λ y. y ∷ set w j x) (get_or-any w j d x (omega arith))
-sets_are_swap (x ∷ w) (suc i) zero d h l = ap (λ y. y ∷ set w i x) (get_or-any w i d x (omega arith))
+sets_are_swap (x ∷ w) zero (suc j) d h l = ap (λ y. y ∷ set w j x) (get_or_default w j d x (omega arith))
+sets_are_swap (x ∷ w) (suc i) zero d h l = ap (λ y. y ∷ set w i x) (get_or_default w i d x (omega arith))
 sets_are_swap (x ∷ w) (suc i) (suc j) d h l = ap (λ v. x ∷ v) (sets_are_swap w i j d (omega arith) (omega arith))
 
 pub swap_is : (w : List ℕ) (i j : ℕ) → i < length w → j < length w → swap w i j ≡ swap_at i j w
@@ -57,7 +56,7 @@ one_line_swap a b w h l o = record {
   once = once_swap a b w h l o.once;
 }
 
--- ---- sums over places as sums over lists of places
+-- ---- sums over the places 0, .., n - 1 as sums over lists of places counted from 1
 
 sum_after : (n a : ℕ) (f : ℕ → ℤ) → sum_below n (λ b. f (a + b)) ≡ total (λ i. f (i - 1)) (after a n)
 sum_after zero a f = refl
@@ -78,16 +77,16 @@ sum_split n q f h =
     let g = ap f d in
     omega (arith, ints)
 
--- ---- one term of Monk's rule
+-- ---- one term of Monk's rule: S_v, v being w with two letters swapped, if v is a cover of w; otherwise 0
 
--- w with the next k + 1 fixed letters added
+-- the permutation w with k + 1 fixed letters added at its end
 abbrev pub longer : List ℕ → ℕ → List ℕ
 longer w k = w ++ after (length w) (k + 1)
 
 abbrev pub top_of : List ℕ → Poly
 top_of w = x_to (staircase (length w))
 
--- the pairing of φ with S_v in n variables, if v has one inversion more than w; otherwise 0
+-- the pairing of φ with S_v in n variables, if v has one inversion more than w; 0 otherwise
 abbrev pub cover_value : ℕ → (List ℕ → ℤ) → List ℕ → List ℕ → ℤ
 cover_value n φ w v = cond (inversions v == inversions w + 1) (pair (schubert_in v n) φ) (pos 0)
 
@@ -112,15 +111,16 @@ longer_split w k m h =
     ∙ sym (append_assoc w (after (length w) m) (after (length w + m) (k + 1 - m)))
     ∙ ap (λ t. (w ++ after (length w) m) ++ after t (k + 1 - m)) d
 
--- adding t fixed letters to u and then exchanging the letters at a and b gives the same list as exchanging first
+-- adding t fixed letters to u and then swapping the letters at the places a and b of u gives the same list as swapping these letters and then adding
+-- the fixed letters
 pub swap_added : (u : List ℕ) (t a b : ℕ) → a < length u → b < length u → swap_at a b (u ++ after (length u) t) ≡ swap_at a b u ++ after (length (swap_at a b u)) t
 swap_added u t a b h l = swap_at_append a b u (after (length u) t) h l ∙ ap (λ n. swap_at a b u ++ after n t) (sym (length-swap_at a b u))
 
 pair_within : (n : ℕ) (φ : List ℕ → ℤ) (a b : ℕ) (long : List ℕ) → pair (schubert_over (top_of long) (swap_at a b long)) (restricted_test n φ) ≡ pair (schubert_in (swap_at a b long) n) φ
 pair_within n φ a b long = ap (λ f. pair f (restricted_test n φ)) (over_swap a b long) ∙ sym (pair_restrict n (schubert (swap_at a b long)) φ)
 
--- if u and w have the same number of inversions, `covered` for the places a and b of u with t fixed letters added is `cover_value` of u with the letters
--- at a and b exchanged, without the fixed letters at its end
+-- let u and w have the same number of inversions, let u' be u with t fixed letters added, and v be u with the letters at a and b swapped, without the
+-- fixed letters at its end: `covered` for the function `restricted_test n φ`, the list u' and the places a and b is `cover_value n φ w v`
 term_added : (n : ℕ) (φ : List ℕ → ℤ) (w u : List ℕ) (t a b : ℕ) → IsOneLine u → a < length u → b < length u → inversions u ≡ inversions w
     → covered (top_of (u ++ after (length u) t)) (restricted_test n φ) (u ++ after (length u) t) a b ≡ cover_value n φ w (kept (swap u a b))
 term_added n φ w u t a b o h l e =
@@ -152,7 +152,7 @@ cover_term n φ w k i j o c h l =
     (term_added n φ w (w ++ after (length w) (j - length w)) (k + 1 - (j - length w)) (i - 1) (j - 1)
     (one_line_added (j - length w) w o) (omega arith) (omega arith) (inversions_added (j - length w) w o))
 
--- ---- Monk's rule in n variables
+-- ---- w with k + 1 fixed letters added, split before the last of them; Monk's rule in n variables
 
 pub whole_longer : (w : List ℕ) (k : ℕ) → longer w k ≡ (w ++ after (length w) k) ++ ((length (w ++ after (length w) k) + 1) ∷ [])
 whole_longer w k =
@@ -172,7 +172,7 @@ monk_longer w k q o h =
     subst (λ u. IsMonk (top_of u) no_factors u q) (sym (whole_longer w k))
     (monk_last (length (w ++ after (length w) k) + 1) q (w ++ after (length w) k) ov.once (below_next (w ++ after (length w) k) ov) (omega arith))
 
--- the sum of the Schubert polynomials of those lists f(j) that have one inversion more than w, paired with φ, is the sum of `cover_value` over all f(j)
+-- the pairing of φ with the sum of S_v over those lists v = f(j) that have one inversion more than w is the sum of `cover_value` over all j
 pub pair_covers : (n : ℕ) (φ : List ℕ → ℤ) (w : List ℕ) (f : ℕ → List ℕ) (js : List ℕ)
     → pair (schuberts_in (covers_among w (map f js)) n) φ ≡ total (λ j. cover_value n φ w (f j)) js
 pair_covers n φ w f js =
@@ -180,7 +180,8 @@ pair_covers n φ w f js =
     ∙ total_select (λ (v : List ℕ). pair (schubert_in v n) φ) (λ (v : List ℕ). inversions v == inversions w + 1) (map f js)
     ∙ total_map (cover_value n φ w) f js
 
--- the left side of Monk's rule in n variables is the restriction of the left side for w with fixed letters added
+-- x_(q+1)·S_w in n variables is the restriction to n variables of x_(q+1) times the Schubert polynomial of w with k + 1 fixed letters added; here as
+-- an equality of pairings
 pair_left : (n : ℕ) (φ : List ℕ → ℤ) (w : List ℕ) (k q : ℕ) → IsOneLine w
     → pair (times (variable_in (suc q) n) (schubert_in w n)) φ ≡ pair (times (plus (variable_after q) nothing) (schubert (longer w k))) (restricted_test n φ)
 pair_left n φ w k q o =

@@ -1,9 +1,9 @@
--- Monk's rule for the lists that end in a letter greater than all others.
---     monk_over      if the rule holds for the lists without an ascent before the last letter, it holds for all, for any polynomial g at the start
+-- Monk's rule for lists w = v ++ (m), whose last letter m is greater than all letters of v.
+--     monk_over      if the rule holds for all w in which v has no ascent, it holds for all w; for any polynomial g from which `schubert_over` starts
 --     monk_last      the rule for Schubert polynomials
 use Rattle.std.proofs.Common.{◌≡◌, ℕ, zero, suc, ◌+◌, ◌<◌, ◌≤◌, List, [], ◌∷◌, ◌++◌, length, get_or, refl, sym, ◌∙◌, ap, ap₂, subst, arith, inl, inr, ◌⊎◌, None, ℤ, pos, neg_ℤ, length-append}
 use Rattle.std.proofs.Math.ListN.{get_or-append}
-use Rattle.std.proofs.lemmas.Bool.{cases_lt}
+use Rattle.std.proofs.lemmas.Bool.{cases_lt, cond_below}
 use lib.IntN.{+ℤ_idr}
 use Rattle.sym_model.specs.Sum.{Among, Once}
 use Rattle.sym_model.specs.Polynomial.{Poly, In, nothing, pair}
@@ -17,7 +17,7 @@ use Rattle.sym_model.specs.Schubert.{schubert, schubert_over}
 use Rattle.sym_model.proofs.Sums.{Among_from_append}
 use Rattle.sym_model.proofs.Polynomials.{pair_determined}
 use Rattle.sym_model.proofs.Parts.{length-staircase}
-use Rattle.sym_model.proofs.Numbers.{counts-not_less, counts-less}
+use Rattle.sym_model.proofs.Numbers.{counts-not_less}
 use Rattle.schubert_laws.proofs.Exchanges.{exchange_at, raise, Rises, IsFirstAscent, first_ascent_cases, rises_within, rising_pairs_exchange, length-exchange_at}
 use Rattle.schubert_laws.proofs.Dominant.{pair_x_to, dominant, among_exchange, once_exchange, code_no_ascent, greater_head, smaller_of_all}
 use Rattle.schubert_laws.proofs.FixedLetters.{In_schubert, In_x_to, rises_added, exchange_added, once_added, code_added, smaller_added, falls_staircase}
@@ -30,7 +30,7 @@ use Rattle.std.proofs.Math.Nat.{le_of_lt}
 abbrev pub HasNoAscent : List ℕ → Type 0
 HasNoAscent v = (k : ℕ) → Rises k v → ⊥
 
--- ---- from the lists without an ascent before the last letter to all lists
+-- ---- Monk's rule for all lists v ++ (m), from the rule for those in which v has no ascent
 
 monk_within : (steps : ℕ) (g : Poly) (c : ℕ → Poly) (N m n : ℕ) (P : List ℕ → Type 0) → In N g → suc n ≤ N
     → ((v : List ℕ) → P v → length v ≡ n) → ((v : List ℕ) (k : ℕ) → P v → P (exchange_at k v)) → ((v : List ℕ) → P v → Once (v ++ (m ∷ [])))
@@ -61,7 +61,8 @@ pub monk_over : (g : Poly) (c : ℕ → Poly) (N m n : ℕ) (P : List ℕ → Ty
     → (v : List ℕ) → P v → (r : ℕ) → r < n → IsMonk g c (v ++ (m ∷ [])) r
 monk_over g c N m n P i b len kept once passes base v p r h = monk_within (suc (rising_pairs v)) g c N m n P i b len kept once passes base v (omega arith) p r h
 
--- ---- the lists without an ascent: only the last letter swapped with that at place r gives a cover
+-- ---- lists v ++ (m), v having no ascent: of the lists in which the letter at place r of v is swapped with another letter, only the one in which it
+-- is swapped with m is a cover
 
 abbrev pub IsBelow : ℕ → List ℕ → Type 0
 IsBelow m v = (a : ℕ) → Among a v → a < m
@@ -74,7 +75,7 @@ rising_pairs_added m (a ∷ v) b =
     omega arith
   where
     greater_added : (x y : ℕ) (u : List ℕ) → x < y → greater x (u ++ (y ∷ [])) ≡ suc (greater x u)
-    greater_added x y [] h = let c = counts-less x y h in omega arith
+    greater_added x y [] h = let c = sym (cond_below {X = ℕ} x y 1 0 h) in omega arith
     greater_added x y (z ∷ u) h = let e = greater_added x y u h in omega arith
 
 pub greater_of_none : (x : ℕ) (u : List ℕ) → ((y : ℕ) → Among y u → y ≤ x) → greater x u ≡ 0
@@ -94,7 +95,8 @@ below_or a m v b h y i = elim (Among_from_append y v (a ∷ []) i) [
   | inr (inr e) ↦ absurd e
 ]
 
--- if v has no ascent and m is greater than its letters, swapping the letter at r with m in v followed by m gives a cover
+-- let the letters of v be different, v have no ascent, and m be greater than all letters of v: for each place r of v, swapping the letter at r with m
+-- in the list v ++ (m) gives a cover of this list
 pub last_cover : (m r : ℕ) (v : List ℕ) → Once v → IsBelow m v → HasNoAscent v → r < length v
     → rising_pairs (v ++ (m ∷ [])) ≡ suc (rising_pairs (swap_at r (length v) (v ++ (m ∷ []))))
 last_cover m r [] o b n h = absurd (omega arith)
@@ -112,7 +114,8 @@ last_cover m (suc r) (a ∷ v) o b n h =
     let g = greater_swap a r (length v) (v ++ (m ∷ [])) in
     omega arith
 
--- if v has no ascent and m is greater than its letters, swapping the letter at r with m in v followed by m adds 1 to entry r of the code
+-- let the letters of v be different, v have no ascent, and m be greater than all letters of v: for each place r of v, swapping the letter at r with m
+-- in the list v ++ (m) adds 1 to entry r of its code
 pub last_code : (m r : ℕ) (v : List ℕ) → Once v → IsBelow m v → HasNoAscent v → r < length v
     → code (swap_at r (length v) (v ++ (m ∷ []))) ≡ raise r (code (v ++ (m ∷ [])))
 last_code m r [] o b n h = absurd (omega arith)
@@ -138,7 +141,7 @@ falls_raised (suc (suc n)) zero h = (omega arith, falls_staircase (suc n))
 falls_raised (suc (suc n)) (suc zero) h = (omega arith, falls_raised (suc n) zero (omega arith))
 falls_raised (suc (suc n)) (suc (suc r)) h = (omega arith, falls_raised (suc n) (suc r) (omega arith))
 
--- in a list without an ascent, each letter is greater than those after it
+-- in a list of different letters without an ascent, each letter is greater than all letters after it
 falling_pair : (v : List ℕ) (i j d : ℕ) → Once v → HasNoAscent v → i < j → j < length v → get_or v j d < get_or v i d
 falling_pair [] i j d o n h l = absurd (omega arith)
 falling_pair (a ∷ v) i zero d o n h l = absurd (omega arith)
@@ -166,7 +169,8 @@ pair_dominant w φ o f = pair_determined (schubert w) (x_to (code w)) φ (domina
 pub over_swap : (a b : ℕ) (w : List ℕ) → schubert_over (x_to (staircase (length w))) (swap_at a b w) ≡ schubert (swap_at a b w)
 over_swap a b w = ap (λ n. schubert_over (x_to (staircase n)) (swap_at a b w)) (sym (length-swap_at a b w))
 
--- if v has no ascent, swapping the letter at r with that at another place b < length v gives no cover, so its term is 0
+-- let the letters of v be different, v have no ascent, and r and b be places of v: swapping the letters at r and b in the list v ++ (m) gives no
+-- cover of it, so the term of b in Monk's rule is 0
 pub falling_elsewhere : (g : Poly) (φ : List ℕ → ℤ) (m r b : ℕ) (v : List ℕ) → Once v → HasNoAscent v → r < length v → b < length v → value g φ (v ++ (m ∷ [])) r b ≡ pos 0
 falling_elsewhere g φ m r b v o n h l = elim (cases_lt r b) [
   | inl f ↦ signed_up r b (covered g φ (v ++ (m ∷ [])) r b) f ∙ covered_none g φ (v ++ (m ∷ [])) r b (no_cover m r b v o n f l)
@@ -196,7 +200,7 @@ falling_here m r v o b n h φ =
     ∙ sym (sum_below_only (length (v ++ (m ∷ []))) (length v) (value (x_to (staircase (length (v ++ (m ∷ []))))) φ (v ++ (m ∷ [])) r) (omega arith)
     (λ j k d. falling_elsewhere (x_to (staircase (length (v ++ (m ∷ []))))) φ m r j v o n h (omega arith)))
 
--- ---- Monk's rule for Schubert polynomials, if the last letter is greater than all others
+-- ---- Monk's rule for the Schubert polynomials of lists whose last letter is greater than all others
 
 record IsStart (m n : ℕ) (v : List ℕ) : Type 0 where
   pub size : length v ≡ n

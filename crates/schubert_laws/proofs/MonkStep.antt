@@ -1,13 +1,13 @@
--- Monk's rule for a list that increases at two neighbouring places follows from the rule for the list with these places exchanged, for any polynomial
--- g from which the divided differences start. The factor is a variable plus a polynomial that commutes with divided differences (0 for Schubert
--- polynomials, and minus the variable y of a letter for double ones).
---     value g φ w r b     the pairing of φ with the term of place b: the polynomial of w with places r and b swapped, if
---                         that is a cover of w, with the sign + if b is after r and - if b is before r
+-- Monk's rule for a list that increases at two neighbouring places follows from the rule for the list with these two letters exchanged, for any
+-- polynomial g from which the divided differences start. The factor on the left side is a variable plus a polynomial that commutes with divided
+-- differences: 0 for Schubert polynomials, and -y_a, a being a letter, for double Schubert polynomials.
+--     value g φ w r b     the term of place b, paired with φ: if w with the letters at r and b swapped is a cover of w, the
+--                         polynomial of this cover, with the sign + if b is after r and - if b is before r; otherwise 0
 --     IsMonk g c w r      Monk's rule for x_r, as an equation of pairings
 --     monk_step           the rule for a list, from the rule for the list with two neighbours exchanged
 use Rattle.std.proofs.Common.{◌≡◌, ℕ, zero, suc, ◌<◌, ◌≤◌, List, [], ◌∷◌, length, get_or, refl, sym, ◌∙◌, ap, ap₂, subst, arith, inl, inr, ◌⊎◌, cond, nat_lt, ◌==◌, Bool, true, false, ℤ, pos, ◌+ℤ◌, neg_ℤ, eq-eqb, eqb-true}
 use Rattle.std.proofs.lemmas.Int.{ints}
-use Rattle.std.proofs.lemmas.Bool.{cases_eq, cases_lt, lt-ltb, ne_eqb}
+use Rattle.std.proofs.lemmas.Bool.{cases_eq, cases_lt, lt-ltb, ne_eqb, le-ltb}
 use lib.IntN.{+ℤ_idr}
 use Rattle.sym_model.specs.Sum.{Once}
 use Rattle.sym_model.specs.Polynomial.{Poly, Same, In, plus, times, pair, join}
@@ -16,7 +16,6 @@ use Rattle.sym_model.specs.DividedDifference.{differences_after}
 use Rattle.sym_model.specs.Schubert.{schubert_over}
 use Rattle.sym_model.proofs.Exponents.{tests_agree}
 use Rattle.sym_model.proofs.Polynomials.{pair_ext, pair_in, pair_add, pair_opposite, pair_zero, pair_plus, pair_times, pair_determined, times_respects, Same_refl}
-use Rattle.sym_model.proofs.Numbers.{nat_lt-false}
 use Rattle.schubert_laws.proofs.Climbs.{climb, across, stepped, across_ext, across_stepped}
 use Rattle.schubert_laws.proofs.Differences.{along, pair_differences, along_square}
 use Rattle.schubert_laws.proofs.Exchanges.{exchange_at, raise, Rises, rises_within, rising_pairs_exchange, exchange_twice, length-exchange_at}
@@ -27,9 +26,9 @@ use Rattle.schubert_laws.proofs.Swaps.{swap_at, moved, swap_at_sym, length-swap_
 use Rattle.schubert_laws.proofs.PlaceSums.{sum_below, sum_below_ext, sum_below_add, sum_below_only, sum_below_moved}
 use Rattle.std.proofs.Math.Arith.{lt_of_le-ne}
 
--- ---- a divided difference of the product of a polynomial and a variable
+-- ---- the divided difference of the product of a variable and a polynomial
 
--- z if r is the place k of the first of two neighbouring variables, -z if r is the place of the second, and otherwise 0
+-- z if r = k, -z if r = k + 1, and 0 otherwise; k and k + 1 are the places of the two variables of a divided difference
 abbrev pub jump : ℕ → ℕ → ℤ → ℤ
 jump zero zero z = z
 jump zero (suc zero) z = neg_ℤ z
@@ -90,11 +89,12 @@ moved_after (suc k) = ap suc (moved_after k)
 
 -- ---- the terms of Monk's rule
 
--- whether the list w with places a and b swapped has one increasing pair fewer than w, so that it is a cover of w
+-- whether w with the entries at the places a and b swapped has one increasing pair less than w; if the entries of w are different, this says that it
+-- is a cover of w
 abbrev pub is_cover : List ℕ → ℕ → ℕ → Bool
 is_cover w a b = rising_pairs w == suc (rising_pairs (swap_at a b w))
 
--- the polynomial of w with the places a and b swapped, paired with φ, if this list is a cover of w; otherwise 0
+-- the pairing of φ with `schubert_over g` of the list w with the entries at the places a and b swapped, if this list is a cover of w; 0 otherwise
 abbrev pub covered : Poly → (List ℕ → ℤ) → List ℕ → ℕ → ℕ → ℤ
 covered g φ w a b = cond (is_cover w a b) (pair (schubert_over g (swap_at a b w)) φ) (pos 0)
 
@@ -108,10 +108,10 @@ pub signed_up : (r b : ℕ) (z : ℤ) → r < b → signed r b z ≡ z
 signed_up r b z h = ap (λ t. cond t z (cond (nat_lt b r) (neg_ℤ z) (pos 0))) (lt-ltb r b h)
 
 pub signed_down : (r b : ℕ) (z : ℤ) → b < r → signed r b z ≡ neg_ℤ z
-signed_down r b z h = ap₂ (λ s t. cond s z (cond t (neg_ℤ z) (pos 0))) (nat_lt-false r b (omega arith)) (lt-ltb b r h)
+signed_down r b z h = ap₂ (λ s t. cond s z (cond t (neg_ℤ z) (pos 0))) (le-ltb r b (omega arith)) (lt-ltb b r h)
 
 pub signed_same : (r b : ℕ) (z : ℤ) → r ≡ b → signed r b z ≡ pos 0
-signed_same r b z e = ap₂ (λ s t. cond s z (cond t (neg_ℤ z) (pos 0))) (nat_lt-false r b (omega arith)) (nat_lt-false b r (omega arith))
+signed_same r b z e = ap₂ (λ s t. cond s z (cond t (neg_ℤ z) (pos 0))) (le-ltb r b (omega arith)) (le-ltb b r (omega arith))
 
 pub covered_sym : (g : Poly) (φ : List ℕ → ℤ) (w : List ℕ) (a b : ℕ) → covered g φ w a b ≡ covered g φ w b a
 covered_sym g φ w a b = ap (λ v. cond (rising_pairs w == suc (rising_pairs v)) (pair (schubert_over g v) φ) (pos 0)) (swap_at_sym a b w)
@@ -122,27 +122,28 @@ covered_none g φ w a b n = ap (λ t. cond t (pair (schubert_over g (swap_at a b
 pub covered_is : (g : Poly) (φ : List ℕ → ℤ) (w : List ℕ) (a b : ℕ) → rising_pairs w ≡ suc (rising_pairs (swap_at a b w)) → covered g φ w a b ≡ pair (schubert_over g (swap_at a b w)) φ
 covered_is g φ w a b e = ap (λ t. cond t (pair (schubert_over g (swap_at a b w)) φ) (pos 0)) (eq-eqb (rising_pairs w) (suc (rising_pairs (swap_at a b w))) e)
 
--- two different neighbours increase either in w or in w with these two exchanged
+-- if the entries of w are different, the entries at the places k and k + 1 increase either in w, or in w with these two exchanged
 rises_or : (k : ℕ) (w : List ℕ) → suc k < length w → Once w → Rises k w ⊎ Rises k (exchange_at k w)
 rises_or k [] h o = absurd (omega arith)
 rises_or zero (a ∷ []) h o = absurd (omega arith)
 rises_or zero (a ∷ b ∷ w) h o = elim (cases_lt a b) [ inl l ↦ inl l | inr l ↦ inr (lt_of_le-ne l (λ e. o.0 (inl (sym e)))) ]
 rises_or (suc k) (a ∷ w) h o = rises_or k w (omega arith) o.1
 
--- if w increases at places k and k + 1, S_w paired with φ is S of w with these exchanged, paired with `along k φ`
+-- if the entries of w at the places k and k + 1 increase, the pairing of φ with S_w is that of `along k φ` with S_v, v being w with these entries
+-- exchanged; S is `schubert_over g`
 pub pair_ascent : (g : Poly) (w : List ℕ) (k : ℕ) (φ : List ℕ → ℤ) → Rises k w → pair (schubert_over g w) φ ≡ pair (schubert_over g (exchange_at k w)) (along k φ)
 pair_ascent g w k φ r =
     pair_determined (schubert_over g w) (differences_after k (schubert_over g (exchange_at k w))) φ (any_ascent g w k r)
     ∙ pair_differences k (schubert_over g (exchange_at k w)) φ
 
--- if w increases at places k and k + 1, S_w paired with `along k φ` is 0
+-- if the entries of w at the places k and k + 1 increase, the pairing of `along k φ` with S_w is 0; S is `schubert_over g`
 pair_ascent_along : (g : Poly) (w : List ℕ) (k : ℕ) (φ : List ℕ → ℤ) → Rises k w → pair (schubert_over g w) (along k φ) ≡ pos 0
 pair_ascent_along g w k φ r =
     pair_ascent g w k (along k φ) r
     ∙ pair_ext (schubert_over g (exchange_at k w)) (along k (along k φ)) (λ α. pos 0) (along_square k φ)
     ∙ pair_zero (schubert_over g (exchange_at k w))
 
--- S_y paired with φ, if p is one more than the number of increasing pairs of y; otherwise 0
+-- the pairing of φ with S_y, if p is the number of increasing pairs of y plus 1; 0 otherwise. S is `schubert_over g`
 abbrev term : Poly → (List ℕ → ℤ) → ℕ → List ℕ → ℤ
 term g φ p y = cond (p == suc (rising_pairs y)) (pair (schubert_over g y) φ) (pos 0)
 
@@ -162,8 +163,8 @@ term_along g φ k p v r = by (p == suc (rising_pairs v)) (pair_ascent_along g v 
     by true e = e
     by false e = refl
 
--- unless a is k and b is k + 1: the term of u at a and b, paired with φ, is that of u with k and k + 1 exchanged, at `moved k a` and `moved k b`,
--- paired with `along k φ`
+-- let the entries of u at k and k + 1 increase, let v be u with these two exchanged, and a < b with (a, b) other than (k, k + 1): `covered` for φ, u,
+-- a and b is `covered` for `along k φ`, v, `moved k a` and `moved k b`
 covered_step : (g : Poly) (φ : List ℕ → ℤ) (k a b : ℕ) (u : List ℕ) → Once u → Rises k u → a < b → b < length u → (a ≡ k → b ≡ suc k → ⊥)
     → covered g φ u a b ≡ covered g (along k φ) (exchange_at k u) (moved k a) (moved k b)
 covered_step g φ k a b u o r l h d =
@@ -205,8 +206,8 @@ covered_step g φ k a b u o r l h d =
               omega arith
         ]
 
--- unless {r, b} is {k, k + 1}: the `value` of u at r and b is that of u with k and k + 1 exchanged, at the exchanged places `moved k r` and `moved k b`,
--- with `along k φ` in place of φ
+-- let the entries of u at k and k + 1 increase, let v be u with these two exchanged, and {r, b} be other than {k, k + 1}: `value` for φ, u, r and b
+-- is `value` for `along k φ`, v, `moved k r` and `moved k b`
 value_step : (g : Poly) (φ : List ℕ → ℤ) (k r b : ℕ) (u : List ℕ) → Once u → Rises k u → r < length u → b < length u
     → (r ≡ k → b ≡ suc k → ⊥) → (b ≡ k → r ≡ suc k → ⊥) → value g φ u r b ≡ value g (along k φ) (exchange_at k u) (moved k r) (moved k b)
 value_step g φ k r b u o s h l d e = elim (cases_lt r b) [
@@ -226,8 +227,8 @@ value_step g φ k r b u o s h l d e = elim (cases_lt r b) [
   ]
 ]
 
--- if u increases at places k and k + 1, the list v with these exchanged is a cover of u, so `covered` of u for them is the polynomial of v paired
--- with φ
+-- if the entries of u at k and k + 1 increase, the list v with these exchanged is a cover of u, so `covered` for u and the places k, k + 1 is the
+-- pairing of φ with the polynomial of v
 covered_pair : (g : Poly) (φ : List ℕ → ℤ) (k : ℕ) (u : List ℕ) → Rises k u → covered g φ u k (suc k) ≡ pair (schubert_over g (exchange_at k u)) φ
 covered_pair g φ k u r =
     let e = swap_neighbour k u (rises_within k u r) in
@@ -235,7 +236,7 @@ covered_pair g φ k u r =
     let p = rising_pairs_exchange k u r in
     covered_is g φ u k (suc k) (omega arith) ∙ ap (λ v. pair (schubert_over g v) φ) e
 
--- if u increases at places k and k + 1, u is not a cover of the list v with these exchanged, so `covered` of v for these places is 0
+-- if the entries of u at k and k + 1 increase, u is not a cover of the list v with these exchanged, so `covered` for v and the places k, k + 1 is 0
 covered_back : (g : Poly) (φ : List ℕ → ℤ) (k : ℕ) (u : List ℕ) → Rises k u → covered g φ (exchange_at k u) k (suc k) ≡ pos 0
 covered_back g φ k u r =
     let n = length-exchange_at k u in
@@ -245,7 +246,8 @@ covered_back g φ k u r =
     let p = rising_pairs_exchange k u r in
     covered_none g φ (exchange_at k u) k (suc k) (λ q. omega arith)
 
--- the difference between the terms of place b for u and for u with k and k + 1 exchanged: 0 unless b is `moved k r`
+-- `correction k r z b`: `jump k r z` if b is `moved k r`, and 0 otherwise. With z the pairing of φ with the polynomial of u with the entries at k and
+-- k + 1 exchanged, this is the difference between the terms of b in Monk's rule for u and for that list
 abbrev correction : ℕ → ℕ → ℤ → ℕ → ℤ
 correction k r z b = cond (b == moved k r) (jump k r z) (pos 0)
 
@@ -304,9 +306,9 @@ sum_correction n k r z h l =
     sum_below_only n (moved k r) (correction k r z) (moved_within k r n h l) (λ b m d. correction_elsewhere k r z b d)
     ∙ correction_there k r z (moved k r) refl
 
--- ---- Monk's rule from one list to the next
+-- ---- Monk's rule for a list, from the rule for the list with two neighbours exchanged
 
--- multiplication by p commutes with divided differences at the first n places of polynomials in N variables
+-- for f in N variables, multiplying by p commutes with the divided differences in the first n variables
 abbrev pub Passes : ℕ → ℕ → Poly → Type 0
 Passes n N p = (k : ℕ) (f : Poly) → suc k < n → In N f → Same (times p (differences_after k f)) (differences_after k (times p f))
 

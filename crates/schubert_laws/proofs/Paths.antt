@@ -1,6 +1,6 @@
--- Every path of divided differences gives the same polynomial, whatever the polynomial g from which the paths start.
---     over_first      S_w by the divided difference at the first ascent of w
---     any_ascent      S_w by the divided difference at any ascent of w
+-- Every path of divided differences gives the same polynomial S_w = `schubert_over g w`, for any polynomial g from which the paths start.
+--     over_first      S_w is the divided difference, at the first ascent of w, of S_v, v being w with the letters of the ascent exchanged
+--     any_ascent      the same holds for any ascent of w
 use Rattle.std.proofs.Common.{◌≡◌, ℕ, zero, suc, ◌+◌, ◌-◌, ◌<◌, ◌≤◌, List, [], ◌∷◌, length, get_or, refl, sym, ◌∙◌, ap, subst, arith, inl, inr, ◌⊎◌, Some, None}
 use Rattle.std.specs.Option.{option_map_or}
 use Rattle.std.proofs.lemmas.Bool.{cases_eq, cases_lt}
@@ -13,7 +13,7 @@ use Rattle.sym_model.proofs.Polynomials.{Same_trans, same_of_equal}
 use Rattle.schubert_laws.proofs.Exchanges.{exchange_at, Rises, IsFirstAscent, exchanged_is, rises_within, rising_pairs_exchange, first_ascent_cases, exchange_twice}
 use Rattle.schubert_laws.proofs.DifferenceLaws.{differences_respect, differences_commute, differences_braid}
 
--- ---- the two equations that define `descended`
+-- ---- `schubert_over g w` is g if w has no ascent, and otherwise the divided difference at the first ascent
 
 pub over_top : (g : Poly) (n : ℕ) (w : List ℕ) → first_ascent w ≡ None → descended g n w ≡ g
 over_top g zero w e = refl
@@ -25,7 +25,7 @@ over_first g w k f =
     ∙ ap (λ o. option_map_or (λ i. divided_difference i (descended g (rising_pairs (exchange_at k w)) (exchanged i w))) o g) f.is
     ∙ ap (λ v. differences_after k (descended g (rising_pairs (exchange_at k w)) v)) (exchanged_is k w (rises_within k w f.rises))
 
--- ---- the ascents of lists with neighbours exchanged
+-- ---- ascents of lists in which other neighbours are exchanged
 
 pub exchange_far : (j k : ℕ) (w : List ℕ) → j + 2 ≤ k → exchange_at j (exchange_at k w) ≡ exchange_at k (exchange_at j w)
 exchange_far j zero w h = absurd (omega arith)
@@ -61,7 +61,7 @@ rises_earlier zero (suc (suc k)) (a ∷ b ∷ w) h r = r
 rises_earlier (suc j) (suc k) [] h r = absurd r
 rises_earlier (suc j) (suc k) (a ∷ w) h r = rises_earlier j k w (omega arith) r
 
--- for neighbouring entries a < b < c: in b a c and c a b the last two increase, in a c b and b c a the first two
+-- if three neighbouring entries from place k on are a < b < c, then the last two increase in b a c, and the first two in a c b
 rises_ends : (k : ℕ) (w : List ℕ) → Rises k w → Rises (suc k) w → Rises (suc k) (exchange_at k w) × Rises k (exchange_at (suc k) w)
 rises_ends k [] r s = absurd r
 rises_ends zero (a ∷ []) r s = absurd r
@@ -83,9 +83,9 @@ rises_lower zero (a ∷ b ∷ []) r s = absurd s
 rises_lower zero (a ∷ b ∷ c ∷ w) r s = r
 rises_lower (suc k) (a ∷ w) r s = rises_lower k w r s
 
--- ---- the divided difference at any ascent
+-- ---- S_w as the divided difference at any ascent of w
 
--- S_w is ∂ of S of the list w with the entries at places k and k + 1 exchanged
+-- S_w is ∂_(k+1) of S_v, v being w with the entries at the places k and k + 1, counted from 0, exchanged; S is `schubert_over g`
 abbrev pub StepsAt : Poly → List ℕ → ℕ → Type 0
 StepsAt g w k = Same (schubert_over g w) (differences_after k (schubert_over g (exchange_at k w)))
 
@@ -148,9 +148,9 @@ any_ascent_within (suc n) g w k h r = by (first_ascent_cases w) (λ v j b s. any
 pub any_ascent : (g : Poly) (w : List ℕ) (k : ℕ) → Rises k w → StepsAt g w k
 any_ascent g w k r = any_ascent_within (suc (rising_pairs w)) g w k (omega arith) r
 
--- ---- exchanges at descents
+-- ---- the divided difference of S_w at a descent of w
 
--- if w decreases at places k and k + 1, w with these exchanged increases there
+-- if the entries of w at the places k and k + 1 decrease, they increase in w with these two exchanged
 pub rises_back : (k : ℕ) (w : List ℕ) (c d : ℕ) → suc k < length w → get_or w (suc k) c < get_or w k d → Rises k (exchange_at k w)
 rises_back k [] c d h l = absurd (omega arith)
 rises_back zero (a ∷ []) c d h l = absurd (omega arith)
@@ -171,7 +171,7 @@ any_descent g w (suc k) d = λ α.
         let l = rw (e, f) at d.falls in
         rises_back k w (suc k + 1) (suc k) d.within l
 
--- if w has a first ascent, the polynomial is the divided difference there, with places counted from 1
+-- if i is the first ascent of w, counted from 1, then S_w is ∂_i of S(w·s_i); S is `schubert_over g`
 pub over_step : (g : Poly) (w : List ℕ) (i : ℕ) → first_ascent w ≡ Some i → schubert_over g w ≡ divided_difference i (schubert_over g (exchanged i w))
 over_step g w i e = by (first_ascent_cases w)
   where

@@ -1,4 +1,4 @@
--- Every path of divided differences gives the same polynomial: with places counted from 1, as the law function states it.
+-- Every path of divided differences gives the same Schubert polynomial: with places counted from 1, as `path_law` states it.
 use Rattle.std.proofs.Common.{◌≡◌, ℕ, suc, ◌+◌, ◌-◌, ◌<◌, List, [], ◌∷◌, ◌++◌, length, sym, ap, subst, arith, None}
 use Rattle.std.proofs.lemmas.List.Edits.{length-swap}
 use Rattle.sym_model.specs.Alternant.{staircase}

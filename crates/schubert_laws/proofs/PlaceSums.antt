@@ -1,4 +1,4 @@
--- Sums of a whole number for each place 0, 1, .., n - 1.
+-- Sums of f(0), f(1), .., f(n - 1) for a function f of places (`sum_below`).
 use Rattle.std.proofs.Common.{◌≡◌, ℕ, zero, suc, ◌<◌, refl, ap, ap₂, arith, ℤ, pos, ◌+ℤ◌}
 use Rattle.std.proofs.lemmas.Int.{ints}
 use Rattle.schubert_laws.proofs.Swaps.{moved}
@@ -22,7 +22,7 @@ sum_below_none (suc n) f e =
     let r = sum_below_none n (λ b. f (suc b)) (λ b l. e (suc b) (omega arith)) in
     omega (arith, ints)
 
--- if all terms but that of place c are 0, the sum is the term of c
+-- if f(b) = 0 for all b < n except c, the sum of f over the places below n is f(c)
 pub sum_below_only : (n c : ℕ) (f : ℕ → ℤ) → c < n → ((b : ℕ) → b < n → (b ≡ c → ⊥) → f b ≡ pos 0) → sum_below n f ≡ f c
 sum_below_only zero c f h e = absurd (omega arith)
 sum_below_only (suc n) zero f h e =
@@ -33,7 +33,7 @@ sum_below_only (suc n) (suc c) f h e =
     let r = sum_below_only n c (λ b. f (suc b)) (omega arith) (λ b l d. e (suc b) (omega arith) (λ q. d (omega arith))) in
     omega (arith, ints)
 
--- exchanging two neighbouring places k and k + 1 does not change the sum
+-- the sum of f over the places below n does not change if the values at two neighbouring places k and k + 1 are exchanged
 pub sum_below_moved : (k n : ℕ) (f : ℕ → ℤ) → suc k < n → sum_below n (λ b. f (moved k b)) ≡ sum_below n f
 sum_below_moved k zero f h = absurd (omega arith)
 sum_below_moved zero (suc zero) f h = absurd (omega arith)

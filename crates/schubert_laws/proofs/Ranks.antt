@@ -1,17 +1,16 @@
--- A permutation on the right side of the transition rule has a smaller rank (specs/TransitionOrder) than the one on the left.
+-- Each permutation on the right side of the transition rule has a smaller rank (specs/TransitionOrder) than the one on the left side.
 use Rattle.std.proofs.Common.{◌≡◌, ℕ, zero, suc, ◌+◌, ◌-◌, ◌*◌, ◌<◌, ◌≤◌, List, [], ◌∷◌, length, get_or, refl, ap, inl, inr, arith, Some, None, Option, unwrap_or}
 use Rattle.std.proofs.lemmas.Bool.{cases_lt}
 use Rattle.sym_model.specs.Sum.{Among}
 use Rattle.sym_model.specs.PlaceOrders.{inversions}
 use Rattle.sym_model.specs.Permutation.{IsOneLine, IsLower, letter, last_descent, last_descent_place}
-use Rattle.sym_model.proofs.Lists.{get_or-any}
 use Rattle.schubert_laws.specs.TransitionOrder.{rank}
 use Rattle.schubert_laws.proofs.Swaps.{among_get}
 use Rattle.schubert_laws.proofs.Transition.{last_descent_is}
 use native.Mathlib.Nat.{mul-le-mul_left}
-use Rattle.std.proofs.lemmas.List.{get_or_past}
+use Rattle.std.proofs.lemmas.List.{get_or_past, get_or_default}
 
--- for i ≥ 1 the letter of a permutation w at place i is at least 1; after the end of w it is i itself
+-- for i ≥ 1, the letter of a permutation w at place i (which is i if i is after the end of w) is at least 1
 pub letter_counts : (w : List ℕ) (i : ℕ) → IsOneLine w → 1 ≤ i → 1 ≤ letter w i
 letter_counts w i o h = at w (i - 1) (λ a m. (o.letters a m).0)
   where
@@ -20,11 +19,11 @@ letter_counts w i o h = at w (i - 1) (λ a m. (o.letters a m).0)
     at (x ∷ v) zero g = g x (inl refl)
     at (x ∷ v) (suc j) g = at v j (λ a m. g a (inr m))
 
--- the letter of a permutation v at a place i ≤ length v is at most the length of v
+-- if i is at most the length of the permutation v, the letter of v at place i is at most the length of v
 pub letter_within : (v : List ℕ) (i : ℕ) → IsOneLine v → i ≤ length v → letter v i ≤ length v
 letter_within v i o h = elim (cases_lt (i - 1) (length v)) [
   | inl l ↦
-      let d = get_or-any v (i - 1) i 0 l in
+      let d = get_or_default v (i - 1) i 0 l in
       let m = (o.letters (get_or v (i - 1) 0) (among_get (i - 1) 0 v l)).1 in
       omega arith
   | inr l ↦ let p = get_or_past v (i - 1) i l in omega arith
@@ -37,7 +36,7 @@ descent_within v = by (last_descent v) refl
     by None e = omega arith
     by (Some r) e = let f = last_descent_is v (Some r) e in let f1 = f.1 in let f2 = f.2 in omega arith
 
--- a number of two digits to the base n is smaller if its first digit is smaller
+-- if a < b and x < n, then a·n + x < b·n + y
 below_two : (n a b x y : ℕ) → a < b → x < n → a * n + x < b * n + y
 below_two n a b x y h k = omega (arith, mul-le-mul_left n h)
 

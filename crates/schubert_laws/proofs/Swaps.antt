@@ -1,17 +1,16 @@
--- Two entries of a list swapped, by recursion on their places, counted from 0, and the effect on counts of pairs.
---     swap_at a b w        w with the entries at places a and b swapped
---     moved k a            the place to which the exchange after the first k entries moves place a
---     exchange_swap        swapping a and b and then exchanging k and k + 1 is exchanging first and then swapping `moved k a` and `moved k b`
---     raises, lowers       swapping a decreasing pair gives more increasing pairs; swapping an increasing one gives no more
+-- Two entries of a list swapped, by recursion on their places, counted from 0, and the numbers of increasing pairs before and after.
+--     swap_at a b w        w with the entries at the places a and b swapped
+--     moved k a            the place to which place a moves if the places k and k + 1 are exchanged
+--     exchange_swap        swapping a and b and then exchanging k and k + 1 is exchanging k and k + 1 and then swapping `moved k a` and `moved k b`
+--     raises, lowers       swapping a decreasing pair gives more increasing pairs; swapping a pair that is not decreasing gives no more
 use Rattle.std.proofs.Common.{◌≡◌, ℕ, zero, suc, ◌+◌, ◌<◌, ◌≤◌, List, [], ◌∷◌, length, get_or, set, refl, sym, ◌∙◌, ap, ap₂, subst, arith, inl, inr, ◌⊎◌, cond, nat_lt, length-set}
-use Rattle.std.proofs.lemmas.Bool.{cases_eq, cases_lt}
+use Rattle.std.proofs.lemmas.Bool.{cases_eq, cases_lt, cond_below}
 use Rattle.sym_model.specs.Sum.{Among, Once}
 use Rattle.sym_model.specs.PlaceOrders.{smaller}
 use Rattle.sym_model.specs.BetaList.{greater, rising_pairs}
-use Rattle.sym_model.proofs.Numbers.{counts-not_less, counts-less}
-use Rattle.sym_model.proofs.Lists.{get_or-any}
+use Rattle.sym_model.proofs.Numbers.{counts-not_less}
 use Rattle.schubert_laws.proofs.Exchanges.{exchange_at}
-use Rattle.std.proofs.lemmas.List.{get_or-set_same}
+use Rattle.std.proofs.lemmas.List.{get_or-set_same, get_or_default}
 
 abbrev pub swap_at : ℕ → ℕ → List ℕ → List ℕ
 swap_at a b [] = []
@@ -41,7 +40,7 @@ length-swap_at zero (suc b) (x ∷ w) = ap suc (length-set w b x)
 length-swap_at (suc a) zero (x ∷ w) = ap suc (length-set w a x)
 length-swap_at (suc a) (suc b) (x ∷ w) = ap suc (length-swap_at a b w)
 
--- ---- places after the exchange of k and k + 1
+-- ---- the place to which a place moves if the places k and k + 1 are exchanged (`moved`)
 
 pub moved_within : (k a n : ℕ) → suc k < n → a < n → moved k a < n
 moved_within zero zero n h l = h
@@ -51,7 +50,7 @@ moved_within (suc k) zero n h l = l
 moved_within (suc k) (suc a) zero h l = absurd (omega arith)
 moved_within (suc k) (suc a) (suc n) h l = let m = moved_within k a n (omega arith) (omega arith) in omega arith
 
--- if a < b, exchanging k and k + 1 keeps a before b, unless a is k and b is k + 1
+-- if a < b, then `moved k a` < `moved k b`, unless a is k and b is k + 1
 pub moved_order : (k a b : ℕ) → a < b → (a ≡ k → b ≡ suc k → ⊥) → moved k a < moved k b
 moved_order k a zero h d = absurd (omega arith)
 moved_order zero zero (suc zero) h d = absurd (d refl refl)
@@ -98,14 +97,14 @@ exchange_swap (suc k) zero (suc b) (x ∷ w) h = ap₂ ◌∷◌ (sym (get_moved
 exchange_swap (suc k) (suc a) zero (x ∷ w) h = ap₂ ◌∷◌ (sym (get_moved k a x w (omega arith))) (sym (set_moved k a x w (omega arith)))
 exchange_swap (suc k) (suc a) (suc b) (x ∷ w) h = ap (λ v. x ∷ v) (exchange_swap k a b w (omega arith))
 
--- swapping the neighbours at k and k + 1 is exchanging them
+-- `swap_at k (k + 1)` is `exchange_at k`
 pub swap_neighbour : (k : ℕ) (w : List ℕ) → suc k < length w → swap_at k (suc k) w ≡ exchange_at k w
 swap_neighbour k [] h = absurd (omega arith)
 swap_neighbour zero (x ∷ []) h = absurd (omega arith)
 swap_neighbour zero (x ∷ y ∷ w) h = refl
 swap_neighbour (suc k) (x ∷ w) h = ap (λ v. x ∷ v) (swap_neighbour k w (omega arith))
 
--- ---- counts of greater entries after one entry is replaced
+-- ---- the change of the numbers of entries that are greater, and that are smaller, than a given number, if an entry is replaced
 
 greater_set : (a b x : ℕ) (w : List ℕ) → cond (nat_lt a (get_or w b x)) 1 0 + greater a (set w b x) ≡ cond (nat_lt a x) 1 0 + greater a w
 greater_set a b x [] = refl
@@ -133,15 +132,15 @@ smaller_swap c (suc a) (suc b) (x ∷ w) = ap (λ n. cond (nat_lt x c) 1 0 + n) 
 
 counts_more : (x y z : ℕ) → y ≤ x → cond {A = ℕ} (nat_lt x z) 1 0 ≤ cond {A = ℕ} (nat_lt y z) 1 0
 counts_more x y z h = elim (cases_lt x z) [
-  | inl l ↦ let p = counts-less x z l in let q = counts-less y z (omega arith) in omega arith
+  | inl l ↦ let p = sym (cond_below {X = ℕ} x z 1 0 l) in let q = sym (cond_below {X = ℕ} y z 1 0 (omega arith)) in omega arith
   | inr l ↦ let p = counts-not_less x z l in omega arith
 ]
 
--- if an entry is replaced by a greater one x, the number of entries greater than z does not decrease
+-- if an entry is replaced by a greater number x, the number of entries greater than z does not decrease
 greater_more : (z b x d : ℕ) (w : List ℕ) → b < length w → get_or w b d < x → greater z w ≤ greater z (set w b x)
 greater_more z b x d [] l h = absurd (omega arith)
 greater_more z zero x d (y ∷ w) l h = elim (cases_lt z y) [
-  | inl m ↦ let p = counts-less z y m in let q = counts-less z x (omega arith) in omega arith
+  | inl m ↦ let p = sym (cond_below {X = ℕ} z y 1 0 m) in let q = sym (cond_below {X = ℕ} z x 1 0 (omega arith)) in omega arith
   | inr m ↦ let p = counts-not_less z y m in omega arith
 ]
 greater_more z (suc b) x d (y ∷ w) l h = let e = greater_more z b x d w (omega arith) h in omega arith
@@ -150,7 +149,7 @@ raises_first : (x b d : ℕ) (w : List ℕ) → b < length w → get_or w b d < 
     → greater x w + rising_pairs w < greater (get_or w b d) (set w b x) + rising_pairs (set w b x)
 raises_first x b d [] l h = absurd (omega arith)
 raises_first x zero d (y ∷ w) l h =
-    let p = counts-less y x h in
+    let p = sym (cond_below {X = ℕ} y x 1 0 h) in
     let q = counts-not_less x y (omega arith) in
     omega arith
 raises_first x (suc b) d (z ∷ w) l h =
@@ -159,12 +158,12 @@ raises_first x (suc b) d (z ∷ w) l h =
     let c = counts_more x (get_or w b d) z (omega arith) in
     omega arith
 
--- swapping a decreasing pair gives more increasing pairs
+-- if a < b and the entry at a is greater than that at b, swapping them gives more increasing pairs
 pub raises : (a b d : ℕ) (w : List ℕ) → a < b → b < length w → get_or w b d < get_or w a d → rising_pairs w < rising_pairs (swap_at a b w)
 raises a b d [] o l h = absurd (omega arith)
 raises zero zero d (x ∷ w) o l h = absurd (omega arith)
 raises zero (suc b) d (x ∷ w) o l h =
-    let e = get_or-any w b d x (omega arith) in
+    let e = get_or_default w b d x (omega arith) in
     let r = raises_first x b x w (omega arith) (subst (λ y. y < x) e h) in
     r
 raises (suc a) zero d (x ∷ w) o l h = absurd (omega arith)
@@ -173,7 +172,7 @@ raises (suc a) (suc b) d (x ∷ w) o l h =
     let e = greater_swap x a b w in
     omega arith
 
--- ---- a swap undone, and the entries at swapped places
+-- ---- a swap undone, and the entries at the two places after a swap
 
 set_back : (w : List ℕ) (b x d : ℕ) → b < length w → set (set w b x) b (get_or w b d) ≡ w
 set_back [] b x d h = absurd (omega arith)
@@ -190,14 +189,14 @@ swap_twice (suc a) (suc b) (x ∷ w) l m = ap (λ v. x ∷ v) (swap_twice a b w 
 pub get_swap_left : (a b d : ℕ) (w : List ℕ) → a < length w → b < length w → get_or (swap_at a b w) a d ≡ get_or w b d
 get_swap_left a b d [] l m = absurd (omega arith)
 get_swap_left zero zero d (x ∷ w) l m = refl
-get_swap_left zero (suc b) d (x ∷ w) l m = get_or-any w b x d (omega arith)
+get_swap_left zero (suc b) d (x ∷ w) l m = get_or_default w b x d (omega arith)
 get_swap_left (suc a) zero d (x ∷ w) l m = get_or-set_same w a x d (omega arith)
 get_swap_left (suc a) (suc b) d (x ∷ w) l m = get_swap_left a b d w (omega arith) (omega arith)
 
 pub get_swap_right : (a b d : ℕ) (w : List ℕ) → a < length w → b < length w → get_or (swap_at a b w) b d ≡ get_or w a d
 get_swap_right a b d w l m = ap (λ v. get_or v b d) (swap_at_sym a b w) ∙ get_swap_left b a d w m l
 
--- swapping a pair that is not decreasing gives no more increasing pairs
+-- if a < b and the entry at a is at most that at b, swapping them does not give more increasing pairs
 pub lowers : (a b d : ℕ) (w : List ℕ) → a < b → b < length w → get_or w a d ≤ get_or w b d → rising_pairs (swap_at a b w) ≤ rising_pairs w
 lowers a b d w o l h = elim (cases_eq (get_or w a d) (get_or w b d)) [
   | inl e ↦ let f = ap rising_pairs (swap_equal a b d w (omega arith) l e) in omega arith
@@ -219,16 +218,16 @@ lowers a b d w o l h = elim (cases_eq (get_or w a d) (get_or w b d)) [
     swap_equal i j p [] m n e = refl
     swap_equal zero zero p (x ∷ v) m n e = refl
     swap_equal zero (suc j) p (x ∷ v) m n e =
-        let g : get_or v j x ≡ x = get_or-any v j x p (omega arith) ∙ sym e in
+        let g : get_or v j x ≡ x = get_or_default v j x p (omega arith) ∙ sym e in
         ap₂ ◌∷◌ g (set_same v j x x (omega arith) g)
     swap_equal (suc i) zero p (x ∷ v) m n e =
-        let g : get_or v i x ≡ x = get_or-any v i x p (omega arith) ∙ e in
+        let g : get_or v i x ≡ x = get_or_default v i x p (omega arith) ∙ e in
         ap₂ ◌∷◌ g (set_same v i x x (omega arith) g)
     swap_equal (suc i) (suc j) p (x ∷ v) m n e = ap (λ u. x ∷ u) (swap_equal i j p v (omega arith) (omega arith) e)
 
--- ---- a list of different entries with one entry replaced
+-- ---- the entries of a list after an entry is replaced, and after a swap
 
-among_set : (z b x : ℕ) (w : List ℕ) → Among z (set w b x) → (z ≡ x) ⊎ Among z w
+pub among_set : {A : Type 0} (z : A) (b : ℕ) (x : A) (w : List A) → Among z (set w b x) → (z ≡ x) ⊎ Among z w
 among_set z b x [] m = absurd m
 among_set z zero x (y ∷ w) (inl e) = inl e
 among_set z zero x (y ∷ w) (inr m) = inr (inr m)
@@ -240,7 +239,7 @@ among_get b d [] h = absurd (omega arith)
 among_get zero d (y ∷ w) h = inl refl
 among_get (suc b) d (y ∷ w) h = inr (among_get b d w (omega arith))
 
--- if the entries of w are different, and the entry y at b is still in w after x is written over it, y is x
+-- let y be the entry of w at b, and the entries of w be different: if y occurs in w with x in the place of y, then y = x
 replaced : (b d x : ℕ) (w : List ℕ) → b < length w → Once w → Among (get_or w b d) (set w b x) → get_or w b d ≡ x
 replaced b d x [] h o m = absurd m
 replaced zero d x (y ∷ w) h o (inl e) = e

@@ -1,14 +1,14 @@
 -- The transition rule, as Monk's rule at the last descent.
---     raises_by_one     swapping a decreasing pair with only smaller entries between gives one more increasing pair
---     between           swapping an increasing pair with an entry between both in place and in value does not remove exactly one increasing pair
+--     raises_by_one     if all entries between the two of a decreasing pair are smaller than both, swapping the pair gives one more increasing pair
+--     between           if an entry between those of an increasing pair is between them in value too, swapping the pair gives no cover
 use Rattle.std.proofs.Common.{◌≡◌, ℕ, zero, suc, ◌+◌, ◌-◌, ◌<◌, ◌≤◌, max, List, [], ◌∷◌, ◌++◌, length, get_or, set, refl, sym, ◌∙◌, ap, ap₂, subst, arith, inl, inr, cond, nat_lt, Bool, true, false, ℤ, pos, length-append, eq-eqb, Option, Some, None, option_map}
 use Rattle.std.specs.Option.{option_or}
 use Rattle.std.specs.List.{swap}
 use Rattle.std.proofs.Math.ListN.{get_or-append}
 use Rattle.std.proofs.Math.Seq.{get_or-append_seam}
 use Rattle.std.proofs.lemmas.Int.{ints}
-use Rattle.std.proofs.lemmas.List.{append-nil}
-use Rattle.std.proofs.lemmas.Bool.{cases_lt, ltb-true, ltb-false}
+use Rattle.std.proofs.lemmas.List.{append-nil, get_or_default}
+use Rattle.std.proofs.lemmas.Bool.{cases_lt, ltb-true, ltb-false, cond_below}
 use Rattle.sym_model.specs.Sum.{Among, Once}
 use Rattle.sym_model.specs.Polynomial.{Same, plus, negate, times, pair}
 use Rattle.sym_model.specs.Partition.{after}
@@ -24,22 +24,21 @@ use Rattle.schubert_laws.proofs.Swaps.{swap_at, length-swap_at, raises, greater_
 use Rattle.schubert_laws.proofs.MonkStep.{covered, covered_none}
 use Rattle.schubert_laws.proofs.MonkFromOne.{swap_is, one_line_swap, longer, top_of, cover_value, cover_term, pair_covers, monk_in}
 use Rattle.sym_model.proofs.AfterLists.{length_after, after_among, among_after, once_after}
-use Rattle.sym_model.proofs.Numbers.{counts-not_less, counts-less}
-use Rattle.sym_model.proofs.Lists.{get_or-any}
+use Rattle.sym_model.proofs.Numbers.{counts-not_less}
 use Rattle.sym_model.proofs.PolynomialLaws.{restricted_test}
 
--- ---- swaps of a decreasing pair with only smaller entries between
+-- ---- swapping a decreasing pair, with only smaller entries between the two
 
 greater_set_both : (z b x d : ℕ) (w : List ℕ) → b < length w → z < get_or w b d → z < x → greater z (set w b x) ≡ greater z w
 greater_set_both z b x d [] h l m = absurd (omega arith)
-greater_set_both z zero x d (y ∷ w) h l m = let p = counts-less z y l in let q = counts-less z x m in omega arith
+greater_set_both z zero x d (y ∷ w) h l m = let p = sym (cond_below {X = ℕ} z y 1 0 l) in let q = sym (cond_below {X = ℕ} z x 1 0 m) in omega arith
 greater_set_both z (suc b) x d (y ∷ w) h l m = ap (λ n. cond (nat_lt z y) 1 0 + n) (greater_set_both z b x d w (omega arith) l m)
 
 raises_by_one_first : (x b d : ℕ) (w : List ℕ) → b < length w → get_or w b d < x → ((c : ℕ) → c < b → get_or w c d < get_or w b d)
     → greater (get_or w b d) (set w b x) + rising_pairs (set w b x) ≡ suc (greater x w + rising_pairs w)
 raises_by_one_first x b d [] h l s = absurd (omega arith)
 raises_by_one_first x zero d (y ∷ w) h l s =
-    let p = counts-less y x l in
+    let p = sym (cond_below {X = ℕ} y x 1 0 l) in
     let q = counts-not_less x y (omega arith) in
     omega arith
 raises_by_one_first x (suc b) d (z ∷ w) h l s =
@@ -55,7 +54,7 @@ pub raises_by_one : (a b d : ℕ) (w : List ℕ) → a < b → b < length w → 
 raises_by_one a zero d w h l m s = absurd (omega arith)
 raises_by_one a (suc b) d [] h l m s = absurd (omega arith)
 raises_by_one zero (suc b) d (x ∷ w) h l m s =
-    let e = get_or-any w b x d (omega arith) in
+    let e = get_or_default w b x d (omega arith) in
     let r = raises_by_one_first x b d w (omega arith) m (λ c k. s (suc c) (omega arith) (omega arith)) in
     ap (λ y. greater y (set w b x) + rising_pairs (set w b x)) e ∙ r
 raises_by_one (suc a) (suc b) d (x ∷ w) h l m s =
@@ -63,9 +62,9 @@ raises_by_one (suc a) (suc b) d (x ∷ w) h l m s =
     let g = greater_swap x a b w in
     omega arith
 
--- ---- swaps of an increasing pair with an entry between both in place and in value
+-- ---- swapping an increasing pair, with an entry between the two that is also between them in value
 
--- if y is the entry at c, writing x at c, swapping c and b, and writing y at c again gives u with x at b
+-- if y is the entry of u at c, then writing x at c, swapping c and b, and writing y at c gives u with x at b
 set_by_way : (x c b : ℕ) (u : List ℕ) (y : ℕ) → c < b → b < length u → y ≡ get_or u c x → set (swap_at c b (set u c x)) c y ≡ set u b x
 set_by_way x c b [] y h l e = absurd (omega arith)
 set_by_way x c zero (p ∷ u) y h l e = absurd (omega arith)
@@ -75,7 +74,7 @@ set_by_way x (suc c) (suc b) (p ∷ u) y h l e = ap (λ v. p ∷ v) (set_by_way 
 get_by_way : (x c b d : ℕ) (u : List ℕ) → c < b → b < length u → get_or (swap_at c b (set u c x)) c d ≡ get_or u b d
 get_by_way x c b d [] h l = absurd (omega arith)
 get_by_way x c zero d (p ∷ u) h l = absurd (omega arith)
-get_by_way x zero (suc b) d (p ∷ u) h l = get_or-any u b x d (omega arith)
+get_by_way x zero (suc b) d (p ∷ u) h l = get_or_default u b x d (omega arith)
 get_by_way x (suc c) (suc b) d (p ∷ u) h l = get_by_way x c b d u (omega arith) (omega arith)
 
 swap_by_way : (a c b : ℕ) (w : List ℕ) → a < c → c < b → b < length w → swap_at a c (swap_at c b (swap_at a c w)) ≡ swap_at a b w
@@ -83,10 +82,10 @@ swap_by_way a c b [] h k l = absurd (omega arith)
 swap_by_way a zero b (x ∷ u) h k l = absurd (omega arith)
 swap_by_way a (suc c) zero (x ∷ u) h k l = absurd (omega arith)
 swap_by_way zero (suc c) (suc b) (x ∷ u) h k l =
-    ap₂ ◌∷◌ (get_by_way x c b (get_or u c x) u (omega arith) (omega arith) ∙ get_or-any u b (get_or u c x) x (omega arith)) (set_by_way x c b u (get_or u c x) (omega arith) (omega arith) refl)
+    ap₂ ◌∷◌ (get_by_way x c b (get_or u c x) u (omega arith) (omega arith) ∙ get_or_default u b (get_or u c x) x (omega arith)) (set_by_way x c b u (get_or u c x) (omega arith) (omega arith) refl)
 swap_by_way (suc a) (suc c) (suc b) (x ∷ u) h k l = ap (λ v. x ∷ v) (swap_by_way a c b u (omega arith) (omega arith) (omega arith))
 
--- swapping an increasing pair gives fewer increasing pairs
+-- if a < b and the entry at a is less than that at b, swapping them gives fewer increasing pairs
 pub lowers_strictly : (a b d : ℕ) (w : List ℕ) → a < b → b < length w → get_or w a d < get_or w b d → rising_pairs (swap_at a b w) < rising_pairs w
 lowers_strictly a b d w o l h =
     let p = get_swap_left a b d w (omega arith) l in
@@ -113,7 +112,8 @@ get_swap_other (suc a) zero (suc c) d (x ∷ w) n m = get_set_other w a c x d (�
 get_swap_other (suc a) (suc b) zero d (x ∷ w) n m = refl
 get_swap_other (suc a) (suc b) (suc c) d (x ∷ w) n m = get_swap_other a b c d w (λ e. n (ap suc e)) (λ e. m (ap suc e))
 
--- if w has an entry at a place between a and b that is between theirs in value, w with a and b swapped does not have one increasing pair fewer
+-- if a < c < b, and the entries of w at a, c and b increase, then w with the entries at a and b swapped does not have exactly one increasing pair
+-- less than w
 pub between : (a c b d : ℕ) (w : List ℕ) → a < c → c < b → b < length w → get_or w a d < get_or w c d → get_or w c d < get_or w b d
     → rising_pairs w ≡ suc (rising_pairs (swap_at a b w)) → ⊥
 between a c b d w h k l f g e =
@@ -131,9 +131,9 @@ between a c b d w h k l f g e =
     let way = ap rising_pairs (swap_by_way a c b w h k l) in
     omega arith
 
--- ---- lists that increase after the last descent
+-- ---- lists that are weakly increasing after their last descent
 
--- after place q, counted from 0, no entry is greater than the next
+-- each entry of w after place q, counted from 0, is at most the next one
 abbrev pub RisesFrom : ℕ → List ℕ → Type 0
 RisesFrom q w = (b : ℕ) → q < b → suc b < length w → get_or w b 0 ≤ get_or w (suc b) 0
 
@@ -166,7 +166,7 @@ last_descent_is w o e = subst (IsLastDescent w) e (facts w)
     facts (a ∷ []) = λ b h. absurd (omega arith)
     facts (a ∷ b ∷ v) = step a b v (last_descent (b ∷ v)) (facts (b ∷ v)) (nat_lt b a) refl
 
--- ---- the transition rule, with places counted from 0
+-- ---- in a list of different entries, equal entries are at the same place; the transition rule, with places counted from 0
 
 pub once_get : (w : List ℕ) (i j : ℕ) → Once w → i < length w → j < length w → get_or w i 0 ≡ get_or w j 0 → i ≡ j
 once_get [] i j o h l e = absurd (omega arith)
@@ -188,8 +188,8 @@ rises_chain q c (suc b) w r h l m = elim (cases_lt c (suc b)) [
   | inr f ↦ let e : c ≡ suc b = omega arith in let d = ap (λ i. get_or w i 0) e in omega arith
 ]
 
--- q and b, counted from 0, are the places that the transition rule swaps: the last descent is at q, and b is the last place with a letter smaller
--- than that at q
+-- q and b, counted from 0, are the places r - 1 and s - 1 of the transition rule for w: the last descent is at q, and b is the last place whose
+-- letter is smaller than the letter at q
 pub record IsStep (w : List ℕ) (q b : ℕ) : Type 0 where
   pub order : q < b
   pub inside : b < length w
@@ -197,7 +197,8 @@ pub record IsStep (w : List ℕ) (q b : ℕ) : Type 0 where
   pub rises : RisesFrom q w
   pub later : (c : ℕ) → b < c → c < length w → get_or w q 0 ≤ get_or w c 0
 
--- w with the letters at q and b swapped has one inversion less than w
+-- if q and b are the places of the transition rule for w, then the list w·t_qb, which is w with the letters at q and b swapped, has one inversion
+-- less than w
 pub one_fewer : (w : List ℕ) (q b : ℕ) → IsOneLine w → IsStep w q b → inversions w ≡ inversions (swap_at q b w) + 1
 one_fewer w q b o s =
     let order = s.order in
@@ -205,7 +206,8 @@ one_fewer w q b o s =
     one_more_inversion (swap_at q b w) w (once_swap q b w (omega arith) inside o.once) o.once (sym (length-swap_at q b w))
     (raises_by_one q b 0 w order inside s.falls (λ c h l. strict_get w c b o.once (omega arith) inside (λ z. omega arith) (rises_chain q c b w s.rises h (omega arith) inside)))
 
--- if c is after q and is not b, swapping q and c in w·t_qb with a fixed letter added gives no cover
+-- if q and b are the places of the transition rule for w, and c is after q and not b, then swapping the letters at q and c in w·t_qb with a fixed
+-- letter added does not give a cover of that list
 pub no_other : (w : List ℕ) (q b c : ℕ) → IsOneLine w → IsStep w q b → q < c → c ≤ length w → (c ≡ b → ⊥)
     → rising_pairs (longer (swap_at q b w) 0) ≡ suc (rising_pairs (swap_at q c (longer (swap_at q b w) 0))) → ⊥
 no_other w q b c o s h l n e =
@@ -253,7 +255,8 @@ swap_there w q b h l =
     ∙ ap₂ (λ x y. kept (swap (swap_at q b w) x y)) i j
     ∙ ap kept (swap_is (swap_at q b w) q b (omega arith) (omega arith) ∙ swap_twice q b w (omega arith) l)
 
--- w is the only cover of w·t_qb among those that swap q with a later place, so that the sum over these covers is S_w
+-- if q and b are the places of the transition rule for w, then, of the lists that are w·t_qb with the letter at q swapped with a later one, only w is
+-- a cover of w·t_qb; so the sum of the Schubert polynomials of these covers is S_w
 pair_up : (n : ℕ) (φ : List ℕ → ℤ) (w : List ℕ) (q b : ℕ) → IsOneLine w → IsStep w q b → pair (schuberts_in (covers_up (suc q) (swap_at q b w)) n) φ ≡ pair (schubert_in w n) φ
 pair_up n φ w q b o s =
     let order = s.order in

@@ -1,7 +1,7 @@
--- The transition rule as its law function states it: with places counted from 1, and permutations without their last fixed letters.
+-- The transition rule as `monk_law` states it: with places counted from 1, and permutations without the fixed letters at their end.
 use Rattle.std.proofs.Common.{◌≡◌, ℕ, suc, ◌+◌, ◌-◌, ◌<◌, ◌≤◌, List, ◌++◌, ◌==◌, map, length, get_or, sym, ◌∙◌, ap, ap₂, subst, arith, inl, inr, length-append, append_assoc, Some, filter}
 use Rattle.std.specs.List.{swap}
-use Rattle.std.proofs.lemmas.List.{append-nil, get_or_past}
+use Rattle.std.proofs.lemmas.List.{append-nil, get_or_past, get_or_default}
 use Rattle.std.proofs.lemmas.Bool.{cases_lt}
 use Rattle.sym_model.specs.Polynomial.{Same, coefficient, plus, times}
 use Rattle.sym_model.specs.Partition.{after}
@@ -15,12 +15,9 @@ use Rattle.schubert_laws.proofs.Swaps.{swap_at, length-swap_at, among_get}
 use Rattle.schubert_laws.proofs.MonkFromOne.{swap_is, one_line_swap, swap_at_append}
 use Rattle.schubert_laws.proofs.Transition.{IsStep, last_descent_is, transition_at}
 use Rattle.sym_model.proofs.AfterLists.{length_after, after_among, after-append}
-use Rattle.sym_model.proofs.Lists.{get_or-any, map-among}
+use Rattle.sym_model.proofs.Lists.{map-among}
 
--- ---- fixed letters at the end do not change a swap
-
-pub get_past : (w : List ℕ) (i d : ℕ) → length w ≤ i → get_or w i d ≡ d
-get_past w i d h = get_or_past w i d h
+-- ---- the letter after the end of a list; fixed letters at the end of w do not change w·t_ij
 
 swap_longer : (x : List ℕ) (t a b : ℕ) → a < length x → b < length x → 0 < length x → kept (swap (x ++ after (length x) t) a b) ≡ kept (swap x a b)
 swap_longer x t a b h l p =
@@ -32,7 +29,8 @@ swap_longer x t a b h l p =
     ∙ kept_added (swap_at a b x) t (omega arith)
     ∙ ap kept (sym (swap_is x a b h l))
 
--- if t fixed letters are added to x, and then fixed letters up to place j, the result is x with fixed letters up to j and perhaps some more
+-- x with t fixed letters added, and then fixed letters up to place j, is x with fixed letters up to place j, followed by b further fixed letters, for
+-- some b
 with_fixed_longer : (x : List ℕ) (t j : ℕ) → (b : ℕ) × (with_fixed j (x ++ after (length x) t) ≡ with_fixed j x ++ after (length (with_fixed j x)) b)
 with_fixed_longer x t j =
     let u : List ℕ = x ++ after (length x) t in
@@ -72,7 +70,7 @@ covers_down_kept r w o =
     let a = after_among 0 (r - 1) i m in let p = a.0 in let q = a.1 in times_swap_kept w i r (omega arith) (omega arith)))
     ∙ ap (λ n. filter (λ (v : List ℕ). inversions v == n + 1) (map (λ i. times_swap i r w) (after 0 (r - 1)))) (inversions_kept w o)
 
--- ---- the places of the transition rule, counted from 0
+-- ---- the places r and s of the transition rule, counted from 0
 
 abbrev pub Places : List ℕ → ℕ → ℕ → Type 0
 Places w r s = (q : ℕ) × (b : ℕ) × (r ≡ suc q) × (s ≡ suc b) × IsStep w q b
@@ -86,20 +84,20 @@ step_of w r s o t =
     let qf = f.3 in
     let c = t.counts in
     let rq : r - 1 ≡ f.0 = omega arith in
-    let lr = ap (λ i. get_or w i r) rq ∙ get_or-any w f.0 r 0 (omega arith) in
+    let lr = ap (λ i. get_or w i r) rq ∙ get_or_default w f.0 r 0 (omega arith) in
     let m = (o.letters (get_or w f.0 0) (among_get f.0 0 w (omega arith))).1 in
     let sm = t.smaller in
     let inside : s - 1 < length w = elim (cases_lt (s - 1) (length w)) [
       | inl h ↦ h
       | inr h ↦ let p = get_or_past w (s - 1) s h in absurd (omega arith)
     ] in
-    let ls = get_or-any w (s - 1) s 0 inside in
+    let ls = get_or_default w (s - 1) s 0 inside in
     let order : f.0 < s - 1 = elim (cases_lt f.0 (s - 1)) [
       | inl h ↦ h
       | inr h ↦
           let n = t.last (suc r) (omega arith) in
           let e : suc r - 1 ≡ suc f.0 = omega arith in
-          let g = ap (λ i. get_or w i (suc r)) e ∙ get_or-any w (suc f.0) (suc r) 0 qi in
+          let g = ap (λ i. get_or w i (suc r)) e ∙ get_or_default w (suc f.0) (suc r) 0 qi in
           absurd (omega arith)
     ] in (
       f.0,
@@ -114,12 +112,13 @@ step_of w r s o t =
         later = λ d h l.
             let n = t.last (suc d) (omega arith) in
             let e : suc d - 1 ≡ d = omega arith in
-            let g = ap (λ i. get_or w i (suc d)) e ∙ get_or-any w d (suc d) 0 l in
+            let g = ap (λ i. get_or w i (suc d)) e ∙ get_or_default w d (suc d) 0 l in
             omega arith;
       },
     )
 
--- the permutation w·t_ij, without its last fixed letters, by places q and b counted from 0
+-- for places q < b of w, counted from 0, `times_swap (q + 1) (b + 1) w` is w with the letters at q and b swapped, and then without the fixed letters
+-- at its end
 pub kept_swap : (w : List ℕ) (q b : ℕ) → q < b → b < length w → times_swap (suc q) (suc b) w ≡ kept (swap_at q b w)
 kept_swap w q b h l =
     let z : suc b - length w ≡ 0 = omega arith in

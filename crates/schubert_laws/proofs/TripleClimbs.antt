@@ -1,5 +1,5 @@
--- The braid relation on test functions of three numbers. A test function is written as three steps; both sides of
--- the relation are then one alternating sum over the six orders of the three numbers.
+-- The braid relation for divided differences in three variables, as an equation of operators on functions of three numbers. Each such function is
+-- `three_steps ψ` for some ψ, and then both sides of the relation are the same alternating sum of ψ over the six orders of the three numbers.
 use Rattle.std.proofs.Common.{◌≡◌, ℕ, suc, sym, ◌∙◌, arith, ℤ, ◌+ℤ◌, ◌-ℤ◌, neg_ℤ}
 use Rattle.std.proofs.lemmas.Int.{ints}
 use Rattle.schubert_laws.proofs.Climbs.{climb, across, stepped, across_ext, across_neg, across_minus, across_stepped, across_alternating, across_exchanged, stepped_climb}
@@ -7,14 +7,14 @@ use Rattle.schubert_laws.proofs.Climbs.{climb, across, stepped, across_ext, acro
 abbrev pub Triple : Type 0
 Triple = ℕ → ℕ → ℕ → ℤ
 
--- ∂ in the first two of three variables, as an operator on test functions
+-- the divided difference in the first two of three variables, as an operator on functions of the three exponents
 abbrev pub front : Triple → Triple
 front φ a b c = across (λ x y. φ x y c) a b
 
 abbrev pub back : Triple → Triple
 back φ a b c = across (λ x y. φ a x y) b c
 
--- the pairing of φ with the product of a monomial and x - y, the difference of the first two variables
+-- the pairing of φ with the monomial with the exponents a, b, c times x - y; x and y are the first two variables
 abbrev step_front : Triple → Triple
 step_front φ a b c = φ (suc a) b c -ℤ φ a (suc b) c
 
@@ -30,8 +30,8 @@ front_ext φ ψ e a b c = across_ext (λ x y. φ x y c) (λ x y. ψ x y c) (λ x
 pub back_ext : (φ ψ : Triple) → ((a b c : ℕ) → φ a b c ≡ ψ a b c) → (a b c : ℕ) → back φ a b c ≡ back ψ a b c
 back_ext φ ψ e a b c = across_ext (λ x y. φ a x y) (λ x y. ψ a x y) (λ x y. e a x y) b c
 
--- let χ and χ' change their signs if their two numbers are exchanged: then `across` of χ(x + 1, y) - χ'(x, y) is χ, and so is `across` of χ'(x, y) -
--- χ(x, y + 1)
+-- let χ(b, a) = -χ(a, b), and χ'(b, a) = -χ'(a, b): `across` of χ(x + 1, y) - χ'(x, y) is χ; and `across` of χ'(x, y) - χ(x, y + 1) is χ too
+-- (`lowered`)
 raised : (χ χ' : ℕ → ℕ → ℤ) → ((a b : ℕ) → χ b a ≡ neg_ℤ (χ a b)) → ((a b : ℕ) → χ' b a ≡ neg_ℤ (χ' a b)) → (a b : ℕ)
     → across (λ x y. χ (suc x) y -ℤ χ' x y) a b ≡ χ a b
 raised χ χ' h k a b =
@@ -58,7 +58,7 @@ lowered χ χ' h k a b =
     let d = h a b in
     omega (arith, ints)
 
--- the alternating sum of ψ over the six orders of a, b and c
+-- the alternating sum of ψ over the six orders of a, b and c: each order with its sign
 abbrev six : Triple → Triple
 six ψ a b c = ((ψ a b c -ℤ ψ b a c) -ℤ (ψ a c b -ℤ ψ c a b)) +ℤ (ψ b c a -ℤ ψ c b a)
 
@@ -110,7 +110,8 @@ back_front_back ψ a b c =
     let s = across_stepped (λ p q. ψ p a q -ℤ ψ p q a) b c in
     omega (arith, ints)
 
--- the climb of φ in its first two numbers; `three_climbs` writes each test function as three steps by such climbs
+-- `climb` applied to φ as a function of its first two numbers; by `three_climbs`, φ is `three_steps` of `climb` applied three times, each time to two
+-- of the numbers
 abbrev climbed_front : Triple → Triple
 climbed_front φ a b c = climb (λ x y. φ x y c) a b
 

@@ -6,11 +6,11 @@ ghost use Rattle.sym_model.specs.PlaceOrders.{places, inversions};
 ghost use Rattle.sym_model.specs.Permutation.{IsOneLine, kept, code, IsCode, letters_by_code};
 ghost use Rattle.sym_model.specs.Permutation.{from_code};
 
-/// The number of inversions is the sum of the code. A list in which no entry is greater than the
-/// number of entries after it is the code of exactly one permutation: for each entry a in turn, its
-/// letter is the unused one that is greater than exactly a other unused ones. Dropping fixed
-/// letters at the end of a permutation only drops zeros at the end of its code. A permutation is
-/// determined by its code, up to such letters.
+/// The number of inversions of a list is the sum of its code. A list in which no entry is greater
+/// than the number of entries after it is the code of exactly one permutation of the same length:
+/// each entry a, in turn, gives the unused letter that is greater than exactly a other unused
+/// letters. If fixed letters at the end of a permutation are dropped, its code loses only zeros at
+/// the end. So the code determines the permutation, up to fixed letters at the end.
 ///
 /// Example: 3 1 2 has the code 2 0 0.
 pub fn code_law()

@@ -1,12 +1,13 @@
-//! The laws of divided differences.
+//! The laws of divided differences ∂_i of polynomials.
 
 ghost use Rattle.std.specs.Prelude.{ℕ, ◌+◌, ◌<◌, ◌≤◌, ℤ};
 ghost use Rattle.sym_model.specs.Polynomial.{Poly, Same, In, nothing, plus, scale, negate, times};
 ghost use Rattle.sym_model.specs.DividedDifference.{variable, with_exchanged, divided_difference};
 
-/// ∂_i f is the quotient of f - s_i f by x_i - x_(i+1). It is linear and depends only on the
-/// coefficients of f, its square is 0, two of them commute if they share no variable, neighbours
-/// satisfy the braid relation, and ∂_i (f·g) is (∂_i f)·g + (s_i f)·(∂_i g).
+/// ∂_i f is the quotient of f - s_i f by x_i - x_(i+1); s_i exchanges x_i and x_(i+1). ∂_i is
+/// linear, and ∂_i f depends only on the coefficients of f; ∂_i∂_i = 0; ∂_i and ∂_j commute if they
+/// share no variable; ∂_i and ∂_(i+1) satisfy the braid relation; and ∂_i (f·g) is (∂_i f)·g + (s_i
+/// f)·(∂_i g).
 pub fn divided_difference_law()
     ensures variables { (i n : ℕ) (f : Poly) → In n f → In n (divided_difference i f) }
     ensures quotient { (i n : ℕ) (f : Poly) → 1 ≤ i → i < n → In n f

@@ -4,11 +4,12 @@
 //!
 //! What is proved:
 //!
-//! `divided_difference_law`: the divided differences are linear, square to 0, commute at a
-//! distance, satisfy the braid relation and the rule of Leibniz. `path_law`: every descent gives
-//! the same Schubert polynomial, and fixed letters change nothing. `monk_law`: Monk's rule and
-//! transition, in every number of variables. `code_law`: a permutation and its code determine each
-//! other.
+//! `divided_difference_law`: divided differences are linear, their squares are 0, they commute if
+//! they share no variable, and they satisfy the braid relation and the Leibniz rule for products.
+//! `path_law`: the divided difference at each descent of w takes S_w to the Schubert polynomial of
+//! w·s_i, and fixed letters at the end do not change S_w. `monk_law`: Monk's rule and the
+//! transition rule, in every number of variables. `code_law`: a permutation and its code determine
+//! each other.
 #![tactic(auto)]
 
 mod code_laws;

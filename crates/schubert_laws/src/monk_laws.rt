@@ -1,4 +1,4 @@
-//! Monk's rule and the transition rule.
+//! Monk's rule and the transition rule for Schubert polynomials.
 
 ghost use Rattle.std.specs.Prelude.{ℕ, ◌≤◌, List};
 ghost use Rattle.sym_model.specs.Polynomial.{Same, plus, negate, times};
@@ -7,10 +7,11 @@ ghost use Rattle.sym_model.specs.Permutation.{covers_down};
 ghost use Rattle.sym_model.specs.DividedDifference.{variable_in};
 ghost use Rattle.sym_model.specs.Schubert.{schubert_in, schuberts_in};
 
-/// Monk's rule in every number of variables: x_r·S_w is the sum over the covers w·t_rj with j > r
-/// less the sum over the covers w·t_ir with i < r. The transition rule is this rule at the
-/// last descent r of w: with s the last place whose letter is smaller than that at place r, and
-/// v = w·t_rs, S_w is x_r·S_v plus the sum over the covers v·t_ir with i < r.
+/// Monk's rule in every number of variables: x_r·S_w is the sum of S_v over the covers v = w·t_rj
+/// of w with j > r, minus the sum of S_v over the covers v = w·t_ir of w with i < r. The transition
+/// rule: let r be the last descent of w, s the last place whose letter is smaller than that at
+/// place r, and v = w·t_rs. Then S_w is x_r·S_v plus the sum of S_u over the covers u = v·t_ir of v
+/// with i < r.
 ///
 /// Example: x_2·S_(1,3,2) = S_(1,4,2,3) - S_(3,1,2), so S_(1,4,2,3) = x_2·S_(1,3,2) + S_(3,1,2).
 pub fn monk_law()

@@ -1,4 +1,5 @@
-//! Schubert polynomials do not depend on the path of divided differences, nor on fixed letters.
+//! Schubert polynomials depend neither on the path of divided differences that computes them, nor
+//! on fixed letters at the end of the permutation.
 
 ghost use Rattle.std.specs.Prelude.{◌≡◌, ℕ, ◌+◌, List, [], ◌∷◌, ◌++◌, length};
 ghost use Rattle.sym_model.specs.Sum.{Once};
@@ -8,13 +9,14 @@ ghost use Rattle.sym_model.specs.Permutation.{IsOneLine, IsDescent, first_ascent
 ghost use Rattle.sym_model.specs.DividedDifference.{x_to, divided_difference};
 ghost use Rattle.sym_model.specs.Schubert.{schubert, schubert_over, schubert_in};
 
-/// Let S(w) be made from any polynomial g: it is g if w has no ascent, and otherwise ∂_i of
-/// S(w·s_i), with i the first ascent of w. Every path gives the same: ∂_i takes S(w) to S(w·s_i)
-/// for each descent i of w. For Schubert polynomials, S(w) of n letters is a polynomial in n
-/// variables, and a fixed letter added at the end of a permutation does not change it; if the
-/// letters of w are different and its code is decreasing, S(w) is the monomial of the code.
+/// Let S(w), for any polynomial g, be g if w has no ascent, and otherwise ∂_i of S(w·s_i), with i
+/// the first ascent of w (`schubert_over`). Every path gives the same polynomials: ∂_i takes S(w)
+/// to S(w·s_i) for each descent i of w. The Schubert polynomial S_w of a list w of n letters is a
+/// polynomial in n variables. A fixed letter added at the end of a permutation w does not change
+/// S_w. If the letters of w are different, and its code is weakly decreasing, S_w is the monomial
+/// whose exponents are the code.
 ///
-/// Example: ∂_2 takes x_1^2·x_2 = S(3,2,1) to x_1^2 = S(3,1,2).
+/// Example: ∂_2 takes S_(3,2,1) = x_1^2·x_2 to S_(3,1,2) = x_1^2.
 pub fn path_law()
     ensures top { (g : Poly) (w : List ℕ) → first_ascent w ≡ None → schubert_over g w ≡ g }
     ensures step { (g : Poly) (w : List ℕ) (i : ℕ) → first_ascent w ≡ Some i

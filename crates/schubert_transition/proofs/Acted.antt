@@ -1,7 +1,7 @@
--- A monomial times a Schubert polynomial, x^e·S_w, in n variables (specs/Acted).
---     acted_start       for e = 0 it is S_w
---     acted_natural     it has no negative coefficients
---     acted_at          its coefficient at x^e times the first monomial of S_w is at least 1
+-- The product x^e·S_w of a monomial and a Schubert polynomial in n variables (specs/Acted).
+--     acted_start       for e = 0 the product is S_w
+--     acted_natural     the product has no negative coefficients
+--     acted_at          the coefficient of x^e times the first monomial of S_w in the product is at least 1
 use Rattle.std.proofs.Common.{◌≡◌, ℕ, Bool, true, false, cond, List, [], refl, ap, ◌∙◌, arith, ℤ, pos, ◌≤ℤ◌}
 use Rattle.std.proofs.lemmas.Int.{ints}
 use Rattle.sym_model.specs.Polynomial.{Poly, same, join, pair, one, resize, fits_in}
@@ -20,7 +20,7 @@ acted_start n φ w =
     ∙ pair_in n (schubert_in w n) (λ β. φ (join (resize n []) β)) φ (In_restrict n (schubert w))
     (λ β l. ap φ (ap (λ α. join α β) (resize-nil n) ∙ join_zeros n β (omega arith)))
 
--- ---- coefficients that are not negative
+-- ---- the coefficients of x^e·S_w are not negative
 
 monomials_natural : (f : Poly) (φ : List ℕ → ℤ) (h : HasMonomials f) → ((α : List ℕ) → pos 0 ≤ℤ φ α) → φ h.first ≤ℤ pair f φ
 monomials_natural f φ h k = let a = h.sums φ in let b = total_not_negative φ h.others k in omega (arith, ints)

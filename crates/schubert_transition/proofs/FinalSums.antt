@@ -1,6 +1,6 @@
--- The list at the end of the transition rule is the Schubert polynomial of w.
+-- The list of terms that the transition rule computes for S_w is the Schubert polynomial of w.
 --     final            the list is S_w
---     overflow_past    an overflow on the way shows that a coefficient of S_w exceeds the limit
+--     overflow_past    if the computation overflows, a coefficient of S_w exceeds the limit 2^127 - 1
 use Rattle.std.proofs.Common.{◌≡◌, ℕ, zero, suc, ◌+◌, ◌*◌, ◌^◌, ◌≤◌, Bool, true, false, cond, List, [], ◌∷◌, length, refl, sym, ap, ◌∙◌, subst, inl, inr, arith, ℤ, pos, negsuc, ◌+ℤ◌, ◌-ℤ◌, ◌*ℤ◌, ◌≤ℤ◌}
 use Rattle.std.specs.Prelude.{nat_abs, nat_eq, FitsSigned, Result, Ok, Err, IfOk, OnOk}
 use Rattle.std.specs.Int.{w128}
@@ -47,14 +47,14 @@ use Rattle.sparse_polys.proofs.PolynomialValues.{pair_x_to_in}
 
 -- ---- the coefficients of a Schubert polynomial
 
--- the coefficient of x^α in S_w is that in S_w read in one variable for each letter of w
+-- the coefficient of x^α in S_w is its coefficient in S_w in n variables, with n the number of letters of w
 coefficient_is : (w α : List ℕ) → coefficient_of (polynomials.schubert w) α ≡ pair (schubert_in w (length w)) (at_only α)
 coefficient_is w α = coefficient_pair (polynomials.schubert w) α ∙ sym (restrict_pair (length w) (polynomials.schubert w) (at_only α) (In_schubert w))
 
 past_from : (w γ : List ℕ) → pos (2 ^ 127) ≤ℤ pair (schubert_in w (length w)) (at_only γ) → HasPast (IsCoefficientOfSchubert w)
 past_from w γ h = (coefficient_of (polynomials.schubert w) γ, (γ, refl), is_past-from (coefficient_of (polynomials.schubert w) γ) (subst (λ z. pos (2 ^ 127) ≤ℤ z) (sym (coefficient_is w γ)) h))
 
--- ---- in enough variables, the exponents determine the label
+-- ---- monomials in at most n variables are determined by their lists of n exponents
 
 trimmed_resize : (n : ℕ) (e : List ℕ) → length e ≤ n → without_last_zeros (resize n e) ≡ without_last_zeros e
 trimmed_resize zero [] h = refl
@@ -90,7 +90,7 @@ over_within φ ψ (t ∷ terms) h =
 trimmed_label : (e : List ℕ) → is_monomial_label e ≡ true → without_last_zeros e ≡ e
 trimmed_label e h = same_true (without_last_zeros e) e (and_parts _ _ (and_parts _ _ h).0).0
 
--- ---- no coefficient of the list is negative
+-- ---- no coefficient of the list that the transition rule computes is negative
 
 -- if the sum of f(e)·|c| over the terms (e, c) is at most the sum of f(e)·c, then c is not negative for each term with f(e) > 0
 not_negative : (f : List ℕ → ℕ) (terms : WholeTerms) → pos (weighed f terms) ≤ℤ over (λ e. pos (f e)) terms
@@ -120,10 +120,10 @@ not_negative f (u ∷ terms) h t m some = by m (least u.1 (f u.0)) (all terms) (
         subst (λ (v : List ℕ × ℤ). pos 0 ≤ℤ v.1) (sym e) z
     by (inr k) a b rest = rest k (omega (arith, ints))
 
--- ---- the list at the end of the transition rule
+-- ---- the list that the transition rule computes
 
--- `terms` is S_w in every number of variables, a table of monomials with coefficients of 128 bits, and the sum of its shares at the
--- identity is at most that of w
+-- `terms` is a table of monomials with coefficients of 128 bits, and it is S_w in every number of variables; and for every share (`IsShare`), the sum
+-- of |c|·share(identity, x^e) over the terms c·x^e is at most the share of w and the monomial 1
 record IsMade (w : List ℕ) (terms : WholeTerms) : Type 0 where
   value : (n : ℕ) (φ : List ℕ → ℤ) → over (λ e. pair (x_to_in e n) φ) terms ≡ acted n φ w []
   table : IsMonomialTable terms
@@ -177,7 +177,7 @@ module _ (w : List ℕ) (short : IsShort (length w) w) (terms : WholeTerms) (is 
       represents_sums (λ e. x_to_in e n) terms (schubert_in w n)
       (λ φ. total_ext (λ (t : List ℕ × ℤ). t.1 *ℤ pair (x_to_in t.0 n) φ) (λ (t : List ℕ × ℤ). t.1 *ℤ restricted_test n φ t.0) (λ t. ap (λ z. t.1 *ℤ z) (pair_x_to_in n t.0 φ)) terms ∙ sums n φ)
 
-  -- the table holds all coefficients of S_w, so none exceeds the limit
+  -- each coefficient of S_w is a coefficient of the table, which fits 128 bits, so none exceeds 2^127 - 1
   fits : HasPast (IsCoefficientOfSchubert w) → ⊥
   fits (c, (α, e), large) =
       let a = sums (length w) (at_only α) in
@@ -217,10 +217,10 @@ pub fits_of : {E : Type 0} (w : List ℕ) (r : Result WholeTerms E) → IfOk r (
 fits_of w (Ok terms) h = h.fits
 fits_of w (Err e) h = tt
 
--- ---- an overflow in the transition rule shows a coefficient that exceeds the limit
+-- ---- an overflow in the transition rule implies that a coefficient of S_w exceeds the limit
 
--- if an overflow is at the monomial x^e of the list of v, and x^γ occurs in x^e·S_v in one variable for each letter of w, a
--- coefficient of S_w exceeds the limit
+-- let o be an overflow (`SharesOverflow`) at the permutation v and the monomial x^e, and n the number of letters of w: if the coefficient of x^γ in
+-- x^e·S_v in n variables is at least 1, then a coefficient of S_w exceeds the limit 2^127 - 1
 reached : (w : List ℕ) → IsOneLine w
     → (o : SharesOverflow (λ r v e. raised_terms r e) (λ e. 255 + size e) (length w) (top_of w 255) (λ share. share w [])) (γ : List ℕ)
     → at_only o.label o.label ≤ℤ acted (length w) (at_only γ) o.perm o.label → HasPast (IsCoefficientOfSchubert w)

@@ -1,4 +1,4 @@
--- The store of Schubert polynomials keeps its invariant when it changes.
+-- The store of Schubert polynomials: it keeps its invariant (`IsSchubertStore`) when an entry is moved, inserted or dropped.
 use Rattle.std.proofs.Common.{Bor, ◌≡◌, ◌+◌, ◌-◌, ◌<◌, ◌≤◌, ◌⊎◌, ℕ, zero, suc, Bool, true, false, cond, List, [], ◌∷◌, length, take, Option, Some, None, inl, inr, refl, sym, ap, ◌∙◌, subst, arith, option_map, pos}
 use Rattle.std.specs.Prelude.{Contains, nat_eq, IfSome, option_copied, Result, Ok, Err, OnOk, OnErr}
 use Rattle.std.specs.Cmp.Lexicographic.{pointwise}
@@ -23,7 +23,7 @@ use Rattle.schubert_transition.specs.TermLists.{IsSchubertOf, IsMonomialTable}
 abbrev is : List ℕ → List ℕ → Bool
 is w = pointwise nat_eq w
 
--- removing the entry that a test finds leaves one entry fewer
+-- if the test finds an entry e of the list es, removing that entry leaves one entry fewer
 removed_length : {K V : Type 0} (test : K → Bool) (es : List (K × V)) (e : K × V) → lookup_entry test es ≡ Some e → length (remove_entry test es) + 1 ≡ length es
 removed_length test [] e h = cc
 removed_length {K} {V} test (f ∷ es) e h = by (test f.0) h (removed_length test es e)
@@ -66,7 +66,7 @@ found w entries terms kept at =
     let c = Contains-lookup (is w) entries terms at in
     subst (λ v. IsSchubertOf v terms) (sym (same_partition w c.0 c.2)) (kept.each (c.0, terms) c.1).0
 
--- if `terms` is S_w, so is a copy of it with the same coefficients
+-- if `terms` is S_w, and `copy` is a table with the same coefficients, `copy` is S_w
 pub copied : (w : List ℕ) (terms copy : WholeTerms) → IsMonomialTable copy → HasSameCoefficients (pointwise nat_eq) (pos 0) terms copy → IsSchubertOf w terms → IsSchubertOf w copy
 copied w terms copy second same h = record {
   represents = λ n. represents_same nat_list_eq_equiv same_partition terms copy h.table second same (λ exponents. x_to_in exponents n) (schubert_in w n) (h.represents n);
@@ -75,11 +75,11 @@ copied w terms copy second same h = record {
   fits = h.fits;
 }
 
--- a copy of a table with the same coefficients has at most as many terms
+-- if `terms` and `copy` are tables with the same coefficients, `copy` has at most as many terms as `terms`
 pub as_long : (terms copy : WholeTerms) → IsMonomialTable terms → IsMonomialTable copy → HasSameCoefficients (pointwise nat_eq) (pos 0) terms copy → length copy ≤ length terms
 as_long terms copy first second same = length_same nat_list_eq_equiv same_partition (pos 0) whole refl copy terms second first (λ label. sym (same label))
 
--- if w is put into a store of Schubert polynomials with S_w of at most 4,096 terms, it remains such a store
+-- if each entry of a store is a Schubert polynomial with at most 4,096 terms, this remains so after S_w with at most 4,096 terms is inserted for w
 pub put_kept : (c : LruCache (List ℕ) WholeTerms) (w : List ℕ) (terms : WholeTerms) → AreKept c.entries → IsSchubertOf w terms
     → length terms ≤ 4096 → AreKept (put_entries (pointwise nat_eq) c w terms)
 put_kept c w terms kept h few = record { each = λ e at. by e (Contains-put_entries (pointwise nat_eq) c w terms e at) }
@@ -104,7 +104,8 @@ put_if c new w terms (Ok x) held h few well ill =
     (record { kept = put_kept c w terms held.kept h few; few = put_length (pointwise nat_eq) c w terms held.few held.room; room = held.room })
 put_if c new w terms (Err e) held h few well ill = subst IsSchubertStore (sym ill) held
 
--- if the old store does not have w, and the new one is the old one or the old one with w put in, then w is first in a new one that differs
+-- if the old store has no entry for w, and the new one is the old one, or the old one with a polynomial inserted for w, then the new store is the old
+-- one or has w at the front (`ComesFirst`)
 pub comes_first : (w : List ℕ) (old new : Store) → kept_for w old ≡ None
     → (new ≡ old) ⊎ ((polynomial : WholeTerms) × (new ≡ lru_cache (put_entries (pointwise nat_eq) old w polynomial) old.cap)) → (new ≡ old) ⊎ ComesFirst w old new
 comes_first w old new none (inl same) = inl same

@@ -1,6 +1,7 @@
--- Bounds for monomials x^e that wait with a permutation w, which no step of the transition rule raises (`IsShare` of `transition_walk`).
+-- Bounds, one for each pair of a permutation w and a monomial x^e, whose sum no step of the transition rule increases (`IsShare` of
+-- `transition_walk`).
 --     exact_share      the coefficient of x^γ in x^e·S_w is such a bound
---     outside_falls    so is `outside_share`: 0 if x^e and w are within the limits of variables and degree, else the weight of w
+--     outside_falls    `outside_share` is such a bound: 0 if x^e and w are within given limits of variables and degree, else the weight of w
 --     within_terms     if the sum of |c|·outside_share over the terms of a list is 0, all of them are within these limits
 use Rattle.std.proofs.Common.{◌≡◌, ℕ, zero, suc, ◌+◌, ◌≤◌, Bool, true, false, ◌&&◌, cond, List, [], ◌∷◌, length, refl, ap, inl, inr, arith, leb, ℤ, pos, negsuc}
 use Rattle.std.specs.Prelude.{nat_abs}
@@ -36,7 +37,7 @@ use Rattle.linear_combinations.specs.Gains.{weighed}
 use Rattle.linear_combinations.proofs.Weighed.{weighed_among}
 use native.Mathlib.Nat.{mul-le-mul_left}
 
--- ---- a share: the coefficient of x^γ in x^e·S_w
+-- ---- the first bound: the coefficient of x^γ in x^e·S_w
 
 -- the coefficient of x^γ in x^e·S_w, in n variables
 abbrev pub coefficient_share : ℕ → List ℕ → List ℕ → List ℕ → ℕ
@@ -67,7 +68,7 @@ exact_share n top γ = record {
       omega (arith, ints);
 }
 
--- ---- `outside_share`: 0 if x^e and w are within bounds for variables and degree, and the weight of w otherwise
+-- ---- the second bound, `outside_share`: 0 if x^e and w are within limits of variables and degree, and the weight of w otherwise
 
 -- whether x^e has at most n variables, and |e| plus the number of inversions of w is at most d
 abbrev pub is_within : ℕ → ℕ → List ℕ → List ℕ → Bool
@@ -133,7 +134,8 @@ within_by n d w e none = by (is_within n d w e) refl
     by true h = within_is n d w e h
     by false h = absurd (none (let p = weight_positive w in let q = ap (λ b. cond b 0 (weight w)) h in omega arith))
 
--- if the sum of |c|·outside_share over a table of monomials is 0, each has at most n variables, and its degree plus the inversions of w is at most d
+-- if the sum of |c|·outside_share over the terms of a table of monomials is 0, each monomial has at most n variables, and its degree plus the number
+-- of inversions of w is at most d
 pub within_terms : (n d : ℕ) (w : List ℕ) (terms : WholeTerms) → IsMonomialTable terms → weighed (outside_share n d w) terms ≤ 0
     → (t : List ℕ × ℤ) → Among t terms → (length t.0 ≤ n) × (size t.0 + inversions w ≤ d)
 within_terms n d w terms is none t m =

@@ -1,5 +1,5 @@
--- Lemmas that the implementations of `Factor` and `Rule` by `TimesVar` cite: a monomial times a Schubert polynomial
--- under the transition rule, and times a variable.
+-- Lemmas for the implementations of the traits `Factor` and `Rule` by `TimesVar`: the transition rule for the product
+-- of a monomial and a Schubert polynomial, and the product of a monomial and a variable.
 use Rattle.std.proofs.Common.{◌≡◌, ℕ, ◌+◌, ◌≤◌, ◌<◌, Bool, true, false, ◌&&◌, cond, List, [], ◌∷◌}
 use Rattle.std.proofs.Common.{refl, sym, ap}
 use Rattle.std.proofs.Common.{◌∙◌, subst, inl, inr, arith, ℤ, pos, ◌+ℤ◌, ◌*ℤ◌}
@@ -65,7 +65,8 @@ acted_step n r s φ w e o t =
         sym (+ℤ_idl (total (λ (x : List ℕ). pos 0) (covers_down r (times_swap r s w)))
         ∙ total_zero (covers_down r (times_swap r s w)))
 
--- if w is the identity, x^e·S_w is x^e in n variables, both paired with φ
+-- for the identity id, the sum of c·φ(α) over the terms c·x^α of x^e·S_id in n variables (`acted`) is that for x^e in
+-- n variables (`restricted_test`)
 pub identity_shows : (n : ℕ) (φ : List ℕ → ℤ) (e : List ℕ)
     → acted n φ (1 ∷ []) e ≡ restricted_test n φ e
 identity_shows n φ e =

@@ -13,8 +13,7 @@ use Rattle.sym_model.specs.Sum.{Among}
 use Rattle.sym_model.specs.WholeTerms.{WholeTerms, as_fractions}
 use Rattle.sym_model.specs.PastLimit.{HasPast, IsCoefficientOfSchubert}
 
--- a term in at most n variables and of at most degree d,
--- with a coefficient that is not negative and below 2^127
+-- a term in at most n variables, of degree at most d, with a coefficient that is not negative and below 2^127
 pub record IsTerm (n d : ℕ) (t : List ℕ × ℤ) : Type 0 where
   pub few : length t.0 ≤ n
   pub small : size t.0 ≤ d
@@ -25,13 +24,13 @@ pub record IsTerm (n d : ℕ) (t : List ℕ × ℤ) : Type 0 where
 abbrev pub AreTerms : ℕ → ℕ → WholeTerms → Type 0
 AreTerms n d terms = (t : List ℕ × ℤ) → Among t terms → IsTerm n d t
 
--- each monomial occurs once, within the limits of a label, with a coefficient that is not 0
+-- each monomial occurs once and is within the limits of a label (`is_monomial_label`), and no coefficient is 0
 abbrev pub IsMonomialTable : WholeTerms → Type 0
 IsMonomialTable terms = IsCombination (pointwise nat_eq) is_monomial_label whole terms
 
--- the list is the Schubert polynomial of the permutation w, in every number of variables: each monomial occurs once,
--- with at most as many variables as w has letters, of at most the degree ℓ(w), and with a coefficient from 1 to
--- 2^127 - 1
+-- the list is the Schubert polynomial of w in every number of variables: each monomial occurs once, with at most as
+-- many variables as w has letters, with a degree of at most the number of inversions of w, and with a coefficient
+-- from 1 to 2^127 - 1
 pub record IsSchubertOf (w : List ℕ) (terms : WholeTerms) : Type 0 where
   pub represents : (n : ℕ) → Represents (λ exponents. x_to_in exponents n) (as_fractions terms)
       (schubert_in w n) 1

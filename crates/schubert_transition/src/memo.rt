@@ -22,15 +22,16 @@ use std::alloc::Global;
 use std::marker::Model;
 use std::num::NonZeroUsize;
 
-/// The greatest number of terms of a polynomial that is kept.
+/// The greatest number of terms of a polynomial that is stored.
 const MOST_TERMS: usize = 4096;
 
 /// A polynomial with integer coefficients.
 pub(crate) type Polynomial = Lin<Monomial, Int>;
 
-/// A bounded store of Schubert polynomials. When a full store takes another one, the least recently
-/// requested polynomial is dropped. A contract sees the permutations with their polynomials, the
-/// most recently requested first, and the capacity, which is never exceeded.
+/// A bounded store of Schubert polynomials. If a polynomial is inserted into a full store, the
+/// least recently requested one is dropped. In contracts, its value is the list of the permutations
+/// with their polynomials, the most recently requested first, and the capacity, which is never
+/// exceeded.
 #[derive(Drop)]
 pub struct Memo {
     cache: LruCache<Perm, Polynomial>,
@@ -63,12 +64,13 @@ impl Memo {
         Ok(Memo { cache, alloc })
     }
 
-    /// The Schubert polynomial of a permutation. If it is kept, it moves to the front. Otherwise it
-    /// is computed; if it has at most 4,096 terms, it is inserted in front, and a full store drops
-    /// its last one. If there is no memory to keep it, or it has more terms, the store is
-    /// unchanged.
+    /// The Schubert polynomial of a permutation. If it is in the store, it moves to the front.
+    /// Otherwise it is computed; if it has at most 4,096 terms, it is inserted at the front, and a
+    /// full store drops its last one. If there is no memory to store it, or it has more terms, the
+    /// store is unchanged.
     ///
-    /// Returns `Large` if and only if a coefficient exceeds 2^127 - 1; then the store is unchanged.
+    /// Unless memory runs out, returns `Large` if and only if a coefficient exceeds 2^127 - 1. On
+    /// an error the store is unchanged.
     pub fn schubert(&mut self, w: &Perm) -> Result<Polynomial, SumFault>
         ensures is { IfOk result (IsSchubertOf w.now) }
         ensures large { IsErrOf result SumFault.Large
@@ -93,8 +95,8 @@ impl Memo {
         }
     }
 
-    /// The polynomial kept for a permutation; None if and only if none is kept. It allocates no
-    /// memory.
+    /// The polynomial that the store has for a permutation; None if and only if it has none. The
+    /// call allocates no memory.
     pub fn kept(&self, w: &Perm) -> Option<&Polynomial>
         ensures value { option_copied result ≡ lookup (pointwise nat_eq w.now) self.now.entries }
         ensures is { IfSome result (λ terms. IsSchubertOf w.now terms.now) }
@@ -104,10 +106,10 @@ impl Memo {
     }
 
     /// The terms of the Schubert polynomial of a permutation, in the printed order. If the
-    /// polynomial is kept, it moves to the front of the store; otherwise it is inserted in front,
-    /// or the store is unchanged.
+    /// polynomial is in the store, it moves to the front; otherwise it is inserted at the front, or
+    /// the store is unchanged, as the method `schubert` says.
     ///
-    /// Returns `Large` if and only if a coefficient exceeds 2^127 - 1.
+    /// Unless memory runs out, returns `Large` if and only if a coefficient exceeds 2^127 - 1.
     pub fn schubert_terms(&mut self, w: &Perm) -> Result<Terms<Monomial, Int>, SumFault>
         ensures meets { IfOk result (λ terms.
             IsSchubertPolynomialOf w.now (as_fractions terms)) }
@@ -126,7 +128,7 @@ impl Memo {
         Ok(terms.sorted_terms()?)
     }
 
-    /// A copy of the polynomial kept for a permutation, or None if none is kept.
+    /// A copy of the polynomial that the store has for a permutation, or None if it has none.
     fn copy_of(&self, w: &Perm) -> Result<Option<Polynomial>, NoMemory>
         ensures is { IfOk result (λ kept. IfSome kept (IsSchubertOf w.now)) }
         ensures found { IfOk result (λ kept. MatchOption kept
@@ -139,7 +141,7 @@ impl Memo {
         }
     }
 
-    /// Makes the permutation the most recently requested one.
+    /// Moves the entry of the permutation `w`, if the store has one, to the front of the store.
     fn promote(&mut self, w: &Perm)
         ensures kept { IsSchubertStore self.new }
         ensures capacity { self.new.cap ≡ self.old.cap }
@@ -149,7 +151,7 @@ impl Memo {
         self.cache.promote(w);
     }
 
-    /// Computes the Schubert polynomial of a permutation, and keeps it if it has at most 4,096
+    /// Computes the Schubert polynomial of a permutation, and stores it if it has at most 4,096
     /// terms.
     fn made(&mut self, w: &Perm) -> Result<Polynomial, SumFault>
         ensures is { IfOk result (IsSchubertOf w.now) }
@@ -170,7 +172,7 @@ impl Memo {
         Ok(terms)
     }
 
-    /// Computes the Schubert polynomial of a permutation.
+    /// Computes the Schubert polynomial of a permutation, without a change of the store.
     fn fresh(&self, w: &Perm) -> Result<Polynomial, SumFault>
         ensures is { IfOk result (IsSchubertOf w.now) }
         ensures large { IsErrOf result SumFault.Large
@@ -181,7 +183,7 @@ impl Memo {
         schubert(self.alloc, w)
     }
 
-    /// Keeps a copy of the polynomial, if there is memory for it.
+    /// Stores a copy of the Schubert polynomial `terms` of `w`, if there is memory for it.
     fn keep(&mut self, w: &Perm, terms: &Polynomial)
         requires is { IsSchubertOf w.now terms.now }
         requires few { length terms.now ≤ 4096 }
@@ -198,7 +200,7 @@ impl Memo {
     }
 }
 
-/// Inserts a polynomial into the store, if there is memory for it.
+/// Inserts the Schubert polynomial `terms` of `w` into the store, if there is memory for it.
 fn put(cache: &mut LruCache<Perm, Polynomial>, w: Perm, terms: Polynomial)
     requires held { IsSchubertStore cache.old }
     requires is { IsSchubertOf w terms }

@@ -14,7 +14,9 @@ use sparse_polys::Monomial;
 use std::alloc::Global;
 use transition_walk::{Factor, product_of};
 
-/// The rule that multiplies by the variable x_r: the factor of the transition rule for polynomials.
+/// The rule that multiplies a monomial by the variable x_r. In the transition rule, S_w is a factor
+/// times S_v, plus a sum of other Schubert polynomials; for labels that are monomials, this rule is
+/// the factor.
 #[derive(Drop)]
 pub(crate) struct TimesVar {
     pub(crate) r: u16,
@@ -69,9 +71,9 @@ impl Factor<Monomial> for TimesVar {
     ghost grows = { variable_grows };
 }
 
-/// The Schubert polynomial of a permutation, by the transition rule on 1.
+/// The Schubert polynomial of a permutation, computed by the transition rule.
 ///
-/// Returns `Large` if and only if a coefficient exceeds 2^127 - 1.
+/// Unless memory runs out, returns `Large` if and only if a coefficient exceeds 2^127 - 1.
 pub fn schubert(alloc: Global, w: &Perm) -> Result<Lin<Monomial, Int>, SumFault>
     ensures is { IfOk result (IsSchubertOf w.now) }
     ensures large { IsErrOf result SumFault.Large → HasPast (IsCoefficientOfSchubert w.now) }
@@ -83,7 +85,7 @@ pub fn schubert(alloc: Global, w: &Perm) -> Result<Lin<Monomial, Int>, SumFault>
 
 /// The terms of the Schubert polynomial of a permutation, in the printed order.
 ///
-/// Returns `Large` if and only if a coefficient exceeds 2^127 - 1.
+/// Unless memory runs out, returns `Large` if and only if a coefficient exceeds 2^127 - 1.
 pub fn schubert_terms(alloc: Global, w: &Perm) -> Result<Terms<Monomial, Int>, SumFault>
     ensures meets { IfOk result (λ terms.
         IsSchubertPolynomialOf w.now (as_fractions terms)) }

@@ -1,5 +1,5 @@
--- The companion of a good tableau: the letter k + 1 occurs in row r + 1 of the tableau as often as the letter r + 1 in row k + 1 of its companion,
--- whose inner partition is the start and whose outer one is the start plus the content.
+-- The companion of a tableau P that is good for the partition `start`: its row k + 1 has the letter r + 1 as often as row r + 1 of P has the letter k
+-- + 1. The companion is a skew tableau; its inner partition is `start`, and its outer partition is `start` plus the content of P.
 use Rattle.std.proofs.Common.{◌≡◌, ℕ, zero, suc, ◌+◌, ◌<◌, ◌≤◌, ◌⊎◌, List, [], ◌∷◌, map, length, drop, get_or, sym, ◌∙◌, ap, ap₂, subst, refl, inl, inr, arith}
 use Rattle.std.proofs.lemmas.Bool.{cases_lt}
 use Rattle.std.proofs.lemmas.List.{get_or_past, get_or-map, length-map}
@@ -11,7 +11,7 @@ use Rattle.schur_laws.proofs.SpelledWords.{spelled, spelled_rises, times_spelled
 use Rattle.schur_laws.proofs.TableauPlaces.{row}
 use Rattle.schur_laws.proofs.GoodTableaux.{sum_of, IsTableau, letters_up_to, all_up_to}
 
--- row k of the companion of P, counted from 0: start_k zeros and the letters r + 1, each as often as the letter k + 1 occurs in row r of P
+-- row k of the companion of P, counted from 0: start_k zeros, and then each letter r + 1 as often as the letter k + 1 occurs in row r of P
 companion_row : List ℕ → List (List ℕ) → ℕ → List ℕ
 companion_row start P k = spelled 0 (get_or start k 0 ∷ map (λ (w : List ℕ). times_in (suc k) w) P)
 
@@ -38,7 +38,8 @@ pub length_companion : (n : ℕ) (start : List ℕ) (P : List (List ℕ)) → le
 unfolding companion
 length_companion n start P = length_listed (companion_row start P) 0 n
 
--- Q is a companion of P: in row k, counted from 0, Q has start_k zeros, and the letter r + 1 as often as P has the letter k + 1 in row r
+-- Q is a companion of P: row k of Q, counted from 0, is weakly increasing and has start_k zeros, and the letter r + 1 as often as row r of P has the
+-- letter k + 1
 pub record IsCompanion (start : List ℕ) (P Q : List (List ℕ)) : Type 0 where
   pub rises : (k : ℕ) → Rises (row Q k)
   pub zeros : (k : ℕ) → times_in 0 (row Q k) ≡ get_or start k 0
@@ -85,10 +86,10 @@ companion_tells n start outer inner end P s T = record {
         ∙ spelled_letters k r (cases_lt r (length P))
     by_letters k r (inr l) = ap (times_in (suc r)) (past k l) ∙ sym (T.letters r (suc k) (omega arith))
 
--- ---- the places of two neighbouring letters k + 1 and k + 2 in the rows
+-- ---- the places of two neighbouring letters k + 1 and k + 2 in the rows of a tableau
 
--- if the letters of each row are greater than those above, the places of the letters k + 1 and k + 2 in the rows
--- satisfy `Places`
+-- if row r + 1 of P has, for each i, at most as many letters up to i + 1 as row r has letters up to i, then the places of the letters k + 1 and k + 2
+-- in the rows satisfy `Places`
 letter_places : (P : List (List ℕ)) (k : ℕ) → ((r i : ℕ) → up_to_letter (suc i) (row P (suc r)) ≤ up_to_letter i (row P r))
     → Places (λ r. up_to_letter k (row P r)) (λ r. up_to_letter (suc k) (row P r)) (λ r. up_to_letter (suc (suc k)) (row P r))
     (λ r. times_in (suc (suc k)) (row P r)) (λ r. times_in (suc k) (row P r))
@@ -111,14 +112,14 @@ nothing_dropped : (j x : ℕ) → times_in x (drop j []) ≡ 0
 nothing_dropped zero x = refl
 nothing_dropped (suc j) x = refl
 
--- adding m empty rows does not change the number of letters x after the first j places of the rows
+-- adding m empty rows to P does not change the number of letters x that are in its rows after the first j places
 right_in_more : (x j m : ℕ) (P : List (List ℕ)) → add_up (λ r. times_in x (drop j (row P r))) 0 (length P + m) ≡ add_up (λ r. times_in x (drop j (row P r))) 0 (length P)
 right_in_more x j m P =
     add_up-longer (λ r. times_in x (drop j (row P r))) 0 (length P) m
     (λ r l. ap (λ (w : List ℕ). times_in x (drop j w)) (get_or_past {X = List ℕ} P r [] (omega arith)) ∙ nothing_dropped j x)
 
--- in a good tableau P, start_(k + 1) plus the number of letters k + 2 in the rows up to r is at most start_k plus the number of letters k + 1 in the
--- rows before r
+-- in a good tableau P for start, start_(k + 1) plus the number of letters k + 2 in the rows 0, .., r is at most start_k plus the number of letters k
+-- + 1 in the rows 0, .., r - 1
 pub rows_compare : (n : ℕ) (start outer inner end : List ℕ) (P : List (List ℕ)) → IsTableau n start outer inner end P → (k r : ℕ)
     → get_or start (suc k) 0 + add_up (λ i. times_in (suc (suc k)) (row P i)) 0 (suc r) ≤ get_or start k 0 + add_up (λ i. times_in (suc k) (row P i)) 0 r
 rows_compare n start outer inner end P T k r =
@@ -145,8 +146,9 @@ rows_compare n start outer inner end P T k r =
         let g = T.good j k in
         omega arith
 
--- if the rows of P are weakly increasing, each fits above the next, and the inequality between the letters k + 2 and k + 1 of the first rows holds
--- for each k and r, then start plus the content of the letters after place j is weakly decreasing, for each j
+-- suppose that the rows of P are weakly increasing, that columns are strictly increasing, and that start_(k + 1) plus the number of letters k + 2 in
+-- rows 0, .., r is at most start_k plus the number of letters k + 1 in rows 0, .., r - 1. Then start plus the content of the columns after the first
+-- j is weakly decreasing
 pub columns_compare : (start : List ℕ) (P : List (List ℕ)) → ((r : ℕ) → Rises (row P r)) → ((r i : ℕ) → up_to_letter (suc i) (row P (suc r)) ≤ up_to_letter i (row P r))
     → ((k r : ℕ) → get_or start (suc k) 0 + add_up (λ i. times_in (suc (suc k)) (row P i)) 0 (suc r) ≤ get_or start k 0 + add_up (λ i. times_in (suc k) (row P i)) 0 r)
     → (j k : ℕ) → sum_of (drop j) start P (suc k) ≤ sum_of (drop j) start P k
@@ -157,9 +159,9 @@ columns_compare start P rises columns h j k =
     (letter_places P k columns) (letters_right_of P k rises)
     j (length P) 0 (get_or start (suc k) 0) (get_or start k 0) (h k)
 
--- ---- the companion is a good tableau
+-- ---- the companion of a good tableau is a good tableau
 
--- in a companion, the number of letters up to k in row i is start_i plus the number of letters i + 1 in the first k rows of the tableau
+-- in a companion Q of P, the number of letters up to k in row i is start_i plus the number of letters i + 1 in the first k rows of P
 companion_up_to : (n : ℕ) (start outer inner end : List ℕ) (P Q : List (List ℕ)) → IsTableau n start outer inner end P → IsCompanion start P Q → (i k : ℕ)
     → up_to_letter k (row Q i) ≡ get_or start i 0 + add_up (λ r. times_in (suc i) (row P r)) 0 k
 companion_up_to n start outer inner end P Q T C i k =
@@ -168,7 +170,7 @@ companion_up_to n start outer inner end P Q T C i k =
     let g = add_up-same (λ r. times_in (suc r) (row Q i)) (λ r. times_in (suc i) (row P r)) 0 k (C.letters i) in
     omega arith
 
--- the number of letters up to k in row r of the tableau is inner_r plus the number of letters r + 1 in the first k rows of its companion
+-- if Q is a companion of P, the number of letters up to k in row r of P is inner_r plus the number of letters r + 1 in the first k rows of Q
 tableau_up_to : (n : ℕ) (start outer inner end : List ℕ) (P Q : List (List ℕ)) → IsTableau n start outer inner end P → IsCompanion start P Q → (r k : ℕ)
     → up_to_letter k (row P r) ≡ get_or inner r 0 + add_up (λ i. times_in (suc r) (row Q i)) 0 k
 tableau_up_to n start outer inner end P Q T C r k =
@@ -224,7 +226,7 @@ companion_tableau n start outer inner end P Q lq le T C = record {
         let c = T.columns r i in
         omega arith
 
--- ---- two tableaux with the same companion are equal
+-- ---- fillings with the same rows are equal; two tableaux that have the same companion are equal
 
 same_rows : (P Q : List (List ℕ)) → length P ≡ length Q → ((r : ℕ) → row P r ≡ row Q r) → P ≡ Q
 same_rows [] [] l e = refl

@@ -1,4 +1,4 @@
--- The coproduct of a Schur polynomial, by the contents of tableaux that are cut at an entry.
+-- The coproduct of a Schur polynomial: the content of each tableau is the sum of that of its entries up to n and that of its entries from n + 1 on.
 use Rattle.std.proofs.Common.{◌≡◌, ℕ, zero, suc, ◌+◌, ◌-◌, ◌<◌, ◌≤◌, ◌==◌, ◌⊎◌, inl, inr, true, ◌&&◌, cond, List, [], ◌∷◌, ◌++◌, append-nil, map, length, replicate, refl, sym, ap, ap₂, ◌∙◌, arith, ℤ, pos, ◌+ℤ◌, ◌*ℤ◌, filter, flat_map}
 use Rattle.std.proofs.lemmas.Bool.{ne_eqb, eq-eqb, cases_eq, lt-ltb}
 use Rattle.std.proofs.lemmas.List.{map-append, length-replicate}
@@ -14,7 +14,6 @@ use Rattle.sym_model.proofs.Sums.{total_ext, total_among, total_map, total_selec
 use Rattle.sym_model.proofs.Contents.{times_in-append}
 use Rattle.sym_model.proofs.Lists.{map-among, map-map}
 use Rattle.tableau_laws.proofs.ColumnCounts.{contains_nothing}
-use Rattle.tableau_laws.proofs.PaddedTableaux.{columns_rise-nothing}
 use Rattle.schur_laws.specs.InnerShapes.{shapes_inside}
 use Rattle.schur_laws.proofs.RisingWords.{rising_words, raised_by, AreLetters, after_shift, rising-tells}
 use Rattle.schur_laws.proofs.CutRows.{tableaux_below, may_follow, total_straight, total_semistandard, HaveLetters, below-tells, below-same}
@@ -23,8 +22,9 @@ use Rattle.schur_laws.proofs.InnerShapeLists.{IsInside, inside-tells, contains-w
 use lib.IntN.{+ℤ_idr}
 use Rattle.sym_model.proofs.Parts.{get_or-without_last_zeros}
 use Rattle.schur_laws.proofs.StripsRemoved.{zeros_at_most}
+use Rattle.sym_model.proofs.Tableaux.{columns_rise-nothing}
 
--- ---- skew Schur polynomials as sums over the first row of a tableau
+-- ---- every filling can be below the empty row; skew Schur polynomials as sums over tableaux that are listed row by row
 
 may_follow_nothing : (d : ℕ) (T : List (List ℕ)) → may_follow d [] T ≡ true
 may_follow_nothing d [] = refl
@@ -42,7 +42,7 @@ pair_skew_schur n outer inner c φ holds =
     (λ T. ap (λ t. cond (t && semistandard inner T) (φ (content n (letters_of T))) (pos 0)) (sym (may_follow_nothing (c - part inner 1) T))) rows
     ∙ total_semistandard n outer inner c [] (λ T. φ (content n (letters_of T)))
 
--- if the letters of w are positive, w fits below a row of zeros
+-- if the letters of w are from 1 to n, each letter of w is greater than the 0 above it in a row of zeros
 zeros_rise : (n m : ℕ) (w : List ℕ) → AreLetters n w → columns_rise (replicate m 0) w ≡ true
 zeros_rise n zero w h = refl
 zeros_rise n (suc m) [] h = refl
@@ -56,7 +56,8 @@ below_zeros n m (a ∷ outer) h =
     (λ w k. sym (ap (λ t. cond t (total (λ T. h (w ∷ T)) (tableaux_below n outer [] 0 w)) (pos 0)) (zeros_rise n m w (rising-tells n 0 a w k).letters)))
     ∙ sym (total_straight n a outer (replicate m 0) h)
 
--- a sum over the rows w of b letters below p, and over the tableaux of the shape l below w, is the sum over the tableaux of the shape b ∷ l below p
+-- the sum of g(letters of w and T) over the weakly increasing rows w of b letters that can be below the row p, and over the tableaux T of the shape l
+-- that can be below w, is the sum of g(letters of T) over the tableaux T that can be below p and whose shape has the rows b and l
 row_in_front : (n b : ℕ) (l p : List ℕ) (g : List ℕ → ℤ)
     → total (λ w. cond (columns_rise p w) (total (λ T. g (w ++ letters_of T)) (tableaux_below n l [] 0 w)) (pos 0)) (rising_words n 0 b) ≡ total (λ T. g (letters_of T)) (tableaux_below n (in_front b l) [] 0 p)
 row_in_front n zero [] p g = ap (λ t. cond t (total (λ T. g ([] ++ letters_of T)) (tableaux_below n [] [] 0 [])) (pos 0) +ℤ pos 0) (columns_rise-nothing p) ∙ +ℤ_idr (g [] +ℤ pos 0)
@@ -71,7 +72,7 @@ below-without_last_zeros n (b ∷ shape) p g =
     (λ w. ap (λ z. cond (columns_rise p w) z (pos 0)) (below-without_last_zeros n shape w (λ l. g (w ++ l)))) (rising_words n 0 b)
     ∙ row_in_front n b (without_last_zeros shape) p g
 
--- ---- the contents of rows cut at the letter n
+-- ---- contents of rows in which letters up to n are followed by letters greater than n
 
 none_raised : (n j : ℕ) (w : List ℕ) (k : ℕ) → j ≤ n → AreLetters k w → times_in j (raised_by n w) ≡ 0
 none_raised n j [] k h l = refl
@@ -125,10 +126,11 @@ content-glued n k S T l m e =
     ∙ ap₂ ◌++◌ (map-among (λ j. times_in j w) (λ j. times_in j (letters_of S)) (after 0 n) (λ j o. let r = after_among 0 n j o in let h = r.1 in times_in_low n k j S T (omega arith) m e))
     (map-map (λ j. times_in j w) (λ j. n + j) (after 0 k) ∙ map-among (λ j. times_in (n + j) w) (λ j. times_in j (letters_of T)) (after 0 k) (λ j o. let r = after_among 0 k j o in times_in_high n j S T r.0 l e))
 
--- ---- the coproduct in n + k variables
+-- ---- the coproduct of s_λ in n + k variables
 
--- the sum, over the tableaux S of `inner` and T of shape/inner, of φ at the content of S and T together is the pairing of φ with the product of the
--- Schur polynomial of `inner` and the skew Schur polynomial of shape/inner, each in its own variables
+-- the sum, over the tableaux S of `inner` with entries up to n and the tableaux T of shape/inner with entries up to k, of φ at the content of S and T
+-- together is the pairing with φ of the Schur polynomial of `inner` in the first n variables times the skew Schur polynomial of shape/inner in the k
+-- variables after them
 one_inside : (n k : ℕ) (shape inner : List ℕ) (c m : ℕ) (φ : List ℕ → ℤ) → IsInside shape m inner
     → total (λ S. total (λ T. φ (content (n + k) (letters_of (glued n S T)))) (tableaux_below k shape inner c [])) (tableaux_below n inner [] 0 (replicate c 0))
     ≡ pair (beside (schur (without_last_zeros inner) n) (skew_schur shape (without_last_zeros inner) k)) φ

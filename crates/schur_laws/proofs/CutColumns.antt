@@ -1,13 +1,15 @@
--- Two rows have strictly increasing columns if and only if both parts of the rows, cut at a letter n, do.
+-- Two rows, each of which consists of letters up to n followed by greater letters: their columns are strictly increasing if and only if the lower row
+-- does not have more letters up to n than the upper row, and the columns of the letters up to n, and those of the greater letters, are strictly
+-- increasing.
 use Rattle.std.proofs.Common.{◌≡◌, ℕ, suc, ◌+◌, ◌-◌, ◌<◌, ◌≤◌, ◌⊎◌, inl, inr, nat_le, nat_lt, Bool, true, false, ◌&&◌, List, [], ◌∷◌, ◌++◌, length, drop, refl, sym, ap, ap₂, ◌∙◌, arith}
 use Rattle.std.proofs.lemmas.Bool.{cases_lt, le-leb, lt-leb, lt-ltb, le-ltb}
 use Rattle.sym_model.specs.Schur.{columns_rise}
-use Rattle.sym_model.proofs.Numbers.{nat_le-suc}
 use Rattle.sym_model.proofs.Lists.{drop-none}
-use Rattle.tableau_laws.proofs.PaddedTableaux.{columns_rise-nothing}
 use Rattle.schur_laws.proofs.RisingWords.{AreLetters, raised_by}
 use Rattle.sym_model.specs.Bounded.{AreAtMost}
 use Rattle.std.proofs.lemmas.List.{drop_all}
+use Rattle.std.proofs.Math.Dec.{leb-suc-suc}
+use Rattle.sym_model.proofs.Tableaux.{columns_rise-nothing}
 
 pub letters_up_to : (n : ℕ) (w : List ℕ) → AreLetters n w → AreAtMost n w
 letters_up_to n [] h = tt
@@ -50,7 +52,7 @@ columns_cut m n (a ∷ p) q (b ∷ v) w f g h k =
     let e : suc (length p) - suc (length v) ≡ length p - length v = omega arith in
     ap (λ t. nat_lt a b && t) (columns_cut m n p q v w f.1 g.1 h (omega arith))
     ∙ regroup (nat_lt a b) (nat_le (length v) (length p)) (columns_rise p v) (columns_rise q (drop (length p - length v) w))
-    ∙ sym (ap₂ (λ s i. s && ((nat_lt a b && columns_rise p v) && columns_rise q (drop i w))) (nat_le-suc (length v) (length p)) e)
+    ∙ sym (ap₂ (λ s i. s && ((nat_lt a b && columns_rise p v) && columns_rise q (drop i w))) (leb-suc-suc (length v) (length p)) e)
   where
     regroup : (x y z u : Bool) → x && (y && (z && u)) ≡ y && ((x && z) && u)
     regroup true y z u = refl

@@ -1,4 +1,4 @@
--- Semistandard tableaux listed row by row from the top: each further row is one that fits below the row before it.
+-- Semistandard tableaux listed row by row from the top: each row must have letters that are greater than the letters above them in the previous row.
 use Rattle.std.proofs.Common.{◌≡◌, ℕ, suc, ◌-◌, Bool, true, false, ◌&&◌, cond, List, [], ◌∷◌, map, length, drop, get_or, refl, sym, ap, ◌∙◌, subst, inl, inr, arith, ℤ, pos, flat_map}
 use Rattle.sym_model.specs.Sum.{total, Among}
 use Rattle.sym_model.specs.Partition.{part}
@@ -9,18 +9,18 @@ use Rattle.sym_model.proofs.Parts.{part-drop}
 use Rattle.schur_laws.proofs.RisingWords.{rising_words, IsWord, AreLetters, total_rising_words, rising-tells}
 use Rattle.strip_laws.proofs.Containment.{get_or-below}
 
--- the tableaux of outer/inner with entries from 1 to n that fit below a row p, which begins in column c + 1
+-- the semistandard tableaux of outer/inner with entries from 1 to n that can be directly below the row p, if p begins in column c + 1
 abbrev pub tableaux_below : ℕ → List ℕ → List ℕ → ℕ → List ℕ → List (List (List ℕ))
 tableaux_below n [] inner c p = [] ∷ []
 tableaux_below n (a ∷ outer) inner c p =
     flat_map (λ w. cond (columns_rise p (drop (c - part inner 1) w)) (map (λ T. w ∷ T) (tableaux_below n outer (drop 1 inner) (part inner 1) w)) []) (rising_words n 0 (a - part inner 1))
 
--- whether the first row of a filling, which begins d columns before p, fits below p
+-- whether the first row w of a filling can be directly below the row p; w begins d columns before p. True if the filling has no row
 abbrev pub may_follow : ℕ → List ℕ → List (List ℕ) → Bool
 may_follow d p [] = true
 may_follow d p (w ∷ T) = columns_rise p (drop d w)
 
--- ---- sums over tableaux as sums over their first row
+-- ---- sums over the tableaux below a row p as sums over their first row
 
 pub total_below : (n a : ℕ) (outer inner : List ℕ) (c : ℕ) (p : List ℕ) (h : List (List ℕ) → ℤ)
     → total h (tableaux_below n (a ∷ outer) inner c p)
@@ -32,7 +32,8 @@ total_below n a outer inner c p h =
     (λ w. total_listed (columns_rise p (drop (c - part inner 1) w)) h (map (λ T. w ∷ T) (tableaux_below n outer (drop 1 inner) (part inner 1) w))
     ∙ ap (λ z. cond (columns_rise p (drop (c - part inner 1) w)) z (pos 0)) (total_map h (λ T. w ∷ T) (tableaux_below n outer (drop 1 inner) (part inner 1) w))) (rising_words n 0 (a - part inner 1))
 
--- the sum over the tableaux of a straight shape that fit below a row p is a sum over their first rows w
+-- the sum of h over the tableaux of a straight shape that can be below the row p is a double sum: over their first rows w, and, for each w, over the
+-- tableaux of the other rows that can be below w
 pub total_straight : (n a : ℕ) (outer p : List ℕ) (h : List (List ℕ) → ℤ)
     → total h (tableaux_below n (a ∷ outer) [] 0 p) ≡ total (λ w. cond (columns_rise p w) (total (λ T. h (w ∷ T)) (tableaux_below n outer [] 0 w)) (pos 0)) (rising_words n 0 a)
 total_straight n a outer p h =
@@ -41,14 +42,15 @@ total_straight n a outer p h =
     (λ w. ap (λ v. cond (columns_rise p v) (total (λ T. h (w ∷ T)) (tableaux_below n outer [] 0 w)) (pos 0)) (drop-none w)) (rising_words n 0 (a - 0))
     ∙ ap (λ i. total (λ w. cond (columns_rise p w) (total (λ T. h (w ∷ T)) (tableaux_below n outer [] 0 w)) (pos 0)) (rising_words n 0 i)) (let e : a - 0 ≡ a = omega arith in e)
 
--- the sum over the tableaux of a skew shape that fit below a row p is a sum over their first rows w
+-- the sum of h over the tableaux of a skew shape that can be below the row p is a double sum: over their first rows w, and, for each w, over the
+-- tableaux of the other rows that can be below w
 pub total_skew : (n a b c : ℕ) (outer inner p : List ℕ) (h : List (List ℕ) → ℤ)
     → total h (tableaux_below n (a ∷ outer) (b ∷ inner) c p) ≡ total (λ w. cond (columns_rise p (drop (c - b) w)) (total (λ T. h (w ∷ T)) (tableaux_below n outer inner b w)) (pos 0)) (rising_words n 0 (a - b))
 total_skew n a b c outer inner p h =
     total_below n a outer (b ∷ inner) c p h
     ∙ ap (λ l. total (λ w. cond (columns_rise p (drop (c - b) w)) (total (λ T. h (w ∷ T)) (tableaux_below n outer l b w)) (pos 0)) (rising_words n 0 (a - b))) (drop-none inner)
 
--- ---- semistandard tableaux of the definitions, row by row
+-- ---- the semistandard fillings of the definition are those listed row by row
 
 semistandard_row : (inner w : List ℕ) (T : List (List ℕ)) → semistandard inner (w ∷ T) ≡ row_rises w && (may_follow (part inner 1 - part (drop 1 inner) 1) w T && semistandard (drop 1 inner) T)
 semistandard_row inner w [] = by (row_rises w)
@@ -68,11 +70,12 @@ row_lengths-first : (a : ℕ) (outer inner : List ℕ) → row_lengths (a ∷ ou
 row_lengths-first a outer [] = ap (λ i. i ∷ row_lengths outer []) (let e : a ≡ a - 0 = omega arith in e)
 row_lengths-first a outer (b ∷ inner) = ap (λ l. (a - b) ∷ row_lengths outer l) (sym (drop-none inner))
 
--- the sum of h over the tableaux of outer/inner with the first row w; 0 if w does not fit below p
+-- the sum of h over those tableaux that have the first row w and can be directly below the row p: the sum of h(w ∷ T) over the tableaux T of the
+-- other rows that can be below w, or 0 if w cannot be below p
 abbrev row_sum : ℕ → List ℕ → List ℕ → ℕ → List ℕ → (List (List ℕ) → ℤ) → List ℕ → ℤ
 row_sum n outer inner c p h w = cond (columns_rise p (drop (c - part inner 1) w)) (total (λ T. h (w ∷ T)) (tableaux_below n outer (drop 1 inner) (part inner 1) w)) (pos 0)
 
--- the sum of h over the semistandard fillings that fit below p is the sum over `tableaux_below`
+-- the sum of h over the semistandard fillings of outer/inner whose first row can be below p is the sum of h over `tableaux_below`
 pub total_semistandard : (n : ℕ) (outer inner : List ℕ) (c : ℕ) (p : List ℕ) (h : List (List ℕ) → ℤ)
     → total (λ T. cond (may_follow (c - part inner 1) p T && semistandard inner T) (h T) (pos 0)) (fillings_of n (row_lengths outer inner)) ≡ total h (tableaux_below n outer inner c p)
 total_semistandard n [] inner c p h = refl
@@ -106,9 +109,9 @@ total_semistandard n (a ∷ outer) inner c p h =
         ∙ ap (λ z. cond (row_rises w) z (pos 0))
         (total_cond rises (λ T. cond (may_follow (part inner 1 - part (drop 1 inner) 1) w T && semistandard (drop 1 inner) T) (h (w ∷ T)) (pos 0)) rows ∙ ap (λ z. cond rises z (pos 0)) rec)
 
--- ---- the letters of the rows of a tableau
+-- ---- all letters of the rows of a listed tableau are from 1 to n
 
--- each letter of the rows is one from 1 to n
+-- each letter of the rows is from 1 to n
 abbrev pub HaveLetters : ℕ → List (List ℕ) → Type 0
 HaveLetters n [] = Unit {0}
 HaveLetters n (w ∷ T) = AreLetters n w × HaveLetters n T
@@ -132,9 +135,9 @@ below-tells n (a ∷ outer) inner c p T m =
         let i = rec S.0 S.1 in
         subst (λ U. IsFilling n (suc (length outer)) U) (sym S.2) (record { letters = (r.letters, i.letters); rows = ap suc i.rows })
 
--- ---- inner partitions written with other numbers of zeros
+-- ---- sums over `tableaux_below` do not depend on the zeros at the end of the inner partition
 
--- for each i both lists have the same number at place i, with zeros after their ends
+-- the two lists have the same number at each place; after the end of a list the numbers are 0
 abbrev pub SameParts : List ℕ → List ℕ → Type 0
 SameParts inner other = (i : ℕ) → get_or inner i 0 ≡ get_or other i 0
 

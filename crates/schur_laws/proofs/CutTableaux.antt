@@ -1,5 +1,5 @@
--- The tableaux of a straight shape with entries from 1 to n + k, cut at the entry n into a tableau of an inner shape
--- and one of the skew shape that is left.
+-- The tableaux of a straight shape with entries from 1 to n + k: the entries up to n are a tableau of an inner shape, and the other entries, lowered
+-- by n, are a tableau of the skew shape outer/inner.
 use Rattle.std.proofs.Common.{◌≡◌, ℕ, ◌+◌, ◌-◌, ◌≤◌, nat_le, Bool, true, false, ◌&&◌, cond, List, [], ◌∷◌, ◌++◌, map, length, drop, min, refl, sym, ap, ◌∙◌, arith, ℤ, pos}
 use Rattle.std.proofs.lemmas.Int.{ints}
 use Rattle.sym_model.specs.Sum.{total}
@@ -13,30 +13,32 @@ use Rattle.schur_laws.proofs.CutColumns.{letters_up_to, columns_cut}
 use Rattle.sym_model.specs.Bounded.{AreAtMost}
 use Rattle.schur_laws.proofs.InnerShapeLists.{among_up_to}
 
--- the rows of two fillings one after the other, the letters of the second raised by n
+-- `glued n S T`: row i of S followed by row i of T with its letters raised by n, for each i
 abbrev pub glued : ℕ → List (List ℕ) → List (List ℕ) → List (List ℕ)
 glued n [] T = []
 glued n (v ∷ S) [] = []
 glued n (v ∷ S) (w ∷ T) = (v ++ raised_by n w) ∷ glued n S T
 
--- the sum of h(S, T) over the inner shapes, the tableaux S of the inner shape that fit below p, and the tableaux T of the skew shape outer/inner that
--- fit below q
+-- the sum of h(S, T) over the inner shapes in `outer` with at most c columns, the tableaux S of the inner shape that can be below the row p, and the
+-- tableaux T of outer/inner that can be below the row q, if q begins in column c + 1
 abbrev pub cut_below : ℕ → ℕ → List ℕ → ℕ → List ℕ → List ℕ → (List (List ℕ) → List (List ℕ) → ℤ) → ℤ
 cut_below n k outer c p q h = total (λ inner. total (λ S. total (λ T. h S T) (tableaux_below k outer inner c q)) (tableaux_below n inner [] 0 p)) (shapes_inside outer c)
 
--- h of the fillings S and T with the rows v and w in front of them
+-- h(v ∷ S, w ∷ T): the value of h at the fillings S and T with the rows v and w added on top
 abbrev before : (List (List ℕ) → List (List ℕ) → ℤ) → List ℕ → List ℕ → List (List ℕ) → List (List ℕ) → ℤ
 before h v w S T = h (v ∷ S) (w ∷ T)
 
--- the sum of h(S, T) over the tableaux S of one inner shape that fit below p and the tableaux T of the skew shape outer/inner that fit below q
+-- the sum of h(S, T) over the tableaux S of the shape `inner` that can be below the row p, and the tableaux T of (a ∷ outer)/inner that can be below
+-- the row q
 abbrev over_shape : ℕ → ℕ → ℕ → List ℕ → ℕ → List ℕ → List ℕ → (List (List ℕ) → List (List ℕ) → ℤ) → List ℕ → ℤ
 over_shape n k a outer c p q h inner = total (λ S. total (λ T. h S T) (tableaux_below k (a ∷ outer) inner c q)) (tableaux_below n inner [] 0 p)
 
--- the sum of h over the fillings that begin with the rows v and w; 0 if w does not fit below q
+-- the sum of h(v ∷ S, w ∷ T) over the tableaux T of the skew shape outer/inner that can be below the row w; 0 if w cannot be below the row q
 abbrev over_row : ℕ → List ℕ → ℕ → List ℕ → (List (List ℕ) → List (List ℕ) → ℤ) → ℕ → List ℕ → List ℕ → List (List ℕ) → List ℕ → ℤ
 over_row k outer c q h b v inner S w = cond (columns_rise q (drop (c - b) w)) (total (λ T. h (v ∷ S) (w ∷ T)) (tableaux_below k outer inner b w)) (pos 0)
 
--- the sum over inner shapes and tableaux is a sum over the first rows v and w, and then over the other rows
+-- the sum of h(S, T) over the inner shapes and the tableaux S and T (`cut_below`) is a sum over the first rows v of S and w of T, and then over the
+-- inner shapes and tableaux of the other rows
 first_rows : (n k a : ℕ) (outer : List ℕ) (c : ℕ) (p q : List ℕ) (h : List (List ℕ) → List (List ℕ) → ℤ)
     → cut_below n k (a ∷ outer) c p q h
     ≡ total (λ b. total (λ v. total (λ w. cond (columns_rise p v && columns_rise q (drop (c - b) w)) (cut_below n k outer b v w (before h v w)) (pos 0)) (rising_words k 0 (a - b))) (rising_words n 0 b)) (up_to (min a c))

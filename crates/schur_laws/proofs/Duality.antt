@@ -1,4 +1,5 @@
--- The number of good tableaux T of λ/μ with σ + content(T) = τ equals the number of good tableaux U of τ/σ with μ + content(U) = λ.
+-- The number of good tableaux T of λ/μ for the start σ with σ + content(T) = τ equals the number of good tableaux U of τ/σ for the start μ with μ +
+-- content(U) = λ.
 use Rattle.std.proofs.Common.{◌≡◌, ℕ, zero, suc, ◌<◌, ◌≤◌, ◌⊎◌, ◌==◌, true, cond, ◌&&◌, List, [], ◌∷◌, map, length, get_or, nat_le, sym, ◌∙◌, ap, subst, refl, inl, inr, arith, pos, filter}
 use Rattle.std.proofs.lemmas.List.{length-map, get_or_past}
 use Rattle.std.proofs.lemmas.Bool.{and_parts, cases_lt, leb-true, eqb-true}
@@ -18,13 +19,13 @@ use Rattle.tableau_laws.proofs.ColumnCounts.{sum_at_start, falling-resize}
 use Rattle.schur_laws.proofs.GoodTableaux.{is_counted, IsTableau, tableau_tells, tableau_back}
 use Rattle.schur_laws.proofs.Companions.{companion, length_companion, IsCompanion, companion_tells, companion_tableau, told_by_companion}
 use Rattle.sym_model.proofs.Parts.{positive-at}
-use Rattle.tableau_laws.proofs.GoodReadings.{both_tests}
+use Rattle.sym_model.proofs.Integers.{nested_tests}
 
 -- the padded rows of the good tableaux of outer/inner for start, with entries from 1 to n, for which start plus the content is `end`
 abbrev pub counted : ℕ → List ℕ → List ℕ → List ℕ → List ℕ → List (List (List ℕ))
 counted n start outer inner end = filter (is_counted n start end) (fillings_over n (pattern_of outer inner))
 
--- ---- one partition inside another, place by place
+-- ---- the parts of two partitions, of which one is inside the other
 
 pub contains_places : (outer inner : List ℕ) → contains outer inner ≡ true → (r : ℕ) → get_or inner r 0 ≤ get_or outer r 0
 contains_places outer [] h r = let e = get_or_past {X = ℕ} [] r 0 (omega arith) in omega arith
@@ -40,7 +41,7 @@ contains_places [] (b ∷ inner) h (suc r) =
 contains_places (a ∷ outer) (b ∷ inner) h zero = leb-true b a (and_parts (nat_le b a) (contains outer inner) h).0
 contains_places (a ∷ outer) (b ∷ inner) h (suc r) = contains_places outer inner (and_parts (nat_le b a) (contains outer inner) h).1 r
 
--- if a partition `inner` is inside `outer`, `inner` has no more rows than `outer`
+-- if the partition `inner` is inside `outer`, it has at most as many rows as `outer`
 pub rows_inside : (outer inner : List ℕ) → IsPartition inner → contains outer inner ≡ true → rows inner ≤ rows outer
 rows_inside outer inner p c = by (cases_lt (length outer) (length inner))
   where
@@ -52,7 +53,7 @@ rows_inside outer inner p c = by (cases_lt (length outer) (length inner))
         absurd (omega arith)
     by (inr l) = l
 
--- the properties of the tableaux in the list `counted`
+-- each member of the list `counted` satisfies `IsTableau`: the conditions on a good tableau, as numbers of letters in its rows
 
 pub counted_tells : (n : ℕ) (start outer inner end : List ℕ) (P : List (List ℕ)) → Falls outer → contains outer inner ≡ true → length start ≤ n → length end ≤ n
     → Among P (counted n start outer inner end) → IsTableau n start outer inner end P
@@ -106,14 +107,14 @@ same_counts start outer inner end s o i e h g ls li =
     let b = at_most inner end start outer i e s o g h li ls in
     omega arith
 
--- the length of the list `counted`, as a sum over the ways to add columns
+-- the length of the list `counted` as a sum over the ways to choose the columns of a tableau one by one (`over_columns`)
 
 pub counted_by_columns : (n : ℕ) (start outer inner end : List ℕ) → IsPartition start → length start ≤ n
     → pos (length (counted n start outer inner end)) ≡ over_columns n (column_lines outer inner) (is_sum end) (resize n start) []
 counted_by_columns n start outer inner end s h =
     length-select (is_counted n start end) (fillings_over n (pattern_of outer inner))
     ∙ total_ext (λ (P : List (List ℕ)). cond (is_counted n start end P) (pos 1) (pos 0)) (λ (P : List (List ℕ)). of_good_columns n start (is_sum end) (transposed P))
-    (λ P. sym (both_tests (are_tableau_columns (transposed P) && is_good_by_columns n start (transposed P)) (same (without_last_zeros (sum_reached n start (transposed P))) end) (pos 1)))
+    (λ P. sym (nested_tests (are_tableau_columns (transposed P) && is_good_by_columns n start (transposed P)) (same (without_last_zeros (sum_reached n start (transposed P))) end) (pos 1)))
     (fillings_over n (pattern_of outer inner))
     ∙ transposed-sum n (pattern_of outer inner) (of_good_columns n start (is_sum end))
     ∙ total_good_columns n start (column_lines outer inner) (is_sum end)

@@ -1,13 +1,13 @@
--- Exponents of a symmetric polynomial in another order.
---     coefficient-last_first    the coefficient with the last exponent moved to the front
---     coefficient-sorted        the coefficient with the exponents sorted, and their zeros at the end
+-- The coefficients of a symmetric polynomial at exponents in another order.
+--     coefficient-last_first    the coefficient does not change if the last exponent is moved to the front
+--     coefficient-sorted        the coefficient does not change if the exponents are sorted, with their zeros at the end
 use Rattle.std.proofs.Common.{◌≡◌, ℕ, zero, suc, Bool, true, false, cond, nat_le, List, [], ◌∷◌, ◌++◌, length, replicate, length-append, ◌∙◌, refl, arith, ap, subst, append_assoc}
 use Rattle.sym_model.specs.Polynomial.{Poly, coefficient}
 use Rattle.sym_model.specs.Partition.{insert_part, sorted_parts}
 use Rattle.sym_model.specs.Symmetric.{Symmetric}
 use Rattle.beta_list_laws.proofs.NeighbourExchanges.{KeptByExchanges, kept_under}
 
--- if P does not depend on exchanges of neighbours and holds of a ∷ xs, it holds of xs followed by a
+-- if exchanges of neighbours keep P, and P holds of a ∷ xs, then P holds of xs followed by a
 to_end : (P : List ℕ → Type 0) (a : ℕ) (xs : List ℕ) → KeptByExchanges P → P (a ∷ xs) → P (xs ++ (a ∷ []))
 to_end P a [] k p = p
 to_end P a (b ∷ xs) k p = to_end (λ l. P (b ∷ l)) a xs (kept_under P b k) (k [] a b xs p)
@@ -16,8 +16,8 @@ one_zero_more : (m : ℕ) → ◌++◌ {A = ℕ} (replicate m 0) (0 ∷ []) ≡ 
 one_zero_more zero = refl
 one_zero_more (suc m) = ap (λ (l : List ℕ). 0 ∷ l) (one_zero_more m)
 
--- if P does not depend on exchanges of neighbours and holds of a + 1 followed by `parts` and `zeros`, it holds of `parts` with a + 1 inserted as a
--- part, followed by `zeros`
+-- if exchanges of neighbours keep P, and P holds of a + 1 followed by `parts` and `zeros`, then P holds of `parts` with a + 1 inserted in decreasing
+-- order, followed by `zeros`
 to_place : (P : List ℕ → Type 0) (a : ℕ) (parts zeros : List ℕ) → KeptByExchanges P → P (suc a ∷ (parts ++ zeros)) → P (insert_part (suc a) parts ++ zeros)
 to_place P a [] zeros k p = p
 to_place P a (b ∷ parts) zeros k p = by (nat_le b (suc a)) (λ q. to_place (λ l. P (b ∷ l)) a parts zeros (kept_under P b k) q)

@@ -1,7 +1,7 @@
--- Families of symmetric polynomials: sums, multiples and products of them, the bases, the values of expressions and of lists.
---     family-one, -plus, -scale, -negate, -times, -basis, -value      1, sums, multiples, negatives, products, bases and values are families
---     degree-value                                                    the value of an expression has at most its degree
---     expansions_agree                                                an expansion in enough variables is one in every number
+-- Families of symmetric polynomials (`IsSymmetricFamily`).
+--     family-one, -plus, -scale, -negate, -times, -basis, -value      1, sums, multiples, negatives, products, basis polynomials and values
+--     degree-value                                                    the cleared value (`cleared_value`) of an expression has at most its degree
+--     expansions_agree                                                an expansion in d variables is one in n variables, if no degree exceeds d
 use Rattle.std.proofs.Common.{ℕ, ◌/◌, ◌≤◌, inl, inr, true, cond, ℤ, pos, neg_ℤ, List, [], ◌∷◌, length, ◌*ℤ◌, refl, sym, ◌∙◌, ap, arith}
 use Rattle.std.proofs.lemmas.Bool.{cases_eq}
 use Rattle.sym_model.specs.Polynomial.{Poly, Same, In, same, nothing, one, plus, scale, negate, times, restrict, resize, fits_in}
@@ -28,7 +28,7 @@ use Rattle.schur_laws.proofs.FewVariables.{families_agree}
 use Rattle.schur_laws.proofs.SymmetricPolynomials.{symmetric-monomials, sorts_to-exchange, at_most_one-exchange, symmetric-plus, symmetric-scale, symmetric-negate, symmetric-times, symmetric-one}
 use lib.IntN.{*ℤ-zero}
 
--- ---- sums, multiples and products of families
+-- ---- 1, and sums, multiples, negatives and products of families of symmetric polynomials
 
 pub family-one : IsSymmetricFamily one
 family-one = record { variables = In_one; symmetric = symmetric-one; compatible = λ k n h. restrict-one k n }
@@ -80,7 +80,7 @@ family-times f g s t = record {
       (times_respects (restrict k (f n)) (f k) (restrict k (g n)) (g k) (s.compatible k n h) (t.compatible k n h));
 }
 
--- ---- the bases as families
+-- ---- the basis polynomials are families of symmetric polynomials
 
 symmetric-product_over : (f : ℕ → ℕ → Poly) (parts : List ℕ) (n : ℕ) → ((d : ℕ) → In n (f d n)) → ((d : ℕ) → Symmetric (f d n)) → Symmetric (product_over f parts n)
 symmetric-product_over f [] n i s = symmetric-one n
@@ -111,7 +111,7 @@ family-basis basis parts p = record {
   compatible = λ k n h. restrict-basis basis parts k n h p;
 }
 
--- ---- the values of expressions as families
+-- ---- the cleared values of expressions are families of symmetric polynomials
 
 pub family-value : (e : Tree) → HasPartitions e → IsSymmetricFamily (cleared_value e)
 family-value (number a) p = family-scale (pos a) one family-one
@@ -130,9 +130,9 @@ family-value (difference e f) p =
     (family-negate (λ n. scale (pos (q / denominator f)) (cleared_value f n)) (family-scale (pos (q / denominator f)) (cleared_value f) (family-value f p.1)))
 family-value (product e f) p = family-times (cleared_value e) (cleared_value f) (family-value e p.0) (family-value f p.1)
 
--- ---- the degrees of the values of expressions
+-- ---- the cleared value of an expression has at most the degree of the expression
 
--- above the degree of an expression each coefficient of its value is 0, at an exponent list of any length
+-- in every number of variables, the cleared value of an expression has at most the degree of the expression
 pub degree-value : (e : Tree) (n : ℕ) → HasDegreeAtMost (degree e) (cleared_value e n)
 degree-value e n α h = elim (cases_eq (length α) n) [
   | inl l ↦ coefficient-higher (numerator e) (degree e) n (cleared_value e n) (bounded_value e n) α l h
@@ -151,7 +151,7 @@ degree-scale d c f h α l = coefficient_scale c f α ∙ ap (λ z. c *ℤ z) (h 
 pub degree-basis : (basis : Basis) (parts : List ℕ) (n : ℕ) → HasDegreeAtMost (size parts) (basis_polynomial basis parts n)
 degree-basis basis parts n = degree-value (atom basis parts) n
 
--- ---- the values of lists of terms
+-- ---- 0 and the values of lists of terms are families of symmetric polynomials
 
 family-nothing : IsSymmetricFamily (λ n. nothing)
 family-nothing = record { variables = λ n t m. absurd m; symmetric = λ n left a b right. refl; compatible = λ k n h α. refl }
@@ -172,7 +172,8 @@ degree-list basis q d n (t ∷ terms) h =
     (degree-scale d (t.1.0 *ℤ pos (q / t.1.1)) (basis_polynomial basis t.0 n) (degree_raised (size t.0) d (basis_polynomial basis t.0 n) (h (t.0, t.1.0) (inl refl)) (degree-basis basis t.0 n)))
     (degree-list basis q d n terms (λ u m. h u (inr m)))
 
--- if d is at least the degree of the expression and the size of each label, an expansion in d variables is one in every number of variables
+-- let d be at least the degree of the expression e and the size of each label of `terms`, and let all labels be partitions: if `terms` expands e in d
+-- variables, it expands e in every number of variables
 pub expansions_agree : (d : ℕ) (basis : Basis) (terms : Terms (List ℕ)) (e : Tree) → HaveLabels IsPartition (numerators terms)
     → HaveLabels (λ label. size label ≤ d) (numerators terms) → HasPartitions e → degree e ≤ d
     → IsExpansionOf basis terms d (cleared_value e d) (denominator e) → (n : ℕ) → IsExpansionOf basis terms n (cleared_value e n) (denominator e)

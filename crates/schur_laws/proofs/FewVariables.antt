@@ -1,6 +1,6 @@
--- A monomial of degree at most d has at most d variables, which can be taken as the first d.
---     `falling_padded`    decreasing exponents with a sum of at most d are zeros after place d
---     `families_agree`    families of degree at most d that agree in d variables agree in every number of variables
+-- If a monomial has degree at most d, it has at most d variables, and by symmetry these may be the first d.
+--     `falling_padded`    weakly decreasing exponents with a sum of at most d are zeros after place d
+--     `families_agree`    families of symmetric polynomials of degree at most d that agree in d variables agree in every number of variables
 use Rattle.std.proofs.Common.{◌≡◌, ℕ, zero, suc, ◌+◌, ◌-◌, ◌≤◌, inl, inr, cond, eqb, List, [], ◌∷◌, ◌++◌, length, replicate, refl, sym, ◌∙◌, ap, subst, arith, pos}
 use Rattle.std.proofs.lemmas.Bool.{cases_lt, cases_eq, eq-eqb}
 use Rattle.sym_model.specs.Polynomial.{Poly, Same, coefficient, resize}
@@ -14,15 +14,15 @@ use Rattle.sym_model.proofs.Parts.{size-zeros}
 use Rattle.beta_list_laws.proofs.NeighbourExchanges.{sort_back, sorted_falls}
 use Rattle.schur_laws.specs.SymmetricFamily.{IsSymmetricFamily, HasDegreeAtMost}
 
--- ---- weakly decreasing exponents
+-- ---- weakly decreasing lists of exponents
 
--- a decreasing list has only zeros after a 0
+-- if a weakly decreasing list begins with 0, all its entries are 0
 zeros_after : (α : List ℕ) → Falls (0 ∷ α) → 0 ∷ α ≡ replicate (suc (length α)) 0
 zeros_after [] f = refl
 zeros_after (zero ∷ α) f = ap (λ (l : List ℕ). 0 ∷ l) (zeros_after α f.1)
 zeros_after (suc a ∷ α) f = let h = f.0 in absurd (omega arith)
 
--- weakly decreasing exponents with a sum of at most d are zeros after their first d
+-- if α is weakly decreasing and its sum is at most d, its entries after place d are 0
 pub falling_padded : (d m : ℕ) (α : List ℕ) → Falls α → length α ≡ d + m → size α ≤ d → α ≡ resize d α ++ replicate m 0
 falling_padded zero zero [] f l h = refl
 falling_padded zero (suc m) [] f l h = absurd (omega arith)
@@ -34,14 +34,15 @@ falling_padded (suc d) m (zero ∷ α) f l h =
     ap (λ (r : List ℕ). 0 ∷ r) (falling_padded d m α (Falls_tail 0 α f) (omega arith) (omega arith))
 falling_padded (suc d) m (suc a ∷ α) f l h = ap (λ (r : List ℕ). suc a ∷ r) (falling_padded d m α (Falls_tail (suc a) α f) (omega arith) (omega arith))
 
--- ---- families of symmetric polynomials in different numbers of variables
+-- ---- the coefficients of a family of symmetric polynomials in different numbers of variables
 
--- for a symmetric family f, the coefficient of x^α in f(n) is that in f(n + m) of α followed by m zeros; it is 0 if α has not n entries
+-- if f is a family of symmetric polynomials, and α has n entries, the coefficient of x^α in f(n) is that of α followed by m zeros in f(n + m); if α
+-- does not have n entries, it is 0
 coefficient_in_fewer : (f : ℕ → Poly) (n m : ℕ) (α : List ℕ) → IsSymmetricFamily f
     → coefficient (f n) α ≡ cond (eqb (length α) n) (coefficient (f (n + m)) (α ++ replicate m 0)) (pos 0)
 coefficient_in_fewer f n m α s = sym (s.compatible n (n + m) (omega arith) α) ∙ coefficient_restrict_padded n m (f (n + m)) α (s.variables (n + m))
 
--- for a symmetric family f, the coefficient in f(d + m) of α, of length d, followed by m zeros is that of x^α in f(d)
+-- if f is a family of symmetric polynomials, and α has d entries, the coefficient in f(d + m) of α followed by m zeros is that of x^α in f(d)
 coefficient_in_more : (f : ℕ → Poly) (d m : ℕ) (α : List ℕ) → IsSymmetricFamily f → length α ≡ d
     → coefficient (f (d + m)) (α ++ replicate m 0) ≡ coefficient (f d) α
 coefficient_in_more f d m α s l =
@@ -53,7 +54,8 @@ agree_in_fewer f g n m s t e α =
     ∙ ap (λ c. cond (eqb (length α) n) c (pos 0)) (e (α ++ replicate m 0))
     ∙ sym (coefficient_in_fewer g n m α t)
 
--- if the symmetric families f and g of degree at most d agree in d variables, their coefficients at weakly decreasing exponents agree in d + m
+-- if the families f and g of symmetric polynomials have degree at most d and agree in d variables, the coefficients of f(d + m) and g(d + m) at
+-- weakly decreasing exponents agree
 agree_falling : (d m : ℕ) (f g : ℕ → Poly) → IsSymmetricFamily f → IsSymmetricFamily g
     → HasDegreeAtMost d (f (d + m)) → HasDegreeAtMost d (g (d + m)) → Same (f d) (g d)
     → (α : List ℕ) → Falls α → coefficient (f (d + m)) α ≡ coefficient (g (d + m)) α
@@ -66,7 +68,7 @@ agree_falling d m f g s t p q e α h = elim (cases_eq (length α) (d + m)) [
   ]
 ]
 
--- if the symmetric families f and g agree in d variables and have a degree of at most d, they agree in d + m variables
+-- if the families f and g of symmetric polynomials have degree at most d and agree in d variables, they agree in d + m variables
 agree_in_more : (d m : ℕ) (f g : ℕ → Poly) → IsSymmetricFamily f → IsSymmetricFamily g
     → HasDegreeAtMost d (f (d + m)) → HasDegreeAtMost d (g (d + m)) → Same (f d) (g d) → Same (f (d + m)) (g (d + m))
 agree_in_more d m f g s t p q e α =

@@ -1,4 +1,4 @@
--- Good tableaux for which start plus the content is a given list, by the number of times that each letter occurs in each row.
+-- Good tableaux P for which start plus the content is a given list `end`, described by the number of times that each letter occurs in each row of P.
 use Rattle.std.proofs.Common.{◌≡◌, ℕ, zero, suc, ◌+◌, ◌-◌, ◌<◌, ◌≤◌, ◌⊎◌, ◌==◌, Bool, true, cond, ◌&&◌, List, [], ◌∷◌, map, length, drop, get_or, nat_le, sym, ◌∙◌, ap, subst, refl, inl, inr, arith}
 use Rattle.std.proofs.lemmas.Bool.Decides.{nat_tests}
 use Rattle.std.proofs.lemmas.Bool.{cases_lt, and_parts, and_from}
@@ -22,14 +22,15 @@ use Rattle.schur_laws.proofs.RisingRows.{up_to_letter, one_more_letter, zeros_up
 use Rattle.schur_laws.proofs.Interlacing.{add_up, add_up-last, add_up-none}
 use Rattle.schur_laws.proofs.TableauPlaces.{row, RowCounts, line_tells, line_back, fit_at, fit_all, grid_tells, grid_back, letters_right, letters_in_all, good_tells, good_back, sum_at, places_fall}
 use Rattle.strip_laws.proofs.Strips.{falls_get}
+use Rattle.sym_model.proofs.Lists.{drop-none}
 
--- whether padded rows are a good tableau for start, and start plus their content is `end`
+-- whether the padded rows P are a tableau that is good for start, and start plus its content is `end`
 abbrev pub is_counted : ℕ → List ℕ → List ℕ → List (List ℕ) → Bool
 is_counted n start end P =
     are_tableau_columns (transposed P) && is_good_by_columns n start (transposed P)
     && same (without_last_zeros (sum_reached n start (transposed P))) end
 
--- start_i plus the number of letters i + 1 in the rows of P, after each row is cut by `cut`
+-- `sum_of cut start P i`: start_i plus the number of letters i + 1 in the words cut(row), for all rows of P
 abbrev pub sum_of : (List ℕ → List ℕ) → List ℕ → List (List ℕ) → ℕ → ℕ
 sum_of cut start P i = get_or start i 0 + add_up (λ r. times_in (suc i) (cut (row P r))) 0 (length P)
 
@@ -64,12 +65,12 @@ all_up_to m (a ∷ w) h = by (cases_lt m a) (all_up_to m w (λ k l. let e = h k 
     by (inl l) e = let f = h a l in let g : cond {A = ℕ} (a == a) 1 0 ≡ 1 = grind (arith, nat_tests) in absurd (omega arith)
     by (inr l) e = let g : cond {A = ℕ} (nat_le a m) 1 0 ≡ 1 = grind (arith, nat_tests) in omega arith
 
--- ---- consequences of the tests of a good tableau
+-- ---- consequences of the tests that a good tableau passes
 
 falls_for : (outer : List ℕ) (P : List (List ℕ)) → map length P ≡ outer → Falls outer → Falls (map length P)
 falls_for outer P e f = subst Falls (sym e) f
 
-row_facts : (n : ℕ) (outer inner : List ℕ) (P : List (List ℕ)) → length P ≡ length outer → ((r : ℕ) → get_or inner r 0 ≤ get_or outer r 0)
+pub row_facts : (n : ℕ) (outer inner : List ℕ) (P : List (List ℕ)) → length P ≡ length outer → ((r : ℕ) → get_or inner r 0 ≤ get_or outer r 0)
     → AllFit n (pattern_of outer inner) P → (r : ℕ) → RowCounts n (get_or inner r 0) (get_or outer r 0 - get_or inner r 0) (row P r)
 row_facts n outer inner P e inside f r = by (cases_lt r (length outer))
   where
@@ -85,9 +86,9 @@ row_facts n outer inner P e inside f r = by (cases_lt r (length outer))
           letters = λ x m. ap (times_in x) past;
         }
 
--- if no letter of P is above n, entry i of start plus the content of the columns right of column j + 1 is start_i plus the number of
--- letters i + 1 in these columns
-sum_right : (n : ℕ) (start : List ℕ) (P : List (List ℕ)) → ((r k : ℕ) → n < k → times_in k (row P r) ≡ 0) → (j i : ℕ)
+-- if no letter of P is greater than n, entry i of start plus the content of the columns after the first j + 1 is start_i plus the number of letters i
+-- + 1 in these columns
+pub sum_right : (n : ℕ) (start : List ℕ) (P : List (List ℕ)) → ((r k : ℕ) → n < k → times_in k (row P r) ≡ 0) → (j i : ℕ)
     → get_or (sum_reached n start (drop (suc j) (transposed P))) i 0 ≡ sum_of (drop (suc j)) start P i
 sum_right n start P h j i =
     sum_at n start (drop (suc j) (transposed P)) (λ k l. letters_right k j P ∙ add_up-none (λ r. times_in k (drop (suc j) (row P r))) 0 (length P) (λ r m. none k (suc j) (row P r) (h r k l))) i
@@ -105,17 +106,13 @@ sum_in_all n start P h i =
     sum_at n start (transposed P) (λ k l. times_in-transposed k P ∙ letters_in_all k P ∙ add_up-none (λ r. times_in k (row P r)) 0 (length P) (λ r m. h r k l)) i
     ∙ ap (λ x. get_or start i 0 + x) (times_in-transposed (suc i) P ∙ letters_in_all (suc i) P)
 
-pub drop_none : (cs : List (List ℕ)) → drop 0 cs ≡ cs
-drop_none [] = refl
-drop_none (c ∷ cs) = refl
-
 length_sum : (n : ℕ) (start : List ℕ) (cs : List (List ℕ)) → length start ≤ n → length (sum_reached n start cs) ≡ n
 length_sum n start cs h =
     let e = length-join start (content n (letters_of cs)) in
     let d = length_content n (letters_of cs) in
     omega arith
 
--- if the list s of n numbers, without the zeros at its end, is the partition `end`, s and `end` have the same number at each place
+-- if a list s of n numbers, without the zeros at its end, is the partition `end`, then s and `end` have the same number at each place
 sum_tells : (n : ℕ) (s end : List ℕ) → length s ≡ n → length end ≤ n → without_last_zeros s ≡ end → (i : ℕ) → get_or s i 0 ≡ get_or end i 0
 sum_tells n s end l m e i = by (cases_lt i n)
   where
@@ -157,8 +154,8 @@ tableau_tells n start outer inner end P falls holds inside s t fit c =
       good = λ j i. (let e = falls_places (sum_reached n start (drop (suc j) (transposed P))) (falling (suc j)) i in
           let l = sum_right n start P letters j (suc i) in let r = sum_right n start P letters j i in omega arith);
       all_good = λ i. (let e = falls_places (sum_reached n start (drop 0 (transposed P))) (falling 0) i in
-          let d = ap (λ (cs : List (List ℕ)). get_or (sum_reached n start cs) (suc i) 0) (drop_none (transposed P)) in
-          let d' = ap (λ (cs : List (List ℕ)). get_or (sum_reached n start cs) i 0) (drop_none (transposed P)) in
+          let d = ap (λ (cs : List (List ℕ)). get_or (sum_reached n start cs) (suc i) 0) (drop-none (transposed P)) in
+          let d' = ap (λ (cs : List (List ℕ)). get_or (sum_reached n start cs) i 0) (drop-none (transposed P)) in
           let l = sum_in_all n start P letters (suc i) in let r = sum_in_all n start P letters i in omega arith);
       sums = places;
     }
@@ -190,8 +187,8 @@ tableau_back n start outer inner end P falls holds inside s t positive T = (
     falling : (j : ℕ) → is_falling (sum_reached n start (drop j (transposed P))) ≡ true
     falling zero = places_fall (sum_reached n start (drop 0 (transposed P))) (λ i.
         let e = T.all_good i in
-        let d = ap (λ (cs : List (List ℕ)). get_or (sum_reached n start cs) (suc i) 0) (drop_none (transposed P)) in
-        let d' = ap (λ (cs : List (List ℕ)). get_or (sum_reached n start cs) i 0) (drop_none (transposed P)) in
+        let d = ap (λ (cs : List (List ℕ)). get_or (sum_reached n start cs) (suc i) 0) (drop-none (transposed P)) in
+        let d' = ap (λ (cs : List (List ℕ)). get_or (sum_reached n start cs) i 0) (drop-none (transposed P)) in
         let l = sum_in_all n start P T.letters (suc i) in let r = sum_in_all n start P T.letters i in omega arith)
     falling (suc j) = places_fall (sum_reached n start (drop (suc j) (transposed P))) (λ i.
         let e = T.good j i in

@@ -1,25 +1,25 @@
--- The greatest letter of weakly increasing rows: its occurrences are at the end of each row.
---     `over_rising`               sums over the weakly increasing words
---     `rising-greatest`           sums with one more letter, by its number of occurrences at the end
---     `total_down_from-ext`, `-cut`   sums over 0 to d
+-- Weakly increasing words with letters from 1 to n + 1: the letters n + 1 are at the end of the word.
+--     `over_rising`               sums over the weakly increasing words with letters up to n
+--     `rising-greatest`           a sum over the words with letters up to n + 1, by the number of letters n + 1 at their ends
+--     `total_down_from-ext`, `-cut`   sums over the numbers from 0 to d
 use Rattle.std.proofs.Common.{◌≡◌, ℕ, zero, suc, ◌+◌, ◌-◌, ◌<◌, ◌≤◌, Bool, true, false, cond, ◌&&◌, List, [], ◌∷◌, ◌++◌, map, length, replicate, nat_le, sym, ◌∙◌, ap, ap₂, subst, refl, inl, inr, arith, ℤ, pos, ◌+ℤ◌, append-nil}
 use Rattle.std.proofs.lemmas.Bool.{le-leb, lt-leb}
 use Rattle.sym_model.specs.Sum.{total, Among}
 use Rattle.sym_model.specs.Partition.{after}
 use Rattle.sym_model.specs.Bases.{down_from}
 use Rattle.sym_model.specs.Schur.{words, row_rises}
-use Rattle.sym_model.proofs.Sums.{total_ext, total_among, total_append, total_none, total_map, total_each, total_exchange, Among_from_each, Among_from_map}
+use Rattle.sym_model.proofs.Sums.{total_ext, total_among, total_append, total_none, total_map, total_each, total_exchange, Among_from_each, Among_from_map, down_from-below}
 use Rattle.sym_model.proofs.AfterLists.{after_among, after-last}
 use Rattle.tableau_laws.specs.Grid.{may_precede}
 use lib.IntN.{+ℤ_idl, +ℤ_idr, +ℤ_comm}
-use Rattle.monomial_laws.proofs.Arrangements.{down_from-below}
+use Rattle.sym_model.proofs.Integers.{nothing_either}
 
 -- ---- sums over the numbers from 0 to d
 
 pub total_down_from-ext : (f g : ℕ → ℤ) (d : ℕ) → ((i : ℕ) → i ≤ d → f i ≡ g i) → total f (down_from d) ≡ total g (down_from d)
 total_down_from-ext f g d h = total_among f g (down_from d) (λ i m. h i (down_from-below d i m))
 
--- if f is 0 from e + 1 to m + e, the sum of f up to m + e is that up to e
+-- if f is 0 at e + 1, .., m + e, the sum of f over 0, .., m + e is the sum of f over 0, .., e
 pub total_down_from-cut : (f : ℕ → ℤ) (e m : ℕ) → ((i : ℕ) → e < i → i ≤ m + e → f i ≡ pos 0) → total f (down_from (m + e)) ≡ total f (down_from e)
 total_down_from-cut f e zero h = ap (λ d. total f (down_from d)) (let i : 0 + e ≡ e = omega arith in i)
 total_down_from-cut f e (suc m) h =
@@ -28,19 +28,19 @@ total_down_from-cut f e (suc m) h =
     ∙ +ℤ_idl (total f (down_from (m + e)))
     ∙ total_down_from-cut f e m (λ i l k. h i l (omega arith))
 
--- if f is 0 before d, the sum of f up to d is f(d)
+-- if f is 0 at 0, .., d - 1, the sum of f over 0, .., d is f(d)
 total_down_from-first : (f : ℕ → ℤ) (d : ℕ) → ((i : ℕ) → i < d → f i ≡ pos 0) → total f (down_from d) ≡ f d
 total_down_from-first f zero h = +ℤ_idr (f 0)
 total_down_from-first f (suc d) h =
     ap (λ z. f (suc d) +ℤ z) (total_none f (down_from d) (λ i m. let l = down_from-below d i m in h i (omega arith)))
     ∙ +ℤ_idr (f (suc d))
 
--- ---- the letters from 1 to n
+-- ---- words in the letters 1, .., n
 
 pub after_zero-last : (n : ℕ) → after 0 (suc n) ≡ after 0 n ++ (suc n ∷ [])
 after_zero-last n = after-last 0 n ∙ ap (λ k. after 0 n ++ (k ∷ [])) (let e : 0 + suc n ≡ suc n = omega arith in e)
 
--- each letter is from 1 to n
+-- each letter of the word is from 1 to n
 abbrev pub AreLetters : ℕ → List ℕ → Type 0
 AreLetters n [] = Unit {0}
 AreLetters n (a ∷ w) = ((0 < a) × (a ≤ n)) × AreLetters n w
@@ -56,9 +56,9 @@ words-letters n (suc k) w m =
     let long : suc (length v.0) ≡ suc k = ap suc rest.0 in
     subst (λ u. (length u ≡ suc k) × AreLetters n u) (sym v.2) (long, ((bounds.0, let h = bounds.1 in omega arith), rest.1))
 
--- ---- weakly increasing words as rows
+-- ---- sums over weakly increasing words
 
--- the sum of a function over the weakly increasing words of k letters up to n
+-- the sum of a function over the weakly increasing words of k letters from 1 to n
 abbrev pub over_rising : ℕ → ℕ → (List ℕ → ℤ) → ℤ
 over_rising n k g = total (λ (w : List ℕ). cond (row_rises w) (g w) (pos 0)) (words n k)
 
@@ -67,11 +67,7 @@ rising-ext n k f g h =
     total_among (λ (w : List ℕ). cond (row_rises w) (f w) (pos 0)) (λ (w : List ℕ). cond (row_rises w) (g w) (pos 0)) (words n k)
     (λ w m. let l = words-letters n k w m in ap (λ z. cond (row_rises w) z (pos 0)) (h w l.0 l.1))
 
-pub nothing_either : (b : Bool) → cond b (pos 0) (pos 0) ≡ pos 0
-nothing_either true = refl
-nothing_either false = refl
-
--- the sum over the words without letters is the value at the empty word
+-- for k = 0, the sum of g over the weakly increasing words is the value of g at the empty word
 pub rising-none : (n : ℕ) (g : List ℕ → ℤ) → over_rising n 0 g ≡ g []
 rising-none n g = +ℤ_idr (g [])
 
@@ -85,7 +81,7 @@ swap_tests true false z = refl
 swap_tests false true z = refl
 swap_tests false false z = refl
 
--- the sum over the weakly increasing words of k + 1 letters is a sum over the first letter a and the word after it
+-- the sum of g over the weakly increasing words of k + 1 letters is a sum over the first letter a, and over the words of k letters that a may precede
 rising-front : (n k : ℕ) (g : List ℕ → ℤ)
     → over_rising n (suc k) g ≡ total (λ (a : ℕ). over_rising n k (λ w. cond (may_precede nat_le a w) (g (a ∷ w)) (pos 0))) (after 0 n)
 rising-front n k g =
@@ -102,13 +98,13 @@ rising-front n k g =
     (words n k))
     (after 0 n)
 
--- the letter n + 1, repeated at the end of a word, does not change whether a ≤ n can precede the word
+-- if a ≤ n, a may precede the word v followed by i letters n + 1 if and only if a may precede v
 precedes-greatest : (n a i : ℕ) (v : List ℕ) → a ≤ n → may_precede nat_le a (v ++ replicate i (suc n)) ≡ may_precede nat_le a v
 precedes-greatest n a zero [] h = refl
 precedes-greatest n a (suc i) [] h = le-leb a (suc n) (omega arith)
 precedes-greatest n a i (b ∷ v) h = refl
 
--- a word of letters n + 1 can follow the letter n + 1
+-- the letter n + 1 may precede a word of letters n + 1
 greatest_precedes : (n i : ℕ) → may_precede nat_le (suc n) (replicate i (suc n)) ≡ true
 greatest_precedes n zero = refl
 greatest_precedes n (suc i) = le-leb (suc n) (suc n) (omega arith)
@@ -117,17 +113,18 @@ greatest_precedes-none : (n i k : ℕ) (v : List ℕ) → length v ≡ suc k →
 greatest_precedes-none n i k [] l h = absurd (omega arith)
 greatest_precedes-none n i k (b ∷ v) l h = let p = h.0.1 in lt-leb (suc n) b (omega arith)
 
--- the row v followed by i times the greatest letter
+-- the word v followed by i letters n + 1
 abbrev pub ended : ℕ → ℕ → List ℕ → List ℕ
 ended n i v = v ++ replicate i (suc n)
 
--- for rows of k letters: the sum over the weakly increasing words with letters up to n + 1 is the sum over the number i of letters n + 1 at the end
--- and the words of k - i letters up to n
+-- the sum of any g over the weakly increasing words of k letters up to n + 1 is a double sum: over the number i of letters n + 1 at the end, and over
+-- the weakly increasing words of k - i letters up to n before them
 abbrev EndsWithGreatest : ℕ → ℕ → Type 0
 EndsWithGreatest n k =
     (g : List ℕ → ℤ) → over_rising (suc n) k g ≡ total (λ (i : ℕ). over_rising n (k - i) (λ v. g (ended n i v))) (down_from k)
 
--- the sum over the weakly increasing words of k + 1 letters that begin with a ≤ n, by the number i of letters n + 1 at their end
+-- if `EndsWithGreatest` holds for words of k letters: the sum of g over the weakly increasing words of k + 1 letters that begin with a ≤ n, as a
+-- double sum over the number i of letters n + 1 at the end, and over the words of the k - i letters between a and these
 smaller_front : (n k a : ℕ) (g : List ℕ → ℤ) → EndsWithGreatest n k → a ≤ n
     → over_rising (suc n) k (λ w. cond (may_precede nat_le a w) (g (a ∷ w)) (pos 0))
     ≡ total (λ (i : ℕ). over_rising n (k - i) (λ v. cond (may_precede nat_le a v) (g (a ∷ ended n i v)) (pos 0))) (down_from k)
@@ -154,7 +151,7 @@ smaller_fronts n k g rec =
     with_front : ℕ → ℕ → ℤ
     with_front a i = over_rising n (k - i) (λ v. cond (may_precede nat_le a v) (g (a ∷ ended n i v)) (pos 0))
 
--- the sum over the weakly increasing words of k + 1 letters that begin with n + 1: there is one, and all its letters are n + 1
+-- the sum of g over the weakly increasing words of k + 1 letters up to n + 1 that begin with n + 1 has one term: all letters of the word are n + 1
 greatest_front : (n k : ℕ) (g : List ℕ → ℤ) → EndsWithGreatest n k
     → over_rising (suc n) k (λ w. cond (may_precede nat_le (suc n) w) (g (suc n ∷ w)) (pos 0)) ≡ g (replicate (suc k) (suc n))
 greatest_front n k g rec =

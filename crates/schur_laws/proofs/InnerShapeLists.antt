@@ -1,4 +1,4 @@
--- The shapes inside a shape: partitions with zeros at their ends.
+-- The members of `shapes_inside`: without the zeros at their ends they are partitions inside the given shape.
 use Rattle.std.proofs.Common.{◌≡◌, ℕ, zero, suc, ◌≤◌, nat_le, ◌==◌, true, List, [], ◌∷◌, map, length, min, refl, sym, ap, subst, inl, inr, arith}
 use Rattle.std.proofs.lemmas.Bool.{and_parts, and_from, le-leb}
 use Rattle.sym_model.specs.Sum.{Among}
@@ -41,7 +41,7 @@ inside-tells (a ∷ outer) m inner k =
       inside = and_from (nat_le b.0 a) (contains outer l.0) (le-leb b.0 a (omega arith)) r.inside;
     })
 
--- ---- inner shapes without the zeros at their ends
+-- ---- the inner shapes without the zeros at their ends are partitions inside `outer`
 
 pub same-without_last_zeros : (inner : List ℕ) → SameParts (without_last_zeros inner) inner
 same-without_last_zeros inner = get_or-without_last_zeros inner

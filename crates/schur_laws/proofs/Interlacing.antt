@@ -1,9 +1,9 @@
--- The cells of two neighbouring letters in the rows, described by three decreasing sequences A, B, C of places: row r has y cells with the first
--- letter, from place A to place B, and x with the next one, from place B to place C.
+-- The cells of two neighbouring letters in the rows of a tableau, described by numbers A, B, C for each row: row r has the first letter in the y(r)
+-- cells after place A(r), up to place B(r), and the second letter in the x(r) cells after them, up to place C(r).
 use Rattle.std.proofs.Common.{◌≡◌, ℕ, zero, suc, ◌+◌, ◌<◌, ◌≤◌, ◌⊎◌, max, ◌∙◌, ap, ap₂, refl, inl, inr, arith}
 use Rattle.std.proofs.lemmas.Bool.{cases_lt}
 
--- f a + f (a + 1) + .., k summands
+-- f(a) + f(a + 1) + .. + f(a + k - 1)
 abbrev pub add_up : (ℕ → ℕ) → ℕ → ℕ → ℕ
 add_up f a zero = 0
 add_up f a (suc k) = f a + add_up f (suc a) k
@@ -20,7 +20,7 @@ pub add_up-none : (f : ℕ → ℕ) (a k : ℕ) → ((i : ℕ) → a ≤ i → f
 add_up-none f a zero e = refl
 add_up-none f a (suc k) e = let h = e a (omega arith) in let g = add_up-none f (suc a) k (λ i l. e i (omega arith)) in omega arith
 
--- if f is 0 from a + m on, summands after the first m add nothing
+-- if f is 0 from a + m on, the sum of m + k values of f from a on is the sum of the first m of these values
 pub add_up-longer : (f : ℕ → ℕ) (a m k : ℕ) → ((i : ℕ) → a + m ≤ i → f i ≡ 0) → add_up f a (m + k) ≡ add_up f a m
 add_up-longer f a zero k e = let d : 0 + k ≡ k = omega arith in ap (add_up f a) d ∙ add_up-none f a k (λ i l. e i (omega arith))
 add_up-longer f a (suc m) k e =
@@ -28,14 +28,14 @@ add_up-longer f a (suc m) k e =
     let h = add_up-longer f (suc a) m k (λ i l. e i (omega arith)) in
     ap (add_up f a) d ∙ ap (λ n. f a + n) h
 
--- row r has y(r) cells from place A(r) to B(r) and x(r) cells from B(r) to C(r), and B(r + 1) ≤ A(r) and C(r + 1) ≤ B(r) for each r
+-- for each row r, B(r) = A(r) + y(r) and C(r) = B(r) + x(r), and for the next row B(r + 1) ≤ A(r) and C(r + 1) ≤ B(r)
 pub record Places (A B C x y : ℕ → ℕ) : Type 0 where
   pub first : (r : ℕ) → A r + y r ≡ B r
   pub second : (r : ℕ) → B r + x r ≡ C r
   pub left : (r : ℕ) → B (suc r) ≤ A r
   pub right : (r : ℕ) → C (suc r) ≤ B r
 
--- row r has right of place j Y(j, r) cells with the first letter and X(j, r) with the next one
+-- Y(j, r) is the number of the cells of row r from A(r) to B(r) that are after place j, and X(j, r) the number of those from B(r) to C(r)
 pub record RightOf (A B C : ℕ → ℕ) (X Y : ℕ → ℕ → ℕ) : Type 0 where
   pub first : (j r : ℕ) → Y j r + max (A r) j ≡ max (B r) j
   pub second : (j r : ℕ) → X j r + max (B r) j ≡ max (C r) j
@@ -54,8 +54,8 @@ none_left A B C x y X Y p q j a (suc m) l =
     let h = none_left A B C x y X Y p q j (suc a) m (omega arith) in
     omega arith
 
--- if s + x(a) + .. + x(a + i) ≤ t + y(a) + .. + y(a + i - 1) for each i, then s plus the sum of X(j, r) is at most t plus the sum of Y(j, r), over
--- the m rows r from a on
+-- if s + x(a) + .. + x(a + i) ≤ t + y(a) + .. + y(a + i - 1) for each i, then, for each j, s plus the sum of X(j, r) is at most t plus the sum of
+-- Y(j, r); both sums are over the m rows r from a on
 pub by_columns : (A B C x y : ℕ → ℕ) (X Y : ℕ → ℕ → ℕ) → Places A B C x y → RightOf A B C X Y → (j m a s t : ℕ)
     → ((i : ℕ) → s + add_up x a (suc i) ≤ t + add_up y a i)
     → s + add_up (X j) a m ≤ t + add_up (Y j) a m
@@ -84,8 +84,8 @@ by_columns A B C x y X Y p q j (suc m) a s t h =
         let f = q.second j a in let g = p.second a in let f' = q.first j a in let g' = p.first a in
         omega arith
 
--- if s plus the sum of X(j, r) is at most t plus the sum of Y(j, r), over the m rows r from a on, for each j up to some number ≥ B(a), then
--- s + x(a) + .. + x(a + i) ≤ t + y(a) + .. + y(a + i - 1) for i < m
+-- suppose that, for each j up to some number ≥ B(a), s plus the sum of X(j, r) is at most t plus the sum of Y(j, r), both over the m rows r from a
+-- on. Then s + x(a) + .. + x(a + i) ≤ t + y(a) + .. + y(a + i - 1) for each i < m
 pub by_rows : (A B C x y : ℕ → ℕ) (X Y : ℕ → ℕ → ℕ) → Places A B C x y → RightOf A B C X Y → (i m a s t most : ℕ) → i < m → B a ≤ most
     → ((j : ℕ) → j ≤ most → s + add_up (X j) a m ≤ t + add_up (Y j) a m)
     → s + add_up x a (suc i) ≤ t + add_up y a i

@@ -1,7 +1,7 @@
 -- The coefficients of Schur polynomials are Kostka numbers.
---     strips_off-removals     the horizontal strips of k cells, among those of any size that can be removed
---     coefficient-schur_last  the coefficient of x^α in s_λ, by the last exponent of α
---     coefficient-kostka      the coefficient of x^κ in s_λ
+--     strips_off-removals     `strips_off k` lists the shapes in `removals` (λ without a strip of any size) for which the strip has k cells
+--     coefficient-schur_last  the coefficient of x^α in s_λ with last exponent k, as a sum over the partitions that are λ without a strip of k cells
+--     coefficient-kostka      the coefficient of x^κ in s_λ is `kostka λ κ`
 use Rattle.std.proofs.Common.{◌<◌, ap₂, ◌⊎◌, ◌≡◌, ℕ, zero, suc, ◌+◌, ◌-◌, ◌≤◌, Bool, true, false, cond, ◌&&◌, ◌==◌, min, List, [], ◌∷◌, ◌++◌, map, length, sym, ◌∙◌, ap, subst, refl, inl, inr, arith, ℤ, pos, ◌+ℤ◌}
 use Rattle.std.proofs.lemmas.Bool.{ne_eqb, eq-eqb, eqb-true}
 use Rattle.sym_model.specs.Sum.{total, Among}
@@ -44,7 +44,7 @@ total_below f (suc n) =
     ∙ ap₂ ◌+ℤ◌ (total_below f n) (+ℤ_idr (f (suc n)))
     ∙ +ℤ_comm (total f (down_from n)) (f (suc n))
 
--- ---- strips of k cells among the removals of strips of any size
+-- ---- horizontal strips of k cells, among the horizontal strips of any size
 
 pub strips_off-removals : (k : ℕ) (parts : List ℕ) (χ : List ℕ → ℤ)
     → total χ (strips_off k parts) ≡ total (λ (r : List ℕ × ℕ). cond (r.1 == k) (χ (without_last_zeros r.0)) (pos 0)) (removals parts)
@@ -91,7 +91,7 @@ strips_off-removals k (a ∷ parts) χ =
         (λ e. eq-eqb (i + s) k (let d = eqb-true s (k - i) e in omega arith))
         (λ e. eq-eqb s (k - i) (let d = eqb-true (i + s) k e in omega arith))
 
--- ---- the coefficient of s_λ by its last exponent
+-- ---- equality of lists with a last entry; the coefficient of x^α in s_λ, by the last exponent of α
 
 same-last : (γ α : List ℕ) (s k : ℕ) → same (γ ++ (s ∷ [])) (α ++ (k ∷ [])) ≡ ((s == k) && same γ α)
 same-last [] [] s k = refl
@@ -115,7 +115,7 @@ same-last (c ∷ γ) [] s k = longer (c == k) (s == k) γ
     longer false false γ = refl
 same-last (c ∷ γ) (b ∷ α) s k = ap (λ t. (c == b) && t) (same-last γ α s k) ∙ and_middle (c == b) (s == k) (same γ α)
 
--- the coefficient of x^α in s_λ is the number of semistandard tableaux of the shape λ and the content α, as a sum row by row
+-- the coefficient of x^α in s_λ is the number of semistandard tableaux of the shape λ and the content α, written as a sum row by row (`over_rows`)
 coefficient-rows : (n : ℕ) (parts α : List ℕ) → coefficient (schur parts n) α ≡ over_rows n [] parts (at_only α)
 coefficient-rows n parts α = coefficient_pair (schur parts n) α ∙ pair-schur_rows n parts (at_only α)
 
@@ -141,9 +141,9 @@ coefficient-schur_last n k parts α f =
     (removals parts)
     ∙ sym (strips_off-removals k parts (λ rest. coefficient (schur rest n) α))
 
--- ---- the partition that is left after a strip is removed
+-- ---- the partition that remains when a horizontal strip is removed
 
--- `rest` is a partition with k cells fewer than `parts`, no more rows, and no greater first part
+-- `rest` is a partition with k cells less than `parts`; it does not have more rows than `parts`, and its first part is not greater
 pub record IsLeft (k : ℕ) (parts rest : List ℕ) : Type 0 where
   pub partition : IsPartition rest
   pub few : length rest ≤ length parts

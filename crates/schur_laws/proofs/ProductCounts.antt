@@ -1,4 +1,4 @@
--- Coefficients of products as counts of lattice tableaux.
+-- The coefficients of products of Schur polynomials as counts of lattice tableaux of skew shapes.
 use Rattle.std.proofs.Common.{◌≡◌, ℕ, ◌<◌, ◌≤◌, ◌⊎◌, Bool, true, false, cond, List, [], ◌∷◌, map, length, sym, ◌∙◌, ap, refl, inl, inr, arith, pos, filter}
 use Rattle.std.proofs.lemmas.Bool.{cases_lt, lt-leb, both_ways}
 use Rattle.std.proofs.lemmas.Int.{ints}
@@ -22,7 +22,7 @@ none_among : (ws : List (List ℕ)) → filter (λ (w : List ℕ). false) ws ≡
 none_among [] = refl
 none_among (w ∷ ws) = none_among ws
 
--- if λ has more than k rows, there is no good tableau for the start λ in k letters
+-- if the partition λ has more than k rows, there is no good tableau with letters up to k for the start λ, and `product_count k λ μ ν` is 0
 pub product_count-none : (k : ℕ) (λ' μ ν : List ℕ) → k < rows λ' → product_count k λ' μ ν ≡ 0
 product_count-none k λ' μ ν h =
     let came : List ℕ → Bool = λ w. same (without_last_zeros (join λ' (content k w))) ν in
@@ -36,7 +36,7 @@ product_by_shape λ' μ ν p q r h =
     product_count-columns (rows ν) λ' μ ν p q (rows_inside ν λ' p h)
     ∙ duality λ' μ [] ν p q IsPartition-none r (contains_nothing μ) h
 
--- if λ is not inside ν, no good tableau T of μ for the start λ has λ + content(T) = ν
+-- if λ is not inside ν, no good tableau T of the shape μ for the start λ has λ + content(T) = ν, and `product_count` is 0
 pub product_outside : (λ' μ ν : List ℕ) → IsPartition λ' → IsPartition μ → IsPartition ν → contains ν λ' ≡ false → product_count (rows ν) λ' μ ν ≡ 0
 product_outside λ' μ ν p q r h = by (cases_lt (rows ν) (rows λ'))
   where

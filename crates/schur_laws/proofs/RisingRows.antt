@@ -1,11 +1,11 @@
--- Weakly increasing words by the number of their letters that are at most k.
+-- Weakly increasing words, described by the number of their letters that are at most k, for each k.
 use Rattle.std.proofs.Common.{◌≡◌, ℕ, zero, suc, ◌+◌, ◌-◌, ◌<◌, ◌≤◌, ◌⊎◌, ◌==◌, max, true, cond, List, [], ◌∷◌, length, drop, nat_le, sym, ◌∙◌, ap, ap₂, refl, inl, inr, arith}
 use Rattle.std.proofs.lemmas.Bool.Decides.{nat_tests}
 use Rattle.std.proofs.lemmas.Bool.{cases_lt, cases_eq, and_parts, and_from, leb-true, ltb-true, lt-ltb}
 use Rattle.sym_model.specs.Schur.{times_in}
 use Rattle.tableau_laws.specs.Grid.{is_chain, pass_by_place, may_precede, may_stand_above}
 
--- the number of letters of a word that are at most k
+-- `up_to_letter k w`: the number of letters of the word w that are at most k
 abbrev pub up_to_letter : ℕ → List ℕ → ℕ
 up_to_letter k [] = 0
 up_to_letter k (a ∷ w) = cond {A = ℕ} (nat_le a k) 1 0 + up_to_letter k w
@@ -13,7 +13,7 @@ up_to_letter k (a ∷ w) = cond {A = ℕ} (nat_le a k) 1 0 + up_to_letter k w
 one_letter : (a k : ℕ) → cond {A = ℕ} (a == suc k) 1 0 + cond {A = ℕ} (nat_le a k) 1 0 ≡ cond {A = ℕ} (nat_le a (suc k)) 1 0
 one_letter a k = grind (arith, nat_tests)
 
--- the number of letters k + 1 plus that of the letters up to k is the number of letters up to k + 1
+-- the number of letters k + 1 of w plus the number of letters up to k is the number of letters up to k + 1
 pub one_more_letter : (k : ℕ) (w : List ℕ) → times_in (suc k) w + up_to_letter k w ≡ up_to_letter (suc k) w
 one_more_letter k [] = refl
 one_more_letter k (a ∷ w) = let e = one_more_letter k w in let f = one_letter a k in omega arith
@@ -37,8 +37,8 @@ none_up_to k a (b ∷ w) h l =
     let f : cond {A = ℕ} (nat_le a k) 1 0 ≡ 0 = grind (arith, nat_tests) in
     omega arith
 
--- if w is weakly increasing, the number of its letters k + 1 right of place j, plus max(number of letters up to k, j), is max(number of letters up to
--- k + 1, j)
+-- let w be weakly increasing, with b letters up to k and c letters up to k + 1: the number of letters k + 1 after the first j places of w is max(c,
+-- j) - max(b, j)
 pub right_of_place : (k j : ℕ) (w : List ℕ) → Rises w → times_in (suc k) (drop j w) + max (up_to_letter k w) j ≡ max (up_to_letter (suc k) w) j
 right_of_place k zero w h = let e = one_more_letter k w in let f : drop 0 w ≡ w = grind arith in ap (λ v. times_in (suc k) v + max (up_to_letter k w) 0) f ∙ omega arith
 right_of_place k (suc j) [] h = omega arith
@@ -52,7 +52,7 @@ right_of_place k (suc j) (a ∷ w) h =
     late r l (inl e) = let n = none_up_to k a w h l in let g : cond {A = ℕ} (nat_le a (suc k)) 1 0 ≡ 1 = grind (arith, nat_tests) in omega arith
     late r l (inr d) = let n = none_up_to k a w h l in let m = none_up_to (suc k) a w h (omega arith) in omega arith
 
--- ---- the numbers of letters up to k of a weakly increasing word and of a word that fits below it
+-- ---- the numbers of letters up to k of two words v and w, if w can be directly below v in a tableau
 
 pub below_counts : (k : ℕ) (v w : List ℕ) → pass_by_place may_stand_above v w ≡ true → length w ≤ length v → up_to_letter (suc k) w ≤ up_to_letter k v
 below_counts k v [] h l = omega arith

@@ -1,4 +1,5 @@
--- Weakly increasing words, cut at a letter n: the letters up to n, and those after n lowered by n.
+-- Weakly increasing words in the letters 1, .., n + k: letters up to n, followed by letters that are greater than n, which are letters from 1 to k
+-- raised by n.
 use Rattle.std.proofs.Common.{◌≡◌, ℕ, zero, suc, ◌+◌, ◌-◌, ◌<◌, ◌≤◌, ◌⊎◌, inl, inr, nat_le, Bool, true, false, ◌&&◌, cond, List, [], ◌∷◌, ◌++◌, map, length, min, refl, sym, ap, ap₂, subst, ◌∙◌, arith, ℤ, pos, ◌+ℤ◌, flat_map}
 use Rattle.std.proofs.lemmas.Bool.{cases_lt, le-leb, lt-leb}
 use Rattle.std.proofs.lemmas.Int.{ints}
@@ -9,14 +10,14 @@ use Rattle.sym_model.proofs.AfterLists.{after_among, after-append}
 use Rattle.sym_model.proofs.Sums.{total_ext, total_among, total_append, total_none, total_map, total_each, total_exchange, Among_from_each, Among_from_map, total_cond, total_cond_list as total_listed}
 use Rattle.schur_laws.specs.InnerShapes.{up_to}
 use lib.IntN.{+ℤ_idl, +ℤ_idr, +ℤ_comm}
-use Rattle.tableau_laws.proofs.GoodReadings.{both_tests}
+use Rattle.sym_model.proofs.Integers.{nested_tests}
 
--- the words of b letters from 1 to n that are weakly increasing from x on
+-- the weakly increasing words of b letters from 1 to n whose letters are at least x
 abbrev pub rising_words : ℕ → ℕ → ℕ → List (List ℕ)
 rising_words n x zero = [] ∷ []
 rising_words n x (suc b) = flat_map (λ y. cond (nat_le x y) (map (λ w. y ∷ w) (rising_words n y b)) []) (after 0 n)
 
--- each letter of the word is one from 1 to n
+-- each letter of the word is from 1 to n
 abbrev pub AreLetters : ℕ → List ℕ → Type 0
 AreLetters n [] = Unit {0}
 AreLetters n (a ∷ w) = (0 < a) × (a ≤ n) × AreLetters n w
@@ -25,7 +26,7 @@ AreLetters n (a ∷ w) = (0 < a) × (a ≤ n) × AreLetters n w
 abbrev pub raised_by : ℕ → List ℕ → List ℕ
 raised_by n w = map (λ j. n + j) w
 
--- ---- weakly increasing words among all words
+-- ---- sums over the weakly increasing words, and over all words
 
 pub total_rising : (n x b : ℕ) (f : List ℕ → ℤ) → total f (rising_words n x (suc b)) ≡ total (λ y. cond (nat_le x y) (total (λ w. f (y ∷ w)) (rising_words n y b)) (pos 0)) (after 0 n)
 total_rising n x b f =
@@ -39,7 +40,7 @@ rising_of_words n x (suc b) f =
     total_each (λ w. cond (row_rises (x ∷ w)) (f w) (pos 0)) (λ y. map (λ w. y ∷ w) (words n b)) (after 0 n)
     ∙ total_ext (λ y. total (λ w. cond (row_rises (x ∷ w)) (f w) (pos 0)) (map (λ w. y ∷ w) (words n b))) (λ y. cond (nat_le x y) (total (λ w. f (y ∷ w)) (rising_words n y b)) (pos 0))
     (λ y. total_map (λ w. cond (row_rises (x ∷ w)) (f w) (pos 0)) (λ w. y ∷ w) (words n b)
-    ∙ total_ext (λ w. cond (nat_le x y && row_rises (y ∷ w)) (f (y ∷ w)) (pos 0)) (λ w. cond (nat_le x y) (cond (row_rises (y ∷ w)) (f (y ∷ w)) (pos 0)) (pos 0)) (λ w. sym (both_tests (nat_le x y) (row_rises (y ∷ w)) (f (y ∷ w)))) (words n b)
+    ∙ total_ext (λ w. cond (nat_le x y && row_rises (y ∷ w)) (f (y ∷ w)) (pos 0)) (λ w. cond (nat_le x y) (cond (row_rises (y ∷ w)) (f (y ∷ w)) (pos 0)) (pos 0)) (λ w. sym (nested_tests (nat_le x y) (row_rises (y ∷ w)) (f (y ∷ w)))) (words n b)
     ∙ total_cond (nat_le x y) (λ w. cond (row_rises (y ∷ w)) (f (y ∷ w)) (pos 0)) (words n b)
     ∙ ap (λ z. cond (nat_le x y) z (pos 0)) (rising_of_words n y b (λ w. f (y ∷ w)))) (after 0 n)
     ∙ sym (total_rising n x b f)
@@ -52,7 +53,7 @@ total_rising_words n b f =
     from_zero [] = refl
     from_zero (a ∷ w) = sym (ap (λ t. t && row_rises (a ∷ w)) (le-leb 0 a (omega arith)))
 
--- w is a word of b letters from 1 to n
+-- w is a word of b letters, each from 1 to n
 pub record IsWord (n b : ℕ) (w : List ℕ) : Type 0 where
   pub letters : AreLetters n w
   pub long : length w ≡ b
@@ -72,7 +73,7 @@ rising-tells n x (suc b) w m =
         let high : y ≤ n = let h = r.1 in omega arith in
         subst (λ u. IsWord n (suc b) u) (sym v.2) (record { letters = (r.0, high, i.letters); long = ap suc i.long })
 
--- ---- words in letters greater than n
+-- ---- the letters n + 1, .., n + k, and words in these letters
 
 pub after_shift : (n a k : ℕ) → after (n + a) k ≡ map (λ j. n + j) (after a k)
 after_shift n a zero = refl
@@ -92,7 +93,8 @@ raise-le n x j = by (cases_lt j x)
     by (inl l) = lt-leb (n + x) (n + j) (omega arith) ∙ sym (lt-leb x j l)
     by (inr l) = le-leb (n + x) (n + j) (omega arith) ∙ sym (le-leb x j l)
 
--- a sum over the weakly increasing words in letters n + 1, .., n + k is that over the words in letters 1, .., k, with each letter raised by n
+-- if x > 0, the sum of g over the weakly increasing words of b letters from n + x to n + k is the sum of g(w with each letter raised by n) over those
+-- of b letters from x to k
 rising_after : (n k b x : ℕ) (g : List ℕ → ℤ) → 0 < x → total g (rising_words (n + k) (n + x) b) ≡ total (λ w. g (raised_by n w)) (rising_words k x b)
 rising_after n k zero x g h = refl
 rising_after n k (suc b) x g h =
@@ -107,7 +109,7 @@ rising_after n k (suc b) x g h =
     ∙ +ℤ_idl (total (λ j. cond (nat_le x j) (total (λ w. g (raised_by n (j ∷ w))) (rising_words k j b)) (pos 0)) (after 0 k))
     ∙ sym (total_rising k x b (λ w. g (raised_by n w)))
 
--- ---- sums over words that are cut at the letter n
+-- ---- sums over 1, .., a + 1; sums over weakly increasing words, split into their letters up to n and their greater letters
 
 total_next : (a : ℕ) (g : ℕ → ℤ) → total g (after 0 (suc a)) ≡ total (λ b. g (suc b)) (up_to a)
 total_next a g =
@@ -115,7 +117,7 @@ total_next a g =
     (ap (total g) (ap (λ i. after i a) (let e : 0 + 1 ≡ 1 + 0 = omega arith in e) ∙ after_shift 1 0 a)
     ∙ total_map g (λ j. 1 + j) (after 0 a) ∙ total_ext (λ j. g (1 + j)) (λ j. g (suc j)) (λ j. ap g (let e : 1 + j ≡ suc j = omega arith in e)) (after 0 a))
 
--- the sum of f over the words made of v and, after it, a weakly increasing word of m letters from n + 1 to n + k
+-- the sum of f over the words that are v followed by a weakly increasing word of m letters from n + 1 to n + k
 abbrev pub cut_sum : ℕ → ℕ → (List ℕ → ℤ) → ℕ → List ℕ → ℤ
 cut_sum n k f m v = total (λ w. f (v ++ raised_by n w)) (rising_words k 0 m)
 
@@ -157,7 +159,7 @@ total_cut_words n k (suc a) x f h =
         (λ b. ap (λ i. total (cut_sum n k f i) (rising_words n x (suc b))) (let e : a - b ≡ suc a - suc b = omega arith in e)) (up_to a)
         ∙ sym (total_next a (λ b. total (cut_sum n k f (suc a - b)) (rising_words n x b)))
 
--- if g is summed over the numbers b ≤ a with b ≤ c only, the sum is that up to min(a, c)
+-- the sum of g over the numbers b ≤ a with b ≤ c is the sum of g over the numbers up to min(a, c)
 pub total_up_to : (a c : ℕ) (g : ℕ → ℤ) → total (λ b. cond (nat_le b c) (g b) (pos 0)) (up_to a) ≡ total g (up_to (min a c))
 total_up_to a c g = ap₂ ◌+ℤ◌ (ap (λ t. cond t (g 0) (pos 0)) (le-leb 0 c (omega arith))) (ap (λ i. total (λ b. cond (nat_le b i) (g b) (pos 0)) (after 0 a)) (let e : c ≡ 0 + c = omega arith in e) ∙ from 0 a c)
   where

@@ -1,8 +1,8 @@
--- Lists of Kostka numbers, and their bounds.
+-- Lists of terms in m with Kostka numbers as coefficients, and bounds of Kostka numbers.
 --     list-schur            a list in m whose coefficients are the Kostka numbers of λ is s_λ
---     kostka-other_size     a Kostka number is 0 if the content has another size
---     kostka-not_negative, -within     bounds of Kostka numbers
---     kostka-ones           there is a standard tableau of each shape
+--     kostka-other_size     a Kostka number is 0 if the content does not have the size of the shape
+--     kostka-not_negative, -within     a Kostka number is not negative, and is at most d^d for the size d of the shape, or 1 if d = 0
+--     kostka-ones           each shape has at least one standard tableau
 use Rattle.std.proofs.Common.{◌≡◌, ℕ, zero, suc, ◌+◌, ◌-◌, ◌*◌, ◌≤◌, eqb, min, List, [], ◌∷◌, ◌++◌, map, length, replicate, length-append, sym, ◌∙◌, ap, subst, refl, inl, inr, arith, ℤ, pos}
 use Rattle.std.specs.Prelude.{◌≤ℤ◌, nat_abs}
 use Rattle.std.proofs.lemmas.Bool.{eq-eqb, cond-true}
@@ -33,7 +33,7 @@ use Rattle.schur_laws.proofs.KostkaNumbers.{Among-below, partition_tail, strips_
 
 -- ---- the coefficients of s_λ depend only on the sorted exponents
 
--- the coefficient of x^α in s_λ is that at α sorted, without its zeros, so it depends neither on the order of the exponents nor on zeros
+-- let κ, with r parts, be α sorted and without its zeros: the coefficient of x^α in s_λ in n variables is that of x^κ in s_λ in r variables
 coefficient-schur_sorted : (n : ℕ) (parts α : List ℕ) → IsPartition parts → length α ≡ n
     → coefficient (schur parts n) α ≡ coefficient (schur parts (length (sorted_parts α))) (sorted_parts α)
 coefficient-schur_sorted n parts α p long =
@@ -56,7 +56,7 @@ list-schur parts terms p h n =
     ∙ coefficient-kostka parts (sorted_parts α) p
     ∙ sym (coefficient-schur_sorted n parts α p long))
 
--- ---- bounds of Kostka numbers
+-- ---- Kostka numbers are 0 for contents of another size, are not negative, and are at most d^d (`growth` of m at d) for the size d of the shape
 
 pub kostka-other_size : (parts content : List ℕ) → IsPartition parts → (size content ≡ size parts → ⊥) → kostka parts content ≡ pos 0
 kostka-other_size [] [] p h = absurd (h refl)
@@ -85,7 +85,7 @@ kostka-within parts content p =
 
 -- ---- each shape has a standard tableau
 
--- for each k up to the number of columns of a partition, a horizontal strip of k cells can be removed
+-- if k is at most the number of columns of a partition, some horizontal strip of k cells can be removed from it
 pub some_strip : (k : ℕ) (parts : List ℕ) → k ≤ part parts 1 → IsPartition parts → (rest : List ℕ) × Among rest (strips_off k parts)
 some_strip zero [] h p = ([], inl refl)
 some_strip (suc k) [] h p = absurd (omega arith)

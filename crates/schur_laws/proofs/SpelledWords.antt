@@ -1,4 +1,4 @@
--- The weakly increasing word with a given number of each letter.
+-- The weakly increasing word in which each letter occurs a given number of times.
 use Rattle.std.proofs.Common.{◌≡◌, ℕ, zero, suc, ◌+◌, ◌<◌, ◌≤◌, ◌==◌, true, cond, List, [], ◌∷◌, ◌++◌, replicate, get_or, nat_le, sym, ◌∙◌, ap, refl, arith}
 use Rattle.std.proofs.lemmas.Bool.Decides.{nat_tests}
 use Rattle.std.proofs.lemmas.Bool.{and_from, le-leb}
@@ -8,7 +8,7 @@ use Rattle.sym_model.proofs.Contents.{times_in-append}
 use Rattle.tableau_laws.specs.Grid.{is_chain}
 use Rattle.schur_laws.proofs.RisingRows.{Rises, rises_rest}
 
--- the letters a, a + 1, .., each as often as the list says
+-- the word that has the letters a, a + 1, .., in this order, each as often as the list `counts` says
 abbrev pub spelled : ℕ → List ℕ → List ℕ
 spelled a [] = []
 spelled a (k ∷ counts) = replicate k a ++ spelled (suc a) counts

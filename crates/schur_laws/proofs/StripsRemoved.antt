@@ -1,8 +1,8 @@
--- The cells with the greatest letter of a semistandard tableau are a horizontal strip, and what is left is a semistandard
--- tableau with fewer letters.
---     removals            all shapes that removing a horizontal strip leaves, with empty rows kept, and the number of its cells
---     ended_content       the content of a row with the greatest letter at its end
---     over_rows-greatest  sums over tableaux with one more letter
+-- The cells of a semistandard tableau that have the greatest letter form a horizontal strip; without them it is a semistandard tableau
+-- with fewer letters.
+--     removals            the shapes that remain if a horizontal strip is removed, with empty rows kept, each with the number of cells of the strip
+--     ended_content       the content of a row that is followed by letters n + 1
+--     over_rows-greatest  sums over the tableaux with letters up to n + 1, as sums over tableaux with letters up to n
 use Rattle.std.proofs.Common.{◌≡◌, ℕ, zero, suc, ◌+◌, ◌-◌, ◌<◌, ◌≤◌, Bool, true, false, cond, ◌&&◌, List, [], ◌∷◌, ◌++◌, map, length, replicate, nat_le, nat_lt, sym, ◌∙◌, ap, ap₂, refl, arith, ℤ, pos, ◌+ℤ◌, append-nil, flat_map}
 use Rattle.std.proofs.lemmas.Bool.{le-leb, lt-leb, lt-ltb, ne_eqb, eq-eqb, leb-true, le-ltb}
 use Rattle.std.proofs.lemmas.List.{map-append, length-replicate}
@@ -18,14 +18,16 @@ use Rattle.sym_model.proofs.AfterLists.{after_among}
 use Rattle.sym_model.proofs.Contents.{times_in-append}
 use Rattle.sym_model.proofs.Lists.{map-among}
 use Rattle.alternant_laws.proofs.Exchanges.{length_content}
-use Rattle.schur_laws.proofs.GreatestLetters.{over_rising, rising-ext, rising-greatest, ended, AreLetters, after_zero-last, total_down_from-ext, total_down_from-cut, nothing_either}
+use Rattle.schur_laws.proofs.GreatestLetters.{over_rising, rising-ext, rising-greatest, ended, AreLetters, after_zero-last, total_down_from-ext, total_down_from-cut}
 use Rattle.schur_laws.proofs.TableauRows.{over_rows, over_rows-ext, over_rows-no_row_above}
 use Rattle.sym_model.specs.Bounded.{AreAtMost}
 use lib.IntN.{+ℤ_idr}
-use Rattle.tableau_laws.proofs.PaddedTableaux.{columns_rise-nothing}
 use Rattle.sym_model.proofs.Restrictions.{and_middle}
+use Rattle.sym_model.proofs.Integers.{nothing_either}
+use Rattle.sym_model.proofs.Tableaux.{columns_rise-nothing}
 
--- the shapes that removing a horizontal strip leaves, with the number of its cells; empty rows are kept
+-- for each way to remove a horizontal strip of any size from a shape: the shape that remains, with empty rows kept, and the number of cells of the
+-- strip
 abbrev pub removals : List ℕ → List (List ℕ × ℕ)
 removals [] = ([], 0) ∷ []
 removals (a ∷ parts) =
@@ -35,9 +37,9 @@ pub letters_up_to : (n : ℕ) (w : List ℕ) → AreLetters n w → AreAtMost n 
 letters_up_to n [] h = tt
 letters_up_to n (a ∷ w) h = (h.0.1, letters_up_to n w h.1)
 
--- ---- the contents of rows that end with the greatest letter
+-- ---- the contents of rows that end with letters n + 1, the other letters being at most n
 
-times_in-higher : (n k : ℕ) (w : List ℕ) → AreLetters n w → n < k → times_in k w ≡ 0
+pub times_in-higher : (n k : ℕ) (w : List ℕ) → AreLetters n w → n < k → times_in k w ≡ 0
 times_in-higher n k [] h l = refl
 times_in-higher n k (a ∷ w) h l =
     let b = h.0.1 in
@@ -47,7 +49,7 @@ times_in-others : (k m i : ℕ) → (m ≡ k → ⊥) → times_in k (replicate 
 times_in-others k m zero h = refl
 times_in-others k m (suc i) h = ap (λ (t : Bool). cond {A = ℕ} t 1 0 + times_in k (replicate i m)) (ne_eqb m k h) ∙ omega (arith, times_in-others k m i h)
 
-times_in-itself : (m i : ℕ) → times_in m (replicate i m) ≡ i
+pub times_in-itself : (m i : ℕ) → times_in m (replicate i m) ≡ i
 times_in-itself m zero = refl
 times_in-itself m (suc i) = ap (λ (t : Bool). cond {A = ℕ} t 1 0 + times_in m (replicate i m)) (eq-eqb m m refl) ∙ omega (arith, times_in-itself m i)
 
@@ -72,10 +74,10 @@ join-last [] (c ∷ γ) i j e = absurd (omega arith)
 join-last (b ∷ β) [] i j e = absurd (omega arith)
 join-last (b ∷ β) (c ∷ γ) i j e = ap (λ l. (b + c) ∷ l) (join-last β γ i j (omega arith))
 
--- ---- columns of rows that end with the greatest letter
+-- ---- the columns of two rows that end with letters n + 1, the other letters being at most n
 
--- if the rows `upper` and v are followed by c and i letters n + 1, v fits below `upper` if and only if it does so without these letters, and length v
--- + i is at most the length of `upper`
+-- let `upper` be followed by c letters n + 1, and v, in the row below, by i letters n + 1, so that the lower row is not longer. The columns of these
+-- two rows are strictly increasing if and only if those of `upper` and v are, and length v + i ≤ length upper
 columns_rise-ended : (n c i : ℕ) (upper v : List ℕ) → AreAtMost n upper → AreLetters n v → length v + i ≤ length upper + c
     → columns_rise (ended n c upper) (ended n i v) ≡ (nat_le (length v + i) (length upper) && columns_rise upper v)
 columns_rise-ended n zero zero [] [] u h l = refl
@@ -100,7 +102,7 @@ columns_rise-ended n c i (a ∷ upper) (b ∷ v) u h l =
     ∙ and_middle (nat_lt a b) (nat_le (length v + i) (length upper)) (columns_rise upper v)
     ∙ ap (λ t. t && (nat_lt a b && columns_rise upper v)) (tests_agree (nat_le (length v + i) (length upper)) (nat_le (suc (length v) + i) (suc (length upper))) (λ e. le-leb (suc (length v) + i) (suc (length upper)) (let m = leb-true (length v + i) (length upper) e in omega arith)) (λ e. le-leb (length v + i) (length upper) (let m = leb-true (suc (length v) + i) (suc (length upper)) e in omega arith)))
 
--- ---- sums over weakly increasing rows
+-- ---- sums over weakly increasing rows: a condition that does not depend on the row, or another sum, is moved out
 
 rising-under : (n k : ℕ) (b : Bool) (f : List ℕ → ℤ) → over_rising n k (λ v. cond b (f v) (pos 0)) ≡ cond b (over_rising n k f) (pos 0)
 rising-under n k true f = refl
@@ -118,18 +120,22 @@ four true true s f xs = refl
 four true false s f xs = sym (ap (λ z. cond s z (pos 0)) (total_zero xs) ∙ nothing_either s)
 four false q s f xs = refl
 
--- ---- tableaux with their greatest letter removed
+-- ---- sums over tableaux with letters up to n + 1, by the tableau without the letters n + 1
 
--- the sum over the tableaux of a shape with letters up to n + 1 is the sum, over the removals of a horizontal strip from it, of that over the
--- tableaux of what is left, with letters up to n
+-- for each row `upper` of letters up to n, and each c: the sum of φ(content) over the tableaux of the shape `parts` with letters up to n + 1 that can
+-- be below the row of `upper` and c letters n + 1 is a double sum, over the ways to remove a horizontal strip from `parts`, and over the tableaux of
+-- the shape that remains with letters up to n that can be below `upper`, of φ(content, cells of the strip); it is 0 if the first row of `parts` is
+-- longer than `upper`
 abbrev LosesGreatest : ℕ → List ℕ → Type 0
 LosesGreatest n parts =
     (c : ℕ) (upper : List ℕ) (φ : List ℕ → ℤ) → AreAtMost n upper → Falls parts → part parts 1 ≤ length upper + c
     → over_rows (suc n) (ended n c upper) parts φ
     ≡ cond (nat_le (part parts 1) (length upper)) (total (λ (r : List ℕ × ℕ). over_rows n upper r.0 (λ γ. φ (γ ++ (r.1 ∷ [])))) (removals parts)) (pos 0)
 
--- if the first row is v followed by i letters n + 1, the sum over the rows below it is a sum over the removals of a strip from these rows, with v
--- above them
+-- let `LosesGreatest` hold of `parts`. The sum over the tableaux whose first row is v followed by i letters n + 1, of length a, and whose other rows
+-- have the shape `parts`, and which can be below the row of `upper` and c letters n + 1, is a double sum: over the ways to remove a horizontal strip
+-- from `parts`, and over the tableaux of the shape that remains that can be below v. It is 0 if a exceeds the length of `upper`, or the first part of
+-- `parts` that of v
 row_ended : (n c i a : ℕ) (upper v parts : List ℕ) (φ : List ℕ → ℤ) → LosesGreatest n parts → AreAtMost n upper → Falls (a ∷ parts) → a ≤ length upper + c → i ≤ a
     → length v ≡ a - i → AreLetters n v
     → cond (columns_rise (ended n c upper) (ended n i v)) (over_rows (suc n) (ended n i v) parts (λ γ. φ (join (content (suc n) (ended n i v)) γ))) (pos 0)
@@ -147,7 +153,7 @@ row_ended n c i a upper v parts φ rec u f l h e m =
     (removals parts)))
     ∙ four (nat_le a (length upper)) (columns_rise upper v) (nat_le (part parts 1) (a - i)) (λ (r : List ℕ × ℕ). over_rows n v r.0 (λ γ. φ (join (content n v) γ ++ ((i + r.1) ∷ [])))) (removals parts)
 
--- if g(i) is summed over the i ≤ a for which p ≤ a - i, the sum is that over i ≤ a - p
+-- if p ≤ a, the sum of g(i) over the numbers i ≤ a with p ≤ a - i is the sum over the numbers i ≤ a - p
 total_greatest : (a p : ℕ) (g : ℕ → ℤ) → p ≤ a → total (λ (i : ℕ). cond (nat_le p (a - i)) (g i) (pos 0)) (down_from a) ≡ total g (down_from (a - p))
 total_greatest a p g h =
     ap (λ d. total f (down_from d)) (let e : a ≡ p + (a - p) = omega arith in e)

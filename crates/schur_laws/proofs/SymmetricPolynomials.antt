@@ -1,5 +1,5 @@
 -- Polynomials that are symmetric.
---     symmetric-monomials             a sum of the monomials that pass a test which no exchange changes
+--     symmetric-monomials                         the sum of the monomials that pass a test, if exchanges of neighbours do not change the test
 --     symmetric-plus, -scale, -negate, -times     sums, multiples, negatives and products of symmetric polynomials
 use Rattle.std.proofs.Common.{◌≡◌, ℕ, zero, suc, ◌==◌, Bool, false, ◌&&◌, cond, eqb, nat_le, ℤ, pos, neg_ℤ, ◌+ℤ◌, ◌*ℤ◌, List, [], ◌∷◌, ◌++◌, length, replicate, refl, sym, ◌∙◌, ap, ap₂}
 use Rattle.sym_model.specs.Polynomial.{Poly, same, coefficient, In, one, plus, scale, negate, times, join, pair}
@@ -15,7 +15,7 @@ use Rattle.alternant_laws.proofs.Symmetry.{pair_exchanged}
 use Rattle.alternant_laws.proofs.StraightenedMonomials.{sorted-exchange}
 use Rattle.std.proofs.lemmas.Bool.{and_right}
 
--- if two neighbours of a list are exchanged, the result of the test is the same
+-- the result of the test does not change if two neighbouring entries of the list are exchanged
 abbrev pub SeesNoExchange : (List ℕ → Bool) → Type 0
 SeesNoExchange test = (left : List ℕ) (a b : ℕ) (right : List ℕ) → test (left ++ (a ∷ b ∷ right)) ≡ test (left ++ (b ∷ a ∷ right))
 
@@ -52,7 +52,7 @@ pub symmetric-negate : (f : Poly) → Symmetric f → Symmetric (negate f)
 symmetric-negate f s left a b right =
     coefficient_negate f (left ++ (a ∷ b ∷ right)) ∙ ap neg_ℤ (s left a b right) ∙ sym (coefficient_negate f (left ++ (b ∷ a ∷ right)))
 
--- if f and g are symmetric, the coefficient of f·g at γ is that at γ with neighbours exchanged
+-- if f and g are symmetric, the coefficient of f·g at γ is that at γ with the entries at the places k and k + 1 exchanged
 times-exchanged : (n k : ℕ) (f g : Poly) (γ : List ℕ) → In n f → In n g → Symmetric f → Symmetric g
     → coefficient (times f g) (exchanged k γ) ≡ coefficient (times f g) γ
 times-exchanged n k f g γ i j s t =

@@ -1,4 +1,4 @@
--- Good tableaux by their padded rows, row by row.
+-- Good tableaux, described row by row by the letters of their padded rows.
 use Rattle.std.proofs.Common.{◌≡◌, ℕ, zero, suc, ◌+◌, ◌-◌, ◌<◌, ◌≤◌, ◌⊎◌, ◌==◌, true, cond, ◌&&◌, List, [], ◌∷◌, length, replicate, drop, get_or, nat_le, sym, ◌∙◌, ap, subst, refl, inl, inr, arith}
 use Rattle.std.proofs.lemmas.Bool.Decides.{nat_tests}
 use Rattle.std.proofs.lemmas.Bool.{cases_lt, and_parts, and_from, le-leb}
@@ -17,11 +17,11 @@ use Rattle.schur_laws.proofs.RisingRows.{Rises, rises_rest, none_up_to, few_time
 use Rattle.schur_laws.proofs.Interlacing.{add_up}
 use Rattle.tableau_laws.proofs.Contents.{times_in-put}
 
--- row r of the padded rows, counted from 0
+-- `row P r`: row r of the padded rows P, counted from 0; empty after the last row
 abbrev pub row : List (List ℕ) → ℕ → List ℕ
 row P r = get_or P r []
 
--- ---- the letters of a padded row
+-- ---- the numbers of zeros and of letters in a padded row, none of whose letters is greater than n (`RowCounts`)
 
 pub record RowCounts (n b k : ℕ) (w : List ℕ) : Type 0 where
   pub zeros : times_in 0 w ≡ b
@@ -114,7 +114,7 @@ fit_all n (a ∷ outer) inner (w ∷ P) e h =
         let d : 1 + r ≡ suc r = omega arith in
         subst (λ b. Fits n (line_of b (get_or outer r 0 - b)) (row P r)) (sym (f ∙ ap (λ i. get_or inner i 0) d)) (h (suc r) (omega arith))
 
--- ---- the padded rows of a good tableau
+-- ---- the first of the padded rows; the tests of a tableau, as conditions on its padded rows
 
 first_row : (P : List (List ℕ)) → first_line P ≡ row P 0
 first_row [] = refl
@@ -140,7 +140,7 @@ grid_back (w ∷ P) h g =
     (and_from (pass_by_place may_stand_above w (first_line P)) (is_padded_tableau P)
     (subst (λ v. pass_by_place may_stand_above w v ≡ true) (sym (first_row P)) (g 0)) (grid_back P (λ r. h (suc r)) (λ r. g (suc r))))
 
--- start plus the contents of the columns of a good tableau right of a given one
+-- ---- the letters in the columns after the first j + 1 of a list of padded rows; start plus the content of these columns
 
 drop_put : (k j : ℕ) (w : List ℕ) (cs : List (List ℕ))
     → times_in k (letters_of (drop (suc j) (put_row w cs))) ≡ times_in k (drop (suc j) w) + times_in k (letters_of (drop (suc j) cs))
@@ -150,7 +150,7 @@ drop_put k (suc j) (x ∷ w) [] = drop_put k j w []
 drop_put k zero (x ∷ w) (c ∷ cs) = times_in-put k w cs
 drop_put k (suc j) (x ∷ w) (c ∷ cs) = drop_put k j w cs
 
-add_up-later : (f : ℕ → ℕ) (a k : ℕ) → add_up f (suc a) k ≡ add_up (λ r. f (suc r)) a k
+pub add_up-later : (f : ℕ → ℕ) (a k : ℕ) → add_up f (suc a) k ≡ add_up (λ r. f (suc r)) a k
 add_up-later f a zero = refl
 add_up-later f a (suc k) = ap (λ n. f (suc a) + n) (add_up-later f (suc a) k)
 

@@ -1,9 +1,9 @@
 -- Sums over the semistandard tableaux of a straight shape, row by row from the first on.
---     over_rows               the sum of φ of the contents, over tableaux with a row above the first one
---     pair-schur_rows         the pairing of φ with a Schur polynomial is `over_rows` of φ without a row above
---     over_rows-ext           only the values of φ at lists of n numbers matter
---     over_rows-zeros         empty rows at the end add nothing
---     over_rows-no_row_above  a row of zeros above changes nothing
+--     over_rows               the sum of φ(content) over the tableaux that can be directly below a row `upper`
+--     pair-schur_rows         the pairing of φ with a Schur polynomial is `over_rows` of φ with an empty row `upper`
+--     over_rows-ext           the sum depends only on the values of φ at lists of n numbers
+--     over_rows-zeros         empty rows at the end of the shape do not change the sum
+--     over_rows-no_row_above  a row of zeros as `upper` gives the same sum as an empty row
 use Rattle.std.proofs.Common.{◌≡◌, ℕ, zero, suc, Bool, true, false, cond, ◌&&◌, List, [], ◌∷◌, ◌++◌, map, length, replicate, nat_lt, sym, ◌∙◌, ap, ap₂, refl, ℤ, pos}
 use Rattle.std.proofs.lemmas.Bool.{lt-ltb, and_from}
 use Rattle.std.proofs.Math.Bool.{and-true, and_assoc}
@@ -13,29 +13,29 @@ use Rattle.sym_model.specs.Polynomial.{pair, join}
 use Rattle.sym_model.specs.Schur.{words, row_lengths, fillings_of, row_rises, columns_rise, semistandard, letters_of, content, schur}
 use Rattle.sym_model.proofs.Sums.{total_ext, total_select, total_map, total_each}
 use Rattle.sym_model.proofs.Exponents.{length-join_same}
-use Rattle.sym_model.proofs.Tableaux.{row_lengths-none}
+use Rattle.sym_model.proofs.Tableaux.{row_lengths-none, columns_rise-nothing}
 use Rattle.tableau_laws.specs.Grid.{first_line}
 use Rattle.tableau_laws.proofs.Contents.{content-append}
 use Rattle.tableau_laws.proofs.ColumnSums.{total_under}
 use Rattle.tableau_laws.proofs.FewerLetters.{pair-skew_schur}
-use Rattle.tableau_laws.proofs.PaddedTableaux.{columns_rise-nothing}
 use Rattle.alternant_laws.proofs.Exchanges.{length_content}
 use Rattle.schur_laws.proofs.GreatestLetters.{over_rising, rising-ext, rising-none, AreLetters}
 use lib.IntN.{+ℤ_idr}
 
--- the sum of φ at the contents of the semistandard tableaux with rows of these lengths and letters up to n that fit below the row `upper`
+-- the sum of φ(content) over the semistandard tableaux with letters up to n that have rows of the lengths `parts` and can be directly below the row
+-- `upper`
 abbrev pub over_rows : ℕ → List ℕ → List ℕ → (List ℕ → ℤ) → ℤ
 over_rows n upper [] φ = φ (content n [])
 over_rows n upper (a ∷ parts) φ =
     over_rising n a (λ v. cond (columns_rise upper v) (over_rows n v parts (λ γ. φ (join (content n v) γ))) (pos 0))
 
--- ---- the pairing with a Schur polynomial is a sum over rows
+-- ---- the test `semistandard` by the first row and the other rows; the pairing of φ with a Schur polynomial is a sum over rows
 
 semistandard-front : (row : List ℕ) (rows : List (List ℕ)) → semistandard [] (row ∷ rows) ≡ (row_rises row && (columns_rise row (first_line rows) && semistandard [] rows))
 semistandard-front row [] = sym (ap (λ b. row_rises row && (b && true)) (columns_rise-nothing row) ∙ and-true (row_rises row))
 semistandard-front row (lower ∷ rows) = and_assoc (row_rises row) (columns_rise row lower) (semistandard [] (lower ∷ rows))
 
--- whether the rows are a semistandard tableau that fits below the row `upper`
+-- whether the rows are a semistandard tableau, and the first row can be directly below the row `upper`
 abbrev stands_below : List ℕ → List (List ℕ) → Bool
 stands_below upper rows = columns_rise upper (first_line rows) && semistandard [] rows
 
@@ -75,9 +75,9 @@ pair-schur_rows n parts φ =
     ∙ ap (λ l. total (λ (rows : List (List ℕ)). cond (semistandard [] rows) (φ (content n (letters_of rows))) (pos 0)) (fillings_of n l)) (row_lengths-none parts)
     ∙ total_below n [] parts φ
 
--- ---- changes of φ, of the rows and of the row above that do not change the sum
+-- ---- sums over rows with another function φ, with empty rows, and with a row of zeros above
 
--- if φ and ψ agree at lists of n numbers, their sums over rows are equal
+-- if φ and ψ agree at all lists of n numbers, `over_rows` has the same value for φ and ψ
 pub over_rows-ext : (n : ℕ) (upper parts : List ℕ) (φ ψ : List ℕ → ℤ) → ((γ : List ℕ) → length γ ≡ n → φ γ ≡ ψ γ) → over_rows n upper parts φ ≡ over_rows n upper parts ψ
 over_rows-ext n upper [] φ ψ h = h (content n []) (length_content n [])
 over_rows-ext n upper (a ∷ parts) φ ψ h =
@@ -86,7 +86,7 @@ over_rows-ext n upper (a ∷ parts) φ ψ h =
     (over_rows-ext n v parts (λ γ. φ (join (content n v) γ)) (λ γ. ψ (join (content n v) γ))
     (λ γ k. h (join (content n v) γ) (length-join_same n (content n v) γ (length_content n v) k))))
 
--- the sum over the tableaux of one empty row below `upper` is φ at the content of the empty word
+-- for one row of length 0 below `upper`, the sum has one term, φ at the content of the empty word
 one_empty_row : (n : ℕ) (upper : List ℕ) (φ : List ℕ → ℤ) → over_rows n upper (0 ∷ []) φ ≡ φ (content n [])
 one_empty_row n upper φ =
     rising-none n (λ v. cond (columns_rise upper v) (φ (join (content n v) (content n []))) (pos 0))
@@ -105,7 +105,7 @@ over_rows-zeros n upper (a ∷ parts) φ =
     ∙ rising-ext n a _ _
     (λ v l m. ap (λ z. cond (columns_rise upper v) z (pos 0)) (over_rows-zeros n v parts (λ γ. φ (join (content n v) γ))))
 
--- if the letters of v are positive, v fits below a row of zeros
+-- if the letters of v are from 1 to n, each letter of v is greater than the 0 above it in a row of zeros
 zeros_above : (n m : ℕ) (v : List ℕ) → AreLetters n v → columns_rise (replicate m 0) v ≡ true
 zeros_above n zero v h = refl
 zeros_above n (suc m) [] h = refl

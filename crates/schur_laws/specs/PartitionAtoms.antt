@@ -1,4 +1,4 @@
--- Expressions whose atoms have partitions as labels.
+-- Expressions in which the label of each atom is a partition.
 use Rattle.sym_model.specs.Partition.{IsPartition}
 use Rattle.sym_model.specs.Expression.{Tree, number, fraction, atom, negation, sum, difference}
 use Rattle.sym_model.specs.Expression.{product}

@@ -1,5 +1,5 @@
-//! Symmetric polynomials in every number of variables at once, and the number of variables that
-//! determines them.
+//! Families of symmetric polynomials, one for each number of variables, and the number of variables
+//! that determines such a family.
 
 ghost use Rattle.std.specs.Prelude.{ℕ, ◌≤◌, List};
 ghost use Rattle.sym_model.specs.Polynomial.{Poly, Same};
@@ -10,11 +10,12 @@ ghost use Rattle.sym_model.specs.WholeTerms.{HaveLabels, numerators};
 ghost use Rattle.schur_laws.specs.SymmetricFamily.{IsSymmetricFamily, HasDegreeAtMost};
 ghost use Rattle.schur_laws.specs.PartitionAtoms.{HasPartitions};
 
-/// Two families of symmetric polynomials of degree at most d, one polynomial for each number of
-/// variables, that agree in d variables agree in every number of variables (Macdonald, I.2): a
-/// monomial of degree at most d has at most d variables, and by symmetry these may be the first d.
-/// So a list of terms that expands an expression in d variables expands it in every number, if d is
-/// at least the degree of the expression and the size of each label.
+/// If two families of symmetric polynomials (one polynomial for each number of variables) have a
+/// degree of at most d and agree in d variables, they agree in every number of variables
+/// (Macdonald, I.2): a monomial of degree at most d has at most d variables, and by symmetry these
+/// may be the first d. So a list of terms that expands an expression in d variables expands the
+/// expression in every number of variables, if all labels are partitions, and d is at least the
+/// degree of the expression and the size of each label of the list.
 pub fn degree_law()
     ensures agrees { (d : ℕ) (f g : ℕ → Poly) → IsSymmetricFamily f → IsSymmetricFamily g
         → ((n : ℕ) → HasDegreeAtMost d (f n)) → ((n : ℕ) → HasDegreeAtMost d (g n))

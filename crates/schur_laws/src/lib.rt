@@ -1,19 +1,21 @@
-//! Laws of Schur polynomials: in the monomial basis, in two sets of variables, their products as
-//! counts of skew shapes, and the number of variables that determines a symmetric polynomial.
+//! Laws of Schur polynomials: their coefficients in the monomial basis, their expansion in two sets
+//! of variables, and the coefficients of their products as numbers of tableaux of skew shapes. One
+//! more law gives a number of variables that determines a symmetric polynomial.
 //!
 //! A law function has an empty body: its contract is the law.
 //!
 //! What is proved:
 //!
-//! `schur_in_monomials_law`: Schur polynomials in m are lists of Kostka numbers, counted by
-//! horizontal strips, in every number of variables. `coproduct_law`: a Schur polynomial in two sets
-//! of variables, by cutting tableaux at an entry. `duality_law`: the number of good tableaux of λ/μ
-//! for the start σ with sum τ equals the number of good tableaux of τ/σ for the start μ with sum λ;
-//! so coefficients of products are counts of lattice tableaux of skew shapes, and the factors can
-//! be exchanged. `degree_law`: two families of symmetric polynomials of degree at most d, one for
-//! each number of variables, that agree in d variables agree in every number of variables; so a
-//! list that expands an expression in d variables expands it in every number, if d is at least the
-//! degree of the expression and the size of each label.
+//! `schur_in_monomials_law`: the coefficients of s_λ in the monomial basis are Kostka numbers,
+//! which count the ways to remove λ by horizontal strips; in every number of variables.
+//! `coproduct_law`: s_λ in two sets of variables, as the sum of s_μ in the first times s_(λ/μ) in
+//! the second. `duality_law`: the number of good tableaux T of λ/μ for the start σ with σ + ω(T) =
+//! τ equals the number of good tableaux U of τ/σ for the start μ with μ + ω(U) = λ, ω being the
+//! content; so coefficients of products are counts of lattice tableaux of skew shapes, and the
+//! factors can be exchanged. `degree_law`: if two families of symmetric polynomials of degree at
+//! most d agree in d variables, they agree in every number of variables; so a list that expands an
+//! expression in d variables expands it in every number of variables, if d is at least the degree
+//! of the expression and the size of each label.
 #![tactic(auto)]
 
 mod coproduct;

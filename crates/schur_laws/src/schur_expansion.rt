@@ -1,4 +1,5 @@
-//! Schur polynomials in the monomial basis, in every number of variables.
+//! Schur polynomials in the monomial basis: their coefficients are Kostka numbers, in every number
+//! of variables.
 
 ghost use Rattle.std.specs.Prelude.{◌≡◌, ℕ, ◌≤◌, ℤ, pos, nat_abs, List, [], ◌∷◌, length};
 ghost use Rattle.sym_model.specs.Partition.{IsPartition, size};
@@ -10,10 +11,11 @@ ghost use Rattle.sym_model.specs.WholeTerms.{WholeTerms};
 ghost use Rattle.monomial_laws.specs.ExpressionTerms.{IsList};
 ghost use Rattle.schur_laws.specs.Kostka.{kostka};
 
-/// A list in m with the Kostka numbers K(λ,κ) as the coefficients of the partitions κ is the Schur
-/// polynomial of λ, in every number of variables. K(λ,κ) is the number of semistandard tableaux of
-/// shape λ and content κ, also for a κ that is not decreasing; it counts the ways to remove λ by
-/// horizontal strips of κ₁, κ₂, .. cells. It is at most d^d for the size d of λ, or 1 if d = 0.
+/// A list of terms in m that has the Kostka number K(λ,κ) as its coefficient at each partition κ is
+/// s_λ, in every number of variables. K(λ,κ) is the number of ways to remove all cells of λ by
+/// horizontal strips of κ₁, κ₂, .. cells, one strip after another. It is the coefficient of x^κ in
+/// s_λ, that is, the number of semistandard tableaux of shape λ and content κ, also if κ is not
+/// decreasing. It is at most d^d for the size d of λ, or 1 if d = 0.
 ///
 /// Example: two tableaux of shape (2,1) have the content (1,1,1).
 pub fn schur_in_monomials_law()

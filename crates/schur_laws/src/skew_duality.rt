@@ -1,4 +1,4 @@
-//! The duality of good tableaux of two skew shapes.
+//! The duality of good tableaux of two skew shapes λ/μ and τ/σ.
 
 ghost use Rattle.std.specs.Prelude.{◌≡◌, ℕ, pos, true, false, List, []};
 ghost use Rattle.sym_model.specs.Partition.{IsPartition, rows};
@@ -7,16 +7,15 @@ ghost use Rattle.sym_model.specs.Schur.{contains};
 ghost use Rattle.sym_model.specs.GoodTableau.{product_count};
 ghost use Rattle.tableau_laws.specs.ColumnFold.{over_columns, column_lines, is_sum};
 
-/// A good tableau of a shape for a start has the sum τ if start plus its content is τ; it is good
-/// if, for each column, start plus the content of that column and of those right of it is a
-/// partition. For partitions σ inside τ and μ inside λ: the number of good tableaux of the shape
-/// λ/μ for the start σ with the sum τ equals the number of good tableaux of the shape τ/σ for the
-/// start μ with the sum λ. In corresponding tableaux the letter k occurs in row r of the first as
-/// often as r in row k of the second.
+/// A tableau T is good for a start if, for each column, start plus the content of that column and
+/// of the columns to its right is a partition. The sum of T is start plus the content of T. For
+/// partitions σ inside τ and μ inside λ: the number of good tableaux of the shape λ/μ for the start
+/// σ with the sum τ equals the number of good tableaux of the shape τ/σ for the start μ with the
+/// sum λ. (The proof pairs them: the number of letters k in row r of a tableau is the number of
+/// letters r in row k of its partner.)
 ///
-/// So a coefficient of the product of two Schur polynomials is a count of lattice tableaux of a
-/// skew shape, those of ν/λ with the content μ; it is 0 if λ is not inside ν; and the factors can
-/// be exchanged.
+/// So the coefficient of s_ν in s_λ·s_μ is the number of lattice tableaux of the shape ν/λ with the
+/// content μ; it is 0 if λ is not inside ν; and λ and μ can be exchanged.
 ///
 /// Example: s_(2,1) has the coefficient 2 in s_((3,2,1)/(2,1)), and s_(3,2,1) has the coefficient 2
 /// in the square of s_(2,1).

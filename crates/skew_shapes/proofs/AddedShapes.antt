@@ -1,6 +1,6 @@
 -- The rim hooks that can be added to a partition (specs/AddedHooks).
---     ending_none, ending_one, ending_next    the rim hooks for each last row, from the first row down
---     hooks_added                             the list has the rim hooks, in decreasing lexicographic order
+--     ending_none, ending_one, ending_next    the rim hooks with a given last row (none or one), followed by those with a later last row
+--     hooks_added                             `hooks_ending_after` with last = 0 lists all rim hooks, in decreasing lexicographic order
 use Rattle.std.proofs.Common.{◌≡◌, ◌⊎◌, ℕ, suc, ◌+◌, ◌-◌, ◌<◌, ◌≤◌, ◌==◌, max, nat_lt, nat_le, Bool, true, false, ◌||◌, cond, List, [], ◌∷◌, ◌++◌, map, refl, sym, ap, ◌∙◌, subst, inl, inr, arith, flat_map}
 use Rattle.std.proofs.lemmas.Bool.{cases_lt, cases_eq, and_parts, and_from, ltb-true, lt-ltb}
 use Rattle.std.proofs.lemmas.Bool.Decides.{nat_tests}
@@ -13,16 +13,16 @@ use Rattle.sym_model.specs.Strip.{IsRimHook, height}
 use Rattle.sym_model.proofs.AfterLists.{after_among, among_after, once_after}
 use Rattle.sym_model.proofs.SortedParts.{IsPartition-without_last_zeros}
 use Rattle.sym_model.proofs.Sums.{Among-each, Among_from_each}
-use Rattle.sym_model.proofs.Parts.{past_end}
 use Rattle.strip_laws.specs.HookRows.{IsHookRows}
-use Rattle.strip_laws.proofs.HookSizes.{hook_size}
+use Rattle.strip_laws.proofs.HookSizes.{hook_size, hook_ends}
 use Rattle.strip_laws.proofs.RimHooks.{hook_from_rows, hook_rows, height_of_rows}
 use Rattle.strip_laws.proofs.Strips.{falls_part, falls_far}
 use Rattle.skew_shapes.specs.HookLists.{AreHooksAdded}
 use Rattle.skew_shapes.specs.AddedHooks.{can_add, added_row, with_hook, hooks_ending, hooks_ending_after, BeginsFrom}
 use Rattle.skew_shapes.proofs.LoneShapes.{none_fits, one_fits, among_fitting, from_fitting, fall_after, fall_fitting, before_by_row, same_rows, rows_at, rows_fall}
+use Rattle.std.proofs.lemmas.List.{get_or_past}
 
--- ---- the test whether a rim hook in the rows first to last can be added
+-- ---- the test `can_add`: whether a rim hook of k cells in the rows first, .., last can be added to inner
 
 pub record CanAdd (k : ℕ) (inner : List ℕ) (first last : ℕ) : Type 0 where
   pub longer : part inner first + (last - first) < part inner last + k
@@ -56,7 +56,7 @@ can_add-from k inner first last c =
     by (inl e) = one (nat_le (part inner last + k) (part inner (first - 1) + (last - first))) e
     by (inr h) = at_most (part inner last + k) (part inner (first - 1) + (last - first)) h
 
--- a rim hook with a later last row does not begin earlier
+-- if rim hooks of k cells can be added to inner in the rows first, .., last and in the rows next, .., end with last ≤ end, then first ≤ next
 pub later_begins : (k : ℕ) (inner : List ℕ) (first last next end : ℕ) → Falls inner → 1 ≤ next → first ≤ last → next ≤ end → last ≤ end
     → CanAdd k inner first last → CanAdd k inner next end → first ≤ next
 later_begins k inner first last next end f h o p l c d = by (cases_lt next first) c.below
@@ -70,7 +70,7 @@ later_begins k inner first last next end f h o p l c d = by (cases_lt next first
         let z = d.longer in
         absurd (omega arith)
 
--- ---- the rim hooks whose last row is `last`
+-- ---- the list `hooks_ending` of the partitions made by adding a rim hook whose last row is `last`: it has at most one partition
 
 pub ending_none : (k : ℕ) (inner : List ℕ) (first last : ℕ) → Falls inner → BeginsFrom k inner first last → first ≤ last
     → (first < last → part inner first + last < part inner last + k + first) → can_add k inner first last ≡ false → hooks_ending k inner last ≡ []
@@ -118,7 +118,7 @@ begins_next k inner first last f b = record {
   passed = λ i l m. (let o = b.ordered in let p = falls_part inner f last (omega arith) in let q = b.passed i l m in omega arith);
 }
 
--- ---- the rows of the partition with the rim hook added
+-- ---- the lengths of the rows of inner with the rim hook added (`added_row`)
 
 outside_row : (k : ℕ) (inner : List ℕ) (first last i : ℕ) → (i < first) ⊎ (last < i) → added_row k inner first last i ≡ part inner i
 outside_row k inner first last i h = ap (λ (b : Bool). cond b (part inner i) (cond (i == first) (part inner last + k - (last - first)) (part inner (i - 1) + 1))) (by h)
@@ -145,7 +145,7 @@ later_row k inner first last i h l =
 chained_row : (k : ℕ) (inner : List ℕ) (first last i : ℕ) → first ≤ i → i < last → added_row k inner first last (i + 1) ≡ part inner i + 1
 chained_row k inner first last i h l = later_row k inner first last (i + 1) (omega arith) (omega arith) ∙ ap (λ j. part inner j + 1) (let e : i + 1 - 1 ≡ i = omega arith in e)
 
--- if a rim hook can be added, the last of its rows becomes longer
+-- if a rim hook can be added to inner in the rows first, .., last, row `last` becomes longer
 last_row : (k : ℕ) (inner : List ℕ) (first last : ℕ) → Falls inner → 1 ≤ first → first ≤ last → CanAdd k inner first last → part inner last < added_row k inner first last last
 last_row k inner first last f h o c = by (cases_lt first last)
   where
@@ -202,11 +202,11 @@ rows_falling k inner first last f h o c i l = by (cases_lt (i + 1) first) (cases
         let z = falls_part inner f i l in
         omega arith
 
--- row i of the partition with the rim hook has the length `added_row`
+-- row i of the partition `with_hook`, for i ≥ 1, has the length `added_row`
 pub hook_part : (k : ℕ) (inner : List ℕ) (first last i : ℕ) → 1 ≤ i → part (with_hook k inner first last) i ≡ added_row k inner first last i
 hook_part k inner first last i h =
     rows_at (added_row k inner first last) (max (rows inner) last) i h
-    (λ l. outside_row k inner first last i (inr (omega arith)) ∙ past_end inner (i - 1) (omega arith))
+    (λ l. outside_row k inner first last i (inr (omega arith)) ∙ get_or_past inner (i - 1) 0 (omega arith))
 
 pub hook_is : (k : ℕ) (inner : List ℕ) (first last : ℕ) → Falls inner → 1 ≤ first → first ≤ last → CanAdd k inner first last
     → IsHookRows (with_hook k inner first last) inner first last
@@ -239,7 +239,7 @@ hook_height k inner first last f h o t =
     let c = can_add-tells k inner first last t in
     sym (height_of_rows (with_hook k inner first last) inner first last (hook_partition k inner first last f h o c).falls (hook_is k inner first last f h o c))
 
--- ---- each rim hook that can be added is in the list
+-- ---- each partition ν such that ν/inner is a rim hook of k cells is in the list `hooks_ending_after` with last = 0
 
 record IsFound (k : ℕ) (inner ν : List ℕ) (first last : ℕ) : Type 0 where
   pub counts : 1 ≤ first
@@ -251,9 +251,6 @@ record IsFound (k : ℕ) (inner ν : List ℕ) (first last : ℕ) : Type 0 where
 found : (k : ℕ) (inner ν : List ℕ) (first last : ℕ) → Falls inner → IsPartition ν → size ν ≡ size inner + k → IsHookRows ν inner first last → IsFound k inner ν first last
 found k inner ν first last f p s h = record { counts = h.counts; ordered = h.ordered; within = within (cases_lt (rows inner) last) (cases_lt (rows inner + 1) first); fits = fits; is = is }
   where
-    start : part ν first + (last - first) ≡ part inner last + k
-    start = let e = hook_size ν inner first last h in omega arith
-
     more : part inner first < part ν first
     more = by (cases_lt first last)
       where
@@ -269,14 +266,14 @@ found k inner ν first last f p s h = record { counts = h.counts; ordered = h.or
 
     fits : CanAdd k inner first last
     fits = record {
-      longer = (let a = more in let b = start in omega arith);
-      below = elim (cases_lt 1 first) [ inl l ↦ inr (let a = above l in let b = start in omega arith) | inr l ↦ inl (let c = h.counts in omega arith) ];
+      longer = (let a = more in let b = hook_ends ν inner first last k h s in omega arith);
+      below = elim (cases_lt 1 first) [ inl l ↦ inr (let a = above l in let b = hook_ends ν inner first last k h s in omega arith) | inr l ↦ inl (let c = h.counts in omega arith) ];
     }
 
     within : (rows inner < last) ⊎ (last ≤ rows inner) → (rows inner + 1 < first) ⊎ (first ≤ rows inner + 1) → last ≤ rows inner + k
     within (inr l) b = omega arith
-    within (inl l) (inl m) = let z = past_end inner (first - 1 - 1) (omega arith) in let a = above (omega arith) in let c = more in absurd (omega arith)
-    within (inl l) (inr m) = let z = past_end inner (last - 1) (omega arith) in let c = more in let b = start in let o = h.ordered in omega arith
+    within (inl l) (inl m) = let z = get_or_past inner (first - 1 - 1) 0 (omega arith) in let a = above (omega arith) in let c = more in absurd (omega arith)
+    within (inl l) (inr m) = let z = get_or_past inner (last - 1) 0 (omega arith) in let c = more in let b = hook_ends ν inner first last k h s in let o = h.ordered in omega arith
 
     row : (i : ℕ) → 1 ≤ i → (i < first) ⊎ (first ≤ i) → (last < i) ⊎ (i ≤ last) → (i ≡ first) ⊎ (i ≡ first → ⊥) → part ν i ≡ added_row k inner first last i
     row i l (inl a) b c = h.above i l a ∙ sym (outside_row k inner first last i (inl a))
@@ -284,7 +281,7 @@ found k inner ν first last f p s h = record { counts = h.counts; ordered = h.or
     row i l (inr a) (inr b) (inl c) =
         let e = ap (added_row k inner first last) c ∙ first_row k inner first last h.ordered in
         let d = ap (part ν) c in
-        let q = start in
+        let q = hook_ends ν inner first last k h s in
         omega arith
     row i l (inr a) (inr b) (inr c) =
         let e = chained_row k inner first last (i - 1) (omega arith) (omega arith) in
@@ -296,7 +293,7 @@ found k inner ν first last f p s h = record { counts = h.counts; ordered = h.or
     is = same_rows ν (with_hook k inner first last) p.positive (hook_partition k inner first last f h.counts h.ordered fits).positive
         (λ i l. row i l (cases_lt i first) (cases_lt last i) (cases_eq i first) ∙ sym (hook_part k inner first last i l))
 
--- ---- the list of the shapes with an added rim hook
+-- ---- the whole list of the partitions made by adding a rim hook: its order, and its members
 
 first_before : (k : ℕ) (inner : List ℕ) (first last next end : ℕ) → Falls inner → 1 ≤ first → 1 ≤ next → first ≤ last → next ≤ end → last < end
     → CanAdd k inner first last → CanAdd k inner next end

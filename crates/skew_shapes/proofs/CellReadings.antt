@@ -1,4 +1,4 @@
--- Column readings of fillings as functions of cells, and the filling of a word.
+-- Column readings of fillings given by a function of the cells, and the filling with a given word as its column reading.
 use Rattle.std.proofs.Common.{◌≡◌, ◌⊎◌, ℕ, zero, suc, ◌+◌, ◌-◌, ◌<◌, ◌≤◌, Bool, true, false, ◌&&◌, ◌==◌, cond, List, [], ◌∷◌, ◌++◌, map, length, take, drop, get_or, reverse, ◌∙◌, ap, ap₂, sym, refl, inl, inr, arith, nat_le, nat_lt, append-nil, append_assoc, filter, flat_map}
 use Rattle.std.proofs.lemmas.Bool.{cases_eq, cases_lt, le-leb, lt-leb, lt-ltb, le-ltb, eq-eqb, ne_eqb}
 use Rattle.std.proofs.lemmas.List.{map-append, reverse-append, drop-drop, get_or-drop, get_or_past}
@@ -9,9 +9,10 @@ use Rattle.sym_model.specs.TableauList.{column_cells, reading_cells, letter_of_c
 use Rattle.skew_shapes.specs.Rows.{row_by, rows_by, reaches, cells_right_of, cells_above, number_in, place_of, HoldsLetters, HasPlaces}
 use Rattle.sym_model.proofs.Sums.{Among_from_append, Among_from_map, Among_from_each, Among_from_select, among_reverse}
 use Rattle.sym_model.proofs.AfterLists.{after_among, after-more}
-use Rattle.sym_model.proofs.Lists.{each-append}
 use Rattle.skew_shapes.proofs.KeptRows.{is_cell-tells, number_in-set, number_in-set_here}
 use Rattle.std.proofs.Math.ListN.{set}
+use Rattle.std.proofs.lemmas.Grind.{flat_map-append}
+use Rattle.sym_model.proofs.Numbers.{nat_lt-suc}
 
 -- ---- the letters of one column of a filling
 
@@ -24,13 +25,7 @@ take_one g c (suc k) zero =
     ap (λ x. x ∷ []) (ap g e) ∙ ap (λ b. cond b (g (c + 0 + 1) ∷ []) []) (sym (lt-ltb 0 (suc k) (omega arith)))
 take_one g c (suc k) (suc n) =
     let e : c + 1 + n + 1 ≡ c + suc n + 1 = omega arith in
-    take_one g (c + 1) k n ∙ ap₂ (λ b x. cond b (g x ∷ []) []) (shift n k) e
-  where
-    shift : (n k : ℕ) → nat_lt n k ≡ nat_lt (suc n) (suc k)
-    shift n k = elim (cases_lt n k) [
-      | inl h ↦ lt-ltb n k h ∙ sym (lt-ltb (suc n) (suc k) (omega arith))
-      | inr h ↦ le-ltb n k h ∙ sym (le-ltb (suc n) (suc k) (omega arith))
-    ]
+    take_one g (c + 1) k n ∙ ap₂ (λ b x. cond b (g x ∷ []) []) (sym (nat_lt-suc n k)) e
 
 letter_in-by :
     (g : ℕ → ℕ) (c o j : ℕ) → letter_in c (map g (after c (o - c))) j ≡ cond (nat_lt c j && nat_le j o) (g j ∷ []) []
@@ -74,7 +69,8 @@ map_cells : (f : ℕ → ℕ → ℕ) (j : ℕ) (xs : List ℕ) → map (λ i. f
 map_cells f j [] = refl
 map_cells f j (x ∷ xs) = ap (λ l. f x j ∷ l) (map_cells f j xs)
 
--- the letters of column j of the filling with f in each cell are f of the cells of that column, from top to bottom
+-- if f row column is the number in each cell (row, column) of outer/inner, the letters of column j are the values of f at its cells, from top to
+-- bottom
 pub column-rows_by :
     (f : ℕ → ℕ → ℕ) (outer inner : List ℕ) (j : ℕ)
     → column inner (rows_by f outer inner) j ≡ map (λ (c : ℕ × ℕ). f c.0 c.1) (column_cells outer inner j)
@@ -89,7 +85,8 @@ each-cells f outer inner (j ∷ js) =
     ap₂ (λ x y. x ++ y) (column-rows_by f outer inner j) (each-cells f outer inner js)
     ∙ sym (map-append (λ (c : ℕ × ℕ). f c.0 c.1) (column_cells outer inner j) (flat_map (column_cells outer inner) js))
 
--- the column reading of the filling with f in each cell is the list of f of the cells in reading order
+-- if f row column is the number in each cell (row, column) of outer/inner, the column reading is the list of the values of f at the cells in reading
+-- order
 pub reading-rows_by :
     (f : ℕ → ℕ → ℕ) (outer inner : List ℕ)
     → column_reading outer inner (rows_by f outer inner) ≡ map (λ (c : ℕ × ℕ). f c.0 c.1) (reading_cells outer inner)
@@ -98,7 +95,7 @@ reading-rows_by f outer inner =
     ap (λ n. flat_map (column inner (rows_by f outer inner)) (reverse (after 0 n))) e
     ∙ each-cells f outer inner (reverse (after 0 (columns outer)))
 
--- ---- the letters of a word, written into the cells one by one
+-- ---- the letter `letter_of_cell` that a cell gets from a word, if one more cell is appended to the list of cells
 
 other_cell : (i j row column : ℕ) → ((i ≡ row) × (j ≡ column) → ⊥) → ((i == row) && (j == column)) ≡ false
 other_cell i j row column h = elim (cases_eq i row) [
@@ -137,7 +134,7 @@ letter-absent i j (c ∷ done) (a ∷ w) h =
     (other_cell c.0 c.1 i j (λ e. h (inl (ap₂ {C = ℕ × ℕ} (λ x y. (x, y)) (sym e.0) (sym e.1)))))
     ∙ letter-absent i j done w (λ m. h (inr m))
 
--- ---- the cells in reading order, listed one by one
+-- ---- the lists `cells_above` and `column_cells` with one more row or column
 
 select-push : (test : ℕ → Bool) (xs : List ℕ) (x : ℕ) → filter test (xs ++ x ∷ []) ≡ filter test xs ++ cond (test x) (x ∷ []) []
 select-push test [] x = refl
@@ -186,10 +183,10 @@ right-more outer inner (suc i) h l =
     ∙ ap (λ m. flat_map (column_cells outer inner) (reverse (after i m))) n
     ∙ ap (flat_map (column_cells outer inner)) (reverse-append ((i + 1) ∷ []) (after (i + 1) k))
     ∙ ap (λ x. flat_map (column_cells outer inner) (reverse (after x k) ++ x ∷ [])) f
-    ∙ each-append (column_cells outer inner) (reverse (after (suc i) k)) (suc i ∷ [])
+    ∙ flat_map-append (column_cells outer inner) (reverse (after (suc i) k)) (suc i ∷ [])
     ∙ ap (λ l. flat_map (column_cells outer inner) (reverse (after (suc i) k)) ++ l) (append-nil (column_cells outer inner (suc i)))
 
--- a cell is not among the cells before it in the reading
+-- the cell (k + 1, j) is not in a column right of j, nor in column j in the first k rows
 pub not_before :
     (outer inner : List ℕ) (j k : ℕ) → Among (k + 1, j) (cells_right_of outer inner j ++ cells_above outer inner j k) → ⊥
 not_before outer inner j k m = by (Among_from_append (k + 1, j) (cells_right_of outer inner j) (cells_above outer inner j k) m)
@@ -211,7 +208,7 @@ reached_cell : (outer inner : List ℕ) (j k : ℕ) → reaches outer inner j (k
 reached_cell outer inner j k h =
     is_cell-tells outer inner (k + 1) j (ap (λ b. b && reaches outer inner j (k + 1)) (le-leb 1 (k + 1) (omega arith)) ∙ h)
 
--- ---- a letter is written into its cell
+-- ---- the next letter of w written into the cell of column j in row k + 1
 
 pub letters-put :
     (starts numbers outer inner w : List ℕ) (j k a : ℕ) → HasPlaces starts outer (length numbers)
@@ -252,7 +249,8 @@ letters-put starts numbers outer inner w j k a h r held e row column c =
         (append_assoc (cells_right_of outer inner j) (cells_above outer inner j k) ((k + 1, j) ∷ [])
         ∙ ap (λ l. cells_right_of outer inner j ++ l) (sym (above-reached outer inner j k r)))
 
--- if w has no letter left for the cell of column j in row k + 1, and the cells read before it hold the letters of w, so do the cells up to it
+-- if the cells read before the cell (k + 1, j) of outer/inner have the letters of w (`HoldsLetters`), and w has no letter left for (k + 1, j), then
+-- `HoldsLetters` also holds for the list of cells with (k + 1, j) appended, and nothing needs to be written
 pub letters-spent :
     (starts numbers outer inner w : List ℕ) (j k : ℕ) → reaches outer inner j (k + 1) ≡ true
     → HoldsLetters starts numbers outer inner (cells_right_of outer inner j ++ cells_above outer inner j k) w
@@ -286,7 +284,8 @@ letters-spent starts numbers outer inner w j k r held short row column c =
         ∙ ap (λ l. letter_of_cell (k + 1) j l w) more
         ∙ sym (ap₂ (λ x y. letter_of_cell x y (cells_right_of outer inner j ++ cells_above outer inner j (k + 1)) w) p q)
 
--- if row k + 1 has no cell in column j, and the cells read up to row k hold the letters of w, so do the cells read up to row k + 1
+-- if row k + 1 has no cell in column j, and `HoldsLetters` holds for the cells right of column j and those of column j in the first k rows, it also
+-- holds for the first k + 1 rows
 pub letters-passed :
     (starts numbers outer inner w : List ℕ) (j k : ℕ) → reaches outer inner j (k + 1) ≡ false
     → HoldsLetters starts numbers outer inner (cells_right_of outer inner j ++ cells_above outer inner j k) w
@@ -295,7 +294,7 @@ letters-passed starts numbers outer inner w j k r held row column c =
     held row column c
     ∙ ap (λ l. letter_of_cell row column (cells_right_of outer inner j ++ l) w) (sym (above-passed outer inner j k r))
 
--- ---- a value for each cell, written column by column
+-- ---- the values of a function of the cells, appended to a list column by column
 
 pub pushed-passed :
     (f : ℕ → ℕ → ℕ) (outer inner given letters : List ℕ) (j k : ℕ) → reaches outer inner j (k + 1)

@@ -1,4 +1,4 @@
--- Rows of numbers that are a function of the cell: the number in a cell, and one cell changed, added or removed.
+-- Fillings given by a function of the cells (`rows_by`): the number in a cell, and fillings with one number changed, or one cell added or removed.
 use Rattle.std.proofs.Common.{◌≡◌, ℕ, zero, suc, ◌+◌, ◌-◌, ◌<◌, ◌≤◌, true, ◌&&◌, leb, ltb, List, [], ◌∷◌, map, length, take, get_or, slice_index, ◌∙◌, ap, ap₂, sym, refl, arith}
 use Rattle.std.proofs.Math.ListN.{set}
 use Rattle.std.proofs.lemmas.Bool.{le-leb, lt-ltb, and_from}
@@ -23,7 +23,8 @@ map_after-ext f g a zero e = refl
 map_after-ext f g a (suc k) e =
     ap₂ ◌∷◌ (e (a + 1) (omega arith) (omega arith)) (map_after-ext f g (a + 1) k (λ i h l. e i (omega arith) (omega arith)))
 
--- replacing one number of a list of values of f gives the values of a function g that differs from f only there
+-- if g agrees with f except at a + n + 1, at which it has the value x, the list f(a + 1), .., f(a + k), with x written at the index n, is the list
+-- g(a + 1), .., g(a + k)
 pub map_after-set :
     {B : Type 0} (f g : ℕ → B) (a k n : ℕ) (x : B) → n < k → g (a + n + 1) ≡ x
     → ((i : ℕ) → a < i → i ≤ a + k → (i ≡ a + n + 1 → ⊥) → g i ≡ f i)
@@ -45,7 +46,7 @@ take-map_after f a (suc k) (suc m) h = ap (λ l. f (a + 1) ∷ l) (take-map_afte
 
 -- ---- the row and the column of a cell of a skew shape
 
--- a row with a cell is a row of the outer partition
+-- if (row, column) is a cell of outer/inner, `row` is at most the number of rows of outer
 pub cell_row : (outer inner : List ℕ) (row column : ℕ) → IsCell outer inner row column → row ≤ length outer
 cell_row outer inner row column c =
     omega (arith, positive_within outer (row - 1) (omega (arith, c.outside, c.within)), c.row_counts)
@@ -56,7 +57,7 @@ is_cell-from outer inner row column c =
     (and_from (ltb (part inner row) column) (leb column (part outer row)) (lt-ltb (part inner row) column c.outside)
     (le-leb column (part outer row) c.within))
 
--- ---- the number in a cell of a filling
+-- ---- rows and numbers of the filling `rows_by f outer inner`
 
 pub row_of-rows_by :
     (f : ℕ → ℕ → ℕ) (outer inner : List ℕ) (row : ℕ) → 1 ≤ row → row ≤ length outer
@@ -77,7 +78,7 @@ letter-rows_by f outer inner row column c =
     ap (λ l. get_or l n 0) (row_of-rows_by f outer inner row c.row_counts (cell_row outer inner row column c))
     ∙ map_after-at (f row) p (part outer row - p) n 0 (omega arith) ∙ ap (f row) e
 
--- if f and g agree at all cells of outer/inner, their fillings are equal
+-- if f and g agree at all cells of outer/inner, `rows_by` gives the same filling of outer/inner for f and g
 pub rows_by-ext :
     (f g : ℕ → ℕ → ℕ) (outer inner : List ℕ) → ((row column : ℕ) → IsCell outer inner row column → f row column ≡ g row column)
     → rows_by f outer inner ≡ rows_by g outer inner
@@ -87,7 +88,7 @@ rows_by-ext f g outer inner h =
     map_after-ext (f row) (g row) (part inner row) (part outer row - part inner row)
     (λ column c d. h row column (record { row_counts = omega arith; outside = c; within = omega arith })))
 
--- the lengths of the rows of a filling are the parts of outer minus those of inner
+-- the lengths of the rows a + 1, .., a + k of the filling given by f are the parts of outer minus those of inner
 lengths_after :
     (f : ℕ → ℕ → ℕ) (outer inner : List ℕ) (a k : ℕ)
     → map length (map (row_by f outer inner) (after a k)) ≡ map (λ row. part outer row - part inner row) (after a k)
@@ -150,7 +151,7 @@ rows_by-set f g outer inner row column a c e o =
     map_after-ext (g i) (f i) (part inner i) (part outer i - part inner i)
     (λ j q r. o i j (record { row_counts = omega arith; outside = q; within = omega arith }) (λ s. d (s.0 ∙ sym this)))))
 
--- ---- the parts of a partition after one of them is lowered by 1
+-- ---- the parts of a partition whose part `row` is lowered by 1 (`lowered_at`)
 
 pub part-lowered_here : (xs : List ℕ) (row : ℕ) → 1 ≤ row → part (without_last_zeros (lowered_at row xs)) row ≡ part xs row - 1
 part-lowered_here xs zero h = absurd (omega arith)

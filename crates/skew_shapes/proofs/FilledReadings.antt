@@ -1,4 +1,4 @@
--- If the letters of a word are written into all cells of a shape, the numbers are the filling with that word as its column reading.
+-- A filling whose cells have the letters of a word w in the order of the column reading (`HoldsLetters`) is the filling `filled_with` of w.
 use Rattle.std.proofs.Common.{◌≡◌, ℕ, List, ap, subst}
 use Rattle.sym_model.specs.Tableau.{SkewFilling}
 use Rattle.sym_model.specs.TableauList.{letter_of_cell, reading_cells}

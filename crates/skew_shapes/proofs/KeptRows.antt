@@ -1,4 +1,4 @@
--- Fillings that are kept in one list of numbers.
+-- Fillings whose numbers are in one list, with a given index at which each row of the outer partition begins (`filling_in`).
 use Rattle.std.proofs.Common.{◌≡◌, ◌⊎◌, ℕ, zero, suc, ◌+◌, ◌-◌, ◌<◌, ◌≤◌, true, ◌&&◌, cond, leb, ltb, List, [], ◌∷◌, map, length, take, drop, get_or, slice_index, ◌∙◌, ap, ap₂, sym, refl, subst, inl, inr, arith, Some, None}
 use Rattle.std.proofs.Math.ListN.{set}
 use Rattle.std.proofs.Math.Seq.{drop-cons}
@@ -28,7 +28,7 @@ is_cell-tells outer inner row column h =
       within = leb-true column (part outer row) q.1;
     }
 
--- the place of each cell is within the list
+-- if the list has room for all cells of outer (`HasPlaces`), the index of each cell of outer/inner is smaller than the length of the list
 pub place_within :
     (starts outer inner : List ℕ) (places row column : ℕ) → HasPlaces starts outer places → IsCell outer inner row column
     → place_of starts row column < places
@@ -47,7 +47,7 @@ row_within starts outer inner places row column h c =
     let counts = c.row_counts in
     omega (arith, h.rows)
 
--- if two cells are different, so are their places in the list
+-- different cells (i, j) and (k, l) of outer/inner have different indices in the list
 pub place_apart :
     (starts outer inner : List ℕ) (places i j k l : ℕ) → HasPlaces starts outer places → IsCell outer inner i j → IsCell outer inner k l
     → ((i ≡ k) × (j ≡ l) → ⊥) → place_of starts i j ≡ place_of starts k l → ⊥
@@ -84,7 +84,7 @@ place_apart starts outer inner places i j k l h c d n e =
         let starts_same : get_or starts (i - 1) 0 ≡ get_or starts (k - 1) 0 = ap (λ r. get_or starts (r - 1) 0) same in
         n (same, omega arith)
 
--- ---- one number written into its cell
+-- ---- the filling after one number of the list is overwritten, and the number in one cell
 
 pub number_in-set :
     (starts numbers outer inner : List ℕ) (row column a i j : ℕ) → HasPlaces starts outer (length numbers) → IsCell outer inner row column
@@ -118,7 +118,7 @@ entry-filling_in shape starts numbers row column h =
     sym (ap (λ b. cond b (Some (slice_index (row_of (rows_by (number_in starts numbers) shape.0 shape.1) row) (place_in_row shape.1 row column))) None) h
     ∙ ap Some (letter-rows_by (number_in starts numbers) shape.0 shape.1 row column c))
 
--- ---- the numbers of one row as a slice of the list
+-- ---- the numbers of one row of the filling, as a slice of the list
 
 pub map_after-slice :
     (xs : List ℕ) (s p k : ℕ) → s + p + k ≤ length xs → map (λ j. get_or xs (s + (j - 1)) 0) (after p k) ≡ take k (drop (s + p) xs)
@@ -129,7 +129,7 @@ map_after-slice xs s p (suc k) h =
     ap₂ ◌∷◌ (ap (λ n. get_or xs n 0) e) (map_after-slice xs s (p + 1) k (omega arith) ∙ ap (λ n. take k (drop n xs)) f)
     ∙ sym (ap (take (suc k)) (drop-cons xs (s + p) 0 (omega arith)))
 
--- ---- the places at which the rows begin in the list
+-- ---- the index at which each row begins: the sum of the lengths of the rows before it
 
 size-take-rises : (xs : List ℕ) (i k : ℕ) → i ≤ k → size (take i xs) ≤ size (take k xs)
 size-take-rises [] zero zero h = omega arith
@@ -158,7 +158,7 @@ places-from starts lengths e h = record {
   within = λ i l. omega (arith, h i l, size-take-within lengths i l);
 }
 
--- ---- fillings without the last cell of a row
+-- ---- the filling (`filling_in`) without the last cell of a row
 
 pub rows-lowered : (xs : List ℕ) (row : ℕ) → 1 ≤ row → length (without_last_zeros (lowered_at row xs)) ≤ length xs
 rows-lowered xs zero h = absurd (omega arith)
@@ -223,7 +223,7 @@ filling_in-dropped shape starts numbers row h l =
     ∙ take-map_after (row_by f new inner) 0 (length outer) (length new) (rows-lowered outer row h)) in
     ap (λ (xs : List (List ℕ)). let t : SkewFilling = record { outer = new; inner = inner; rows = xs } in t) rows
 
--- ---- fillings in which the last inner cell of a row becomes a cell with the entry 0
+-- ---- the filling (`filling_in`) with the last cell of a row of the inner partition made a cell with the number 0
 
 within_outer : (outer inner : List ℕ) (i j : ℕ) → IsCell outer inner i j → IsCell outer [] i j
 within_outer outer inner i j c =
@@ -280,7 +280,7 @@ filling_in-added shape starts numbers row places c =
     (λ j q r. there i j (record { row_counts = omega arith; outside = q; within = omega arith }) (λ e. d (e.0 ∙ sym this))))) in
     ap (λ (xs : List (List ℕ)). let t : SkewFilling = record { outer = outer; inner = new; rows = xs } in t) rows
 
--- ---- skew shapes with one part lowered
+-- ---- skew shapes with one part of the inner or of the outer partition lowered by 1
 
 pub IsSkew-inner_lowered :
     (outer inner new : List ℕ) (row : ℕ) → IsSkew outer inner → HasInnerCorner row inner
@@ -356,7 +356,7 @@ IsSkew-outer_lowered outer inner new (suc i) s c p e =
       holds = contains-from new inner (subst (λ xs. Holds xs inner) (sym e) all);
     }
 
--- ---- rows of a filling as slices of the list, and the length of each row
+-- ---- the rows of the filling as slices of the list, and their lengths
 
 pub row-kept :
     (shape : List ℕ × List ℕ) (starts numbers : List ℕ) (row from to : ℕ) → IsKept shape starts numbers → 1 ≤ row → row ≤ length shape.0

@@ -1,4 +1,4 @@
--- The height that a lister of rim hooks returns for its current shape.
+-- The height of the rim hook that an iterator over rim hooks returns: the number of its rows, computed from its first and last row.
 use Rattle.std.proofs.Common.{◌≡◌, ℕ, ◌+◌, ◌-◌, ◌≤◌, ◌∙◌, Bool, true, false, List, refl, subst}
 use Rattle.std.specs.Prelude.{IfSome, IsTrue}
 use Rattle.sym_model.specs.Strip.{height}

@@ -1,14 +1,14 @@
--- Lists of the shapes whose numbers pass a test, and partitions that are given by their rows.
---     none_fits, one_fits, among_fitting, from_fitting    the shapes at the numbers that pass a test
---     fall_after, fall_fitting                            shapes in decreasing lexicographic order
---     before_by_row                                       the order is that of the first rows that differ
---     same_rows                                           a partition is determined by its rows
+-- Lists of the shapes `shape i` for those numbers i that pass a test, and partitions given by the lengths of their rows.
+--     none_fits, one_fits, among_fitting, from_fitting    the list of the shapes whose numbers pass the test, and its members
+--     fall_after, fall_fitting                            lists of shapes in decreasing lexicographic order
+--     before_by_row                                       two shapes are ordered by the first row in which they differ
+--     same_rows                                           a partition is determined by the lengths of its rows
 --     part_within                                         no row is longer than the size of the partition
---     rows_at, rows_fall, rows_next                       a list of rows given by a function
+--     rows_at, rows_fall, rows_next                       the list f(1), .., f(n) of row lengths, without zeros at its end
 use Rattle.std.proofs.Common.{◌≡◌, ◌⊎◌, ℕ, zero, suc, ◌+◌, ◌-◌, ◌<◌, ◌≤◌, Bool, true, false, cond, List, [], ◌∷◌, ◌++◌, map, get_or, refl, sym, ap, ap₂, ◌∙◌, subst, inl, inr, arith, flat_map}
 use Rattle.std.proofs.lemmas.Bool.{cases_lt, false_from_ne_true as not_true}
 use Rattle.std.proofs.lemmas.Cmp.{nat_cmp_total, tied_itself}
-use Rattle.std.proofs.lemmas.List.{length-map}
+use Rattle.std.proofs.lemmas.List.{length-map, get_or_past}
 use Rattle.std.specs.Cmp.{nat_cmp_is}
 use Rattle.std.specs.Ordering.{nat_cmp, ordering_then}
 use Rattle.std.specs.declared.cmp.Ordering.TheVariants.{Less}
@@ -18,11 +18,11 @@ use Rattle.sym_model.specs.PartitionList.{FallsLexicographically}
 use Rattle.sym_model.specs.PrintedOrder.{falling_lexicographic}
 use Rattle.sym_model.proofs.AfterLists.{length_after, after_among}
 use Rattle.sym_model.proofs.Sums.{Among-each, Among_from_each}
-use Rattle.sym_model.proofs.Parts.{past_end, get_or-without_last_zeros, part-get_or, get_or-le-size}
+use Rattle.sym_model.proofs.Parts.{get_or-without_last_zeros, part-get_or, get_or-le-size}
 use Rattle.sym_model.proofs.PartitionLists.{FallsLexicographically-append, greater_first}
 use Rattle.skew_shapes.proofs.CellRows.{map_after-at}
 
--- ---- lists of the shapes whose number passes a test
+-- ---- the list of the shapes whose numbers pass a test
 
 abbrev pub fitting : (ℕ → Bool) → (ℕ → List ℕ) → List ℕ → List (List ℕ)
 fitting test shape xs = flat_map (λ i. cond (test i) (shape i ∷ []) []) xs
@@ -61,7 +61,7 @@ from_fitting test shape ν xs m =
     by i true e (inr h) = absurd h
     by i false e h = absurd h
 
--- ---- lists of shapes in decreasing lexicographic order, joined into one
+-- ---- lists of shapes, each in decreasing lexicographic order, joined into one list
 
 pub fall_after : (f : ℕ → List (List ℕ)) (a n : ℕ) → ((i : ℕ) → a < i → i ≤ a + n → FallsLexicographically (f i))
     → ((i j : ℕ) (x y : List ℕ) → a < i → i < j → j ≤ a + n → Among x (f i) → Among y (f j) → falling_lexicographic x y ≡ Less)
@@ -77,7 +77,7 @@ fall_after f a (suc n) h c =
     let s1 = s.1 in
     c (a + 1) r.0 x y (omega arith) (omega arith) (omega arith) m r.2)
 
--- if at most one number passes the test, the list of the shapes of those that pass is in decreasing order
+-- if at most one of the numbers a + 1, .., a + n passes the test, the list of the shapes whose numbers pass is in decreasing lexicographic order
 pub fall_fitting : (test : ℕ → Bool) (shape : ℕ → List ℕ) (a n : ℕ)
     → ((i j : ℕ) → a < i → i < j → j ≤ a + n → test i ≡ true → test j ≡ true → ⊥) → FallsLexicographically (fitting test shape (after a n))
 fall_fitting test shape a n h =
@@ -108,7 +108,7 @@ before_at (suc n) (a ∷ x) (b ∷ y) e h =
 pub before_by_row : (row : ℕ) (x y : List ℕ) → 1 ≤ row → ((i : ℕ) → 1 ≤ i → i < row → part x i ≡ part y i) → part y row < part x row → falling_lexicographic x y ≡ Less
 before_by_row row x y h e l = before_at (row - 1) x y (λ j m. sym (part-get_or x j) ∙ e (j + 1) (omega arith) (omega arith) ∙ part-get_or y j) l
 
--- ---- partitions that are given by their rows
+-- ---- partitions given by the lengths of their rows
 
 same_places : (x y : List ℕ) → ArePositive x → ArePositive y → ((j : ℕ) → get_or x j 0 ≡ get_or y j 0) → x ≡ y
 same_places [] [] p q e = refl
@@ -127,7 +127,7 @@ pub rows_at : (f : ℕ → ℕ) (n i : ℕ) → 1 ≤ i → (n < i → f i ≡ 0
 rows_at f n i h z = get_or-without_last_zeros (map f (after 0 n)) (i - 1) ∙ by (cases_lt n i)
   where
     by : (n < i) ⊎ (i ≤ n) → get_or (map f (after 0 n)) (i - 1) 0 ≡ f i
-    by (inl l) = past_end (map f (after 0 n)) (i - 1) (let e = length-map (after 0 n) f in let d = length_after 0 n in omega arith) ∙ sym (z l)
+    by (inl l) = get_or_past (map f (after 0 n)) (i - 1) 0 (let e = length-map (after 0 n) f in let d = length_after 0 n in omega arith) ∙ sym (z l)
     by (inr l) = map_after-at f 0 n (i - 1) 0 (omega arith) ∙ ap f (omega arith)
 
 pub rows_fall : (f : ℕ → ℕ) (a n : ℕ) → ((i : ℕ) → a < i → f (i + 1) ≤ f i) → Falls (map f (after a n))

@@ -1,6 +1,6 @@
 -- The rim hooks that can be removed from a partition (specs/RemovedHooks).
---     beginning_none, beginning_one, beginning_next    the rim hooks for each first row, from the lowest up
---     hooks_removed                                    the list has the rim hooks, in decreasing lexicographic order
+--     beginning_none, beginning_one, beginning_next    the rim hooks with a given first row (none or one), then those with a smaller first row
+--     hooks_removed                                    `hooks_beginning_within` lists all rim hooks, in decreasing lexicographic order
 use Rattle.std.proofs.Common.{◌≡◌, ◌⊎◌, ℕ, zero, suc, ◌+◌, ◌-◌, ◌<◌, ◌≤◌, ◌==◌, nat_lt, nat_le, Bool, true, false, ◌||◌, cond, List, [], ◌∷◌, ◌++◌, map, refl, sym, ap, ◌∙◌, subst, inl, inr, arith}
 use Rattle.std.proofs.lemmas.Bool.{cases_lt, cases_eq, and_parts, and_from, ltb-true, lt-ltb, leb-true, le-leb}
 use Rattle.std.proofs.lemmas.Bool.Decides.{nat_tests}
@@ -13,17 +13,17 @@ use Rattle.sym_model.specs.Strip.{IsRimHook, height}
 use Rattle.sym_model.proofs.AfterLists.{after_among, among_after, once_after}
 use Rattle.sym_model.proofs.SortedParts.{IsPartition-without_last_zeros}
 use Rattle.sym_model.proofs.Sums.{Among-append_left, Among-append_right, Among_from_append}
-use Rattle.sym_model.proofs.Parts.{past_end}
 use Rattle.sym_model.proofs.PartitionLists.{FallsLexicographically-append}
 use Rattle.strip_laws.specs.HookRows.{IsHookRows}
-use Rattle.strip_laws.proofs.HookSizes.{hook_size}
+use Rattle.strip_laws.proofs.HookSizes.{hook_size, hook_ends}
 use Rattle.strip_laws.proofs.RimHooks.{hook_from_rows, hook_rows, height_of_rows}
 use Rattle.strip_laws.proofs.Strips.{falls_part, falls_far}
 use Rattle.skew_shapes.specs.HookLists.{AreHooksRemoved}
 use Rattle.skew_shapes.specs.RemovedHooks.{can_remove, left_row, without_hook, hooks_beginning, hooks_beginning_within, EndsUpTo}
 use Rattle.skew_shapes.proofs.LoneShapes.{none_fits, one_fits, among_fitting, from_fitting, fall_fitting, before_by_row, same_rows, rows_at, rows_fall}
+use Rattle.std.proofs.lemmas.List.{get_or_past}
 
--- ---- the test whether a rim hook in the rows first to last can be removed
+-- ---- the test `can_remove`: whether a rim hook of k cells in the rows first, .., last can be removed from outer
 
 pub record CanRemove (k : ℕ) (outer : List ℕ) (first last : ℕ) : Type 0 where
   pub below : part outer (last + 1) + k ≤ part outer first + (last - first)
@@ -39,14 +39,14 @@ can_remove-from k outer first last c =
     and_from (nat_le (part outer (last + 1) + k) (part outer first + (last - first))) (nat_lt (part outer first + (last - first)) (part outer last + k))
     (le-leb (part outer (last + 1) + k) (part outer first + (last - first)) c.below) (lt-ltb (part outer first + (last - first)) (part outer last + k) c.shorter)
 
--- if a rim hook can be removed, its last row is a row of the partition
+-- if a rim hook can be removed from outer in the rows first, .., last, row `last` of outer has at least one cell
 pub last_within : (k : ℕ) (outer : List ℕ) (first last : ℕ) → CanRemove k outer first last → (0 < part outer last) × (last ≤ rows outer)
-last_within k outer first last c = (positive, elim (cases_lt (rows outer) last) [ inl l ↦ absurd (let e = past_end outer (last - 1) (omega arith) in let p = positive in omega arith) | inr l ↦ l ])
+last_within k outer first last c = (positive, elim (cases_lt (rows outer) last) [ inl l ↦ absurd (let e = get_or_past outer (last - 1) 0 (omega arith) in let p = positive in omega arith) | inr l ↦ l ])
   where
     positive : 0 < part outer last
     positive = let a = c.below in let b = c.shorter in omega arith
 
--- a rim hook with a given first row has at most one last row
+-- rim hooks of k cells cannot be removed from outer both in the rows first, .., last and in the rows first, .., end, if last < end
 no_two : (k : ℕ) (outer : List ℕ) (first last end : ℕ) → Falls outer → first ≤ last → last < end → CanRemove k outer first last → CanRemove k outer first end → ⊥
 no_two k outer first last end f o l c d =
     let a = c.below in
@@ -54,7 +54,7 @@ no_two k outer first last end f o l c d =
     let x = falls_far outer f (last + 1) end (omega arith) (omega arith) in
     absurd (omega arith)
 
--- ---- the rim hooks whose first row is `first`
+-- ---- the list `hooks_beginning` of the partitions left by removing a rim hook whose first row is `first`: it has at most one partition
 
 pub beginning_none : (k : ℕ) (outer : List ℕ) (first last : ℕ) → Falls outer → EndsUpTo k outer first last → first ≤ last
     → (first < last → part outer first + last < part outer last + first + k) → can_remove k outer first last ≡ false → hooks_beginning k outer first ≡ []
@@ -114,7 +114,7 @@ ends_next k outer first last f h b = record {
   passed = λ i l m. (let p = falls_far outer f (first - 1) first (omega arith) (omega arith) in let q = b.passed i l m in omega arith);
 }
 
--- ---- the rows of the partition after the rim hook is removed
+-- ---- the lengths of the rows of outer after the rim hook is removed (`left_row`)
 
 outside_row : (k : ℕ) (outer : List ℕ) (first last i : ℕ) → (i < first) ⊎ (last < i) → left_row k outer first last i ≡ part outer i
 outside_row k outer first last i h = ap (λ (b : Bool). cond b (part outer i) (cond (i == last) (part outer first + (last - first) - k) (part outer (i + 1) - 1))) (by h)
@@ -138,7 +138,7 @@ earlier_row k outer first last i h l =
     within_row k outer first last i h (omega arith)
     ∙ ap (λ (b : Bool). cond b (part outer first + (last - first) - k) (part outer (i + 1) - 1)) (let e : (i == last) ≡ false = grind (arith, nat_tests) in e)
 
--- if a rim hook can be removed, each of its rows becomes shorter
+-- if a rim hook can be removed from outer in the rows first, .., last, each of these rows becomes shorter
 row_shorter : (k : ℕ) (outer : List ℕ) (first last i : ℕ) → Falls outer → 1 ≤ first → first ≤ i → i ≤ last → CanRemove k outer first last → left_row k outer first last i < part outer i
 row_shorter k outer first last i f h l m c = by (cases_eq i last)
   where
@@ -192,12 +192,12 @@ rows_falling k outer first last f h o c i l = by (cases_lt i first) (cases_lt (i
         let z = falls_part outer f i l in
         omega arith
 
--- row i of the partition without the rim hook has the length `left_row`
+-- if the rim hook can be removed, row i of the partition `without_hook`, for i ≥ 1, has the length `left_row`
 pub left_part : (k : ℕ) (outer : List ℕ) (first last i : ℕ) → CanRemove k outer first last → 1 ≤ i → part (without_hook k outer first last) i ≡ left_row k outer first last i
 left_part k outer first last i c h =
     let w = (last_within k outer first last c).1 in
     rows_at (left_row k outer first last) (rows outer) i h
-    (λ l. outside_row k outer first last i (inr (omega arith)) ∙ past_end outer (i - 1) (omega arith))
+    (λ l. outside_row k outer first last i (inr (omega arith)) ∙ get_or_past outer (i - 1) 0 (omega arith))
 
 pub hook_is : (k : ℕ) (outer : List ℕ) (first last : ℕ) → Falls outer → 1 ≤ first → first ≤ last → CanRemove k outer first last
     → IsHookRows outer (without_hook k outer first last) first last
@@ -233,7 +233,7 @@ pub left_height : (k : ℕ) (outer : List ℕ) (first last : ℕ) → Falls oute
 left_height k outer first last f h o t =
     sym (height_of_rows outer (without_hook k outer first last) first last f (hook_is k outer first last f h o (can_remove-tells k outer first last t)))
 
--- ---- each rim hook that can be removed is in the list
+-- ---- each partition ν such that outer/ν is a rim hook of k cells is in the list `hooks_beginning_within`
 
 record IsFound (k : ℕ) (outer ν : List ℕ) (first last : ℕ) : Type 0 where
   pub counts : 1 ≤ first
@@ -244,13 +244,10 @@ record IsFound (k : ℕ) (outer ν : List ℕ) (first last : ℕ) : Type 0 where
 found : (k : ℕ) (outer ν : List ℕ) (first last : ℕ) → Falls outer → IsPartition ν → size outer ≡ size ν + k → IsHookRows outer ν first last → IsFound k outer ν first last
 found k outer ν first last f p s h = record { counts = h.counts; ordered = h.ordered; fits = fits; is = is }
   where
-    start : part ν last + k ≡ part outer first + (last - first)
-    start = let e = hook_size outer ν first last h in omega arith
-
     fits : CanRemove k outer first last
     fits = record {
-      below = (let a = h.below (last + 1) (omega arith) in let c = h.counts in let o = h.ordered in let b = falls_part ν p.falls last (omega arith) in let d = start in omega arith);
-      shorter = (let a = h.end in let d = start in omega arith);
+      below = (let a = h.below (last + 1) (omega arith) in let c = h.counts in let o = h.ordered in let b = falls_part ν p.falls last (omega arith) in let d = sym (hook_ends outer ν first last k h s) in omega arith);
+      shorter = (let a = h.end in let d = sym (hook_ends outer ν first last k h s) in omega arith);
     }
 
     row : (i : ℕ) → 1 ≤ i → (i < first) ⊎ (first ≤ i) → (last < i) ⊎ (i ≤ last) → (i ≡ last) ⊎ (i ≡ last → ⊥) → part ν i ≡ left_row k outer first last i
@@ -259,7 +256,7 @@ found k outer ν first last f p s h = record { counts = h.counts; ordered = h.or
     row i l (inr a) (inr b) (inl c) =
         let e = ap (left_row k outer first last) c ∙ last_row k outer first last h.ordered in
         let d = ap (part ν) c in
-        let q = start in
+        let q = sym (hook_ends outer ν first last k h s) in
         omega arith
     row i l (inr a) (inr b) (inr c) =
         let e = earlier_row k outer first last i a (omega arith) in
@@ -270,7 +267,7 @@ found k outer ν first last f p s h = record { counts = h.counts; ordered = h.or
     is = same_rows ν (without_hook k outer first last) p.positive (left_partition k outer first last f h.counts h.ordered fits).positive
         (λ i l. row i l (cases_lt i first) (cases_lt last i) (cases_eq i last) ∙ sym (left_part k outer first last i fits l))
 
--- ---- the list of the shapes that a removal leaves
+-- ---- the whole list of the partitions left by removing a rim hook: its order, and its members
 
 lower_before : (k : ℕ) (outer : List ℕ) (first last next end : ℕ) → Falls outer → 1 ≤ next → next < first → first ≤ last → next ≤ end
     → CanRemove k outer first last → CanRemove k outer next end

@@ -1,4 +1,4 @@
--- A filling is a tableau if and only if each of its rows passes the test `row_passes`.
+-- A filling is a semistandard tableau with entries at least 1 if and only if each of its rows passes the test `row_passes`.
 use Rattle.std.proofs.Common.{◌≡◌, ℕ, zero, suc, ◌+◌, ◌-◌, ◌<◌, Bool, true, false, ◌&&◌, cond, nat_le, nat_lt, List, [], ◌∷◌, ◌++◌, length, drop, get_or, slice_index_or, ◌∙◌, ap, ap₂, sym, refl, inl, inr, arith, append-nil}
 use Rattle.std.proofs.lemmas.Bool.{cases_lt, lt-ltb, le-ltb, and_parts}
 use Rattle.std.proofs.Math.Bool.{and-true, and-false}
@@ -10,7 +10,7 @@ use Rattle.skew_shapes.specs.CellFillings.{IsFilling, IsTableauWithin, is_tablea
 use Rattle.skew_shapes.specs.RowTests.{row_passes, stands_below}
 use Rattle.std.proofs.Math.Numerals.{add-one}
 
--- ---- tests that each number of a list must pass
+-- ---- tests that each number of a list must pass (`every`)
 
 every-append : (test : ℕ → Bool) (v w : List ℕ) → every test (v ++ w) ≡ (every test v && every test w)
 every-append test [] w = refl
@@ -43,7 +43,7 @@ every_after-fails test a (suc k) (suc i) h e =
     let same : a + 1 + i + 1 ≡ a + suc i + 1 = omega arith in
     ap (λ b. test (a + 1) && b) (every_after-fails test (a + 1) k i (omega arith) (ap test same ∙ e)) ∙ and-false (test (a + 1))
 
--- ---- the test `row_passes`, one row after another
+-- ---- a filling is a tableau if and only if all its rows pass the test `row_passes`
 
 row_of-next : (row : List ℕ) (rows : List (List ℕ)) (i : ℕ) → 0 < i → row_of (row ∷ rows) (i + 1) ≡ row_of rows i
 row_of-next row rows i h =

@@ -1,7 +1,7 @@
 -- The partitions made by adding a vertical strip to a partition (specs/VerticalStrips).
---     `vertical_on-tell`, `Among-vertical_on`  the listed shapes: each row has at most one cell more
+--     `vertical_on-tell`, `Among-vertical_on`  outer is listed by `vertical_on` if and only if `IsWidened` holds
 --     `vertical_on-fall`                       the list is in decreasing lexicographic order
---     `vertical_strips`                        the list has the vertical strips
+--     `vertical_strips`                        the list has exactly the partitions ν such that ν/inner is a vertical strip of k cells
 use Rattle.std.proofs.Common.{◌≡◌, ℕ, zero, suc, ◌+◌, ◌-◌, ◌<◌, ◌≤◌, min, List, [], ◌∷◌, ◌++◌, map, get_or, refl, sym, ap, ap₂, ◌∙◌, subst, inl, inr, arith, flat_map}
 use Rattle.std.specs.Prelude.{replicate}
 use Rattle.std.proofs.lemmas.List.{length-replicate}
@@ -9,14 +9,14 @@ use Rattle.sym_model.specs.Sum.{Among}
 use Rattle.sym_model.specs.Partition.{IsPartition, Falls, ArePositive, part, size, rows}
 use Rattle.sym_model.specs.PartitionList.{FallsLexicographically}
 use Rattle.sym_model.proofs.Sums.{Among-map, Among_from_map, Among-each, Among_from_each}
-use Rattle.sym_model.proofs.Parts.{part-get_or, Falls-front, size-ones}
+use Rattle.sym_model.proofs.Parts.{part-get_or, Falls-front, size-ones, falls_more}
 use Rattle.strip_laws.proofs.Strips.{vertical_from_rows, vertical_rows}
 use Rattle.partitions.specs.Limits.{IsWithinLimits}
 use Rattle.skew_shapes.specs.HorizontalStrips.{counting_down}
 use Rattle.skew_shapes.proofs.StripLists.{down-tells, among-down, fall-each}
 use Rattle.skew_shapes.specs.VerticalStrips.{vertical_on, AreVerticalStrips}
 
--- ---- shapes whose rows have at most one cell more
+-- ---- partitions whose rows have at most one cell more than those of inner, and their list `vertical_on`
 
 -- each row of outer is as long as that of inner or one cell longer, outer is weakly decreasing, and its first row is at most `most`
 abbrev IsBeside : ℕ → List ℕ → List ℕ → Type 0
@@ -30,7 +30,7 @@ beside_size most [] outer o = omega arith
 beside_size most (a ∷ inner) [] o = absurd o
 beside_size most (a ∷ inner) (b ∷ outer) o = let r = beside_size b inner outer o.3 in let l = o.0 in omega arith
 
--- outer has rows as `IsBeside` says, and `left` cells and at most `left` rows more than inner
+-- `IsBeside most inner outer` holds, and outer has exactly `left` cells more than inner and at most `left` rows more
 pub record IsWidened (most left : ℕ) (inner outer : List ℕ) : Type 0 where
   pub beside : IsBeside most inner outer
   pub cells : size outer ≡ size inner + left
@@ -45,10 +45,6 @@ beside_ones most [] o = refl
 beside_ones most (b ∷ outer) o =
     let r = beside_ones b outer o.2 in
     ap₂ ◌∷◌ o.0 r ∙ ap (λ n. replicate n 1) (let e : suc (size outer) ≡ b + size outer = (let q = o.0 in omega arith) in e)
-
-pub falls_more : (a b : ℕ) (inner : List ℕ) → a ≤ b → Falls (a ∷ inner) → Falls (b ∷ inner)
-falls_more a b [] l f = tt
-falls_more a b (c ∷ inner) l f = (let x = f.0 in omega arith, f.1)
 
 pub vertical_on-tell : (most left : ℕ) (inner outer : List ℕ) → Falls (most ∷ inner) → 1 ≤ most → ArePositive inner → Among outer (vertical_on most left inner) → IsWidened most left inner outer
 vertical_on-tell most left [] outer f h p (inl e) =
@@ -83,7 +79,7 @@ Among-vertical_on most left (a ∷ inner) (b ∷ outer) f o s =
     (among-down (min most (a + min left 1)) (min most (a + min left 1) + 1 - a) b (omega arith) (omega arith))
     (Among-map (λ rest. b ∷ rest) outer (vertical_on b (left + a - b) inner) (Among-vertical_on b (left + a - b) inner outer (falls_more a b inner (omega arith) f.1) o.3 (omega arith)))
 
--- ---- the listed shapes are in decreasing lexicographic order
+-- ---- the partitions listed by `vertical_on` are in decreasing lexicographic order
 
 pub vertical_on-fall : (most left : ℕ) (inner : List ℕ) → FallsLexicographically (vertical_on most left inner)
 vertical_on-fall most left [] = (λ y m. absurd m, tt)
@@ -91,7 +87,7 @@ vertical_on-fall most left (a ∷ inner) =
     fall-each (λ row. vertical_on row (left + a - row) inner) (min most (a + min left 1)) (min most (a + min left 1) + 1 - a) (omega arith)
     (λ row m. vertical_on-fall row (left + a - row) inner)
 
--- ---- the listed shapes are the vertical strips
+-- ---- the partitions listed by `vertical_on` are those that add a vertical strip to inner
 
 beside-first : (most : ℕ) (inner outer : List ℕ) → IsBeside most inner outer → get_or outer 0 0 ≤ most
 beside-first most [] [] o = omega arith
@@ -161,7 +157,7 @@ vertical_strips inner k p = record {
   );
 }
 
--- if |inner| + k ≤ 4096 and inner has at most 512 - k rows, each shape of the list is within the limits
+-- if |inner| + k ≤ 4096 and inner has at most 512 - k rows, each partition made by adding a vertical strip of k cells to inner is within the limits
 pub widened_limits : (inner : List ℕ) (k : ℕ) → IsPartition inner → size inner + k ≤ 4096 → rows inner + k ≤ 512
     → (rest : List ℕ) → Among rest (vertical_on (part inner 1 + 1) k inner) → IsWithinLimits rest
 widened_limits inner k p cells few rest m =
@@ -170,9 +166,10 @@ widened_limits inner k p cells few rest m =
     let b = g.few in
     record { partition = beside-falls (part inner 1 + 1) inner rest p.positive g.beside; few = omega arith; small = omega arith }
 
--- ---- shapes by their first row
+-- ---- the list `vertical_on` by the first rows of its partitions
 
--- a first row of length `row`, followed by a listed shape of the other rows, is a listed shape
+-- let n be less than the number of possible lengths of the first row, and `row` the greatest of these lengths minus n: if `rest` is in `vertical_on`
+-- for inner with the left + a - row cells that remain to be added, row ∷ rest is in `vertical_on` for a ∷ inner
 pub listed_further : (most left a row n : ℕ) (inner rest : List ℕ) → n < min most (a + min left 1) + 1 - a → row ≡ min most (a + min left 1) - n → Among rest (vertical_on row (left + a - row) inner)
     → Among (row ∷ rest) (vertical_on most left (a ∷ inner))
 listed_further most left a row n inner rest h e m =
@@ -180,7 +177,8 @@ listed_further most left a row n inner rest h e m =
     (among-down (min most (a + min left 1)) (min most (a + min left 1) + 1 - a) row (omega arith) (omega arith))
     (Among-map (λ rest. row ∷ rest) rest (vertical_on row (left + a - row) inner) m)
 
--- if each possible length of the first row has been tried, the shapes added are the whole list
+-- let n be the number of all possible first rows: if `cur` is `before`, followed by rows ++ ν for the partitions ν of `vertical_on` with the n
+-- greatest first rows, then `cur` is `before`, followed by rows ++ ν for all ν in `vertical_on most left inner`
 pub widened_all : (most left a n : ℕ) (below rows inner : List ℕ) (before cur : List (List ℕ)) → a ∷ below ≡ inner → n ≡ min most (a + min left 1) + 1 - a
     → cur ≡ before ++ map (λ rest. rows ++ rest) (flat_map (λ row. map (λ rest. row ∷ rest) (vertical_on row (left + a - row) below)) (counting_down (min most (a + min left 1)) n))
     → cur ≡ before ++ map (λ rest. rows ++ rest) (vertical_on most left inner)

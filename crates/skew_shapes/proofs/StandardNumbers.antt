@@ -1,4 +1,4 @@
--- The number of times that a number occurs in a tableau, and standard tableaux.
+-- The number of times that a number occurs in the first rows of a tableau, and the test of a standard tableau by these numbers.
 use Rattle.std.proofs.Common.{◌≡◌, ℕ, zero, suc, ◌+◌, ◌-◌, ◌<◌, ◌≤◌, true, ◌&&◌, ◌==◌, List, [], ◌∷◌, ◌++◌, map, length, take, get_or, slice_index_or, replicate, ◌∙◌, ap, ap₂, sym, refl, subst, arith, append-nil, length-append, eqb-true}
 use Rattle.std.proofs.lemmas.Bool.{eq-eqb, and_parts}
 use Rattle.std.proofs.lemmas.List.{take_more, length-map}
@@ -7,18 +7,18 @@ use Rattle.sym_model.specs.Schur.{row_lengths, letters_of, times_in}
 use Rattle.sym_model.specs.GoodTableau.{every}
 use Rattle.sym_model.specs.StandardTableau.{IsStandard}
 use Rattle.sym_model.specs.Tableau.{SkewFilling, IsTableau, shape_of}
-use Rattle.sym_model.proofs.Lists.{each-append}
 use Rattle.sym_model.proofs.Tableaux.{length-row_lengths, row_lengths-none, length-letters_of}
 use Rattle.skew_shapes.specs.CellFillings.{IsTableauWithin, row_of}
+use Rattle.std.proofs.lemmas.Grind.{flat_map-append}
 
--- ---- the letters of the first rows of a tableau
+-- ---- the letters of the first i rows of a tableau, and the number of times that a letter occurs in them
 
 pub letters-more :
     (rows : List (List ℕ)) (i : ℕ) → i < length rows → letters_of (take (i + 1) rows) ≡ letters_of (take i rows) ++ row_of rows (i + 1)
 letters-more rows i h =
     let e : i ≡ i + 1 - 1 = omega arith in
     let row = get_or rows i [] in
-    ap letters_of (take_more rows i [] h) ∙ each-append (λ (r : List ℕ). r) (take i rows) (row ∷ [])
+    ap letters_of (take_more rows i [] h) ∙ flat_map-append (λ (r : List ℕ). r) (take i rows) (row ∷ [])
     ∙ ap (λ l. letters_of (take i rows) ++ l) (append-nil row ∙ ap (λ n. slice_index_or rows n []) e)
 
 pub length-letters-take : (rows : List (List ℕ)) (i : ℕ) → length (letters_of (take i rows)) ≤ length (letters_of rows)

@@ -1,7 +1,7 @@
 -- The partitions made by adding a horizontal strip to a partition (specs/HorizontalStrips).
---     `strips_on-tell`, `Among-strips_on`  the listed shapes: each row is between two rows of inner
+--     `strips_on-tell`, `Among-strips_on`  outer is listed by `strips_on` if and only if `IsGrown` holds
 --     `strips_on-fall`                     the list is in decreasing lexicographic order
---     `horizontal_strips`                  the list has the horizontal strips
+--     `horizontal_strips`                  the list has exactly the partitions ν such that ν/inner is a horizontal strip of k cells
 use Rattle.std.proofs.Common.{◌≡◌, ℕ, zero, suc, ◌+◌, ◌-◌, ◌<◌, ◌≤◌, ◌==◌, min, max, Bool, true, false, cond, List, [], ◌∷◌, ◌++◌, map, length, get_or, drop, refl, sym, ap, ap₂, ◌∙◌, subst, inl, inr, arith, append_assoc, eqb-true, add-one, flat_map}
 use Rattle.std.specs.Prelude.{Option, Some, None, IsSome, slice_get}
 use Rattle.std.specs.Option.{option_to_list}
@@ -12,7 +12,7 @@ use Rattle.sym_model.specs.Partition.{IsPartition, Falls, ArePositive, part, siz
 use Rattle.sym_model.specs.PartitionList.{FallsLexicographically}
 use Rattle.sym_model.specs.PrintedOrder.{falling_lexicographic}
 use Rattle.sym_model.proofs.Sums.{Among-map, Among_from_map, Among-each, Among_from_each}
-use Rattle.sym_model.proofs.Parts.{part-get_or}
+use Rattle.sym_model.proofs.Parts.{part-get_or, sizes_within}
 use Rattle.sym_model.proofs.PartitionLists.{FallsLexicographically-append, FallsLexicographically-map, greater_first}
 use Rattle.strip_laws.proofs.Strips.{horizontal_from_rows, horizontal_rows}
 use Rattle.partitions.specs.Limits.{IsWithinLimits}
@@ -21,7 +21,7 @@ use Rattle.std.proofs.lemmas.Grind.{flat_map-append}
 use Rattle.std.proofs.lemmas.List.{map-append, append-nil, drop_all}
 use Rattle.std.proofs.lemmas.Option.{slice_get_past}
 
--- ---- numbers that decrease by 1
+-- ---- the list `counting_down` of numbers that decrease by 1
 
 pub down-tells : (high n a : ℕ) → n ≤ high + 1 → Among a (counting_down high n) → (a ≤ high) × (high < a + n)
 down-tells high zero a h m = absurd m
@@ -38,9 +38,9 @@ down-next high (suc n) =
     ap (counting_down high) (let s : suc n + 1 ≡ suc (n + 1) = omega arith in s)
     ∙ ap (λ l. high ∷ l) (down-next (high - 1) n ∙ ap (λ a. counting_down (high - 1) n ++ (a ∷ [])) (let e : high - 1 - n ≡ high - suc n = omega arith in e))
 
--- ---- shapes whose rows lie between two rows of inner
+-- ---- partitions whose rows lie between two rows of inner, and their list `strips_on`
 
--- each row of outer is at least that of inner and at most the row of inner above it, and the first row is at most `most`
+-- each row of outer is at least as long as that of inner and at most as long as the row of inner above it, and the first row is at most `most`
 abbrev IsOver : ℕ → List ℕ → List ℕ → Type 0
 IsOver most [] [] = Unit {0}
 IsOver most [] (b ∷ outer) = (0 < b) × (b ≤ most) × (outer ≡ [])
@@ -59,7 +59,7 @@ over_size most (a ∷ inner) (b ∷ outer) o =
     let y = r.1 in
     (omega arith, omega arith)
 
--- outer has rows as `IsOver` says, and `left` cells and at most `left` rows more than inner
+-- `IsOver most inner outer` holds, and outer has exactly `left` cells more than inner and at most `left` rows more
 pub record IsGrown (most left : ℕ) (inner outer : List ℕ) : Type 0 where
   pub over : IsOver most inner outer
   pub cells : size outer ≡ size inner + left
@@ -123,7 +123,7 @@ Among-strips_on most left (a ∷ inner) (b ∷ outer) f o s =
     (among-down (min most (a + left)) (min most (a + left) + 1 - max left a) b (omega arith) (omega arith))
     (Among-map (λ rest. b ∷ rest) outer (strips_on a (left + a - b) inner) (Among-strips_on a (left + a - b) inner outer f.1 o.2 (omega arith)))
 
--- ---- the listed strips are in decreasing lexicographic order
+-- ---- the partitions listed by `strips_on` are in decreasing lexicographic order
 
 pub fall-each : (rest : ℕ → List (List ℕ)) (high n : ℕ) → n ≤ high + 1 → ((a : ℕ) → Among a (counting_down high n) → FallsLexicographically (rest a))
     → FallsLexicographically (flat_map (λ a. map (λ x. a ∷ x) (rest a)) (counting_down high n))
@@ -154,7 +154,7 @@ strips_on-fall most left (a ∷ inner) =
     fall-each (λ row. strips_on a (left + a - row) inner) (min most (a + left)) (min most (a + left) + 1 - max left a) (omega arith)
     (λ row m. strips_on-fall a (left + a - row) inner)
 
--- ---- the listed shapes are the horizontal strips
+-- ---- the partitions listed by `strips_on` are those that add a horizontal strip to inner
 
 over-falls : (most : ℕ) (inner outer : List ℕ) → ArePositive inner → IsOver most inner outer → IsPartition outer
 over-falls most [] [] p o = record { falls = tt; positive = tt }
@@ -197,11 +197,6 @@ rows-over most (a ∷ inner) [] p holds below q l = absurd (let x = holds 0 in l
 rows-over most (a ∷ inner) (b ∷ outer) p holds below q l =
     (holds 0, l, rows-over a inner outer p.1 (λ j. holds (suc j)) (λ j. below (suc j)) q.1 (below 0))
 
-pub sizes_within : (x y : List ℕ) → ((j : ℕ) → get_or x j 0 ≤ get_or y j 0) → size x ≤ size y
-sizes_within [] y h = omega arith
-sizes_within (a ∷ x) [] h = let p = h 0 in let r = sizes_within x [] (λ j. h (suc j)) in omega arith
-sizes_within (a ∷ x) (b ∷ y) h = let p = h 0 in let r = sizes_within x y (λ j. h (suc j)) in omega arith
-
 first_within : (inner outer : List ℕ) (k : ℕ) → ((j : ℕ) → get_or inner j 0 ≤ get_or outer j 0) → size outer ≡ size inner + k → get_or outer 0 0 ≤ get_or inner 0 0 + k
 first_within inner [] k h s = omega arith
 first_within [] (b ∷ outer) k h s = omega arith
@@ -233,13 +228,13 @@ horizontal_strips inner k p = record {
   );
 }
 
--- ---- shapes by their first row
+-- ---- the list `strips_on` by the first rows of its partitions
 
 pub prefix_longer : (rows : List ℕ) (row : ℕ) (xs : List (List ℕ)) → map (λ rest. (rows ++ (row ∷ [])) ++ rest) xs ≡ map (λ rest. rows ++ rest) (map (λ rest. row ∷ rest) xs)
 prefix_longer rows row [] = refl
 prefix_longer rows row (x ∷ xs) = ap₂ ◌∷◌ (append_assoc rows (row ∷ []) x) (prefix_longer rows row xs)
 
--- the shapes of the list that have `row` as their first row
+-- the partitions of `strips_on` for a ∷ below that have the first row `row`
 abbrev pub grown : ℕ → ℕ → List ℕ → ℕ → List (List ℕ)
 grown a left inner row = map (λ rest. row ∷ rest) (strips_on a (left + a - row) inner)
 
@@ -259,7 +254,8 @@ each-next later high n rows longer before cur new c l e =
     ∙ sym (flat_map-append (λ row. map (λ rest. row ∷ rest) (later row)) (counting_down high n) ((high - n) ∷ []))
     ∙ ap (flat_map (λ row. map (λ rest. row ∷ rest) (later row))) (sym (down-next high n))))
 
--- a first row of length `row`, followed by a listed shape of the other rows, is a listed shape
+-- let n be less than the number of possible lengths of the first row, and `row` the greatest of these lengths minus n: if `rest` is in `strips_on`
+-- for inner with the left + a - row cells that remain to be added, row ∷ rest is in `strips_on` for a ∷ inner
 pub listed_further : (most left a row n : ℕ) (inner rest : List ℕ) → n < min most (a + left) + 1 - max left a → row ≡ min most (a + left) - n → Among rest (strips_on a (left + a - row) inner)
     → Among (row ∷ rest) (strips_on most left (a ∷ inner))
 listed_further most left a row n inner rest h e m =
@@ -271,7 +267,7 @@ pub map_rest : (xs : List (List ℕ)) → map (λ (rest : List ℕ). [] ++ rest)
 map_rest [] = refl
 map_rest (x ∷ xs) = ap (λ l. x ∷ l) (map_rest xs)
 
--- if |inner| + k ≤ 4096 and inner has at most 512 - k rows, each shape of the list is within the limits
+-- if |inner| + k ≤ 4096 and inner has at most 512 - k rows, each partition made by adding a horizontal strip of k cells to inner is within the limits
 pub grown_limits : (inner : List ℕ) (k : ℕ) → IsPartition inner → size inner + k ≤ 4096 → rows inner + k ≤ 512
     → (rest : List ℕ) → Among rest (strips_on (part inner 1 + k) k inner) → IsWithinLimits rest
 grown_limits inner k p cells few rest m =
@@ -280,7 +276,7 @@ grown_limits inner k p cells few rest m =
     let b = g.few in
     record { partition = over-falls (part inner 1 + k) inner rest p.positive g.over; few = omega arith; small = omega arith }
 
--- if no cell is left after the last row of inner, the list has only the empty shape
+-- if left = 0, that is, no cell remains to be added after the last row of inner, `strips_on` for the empty partition lists only the empty partition
 pub last_empty : (left : ℕ) → left ≡ 0 → strips_on left left [] ≡ [] ∷ []
 last_empty left e = ap (λ n. strips_on n n []) e
 
@@ -291,14 +287,15 @@ last_row left h = by (left == 0) refl
     by true e = absurd (let z = eqb-true left 0 e in omega arith)
     by false e = refl
 
--- if each possible length of the first row has been tried, the shapes added are the whole list
+-- let n be the number of all possible first rows: if `cur` is `before`, followed by rows ++ ν for the partitions ν of `strips_on` with the n greatest
+-- first rows, then `cur` is `before`, followed by rows ++ ν for all ν in `strips_on most left inner`
 pub grown_all : (most left a n : ℕ) (below rows inner : List ℕ) (before cur : List (List ℕ)) → a ∷ below ≡ inner → n ≡ min most (a + left) + 1 - max left a
     → cur ≡ before ++ map (λ rest. rows ++ rest) (flat_map (grown a left below) (counting_down (min most (a + left)) n)) → cur ≡ before ++ map (λ rest. rows ++ rest) (strips_on most left inner)
 grown_all most left a n below rows inner before cur split e c =
     c ∙ ap (λ k. before ++ map (λ rest. rows ++ rest) (flat_map (grown a left below) (counting_down (min most (a + left)) k))) e
     ∙ ap (λ l. before ++ map (λ rest. rows ++ rest) (strips_on most left l)) split
 
--- ---- the next shape that a lister returns
+-- ---- the next shape of an iterator whose shapes are all in one list
 
 next_here : (i : ℕ) (xs : List (List ℕ)) → i < length xs → drop i xs ≡ option_to_list (slice_get xs i) ++ drop (suc i) xs
 next_here i [] h = absurd (omega arith)

@@ -1,14 +1,12 @@
--- The order in which the rim hooks that can be added to a partition are listed: by their last rows.
--- Rows are counted from 1.
+-- The partitions made by adding a rim hook of k cells to a partition, listed by increasing last row of the rim hook. Rows are counted from 1.
 use Rattle.std.specs.Prelude.{◌≡◌, ℕ, ◌+◌, ◌-◌, ◌<◌, ◌≤◌, ◌==◌, nat_lt, nat_le, max, Bool, true}
 use Rattle.std.specs.Prelude.{IsTrue, ◌&&◌, ◌||◌, cond, List, [], ◌∷◌, map, take, length, Some}
 use Rattle.std.specs.Prelude.{None, flat_map}
 use Rattle.sym_model.specs.Partition.{Falls, after, part, rows, size, without_last_zeros}
 use Rattle.skew_shapes.specs.HookLists.{HooksListed}
 
--- whether a rim hook of k cells can be added to inner in the rows first, .., last: each of them but
--- the first grows to the length of the row above plus 1, and the remaining cells make the first row
--- longer, but not longer than the row above it
+-- whether a rim hook of k cells can be added to inner in the rows first, .., last: rows first + 1, .., last get the length of the row above them in
+-- inner plus 1, and row first gets the remaining cells, at least one, without becoming longer than row first - 1
 abbrev pub can_add : ℕ → List ℕ → ℕ → ℕ → Bool
 can_add k inner first last =
     nat_lt (part inner first + (last - first)) (part inner last + k)
@@ -36,22 +34,22 @@ abbrev pub hooks_ending_after : ℕ → List ℕ → ℕ → List (List ℕ)
 hooks_ending_after k inner last =
     flat_map (hooks_ending k inner) (after last (rows inner + k - last))
 
--- no rim hook of k cells with last row `last`, or with a later one, begins in a row before `first`
+-- no rim hook of k cells that can be added to inner and whose last row is `last` or greater has its first row before `first`
 pub record BeginsFrom (k : ℕ) (inner : List ℕ) (first last : ℕ) : Type 0 where
   pub counts : 1 ≤ first
   pub ordered : first ≤ last + 1
   pub passed : (row : ℕ) → 1 ≤ row → row < first → part inner last + k + row ≤ part inner row + last
 
--- the rows first, .., last are those of the current rim hook, and the buffer has the lengths of the rows of inner with
--- this hook added
+-- the current rim hook is that of k cells in the rows first, .., last: it can be added to inner, and the buffer has the lengths of the rows of inner
+-- with this rim hook added
 pub record IsAddedIn (buffer : List ℕ) (k : ℕ) (inner : List ℕ) (first last : ℕ) : Type 0 where
   pub ordered : first ≤ last
   pub fits : can_add k inner first last ≡ true
   pub rows_are : take (max (rows inner) last) buffer
       ≡ map (added_row k inner first last) (after 0 (max (rows inner) last))
 
--- the fields of a lister of added rim hooks are consistent: sizes are within the limits, and the rim hook in the rows first to last is the current
--- one if `listed`
+-- the fields of a lister of added rim hooks are consistent: inner is weakly decreasing, the sizes are within the limits, no rim hook still to be
+-- listed begins before row `first`, and if `listed`, the current rim hook is that in the rows first, .., last
 pub record IsAdding (inner : List ℕ) (k : ℕ) (buffer : List ℕ) (first last : ℕ)
     (listed : Bool) : Type 0 where
   pub falls : Falls inner
@@ -62,8 +60,8 @@ pub record IsAdding (inner : List ℕ) (k : ℕ) (buffer : List ℕ) (first last
   pub begins : BeginsFrom k inner first last
   pub current : IsTrue listed → IsAddedIn buffer k inner first last
 
--- the state of the lister: the partitions with a rim hook that ends after `last` are still to be listed, and that with the rows first to last is the
--- current one if `listed`
+-- the state of the lister: the partitions made by adding a rim hook whose last row is after `last` are still to be listed, and if `listed`, the one
+-- made by adding the rim hook in the rows first, .., last is current
 abbrev pub adding_at : List ℕ → ℕ → ℕ → ℕ → Bool → HooksListed
 adding_at inner k first last listed =
     record {

@@ -5,22 +5,20 @@ use Rattle.sym_model.specs.Partition.{IsPartition, size}
 use Rattle.sym_model.specs.PartitionList.{FallsLexicographically}
 use Rattle.sym_model.specs.Strip.{IsRimHook}
 
--- the list has exactly the partitions ν such that ν/inner is a rim hook of k cells, in decreasing
--- lexicographic order
+-- the list has exactly the partitions ν such that ν/inner is a rim hook of k cells, in decreasing lexicographic order
 pub record AreHooksAdded (inner : List ℕ) (k : ℕ) (list : List (List ℕ)) : Type 0 where
   pub falls : FallsLexicographically list
   pub members : (ν : List ℕ) → Among ν list
       ↔ (IsPartition ν × (size ν ≡ size inner + k) × IsRimHook ν inner)
 
--- the list has exactly the partitions ν such that outer/ν is a rim hook of k cells, in decreasing
--- lexicographic order
+-- the list has exactly the partitions ν such that outer/ν is a rim hook of k cells, in decreasing lexicographic order
 pub record AreHooksRemoved (outer : List ℕ) (k : ℕ) (list : List (List ℕ)) : Type 0 where
   pub falls : FallsLexicographically list
   pub members : (ν : List ℕ) → Among ν list
       ↔ (IsPartition ν × (size outer ≡ size ν + k) × IsRimHook outer ν)
 
--- the partitions that are not yet listed, the current one, and the one that rim hooks are added to
--- or removed from
+-- the state of a lister of rim hooks: `rest` are the partitions still to be listed, `item` the current one, and `base` the partition to which rim
+-- hooks are added, or from which they are removed
 pub record HooksListed : Type 0 where
   pub rest : List (List ℕ)
   pub item : Option (List ℕ)

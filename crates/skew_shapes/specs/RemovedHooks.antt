@@ -1,14 +1,13 @@
--- The order in which the rim hooks that can be removed from a partition are listed: by their first rows, the lowest
--- first. Rows are counted from 1.
+-- The partitions made by removing a rim hook of k cells from a partition; those for which the rim hook begins in a lower row come first. Rows are
+-- counted from 1, from the top.
 use Rattle.std.specs.Prelude.{◌≡◌, ℕ, zero, suc, ◌+◌, ◌-◌, ◌<◌, ◌≤◌, ◌==◌, nat_lt, nat_le, Bool}
 use Rattle.std.specs.Prelude.{true, IsTrue, ◌&&◌, ◌||◌, cond, List, [], ◌∷◌, ◌++◌, map, length}
 use Rattle.std.specs.Prelude.{Some, None, flat_map}
 use Rattle.sym_model.specs.Partition.{Falls, after, part, rows, without_last_zeros}
 use Rattle.skew_shapes.specs.HookLists.{HooksListed}
 
--- whether a rim hook of k cells can be removed from outer in the rows first, .., last: each of them but the last
--- shrinks to the length of the row below minus 1, and the remaining cells make the last row shorter, but not shorter
--- than the row below it
+-- whether a rim hook of k cells can be removed from outer in the rows first, .., last: each of the rows first, .., last - 1 gets a length that is 1
+-- less than the length in outer of the row below it; and row last loses the remaining cells, at least one, without becoming shorter than row last + 1
 abbrev pub can_remove : ℕ → List ℕ → ℕ → ℕ → Bool
 can_remove k outer first last =
     nat_le (part outer (last + 1) + k) (part outer first + (last - first))
@@ -31,14 +30,14 @@ hooks_beginning k outer first =
     flat_map (λ last. cond (can_remove k outer first last)
     (without_hook k outer first last ∷ []) []) (after (first - 1) (rows outer + 1 - first))
 
--- the partitions that are left by removing from outer a rim hook of k cells whose first row is among the first
--- `above` rows
+-- the partitions that are left by removing from outer a rim hook of k cells whose first row is one of the rows 1, .., above; those with a greater
+-- first row come first
 abbrev pub hooks_beginning_within : ℕ → List ℕ → ℕ → List (List ℕ)
 hooks_beginning_within k outer zero = []
 hooks_beginning_within k outer (suc above) =
     hooks_beginning k outer (suc above) ++ hooks_beginning_within k outer above
 
--- no rim hook of k cells with first row `first`, or with an earlier one, ends in a row after `last`
+-- no rim hook of k cells that can be removed from outer and whose first row is `first` or smaller has its last row after `last`
 pub record EndsUpTo (k : ℕ) (outer : List ℕ) (first last : ℕ) : Type 0 where
   pub counts : 1 ≤ first
   pub ordered : first ≤ last + 1
@@ -46,15 +45,16 @@ pub record EndsUpTo (k : ℕ) (outer : List ℕ) (first last : ℕ) : Type 0 whe
   pub passed : (row : ℕ) → last < row → row ≤ rows outer
       → part outer row + first + k ≤ part outer first + row
 
--- the rows first, .., last are those of the current rim hook, and the buffer has the lengths of the rows of outer
--- without this hook
+-- the current rim hook is that of k cells in the rows first, .., last: it can be removed from outer, and the buffer has the lengths of the rows of
+-- outer after its removal
 pub record IsLeftIn (buffer : List ℕ) (k : ℕ) (outer : List ℕ) (first last : ℕ) : Type 0 where
   pub ordered : first ≤ last
   pub fits : can_remove k outer first last ≡ true
   pub rows_are : buffer ≡ map (left_row k outer first last) (after 0 (rows outer))
 
--- the fields of a lister of removed rim hooks are consistent: the buffer has a place for each row, and the rim hook in the rows first to last is the
--- current one if `listed`
+-- the fields of a lister of removed rim hooks are consistent: outer is weakly decreasing and has at most 512 rows, the buffer has a place for each
+-- row of outer, no rim hook that is still to be listed ends after row `last`, and if `listed`, the current rim hook is the one in the rows first, ..,
+-- last
 pub record IsRemoving (outer : List ℕ) (k : ℕ) (buffer : List ℕ) (first last : ℕ)
     (listed : Bool) : Type 0 where
   pub falls : Falls outer
@@ -63,8 +63,8 @@ pub record IsRemoving (outer : List ℕ) (k : ℕ) (buffer : List ℕ) (first la
   pub ends : EndsUpTo k outer first last
   pub current : IsTrue listed → IsLeftIn buffer k outer first last
 
--- the state of the lister: the partitions without a rim hook that begins before `first` are still to be listed, and that of the rows first to last is
--- the current one if `listed`
+-- the state of the lister: the partitions left by removing a rim hook whose first row is before `first` are still to be listed, and if `listed`, the
+-- one left by removing the rim hook in the rows first, .., last is current
 abbrev pub removing_at : List ℕ → ℕ → ℕ → ℕ → Bool → HooksListed
 removing_at outer k first last listed =
     record {

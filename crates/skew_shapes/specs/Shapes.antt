@@ -1,9 +1,9 @@
--- The pairs of partitions that the type `Skew` holds.
+-- The pairs of partitions that are values of the type `Skew`.
 use Rattle.std.specs.Prelude.{◌≡◌, ℕ, true, List}
 use Rattle.sym_model.specs.Schur.{contains}
 use Rattle.partitions.specs.Limits.{IsWithinLimits}
 
--- two partitions within the limits, the inner one inside the outer one
+-- outer and inner are partitions within the limits, and inner lies inside outer
 pub record IsSkew (outer inner : List ℕ) : Type 0 where
   pub outside : IsWithinLimits outer
   pub inside : IsWithinLimits inner

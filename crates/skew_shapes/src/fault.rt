@@ -6,7 +6,7 @@ use calc_base::NoMemory;
 use std::alloc::AllocError;
 use thiserror::Error;
 
-/// The reason why a list of numbers is not taken as the column reading of a tableau.
+/// The reason why a list of numbers is not the column reading of a tableau of a given shape.
 #[derive(Clone, Copy, Debug, PartialEq, Eq, Hash, Error)]
 pub enum TableauFault {
     /// The number of entries differs from the number of cells.

@@ -1,4 +1,4 @@
-//! Skew shapes with a number in each cell.
+//! Fillings: skew shapes with an arbitrary number in each cell.
 ghost use Rattle.std.specs.Prelude.{◌≡◌, ◌<◌, ◌≤◌, ◌↔◌, nat_lt, length, true, if◌then◌else◌, IsOk};
 ghost use Rattle.std.specs.Prelude.{IfOk, IfErr};
 ghost use Rattle.sym_model.specs.Partition.{IsCell, part, rows};
@@ -18,13 +18,14 @@ use calc_base::NoMemory;
 use std::alloc::Global;
 use std::marker::Model;
 
-/// A skew shape with a number in each of its cells; the numbers are arbitrary. It has a place for
-/// each cell of its outer partition, allocated when it is made; no public method allocates memory.
+/// A skew shape with an arbitrary number in each of its cells. The list `numbers` has a place for
+/// each cell of the outer partition, allocated when the filling is made; no public method allocates
+/// memory.
 #[derive(Debug, Drop)]
 pub struct Filled {
     shape: Skew,
-    /// The place at which each row of the outer partition begins; there are places for all of its
-    /// cells.
+    /// For each row of the outer partition, the index in `numbers` at which the row begins;
+    /// `numbers` has a place for each cell of the outer partition, also for those of the inner one.
     starts: Vec<u16>,
     numbers: Vec<u16>,
 }
@@ -41,7 +42,7 @@ impl Model for Filled {
 }
 
 impl Filled {
-    /// An equal filling.
+    /// A copy of this filling.
     pub(crate) fn copy(&self) -> Result<Filled, NoMemory>
         ensures { IfOk result (λ f. f ≡ self.now) }
     {
@@ -52,7 +53,8 @@ impl Filled {
         })
     }
 
-    /// The column reading: the columns from the rightmost to the leftmost, each from top to bottom.
+    /// The column reading: the numbers of the columns from the rightmost to the leftmost, each
+    /// column from top to bottom.
     pub(crate) fn column_reading(&self) -> Result<Word, NoMemory>
         ensures { IfOk result (λ w. w
             ≡ column_reading self.now.outer self.now.inner self.now.rows) }
@@ -68,7 +70,7 @@ impl Filled {
         Word::from_slice(*self.numbers.allocator(), &letters)
     }
 
-    /// The shape whose cells hold the numbers.
+    /// The skew shape of the filling.
     pub fn shape(&self) -> &Skew
         ensures value { result.now ≡ (self.now.outer, self.now.inner) }
         ensures filling { IsFilling self.now }
@@ -76,7 +78,7 @@ impl Filled {
         &self.shape
     }
 
-    /// The numbers of this row, counted from 1, from left to right.
+    /// The numbers of row `row`, counted from 1, from left to right.
     pub fn row(&self, row: u16) -> &[u16]
         requires { (1 ≤ row) × (row ≤ rows self.now.outer) }
         ensures { result.now ≡ row_of self.now.rows row }
@@ -86,8 +88,8 @@ impl Filled {
         between(&self.numbers, from, to)
     }
 
-    /// The number in the cell of this row and this column, both counted from 1; None if that is not
-    /// a cell of the shape.
+    /// The number in the cell (row, column), both counted from 1; None if the shape has no such
+    /// cell.
     pub fn entry(&self, row: u16, column: u16) -> Option<u16>
         ensures { result ≡ entry_at self.now row column }
     {
@@ -97,8 +99,8 @@ impl Filled {
         Some(self.numbers[place(&self.starts, row, column)])
     }
 
-    /// Sets the number in the cell of this row and this column, both counted from 1, which must be
-    /// a cell of the shape; all other cells stay unchanged.
+    /// Writes `value` into the cell (row, column), both counted from 1, which must be a cell of the
+    /// shape; all other cells keep their numbers.
     pub fn set(&mut self, row: u16, column: u16, value: u16)
         requires { IsCell self.old.outer self.old.inner row column }
         ensures { self.new ≡ with_entry self.old row column value }
@@ -107,9 +109,9 @@ impl Filled {
         self.numbers[place] = value;
     }
 
-    /// Makes the last inner cell of this row, counted from 1, a cell of the shape with the number
-    /// 0; everything else is unchanged. That row of the inner partition must be longer than the
-    /// next one.
+    /// Moves the last cell of row `row` of the inner partition into the shape; rows are counted
+    /// from 1. The new cell has the number 0, and everything else is unchanged. In the inner
+    /// partition, row `row` must be longer than the next row.
     pub fn add_inner_cell(&mut self, row: u16)
         requires { HasInnerCorner row self.old.inner }
         ensures { self.new ≡ with_inner_cell self.old row }
@@ -119,8 +121,9 @@ impl Filled {
         self.shape.remove_inner_corner(row);
     }
 
-    /// Writes the letters of a column reading into the cells. Letters after the last cell are left
-    /// out, and cells after the last letter get the number 0.
+    /// Replaces all numbers by the letters of `reading`, in the order of the column reading
+    /// (`column_reading`). Letters in excess of the cells are ignored; if there are too few
+    /// letters, the last cells get 0.
     pub fn fill(&mut self, reading: &[u16])
         ensures { self.new ≡ filled_with self.old.outer self.old.inner reading.now }
     {
@@ -133,9 +136,9 @@ impl Filled {
         );
     }
 
-    /// Removes the last cell of this row, counted from 1; everything else is unchanged. That row of
-    /// the outer partition must be longer than the next one, and than the same row of the inner
-    /// partition.
+    /// Removes the last cell of row `row`, counted from 1, from the shape; everything else is
+    /// unchanged. In the outer partition, row `row` must be longer than the next row, and longer
+    /// than row `row` of the inner partition.
     pub fn drop_outer_cell(&mut self, row: u16)
         requires corner { HasInnerCorner row self.old.outer }
         requires cell { part self.old.inner row < part self.old.outer row }
@@ -144,8 +147,8 @@ impl Filled {
         self.shape.remove_outer_corner(row);
     }
 
-    /// The tableau with these entries. If the filling is not semistandard with entries at least 1,
-    /// it is returned unchanged.
+    /// The filling as a tableau, if it is semistandard with entries at least 1; otherwise the
+    /// filling is returned unchanged as the error.
     pub fn into_tableau(self) -> Result<Tableau, Filled>
         ensures tableau { IsOk result ↔ (is_tableau self ≡ true) }
         ensures ok { IfOk result (λ t. t ≡ self) }
@@ -171,7 +174,7 @@ impl Filled {
         true
     }
 
-    /// Whether the numbers of this row are positive and weakly increasing, and smaller than those
+    /// Whether the numbers of row `row` are positive and weakly increasing, and smaller than those
     /// directly below them.
     fn row_passes(&self, row: u16) -> bool
         requires { (1 ≤ row) × (row ≤ rows self.now.outer) }
@@ -181,8 +184,8 @@ impl Filled {
         all_positive(numbers) && (rises(numbers) && self.stands_on_next(row))
     }
 
-    /// Whether each number of the next row is greater than the one directly above it; true for the
-    /// last row.
+    /// Whether each number of row `row` + 1 is greater than the one directly above it in row `row`;
+    /// true if `row` is the last row.
     fn stands_on_next(&self, row: u16) -> bool
         requires { (1 ≤ row) × (row ≤ rows self.now.outer) }
         ensures { result ≡ (if nat_lt row
@@ -203,8 +206,9 @@ impl Filled {
     }
 }
 
-/// The filling of a shape with this column reading: letters after the last cell are left out, and
-/// cells after the last letter have the number 0.
+/// The filling of `shape` with the column reading `reading`: letters in excess of the cells are
+/// ignored, and if there are fewer letters than cells, the last cells in the order of the reading
+/// have the number 0.
 pub fn filling_with_reading(alloc: Global, shape: Skew, reading: &[u16]) -> Result<Filled, NoMemory>
     ensures { IfOk result (λ f. f ≡ filled_with shape.0 shape.1 reading.now) }
 {

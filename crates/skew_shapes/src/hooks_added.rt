@@ -1,4 +1,4 @@
-//! The partitions made from a partition by adding a rim hook.
+//! A lister of the partitions made from a partition by adding a rim hook of k cells.
 ghost use Rattle.std.specs.Prelude.{◌≡◌, ◌+◌, ◌-◌, ◌<◌, ◌≤◌, ◌↔◌, ◌∷◌, ◌++◌, [], true, max, map};
 ghost use Rattle.std.specs.Prelude.{take, length, None, IfOk, IfSome, IsSome, IsTrue};
 ghost use Rattle.std.specs.Bool.{OnTrue, OnFalse};
@@ -15,19 +15,22 @@ use partitions::Partition;
 use std::alloc::Global;
 use std::marker::Model;
 
-/// The partitions ν such that ν/inner is a rim hook of k cells, in decreasing lexicographic order,
-/// each once: a `Lister` that works in one buffer.
+/// A lister (trait `Lister`) of the partitions ν such that ν/inner is a rim hook of k cells, for
+/// given inner and k, in decreasing lexicographic order, each once. Each ν is written over the one
+/// before it in one buffer.
 #[derive(Drop)]
 pub struct HooksAdded {
     base: Partition,
-    /// The number of cells of a rim hook.
+    /// The number of cells of each rim hook.
     k: u16,
-    /// The lengths of the rows of the current partition; there is a place for each row that a
-    /// partition can have.
+    /// The lengths of the rows of the current partition. The buffer has a place for k more rows
+    /// than `base` has; no listed partition has more rows.
     buffer: Vec<u16>,
-    /// The rows of the current rim hook; hooks that are not listed yet end after its last row.
+    /// The first and the last row of the current rim hook; the rim hooks still to be listed have a
+    /// greater last row.
     hook: HookRows,
-    /// Whether a partition is current.
+    /// Whether there is a current partition: false before the first one and after the end of the
+    /// list.
     listed: bool,
 }
 
@@ -43,9 +46,9 @@ impl Model for HooksAdded {
 }
 
 impl HooksAdded {
-    /// The partitions made by adding a rim hook of `k` cells to `inner`; none of them is current
-    /// yet. The cells of `inner` and k together are at most 4,096, and its rows and k at most 512.
-    /// For k = 0 there is none.
+    /// A lister of the partitions made by adding a rim hook of `k` cells to `inner`. It is before
+    /// the first of them. `inner` must have at most 4,096 - k cells and at most 512 - k rows. For k
+    /// = 0 the list is empty.
     pub fn new(alloc: Global, inner: &Partition, k: u16) -> Result<HooksAdded, NoMemory>
         requires cells { size inner.now + k ≤ 4096 }
         requires rows { rows inner.now + k ≤ 512 }
@@ -63,7 +66,7 @@ impl HooksAdded {
         })
     }
 
-    /// The height of the rim hook that makes the current partition: the number of its rows.
+    /// The height (number of rows) of the rim hook ν/inner, for the current partition ν.
     pub fn height(&self) -> u16
         requires { IsSome self.now.item }
         ensures { IfSome self.now.item (λ ν. result ≡ height ν self.now.base) }
@@ -77,7 +80,8 @@ impl Lister for HooksAdded {
 
     ghost item = { λ l. l.item };
 
-    // The clauses of the trait hold, and the inner partition is unchanged.
+    // Moves on to the next partition, as the trait `Lister` specifies; `base`, the partition to
+    // which the rim hooks are added, is unchanged.
     fn advance(&mut self) -> bool
         ensures next { self.old.rest ≡ option_to_list self.new.item ++ self.new.rest }
         ensures found { IsTrue result ↔ IsSome self.new.item }
@@ -100,7 +104,9 @@ impl Lister for HooksAdded {
     }
 }
 
-/// Moves on to the rows of the next rim hook that can be added; false if there is no further one.
+/// Takes, among the rim hooks of `k` cells that can be added to `inner` and have a last row greater
+/// than `hook.last`, the one with the least last row, and replaces `hook` by its rows. Returns
+/// false if there is no such rim hook. `most` is `k` plus the number of rows of `inner`.
 fn find_next(inner: &[u16], k: u16, most: u16, hook: &mut HookRows) -> bool
     requires falls { Falls inner.now }
     requires few { most ≤ 512 }
@@ -127,8 +133,9 @@ fn find_next(inner: &[u16], k: u16, most: u16, hook: &mut HookRows) -> bool
     false
 }
 
-/// The first row from `hook.first` on that is not too long to be the first row of a rim hook of `k`
-/// cells with the last row `hook.last`; `hook.last` if all before it are too long.
+/// The first of the rows `hook.first` to `hook.last` that is short enough to be the first row of a
+/// rim hook of `k` cells with the last row `hook.last`; `hook.last` if all rows before it are too
+/// long.
 fn first_passed(inner: &[u16], k: u16, hook: HookRows) -> u16
     requires ordered { hook.first ≤ hook.last }
     requires begins { BeginsFrom k inner.now hook.first hook.last }
@@ -147,7 +154,7 @@ fn first_passed(inner: &[u16], k: u16, hook: HookRows) -> u16
     first
 }
 
-/// Whether a rim hook of `k` cells can be added in these rows.
+/// Whether a rim hook of `k` cells in the rows `hook.first` to `hook.last` can be added to `inner`.
 fn can_be_added(inner: &[u16], k: u16, hook: HookRows) -> bool
     requires counts { 1 ≤ hook.first }
     requires ordered { hook.first ≤ hook.last }
@@ -159,7 +166,8 @@ fn can_be_added(inner: &[u16], k: u16, hook: HookRows) -> bool
         && (hook.first == 1 || raised <= u32::from(length_of(inner, hook.first - 1)) + below)
 }
 
-/// Writes the lengths of the rows of the partition to which this rim hook is added.
+/// Writes to `buffer` the lengths of the rows of `inner` after the rim hook of `k` cells in the
+/// rows of `hook` is added. This rim hook must be one that can be added.
 fn write_rows(inner: &[u16], k: u16, hook: HookRows, buffer: &mut [u16])
     requires counts { 1 ≤ hook.first }
     requires ordered { hook.first ≤ hook.last }
@@ -177,7 +185,8 @@ fn write_rows(inner: &[u16], k: u16, hook: HookRows, buffer: &mut [u16])
     }
 }
 
-/// The length of a row of the partition with this rim hook added.
+/// The length of row `row` of `inner` after the rim hook of `k` cells in the rows of `hook` is
+/// added.
 fn row_with_hook(inner: &[u16], k: u16, hook: HookRows, row: u16) -> u16
     requires counts { 1 ≤ hook.first }
     requires ordered { hook.first ≤ hook.last }

@@ -1,4 +1,4 @@
-//! The partitions made from a partition by removing a rim hook.
+//! A lister of the partitions made from a partition by removing a rim hook of k cells.
 ghost use Rattle.std.specs.Prelude.{◌≡◌, ◌+◌, ◌-◌, ◌<◌, ◌≤◌, ◌↔◌, ◌∷◌, ◌++◌, [], true, map, length};
 ghost use Rattle.std.specs.Prelude.{None, IfOk, IfSome, IsSome, IsTrue};
 ghost use Rattle.std.specs.Bool.{OnTrue, OnFalse};
@@ -16,18 +16,22 @@ use partitions::Partition;
 use std::alloc::Global;
 use std::marker::Model;
 
-/// The partitions ν such that outer/ν is a rim hook of k cells, in decreasing lexicographic order,
-/// each once: a `Lister` that works in one buffer.
+/// A lister (trait `Lister`) of the partitions ν such that outer/ν is a rim hook of k cells, for
+/// given outer and k, in decreasing lexicographic order, each once. Each ν is written over the one
+/// before it in one buffer.
 #[derive(Drop)]
 pub struct HooksRemoved {
     base: Partition,
-    /// The number of cells of a rim hook.
+    /// The number of cells of each rim hook.
     k: u16,
-    /// For each row of the outer partition, its length in the current partition.
+    /// The lengths in the current partition of all rows of `base`; 0 for a row that was removed
+    /// completely.
     buffer: Vec<u16>,
-    /// The rows of the current rim hook; hooks that are not listed yet begin before its first row.
+    /// The first and the last row of the current rim hook; the rim hooks still to be listed have a
+    /// smaller first row.
     hook: HookRows,
-    /// Whether a partition is current.
+    /// Whether there is a current partition: false before the first one and after the end of the
+    /// list.
     listed: bool,
 }
 
@@ -43,8 +47,8 @@ impl Model for HooksRemoved {
 }
 
 impl HooksRemoved {
-    /// The partitions made by removing a rim hook of `k` cells from `outer`; none of them is
-    /// current yet. For k = 0 there is none.
+    /// A lister of the partitions made by removing a rim hook of `k` cells from `outer`. It is
+    /// before the first of them. For k = 0 the list is empty.
     pub fn new(alloc: Global, outer: &Partition, k: u16) -> Result<HooksRemoved, NoMemory>
         ensures hooks { IfOk result (λ l.
             AreHooksRemoved outer.now k (⟦<HooksRemoved as Lister>⟧.rest l)) }
@@ -64,8 +68,7 @@ impl HooksRemoved {
         })
     }
 
-    /// The height of the rim hook whose removal leaves the current partition:
-    /// the number of its rows.
+    /// The height (number of rows) of the rim hook outer/ν, for the current partition ν.
     pub fn height(&self) -> u16
         requires { IsSome self.now.item }
         ensures { IfSome self.now.item (λ ν. result ≡ height self.now.base ν) }
@@ -79,7 +82,8 @@ impl Lister for HooksRemoved {
 
     ghost item = { λ l. l.item };
 
-    // The clauses of the trait hold, and the outer partition is unchanged.
+    // Moves on to the next partition, as the trait `Lister` specifies; `base`, the partition from
+    // which the rim hooks are removed, is unchanged.
     fn advance(&mut self) -> bool
         ensures next { self.old.rest ≡ option_to_list self.new.item ++ self.new.rest }
         ensures found { IsTrue result ↔ IsSome self.new.item }
@@ -100,7 +104,9 @@ impl Lister for HooksRemoved {
     }
 }
 
-/// Moves on to the rows of the next rim hook that can be removed; false if there is no further one.
+/// Takes, among the rim hooks of `k` cells that can be removed from `outer` and have a first row
+/// smaller than `hook.first`, the one with the greatest first row, and replaces `hook` by its rows.
+/// Returns false if there is no such rim hook.
 fn find_next(outer: &[u16], k: u16, hook: &mut HookRows) -> bool
     requires falls { Falls outer.now }
     requires few { rows outer.now ≤ 512 }
@@ -124,8 +130,9 @@ fn find_next(outer: &[u16], k: u16, hook: &mut HookRows) -> bool
     false
 }
 
-/// The last row up to `hook.last` that is not too short to be the last row of a rim hook of `k`
-/// cells with the first row `hook.first`; `hook.first` if all after it are too short.
+/// The last of the rows `hook.first` to `hook.last` that is long enough to be the last row of a rim
+/// hook of `k` cells with the first row `hook.first`; `hook.first` if all rows after it are too
+/// short.
 fn last_passed(outer: &[u16], k: u16, hook: HookRows) -> u16
     requires ordered { hook.first ≤ hook.last }
     requires few { rows outer.now ≤ 512 }
@@ -146,7 +153,8 @@ fn last_passed(outer: &[u16], k: u16, hook: HookRows) -> u16
     last
 }
 
-/// Whether a rim hook of `k` cells can be removed in these rows.
+/// Whether a rim hook of `k` cells in the rows `hook.first` to `hook.last` can be removed from
+/// `outer`.
 fn can_be_removed(outer: &[u16], k: u16, hook: HookRows) -> bool
     requires counts { 1 ≤ hook.first }
     requires ordered { hook.first ≤ hook.last }
@@ -158,7 +166,8 @@ fn can_be_removed(outer: &[u16], k: u16, hook: HookRows) -> bool
         && start < u32::from(length_of(outer, hook.last)) + u32::from(k)
 }
 
-/// Writes the lengths of the rows of the partition without this rim hook.
+/// Writes to `buffer` the lengths of the rows of `outer` after the rim hook of `k` cells in the
+/// rows of `hook` is removed. This rim hook must be one that can be removed.
 fn write_rows(outer: &[u16], k: u16, hook: HookRows, buffer: &mut [u16])
     requires counts { 1 ≤ hook.first }
     requires ordered { hook.first ≤ hook.last }
@@ -174,7 +183,8 @@ fn write_rows(outer: &[u16], k: u16, hook: HookRows, buffer: &mut [u16])
     }
 }
 
-/// The length of a row of the partition without this rim hook.
+/// The length of row `row` of `outer` after the rim hook of `k` cells in the rows of `hook` is
+/// removed.
 fn row_without_hook(outer: &[u16], k: u16, hook: HookRows, row: u16) -> u16
     requires counts { 1 ≤ hook.first }
     requires ordered { hook.first ≤ hook.last }

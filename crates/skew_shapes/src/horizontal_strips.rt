@@ -1,4 +1,5 @@
-//! The partitions made by adding a horizontal strip to a partition, as a list and one at a time.
+//! The partitions made by adding a horizontal strip of k cells to a partition, as a list and by a
+//! lister.
 ghost use Rattle.std.specs.Prelude.{◌≡◌, ◌+◌, ◌^◌, ◌<◌, ◌≤◌, ◌∷◌, ◌++◌, [], None, ℕ, List, map};
 ghost use Rattle.std.specs.Prelude.{IfOk, OnOk};
 ghost use Rattle.sym_model.specs.Partition.{Falls, rows, size};
@@ -11,8 +12,9 @@ use partitions::Partition;
 use std::alloc::Global;
 use std::marker::Model;
 
-/// The partitions ν such that ν/inner is a horizontal strip of k cells, in decreasing lexicographic
-/// order, each once: a `Lister` of shapes that are all made at the start.
+/// A lister (trait `Lister`) of the partitions ν such that ν/inner is a horizontal strip of k
+/// cells, for given inner and k, in decreasing lexicographic order, each once. All of them are
+/// computed when the lister is made.
 #[derive(Drop)]
 pub struct HorizontalStrips {
     shapes: Vec<Partition>,
@@ -31,9 +33,9 @@ impl Model for HorizontalStrips {
 }
 
 impl HorizontalStrips {
-    /// The partitions made by adding a horizontal strip of `k` cells to `inner`; none of them is
-    /// current yet. The cells of `inner` and k together are at most 4,096, and its rows and k at
-    /// most 512. For k = 0 the only one is `inner`.
+    /// A lister of the partitions made by adding a horizontal strip of `k` cells to `inner`. It is
+    /// before the first of them. `inner` must have at most 4,096 - k cells and at most 512 - k
+    /// rows. For k = 0 the only listed partition is `inner`.
     pub fn new(alloc: Global, inner: &Partition, k: u16) -> Result<HorizontalStrips, NoMemory>
         requires cells { size inner.now + k ≤ 4096 }
         requires rows { rows inner.now + k ≤ 512 }
@@ -67,9 +69,9 @@ impl Lister for HorizontalStrips {
     }
 }
 
-/// The partitions ν such that ν/inner is a horizontal strip of k cells, in decreasing lexicographic
-/// order, each once. The cells of `inner` and k together are at most 4,096, and its rows and k at
-/// most 512. For k = 0 the only one is `inner`.
+/// The partitions ν such that ν/inner is a horizontal strip of `k` cells, in decreasing
+/// lexicographic order, each once. `inner` must have at most 4,096 - k cells and at most 512 - k
+/// rows. For k = 0 the only one is `inner`.
 pub fn with_horizontal_strip(
     alloc: Global,
     inner: &Partition,
@@ -92,9 +94,10 @@ pub fn with_horizontal_strip(
     Ok(shapes)
 }
 
-/// Adds to `shapes` the partitions that begin with the rows of `above`, followed by the rows of
-/// `inner` with a strip of `left` cells added, the first of them at most `most` long. `above` is
-/// unchanged at the end.
+/// Appends to `shapes` one partition for each partition ν whose first row has at most `most` cells
+/// and that is made by adding a horizontal strip of `left` cells to `inner` (these are `strips_on
+/// most left inner`): the partition with the rows of `above` followed by those of ν. At the end
+/// `above` is unchanged.
 fn add_strips(
     alloc: Global,
     most: u16,
@@ -128,8 +131,8 @@ fn add_strips(
     Ok(())
 }
 
-/// Adds to `shapes` the partition with the rows of `above` and, if `left` is not 0, a last row of
-/// `left` cells. `above` is unchanged at the end.
+/// Appends to `shapes` the partition with the rows of `above` and, if `left` is not 0, a last row
+/// of `left` cells. At the end `above` is unchanged.
 fn add_last(
     alloc: Global,
     left: u16,

@@ -1,4 +1,5 @@
-//! Lengths of rows, and the rows of a rim hook. Rows are counted from 1.
+//! The length of a row of a partition, and the type of the rows of a rim hook. Rows are counted
+//! from 1.
 ghost use Rattle.std.specs.Prelude.{◌≡◌, ◌≤◌};
 ghost use Rattle.sym_model.specs.Partition.{part, without_last_zeros};
 
@@ -9,7 +10,7 @@ pub(crate) struct HookRows {
     pub(crate) last: u16,
 }
 
-/// The length of a row of a partition; 0 after the last row.
+/// The length of row `row` of the partition; 0 after its last row.
 pub(crate) fn length_of(parts: &[u16], row: u16) -> u16
     requires { 1 ≤ row }
     ensures { result ≡ part parts.now row }
@@ -20,7 +21,7 @@ pub(crate) fn length_of(parts: &[u16], row: u16) -> u16
     }
 }
 
-/// The numbers without the zeros at their end.
+/// The list without the zeros at its end.
 pub(crate) fn before_zeros(numbers: &[u16]) -> &[u16]
     ensures { result.now ≡ without_last_zeros numbers.now }
 {

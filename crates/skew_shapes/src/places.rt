@@ -1,4 +1,5 @@
-//! The numbers in the cells of a skew shape, kept in one list, row by row.
+//! The numbers of the cells of a skew shape in one list: `starts` has, for each row of the outer
+//! partition, the index in the list `numbers` at which the row begins.
 ghost use Rattle.std.specs.Prelude.{◌≡◌, ℕ, ◌+◌, ◌-◌, ◌<◌, ◌≤◌, [], ◌++◌, map, length, take, drop};
 ghost use Rattle.std.specs.Prelude.{slice_index, IfOk, OnOk};
 ghost use Rattle.sym_model.specs.Partition.{columns, size};
@@ -8,7 +9,8 @@ ghost use Rattle.skew_shapes.specs.Rows.{number_in, place_of, reaches};
 
 use std::alloc::{AllocError, Global};
 
-/// The place at which each row begins, if rows of these lengths follow one another.
+/// For rows of the given lengths, one after another in one list, the index at which each row
+/// begins.
 pub(crate) fn row_starts(alloc: Global, lengths: &[u16]) -> Result<Vec<u16>, AllocError>
     requires { size lengths.now ≤ 4096 }
     ensures { IfOk result (λ starts. HasPlaces starts.items lengths.now (size lengths.now)) }
@@ -22,7 +24,8 @@ pub(crate) fn row_starts(alloc: Global, lengths: &[u16]) -> Result<Vec<u16>, All
     Ok(starts)
 }
 
-/// The place of the cell in this row and this column, both counted from 1.
+/// The index of the cell (row, column), both counted from 1, in the list of numbers, if row i
+/// begins at the index `starts[i - 1]`.
 pub(crate) fn place(starts: &[u16], row: u16, column: u16) -> usize
     requires row { (1 ≤ row) × (row - 1 < length starts.now) }
     requires column { 1 ≤ column }
@@ -31,7 +34,8 @@ pub(crate) fn place(starts: &[u16], row: u16, column: u16) -> usize
     usize::from(starts[usize::from(row) - 1]) + (usize::from(column) - 1)
 }
 
-/// Whether the row at this place, counted from 0, has a cell in the column.
+/// Whether outer/inner has a cell in column `column` of row `row`, with rows counted from 0 and
+/// columns from 1.
 fn has_cell(outer: &[u16], inner: &[u16], row: usize, column: u16) -> bool
     requires { row < length outer.now }
     ensures { result ≡ reaches outer.now inner.now column (row + 1) }
@@ -39,7 +43,8 @@ fn has_cell(outer: &[u16], inner: &[u16], row: usize, column: u16) -> bool
     inner.get(row).copied().unwrap_or(0) < column && column <= outer[row]
 }
 
-/// Writes the letters of a word into the cells of outer/inner in the order of the column reading.
+/// Writes the letters of `word` into the cells of outer/inner in the order of the column reading.
+/// All cells must have the number 0 before; those to which no letter is written keep it.
 pub(crate) fn put_columns(
     numbers: &mut [u16],
     starts: &[u16],
@@ -61,7 +66,8 @@ pub(crate) fn put_columns(
     }
 }
 
-/// Replaces all numbers with the letters of a word, written into the cells of outer/inner.
+/// Sets all numbers to 0, and then writes the letters of `word` into the cells of outer/inner in
+/// the order of the column reading.
 pub(crate) fn replace_columns(
     numbers: &mut [u16],
     starts: &[u16],
@@ -78,8 +84,9 @@ pub(crate) fn replace_columns(
     put_columns(numbers, starts, outer, inner, word);
 }
 
-/// Writes letters of the word into the cells of one column, from top to bottom. `rest` has the
-/// letters that are not written yet, and the result has those that are left after this column.
+/// Writes the next letters of `word` into the cells of column `column`, from top to bottom. `rest`
+/// is the suffix of `word` left after the columns further right, and the result is the suffix left
+/// after this column.
 fn put_column<'a>(
     numbers: &mut [u16],
     starts: &[u16],
@@ -114,7 +121,8 @@ fn put_column<'a>(
     rest
 }
 
-/// Appends the numbers of the cells of outer/inner to a list, in the order of the column reading.
+/// Appends to `letters` the numbers of the cells of outer/inner, in the order of the column
+/// reading.
 pub(crate) fn push_columns(
     letters: &mut Vec<u16>,
     starts: &[u16],
@@ -160,7 +168,7 @@ fn push_column(
     Ok(())
 }
 
-/// The numbers after the first `count`.
+/// The list without its first `count` numbers.
 pub(crate) fn without_first(numbers: &[u16], count: usize) -> &[u16]
     ensures { result.now ≡ drop count numbers.now }
 {
@@ -171,7 +179,7 @@ pub(crate) fn without_first(numbers: &[u16], count: usize) -> &[u16]
     }
 }
 
-/// The numbers from the place `from` up to the place before `to`.
+/// The numbers at the indices `from` to `to` - 1.
 pub(crate) fn between(numbers: &[u16], from: usize, to: usize) -> &[u16]
     requires { (from ≤ to) × (to ≤ length numbers.now) }
     ensures { result.now ≡ take (to - from) (drop from numbers.now) }

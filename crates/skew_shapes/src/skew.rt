@@ -30,8 +30,7 @@ impl Model for Skew {
 }
 
 impl Skew {
-    /// The shape of the cells of `outer` that are not cells of `inner`; None if `inner` is not
-    /// contained in `outer`.
+    /// The skew shape outer/inner; None if `inner` is not contained in `outer`.
     pub fn new(outer: Partition, inner: Partition) -> Option<Skew>
         ensures some { IsSome result ↔ Holds outer inner }
         ensures value { IfSome result (λ s. s ≡ (outer, inner)) }
@@ -59,7 +58,7 @@ impl Skew {
         &self.inner
     }
 
-    /// The number of cells.
+    /// The number of cells of outer/inner.
     pub fn cells(&self) -> u16
         ensures value { result ≡ length (cells self.now.0 self.now.1) }
         ensures sizes { result + size self.now.1 ≡ size self.now.0 }
@@ -76,15 +75,16 @@ impl Skew {
         self.outer.part(1)
     }
 
-    /// Whether the shape has a cell in this row and this column, both counted from 1.
+    /// Whether outer/inner has the cell (row, column), both counted from 1.
     pub fn has_cell(&self, row: u16, column: u16) -> bool
         ensures { result ≡ is_cell self.now.0 self.now.1 row column }
     {
         row >= 1 && self.inner.part(row) < column && column <= self.outer.part(row)
     }
 
-    /// Removes the last cell of this row of the inner partition, so that it becomes a cell of the
-    /// shape. The row, counted from 1, must be longer than the next one.
+    /// Removes the last cell of row `row`, counted from 1, from the inner partition, so that this
+    /// cell becomes a cell of the shape. In the inner partition, row `row` must be longer than the
+    /// next row.
     pub(crate) fn remove_inner_corner(&mut self, row: u16)
         requires { HasInnerCorner row self.old.1 }
         ensures { self.new ≡ (self.old.0, without_last_zeros (lowered_at row self.old.1)) }
@@ -92,8 +92,9 @@ impl Skew {
         self.inner.remove_corner(row);
     }
 
-    /// Removes the last cell of this row of the outer partition, which must be a cell of the shape.
-    /// The row, counted from 1, must be longer than the next one.
+    /// Removes the last cell of row `row`, counted from 1, from the outer partition. This cell must
+    /// be a cell of the shape, and in the outer partition row `row` must be longer than the next
+    /// row.
     pub(crate) fn remove_outer_corner(&mut self, row: u16)
         requires corner { HasInnerCorner row self.old.0 }
         requires cell { part self.old.1 row < part self.old.0 row }
@@ -102,7 +103,7 @@ impl Skew {
         self.outer.remove_corner(row);
     }
 
-    /// An equal shape.
+    /// A copy of this shape.
     pub fn copy(&self) -> Result<Skew, NoMemory>
         ensures { IfOk result (λ s. s ≡ self.now) }
     {

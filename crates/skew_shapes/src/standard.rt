@@ -8,8 +8,8 @@ ghost use Rattle.sym_model.specs.StandardTableau.{IsStandard};
 use crate::Tableau;
 use std::marker::Model;
 
-/// A standard tableau: a tableau of a straight shape in which each number from 1 to the number of
-/// its cells occurs once.
+/// A standard tableau: a tableau of straight shape in which each number from 1 to the number of its
+/// cells occurs once.
 #[derive(Debug, Drop)]
 pub struct Standard {
     tableau: Tableau,
@@ -28,8 +28,9 @@ impl Model for Standard {
 }
 
 impl Standard {
-    /// The same tableau, if it is standard. It is returned as an error if its inner partition is
-    /// not empty, or its entries are not the numbers from 1 to the number of its cells, each once.
+    /// The tableau `t` as a standard tableau. If its inner partition is not empty, or if its
+    /// entries are not the numbers from 1 to the number of its cells, each once, `t` is returned
+    /// unchanged as the error.
     pub fn new(t: Tableau) -> Result<Standard, Tableau>
         ensures standard { IsOk result ↔ ((t.inner ≡ []) × IsStandard t.rows) }
         ensures ok { IfOk result (λ s. s ≡ t) }
@@ -53,7 +54,8 @@ impl Standard {
     }
 }
 
-/// Whether each number from 1 to the number of cells occurs once in a tableau of a straight shape.
+/// Whether each number from 1 to the number of cells of `t`, a tableau of straight shape, occurs in
+/// it exactly once.
 fn has_each_once(t: &Tableau) -> bool
     requires { t.now.inner ≡ [] }
     ensures { result ≡ every (λ k. times_in k (letters_of t.now.rows) == 1)
@@ -67,7 +69,7 @@ fn has_each_once(t: &Tableau) -> bool
     true
 }
 
-/// The number of times that a number occurs in a tableau.
+/// The number of times that `number` occurs in the tableau `t`.
 fn times(t: &Tableau, number: u16) -> usize
     ensures { result ≡ times_in number (letters_of t.now.rows) }
 {
@@ -78,7 +80,7 @@ fn times(t: &Tableau, number: u16) -> usize
     count
 }
 
-/// The number of times that a number occurs in a row.
+/// The number of times that `number` occurs in the row.
 fn times_in_row(row: &[u16], number: u16) -> usize
     ensures count { result ≡ times_in number row.now }
     ensures most { result ≤ length row.now }

@@ -10,8 +10,8 @@ use calc_base::NoMemory;
 use std::alloc::Global;
 use std::marker::Model;
 
-/// A semistandard tableau of a skew shape, with entries at least 1. It keeps one number for each
-/// cell of its outer partition, in memory that is allocated when the tableau is made.
+/// A semistandard tableau of a skew shape, with entries at least 1. Memory for one number for each
+/// cell of the outer partition is allocated when the tableau is made.
 #[derive(Debug, Drop)]
 pub struct Tableau {
     filled: Filled,
@@ -29,12 +29,12 @@ impl Model for Tableau {
 }
 
 impl Tableau {
-    /// The tableau of a shape with this column reading: the columns from the rightmost to the
-    /// leftmost, each from top to bottom.
+    /// The tableau of `shape` whose column reading is `reading`: the entries of the columns from
+    /// the rightmost to the leftmost, each column from top to bottom.
     ///
     /// Fails with `Length` if and only if the number of entries differs from the number of cells.
     /// Otherwise, if there is memory for the filling, it fails with `Order` if and only if the
-    /// filling is not semistandard with entries at least 1.
+    /// filling with this column reading is not semistandard with entries at least 1.
     pub fn from_reading(
         alloc: Global,
         shape: Skew,
@@ -61,7 +61,7 @@ impl Tableau {
         }
     }
 
-    /// The tableau with the numbers of a filling.
+    /// A filling that is semistandard with entries at least 1, as a tableau.
     pub(crate) fn of(filled: Filled) -> Tableau
         requires { IsTableauWithin filled }
         ensures { result ≡ filled }
@@ -69,7 +69,7 @@ impl Tableau {
         Tableau { filled }
     }
 
-    /// The shape.
+    /// The skew shape of the tableau.
     pub fn shape(&self) -> &Skew
         ensures value { result.now ≡ (self.now.outer, self.now.inner) }
         ensures tableau { IsTableauWithin self.now }
@@ -77,7 +77,7 @@ impl Tableau {
         self.filled.shape()
     }
 
-    /// The entries of this row, counted from 1, from left to right.
+    /// The entries of row `row`, counted from 1, from left to right.
     pub fn row(&self, row: u16) -> &[u16]
         requires { (1 ≤ row) × (row ≤ rows self.now.outer) }
         ensures { result.now ≡ row_of self.now.rows row }
@@ -85,15 +85,15 @@ impl Tableau {
         self.filled.row(row)
     }
 
-    /// The entry in this row and this column, both counted from 1; None if that is not a cell of
-    /// the shape.
+    /// The entry in the cell (row, column), both counted from 1; None if the shape has no such
+    /// cell.
     pub fn entry(&self, row: u16, column: u16) -> Option<u16>
         ensures { result ≡ entry_at self.now row column }
     {
         self.filled.entry(row, column)
     }
 
-    /// An equal tableau.
+    /// A copy of this tableau.
     pub fn copy(&self) -> Result<Tableau, NoMemory>
         ensures { IfOk result (λ t. t ≡ self.now) }
     {
@@ -102,7 +102,8 @@ impl Tableau {
         })
     }
 
-    /// The column reading: the columns from the rightmost to the leftmost, each from top to bottom.
+    /// The column reading: the entries of the columns from the rightmost to the leftmost, each
+    /// column from top to bottom.
     pub fn column_reading(&self) -> Result<Word, NoMemory>
         ensures { IfOk result (λ w. w
             ≡ column_reading self.now.outer self.now.inner self.now.rows) }
@@ -110,7 +111,7 @@ impl Tableau {
         self.filled.column_reading()
     }
 
-    /// The filling with the same shape and entries, which may then be changed.
+    /// The filling with the shape and the entries of this tableau.
     pub fn into_filled(self) -> Filled
         ensures { result ≡ self }
     {

@@ -1,6 +1,7 @@
--- Products of scalars and counts that are added to a list with its fractions cleared, and their overflows.
+-- A product of two scalars and a count is added to a list of fractions: what it adds to the coefficients times a common denominator, and when the sum
+-- overflows.
 use Rattle.std.proofs.Common.{◌≡◌, ◌⊎◌, ℕ, zero, suc, ◌*◌, ◌^◌, ◌<◌, ◌≤◌, Bool, true, List, [], ◌∷◌, sym, ◌∙◌, ap, ap₂, subst, refl, inl, inr, arith, ℤ, pos, ◌*ℤ◌, unsigned_abs}
-use Rattle.std.specs.Prelude.{nat_eq, nat_abs, Option, Some, None, IfSome}
+use Rattle.std.specs.Prelude.{nat_eq, nat_abs, None}
 use Rattle.std.specs.Int.{◌∣◌}
 use Rattle.std.specs.Cmp.Lexicographic.{pointwise, nat_list_eq_equiv}
 use Rattle.std.proofs.lemmas.Int.{ints, unsigned_abs-mul}
@@ -37,9 +38,8 @@ use Rattle.linear_combinations.specs.Cleared.{OverflowsCleared}
 use native.Mathlib.Nat.{mul-le-mul_left, mul-pos, dvd-mul_left}
 use lib.IntN.{+ℤ_idr, *ℤ-zero, zero-*ℤ}
 
--- ---- the product of two scalars
+-- ---- the product of two scalars and a count, times the denominators of the scalars
 
--- the number 1 divides 1
 abbrev one_divides : (1 ∣ 1)
 one_divides = dvd-mul_left 1 1
 
@@ -66,7 +66,7 @@ product-value d e a b p c n la lb lp f g h =
           ∙ ap₂ ◌*ℤ◌ (ap (scaled (d * e)) f ∙ u.1) (scaled-count n),
     )
 
--- if d and e are denominators of x and y with d·e < 2^127, the product of x and y is refused only if |d·x|·|e·y| ≥ 2^127
+-- if d and e are denominators of x and y with d·e < 2^127, and the checked product of x and y gives None, then |d·x|·|e·y| ≥ 2^127
 pub product-refused : {R : Type 0} (value : R → Fraction) (x y : R) (d e : ℕ)
     → AnswersProduct value x y None → IsDenominator d (value x) × IsDenominator e (value y)
     → d * e < 2 ^ 127 → 2 ^ 127 ≤ magnitude d (value x) * magnitude e (value y)
@@ -87,7 +87,6 @@ product-refused value x y d e answers h small = by (cases_lt (magnitude d (value
         cc
     by (inr l) = l
 
--- the absolute value of a product of two numerators is the product of their absolute values
 size_product : (d e : ℕ) (a b : Fraction) → nat_abs (scaled d a *ℤ scaled e b) ≡ magnitude d a * magnitude e b
 size_product d e a b = nat_abs-product (scaled d a) (scaled e b) ∙ ap₂ (λ m n. m * n) (size_scaled d a) (size_scaled e b)
 
@@ -134,7 +133,7 @@ refused-second value x y p w d e n lx ly f g answers h small =
     let both = ap₂ ◌*◌ size one in
     omega arith
 
--- ---- one more term added to a product
+-- ---- the product of two scalars and a count, added to a list as one more term
 
 pub at_same : (label : List ℕ) → pointwise nat_eq label label ≡ true
 at_same label = (bytes_eq-Decides label label).1 refl
@@ -155,7 +154,8 @@ Overflows-count d e n a b old k large =
     let m = ap (λ i. i * n) (size_product d e a b) in
     overflows_alone nat_list_eq_equiv same_partition (over (d * e) old) k (scaled d a *ℤ scaled e b *ℤ pos n) (omega arith)
 
--- if m_l·m_r has a coefficient of 2^127 or more, adding its product with two scalars that are not 0 overflows
+-- if m_l·m_r has a coefficient of 2^127 or more, and the scalars a and b with the denominators d and e are not 0, adding d·e·a·b·m_l·m_r to the list
+-- d·e·`old` overflows
 pub Overflows-many : (d e : ℕ) (a b : Fraction) (old : Terms (List ℕ)) (l r : List ℕ) → 0 < magnitude d a → 0 < magnitude e b
     → (ν : List ℕ) × IsPartition ν × (2 ^ 127 ≤ arrangements l r ν)
     → OverflowsCleared (pointwise nat_eq) (d * e) old
@@ -170,11 +170,7 @@ Overflows-many d e a b old l r some also h =
     let w = h.2 in
     (h.0, omega (arith, ints))
 
-pub if_some : {A : Type 0} {P Q : A → Type 0} (o : Option A) → ((x : A) → P x → Q x) → IfSome o P → IfSome o Q
-if_some None f h = h
-if_some (Some x) f h = f x h
-
--- in a table, the coefficient of a term, times a common denominator q, is not 0
+-- if q > 0 is a multiple of the denominator of the term t of a table, q times the coefficient of t is not 0
 pub magnitude-positive : (q : ℕ) (terms : Terms (List ℕ)) (t : List ℕ × Fraction) → IsCombination (pointwise nat_eq) is_label terms → Among t terms
     → 0 < q → t.1.1 ∣ q → 0 < magnitude q t.1
 magnitude-positive q terms t is m some h =

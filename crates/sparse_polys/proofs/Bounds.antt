@@ -1,8 +1,9 @@
--- Bounds of a family of polynomials and of the coefficients of its list.
---     coefficient-within         a coefficient is at most the numerator of the bound times its growth
---     coefficient-higher_label   a label of a size above the degree has the coefficient 0
---     greatest-within            the greatest size of a label is within the limit
---     past-weight                if a coefficient is 2^127 or more, so is the weight
+-- Bounds for a list of terms in m that expands polynomials f(n), if each f(n) has a majorant that is a sum of at most N powers of x_1 + .. + x_n
+-- with exponents up to d (`IsBounded`).
+--     coefficient-within         |c| ≤ N·`growth`(m, d) for each coefficient c
+--     coefficient-higher_label   each label of a size above d has the coefficient 0
+--     greatest-within            if each label has at most `limit` cells, so has the greatest one
+--     past-weight                if |c| ≥ 2^127 for a coefficient c of the list of an expression, the `weight` of the expression is 2^127 or more
 use Rattle.std.proofs.Common.{◌≡◌, ◌⊎◌, inl, inr, ℕ, ◌*◌, ◌^◌, ◌<◌, ◌≤◌, List, [], ◌∷◌, length, sym, ◌∙◌, ap, subst, refl, arith, pos}
 use Rattle.std.proofs.lemmas.Bool.{cases_lt}
 use Rattle.linear_combinations.proofs.Found.{coefficient_of_term}
@@ -24,7 +25,7 @@ use Rattle.monomial_laws.proofs.PowerSumCoefficients.{coefficient-monomial_terms
 use Rattle.monomial_laws.proofs.Majorants.{bounded_value, coefficient-higher}
 use Rattle.monomial_laws.proofs.WeightBounds.{coefficient_within_growth, growth-within_weight}
 
--- if the list W expands the polynomials f, the coefficient of a partition in W is that of its monomial in f
+-- if the list W in m expands the polynomials f(n) (`IsList`), the coefficient in W of a partition λ of n rows is that of x^λ in f(n)
 pub coefficient-list : (W : WholeTerms) (f : ℕ → Poly) → IsList W f → (label : List ℕ) → IsPartition label → coefficient W label ≡ coefficient (f (length label)) label
 coefficient-list W f h label p =
     ap (coefficient W) (sym (sorted_parts-partition label p))
@@ -42,7 +43,7 @@ coefficient-higher_label N d W f h b label p high =
     coefficient-list W f h label p
     ∙ coefficient-higher N d (length label) (f (length label)) (b (length label)) label refl high
 
--- if the polynomials that a table expands are bounded by N at the degree d, no label has a size above d
+-- if the list `terms` expands the polynomials f, and `IsBounded N d n` holds of f(n) for each n, no label of the list has a size above d
 pub AreWithin-list : (N d : ℕ) (terms : WholeTerms) (f : ℕ → Poly) → IsWholeTable terms → IsList terms f → ((n : ℕ) → IsBounded N d n (f n)) → AreWithin d terms
 AreWithin-list N d terms f is h b t m = by (cases_lt d (size t.0))
   where
@@ -66,7 +67,7 @@ past-weight e W d h label p large =
     three : (a b c d : ℕ) → a ≤ b → b ≤ c → c ≤ d → a ≤ d
     three a b c d h k l = omega arith
 
--- if no label has a size above the limit, the greatest size is at most the limit
+-- if each label of a list has a size of at most `limit`, the greatest size is at most `limit`
 pub greatest-within : {R : Type 0} (limit : ℕ) (terms : List (List ℕ × R)) → AreWithin limit terms → greatest_size terms ≤ limit
 greatest-within limit [] h = omega arith
 greatest-within limit (t ∷ terms) h = let a = h t (inl refl) in let b = greatest-within limit terms (λ u m. h u (inr m)) in omega arith

@@ -1,9 +1,8 @@
--- Lists to which terms are added one after another, with their fractions cleared
--- (linear_combinations' specs/Cleared).
---     found_over, mass_over, table_over   a cleared list is a table of integers
+-- Lists of fractions, times a common denominator q, to which terms are added one after another (specs/Cleared of linear_combinations).
+--     found_over, mass_over, table_over   q times a list is a table of integers
 --     Gains-term, Overflows-term          one term added to a list of fractions
 --     Gains-entry, Overflows-entry        one term added to a table over any ring
---     scaled_twice                        a multiple of a multiple
+--     scaled_twice                        a multiple of a multiple of a list
 use Rattle.std.proofs.Common.{◌≡◌, ◌⊎◌, ℕ, ◌+◌, ◌*◌, ◌/◌, ◌^◌, ◌<◌, ◌≤◌, Bool, true, false, cond, List, [], ◌∷◌, ◌++◌, refl, sym, ap, ap₂, ◌∙◌, subst, inl, inr, arith, ℤ, pos, ◌+ℤ◌, ◌*ℤ◌, unsigned_abs}
 use Rattle.std.specs.Prelude.{nat_eq, nat_abs, Option, Some, None, IsSome}
 use Rattle.std.specs.Int.{◌∣◌}
@@ -47,7 +46,6 @@ use Rattle.sparse_polys.specs.Products.{coefficient_at}
 use Rattle.sparse_polys.proofs.Coefficients.{nat_abs-is}
 use native.Mathlib.Nat.{mul-pos}
 use lib.IntN.{+ℤ_idr, zero-*ℤ}
-pub use Rattle.linear_combinations.proofs.Steps.{on_ok}
 
 pub lowest_at : {is_label : List ℕ → Bool} (terms : Terms (List ℕ)) → IsCombination (pointwise nat_eq) is_label terms → (e : List ℕ) → InLowestTerms (coefficient_at terms e)
 lowest_at {is_label} terms is e = lowest-coefficient is_label nat_list_eq_equiv same_partition terms is.proper e
@@ -55,7 +53,7 @@ lowest_at {is_label} terms is e = lowest-coefficient is_label nat_list_eq_equiv 
 pub scaled-nothing : (q : ℕ) → scaled q (whole (pos 0)) ≡ pos 0
 scaled-nothing q = zero-*ℤ (pos (q / 1))
 
--- ---- a list with its fractions cleared
+-- ---- a list of fractions times q
 
 module _ (q : ℕ) where
   pub size_scaled : (c : Fraction) → nat_abs (scaled q c) ≡ magnitude q c
@@ -65,7 +63,7 @@ module _ (q : ℕ) where
   mass_over [] = refl
   mass_over (t ∷ terms) = ap₂ (λ a b. a + b) (nat_abs-product t.1.0 (pos (q / t.1.1))) (mass_over terms)
 
-  -- the sum of c·φ(label) over the list with its fractions cleared by q is that of (q·c)·φ(label) over its terms
+  -- the sum of c·φ(label) over the list q·`terms` is the sum of (q·c)·φ(label) over `terms`
   pub over_sum : (φ : List ℕ → ℤ) (terms : Terms (List ℕ)) → pair (over q terms) φ ≡ total (λ (t : List ℕ × Fraction). scaled q t.1 *ℤ φ t.0) terms
   over_sum φ terms = total_map (λ (t : List ℕ × ℤ). t.1 *ℤ φ t.0) (λ (t : List ℕ × Fraction). (t.0, scaled q t.1)) terms
 
@@ -87,7 +85,7 @@ module _ (q : ℕ) where
     distinct_over : IsDistinct (pointwise nat_eq) (keys_of (over q terms))
     distinct_over = subst (IsDistinct (pointwise nat_eq)) (sym (keys_over terms)) is.distinct
 
-    -- the coefficient of the list with its fractions cleared by q is q times that of the list
+    -- the coefficient of e in the list q·`terms` is q times the coefficient of e in `terms`
     pub found_over : (e : List ℕ) → sum_over (only (pointwise nat_eq) e) (over q terms) ≡ scaled q (coefficient_at terms e)
     found_over e = over_at nat_list_eq_equiv same_partition (over q terms) distinct_over e ∙ coefficient_over terms e
 
@@ -111,7 +109,7 @@ module _ (q : ℕ) where
             r.1)
             (proper terms p.1 (λ u m. divides u (inr m)))
 
--- ---- one term added to a list
+-- ---- the term (k, c) added to the list `old`, whose denominators divide q
 
 module _ {is_label : List ℕ → Bool} (q : ℕ) (old new : Terms (List ℕ)) (k : List ℕ) (c : Fraction)
     (is : IsCombination (pointwise nat_eq) is_label old) (also : IsCombination (pointwise nat_eq) is_label new) (low : InLowestTerms c)
@@ -185,7 +183,7 @@ module _ {R : Type 0} (is_held : R → Type 0) (value : R → Fraction) (checked
       let h = ap (λ b. cond b (nat_abs z) 0) (nat_list_eq_equiv.refl k) in
       (k, omega arith)
 
--- adding a coefficient to the entries of a table over any ring adds it to the list of their values
+-- adding v to the coefficient of k in a table over any ring adds value(v) to the coefficient of k in the list of values
 module _ {R : Type 0} (value : R → Fraction) (zero : R) (none : value zero ≡ whole (pos 0))
     {is_label : List ℕ → Bool} (q : ℕ) (entries : List (List ℕ × R)) (k : List ℕ) (v : R)
     (was : Entries.IsCombination (pointwise nat_eq) is_label value entries) (some : 0 < q)
@@ -217,7 +215,7 @@ module _ {R : Type 0} (value : R → Fraction) (zero : R) (none : value zero ≡
         (coefficient_values value zero none (pointwise nat_eq) entries k) refl refused) some small
         divides cleared (combination_values value (pointwise nat_eq) is_label entries was) z e
 
--- ---- the product of two coefficients
+-- ---- the product c of two coefficients a and b, times their denominators d and e
 
 pub record IsClearedProduct (d e : ℕ) (a b c : Fraction) : Type 0 where
   pub positive : 0 < d * e
@@ -240,7 +238,7 @@ cleared-product d e a b c la lb f h =
 
 -- ---- a multiple of a multiple of a list
 
--- d times a list, and then c times the result, is c·d times the list
+-- (c·d)·xs is c·(d·xs) for a list xs of terms
 pub scaled_twice : {L : Type 0} (c d : ℤ) (xs : WholeTermsOf L) → multiple (c *ℤ d) xs ≡ multiple c (multiple d xs ++ [])
 scaled_twice c d [] = refl
 scaled_twice {L} c d (t ∷ xs) = ap (λ z. (t.0, z) ∷ multiple (c *ℤ d) xs) (product_assoc c d t.1) ∙ ap (λ (l : WholeTermsOf L). (t.0, c *ℤ (d *ℤ t.1)) ∷ l) (scaled_twice c d xs)

@@ -1,4 +1,4 @@
--- The coefficient of a label in a list of pairs.
+-- The coefficient of a label in a list of pairs of a label and a scalar.
 use Rattle.std.proofs.Common.{◌≡◌, Bool, true, false, cond, List, [], ◌∷◌, pos, refl, ap, ◌∙◌}
 use Rattle.std.specs.Prelude.{Option, Some, None}
 use Rattle.std.specs.Option.{option_map, unwrap_or}
@@ -24,7 +24,7 @@ pub keys-terms_of : {L R : Type 0} (value : R → Fraction) (es : List (L × R))
 keys-terms_of value [] = refl
 keys-terms_of value (e ∷ es) = ap (λ ks. e.0 ∷ ks) (keys-terms_of value es)
 
--- the value of the coefficient that a look-up finds, or 0 if it finds none
+-- the value of the scalar that a look-up returns, or 0 if it returns None
 abbrev pub value_at : {R : Type 0} → (R → Fraction) → Option R → Fraction
 value_at value None = whole (pos 0)
 value_at value (Some c) = value c

@@ -1,6 +1,6 @@
--- The polynomials of a list after it is divided by a number.
---     within-multiple, bounded-multiple      bounds of the polynomials bound its labels and coefficients
---     expansion-, within-, bounded-quotients the bounds for an expression, from its degree and its numerator
+-- Bounds for the labels and coefficients of a list of terms in m that is divided by a number.
+--     within-multiple, bounded-multiple       by the bounds of the polynomials that the list expands before it is divided
+--     expansion-, within-, bounded-quotients  the list of an expression, bounded by the degree, the numerator and the denominator of the expression
 use Rattle.std.proofs.Common.{◌≡◌, ◌⊎◌, ℕ, ◌*◌, ◌/◌, ◌<◌, ◌≤◌, true, List, length, sym, ◌∙◌, ap, ap₂, subst, refl, inl, inr, arith, pos, ◌*ℤ◌}
 use Rattle.std.specs.Prelude.{nat_abs}
 use Rattle.std.proofs.lemmas.Bool.{cases_lt, and_parts}
@@ -36,7 +36,7 @@ use Rattle.sym_model.proofs.Integers.{product_cancel}
 use native.Mathlib.Nat.{mul-pos}
 use lib.IntN.{*ℤ_comm, *ℤ-zero}
 
--- `terms` is the list W divided by D·k, W is k times the polynomials f, and f(n) is bounded by N at the degree `top`
+-- `terms` is the list W divided by D·k, W expands k·f(n) for every n, and `IsBounded N top n` holds of f(n) for every n
 module _ (N top D k : ℕ) (W : WholeTerms) (terms : Terms (List ℕ)) (f : ℕ → Poly) (some : 0 < D) (more : 0 < k) (is : IsFractionTable terms) (q : Quotients (D * k) terms W)
     (h : IsList W (λ n. scale (pos k) (f n))) (b : (n : ℕ) → majorant.IsBounded N top n (f n)) where
   tests : (t : List ℕ × Fraction) → Among t terms → (is_reduced t.1 ≡ true) × (is_label t.0 ≡ true)
@@ -81,14 +81,13 @@ module _ (N top D k : ℕ) (W : WholeTerms) (terms : Terms (List ℕ)) (f : ℕ 
             (coefficient_bound N top (length t.0) (f (length t.0)) (b (length t.0)) t.0 refl),
       )
 
--- `terms` is the list W of the cleared value of e, divided by the denominator of e
+-- `terms` is the list W divided by d, the denominator of the expression e, and W expands the cleared value of e (d times its value)
 module _ (e : Tree) (W : WholeTerms) (terms : Terms (List ℕ)) (d : ℕ) (some : 0 < d) (is : IsFractionTable terms) (q : Quotients d terms W) (h : IsCleared W e) (den : d ≡ denominator e) where
   pub expansion-quotients : (n : ℕ) → IsExpansionOf Basis.monomials terms n (cleared_value e n) (denominator e)
   expansion-quotients n =
       subst (λ k. IsExpansionOf Basis.monomials terms n (cleared_value e n) k) den
       (expansion_divided d W terms (cleared_value e) (IsDivided-quotients d W terms some is q) h n)
 
-  -- W divided by d is W divided by d·1
   quotients : Quotients (d * 1) terms W
   quotients = subst (λ k. Quotients k terms W) (let o : d ≡ d * 1 = omega arith in o) q
 

@@ -1,5 +1,6 @@
--- Counts of a search that are below 2^127 are exact (specs/MonomialProducts).
-use Rattle.std.proofs.Common.{◌≡◌, ◌⊎◌, ℕ, zero, suc, ◌^◌, ◌<◌, ◌≤◌, cond, List, [], ◌∷◌, length, get_or, sym, ap, subst, refl, inl, inr, arith}
+-- If all counts of the search for the partitions ν in m_λ·m_μ are below 2^127, none was capped, and the count of each ν is the number of ways to
+-- write ν as the sum of an arrangement of λ and one of μ (specs/MonomialProducts).
+use Rattle.std.proofs.Common.{◌≡◌, ◌⊎◌, ℕ, suc, ◌^◌, ◌<◌, ◌≤◌, cond, List, [], ◌∷◌, sym, ap, subst, refl, inl, inr, arith}
 use Rattle.std.specs.Prelude.{All}
 use Rattle.sym_model.specs.Sum.{Among}
 use Rattle.sym_model.specs.Partition.{IsPartition, size}
@@ -9,11 +10,6 @@ use Rattle.sparse_polys.specs.declared.search.Counted.{Counted}
 use Rattle.sparse_polys.specs.Ways.{capped}
 use Rattle.sparse_polys.specs.Search.{count_at, AreCounted, HaveCounts}
 use Rattle.sparse_polys.specs.MonomialProducts.{AreSmall, HasLarge}
-
-pub among_at : (xs : List Counted) (i : ℕ) (t : Counted) → i < length xs → t ≡ get_or xs i t → Among t xs
-among_at [] i t h e = absurd (omega arith)
-among_at (x ∷ xs) zero t h e = inl e
-among_at (x ∷ xs) (suc i) t h e = inr (among_at xs i t (omega arith) e)
 
 pub all_among : (P : Counted → Type 0) (xs : List Counted) (t : Counted) → All P xs → Among t xs → P t
 all_among P [] t h m = absurd m

@@ -1,6 +1,6 @@
--- Lists of terms whose coefficients at all labels are known (specs/Products).
---     coefficient-over      the coefficients of the list times q
---     expansion_product     a list with the coefficients of a product is the product, in every number of variables
+-- Tables of terms in m, described by their coefficients (specs/Products).
+--     coefficient-over      the coefficients of q times a table
+--     expansion_product     a table with the coefficients of the product of two expansions is the product, in every number of variables
 use Rattle.std.proofs.Common.{◌≡◌, ℕ, ◌+◌, ◌*◌, ◌/◌, ◌<◌, Bool, true, false, cond, List, [], ◌∷◌, length, sym, ◌∙◌, ap, ap₂, subst, refl, inl, inr, arith, ℤ, pos, ◌*ℤ◌}
 use Rattle.std.specs.Prelude.{nat_eq, nat_abs, Some, None}
 use Rattle.std.specs.Option.{unwrap_or}
@@ -55,7 +55,7 @@ not_here t terms is ν e = lookup-none (pointwise nat_eq ν) terms (none_past_he
 pub coefficient-over : (q : ℕ) (terms : Terms (List ℕ)) → IsPartitionTable terms → (ν : List ℕ) → coefficient (over q terms) ν ≡ scaled q (coefficient_at terms ν)
 coefficient-over q terms is ν = coefficient_of_over (over q terms) ν ∙ found_over q terms is ν
 
--- ---- the coefficients of labels that occur once
+-- ---- the coefficient at the label of a term of a table
 
 absent : (k : List ℕ) (terms : Terms (List ℕ)) → lookup (pointwise nat_eq k) terms ≡ None → Among k (labels_of terms) → ⊥
 absent k [] e m = m
@@ -67,7 +67,7 @@ absent k (u ∷ terms) e m = by (pointwise nat_eq k u.0) refl e (absent k terms)
     by false p none rest (inl i) = let t : pointwise nat_eq k u.0 ≡ true = (bytes_eq-Decides k u.0).1 i in cc
     by false p none rest (inr n) = rest none n
 
--- the coefficient at the label of a term of a table is that of the term
+-- the coefficient of a table at the label of one of its terms is the coefficient of that term
 pub found_at : (terms : Terms (List ℕ)) → IsPartitionTable terms → (t : List ℕ × Fraction) → Among t terms → coefficient_at terms t.0 ≡ t.1
 found_at [] is t m = absurd m
 found_at (u ∷ terms) is t m = by (pointwise nat_eq t.0 u.0) refl (found_at terms (table_tail u terms is) t) m
@@ -102,15 +102,15 @@ common-denominators terms is = record {
 partition_at : (terms : Terms (List ℕ)) → IsPartitionTable terms → (t : List ℕ × Fraction) → Among t terms → IsPartition t.0
 partition_at terms is t m = (is_label-tells t.0 (term-tests terms is t m).1).partition
 
--- if q is a multiple of the denominator of the coefficient at each partition, it is a multiple of the denominator of
--- each term
+-- if q is a multiple of the denominator of the coefficient of `product` at each partition, it is a multiple of the denominator of each term of
+-- `product`
 pub divides_terms : (q : ℕ) (product : Terms (List ℕ)) → IsPartitionTable product → ((ν : List ℕ) → IsPartition ν → (coefficient_at product ν).1 ∣ q)
     → (t : List ℕ × Fraction) → Among t product → t.1.1 ∣ q
 divides_terms q product ip h t m =
     subst (λ (c : Fraction). c.1 ∣ q) (found_at product ip t m)
     (h t.0 (partition_at product ip t m))
 
--- ---- the product of two lists
+-- ---- the product of two expansions in m
 
 value-list : (terms : Terms (List ℕ)) → IsList (over (denominators terms) terms) (λ n. value Basis.monomials terms n)
 value-list terms n α = ap (λ (f : Poly). coefficient f α) (sym (cleared-over (denominators terms) n terms))
@@ -118,8 +118,7 @@ value-list terms n α = ap (λ (f : Poly). coefficient f α) (sym (cleared-over 
 cancel : (num : ℤ) (D den r : ℕ) → r * den ≡ D → num *ℤ pos D ≡ num *ℤ pos r *ℤ pos den
 cancel num D den r e = ap (λ n. num *ℤ pos n) (sym e) ∙ sym (product_assoc num (pos r) (pos den))
 
--- for all common denominators d of `left` and e of `right`, d·e·`product` is the sum of the products of a term of d·`left`
--- and one of e·`right`
+-- for all common denominators d of `left` and e of `right`, d·e·`product` is the product of the lists d·`left` and e·`right`, as expansions in m
 abbrev pub IsClearedProduct : Terms (List ℕ) → Terms (List ℕ) → Terms (List ℕ) → Type 0
 IsClearedProduct left right product =
     (d e : ℕ) → IsCommonDenominator d left → IsCommonDenominator e right
@@ -161,7 +160,6 @@ expansion_product left right product il ir cleared =
     (λ n. value Basis.monomials left n) (λ n. value Basis.monomials right n) (value-list left) (value-list right)
     (λ ν p. coefficient-over D product ip ν ∙ sums_from D f g product adds ν p))
 
--- the product with the empty list is empty
 pub times_nothing : (f : Poly) → times f [] ≡ []
 times_nothing [] = refl
 times_nothing (s ∷ f) = times_nothing f
@@ -175,9 +173,10 @@ expansion_nothing left [] product n d e h =
     record { positive = omega arith; equal = λ α. sym (ap (λ g. coefficient (scale (pos 1) g) α) (times_nothing f)) } in
     subst (λ (l : Terms (List ℕ)). IsExpansionOf Basis.monomials l n (times f []) d) (sym e) none
 
--- ---- the size of each label of a product is the sum of two sizes
+-- ---- the sizes of the labels of a product
 
--- the size of each label of a product is the sum of the sizes of a label of `left` and one of `right`
+-- if d·e·`product` is the product of d·`left` and e·`right`, the size of each label of `product` is the sum of the sizes of a label of `left` and of
+-- a label of `right`
 pub sums_of_sizes : (d e : ℕ) (left right product : Terms (List ℕ)) → 0 < d * e
     → GainsCleared (pointwise nat_eq) is_label (d * e) [] (products (over d left) (over e right))
     product → AreSums left right product
@@ -211,7 +210,7 @@ least-denominators terms is = record {
   multiple = least-multiple terms (λ t m. (reduced_at terms is t m).0);
 }
 
--- ---- lists of integers have the denominator 1
+-- ---- the common denominator 1 of lists of integers
 
 pub whole-denominators : (terms : WholeTerms) → IsCommonDenominator 1 (terms_of whole terms)
 whole-denominators terms = record { positive = omega arith; multiple = divides terms }
@@ -238,16 +237,16 @@ whole_product left right product adds ν p =
     ∙ sums_from 1 f g (terms_of whole product) adds ν p
     ∙ ap₂ (λ (l r : WholeTerms). product_coefficient l r ν) (over-one left) (over-one right)
 
--- ---- the sizes of labels and the values of entries
+-- ---- the sizes of the labels of a list of entries and of the list of their values
 
--- if u is a term of the list of values, there is an entry with a label of its size
+-- for each term u of the list of values, there is an entry whose label has the size of the label of u
 label_among : {R : Type 0} (value : R → Fraction) (entries : List (List ℕ × R)) (u : List ℕ × Fraction)
     → Among u (terms_of value entries) → (t : List ℕ × R) × Among t entries × (size t.0 ≡ size u.0)
 label_among {R = R} value entries u m =
     let v = Among_from_map (λ (p : List ℕ × R). (p.0, value p.1)) u entries m in
     (v.0, v.1, ap (λ (w : List ℕ × Fraction). size w.0) (sym v.2))
 
--- if the sizes of the labels of a product are sums of sizes of labels of its factors in the lists of values, they are so in the lists of entries
+-- if `AreSums` holds for the lists of values of `left`, `right` and `product`, it holds for these lists of entries themselves
 pub sums_values : {R : Type 0} (value : R → Fraction) (left right product : List (List ℕ × R))
     → AreSums (terms_of value left) (terms_of value right) (terms_of value product)
     → AreSums left right product

@@ -1,5 +1,5 @@
--- The printed order of monomials is the reverse of the order by degree and then by list of exponents: if one list is a
--- proper prefix of the other, the rest of the longer one has an exponent that is not 0.
+-- The printed order of monomials is the reverse of the order by degree and then by list of exponents. For lists without zeros at the end: if one list
+-- is a proper prefix of another, the rest of the longer list has an exponent that is not 0.
 use Rattle.std.proofs.Common.{◌≡◌, ℕ, zero, suc, List, [], ◌∷◌, refl, sym, ap, ◌∙◌, inl, inr, ◌⊎◌, arith}
 use Rattle.std.specs.Cmp.{nat_cmp_is}
 use Rattle.std.specs.Cmp.Lexicographic.{slice_cmp}
@@ -14,7 +14,8 @@ positive_cmp a = sym (nat_cmp_is (suc a) 0 Greater (omega arith))
 zero_cmp : (a : ℕ) → nat_cmp 0 (suc a) ≡ Less
 zero_cmp a = sym (nat_cmp_is 0 (suc a) Less (omega arith))
 
--- a list of exponents has a positive one, and so comes before the empty list, or it has only zeros
+-- either the list u of exponents comes before the empty list in decreasing lexicographic order, since it has a positive exponent, or all its
+-- exponents are zeros
 abbrev HasPositive : List ℕ → Type 0
 HasPositive u = ((falling_lexicographic [] u ≡ Greater) × (falling_lexicographic u [] ≡ Less)) ⊎ (without_last_zeros u ≡ [])
 
@@ -58,7 +59,6 @@ pub printed_order-trimmed :
     → ordering_then (nat_cmp (size y) (size x)) (slice_cmp nat_cmp y x) ≡ printed_order x y
 printed_order-trimmed x y p q = ap (ordering_then (nat_cmp (size y) (size x))) (sym (falling_lexicographic-trimmed x y p q))
 
--- removing the last zeros of a list twice is removing them once
 pub trimmed_once : (x : List ℕ) → without_last_zeros (without_last_zeros x) ≡ without_last_zeros x
 trimmed_once [] = refl
 trimmed_once (a ∷ x) = by a (without_last_zeros x) (trimmed_once x)

@@ -1,4 +1,4 @@
--- The polynomials of a family in n variables use at most n variables.
+-- e_k, h_k and p_k in n variables are polynomials in n variables (`In`).
 use Rattle.std.proofs.Common.{ℕ, true}
 use Rattle.sym_model.specs.Bases.{at_most_one, has}
 use Rattle.sym_model.specs.Polynomial.{In}

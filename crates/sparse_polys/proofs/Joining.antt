@@ -1,29 +1,25 @@
--- The exponents of a product of two monomials, place by place.
-use Rattle.std.proofs.Common.{◌≡◌, ℕ, zero, suc, ◌+◌, ◌<◌, ◌≤◌, max, List, [], ◌∷◌, ◌++◌, length, get_or, take, ap, ◌∙◌, arith}
+-- The exponents of a product of two monomials (`join`), one index after another.
+use Rattle.std.proofs.Common.{◌≡◌, ℕ, ◌+◌, ◌<◌, ◌≤◌, max, List, [], ◌∷◌, ◌++◌, length, get_or, take, ap, ◌∙◌, arith}
 use Rattle.std.proofs.lemmas.List.{take_more}
 use Rattle.sym_model.specs.Polynomial.{join}
 use Rattle.sym_model.specs.Partition.{size}
 use Rattle.sym_model.proofs.Exponents.{size-join, length-join, get_or-join}
 use Rattle.sparse_polys.specs.Limits.{HasDegree, IsWithinLimits}
+use Rattle.sym_model.proofs.Parts.{get_or-le-size}
 
--- the first i + 1 places of a sum are the first i and the sum of the numbers at place i
+-- for an index i of the list `join a b`: its first i + 1 entries are its first i entries, followed by a_i + b_i
 pub take-join : (a b : List ℕ) (i : ℕ) → i < max (length a) (length b) → take (i + 1) (join a b) ≡ take i (join a b) ++ (get_or a i 0 + get_or b i 0) ∷ []
 take-join a b i h =
     let l = length-join a b in
     take_more (join a b) i 0 (omega arith) ∙ ap (λ n. take i (join a b) ++ n ∷ []) (get_or-join a b i)
 
--- a_i + b_i is at most the sum of all exponents of the product
+-- a_i + b_i is at most the sum of all entries of `join a b`
 pub entry-join : (a b : List ℕ) (i : ℕ) → get_or a i 0 + get_or b i 0 ≤ size (join a b)
 entry-join a b i =
     let s = size-join a b in
-    let p = entry a i in
-    let q = entry b i in
+    let p = get_or-le-size a i in
+    let q = get_or-le-size b i in
     omega arith
-  where
-    entry : (e : List ℕ) (i : ℕ) → get_or e i 0 ≤ size e
-    entry [] i = omega arith
-    entry (x ∷ e) zero = omega arith
-    entry (x ∷ e) (suc i) = let h = entry e i in omega arith
 
 pub HasDegree-join : (a b : List ℕ) (d e : ℕ) → HasDegree a d → HasDegree b e → IsWithinLimits (join a b) → HasDegree (join a b) (d + e)
 HasDegree-join a b d e h k l = record {

@@ -1,4 +1,4 @@
--- Exponents within the limits of the type `Monomial` pass the test of a label.
+-- Exponents within the limits of the type `Monomial` pass the test `is_monomial_label`.
 use Rattle.std.proofs.Common.{◌≡◌, ℕ, ◌&&◌, true, List, length}
 use Rattle.std.specs.Prelude.{nat_le}
 use Rattle.std.proofs.lemmas.Bool.{and_from, le-leb}

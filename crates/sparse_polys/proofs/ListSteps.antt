@@ -1,10 +1,9 @@
--- The terms of a list of pairs, one after another.
+-- Products of a list xs ++ ys of terms with a term, a polynomial or a variable.
 use Rattle.std.proofs.Common.{◌≡◌, ℕ, List, [], ◌∷◌, ◌++◌, map, refl, ap, ◌∙◌, ℤ, ◌*ℤ◌}
 use Rattle.std.proofs.lemmas.List.{map-append}
 use Rattle.sym_model.specs.Expansion.{Fraction}
 use Rattle.sym_model.specs.Polynomial.{Poly, Term, join, times}
 use Rattle.sym_model.specs.WholeTerms.{WholeTerms}
-use Rattle.sym_model.proofs.Lists.{each-append}
 use Rattle.linear_combinations.specs.Gains.{replaced, scaled as multiple}
 use Rattle.linear_combinations.proofs.Gains.{replaced_append, scaled_append}
 use Rattle.monomial_laws.specs.ExpressionTerms.{over}
@@ -15,13 +14,14 @@ pub use Rattle.sparse_polys.proofs.Rows.{list_whole, list_among}
 use Rattle.sparse_polys.specs.Products.{times_variable}
 use Rattle.sparse_polys.specs.Raised.{raised}
 use Rattle.sparse_polys.specs.MonomialProducts.{product_terms, products}
+use Rattle.std.proofs.lemmas.Grind.{flat_map-append}
 
 module _ {R : Type 0} (value : R → Fraction) where
   pub over_pieces : (q : ℕ) (xs ys : List (List ℕ × R)) → over q (terms_of value (xs ++ ys)) ≡ over q (terms_of value xs) ++ over q (terms_of value ys)
   over_pieces q [] ys = refl
   over_pieces q (x ∷ xs) ys = ap (λ l. (x.0, scaled q (value x.1)) ∷ l) (over_pieces q xs ys)
 
-  -- a list xs ++ ys times a term, a polynomial or x_r is xs times it, followed by ys times it
+  -- the product of xs ++ ys with a term, a polynomial or x_r is the product of xs with it, followed by the product of ys with it
   pub row_pieces : (s : Term) (e : ℕ) (xs ys : List (List ℕ × R))
       → times (s ∷ []) (over e (terms_of value (xs ++ ys))) ≡ times (s ∷ []) (over e (terms_of value xs)) ++ times (s ∷ []) (over e (terms_of value ys))
   row_pieces s e [] ys = refl
@@ -31,7 +31,7 @@ module _ {R : Type 0} (value : R → Fraction) where
       → times (over d (terms_of value (xs ++ ys))) g ≡ times (over d (terms_of value xs)) g ++ times (over d (terms_of value ys)) g
   product_pieces d g xs ys =
       ap (λ l. times l g) (over_pieces d xs ys)
-      ∙ each-append (λ (s : Term). map (λ (t : Term). (join s.0 t.0, s.1 *ℤ t.1)) g) (over d (terms_of value xs)) (over d (terms_of value ys))
+      ∙ flat_map-append (λ (s : Term). map (λ (t : Term). (join s.0 t.0, s.1 *ℤ t.1)) g) (over d (terms_of value xs)) (over d (terms_of value ys))
 
   pub raised_pieces : (r q : ℕ) (xs ys : List (List ℕ × R))
       → times_variable r (over q (terms_of value (xs ++ ys))) ≡ times_variable r (over q (terms_of value xs)) ++ times_variable r (over q (terms_of value ys))

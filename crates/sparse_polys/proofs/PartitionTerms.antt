@@ -1,5 +1,5 @@
--- The partitions of a number one after another, as terms with the coefficient 1.
-use Rattle.std.proofs.Common.{◌≡◌, ℕ, ◌≤◌, List, [], ◌∷◌, ◌++◌, sym, ◌∙◌, ap, subst, refl, inl, inr, arith, append_assoc}
+-- The partitions of d listed one after another, as the labels of terms with the coefficient 1.
+use Rattle.std.proofs.Common.{◌≡◌, ℕ, ◌≤◌, List, [], ◌∷◌, ◌++◌, sym, ◌∙◌, ap, subst, inl, inr, arith, append_assoc}
 use Rattle.std.specs.Prelude.{Option, Some}
 use Rattle.std.specs.Option.{option_to_list}
 use Rattle.sym_model.specs.Sum.{Among, Once}
@@ -8,22 +8,19 @@ use Rattle.sym_model.specs.PartitionList.{partitions_of}
 use Rattle.sym_model.proofs.SortedParts.{rows_within_size}
 use Rattle.sym_model.proofs.PartitionLists.{partitions_of-tells}
 use Rattle.partitions.specs.Limits.{IsWithinLimits}
+use Rattle.linear_combinations.proofs.Gains.{next_among}
 
--- if the lister moves on to `label`, the labels before it, `label` and those still to come are all labels
+-- if `before` ++ `old` is the list `all`, and `old` is `label` followed by `new`, then `before`, `label` and `new`, one after another, are `all`
 pub listed_on : (before old new all : List (List ℕ)) (item : Option (List ℕ)) (label : List ℕ) → before ++ old ≡ all
     → old ≡ option_to_list item ++ new → item ≡ Some label → before ++ (label ∷ new) ≡ all
 listed_on before old new all item label e next current =
     ap (λ t. before ++ t) (ap (λ o. option_to_list o ++ new) (sym current) ∙ sym next) ∙ e
 
-pub Among-after : (before : List (List ℕ)) (label : List ℕ) (new : List (List ℕ)) → Among label (before ++ (label ∷ new))
-Among-after [] label new = inl refl
-Among-after (l ∷ before) label new = inr (Among-after before label new)
-
--- the current label is a partition of d
+-- if `before`, `label` and `new`, one after another, are the list of all partitions of d, `label` is a partition of d
 pub listed_partition : (before new : List (List ℕ)) (d : ℕ) (label : List ℕ) → before ++ (label ∷ new) ≡ partitions_of d → IsPartition label × (size label ≡ d)
 listed_partition before new d label e =
     let P : List (List ℕ) → Type 0 = λ l. Among label l in
-    let t = partitions_of-tells d label (subst P e (Among-after before label new)) in (t.0, t.1)
+    let t = partitions_of-tells d label (subst P e (next_among before label new)) in (t.0, t.1)
 
 pub IsWithinLimits-low : (parts : List ℕ) → IsPartition parts → size parts ≤ 512 → IsWithinLimits parts
 IsWithinLimits-low parts p h = record { partition = p; few = let r = rows_within_size parts p.positive in omega arith; small = omega arith }
@@ -34,10 +31,10 @@ IsWithinLimits-listed before new d label h e =
     let s = t.1 in
     IsWithinLimits-low label t.0 (omega arith)
 
--- if each label occurs once, `label` is not among those before it
-pub once_before : (before new : List (List ℕ)) (label : List ℕ) → Once (before ++ (label ∷ new)) → Among label before → ⊥
+-- if each label of `before`, `label`, `new` occurs once, `label` is not in `before`
+pub once_before : {A : Type 0} (before new : List A) (label : A) → Once (before ++ (label ∷ new)) → Among label before → ⊥
 once_before [] new label o m = m
-once_before (l ∷ before) new label o (inl e) = o.0 (subst (λ x. Among x (before ++ (label ∷ new))) e (Among-after before label new))
+once_before (l ∷ before) new label o (inl e) = o.0 (subst (λ x. Among x (before ++ (label ∷ new))) e (next_among before label new))
 once_before (l ∷ before) new label o (inr m) = once_before before new label o.1 m
 
 pub listed_next : (before new all : List (List ℕ)) (label : List ℕ) → before ++ (label ∷ new) ≡ all → (before ++ label ∷ []) ++ new ≡ all

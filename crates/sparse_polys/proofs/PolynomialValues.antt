@@ -1,8 +1,8 @@
--- The polynomial of a list of monomials, through sums over its terms with the fractions cleared.
---     represents          a list with the sums of a polynomial represents it
---     product_value       the sums of a product of two polynomials
---     variable_value      the sums of a product with a variable
---     product_overflows   if a product overflows, the absolute values of its factors have large sums
+-- The polynomial of a list of terms c·x^e, given by the sums of (d·c)·φ(e) over its terms, for a common denominator d and functions φ of exponents.
+--     represents          if the sums over d times a list are those of f, the list is f divided by d
+--     product_value       the sums over a product of two polynomials in n variables
+--     variable_value      the sums over the product of a polynomial and a variable
+--     product_overflows   if a product overflows, the absolute coefficients of its two factors have sums whose product is at least 2^127
 use Rattle.std.proofs.Common.{◌≡◌, ℕ, ◌-◌, ◌+◌, ◌*◌, ◌/◌, ◌^◌, ◌<◌, ◌≤◌, max, map, length, Bool, true, false, cond, ◌&&◌, List, [], ◌∷◌, ◌++◌, refl, sym, ap, ap₂, ◌∙◌, subst, inl, inr, arith, ℤ, pos, ◌+ℤ◌, ◌*ℤ◌}
 use Rattle.std.specs.Prelude.{nat_eq, nat_abs, Option, Some, replicate}
 use Rattle.std.specs.Int.{◌∣◌}
@@ -24,7 +24,7 @@ use Rattle.sym_model.specs.ListWeight.{common_denominator, absolute_sum, list_we
 use Rattle.sym_model.proofs.Exponents.{join_comm, resize-join, fits_in-join}
 use Rattle.sym_model.proofs.Orders.{is_reduced-tells}
 use Rattle.sym_model.proofs.Polynomials.{pair_ext, pair_plus, pair_scale, pair_times, pair_restrict, same_from_pair}
-use Rattle.sym_model.proofs.Ring.{one-product, product_assoc}
+use Rattle.sym_model.proofs.Ring.{one-product, product_assoc, product_left_comm}
 use Rattle.sym_model.proofs.Sums.{total_ext, total_among, total_map, total_scale, total_zero}
 use Rattle.sym_model.specs.WholeTerms.{WholeTerms}
 use Rattle.sym_model.proofs.Integers.{nat_abs-product}
@@ -40,7 +40,7 @@ use Rattle.sparse_polys.proofs.Tables.{term-tests}
 use Rattle.sparse_polys.proofs.ClearedSums.{over_sum, mass_over}
 use Rattle.sparse_polys.proofs.Expansions.{denominators-positive, least-positive, least-multiple, times_nothing}
 use native.Mathlib.Nat.{mul-pos, mul-le-mul_left}
-use lib.IntN.{+ℤ_idr, *ℤ-zero, *ℤ_comm}
+use lib.IntN.{+ℤ_idr, *ℤ-zero}
 use Rattle.monomial_laws.proofs.DividedTerms.{divides-denominators}
 use Rattle.sym_model.proofs.PolynomialLaws.{restricted_test}
 
@@ -87,8 +87,8 @@ least-denominators terms is = record {
   multiple = least-multiple terms (positive_at terms is);
 }
 
--- let d and e be the least common denominators: if d·e, or the product of the sums of absolute values over them, is at least 2^127, so is the product
--- of the weights
+-- let d and e be the least common denominators of two lists, and A and B the sums of the absolute values of d times the first and e times the second:
+-- if d·e or A·B is at least 2^127, so is the product of the weights of the lists
 pub weights-large : (left right : Terms (List ℕ)) → IsPolynomialTable left → IsPolynomialTable right
     → (common_denominator left * common_denominator right < 2 ^ 127 → 2 ^ 127 ≤ absolute_sum (common_denominator left) left * absolute_sum (common_denominator right) right)
     → 2 ^ 127 ≤ list_weight left * list_weight right
@@ -114,7 +114,7 @@ weights-large left right is also h =
         let y = o.1 in
         elim (cases_lt (d * e) (2 ^ 127)) [ inl l ↦ (let g = h l in omega arith) | inr l ↦ omega arith ]
 
--- ---- the polynomial of a list
+-- ---- a list of monomials as a polynomial divided by a common denominator
 
 cross : (d q r : ℕ) → r ∣ d → r ∣ q → d * (q / r) ≡ q * (d / r)
 cross d q r h k =
@@ -126,10 +126,7 @@ cross d q r h k =
     by a b e f = ap (λ n. n * b) (sym e) ∙ (let s : (a * r) * b ≡ (b * r) * a = omega arith in s) ∙ ap (λ n. n * a) f
 
 exchanged : (x : ℤ) (d a q b : ℕ) → d * a ≡ q * b → pos d *ℤ (x *ℤ pos a) ≡ pos q *ℤ (x *ℤ pos b)
-exchanged x d a q b e = swap (pos d) x (pos a) ∙ ap (λ n. x *ℤ pos n) e ∙ sym (swap (pos q) x (pos b))
-  where
-    swap : (y x z : ℤ) → y *ℤ (x *ℤ z) ≡ x *ℤ (y *ℤ z)
-    swap y x z = sym (product_assoc y x z) ∙ ap (λ w. w *ℤ z) (*ℤ_comm y x) ∙ product_assoc x y z
+exchanged x d a q b e = product_left_comm (pos d) x (pos a) ∙ ap (λ n. x *ℤ pos n) e ∙ sym (product_left_comm (pos q) x (pos b))
 
 pub two_denominators : (d q : ℕ) (ψ : List ℕ → ℤ) (terms : Terms (List ℕ)) → ((t : List ℕ × Fraction) → Among t terms → t.1.1 ∣ d) → ((t : List ℕ × Fraction) → Among t terms → t.1.1 ∣ q)
     → pos d *ℤ pair (over q terms) ψ ≡ pos q *ℤ pair (over d terms) ψ
@@ -162,9 +159,9 @@ represents terms d n f is clear sums =
           ∙ sym (pair_scale (pos q) f φ));
     }
 
--- ---- products of two polynomials
+-- ---- the product of two polynomials that are given as lists of terms
 
--- restricting x^e and each term of a list to n variables before multiplying them gives the restriction of their products
+-- the product of x^e and a list, restricted to n variables, is the product of x^e and the list, each restricted to n variables
 row_value : (n : ℕ) (terms : Terms (List ℕ)) (φ : List ℕ → ℤ) (e : List ℕ)
     → restricted_test n (λ α. pair (value_in terms n) (λ β. φ (join α β))) e ≡ pair (over (denominators terms) terms) (λ β. restricted_test n φ (join e β))
 row_value n terms φ e = by (fits_in n e) refl
@@ -218,7 +215,7 @@ represents_nothing n d left [] product e h =
     subst (λ (l : Terms (List ℕ)). Represents (λ e. x_to_in e n) l (times f []) d) (sym e)
     (record { positive = omega arith; equal = λ α. sym (ap (λ g. coefficient (scale (pos 1) g) α) (times_nothing f)) })
 
--- ---- products of two lists that overflow
+-- ---- overflow while the product of two lists is added up
 
 mass_row : (s : Term) (g : WholeTerms) → mass (map (λ (t : Term). (join s.0 t.0, s.1 *ℤ t.1)) g) ≡ nat_abs s.1 * mass g
 mass_row s [] = omega arith

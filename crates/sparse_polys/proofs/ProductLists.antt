@@ -1,5 +1,5 @@
--- The product of two lists of terms in m as one list (specs/MonomialProducts).
---     counted_gains, counted_overflows        the counts of a search are the list of m_λ·m_μ
+-- The product of two expansions in m as one list (specs/MonomialProducts).
+--     counted_gains, counted_overflows        the counts of the search for the ν in m_λ·m_μ, as a list of terms, are m_λ·m_μ
 --     products_coefficient, products_large    the coefficients of the product of two lists
 --     products_sizes                          the sizes of the labels of the product
 use Rattle.std.proofs.Common.{◌≡◌, ◌⊎◌, ℕ, ◌+◌, ◌*◌, ◌^◌, Bool, true, false, cond, List, [], ◌∷◌, ◌++◌, map, refl, sym, ap, ◌∙◌, subst, inl, inr, arith, ℤ, pos, ◌+ℤ◌, ◌*ℤ◌}
@@ -17,7 +17,7 @@ use Rattle.sym_model.specs.Expansion.{Fraction, Terms}
 use Rattle.sym_model.specs.WholeTerms.{WholeTerms}
 use Rattle.sym_model.proofs.Exponents.{same_from, same_apart}
 use Rattle.sym_model.proofs.PartitionLists.{partitions_of-tells, Among-partitions_of, Once-FallsLexicographically, FallsLexicographically-partitions_within}
-use Rattle.sym_model.proofs.Polynomials.{pair_ext}
+use Rattle.sym_model.proofs.Polynomials.{pair_ext, pair_determined}
 use Rattle.sym_model.proofs.Sums.{Among_from_map, total_map, total_none, total_only}
 use Rattle.coeff_rings.specs.Fractions.{scaled as numerator}
 use Rattle.monomial_laws.specs.MonomialProduct.{arrangements, product_coefficient}
@@ -26,7 +26,7 @@ use Rattle.monomial_laws.proofs.Arrangements.{arrangements-sizes}
 use Rattle.monomial_laws.proofs.Splits.{product_coefficient-arrangements}
 use Rattle.linear_combinations.specs.Gains.{over as sum_over, only, mass_at, scaled, replaced, HaveLabels, Overflows}
 use Rattle.linear_combinations.specs.Labels.{same_partition}
-use Rattle.linear_combinations.proofs.Found.{counts_at, coefficient_over, sums_same}
+use Rattle.linear_combinations.proofs.Found.{counts_at, coefficient_over}
 use Rattle.linear_combinations.proofs.Gains.{mass_at_append, overflows_as, replaced_over, scaled_append, scaled_over}
 use Rattle.linear_combinations.proofs.Masses.{mass_at_scaled, labels_replaced}
 use Rattle.sparse_polys.specs.declared.search.Counted.{Counted}
@@ -36,7 +36,7 @@ use Rattle.linear_combinations.specs.Cleared.{GainsCleared, OverflowsCleared}
 use Rattle.linear_combinations.proofs.Cleared.{Gains-as}
 use Rattle.sparse_polys.proofs.ExactCounts.{all_among}
 
--- if all labels of g have the property P, each ν has the property P or does not occur in g
+-- if all labels of g have the property P, then each ν has the property P or is no label of a term of g with a coefficient other than 0
 label_or_none : (P : List ℕ → Type 0) (g : WholeTerms) → HaveLabels P g → (ν : List ℕ) → (P ν) ⊎ (mass_at (pointwise nat_eq) ν g ≡ 0)
 label_or_none P [] h ν = inr refl
 label_or_none P (t ∷ g) h ν = by (pointwise nat_eq ν t.0) refl (label_or_none P g (λ u n. h u (inr n)) ν)
@@ -86,7 +86,7 @@ module _ (l r : List ℕ) where
   pub terms_mass : (ν : List ℕ) → IsPartition ν → pos (mass_at (pointwise nat_eq) ν (product_terms l r)) ≡ pos (arrangements l r ν)
   terms_mass ν p = sym (counts_at (pointwise nat_eq) ν (product_terms l r) terms_counts) ∙ sym (coefficient_over (product_terms l r) ν) ∙ terms_coefficient ν p
 
--- ---- the counts of a search as a list
+-- ---- the counts of a search as a list of terms
 
 abbrev pub counted_terms : List Counted → WholeTerms
 counted_terms counted = map (λ (t : Counted). (t.parts.items, pos t.count)) counted
@@ -132,11 +132,9 @@ module _ (l r : List ℕ) (counted : List Counted) (labels : AreCounted (size l 
 
   counted_same : (φ : List ℕ → ℤ) → sum_over φ (counted_terms counted) ≡ sum_over φ (product_terms l r)
   counted_same φ =
-      sums_same (counted_terms counted) (product_terms l r)
-      (λ ν.
+      pair_determined (counted_terms counted) (product_terms l r) φ (λ ν.
       mass_is ν ∙ ap pos (counted_mass ν)
       ∙ sym (counts_at (pointwise nat_eq) ν (product_terms l r) (terms_counts l r)) ∙ sym (coefficient_over (product_terms l r) ν))
-      φ
 
   pub counted_gains : (z : ℤ) (q : ℕ) (old new : Terms (List ℕ))
       → GainsCleared (pointwise nat_eq) is_label q old (scaled z (counted_terms counted)) new
@@ -189,11 +187,12 @@ module _ (f g : WholeTerms) (ν : List ℕ) (p : IsPartition ν) where
       ∙ pair_ext (absolute g) (λ r. pos (mass_at (pointwise nat_eq) ν (product_terms l r))) (λ r. pos (arrangements l r ν)) (λ r. terms_mass l r ν p))
       ∙ sym (product_coefficient-arrangements (absolute f) (absolute g) ν)
 
--- if P holds for the labels of all products of two terms, it holds for those of the product of the lists
+-- if the labels of m_λ·m_μ have the property P for all labels λ of f and μ of g, so have the labels of the product of f and g
 products_labels : (P : List ℕ → Type 0) (f g : WholeTerms) → ((s t : List ℕ × ℤ) → Among s f → Among t g → HaveLabels P (product_terms s.0 t.0)) → HaveLabels P (products f g)
 products_labels P f g h = labels_replaced (λ l. replaced (product_terms l) g) P f (λ s m. labels_replaced (product_terms s.0) P g (λ t n. h s t m n))
 
--- if the product of f and g overflows, the product of |f| and |g| has a coefficient of 2^127 or more at some partition
+-- if adding up the product of f and g term by term overflows, the product of |f| and |g|, the lists with absolute values as coefficients, has a
+-- coefficient of 2^127 or more at some partition
 pub products_large : (f g : WholeTerms) → Overflows (pointwise nat_eq) [] (products f g) → (ν : List ℕ) × IsPartition ν × (pos (2 ^ 127) ≤ℤ product_coefficient (absolute f) (absolute g) ν)
 products_large f g o = by (label_or_none IsPartition (products f g) (products_labels IsPartition f g (λ s t m n u k. (terms_labels s.0 t.0 u k).0)) o.0)
   where
@@ -201,7 +200,7 @@ products_large f g o = by (label_or_none IsPartition (products f g) (products_la
     by (inl p) = let l = o.1 in (o.0, p, subst (λ z. pos (2 ^ 127) ≤ℤ z) (products_mass f g o.0 p) (omega (arith, ints)))
     by (inr z) = let l = o.1 in absurd (omega arith)
 
--- the size of each label of the product is the sum of the sizes of a label of each list
+-- the size of each label of the product of `left` and `right` is the sum of the sizes of a label of `left` and of a label of `right`
 pub products_sizes : (d e : ℕ) (left right : Terms (List ℕ))
     → HaveLabels (λ ν. (l r : List ℕ × Fraction) × Among l left × Among r right × (size l.0 + size r.0 ≡ size ν)) (products (over d left) (over e right))
 products_sizes d e left right =

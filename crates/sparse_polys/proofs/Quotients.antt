@@ -1,4 +1,4 @@
--- Integers divided by one positive number, in lowest terms.
+-- Lists of integers divided by one positive number, in lowest terms.
 --     Quotients-next         a table of quotients with one more quotient
 --     IsDivided-quotients    the table of all quotients is the list divided by the number
 use Rattle.std.proofs.Common.{◌≡◌, ◌⊎◌, ℕ, ◌*◌, ◌<◌, true, cond, List, [], ◌∷◌, ◌++◌, refl, sym, ◌∙◌, ap, subst, inl, inr, arith, ℤ, pos, ◌+ℤ◌, ◌*ℤ◌}
@@ -26,12 +26,12 @@ use Rattle.sparse_polys.proofs.ValueLists.{refused_values}
 use Rattle.sparse_polys.proofs.Steps.{fits-zero_left}
 use Rattle.monomial_laws.proofs.DividedTerms.{IsDivided}
 use Rattle.sparse_polys.specs.Tables.{equal, found, IsFractionTable, IsWholeTable}
-use Rattle.sparse_polys.proofs.WholeLists.{equal_from, equal_apart, found-among, found-absent, Once-keys, Once-labels}
+use Rattle.sparse_polys.proofs.WholeLists.{found-among, found-absent, Once-keys, Once-labels}
 use Rattle.sparse_polys.proofs.PartitionTerms.{once_before}
 use lib.IntN.{+ℤ_idr}
 use native.Mathlib.Nat.{mul-pos}
+use Rattle.linear_combinations.proofs.LabelTests.{equal_from, equal_apart}
 
--- (a·x + b·x)/(x·x) = (a + b)/x, with both sides multiplied by the denominators
 cross : (a b x : ℤ) → (a *ℤ x +ℤ b *ℤ x) *ℤ x ≡ (a +ℤ b) *ℤ (x *ℤ x)
 cross a b x = simp ring
 
@@ -47,7 +47,7 @@ lowest-zero d h =
     Stands-same _ _ (pos 0) (pos 0) d 1 (Stands-lowest_terms (pos 0) d h) (Stands-whole (pos 0))
     (let a : 0 * 1 ≡ 0 * d = omega arith in ap pos a)
 
--- the coefficient of each label in `terms` is that in W divided by d, in lowest terms
+-- for each label, the coefficient in the list `terms` of fractions is the coefficient in the list W divided by d, in lowest terms
 abbrev pub Quotients : ℕ → Terms (List ℕ) → WholeTerms → Type 0
 Quotients d terms W = (label : List ℕ) → found terms label ≡ lowest_terms (coefficient W label) d
 
@@ -73,9 +73,9 @@ Quotients-next d old new W label c h q more l = more l ∙ by (same_or_not label
         ∙ ap (λ z. coefficient W l +ℤ z) (ap (λ b. cond b c (pos 0) +ℤ pos 0) (same_apart label l n))
         ∙ +ℤ_idr (coefficient W l)))
 
--- ---- the position of a loop in a list
+-- ---- the terms of a table before the current one
 
--- in a table, the label of a term has the coefficient 0 in the list of the terms before it
+-- if (k, v) is a term of a table, and `done` are the terms before it, k has the coefficient 0 in `done`
 pub coefficient-before : (terms : WholeTerms) → IsWholeTable terms → (done rest : WholeTerms) (k : List ℕ) (v : ℤ) → done ++ (k, v) ∷ rest ≡ terms → coefficient done k ≡ pos 0
 coefficient-before terms is done rest k v e =
     total_none (λ (t : Term). cond (same t.0 k) t.1 (pos 0)) done
@@ -90,7 +90,7 @@ not_refused_quotient d a b z h e q r =
     (q ∙ ap (λ z. lowest_terms z d) e ∙ lowest-zero d h)
     (refused_values (λ (r : Fraction). r) IsFraction checked_fraction_sum a b a b refl refl r)
 
--- ---- the list of quotients
+-- ---- the list of the quotients of all coefficients by a number
 
 pub denominators-positive : (terms : Terms (List ℕ)) → are_terms is_label terms ≡ true → 0 < denominators terms
 denominators-positive [] h = omega arith

@@ -1,9 +1,9 @@
 -- A monomial times a variable: its exponents with one of them increased by 1.
---     set-raised          the exponents with zeros after them and 1 added at a place
---     HasDegree-raised    the product is within the limits
+--     set-raised          zeros appended to the exponents, and 1 added at an index
+--     HasDegree-raised    the product is within the limits of a monomial
 use Rattle.std.proofs.Common.{◌≡◌, ◌⊎◌, ℕ, zero, suc, ◌+◌, ◌-◌, ◌<◌, ◌≤◌, max, List, [], ◌∷◌, ◌++◌, length, get_or, set, take, drop, refl, sym, ap, ap₂, ◌∙◌, subst, inl, inr, arith, add-one, add-zero, append-nil, length-append, take_all}
 use Rattle.std.specs.List.{refill}
-use Rattle.std.proofs.lemmas.List.{length-replicate, take-append-le}
+use Rattle.std.proofs.lemmas.List.{length-replicate, take-append-le, length-append}
 use Rattle.sym_model.specs.Polynomial.{join, no_exponents}
 use Rattle.sym_model.specs.Partition.{size, in_front, without_last_zeros}
 use Rattle.sym_model.proofs.Exponents.{join-nil, join_zeros, length-join, size-join}
@@ -12,15 +12,9 @@ use Rattle.sparse_polys.specs.Limits.{HasDegree}
 use Rattle.sparse_polys.specs.Raised.{raised}
 use Rattle.sparse_polys.proofs.ExponentOrder.{front_tail}
 
--- the exponents of the variable with the index k + 1
+-- the exponents of the variable x_(k+1)
 abbrev unit : ℕ → List ℕ
 unit k = no_exponents k ++ (1 ∷ [])
-
-length-zeros : (k : ℕ) → length (no_exponents k) ≡ k
-length-zeros k = length-replicate k (let z : ℕ = 0 in z)
-
-pub length-then : (x y : List ℕ) → length (x ++ y) ≡ length x + length y
-length-then x y = length-append x y
 
 set-unit : (at : ℕ) (x : List ℕ) → at < length x → set x at (get_or x at 0 + 1) ≡ join x (unit at)
 set-unit at [] h = absurd (omega arith)
@@ -28,12 +22,12 @@ set-unit zero (a ∷ x) h = ap (λ y. (a + 1) ∷ y) (sym (join-nil x))
 set-unit (suc at) (a ∷ x) h = ap₂ ◌∷◌ (sym (add-zero a)) (set-unit at x (omega arith))
 
 length-unit : (k : ℕ) → length (unit k) ≡ k + 1
-length-unit k = omega (arith, length-then (no_exponents k) (1 ∷ []), length-zeros k)
+length-unit k = omega (arith, length-append (no_exponents k) (1 ∷ []), length-replicate {A = ℕ} k 0)
 
 join-padded : (k at : ℕ) (e : List ℕ) → length (e ++ no_exponents k) ≤ at + 1 → join (e ++ no_exponents k) (unit at) ≡ join e (unit at)
-join-padded k at [] h = join_zeros k (unit at) (omega (arith, length-unit at, length-zeros k))
+join-padded k at [] h = join_zeros k (unit at) (omega (arith, length-unit at, length-replicate {A = ℕ} k 0))
 join-padded zero zero (a ∷ e) h = ap (λ y. join (a ∷ y) (unit 0)) (append-nil e)
-join-padded (suc k) zero (a ∷ e) h = absurd (omega (arith, length-then e (no_exponents (suc k)), length-zeros (suc k)))
+join-padded (suc k) zero (a ∷ e) h = absurd (omega (arith, length-append e (no_exponents (suc k)), length-replicate {A = ℕ} (suc k) 0))
 join-padded k (suc at) (a ∷ e) h = ap (λ y. (a + 0) ∷ y) (join-padded k at e (omega arith))
 
 pub set-raised : (k at : ℕ) (old x : List ℕ) → x ≡ old ++ no_exponents k → (k ≡ 0) ⊎ (length x ≤ at + 1) → at < length x
@@ -97,18 +91,12 @@ HasDegree-raised r e d h a b c = record {
   degree_is = let s = size-raised r e in let g = h.degree_is in omega arith;
 }
 
-pub size-padded : (e : List ℕ) (k : ℕ) → size (e ++ no_exponents k) ≡ size e
-size-padded [] zero = refl
-size-padded [] (suc k) = let h = size-padded [] k in omega arith
-size-padded (a ∷ e) k = ap (λ n. a + n) (size-padded e k)
-
--- if a list ws has the length of xs, filling xs anew with ws gives ws
 pub refilled : (xs ws : List ℕ) → length ws ≡ length xs → refill (length xs) xs ws ≡ ws
 refilled xs ws h = take-append-le (length xs) ws (drop (length ws) xs) (omega arith) ∙ ap (λ n. take n ws) (sym h) ∙ take_all (length ws) ws (omega arith)
 
--- ---- a monomial is determined by its product with a variable
+-- ---- e = f if x^e and x^f have the same product with a variable
 
--- the list with the number at place k lowered by 1
+-- the list with the number at index k decreased by 1
 abbrev lowered : ℕ → List ℕ → List ℕ
 lowered k [] = []
 lowered zero (a ∷ x) = (a - 1) ∷ x

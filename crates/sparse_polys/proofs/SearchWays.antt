@@ -1,4 +1,4 @@
--- The counts of a search (specs/Search), from one part to the next.
+-- The search for the partitions ν in m_λ·m_μ (specs/Search): how the number of ways that it counts changes when the next part of ν is chosen.
 use Rattle.std.proofs.Common.{◌≡◌, ◌⊎◌, ℕ, zero, suc, ◌+◌, ◌-◌, ◌*◌, ◌^◌, ◌<◌, ◌≤◌, min, Bool, true, false, ◌&&◌, cond, eqb, leb, ltb, Option, Some, None, List, [], ◌∷◌, ◌++◌, length, get_or, drop, drop-cons, add-one, sym, ◌∙◌, ap, ap₂, subst, refl, inl, inr, arith}
 use Rattle.std.proofs.lemmas.Bool.{eq-eqb, ne_eqb, le-leb, lt-leb, leb-true, cases_lt, cases_eq, and_parts, ltb-true, lt-ltb, and_from}
 use Rattle.sym_model.specs.Polynomial.{same}
@@ -12,8 +12,9 @@ use Rattle.sparse_polys.specs.Search.{count_at, AreCounted, falls_from, after_pr
 use Rattle.monomial_laws.proofs.Arrangements.{arrangements-sizes}
 use Rattle.sym_model.proofs.Numbers.{below_more}
 use Rattle.sym_model.specs.Bounded.{AreBelow}
+use Rattle.sym_model.proofs.Parts.{falls_front}
 
--- ---- states whose remaining parts have one size
+-- ---- states whose remaining parts have the same sum `left`
 
 pub states_first : (left : ℕ) (s : State) (states : List State) → AreStates left (s ∷ states) → IsRest left s.left.items s.right.items
 states_first left s states h = h 0 s (omega arith)
@@ -21,7 +22,7 @@ states_first left s states h = h 0 s (omega arith)
 pub states_rest : (left : ℕ) (s : State) (states : List State) → AreStates left (s ∷ states) → AreStates left states
 states_rest left s states h k d l = h (suc k) d (omega arith)
 
--- if |rest| is not the size of the remaining parts, there is no way to continue to `rest`
+-- if the remaining parts of each state add up to `left`, and |rest| is not `left`, there is no way to continue to `rest`
 pub ways-sizes : (left : ℕ) (states : List State) (rest : List ℕ) → AreStates left states → (left ≡ size rest → ⊥) → ways states rest ≡ 0
 ways-sizes left [] rest h n = refl
 ways-sizes left (s ∷ states) rest h n =
@@ -34,7 +35,8 @@ arrangements-end : (l r : List ℕ) → IsRest 0 l r → arrangements l r [] ≡
 arrangements-end l r s =
     ap₂ (λ (x y : List ℕ). arrangements x y []) (no_part l s.first.positive (omega (arith, s.sizes))) (no_part r s.second.positive (omega (arith, s.sizes)))
 
--- if nothing is left, taking the count of state i into the total and going on with the later states does not change the capped total
+-- for states without remaining parts: adding the count of state i to `total`, up to 2^128 - 1, and dropping this state does not change the sum,
+-- capped at 2^128 - 1, of `total` and the counts of the states from i on
 pub end_next : (total : ℕ) (xs : List State) (i : ℕ) (s : State) (goal : ℕ) → AreStates 0 xs → i < length xs → s ≡ get_or xs i s
     → capped (total + ways (drop i xs) []) ≡ goal → capped (min (total + s.count) (2 ^ 128 - 1) + ways (drop (i + 1) xs) []) ≡ goal
 end_next total xs i s goal h l e g =
@@ -45,9 +47,9 @@ end_next total xs i s goal h l e g =
     let k = ap (λ n. s.count * n) a in
     (let q : capped (min (total + s.count) (2 ^ 128 - 1) + ways (drop (i + 1) xs) []) ≡ capped (total + ways (drop i xs) []) = omega arith in q) ∙ g
 
--- ---- the parts chosen so far
+-- ---- the parts of ν after those chosen so far
 
--- the remaining parts without their first one, if that is the chosen part x; otherwise None
+-- for `Some parts` whose first part is x: `parts` without this first part; otherwise None
 then_part : ℕ → Option (List ℕ) → Option (List ℕ)
 then_part x None = None
 then_part x (Some rest) = after_prefix (x ∷ []) rest
@@ -71,7 +73,7 @@ falls_from-below m (x ∷ rest) e =
     let l = leb-true x m q.1 in
     (omega arith, below_more (x + 1) (m + 1) rest (omega arith) (falls_from-below x rest p.1))
 
--- ---- the search from one greatest part to the next smaller one
+-- ---- partitions with next part at most i + 1: those with next part i + 1, and those with next part at most i
 
 pub found-step : (prefix : List ℕ) (i : ℕ) (states next : List State) (ν : List ℕ)
     → ((rest : List ℕ) → AreBelow (i + 1 + 1) rest → capped (ways next rest) ≡ capped (ways states ((i + 1) ∷ rest)))
@@ -120,7 +122,7 @@ found-step prefix i states next ν h =
             bound (inl l) = lt-leb y (i + 1) (omega arith) ∙ sym (lt-leb y i l)
             bound (inr l) = le-leb y (i + 1) (omega arith) ∙ sym (le-leb y i l)
 
--- if no part may be chosen, but the size `left` that is still to come is not 0, ν is not found
+-- if the remaining parts of each state add up to `left` > 0, but the next part of ν must be at most 0, no way to ν is found
 pub found-none : (prefix : List ℕ) (left : ℕ) (states : List State) (ν : List ℕ) → AreStates left states → 0 < left → found prefix 0 states ν ≡ 0
 found-none prefix left states ν h l = by (after_prefix prefix ν)
   where
@@ -134,7 +136,7 @@ found-none prefix left states ν h l = by (after_prefix prefix ν)
         no true = refl
         no false = refl
 
--- allowing parts greater than the size that is left finds nothing more
+-- if the remaining parts of each state add up to `left`, no more ways to ν are found if the next part may be greater than `left`
 found-top : (prefix : List ℕ) (left m : ℕ) (states : List State) (ν : List ℕ) → AreStates left states → left ≤ m → found prefix left states ν ≡ found prefix m states ν
 found-top prefix left m states ν h l = by (after_prefix prefix ν)
   where
@@ -158,7 +160,8 @@ found-min prefix left m states ν h = by (cases_lt left m)
     by (inl l) = let e : min m left ≡ left = omega arith in ap (λ k. found prefix k states ν) e ∙ found-top prefix left m states ν h (omega arith)
     by (inr l) = let e : min m left ≡ m = omega arith in ap (λ k. found prefix k states ν) e
 
--- if nothing is left, ν has the number of ways of all states, up to 2^128 - 1, if it consists of the chosen parts, and otherwise 0
+-- for states without remaining parts: the count of ν is 0 unless ν is `prefix`; for ν = `prefix` it is the sum of the counts of the states, or 2^128
+-- - 1 if that is greater
 pub found-end : (prefix : List ℕ) (m : ℕ) (states : List State) (ν : List ℕ) → AreStates 0 states → found prefix m states ν ≡ cond (same prefix ν) (capped (ways states [])) 0
 found-end [] m states [] h = refl
 found-end [] m states (y ∷ ν) h = by (ltb 0 y) refl
@@ -182,15 +185,10 @@ pub count_at-append : (xs ys : List Counted) (ν : List ℕ) → count_at (xs ++
 count_at-append [] ys ν = omega arith
 count_at-append (t ∷ xs) ys ν = omega (arith, count_at-append xs ys ν)
 
--- ---- the chosen parts and the next one as a partition
-
-Falls-front : (prefix : List ℕ) (m : ℕ) → Falls (prefix ++ (m ∷ [])) → Falls prefix
-Falls-front [] m f = tt
-Falls-front (a ∷ []) m f = tt
-Falls-front (a ∷ b ∷ prefix) m f = (f.0, Falls-front (b ∷ prefix) m f.1)
+-- ---- the chosen parts and the next part as a partition
 
 pub IsPartition-chosen : (m : ℕ) (prefix : List ℕ) → IsChosen m prefix → IsPartition prefix
-IsPartition-chosen m prefix c = record { falls = Falls-front prefix m c.falls; positive = c.positive }
+IsPartition-chosen m prefix c = record { falls = falls_front prefix m c.falls; positive = c.positive }
 
 Falls-less : (prefix : List ℕ) (m x : ℕ) → x ≤ m → Falls (prefix ++ (m ∷ [])) → Falls (prefix ++ (x ∷ []))
 Falls-less [] m x h f = tt
@@ -216,7 +214,7 @@ IsChosen-more m x prefix h l c = record {
   positive = ArePositive-append prefix x h c.positive;
 }
 
--- a search from no states finds no way to ν
+-- a search that has no states left finds no way to ν
 pub found-nothing : (prefix : List ℕ) (m : ℕ) (ν : List ℕ) → found prefix m [] ν ≡ 0
 found-nothing prefix m ν = by (after_prefix prefix ν)
   where
@@ -235,7 +233,7 @@ counted-more total [] t p s h (suc k) d l = absurd (omega arith)
 counted-more total (u ∷ terms) t p s h zero d l = h zero d (omega arith)
 counted-more total (u ∷ terms) t p s h (suc k) d l = counted-more total terms t p s (λ j e m. h (suc j) e (omega arith)) k d (omega arith)
 
--- ---- a search from its beginning
+-- ---- the search from its first state
 
 IsPartition-goes_on : (m x : ℕ) (rest : List ℕ) → Falls (x ∷ rest) → ArePositive (x ∷ rest) → x ≤ m → falls_from m (x ∷ rest) ≡ true
 IsPartition-goes_on m x [] f p h = and_from (ltb 0 x && leb x m) true (and_from (ltb 0 x) (leb x m) (lt-ltb 0 x p.0) (le-leb x m h)) refl
@@ -244,8 +242,8 @@ IsPartition-goes_on m x (y ∷ rest) f p h =
     (and_from (ltb 0 x) (leb x m) (lt-ltb 0 x p.0) (le-leb x m h))
     (IsPartition-goes_on x y rest f.1 p.1 f.0)
 
--- a search from one state with the labels l and r, and no chosen part, finds for each partition ν the number of ways to
--- write it as a sum of arrangements of l and r, up to 2^128 - 1
+-- the search from the one state with the remaining parts l and r and the count 1, before any part is chosen, finds for each partition ν the number of
+-- ways to write ν as a sum of arrangements of l and r, or 2^128 - 1 if there are more
 pub found-all : (l r ν : List ℕ) (s : State) (total : ℕ) → s.left.items ≡ l → s.right.items ≡ r → s.count ≡ 1 → IsPartition ν → size l + size r ≡ total
     → found [] total (s ∷ []) ν ≡ capped (arrangements l r ν)
 found-all l r [] s total a b k p z = ap capped (one l r [] s a b k)
@@ -277,9 +275,8 @@ found-all l r (x ∷ rest) s total a b k p z = by (cases_lt total x)
         ap (λ t. cond t (capped (ways (s ∷ []) (x ∷ rest))) 0) (IsPartition-goes_on total x rest p.falls p.positive h)
         ∙ ap capped one
 
--- ---- the count of each entry of the result
+-- ---- the count of each entry that the search lists
 
--- removing the chosen parts from the front of the list of these parts leaves the empty list
 after_prefix-all : (prefix : List ℕ) → after_prefix prefix prefix ≡ Some []
 after_prefix-all [] = refl
 after_prefix-all (a ∷ prefix) = ap (λ b. cond b (after_prefix prefix prefix) None) (eq-eqb a a refl) ∙ after_prefix-all prefix
@@ -287,7 +284,6 @@ after_prefix-all (a ∷ prefix) = ap (λ b. cond b (after_prefix prefix prefix) 
 pub Counts-end : (f : List ℕ → ℕ) (prefix : List ℕ) (m : ℕ) (states : List State) → Counts f prefix m states → capped (ways states []) ≡ f prefix
 Counts-end f prefix m states h = h prefix [] (after_prefix-all prefix) refl
 
--- if removing x leaves `rest`, the remaining parts are x ∷ rest
 then_part-some : (x : ℕ) (o : Option (List ℕ)) (rest : List ℕ) → then_part x o ≡ Some rest → o ≡ Some (x ∷ rest)
 unfolding then_part
 then_part-some x None rest e = cc
@@ -312,15 +308,15 @@ Counts-step f prefix x m states next p l h k ν rest a b =
     ∙ k ν (x ∷ rest) (then_part-some x (after_prefix prefix ν) rest (sym (after_prefix-append prefix x ν) ∙ a))
     (and_from (ltb 0 x && leb x m) (falls_from x rest) (and_from (ltb 0 x) (leb x m) (lt-ltb 0 x p) (le-leb x m l)) b)
 
--- if all counts so far are those of f, and the next entry has the count of f, all counts of the longer list are those of f
+-- if each entry of `terms` has the count that f gives for its partition, and so has the entry t, the same holds for `terms` with t appended
 pub counts-more : (f : List ℕ → ℕ) (terms : List Counted) (t : Counted) → t.count ≡ f t.parts.items → HaveCounts f terms → HaveCounts f (terms ++ (t ∷ []))
 counts-more f [] t e h zero d l = e
 counts-more f [] t e h (suc k) d l = absurd (omega arith)
 counts-more f (u ∷ terms) t e h zero d l = h zero d (omega arith)
 counts-more f (u ∷ terms) t e h (suc k) d l = counts-more f terms t e (λ j i m. h (suc j) i (omega arith)) k d (omega arith)
 
--- from one state with the labels l and r, and no chosen part, each count is the number of ways to write ν as a sum of
--- arrangements of l and r, up to 2^128 - 1
+-- for the one state with the remaining parts l and r and the count 1, before any part is chosen, the count of ν is the number of ways to write ν as a
+-- sum of arrangements of l and r, or 2^128 - 1 if there are more
 pub Counts-begin : (l r : List ℕ) (s : State) (m : ℕ) → s.left.items ≡ l → s.right.items ≡ r → s.count ≡ 1
     → Counts (λ ν. capped (arrangements l r ν)) [] m (s ∷ [])
 Counts-begin l r s m a b k ν rest e f =

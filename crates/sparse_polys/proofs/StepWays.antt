@@ -1,18 +1,20 @@
--- The remaining parts after one part of the partition is removed from both labels (specs/Ways).
-use Rattle.std.proofs.Common.{◌≡◌, ◌⊎◌, ℕ, zero, suc, ◌+◌, ◌-◌, ◌*◌, ◌<◌, ◌≤◌, Bool, true, false, ◌&&◌, ◌||◌, cond, eqb, leb, List, [], ◌∷◌, length, get_or, drop, not, sym, ◌∙◌, ap, ap₂, subst, refl, inl, inr, arith, ℤ, pos, ◌+ℤ◌}
+-- The number of ways to continue from a state of the search for the partitions ν in m_λ·m_μ, after one part of ν is written as the sum of a part of λ
+-- or 0 and a part of μ or 0, which are removed (specs/Ways).
+use Rattle.std.proofs.Common.{◌≡◌, ℕ, ◌+◌, ◌-◌, ◌*◌, ◌<◌, ◌≤◌, Bool, true, false, ◌&&◌, ◌||◌, cond, eqb, leb, List, [], ◌∷◌, length, get_or, drop, not, sym, ◌∙◌, ap, ap₂, subst, refl, arith, ℤ, pos, ◌+ℤ◌}
 use Rattle.std.proofs.lemmas.Int.{ints}
-use Rattle.std.proofs.lemmas.Bool.{eq-eqb, le-leb, cases_lt, both_ways, and_parts, leb-true, or_right}
+use Rattle.std.proofs.lemmas.Bool.{eq-eqb, le-leb, and_parts, leb-true, or_right, not-true, leb-false}
 use Rattle.sym_model.specs.Sum.{total}
 use Rattle.sym_model.specs.Partition.{IsPartition}
 use Rattle.sym_model.specs.Bases.{has}
 use Rattle.sym_model.specs.RaisedPart.{without_one, distinct}
 use Rattle.monomial_laws.specs.MonomialProduct.{arrangements}
 use Rattle.sparse_polys.specs.Ways.{capped, taken, is_choice_at, IsRest, HasPartAbove}
-use Rattle.sym_model.proofs.SortedParts.{IsPartition-without_one, has-zero, size-taken}
-use Rattle.sym_model.proofs.Lists.{drop-next}
+use Rattle.sym_model.proofs.SortedParts.{IsPartition-without_one, size-taken, has-get_or, distinct-zero}
 use Rattle.monomial_laws.proofs.Arrangements.{arrangements-cons, arrangements-lacking, arrangements-comm}
-use Rattle.sym_model.proofs.Numbers.{below_more}
+use Rattle.sym_model.proofs.Numbers.{below_more, zero_either}
 use Rattle.sym_model.specs.Bounded.{AreBelow}
+use Rattle.sym_model.proofs.Integers.{pos_equal}
+use Rattle.std.proofs.lemmas.List.{drop_more}
 
 pub IsRest-taken : (a b left : ℕ) (l r : List ℕ) → IsRest (a + b + left) l r → has a (0 ∷ l) ≡ true → has b (0 ∷ r) ≡ true → IsRest left (without_one a l) (without_one b r)
 IsRest-taken a b left l r s h k = record {
@@ -21,26 +23,20 @@ IsRest-taken a b left l r s h k = record {
   sizes = omega (arith, s.sizes, size-taken a l s.first h, size-taken b r s.second k);
 }
 
--- if l without its part a has a part greater than a + b, and all parts of ν are at most a + b, there is no way to continue to ν
+-- if l without one a has a part greater than a + b, and all parts of ν are at most a + b, there is no way to continue to ν (`taken`)
 pub taken-above_left : (a b left : ℕ) (l r ν : List ℕ) → IsRest left l r → AreBelow (a + b + 1) ν → HasPartAbove (a + b) (without_one a l) → taken l r a b ν ≡ 0
-taken-above_left a b left l r ν s below (k, m, h) = by (has b (0 ∷ r))
-  where
-    by : (t : Bool) → cond t (arrangements (without_one a l) (without_one b r) ν) 0 ≡ 0
-    by true = arrangements-lacking k ν (without_one a l) (without_one b r) (IsPartition-without_one a l s.first) (IsPartition-without_one b r s.second) m (below_more (a + b + 1) k ν (omega arith) below)
-    by false = refl
+taken-above_left a b left l r ν s below (k, m, h) = zero_either (has b (0 ∷ r)) (arrangements-lacking k ν (without_one a l) (without_one b r) (IsPartition-without_one a l s.first) (IsPartition-without_one b r s.second) m (below_more (a + b + 1) k ν (omega arith) below))
 
 pub taken-above_right : (a b left : ℕ) (l r ν : List ℕ) → IsRest left l r → AreBelow (a + b + 1) ν → HasPartAbove (a + b) (without_one b r) → taken l r a b ν ≡ 0
-taken-above_right a b left l r ν s below (k, m, h) = by (has b (0 ∷ r))
-  where
-    by : (t : Bool) → cond t (arrangements (without_one a l) (without_one b r) ν) 0 ≡ 0
-    by true =
-        arrangements-comm (without_one a l) (without_one b r) ν
-        ∙ arrangements-lacking k ν (without_one b r) (without_one a l) (IsPartition-without_one b r s.second) (IsPartition-without_one a l s.first) m (below_more (a + b + 1) k ν (omega arith) below)
-    by false = refl
+taken-above_right a b left l r ν s below (k, m, h) =
+    zero_either (has b (0 ∷ r))
+    (arrangements-comm (without_one a l) (without_one b r) ν
+    ∙ arrangements-lacking k ν (without_one b r) (without_one a l) (IsPartition-without_one b r s.second) (IsPartition-without_one a l s.first) m (below_more (a + b + 1) k ν (omega arith) below))
 
--- ---- the ways summed over the parts of the left label
+-- ---- the number of ways (`taken`), summed over the different parts of l
 
--- the sum over the parts b ≤ x of the list of the number of ways in which b is removed from the left label and x - b from the right one
+-- the sum, over the numbers b ≤ x of a list, of the number of ways to write ν as a sum of arrangements of l without b and of r without x - b
+-- (`taken`)
 abbrev pub taken_over : ℕ → List ℕ → List ℕ → List ℕ → List ℕ → ℕ
 taken_over x l r ν [] = 0
 taken_over x l r ν (b ∷ bs) = cond (leb b x) (taken l r b (x - b) ν) 0 + taken_over x l r ν bs
@@ -55,16 +51,11 @@ taken_over-total x l r ν (b ∷ bs) = by (leb b x) (has (x - b) (0 ∷ r)) (arr
     by true false n {z} e = omega (arith, ints)
     by false t n {z} e = omega (arith, ints)
 
--- the ways to x ∷ ν are those that remove nothing from l and x from r, and those that remove a part b of l, each different b once, and x - b from r
+-- the ways to x ∷ ν are those that remove nothing from l and x from r, and, for each of the different parts b ≤ x of l, those that remove one b from
+-- l and x - b from r
 pub arrangements-first : (x : ℕ) (ν l r : List ℕ) → IsPartition l → IsPartition r → arrangements l r (x ∷ ν) ≡ taken l r 0 x ν + taken_over x l r ν (distinct l)
-arrangements-first x ν l r p q = as_number (arrangements-cons x ν l r p q ∙ taken_over-total x l r ν (distinct (0 ∷ l))) ∙ ap (taken_over x l r ν) zero_first ∙ first
+arrangements-first x ν l r p q = pos_equal (arrangements-cons x ν l r p q ∙ taken_over-total x l r ν (distinct (0 ∷ l))) ∙ ap (taken_over x l r ν) (distinct-zero l p.positive) ∙ first
   where
-    as_number : {a b : ℕ} → pos a ≡ pos b → a ≡ b
-    as_number {a} {b} e = omega (arith, ints)
-
-    zero_first : distinct (0 ∷ l) ≡ 0 ∷ distinct l
-    zero_first = ap (λ b. cond b (distinct l) (0 ∷ distinct l)) (has-zero l p.positive)
-
     first : taken_over x l r ν (0 ∷ distinct l) ≡ taken l r 0 x ν + taken_over x l r ν (distinct l)
     first = ap₂ (λ (b : Bool) (n : ℕ). cond b (taken l r 0 n ν) 0 + taken_over x l r ν (distinct l)) (le-leb 0 x (omega arith)) (let e : x - 0 ≡ x = omega arith in e)
 
@@ -73,21 +64,16 @@ arrangements-first x ν l r p q = as_number (arrangements-cons x ν l r p q ∙ 
 pub capped-add : (a b z : ℕ) → capped a ≡ capped b → capped (a + z) ≡ capped (b + z)
 capped-add a b z e = omega arith
 
--- ---- if the first part of a label is above a bound, the label has a part above it
+-- ---- a weakly decreasing list whose first part is greater than a bound
 
 pub first-above : (part : ℕ) (parts : List ℕ) (first : ℕ) → 0 < length parts → first ≡ get_or parts 0 first → leb first part ≡ false → HasPartAbove part parts
 first-above part [] first h e t = absurd (omega arith)
-first-above part (c ∷ parts) first h e t = (first, ap (λ b. b || has first parts) (eq-eqb c first (sym e)), by (cases_lt part first))
-  where
-    by : (part < first) ⊎ (first ≤ part) → part < first
-    by (inl l) = l
-    by (inr l) = absurd (both_ways (leb first part) t (le-leb first part l))
+first-above part (c ∷ parts) first h e t = (first, ap (λ b. b || has first parts) (eq-eqb c first (sym e)), leb-false first part t)
 
--- if t is 0, adding k·t does not change a capped sum
 pub nothing_more : (n k t : ℕ) → t ≡ 0 → capped n ≡ capped (n + k * t)
 nothing_more n k t e = ap (λ m. capped m) (let p = ap (λ j. k * j) e in omega arith)
 
--- ---- the capped sum during the loop over the parts of the left label
+-- ---- the number of ways, capped at 2^128 - 1, during the loop over the parts of the list `left` of a state
 
 pub first_way : (w1 w0 k t o a : ℕ) → capped w1 ≡ capped (w0 + k * t) → a ≡ t + o → capped (w1 + k * o) ≡ capped (w0 + k * a)
 first_way w1 w0 k t o a h e = capped-add w1 (w0 + k * t) (k * o) h ∙ ap (λ n. capped n) (let p = ap (λ n. k * n) e in let q : w0 + k * t + k * o ≡ w0 + k * a = omega arith in q)
@@ -98,26 +84,22 @@ next_way w2 w1 k t o rest goal h e g =
     ∙ ap (λ n. capped n) (let p = ap (λ n. k * n) e in let q : w1 + k * t + k * rest ≡ w1 + k * o = omega arith in q)
     ∙ g
 
--- if part i is at most x and not among the later parts, the sum over the parts from index i on is the number of ways with part i removed
--- from the left label, plus the sum over the later parts
+-- if part i of `parts` is at most x and not among the later parts: the sum `taken_over` over the different parts from index i on is the number
+-- `taken` of ways with part i removed from l and x less part i from r, plus the sum over the different parts after index i
 pub taken_over-choice : (x : ℕ) (l r ν parts : List ℕ) (i : ℕ) → i < length parts → is_choice_at parts i x ≡ true
     → taken_over x l r ν (distinct (drop i parts)) ≡ taken l r (get_or parts i 0) (x - get_or parts i 0) ν + taken_over x l r ν (distinct (drop (i + 1) parts))
 taken_over-choice x l r ν parts i h e =
     let a = get_or parts i 0 in
     let p = and_parts (leb a x) (not (has a (drop (i + 1) parts))) e in
-    ap (λ ps. taken_over x l r ν (distinct ps)) (drop-next parts i h)
-    ∙ ap (λ b. taken_over x l r ν (cond b (distinct (drop (i + 1) parts)) (a ∷ distinct (drop (i + 1) parts)))) (not_true (has a (drop (i + 1) parts)) p.1)
+    ap (λ ps. taken_over x l r ν (distinct ps)) (drop_more parts i 0 h)
+    ∙ ap (λ b. taken_over x l r ν (cond b (distinct (drop (i + 1) parts)) (a ∷ distinct (drop (i + 1) parts)))) (not-true (has a (drop (i + 1) parts)) p.1)
     ∙ ap (λ b. cond b (taken l r a (x - a) ν) 0 + taken_over x l r ν (distinct (drop (i + 1) parts))) p.0
-  where
-    not_true : (b : Bool) → not b ≡ true → b ≡ false
-    not_true true u = sym u
-    not_true false u = refl
 
 pub taken_over-passed : (x : ℕ) (l r ν parts : List ℕ) (i : ℕ) → i < length parts → is_choice_at parts i x ≡ false
     → taken_over x l r ν (distinct (drop i parts)) ≡ taken_over x l r ν (distinct (drop (i + 1) parts))
 taken_over-passed x l r ν parts i h e =
     let a = get_or parts i 0 in
-    ap (λ ps. taken_over x l r ν (distinct ps)) (drop-next parts i h) ∙ by (leb a x) refl (has a (drop (i + 1) parts)) e
+    ap (λ ps. taken_over x l r ν (distinct ps)) (drop_more parts i 0 h) ∙ by (leb a x) refl (has a (drop (i + 1) parts)) e
   where
     by : (s : Bool) → leb (get_or parts i 0) x ≡ s → (t : Bool) → (s && not t) ≡ false
         → taken_over x l r ν (cond t (distinct (drop (i + 1) parts)) (get_or parts i 0 ∷ distinct (drop (i + 1) parts))) ≡ taken_over x l r ν (distinct (drop (i + 1) parts))
@@ -127,7 +109,7 @@ taken_over-passed x l r ν parts i h e =
         ap (λ b. cond b (taken l r (get_or parts i 0) (x - get_or parts i 0) ν) 0 + taken_over x l r ν (distinct (drop (i + 1) parts))) k
         ∙ (let e : 0 + taken_over x l r ν (distinct (drop (i + 1) parts)) ≡ taken_over x l r ν (distinct (drop (i + 1) parts)) = omega arith in e)
 
--- ---- the capped sum during the loop over the states
+-- ---- the number of ways, capped at 2^128 - 1, during the loop over the states
 
 pub next_state : (w2 w1 t o rest goal : ℕ) → capped w2 ≡ capped (w1 + t) → o ≡ t + rest → capped (w1 + o) ≡ goal → capped (w2 + rest) ≡ goal
 next_state w2 w1 t o rest goal h e g =
@@ -144,9 +126,4 @@ pub choice-within : (x : ℕ) (parts : List ℕ) (i : ℕ) → is_choice_at part
 choice-within x parts i e = leb-true (get_or parts i 0) x (and_parts (leb (get_or parts i 0) x) (not (has (get_or parts i 0) (drop (i + 1) parts))) e).0
 
 pub has_at : (parts : List ℕ) (i : ℕ) → i < length parts → has (get_or parts i 0) (0 ∷ parts) ≡ true
-has_at parts i h = or_right (eqb 0 (get_or parts i 0)) (has (get_or parts i 0) parts) (there parts i h)
-  where
-    there : (parts : List ℕ) (i : ℕ) → i < length parts → has (get_or parts i 0) parts ≡ true
-    there [] i h = absurd (omega arith)
-    there (c ∷ parts) zero h = ap (λ b. b || has c parts) (eq-eqb c c refl)
-    there (c ∷ parts) (suc i) h = or_right (eqb c (get_or parts i 0)) (has (get_or parts i 0) parts) (there parts i (omega arith))
+has_at parts i h = or_right (eqb 0 (get_or parts i 0)) (has (get_or parts i 0) parts) (has-get_or parts i h)

@@ -1,6 +1,6 @@
--- The operations on a table with integer coefficients, as operations on its list of terms.
---     Same-multiple, Same-sum        the list of a multiple of a table, and of a sum of two tables
---     large_product, large_sum       if a multiple or a sum of tables is refused, one of its coefficients is too large
+-- Multiples and sums of tables with integer coefficients, as polynomials given by lists of terms.
+--     Same-multiple, Same-sum        a table that is a multiple of a table, or a sum of two tables, is this multiple or sum as a polynomial
+--     large_product, large_sum       if a multiple or a sum of tables is refused, one of its coefficients is 2^127 or more in absolute value
 use Rattle.std.proofs.Common.{◌≡◌, ◌^◌, ◌≤◌, Bool, true, false, sym, ◌∙◌, ap, ap₂, subst, refl, arith, ℤ, pos, ◌+ℤ◌, ◌*ℤ◌}
 use Rattle.std.specs.Prelude.{nat_abs, FitsSigned}
 use Rattle.std.specs.Int.{w128}
@@ -17,9 +17,10 @@ use Rattle.linear_combinations.proofs.Found.{coefficient_found, coefficient_of_t
 use Rattle.sparse_polys.specs.Tables.{equal, IsWholeTable}
 use Rattle.sparse_polys.specs.Large.{HasLarge}
 use Rattle.sparse_polys.proofs.WholeLists.{coefficient-no_label, label-partition}
-use lib.IntN.{*ℤ_comm, +ℤ_comm}
+use lib.IntN.{*ℤ_comm}
+use Rattle.sym_model.proofs.PolynomialLaws.{plus_comm}
 
--- ---- a table with q times the coefficients of another is q times its polynomial, and a table of sums is the sum
+-- ---- tables whose coefficients are q times those of a table, or the sums of those of two tables
 
 pub Same-multiple : (old new : WholeTerms) (q : ℤ) → IsWholeTable old → IsWholeTable new → IsMultipleOf equal (pos 0) ◌*ℤ◌ old q new → Same new (scale q old)
 Same-multiple old new q is also multiples l =
@@ -34,7 +35,7 @@ Same-sum first second sum is js also sums l =
     ∙ ap₂ ◌+ℤ◌ (sym (coefficient_found first is.distinct l)) (sym (coefficient_found second js.distinct l))
     ∙ sym (coefficient_plus first second l)
 
--- ---- coefficients that are too large
+-- ---- multiples and sums with a coefficient of 2^127 or more
 
 pub large_product : (old : WholeTerms) (q : ℤ) → IsWholeTable old
     → RefusesSomeProduct (FitsSigned w128) (λ (x y : ℤ). checked_i128 (x *ℤ y)) old q → HasLarge (scale q old)
@@ -62,14 +63,10 @@ large_sum first second is js (label, r) =
         (coefficient_plus first second label ∙ ap₂ ◌+ℤ◌ (coefficient-no_label first is label e) (coefficient-no_label second js label e)) in
         omega arith)
 
--- ---- the sum of two multiples
+-- ---- the sum of p times a list and q times a list
 
 pub HasLarge_respects : (A B : WholeTerms) → Same A B → HasLarge A → HasLarge B
 HasLarge_respects A B h x = record { label = x.label; partition = x.partition; large = subst (λ z. 2 ^ 127 ≤ nat_abs z) (h x.label) x.large }
-
--- the sum of two multiples is the same in either order
-plus_swapped : (first second : WholeTerms) → Same (plus second first) (plus first second)
-plus_swapped first second l = coefficient_plus second first l ∙ +ℤ_comm (coefficient second l) (coefficient first l) ∙ sym (coefficient_plus first second l)
 
 module _ (left right first second : WholeTerms) (p q : ℤ) (is : IsWholeTable left) (js : IsWholeTable right) (f : IsWholeTable first) (s : IsWholeTable second)
     (h : IsMultipleOf equal (pos 0) ◌*ℤ◌ left p first) (k : IsMultipleOf equal (pos 0) ◌*ℤ◌ right q second) where
@@ -81,7 +78,7 @@ module _ (left right first second : WholeTerms) (p q : ℤ) (is : IsWholeTable l
   Same-sum_of sum t e = Same_trans sum (plus first second) (plus (scale p left) (scale q right)) (Same-sum first second sum f s t e) multiples
 
   pub Same-sum_swapped : (sum : WholeTerms) → IsWholeTable sum → IsSumOf equal (pos 0) ◌+ℤ◌ second first sum → Same sum (plus (scale p left) (scale q right))
-  Same-sum_swapped sum t e l = Same-sum second first sum s f t e l ∙ plus_swapped first second l ∙ multiples l
+  Same-sum_swapped sum t e l = Same-sum second first sum s f t e l ∙ plus_comm second first l ∙ multiples l
 
   pub large_sum_of : RefusesSomeSum equal (pos 0) (FitsSigned w128) (λ (x y : ℤ). checked_i128 (x +ℤ y)) first second
       → HasLarge (plus (scale p left) (scale q right))
@@ -90,5 +87,5 @@ module _ (left right first second : WholeTerms) (p q : ℤ) (is : IsWholeTable l
   pub large_sum_swapped : RefusesSomeSum equal (pos 0) (FitsSigned w128) (λ (x y : ℤ). checked_i128 (x +ℤ y)) second first
       → HasLarge (plus (scale p left) (scale q right))
   large_sum_swapped refused =
-      HasLarge_respects (plus second first) (plus (scale p left) (scale q right)) (λ l. plus_swapped first second l ∙ multiples l)
+      HasLarge_respects (plus second first) (plus (scale p left) (scale q right)) (λ l. plus_comm second first l ∙ multiples l)
       (large_sum second first s f refused)

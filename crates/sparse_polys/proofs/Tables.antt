@@ -1,8 +1,8 @@
--- Lists of fractions as entries of a table of fractions.
+-- Lists of fractions as tables over the ring of fractions.
 --     terms-fractions      a list of fractions is its own list of terms
 --     term-tests           the tests that each term of a combination passes
 --     canonical-fractions  the tests of a canonical list
---     table_gained         a list that gains terms from nothing is a table
+--     table_gained         a list that is built by adding terms to the empty list is a combination
 use Rattle.std.proofs.Common.{◌≡◌, Bool, true, ◌&&◌, [], ◌∷◌, ℕ, pos, refl, ap, ap₂}
 use Rattle.std.specs.Cmp.{IsEquivalence}
 use Rattle.std.specs.List.{IsDistinct}
@@ -22,7 +22,7 @@ use Rattle.linear_combinations.proofs.Totals.{term-among}
 use Rattle.sparse_polys.specs.Combination.{terms_of, coefficient, are_terms, is_canonical_list}
 use Rattle.sparse_polys.specs.Combination.{IsCombination}
 
--- a list of fractions is its own list of terms
+-- the list of terms of a list of pairs with fractions as scalars is this list itself
 pub terms-fractions : {L : Type 0} (terms : Terms L) → terms_of (λ (c : Fraction). c) terms ≡ terms
 terms-fractions [] = refl
 terms-fractions (t ∷ terms) = ap (λ ts. t ∷ ts) (terms-fractions terms)
@@ -50,7 +50,7 @@ module _ {L : Type 0} (is_label : L → Bool) where
   is_ordered-fractions order (t ∷ u ∷ terms) =
       ap (λ b. is_lt (order t.0 u.0) && b) (is_ordered-fractions order (u ∷ terms))
 
-  -- a list is canonical if and only if its labels are in order and each element passes the test of a term
+  -- the test of a canonical list is the test that its labels are in order, and that each coefficient is reduced and each label within its limits
   pub canonical-fractions : (order : L → L → Ordering) (terms : Terms L)
       → is_canonical_list order is_label terms
       ≡ (is_ordered order terms
@@ -66,7 +66,7 @@ module _ {L : Type 0} (is_label : L → Bool) where
       lowest-entry laws same is_label (λ (r : Fraction). r) (whole (pos 0))
       (InLowestTerms-whole (pos 0)) terms proper k
 
--- a list that has gained terms, starting from the empty one, is a combination
+-- a list that is built by adding terms to the empty list (`GainsCleared`) is a combination
 pub table_gained : {L : Type 0} {eq : L → L → Bool} {is_label : L → Bool} (q : ℕ)
     (gained : WholeTermsOf L) (new : Terms L) → GainsCleared eq is_label q [] gained new
     → IsCombination eq is_label new

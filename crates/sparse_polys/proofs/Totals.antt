@@ -1,4 +1,4 @@
--- Sums over the terms of a combination: they follow from its coefficients, whatever the order of the terms.
+-- Sums over the terms of a combination: they are determined by its coefficients, whatever the order of the terms.
 use Rattle.std.proofs.Common.{◌≡◌, Bool, true, ℤ, pos, ◌+ℤ◌, refl}
 use Rattle.std.specs.Cmp.{IsEquivalence}
 use Rattle.coeff_rings.specs.Fractions.{whole, fraction_sum}
@@ -10,12 +10,12 @@ use Rattle.sparse_polys.specs.Combination.{coefficient, IsCombination, HasMoreAt
 
 module _ {L : Type 0} {eq : L → L → Bool} (laws : IsEquivalence eq) (same : (x y : L) → eq x y ≡ true → x ≡ y) where
   module _ {is_label : L → Bool} where
-    -- a term of one combination occurs in every other one that has the same coefficient at its label
+    -- if t is a term of the first combination, and the second has the same coefficient at the label of t, then t is a term of the second
     pub carried : (first second : Terms L) → IsCombination eq is_label first → (t : L × Fraction) → Among t first → coefficient eq second t.0 ≡ coefficient eq first t.0 → Among t second
     carried first second is = Totals.carried laws same (whole (pos 0)) (λ (r : Fraction). r) refl first second is
 
     module _ (first second : Terms L) (is : IsCombination eq is_label first) (also : IsCombination eq is_label second) where
-      -- if two combinations have the same coefficients, their sums of f are equal
+      -- if two combinations have the same coefficient at every label, the sums of f over their terms are equal
       pub total_same : (f : L × Fraction → ℤ) → HasSameCoefficients eq first second → total f first ≡ total f second
       total_same =
           Totals.total_same laws same (whole (pos 0)) (λ (r : Fraction). r) refl first second is also

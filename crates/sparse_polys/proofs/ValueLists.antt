@@ -1,4 +1,4 @@
--- Properties of a list of labels with scalars, as properties of the list of their values.
+-- Properties of a list of entries (label, scalar), as properties of the list (label, value of the scalar).
 use Rattle.std.proofs.Common.{◌≡◌, Bool, true, false, ◌&&◌, List, [], ◌∷◌, length, pos, suc, refl, sym, ap, ap₂, ◌∙◌, subst, inl, inr, if◌then◌else◌}
 use Rattle.std.specs.Prelude.{Option, Some, None}
 use Rattle.std.specs.List.{IsDistinct}
@@ -70,7 +70,7 @@ module _ {L R : Type 0} (value : R → Fraction) where
           by true = sums (Entries.coefficient eq zero old k) c ∙ ap (λ (r : Fraction). fraction_sum r (value c)) (coefficient_values old k)
           by false = coefficient_values old q
 
--- ---- operations of a ring that are refused
+-- ---- sums and products that a ring refuses
 
 module _ {R : Type 0} (value : R → Fraction) (is_held : R → Type 0) (checked : R → R → Option R) where
   pub refused_values : (a b : R) (x y : Fraction) → value a ≡ x → value b ≡ y → Entries.IsRefused is_held checked a b → IsRefused is_held value checked x y

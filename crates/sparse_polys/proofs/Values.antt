@@ -4,27 +4,20 @@ use Rattle.std.specs.Cmp.{IsEquivalence}
 use Rattle.sym_model.specs.Sum.{total, Among, Once, Within}
 use Rattle.sym_model.specs.Polynomial.{Poly, coefficient as coefficient_of, Same, scale}
 use Rattle.sym_model.specs.Expansion.{Fraction, Terms, denominators, cleared, Represents}
-use Rattle.sym_model.proofs.Sums.{without, length-without, Among-without, Within_tail, length_within}
+use Rattle.sym_model.proofs.Sums.{without, length-without, Within_tail, length_within, Within-without}
 use Rattle.sym_model.proofs.Polynomials.{coefficient_plus, coefficient_scale}
 use Rattle.sparse_polys.specs.Combination.{IsCombination, HasSameCoefficients}
 use Rattle.sparse_polys.proofs.Totals.{once, carried, total_same}
+use Rattle.std.proofs.Math.Nat.{mul_left_comm}
 
 module _ {L : Type 0} where
   denominators-without : (x : L × Fraction) (xs : Terms L) (m : Among x xs) → denominators xs ≡ x.1.1 * denominators (without x xs m)
   denominators-without x [] m = absurd m
   denominators-without x (y ∷ xs) (inl e) = ap (λ (z : L × Fraction). z.1.1 * denominators xs) (sym e)
   denominators-without x (y ∷ xs) (inr m) =
-      ap (λ n. y.1.1 * n) (denominators-without x xs m) ∙ exchanged y.1.1 x.1.1 (denominators (without x xs m))
-    where
-      exchanged : (a b n : ℕ) → a * (b * n) ≡ b * (a * n)
-      exchanged a b n = omega arith
+      ap (λ n. y.1.1 * n) (denominators-without x xs m) ∙ mul_left_comm y.1.1 x.1.1 (denominators (without x xs m))
 
-  -- if ys is within xs and x is not in ys, then ys is within xs without x
-  within_rest : (x : L × Fraction) (xs ys : Terms L) (m : Among x xs) → (Among x ys → ⊥) → Within ys xs → Within ys (without x xs m)
-  within_rest x xs ys m lacks w z n =
-      elim (Among-without z x xs m (w z n)) [ inl e ↦ absurd (lacks (subst (λ u. Among u ys) e n)) | inr r ↦ r ]
-
-  -- if ys is without repeats, within xs and of its length, both have the same product of denominators
+  -- if no element of ys occurs twice, each element of ys is in xs, and ys has the length of xs, then xs and ys have the same product of denominators
   denominators-within : (xs ys : Terms L) → Once ys → Within ys xs → length ys ≡ length xs → denominators ys ≡ denominators xs
   denominators-within [] [] o w l = refl
   denominators-within (x ∷ xs) [] o w l = absurd (omega arith)
@@ -32,10 +25,10 @@ module _ {L : Type 0} where
       let m = w y (inl refl) in
       let e = length-without y xs m in
       let k : length ys ≡ length (without y xs m) = omega arith in
-      let r = denominators-within (without y xs m) ys o.1 (within_rest y xs ys m o.0 (Within_tail y ys xs w)) k in
+      let r = denominators-within (without y xs m) ys o.1 (Within-without y xs ys m o.0 (Within_tail y ys xs w)) k in
       ap (λ n. y.1.1 * n) r ∙ sym (denominators-without y xs m)
 
-  -- the contribution of a term to a coefficient, with the fractions cleared by q
+  -- the summand of a term in the coefficient of x^α, after the fractions are multiplied by q
   abbrev share : (L → Poly) → ℕ → List ℕ → L × Fraction → ℤ
   share polynomial q α t = (t.1.0 *ℤ pos (q / t.1.1)) *ℤ coefficient_of (polynomial t.0) α
 
@@ -45,7 +38,8 @@ module _ {L : Type 0} where
       coefficient_plus (scale (t.1.0 *ℤ pos (q / t.1.1)) (polynomial t.0)) (cleared polynomial q terms) α
       ∙ ap₂ ◌+ℤ◌ (coefficient_scale (t.1.0 *ℤ pos (q / t.1.1)) (polynomial t.0) α) (coefficient-cleared polynomial q terms α)
 
-  -- if two lists have the same sums and the same product of denominators, they represent the same polynomials
+  -- if, for every g, the sums of g over the terms of two lists are equal, and the lists have the same product of denominators, they represent the
+  -- same polynomials
   represents_same : (polynomial : L → Poly) (first second : Terms L) (f : Poly) (d : ℕ)
       → ((g : L × Fraction → ℤ) → total g first ≡ total g second) → denominators first ≡ denominators second
       → Represents polynomial first f d → Represents polynomial second f d

@@ -1,9 +1,9 @@
 -- Tables with partitions as labels: look-ups and sums over the terms.
---     Same-from_look_ups         the look-ups determine a list of integers
+--     Same-from_look_ups         a list of integers is determined by the results of the look-ups
 --     coefficient-no_label       a list of numbers that is not a label has the coefficient 0
 --     label-partition            each label is a partition
 --     Once-labels, Once-keys     no label occurs twice
-use Rattle.std.proofs.Common.{◌≡◌, ◌⊎◌, ℕ, Bool, true, false, cond, List, [], ◌∷◌, ◌++◌, map, sym, ◌∙◌, ap, subst, refl, inl, inr, ℤ, pos, ◌+ℤ◌, arith}
+use Rattle.std.proofs.Common.{◌≡◌, ◌⊎◌, ℕ, false, cond, List, [], ◌∷◌, ◌++◌, map, sym, ◌∙◌, ap, subst, refl, inl, inr, ℤ, pos, ◌+ℤ◌, arith}
 use Rattle.std.specs.Prelude.{nat_abs, Option, Some, FitsSigned, Result, Ok, Err, IfOk}
 use Rattle.std.specs.Int.{w128}
 use Rattle.std.specs.Cmp.Lexicographic.{nat_list_eq_equiv}
@@ -23,30 +23,21 @@ use Rattle.sym_model.specs.Canonical.{is_reduced}
 use Rattle.sym_model.specs.LabelLimits.{is_label}
 use Rattle.sym_model.specs.WholeTerms.{WholeTerms, labels}
 use Rattle.sym_model.proofs.Orders.{is_label-tells, is_reduced-tells}
-use Rattle.sym_model.proofs.Polynomials.{coefficient_plus}
+use Rattle.sym_model.proofs.Polynomials.{coefficient_plus, pair_determined}
 use Rattle.sym_model.proofs.Sums.{total_none}
 use Rattle.sym_model.proofs.Exponents.{same_from, same_apart, same_or_not}
 use Rattle.linear_combinations.specs.Entries.{coefficient, HasMoreAt, IsRefused}
 use Rattle.linear_combinations.specs.Gains.{HaveLabels, over}
 use Rattle.linear_combinations.specs.Labels.{same_partition}
-use Rattle.linear_combinations.proofs.Found.{coefficient_found, sums_same}
+use Rattle.linear_combinations.proofs.Found.{coefficient_found}
 use Rattle.linear_combinations.proofs.Gains.{gains_labels}
 use Rattle.linear_combinations.proofs.Steps.{fits-zero_left}
 use Rattle.linear_combinations.proofs.Totals.{found-among as look_up-among, term-among}
 use Rattle.sparse_polys.specs.Tables.{equal, found, IsFractionTable, IsWholeTable}
 use lib.IntN.{+ℤ_idl, +ℤ_idr}
+use Rattle.linear_combinations.proofs.LabelTests.{equal_from, equal_apart}
 
-pub equal_from : (a b : List ℕ) → a ≡ b → equal a b ≡ true
-equal_from a b e = subst (λ x. equal a x ≡ true) e (nat_list_eq_equiv.refl a)
-
-pub equal_apart : (a b : List ℕ) → (a ≡ b → ⊥) → equal a b ≡ false
-equal_apart a b n = by (equal a b) refl
-  where
-    by : (t : Bool) → equal a b ≡ t → equal a b ≡ false
-    by true e = absurd (n (same_partition a b e))
-    by false e = e
-
--- ---- labels that occur in a table
+-- ---- the labels of a table, each of which occurs once
 
 all-apart : (x : List ℕ) (ks : List (List ℕ)) → AllByRecursion (λ y. equal x y ≡ false) ks → Among x ks → ⊥
 all-apart x [] h m = m
@@ -75,15 +66,15 @@ coefficient-no_label terms is label none =
 
 -- ---- tables that are built term by term
 
--- looking up a label in the table gives its coefficient in the list W, for each label
+-- for each label, looking it up in the table gives its coefficient in the list W
 abbrev pub Finds : WholeTerms → WholeTerms → Type 0
 Finds terms W = (label : List ℕ) → coefficient equal (pos 0) terms label ≡ coefficient_of W label
 
 pub Same-from_look_ups : (terms W : WholeTerms) → IsWholeTable terms → Finds terms W → Same terms W
 Same-from_look_ups terms W is h label = coefficient_found terms is.distinct label ∙ h label
 
--- if each look-up in the table `old` gives the coefficient in W, and `new` has c more at the label, each look-up in
--- `new` gives the coefficient in W with the term (label, c) appended
+-- if each look-up in the table `old` gives the coefficient in W, and `new` is `old` with c added at the label, each look-up in `new` gives the
+-- coefficient in W with the term (label, c) appended
 pub Finds-next : (old new W : WholeTerms) (label : List ℕ) (c : ℤ) → Finds old W → HasMoreAt equal (pos 0) ◌+ℤ◌ old label c new → Finds new (W ++ (label, c) ∷ [])
 Finds-next old new W label c h more l = more l ∙ by (same_or_not label l) ∙ sym (coefficient_plus W ((label, c) ∷ []) l)
   where
@@ -98,15 +89,14 @@ Finds-next old new W label c h more l = more l ∙ by (same_or_not label l) ∙ 
         ∙ h l
         ∙ sym (ap (λ z. coefficient_of W l +ℤ z) (ap (λ b. cond b c (pos 0) +ℤ pos 0) (same_apart label l n)) ∙ +ℤ_idr (coefficient_of W l))
 
--- an empty table to which only c at one label was added is the list of this term
+-- a table that is the empty table with c added at one label is the list of the one term (label, c)
 pub Same-single : (new : WholeTerms) (label : List ℕ) (c : ℤ) → IsWholeTable new → HasMoreAt equal (pos 0) ◌+ℤ◌ [] label c new → Same new ((label, c) ∷ [])
 Same-single new label c is more = Same-from_look_ups new ((label, c) ∷ []) is (Finds-next [] new [] label c (λ l. refl) more)
 
--- the ring does not refuse the sum of a = 0 and c
+-- the ring of integers below 2^127 does not refuse the sum of a = 0 and c
 pub not_refused : (a c : ℤ) → a ≡ pos 0 → IsRefused (FitsSigned w128) (λ (x y : ℤ). checked_i128 (x +ℤ y)) a c → ⊥
 not_refused a c e = fits-zero_left {is_held = FitsSigned w128} {value = whole} {checked = λ (x y : ℤ). checked_i128 (x +ℤ y)} sum_answers_i128 a c (ap whole e)
 
--- if lists, labels and coefficients are equal, adding c' at label' to old' gives the list that adding c at the label to `old` gives
 pub more_as : (old old' new : WholeTerms) (label label' : List ℕ) (c c' : ℤ) → old ≡ old' → label ≡ label' → c ≡ c'
     → HasMoreAt equal (pos 0) ◌+ℤ◌ old label c new → HasMoreAt equal (pos 0) ◌+ℤ◌ old' label' c' new
 more_as old old' new label label' c c' p q r h =
@@ -124,11 +114,11 @@ not_zero terms is t m e =
     let none = ap nat_abs e in
     omega arith
 
--- if all labels of W have the property P, so have those of a table with the coefficients of W
+-- if all labels of W have the property P, so have those of each table with the coefficients of W
 pub labels-same : (P : List ℕ → Type 0) (terms W : WholeTerms) → IsWholeTable terms → Same terms W → HaveLabels P W → HaveLabels P terms
 labels-same P terms W is h each =
     gains_labels nat_list_eq_equiv same_partition [] W terms is
-    (record { sums = λ φ. sums_same terms W h φ ∙ sym (+ℤ_idl (over φ W)) }) P (not_zero terms is) (λ t m. absurd m) each
+    (record { sums = λ φ. pair_determined terms W φ h ∙ sym (+ℤ_idl (over φ W)) }) P (not_zero terms is) (λ t m. absurd m) each
 
 -- ---- look-ups in tables of fractions
 
@@ -136,7 +126,7 @@ labels-same P terms W is h each =
 pub found-among : (terms : Terms (List ℕ)) → IsDistinct equal (keys_of terms) → (t : List ℕ × Fraction) → Among t terms → found terms t.0 ≡ t.1
 found-among terms d t m = ap (λ (o : Option Fraction). unwrap_or o (pos 0, 1)) (look_up-among nat_list_eq_equiv same_partition terms d t m)
 
--- a look-up does not find a label that does not occur
+-- if the label is not the label of a term of the list, looking it up gives 0
 pub found-absent : (terms : Terms (List ℕ)) (label : List ℕ) → (Among label (map (λ (t : List ℕ × Fraction). t.0) terms) → ⊥) → found terms label ≡ whole (pos 0)
 found-absent [] label n = refl
 found-absent (t ∷ terms) label n =

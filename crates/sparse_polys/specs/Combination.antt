@@ -1,5 +1,5 @@
--- Finite linear combinations of labels, as lists of terms: the definitions of specs/Entries in linear_combinations
--- for lists of fractions.
+-- Finite linear combinations of labels with fractions as coefficients, given as lists of terms. The definitions are those of `specs/Entries` of the
+-- crate linear_combinations, for scalars that are fractions.
 use Rattle.std.specs.Prelude.{ℕ, nat_eq, pos, Bool, List, map}
 use Rattle.std.specs.Cmp.Lexicographic.{pointwise}
 use Rattle.std.specs.declared.cmp.Ordering.{Ordering}
@@ -9,7 +9,7 @@ use Rattle.sym_model.specs.Canonical.{is_label}
 use Rattle.sym_model.specs.LabelLimits.{is_monomial_label}
 use Rattle.linear_combinations.specs.Entries
 
--- the list of terms of a list of pairs of labels and scalars, with the value of each scalar as the coefficient
+-- for a list of pairs of a label and a scalar: the list of terms with the same labels, each with the value of its scalar as the coefficient
 abbrev pub terms_of : {L R : Type 0} → (R → Fraction) → List (L × R) → Terms L
 terms_of {L} {R} value pairs = map (λ (p : L × R). (p.0, value p.1)) pairs
 
@@ -17,11 +17,11 @@ terms_of {L} {R} value pairs = map (λ (p : L × R). (p.0, value p.1)) pairs
 abbrev pub coefficient : {L : Type 0} → (L → L → Bool) → Terms L → L → Fraction
 coefficient eq terms label = Entries.coefficient eq (pos 0, 1) terms label
 
--- whether each coefficient is in lowest terms and not 0, and each label lies in the limits of its type
+-- whether each coefficient is in lowest terms and not 0, and each label passes the given test
 abbrev pub are_terms : {L : Type 0} → (L → Bool) → Terms L → Bool
 are_terms is_label terms = Entries.are_terms (λ (c : Fraction). c) is_label terms
 
--- a finite linear combination: each label occurs once, within its limits, with a coefficient that is not 0 and in
+-- a finite linear combination: each label passes the given test and occurs once, up to the given equality, with a coefficient that is not 0 and in
 -- lowest terms
 abbrev pub IsCombination : {L : Type 0} → (L → L → Bool) → (L → Bool) → Terms L → Type 0
 IsCombination eq is_label terms = Entries.IsCombination eq is_label (λ (c : Fraction). c) terms
@@ -36,21 +36,22 @@ IsPartitionTable terms = IsCombination (pointwise nat_eq) is_label terms
 abbrev pub IsPolynomialTable : Terms (List ℕ) → Type 0
 IsPolynomialTable terms = IsCombination (pointwise nat_eq) is_monomial_label terms
 
--- whether a list of terms is canonical: each label once, within its limits and in the given order, with a
--- coefficient that is not 0 and in lowest terms
+-- whether a list of terms is canonical: the labels are in the given order, occur once and pass the given test, and each coefficient is not 0 and in
+-- lowest terms
 abbrev pub is_canonical_list : {L : Type 0} → (L → L → Ordering) → (L → Bool) → Terms L → Bool
 is_canonical_list order is_label terms =
     Entries.is_canonical_list order is_label (λ (c : Fraction). c) terms
 
--- the new list is the old one with c added at the label; every other coefficient is the same
+-- in the list `new`, the coefficient of `label` is greater by the fraction c than in the list `old`; every other label has the same coefficient in
+-- both lists
 abbrev pub HasMoreAt : {L : Type 0} → (L → L → Bool) → Terms L → L → Fraction → Terms L → Type 0
 HasMoreAt eq old label c new = Entries.HasMoreAt eq (pos 0, 1) fraction_sum old label c new
 
--- the coefficient of each label in `sum` is the sum of those in the lists `first` and `second`
+-- the coefficient of each label in the list `sum` is the sum of its coefficients in the lists `first` and `second`
 abbrev pub IsSumOf : {L : Type 0} → (L → L → Bool) → Terms L → Terms L → Terms L → Type 0
 IsSumOf eq first second sum = Entries.IsSumOf eq (pos 0, 1) fraction_sum first second sum
 
--- the coefficient of each label in `multiple` is that in the list `terms` times c
+-- the coefficient of each label in the list `multiple` is c times its coefficient in the list `terms`
 abbrev pub IsMultipleOf : {L : Type 0} → (L → L → Bool) → Terms L → Fraction → Terms L → Type 0
 IsMultipleOf eq terms c multiple =
     Entries.IsMultipleOf eq (pos 0, 1) fraction_product terms c multiple

@@ -3,6 +3,6 @@ use Rattle.std.specs.Prelude.{ℕ, ◌≤◌, List}
 use Rattle.sym_model.specs.Sum.{Among}
 use Rattle.sym_model.specs.Partition.{size}
 
--- no label has a size above the limit
+-- each label of the list has a size of at most the given number
 abbrev pub AreWithin : {R : Type 0} → ℕ → List (List ℕ × R) → Type 0
 AreWithin {R} limit terms = (t : List ℕ × R) → Among t terms → size t.0 ≤ limit

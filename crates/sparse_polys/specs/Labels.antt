@@ -1,5 +1,5 @@
--- Lemmas that the label types cite: equal labels are the same, and the printed order is total, with ties only between
--- equal labels.
+-- Lemmas on two kinds of labels, pairs of partitions and partitions with a power of q. For both kinds, two labels that the equality test accepts are
+-- equal, and the printed order is total and gives `Equal` only for equal labels.
 use Rattle.std.proofs.Common.{◌≡◌, ℕ, true, List, ◌&&◌, ap₂}
 use Rattle.std.specs.Prelude.{nat_eq, IsTrue}
 use Rattle.std.specs.Cmp.{IsTotalOrder}

@@ -12,14 +12,15 @@ pub record HasLarge (terms : WholeTerms) : Type 0 where
   pub partition : IsPartition label
   pub large : 2 ^ 127 ≤ nat_abs (coefficient terms label)
 
--- p times the first list, q times the second, or the sum of both has at a partition a coefficient with an absolute
--- value of 2^127 or more
+-- at some partition, p times the first list, q times the second, or the sum of these two multiples has a coefficient with an absolute value of 2^127
+-- or more
 abbrev pub SumIsLarge : WholeTerms → WholeTerms → ℤ → ℤ → Type 0
 SumIsLarge first second p q =
     HasLarge (scale p first) ⊎ HasLarge (scale q second)
     ⊎ HasLarge (plus (scale p first) (scale q second))
 
--- the product of the two lists with absolute values as coefficients has a coefficient of 2^127 or more
+-- replace the coefficients of two expansions in m by their absolute values: the product of the resulting expansions has at some partition a
+-- coefficient of 2^127 or more
 abbrev pub ProductIsLarge : WholeTerms → WholeTerms → Type 0
 ProductIsLarge first second =
     (ν : List ℕ) × IsPartition ν × (pos (2 ^ 127)

@@ -1,4 +1,4 @@
--- Products of lists of terms in m, with their fractions cleared.
+-- Products of expansions in m, given as lists of terms.
 use Rattle.std.specs.Prelude.{◌≡◌, ◌⊎◌, ℕ, ◌+◌, ◌*◌, ◌^◌, ◌<◌, ◌≤◌, max, ◌≤ℤ◌, pos, List, [], ◌∷◌}
 use Rattle.std.specs.Prelude.{map, All}
 use Rattle.sym_model.specs.Sum.{Among}
@@ -13,47 +13,45 @@ use Rattle.monomial_laws.specs.MonomialProduct.{arrangements, product_coefficien
 use Rattle.monomial_laws.specs.ExpressionTerms.{over, absolute}
 use Rattle.sparse_polys.specs.declared.search.Counted.{Counted}
 
--- the greatest size of a label, 0 for the empty list
+-- the greatest size of a label of the list; 0 for the empty list
 abbrev pub greatest_size : {R : Type 0} → List (List ℕ × R) → ℕ
 greatest_size [] = 0
 greatest_size (t ∷ terms) = max (size t.0) (greatest_size terms)
 
--- each count is below 2^127
+-- the count of each entry is below 2^127
 abbrev pub AreSmall : List Counted → Type 0
 AreSmall terms = All (λ (t : Counted). t.count < 2 ^ 127) terms
 
--- some count is 2^127 or more
+-- the count of some entry is 2^127 or more
 abbrev pub HasLarge : List Counted → Type 0
 HasLarge terms = (t : Counted) × Among t terms × (2 ^ 127 ≤ t.count)
 
--- m_λ·m_μ as a list: the partitions of its degree, each with its coefficient
+-- m_λ·m_μ as a list of terms: all partitions of |λ| + |μ|, each with its coefficient in the product
 abbrev pub product_terms : List ℕ → List ℕ → WholeTerms
 product_terms left right =
     map (λ (ν : List ℕ). (ν, pos (arrangements left right ν)))
     (partitions_of (size left + size right))
 
--- the product of two lists of terms in m, as a list
+-- the product of two expansions in m, as a list of terms
 abbrev pub products : WholeTerms → WholeTerms → WholeTerms
 products left right = replaced (λ l. replaced (product_terms l) right) left
 
--- VALUE: the last list is the product of the first two, as expansions in m, in every number of variables
+-- the last list is the product of the first two, as expansions in m, in every number of variables
 abbrev pub IsProductInMonomials : Terms (List ℕ) → Terms (List ℕ) → Terms (List ℕ) → Type 0
 IsProductInMonomials left right product =
     (n : ℕ) → IsExpansionOf monomials product n
     (times (value monomials left n) (value monomials right n))
     (denominators left * denominators right)
 
--- the size of each label of a product is the sum of the sizes of a label of the one list and of a
--- label of the other
+-- the size of each label of the third list is the sum of the size of some label of the first list and the size of some label of the second
 abbrev pub AreSums : {R : Type 0} → List (List ℕ × R) → List (List ℕ × R) → List (List ℕ × R)
     → Type 0
 AreSums {R} left right product =
     (t : List ℕ × R) → Among t product
     → (l r : List ℕ × R) × Among l left × Among r right × (size l.0 + size r.0 ≡ size t.0)
 
--- Some number of a product is 2^127 or more: the product of the least common denominators of both
--- lists, or that product times a coefficient of the product of the lists with the absolute values
--- as coefficients.
+-- Let q be the product of the least common denominators of two expansions in m, and replace all their coefficients by their absolute values. Then q
+-- is 2^127 or more, or the product of the resulting expansions has a coefficient that is 2^127 or more if multiplied by q.
 abbrev pub IsTooLarge : Terms (List ℕ) → Terms (List ℕ) → Type 0
 IsTooLarge left right =
     let d = common_denominator left in

@@ -9,22 +9,22 @@ use Rattle.sparse_polys.specs.Combination.{coefficient}
 use Rattle.sparse_polys.specs.Limits.{IsWithinLimits}
 use Rattle.sparse_polys.specs.Raised.{raised}
 
--- the polynomial of a list in n variables, times the product of its denominators
+-- the polynomial in n variables of a list of terms c·x^e, times the product of the denominators of the coefficients c
 abbrev pub value_in : Terms (List ℕ) → ℕ → Poly
 value_in terms n = value_by (λ e. x_to_in e n) terms
 
--- VALUE: the last list is the product of the first two, in every number of variables
+-- the last list is the product of the first two, in every number of variables
 abbrev pub IsProductOf : Terms (List ℕ) → Terms (List ℕ) → Terms (List ℕ) → Type 0
 IsProductOf left right product =
     (n : ℕ) → Represents (λ e. x_to_in e n) product (times (value_in left n) (value_in right n))
     (denominators left * denominators right)
 
--- each product of a monomial of the first list and one of the second is within the limits of a monomial
+-- for each monomial of the first list and each monomial of the second, the product is within the limits of a monomial (`IsWithinLimits`)
 abbrev pub FitTogether : Terms (List ℕ) → Terms (List ℕ) → Type 0
 FitTogether first second =
     (s t : List ℕ × Fraction) → Among s first → Among t second → IsWithinLimits (join s.0 t.0)
 
--- each monomial of the list times x_r is within the limits of a monomial
+-- for each monomial of the list, its product with x_r is within the limits of a monomial (`IsWithinLimits`)
 abbrev pub HaveRoomForVariable : ℕ → Terms (List ℕ) → Type 0
 HaveRoomForVariable r terms = (t : List ℕ × Fraction) → Among t terms → IsWithinLimits (raised r t.0)
 
@@ -32,7 +32,7 @@ HaveRoomForVariable r terms = (t : List ℕ × Fraction) → Among t terms → I
 abbrev pub coefficient_at : Terms (List ℕ) → List ℕ → Fraction
 coefficient_at terms e = coefficient (pointwise nat_eq) terms e
 
--- the polynomial times x_r
+-- the product of x_r and a polynomial
 abbrev pub times_variable : ℕ → Poly → Poly
 times_variable r f = map (λ (t : Term). (raised r t.0, t.1)) f
 

@@ -1,2 +1,2 @@
--- The exponents of products with a variable.
+-- The exponents of the product of a monomial and a variable (`raised`).
 pub use Rattle.sym_model.specs.DividedDifference.{raised}

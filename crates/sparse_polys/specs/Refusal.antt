@@ -1,8 +1,8 @@
--- The values of two scalars at which an operation of a ring has no result.
+-- The values of two scalars for which an operation of a ring returns None.
 use Rattle.std.specs.Prelude.{◌≡◌, Option, None}
 use Rattle.sym_model.specs.Expansion.{Fraction}
 
--- the operation has no result at some scalars with these two values
+-- for some two scalars that satisfy `is_held` and have the values a and b, the operation `checked` returns None
 pub record IsRefused {R : Type 0} (is_held : R → Type 0) (value : R → Fraction)
     (checked : R → R → Option R) (a b : Fraction) : Type 0 where
   pub left : R

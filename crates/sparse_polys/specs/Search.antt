@@ -1,4 +1,4 @@
--- The search for the partitions of a product, from the greatest part down.
+-- The search for the partitions ν in a product m_λ·m_μ, from the greatest part of ν to the least.
 use Rattle.std.specs.Prelude.{◌≡◌, ℕ, ◌+◌, ◌==◌, nat_le, nat_lt, Bool, true, ◌&&◌, cond, Option}
 use Rattle.std.specs.Prelude.{Some, None, List, [], ◌∷◌, ◌++◌, All}
 use Rattle.sym_model.specs.Polynomial.{same}
@@ -12,7 +12,7 @@ abbrev pub count_at : List Counted → List ℕ → ℕ
 count_at [] ν = 0
 count_at (t ∷ terms) ν = cond (same t.parts.items ν) t.count 0 + count_at terms ν
 
--- each entry is a partition of `total`
+-- the parts of each entry are a partition of `total`
 abbrev pub AreCounted : ℕ → List Counted → Type 0
 AreCounted total terms =
     All (λ (t : Counted). IsPartition t.parts.items × (size t.parts.items ≡ total)) terms
@@ -28,29 +28,29 @@ after_prefix [] ν = Some ν
 after_prefix (a ∷ prefix) [] = None
 after_prefix (a ∷ prefix) (b ∷ ν) = cond (a == b) (after_prefix prefix ν) None
 
--- the number of ways in which the states continue to the parts `rest`, at most 2^128 - 1, if `rest` is weakly
--- decreasing and its parts are from 1 to m; otherwise 0
+-- If the third argument is `Some rest`, and `rest` is weakly decreasing with parts from 1 to m: the number of ways to continue from the states to the
+-- parts `rest` (`ways`), or 2^128 - 1 if that is greater. In all other cases 0.
 abbrev pub found_behind : ℕ → List State → Option (List ℕ) → ℕ
 found_behind m states None = 0
 found_behind m states (Some rest) = cond (falls_from m rest) (capped (ways states rest)) 0
 
--- the number of ways that a search from these states finds for ν, if it has chosen the parts `prefix` and chooses only
--- parts up to m from here on
+-- if ν consists of the parts `prefix` and then of weakly decreasing parts from 1 to m: the number of ways to continue from the states to these later
+-- parts, or 2^128 - 1 if it is greater; otherwise 0
 abbrev pub found : List ℕ → ℕ → List State → List ℕ → ℕ
 found prefix m states ν = found_behind m states (after_prefix prefix ν)
 
--- the chosen parts are positive and weakly decreasing, and none is less than m
+-- the parts of `prefix` are positive and weakly decreasing, and none is less than m
 pub record IsChosen (m : ℕ) (prefix : List ℕ) : Type 0 where
   pub falls : Falls (prefix ++ (m ∷ []))
   pub positive : ArePositive prefix
 
--- for each partition that begins with the chosen parts and continues with weakly decreasing parts of at most m, f is the capped number of ways to
--- continue to it
+-- for each list ν that consists of the parts `prefix` and then of weakly decreasing parts from 1 to m, f(ν) is the number of ways to continue from
+-- the states to these later parts (`ways`), or 2^128 - 1 if it is greater
 abbrev pub Counts : (List ℕ → ℕ) → List ℕ → ℕ → List State → Type 0
 Counts f prefix m states =
     (ν rest : List ℕ) → after_prefix prefix ν ≡ Some rest → falls_from m rest ≡ true
     → capped (ways states rest) ≡ f ν
 
--- each entry has the count that f gives for its partition
+-- the count of each entry is the value of f at the partition of the entry
 abbrev pub HaveCounts : (List ℕ → ℕ) → List Counted → Type 0
 HaveCounts f terms = All (λ (t : Counted). t.count ≡ f t.parts.items) terms

@@ -1,4 +1,4 @@
--- Tables with partitions as labels, as lists of terms.
+-- Lists of terms with partitions as labels and fractions as coefficients.
 use Rattle.std.specs.Prelude.{ℕ, nat_eq, Bool, List}
 use Rattle.std.specs.Cmp.Lexicographic.{pointwise}
 use Rattle.sym_model.specs.Expansion.{Fraction, Terms}
@@ -10,11 +10,10 @@ use Rattle.sparse_polys.specs.Combination.{coefficient, IsCombination}
 abbrev pub equal : List ℕ → List ℕ → Bool
 equal = pointwise nat_eq
 
--- the coefficient of a label in a list of fractions; 0 if it does not occur
+-- the coefficient of a label in a list of terms; 0 if the label does not occur
 abbrev pub found : Terms (List ℕ) → List ℕ → Fraction
 found terms label = coefficient equal terms label
 
--- the list of fractions is a table: no partition occurs twice, each is within the limits, and each coefficient is in
--- lowest terms and not 0
+-- the list of terms is a table: each label is a partition within the limits and occurs only once, and each coefficient is in lowest terms and not 0
 abbrev pub IsFractionTable : Terms (List ℕ) → Type 0
 IsFractionTable terms = IsCombination equal is_label terms

@@ -1,4 +1,5 @@
--- Lemmas that the label types cite: labels that tie in the printed order are the same.
+-- Lemmas on two kinds of labels, monomials and pairs of a permutation and a monomial in y: for both kinds, the printed order gives `Equal` only for
+-- equal labels; and for the pairs it is a total order.
 use Rattle.std.proofs.Common.{◌≡◌, ℕ, List}
 use Rattle.std.specs.Prelude.{IsTrue}
 use Rattle.std.specs.Cmp.{IsTotalOrder}

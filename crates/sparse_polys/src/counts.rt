@@ -1,4 +1,4 @@
-//! The product of the monomial symmetric polynomials of two labels, with exact counts.
+//! The product m_λ·m_μ of two monomial symmetric polynomials, with exact coefficients.
 ghost use Rattle.std.specs.Prelude.{◌≡◌, ℕ, ◌+◌, ◌^◌, ◌<◌, ◌≤◌, true, false, List, IfOk, IsErrOf};
 ghost use Rattle.sym_model.specs.Partition.{IsPartition, size};
 ghost use Rattle.monomial_laws.specs.MonomialProduct.{arrangements};
@@ -9,7 +9,7 @@ use crate::search::{Counted, label_product};
 use calc_base::SumFault;
 use std::alloc::Global;
 
-/// Whether some count is 2^127 or more.
+/// Whether the count of some entry of `terms` is 2^127 or more.
 fn too_large(terms: &[Counted]) -> bool
     ensures small { result ≡ false → AreSmall terms.now }
     ensures large { result ≡ true → HasLarge terms.now }
@@ -22,8 +22,9 @@ fn too_large(terms: &[Counted]) -> bool
     false
 }
 
-/// The partitions in the product of the monomial symmetric polynomials of two labels, each with its
-/// coefficient. Returns `Large` if one of these coefficients is 2^127 or more.
+/// The partitions in the product m_λ·m_μ of two monomial symmetric polynomials, each with its
+/// coefficient; λ is `left` and μ is `right`. Returns `Large` if one of these coefficients is 2^127
+/// or more.
 pub(crate) fn exact_product(
     alloc: Global,
     left: &[u16],

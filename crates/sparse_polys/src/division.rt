@@ -1,4 +1,4 @@
-//! A list with integer coefficients, each divided by one number.
+//! Division of a list with integer coefficients by a number.
 ghost use Rattle.std.specs.Prelude.{◌≡◌, ℕ, List, ◌<◌, ◌^◌, IfOk, IsErrOf};
 ghost use Rattle.coeff_rings.specs.Fractions.{lowest_terms};
 ghost use Rattle.sym_model.specs.Polynomial.{coefficient};
@@ -11,8 +11,8 @@ use linear_combinations::Lin;
 use partitions::Partition;
 use std::alloc::Global;
 
-/// The list with each coefficient divided by the number, which is positive and below 2^127. It
-/// never returns `Large`.
+/// The list `terms` with each coefficient divided by `den`, in lowest terms; `den` is positive and
+/// below 2^127. `Large` is never returned.
 pub fn divided(alloc: Global, terms: &Whole, den: u128) -> Result<Lin<Partition, Frac>, SumFault>
     requires { (0 < den) × (den < 2 ^ 127) }
     ensures value { IfOk result (λ list. (label : List ℕ)

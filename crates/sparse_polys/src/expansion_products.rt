@@ -1,4 +1,4 @@
-//! Products of lists of terms in m.
+//! Products of expansions in the monomial symmetric polynomials m_λ.
 ghost use Rattle.std.specs.Prelude.{◌≡◌, ℕ, ◌+◌, ◌*◌, ◌^◌, ◌<◌, ◌≤◌, ◌≤ℤ◌, ◌*ℤ◌, ℤ, pos, None};
 ghost use Rattle.std.specs.Prelude.{List, [], ◌∷◌, IfOk, IfSome, OnOk, IsErrOf};
 ghost use Rattle.std.specs.Int.{◌∣◌};
@@ -28,7 +28,8 @@ use coeff_rings::{Int, Ring};
 use partitions::Partition;
 use std::alloc::Global;
 
-/// The product of two scalars and a count, or `None` if it is too large.
+/// The product `left`·`right`·`count` of two scalars and a number below 2^127, or `None` if the
+/// ring cannot represent it, or cannot represent `left`·`right`.
 fn times_count<R: Ring>(left: R, right: R, count: u128) -> Option<R>
     requires { count < 2 ^ 127 }
     ensures value { IfSome result
@@ -46,7 +47,8 @@ fn times_count<R: Ring>(left: R, right: R, count: u128) -> Option<R>
     product.mul(R::from_whole(count as i128))
 }
 
-/// Adds to `sum`, at the partition of `term`, the product of two scalars and the count of `term`.
+/// Adds `left`·`right`·c to the coefficient of ν in `sum`, for the entry `term` with the partition
+/// ν and the count c.
 fn add_count<R: Ring>(
     alloc: Global,
     term: &Counted,
@@ -83,7 +85,7 @@ fn add_count<R: Ring>(
     sum.add_term(label, product)
 }
 
-/// Adds the product of two terms.
+/// Adds to `sum` the product of the terms `left`·m_`label` and `right`·m_`other`.
 fn add_pair<R: Ring>(
     alloc: Global,
     label: &Partition,
@@ -115,7 +117,7 @@ fn add_pair<R: Ring>(
     Ok(())
 }
 
-/// Adds the product of a term and a list.
+/// Adds to `sum` the product of the term `left`·m_`label` and the expansion `right`.
 fn add_row<R: Ring>(
     alloc: Global,
     label: &Partition,
@@ -145,8 +147,8 @@ fn add_row<R: Ring>(
     Ok(())
 }
 
-/// The product of two lists. The contract gives its coefficients times any common denominators of
-/// the two.
+/// The product of two expansions in m. The contract gives d·e times its coefficients, for any
+/// common denominators d of `left` and e of `right`.
 fn cleared_product<R: Ring>(
     alloc: Global,
     left: &Lin<Partition, R>,
@@ -177,9 +179,9 @@ fn cleared_product<R: Ring>(
 /// The product of two expansions in m, in every number of variables. The greatest sizes of their
 /// labels must add up to at most 512.
 ///
-/// Returns `Large` only if the product of the least common denominators of both lists is 2^127 or
-/// more, or if this product times some coefficient of the product of the two lists with absolute
-/// values as coefficients is.
+/// Let q be the product of the least common denominators of both lists, and replace all
+/// coefficients of both lists by their absolute values. Returns `Large` only if q is 2^127 or more,
+/// or if the product of the two resulting lists has a coefficient c such that q·c is 2^127 or more.
 pub fn times_in_m<R: Ring>(
     alloc: Global,
     left: &Lin<Partition, R>,
@@ -201,8 +203,8 @@ pub fn times_in_m<R: Ring>(
 /// The product of two expansions in m with integer coefficients. The greatest sizes of their labels
 /// must add up to at most 512.
 ///
-/// Returns `Large` only if some coefficient of the product of the two lists with absolute values as
-/// coefficients is 2^127 or more.
+/// Replace all coefficients of both lists by their absolute values. Returns `Large` only if some
+/// coefficient of the product of the two resulting lists is 2^127 or more.
 pub fn times_whole_in_m(
     alloc: Global,
     left: &Lin<Partition, Int>,

@@ -1,6 +1,8 @@
-//! The families of symmetric polynomials that are multiplied over the parts of a partition.
+//! The families e_k, h_k and p_k; their products over the parts of partitions are the bases e, h
+//! and p.
 
-/// A family whose polynomials are multiplied over the parts of a partition.
+/// One of the families e_k, h_k and p_k. The products of its members over the parts of λ, for all
+/// partitions λ, are the basis e, h or p.
 #[derive(Clone, Copy, PartialEq, Eq)]
 pub enum Family {
     /// e_k, for the basis e.

@@ -1,4 +1,4 @@
-//! The errors of lists of exponents.
+//! The errors of making a monomial from a list of exponents.
 ghost use Rattle.std.specs.Prelude.{◌≡◌};
 ghost use Rattle.sparse_polys.specs.declared.fault.MonoFault.TheVariants.{NoMemory as no_memory};
 
@@ -6,13 +6,13 @@ use calc_base::NoMemory;
 use std::alloc::AllocError;
 use thiserror::Error;
 
-/// The reasons for which a list of numbers is not the exponents of a monomial.
+/// The reasons for which `Monomial::from_exponents` refuses a list of exponents.
 #[derive(Clone, Copy, Debug, PartialEq, Eq, Hash, Error)]
 pub enum MonoFault {
-    /// There are more than 255 exponents.
+    /// There are more than 255 exponents, not counting zeros at the end.
     #[error("more than 255 exponents")]
     TooMany,
-    /// The degree exceeds 32,385.
+    /// The sum of the exponents exceeds 32,385.
     #[error("a degree of more than 32385")]
     TooBig,
     /// Memory could not be allocated.

@@ -1,32 +1,36 @@
-//! Tables of terms: finite maps from labels to coefficients, and their lists in the printed order;
-//! products of polynomials and of expansions in the monomial basis; lists with integer coefficients
-//! over one denominator, and the families e, h and p whose bases they may be in.
+//! Lists of terms, each a label with a coefficient: products of polynomials, products of expansions
+//! in the monomial symmetric polynomials, lists with integer coefficients and their division by a
+//! number, and the families e, h and p.
 //!
-//! A label is a partition, a pair of partitions, a partition with a power of q, a permutation, a
-//! monomial, or a permutation with a monomial in y.
+//! A label is a partition, a pair of partitions (`Pair`), a partition with a power of q (`Power`),
+//! a permutation, a monomial, or a permutation with a monomial in y (`Shifted`).
 //!
-//! In the product of two monomial symmetric polynomials, the coefficient of a partition is the
-//! number of ways to write it as the sum of an arrangement of one label and an arrangement of the
-//! other. Exchanging equal parts gives no new way: a search for the partition, from its greatest
-//! part down, keeps the remaining parts of both labels with the number of ways to reach them.
+//! In the product of two monomial symmetric polynomials m_λ and m_μ, the coefficient of a partition
+//! ν is the number of ways to write ν as the sum of an arrangement of λ and an arrangement of μ.
+//! Exchanging equal parts gives no new way. The program searches for ν part by part, the greatest
+//! part first, and stores the remaining parts of λ and μ with the number of ways to reach them.
 //!
 //! What is proved:
 //!
-//! Labels are partitions, permutations, monomials, `Pair`, `Power` and `Shifted` (a permutation
-//! with a monomial in y). In contracts, a `Monomial` is its list of exponents without zeros at the
-//! end. Each error of `from_exponents` has its exact cause, `degree` is the sum of the exponents,
-//! `cmp_printed` is the printed order, and monomials are labels of tables. `Monomial::times` adds
-//! the exponents, and `Monomial::times_var` increases one by 1. `times` gives, over every ring, the
-//! product of two polynomials, in every number of variables; it returns `Large` only if the weights
-//! of the two lists have a product of 2^127 or more. `times_var` gives the product of a polynomial
-//! and a variable, in every number of variables, and fails only if out of memory. `times_in_m`
-//! gives, over every ring, the product of two expansions in m, in every number of variables; it
-//! returns `Large` only if the product of the common denominators is 2^127 or more, or a
-//! coefficient of the product of the absolute values times it is.
+//! In contracts, a `Monomial` is its list of exponents without zeros at the end. Each error of
+//! `from_exponents` is returned exactly in the case that it names, `degree` is the sum of the
+//! exponents, and `cmp_printed` is the printed order. `Monomial::times` adds the exponents of two
+//! monomials, and `Monomial::times_var` increases one exponent by 1.
 //!
-//! `single`, `sum_of` and `divided` give the list of one term, the sum of two multiples, and the
-//! list divided by a number, in lowest terms; `sum_of` returns `Large` only if a coefficient is too
-//! large.
+//! `times` is, over every ring, the product of two polynomials in every number of variables. The
+//! weight of a list is max(1, D·A)·D, with D its least common denominator and A the sum of the
+//! absolute values of its coefficients; `times` returns `Large` only if the product of the weights
+//! of the two lists is 2^127 or more. `times_var` is the product of a polynomial and a variable in
+//! every number of variables, and fails only if out of memory.
+//!
+//! `times_in_m` is, over every ring, the product of two expansions in m, in every number of
+//! variables. Let q be the product of the least common denominators of the two lists, and replace
+//! all their coefficients by the absolute values. `Large` is returned only if q is 2^127 or more,
+//! or if the product of the two resulting lists has a coefficient c such that q·c is 2^127 or more.
+//!
+//! `single` is the list of one term. `sum_of` is p·left + q·right for two lists and two integers;
+//! it returns `Large` only if p·left, q·right or the sum has a coefficient of absolute value 2^127
+//! or more. `divided` is a list with each coefficient divided by one number, in lowest terms.
 #![tactic(auto)]
 
 mod counts;

@@ -1,4 +1,4 @@
-//! The type of a monomial.
+//! The type `Monomial`: the exponents of a monomial, without zeros at the end.
 ghost use Rattle.std.specs.Prelude.{◌≡◌, ℕ, ◌+◌, ◌^◌, ◌<◌, ◌≤◌, ◌↔◌, [], length, slice_index};
 ghost use Rattle.std.specs.Prelude.{slice_index_or, slice_set, nat_eq, IsOk, IfOk, OnOk, IsErrOf};
 ghost use Rattle.std.specs.Cmp.{partial_equiv_from_equiv};
@@ -85,8 +85,8 @@ impl Monomial {
         }
     }
 
-    /// The product with the variable x_r, for r from 1 to 255 and a degree below 32,385. Up to 16
-    /// exponents allocate no memory.
+    /// The product of this monomial and the variable x_r, for r from 1 to 255. The degree of this
+    /// monomial must be below 32,385. Up to 16 exponents allocate no memory.
     pub fn times_var(&self, r: u16) -> Result<Monomial, NoMemory>
         requires first { 1 ≤ r }
         requires last { r ≤ 255 }
@@ -101,8 +101,8 @@ impl Monomial {
         })
     }
 
-    /// The product with another monomial; it must be within the limits. Up to 16 exponents allocate
-    /// no memory.
+    /// The product of this monomial and `other`. The product must have a degree of at most 32,385.
+    /// Up to 16 exponents allocate no memory.
     pub fn times(&self, other: &Monomial) -> Result<Monomial, NoMemory>
         requires { IsWithinLimits (join self.now other.now) }
         ensures { IfOk result (λ m. m ≡ join self.now other.now) }
@@ -114,7 +114,7 @@ impl Monomial {
         })
     }
 
-    /// The exponents.
+    /// The exponents, without zeros at the end.
     pub fn exponents(&self) -> &[u16]
         ensures value { result.now ≡ self.now }
         ensures limits { IsWithinLimits self.now }
@@ -130,9 +130,9 @@ impl Monomial {
         self.degree
     }
 
-    /// Compares this monomial with `other` in the printed order: the greater degree first, then
-    /// decreasing lexicographic order of the exponents. The result is `Equal` only if they are
-    /// equal.
+    /// Compares this monomial with `other` in the printed order: the greater degree first, and for
+    /// equal degrees decreasing lexicographic order of the exponents. The result is `Equal` only if
+    /// the two monomials are equal.
     pub fn cmp_printed(&self, other: &Monomial) -> Ordering
         ensures value { result ≡ printed_order self.now other.now }
         ensures equal { result ≡ Ordering.Equal → self.now ≡ other.now }
@@ -144,7 +144,7 @@ impl Monomial {
             .then(other.exponents().cmp(&self.exponents()))
     }
 
-    /// An equal monomial. Up to 16 exponents allocate no memory.
+    /// A copy of this monomial. Up to 16 exponents allocate no memory.
     pub fn copy(&self) -> Result<Monomial, NoMemory>
         ensures ok { IfOk result (λ copy. copy ≡ self.now) }
         ensures inline { length self.now ≤ 16 → IsOk result }
@@ -189,7 +189,8 @@ fn with_degree(alloc: Global, exponents: &[u16], degree: u16) -> Result<Monomial
     })
 }
 
-/// The sums of the numbers at each place; missing numbers count as 0.
+/// The list that has at each index the sum of the numbers of `first` and `second` at this index.
+/// After its end, a list is continued by zeros.
 fn joined(alloc: Global, first: &[u16], second: &[u16]) -> Result<Exponents, AllocError>
     requires { size (join first.now second.now) < 2 ^ 16 }
     ensures { IfOk result (λ sums. sums.items ≡ join first.now second.now) }
@@ -201,15 +202,15 @@ fn joined(alloc: Global, first: &[u16], second: &[u16]) -> Result<Exponents, All
     Ok(sums)
 }
 
-/// The number at an index, or 0 after the end.
+/// The number at the index `at`, or 0 if the list ends before this index.
 fn number_at(numbers: &[u16], at: usize) -> u16
     ensures { result ≡ slice_index_or numbers.now at 0 }
 {
     numbers.get(at).copied().unwrap_or(0)
 }
 
-/// Adds 1 to the exponent at the place `at`, counted from 0, with zeros appended up to there if
-/// needed.
+/// Adds 1 to the exponent at the index `at`, counted from 0; if the list ends before this index,
+/// zeros are appended first.
 fn raise(exponents: &mut Exponents, at: usize) -> Result<(), AllocError>
     requires place { at < 255 }
     requires small { size exponents.old.items < 32385 }
@@ -222,7 +223,7 @@ fn raise(exponents: &mut Exponents, at: usize) -> Result<(), AllocError>
     Ok(())
 }
 
-/// Adds 1 to the number at an index.
+/// Adds 1 to the number at the index `at`.
 fn add_one(numbers: &mut [u16], at: usize)
     requires inside { at < length numbers.old }
     requires small { slice_index numbers.old at < 65535 }

@@ -1,4 +1,4 @@
-//! Monomials as labels.
+//! The implementation of the trait `Label` for monomials.
 ghost use Rattle.std.specs.Prelude.{length, nat_le};
 ghost use Rattle.sym_model.specs.LabelLimits.{is_monomial_label};
 ghost use Rattle.sym_model.specs.PrintedOrder.{printed_order};

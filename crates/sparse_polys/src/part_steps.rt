@@ -1,5 +1,6 @@
-//! A step of the search for the partitions in the product of two monomial symmetric polynomials:
-//! one part of the product's partition is removed from the two labels, in all ways.
+//! One step of the search for the partitions ν in a product m_λ·m_μ. One part of ν is written as
+//! the sum a + b in all ways such that a is 0 or a part of λ, and b is 0 or a part of μ. Then a is
+//! removed from λ and b from μ.
 ghost use Rattle.std.specs.Prelude.{◌≡◌, ℕ, ◌+◌, ◌*◌, ◌^◌, ◌<◌, ◌≤◌, ◌∷◌, [], true, false, List};
 ghost use Rattle.std.specs.Prelude.{length, IfOk, OnOk};
 ghost use Rattle.sym_model.specs.Bases.{has};
@@ -12,7 +13,7 @@ use crate::parts::{has_part, without_part};
 use crate::states::{State, add_state};
 use std::alloc::{AllocError, Global};
 
-/// Whether no part is greater than `part`; the parts are weakly decreasing.
+/// Whether no number of `parts`, a weakly decreasing list, is greater than `part`.
 fn is_within(parts: &[u16], part: u16) -> bool
     ensures { result ≡ false → HasPartAbove part parts.now }
 {
@@ -22,15 +23,17 @@ fn is_within(parts: &[u16], part: u16) -> bool
     }
 }
 
-/// Whether `part` is one of the parts, or 0.
+/// Whether `part` is 0 or one of `parts`.
 fn can_give(parts: &[u16], part: u16) -> bool
     ensures { result ≡ has part (0 ∷ parts.now) }
 {
     part == 0 || has_part(parts, part)
 }
 
-/// Removes a from the left label and b from the right one, if b is one of its parts or 0. The new
-/// state is dropped if it has a part greater than a + b, which no later part can use up.
+/// Adds to `next` the state that remains if the part a is removed from `state.left` and the part b
+/// from `state.right`; 0 removes nothing. Nothing is added if b is neither 0 nor in `state.right`,
+/// or if some remaining part is greater than a + b: the search finds the parts of a partition in
+/// decreasing order, so all later parts are at most a + b.
 fn take_both(
     alloc: Global,
     state: &State,
@@ -64,7 +67,7 @@ fn take_both(
     add_state(next, left, right, state.count)
 }
 
-/// Whether the part at the place `i` is at most `part`, and does not occur again after that place.
+/// Whether the part at the index `i` is at most `part` and differs from all parts after that index.
 fn is_choice(parts: &[u16], i: usize, part: u16) -> bool
     requires { i < length parts.now }
     ensures { result ≡ is_choice_at parts.now i part }
@@ -73,7 +76,9 @@ fn is_choice(parts: &[u16], i: usize, part: u16) -> bool
     a <= part && !has_part(&parts[i + 1..], a)
 }
 
-/// Removes the part `part` of the product's partition from one state in all ways.
+/// Adds to `next` the states that remain if a is removed from `state.left` and b from
+/// `state.right`, for all a and b with a + b = `part` such that a is 0 or a part of `state.left`,
+/// and b is 0 or a part of `state.right`; 0 removes nothing.
 fn take_part(
     alloc: Global,
     state: &State,
@@ -99,9 +104,10 @@ fn take_part(
     Ok(())
 }
 
-/// Removes the part `part` of the product's partition from all states: a from the left label and b
-/// from the right one, in all ways with a + b = `part`. No two of the resulting states have the
-/// same remaining parts.
+/// The states that remain if one of `states` is taken, and a is removed from its list `left` and b
+/// from its list `right`, for all a and b with a + b = `part` such that a is 0 or a part of `left`,
+/// and b is 0 or a part of `right`; 0 removes nothing. No two of the resulting states have the same
+/// remaining parts.
 pub(crate) fn step(alloc: Global, states: &[State], part: u16) -> Result<Vec<State>, AllocError>
     ensures ways { IfOk result (λ next. (ν : List ℕ) (size : ℕ) → AreBelow (part + 1) ν
         → AreStates size states.now

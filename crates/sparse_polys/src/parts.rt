@@ -1,4 +1,4 @@
-//! Single parts of a partition.
+//! Lists of parts: whether a part occurs, the list without one part, and the sum of the parts.
 ghost use Rattle.std.specs.Prelude.{◌≡◌, ◌<◌, ◌^◌, IfOk};
 ghost use Rattle.sym_model.specs.Bases.{has};
 ghost use Rattle.sym_model.specs.Partition.{size};

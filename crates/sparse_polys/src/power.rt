@@ -16,7 +16,7 @@ use std::marker::Model;
 pub struct Power {
     /// The exponent of q.
     pub power: u32,
-    /// The partition.
+    /// The partition of the label.
     pub shape: Partition,
 }
 

@@ -23,7 +23,7 @@ use calc_base::{NoMemory, SumFault};
 use coeff_rings::Ring;
 use std::alloc::Global;
 
-/// Adds the product of two terms.
+/// Adds to `sum` the product of the terms a·x^`left` and b·x^`right`.
 fn add_product<R: Ring>(
     sum: &mut Poly<R>,
     left: &Monomial,
@@ -49,7 +49,7 @@ fn add_product<R: Ring>(
     sum.add_term(left.times(right)?, c)
 }
 
-/// Adds the product of a term and a polynomial.
+/// Adds to `sum` the product of the term a·x^`left` and the polynomial `right`.
 fn add_row<R: Ring>(
     sum: &mut Poly<R>,
     left: &Monomial,
@@ -76,9 +76,8 @@ fn add_row<R: Ring>(
     Ok(())
 }
 
-/// The product of two polynomials, in every number of variables. Each product of a monomial of one
-/// and a monomial of the other must be within the limits of a monomial: its degree is at most
-/// 32,385.
+/// The product of two polynomials, in every number of variables. Each product of a monomial of
+/// `left` and a monomial of `right` must have a degree of at most 32,385.
 ///
 /// Returns `Large` only if the weights of the two lists have a product of 2^127 or more. The weight
 /// of a list is max(1, D·A)·D, with D its least common denominator and A the sum of the absolute
@@ -101,9 +100,9 @@ pub fn times<R: Ring>(alloc: Global, left: &Poly<R>, right: &Poly<R>) -> Result<
     Ok(sum)
 }
 
-/// The product of a polynomial and the variable x_r, in every number of variables. The place r is
-/// from 1 to 255, and each product of a monomial and x_r must be within the limits of a monomial.
-/// Fails only if out of memory, since no coefficient changes.
+/// The product of the polynomial `list` and the variable x_r, in every number of variables. The
+/// index r is from 1 to 255, and each monomial of `list` times x_r must have a degree of at most
+/// 32,385. Fails only if out of memory, since no coefficient changes.
 pub fn times_var<R: Ring>(alloc: Global, list: Poly<R>, r: u16) -> Result<Poly<R>, NoMemory>
     requires first { 1 ≤ r }
     requires last { r ≤ 255 }
@@ -119,7 +118,8 @@ pub fn times_var<R: Ring>(alloc: Global, list: Poly<R>, r: u16) -> Result<Poly<R
     Ok(product)
 }
 
-/// Adds a term with a new monomial, which no ring refuses.
+/// Adds the term c·x^`monomial` to `sum`, in which the coefficient of this monomial must be 0. The
+/// only error is that memory runs out, since every ring can compute 0 + c.
 fn add_new<R: Ring>(sum: &mut Poly<R>, monomial: Monomial, c: R) -> Result<(), NoMemory>
     requires { coefficient_at (terms_of R.value sum.old) monomial ≡ whole (pos 0) }
     ensures more { OnOk result (HasMoreAt (pointwise nat_eq) (terms_of R.value sum.old) monomial

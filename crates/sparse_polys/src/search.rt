@@ -12,12 +12,14 @@ use crate::parts::size_of;
 use crate::states::State;
 use std::alloc::{AllocError, Global};
 
-/// A partition with its number of ways, or 2^128 - 1 if there are more.
+/// A partition ν in a product m_λ·m_μ, with the number of ways to write ν as the sum of an
+/// arrangement of λ and an arrangement of μ, or with 2^128 - 1 if there are more ways.
 #[derive(Drop)]
 pub(crate) struct Counted {
-    /// The parts of the partition in decreasing order.
+    /// The parts of the partition ν, in decreasing order.
     pub parts: Vec<u16>,
-    /// The number of ways, up to 2^128 - 1.
+    /// The number of ways to write ν as the sum of an arrangement of λ and an arrangement of μ, or
+    /// 2^128 - 1 if there are more.
     pub count: u128,
 }
 
@@ -30,8 +32,8 @@ fn copy_of(alloc: Global, parts: &[u16]) -> Result<Vec<u16>, AllocError>
     Ok(copy)
 }
 
-/// For states in which no parts are left: the number of ways that they count, or 2^128 - 1 if there
-/// are more.
+/// The sum of the counts of `states`, or 2^128 - 1 if the sum exceeds that number. No state may
+/// have remaining parts.
 fn ways_to_end(states: &[State]) -> u128
     requires { AreStates 0 states.now }
     ensures { result ≡ capped (ways states.now []) }
@@ -43,8 +45,10 @@ fn ways_to_end(states: &[State]) -> u128
     total
 }
 
-/// Appends to `out` each partition that begins with the chosen parts and continues from the states
-/// with parts up to `largest`; `left` is the size of the parts that are still to be chosen.
+/// Appends to `out` the partitions that consist of the parts `chosen` and then of later parts, each
+/// at most `largest`, whose sum is `left`. The count of such a partition is the number of ways to
+/// continue from `states` to these later parts (`found`); the partition is left out only if this
+/// number is 0.
 fn extend(
     alloc: Global,
     states: &[State],
@@ -87,9 +91,9 @@ fn extend(
     Ok(())
 }
 
-/// The partitions in the product of two monomial symmetric polynomials, each with the number of
-/// ways to write it as the sum of an arrangement of one label and an arrangement of the other, or
-/// 2^128 - 1 if there are more. A partition that is not listed has no way.
+/// The partitions ν in the product m_λ·m_μ, for λ = `left` and μ = `right`, each with the number of
+/// ways to write ν as the sum of an arrangement of λ and an arrangement of μ, or with 2^128 - 1 if
+/// there are more ways. A partition that is not listed cannot be written as such a sum.
 pub(crate) fn label_product(
     alloc: Global,
     left: &[u16],

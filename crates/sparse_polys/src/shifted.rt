@@ -14,9 +14,9 @@ use std::marker::Model;
 /// monomial.
 #[derive(Debug, PartialEq, Eq, Hash, Drop)]
 pub struct Shifted {
-    /// The permutation.
+    /// The permutation w of the label y^e·S_w.
     pub perm: Perm,
-    /// The monomial in the variables y.
+    /// The monomial y^e of the label y^e·S_w.
     pub y: Monomial,
 }
 

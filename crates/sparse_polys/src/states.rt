@@ -1,4 +1,5 @@
-//! The remaining parts of two labels, with the number of ways to reach them.
+//! The states of a search for the partitions in a product m_λ·m_μ: the remaining parts of λ and of
+//! μ, with the number of ways to reach them.
 ghost use Rattle.std.specs.Prelude.{◌≡◌, ℕ, ◌+◌, ◌*◌, ◌<◌, ◌↔◌, List, length, map, IfOk, OnOk};
 ghost use Rattle.std.specs.Prelude.{IfSome, IsTrue, MatchOption, slice_get};
 ghost use Rattle.sym_model.specs.Sum.{Among};
@@ -7,7 +8,8 @@ ghost use Rattle.sparse_polys.specs.Ways.{capped, labels_left, ways, IsRest, Are
 
 use std::alloc::AllocError;
 
-/// The remaining parts of the left and of the right label, and the number of ways, up to 2^128 - 1.
+/// The parts of λ (`left`) and of μ (`right`) that remain in a search for the partitions in
+/// m_λ·m_μ, and the number of ways to reach them, or 2^128 - 1 if there are more.
 #[derive(Drop)]
 pub(crate) struct State {
     pub(crate) left: Vec<u16>,
@@ -15,14 +17,15 @@ pub(crate) struct State {
     pub(crate) count: u128,
 }
 
-/// Whether the state has these remaining parts.
+/// Whether the remaining parts of `state` are the lists `left` and `right`.
 fn is_left(state: &State, left: &[u16], right: &[u16]) -> bool
     ensures { IsTrue result ↔ (labels_left state.now ≡ (left.now, right.now)) }
 {
     state.left.as_slice() == left && state.right.as_slice() == right
 }
 
-/// The index of the state with these remaining parts; None if and only if there is none.
+/// The index of a state with the remaining parts `left` and `right`; None if and only if there is
+/// no such state.
 fn place_of(states: &[State], left: &[u16], right: &[u16]) -> Option<usize>
     ensures { MatchOption result (Among (left.now, right.now) (map labels_left states.now) → ⊥)
         (λ i. (i < length states.now)
@@ -36,8 +39,9 @@ fn place_of(states: &[State], left: &[u16], right: &[u16]) -> Option<usize>
     None
 }
 
-/// Adds a number of ways to the state with these remaining parts, or a new state if there is none.
-/// If no two states had the same remaining parts before, none have after it.
+/// Adds `count` ways to the state with the remaining parts `left` and `right`, or appends such a
+/// state if there is none. If no two states had the same remaining parts before, no two have the
+/// same ones after it.
 pub(crate) fn add_state(
     states: &mut Vec<State>,
     left: Vec<u16>,

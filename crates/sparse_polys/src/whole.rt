@@ -13,11 +13,11 @@ use linear_combinations::Lin;
 use partitions::Partition;
 use std::alloc::Global;
 
-/// A list of terms with integer coefficients, in any basis.
+/// A list of terms with partitions as labels and integer coefficients; the basis is not stored.
 pub type Whole = Lin<Partition, Int>;
 
-/// The list with one term, whose parts are a partition within the limits; it is empty if the
-/// coefficient is 0. It never returns `Large`.
+/// The list with the one term c at the partition `parts`, which must be within the limits; the list
+/// is empty if c is 0. `Large` is never returned.
 pub fn single(alloc: Global, parts: &[u16], c: i128) -> Result<Whole, SumFault>
     requires { IsWithinLimits parts.now }
     ensures value { IfOk result (λ list. Same list ((parts.now, c) ∷ [])) }
@@ -30,10 +30,10 @@ pub fn single(alloc: Global, parts: &[u16], c: i128) -> Result<Whole, SumFault>
     Ok(list)
 }
 
-/// The sum of two lists, each times a number. The shorter one is added to the longer one.
+/// The list p·`left` + q·`right`. The shorter list is added to the longer one.
 ///
-/// Returns `Large` only if a multiple of one of them or the sum of both has a coefficient of
-/// absolute value 2^127 or more.
+/// Returns `Large` only if p·`left`, q·`right` or their sum has a coefficient of absolute value
+/// 2^127 or more.
 pub fn sum_of(left: Whole, p: i128, right: Whole, q: i128) -> Result<Whole, SumFault>
     ensures value { IfOk result (λ sum. Same sum (plus (scale p left) (scale q right))) }
     ensures table { IfOk result IsWholeTable }

@@ -1,8 +1,8 @@
--- The list at the end of the walk represents the Stanley polynomial of w in m variables.
+-- The list of terms that the transition rule computes represents the Stanley polynomial of w in m variables.
 --     sum_represents    the sum of the Schur polynomials of the list is the Stanley polynomial
---     labels_within     a list with the coefficients of a sum of s_κ with at most m rows has such κ only
---     past_from         a Schur coefficient of S_start ≥ 2^127 is one of the Stanley polynomial that exceeds the limit
---     none_past         if all coefficients of the list are of 128 bits, none of the Stanley polynomial exceeds the limit
+--     labels_within     a list with the coefficients of a sum of s_κ, in which each κ has at most m rows, has labels of at most m rows
+--     past_from         if S_start in m variables has a Schur coefficient of at least 2^127, so has the Stanley polynomial
+--     none_past         if all coefficients of the list are of 128 bits, no Schur coefficient of the Stanley polynomial exceeds the limit
 use Rattle.std.proofs.Common.{◌≡◌, ℕ, ◌^◌, ◌≤◌, List, [], refl, sym, ◌∙◌, ap, subst, arith, ℤ, pos, ◌≤ℤ◌}
 use Rattle.std.specs.Prelude.{nat_eq}
 use Rattle.std.specs.Cmp.Lexicographic.{pointwise, nat_list_eq_equiv}
@@ -39,7 +39,7 @@ start_pairs : (m : ℕ) (w start : List ℕ) (φ : List ℕ → ℤ) → IsOneLi
 start_pairs m w start φ o e = ap (λ u. pair (schubert_in u m) φ) e ∙ pair_determined (schubert_in (kept (behind m w)) m) (stanley_in w m) φ (schubert_behind m w o)
 
 module _ (m : ℕ) (w start : List ℕ) (o : IsOneLine w) (e : start ≡ kept (behind m w)) where
-  -- if some Schur coefficient of S_start in m variables is at least 2^127, some coefficient of the Stanley polynomial exceeds the limit
+  -- if some Schur coefficient of S_start in m variables is at least 2^127, some Schur coefficient of the Stanley polynomial exceeds 2^127 - 1
   pub past_from : HasLargeShape m (λ φ. pair (schubert_in start m) φ) → HasPast (IsCoefficientOfStanley m w)
   past_from (κ, q, few, large) =
       let is : pair (schubert_in start m) (schur_test m κ) ≡ schur_coefficient m κ (stanley_in w m) =
@@ -56,7 +56,8 @@ module _ (m : ℕ) (w start : List ℕ) (o : IsOneLine w) (e : start ≡ kept (b
     pub sum_represents : IsExpansionOf schurs (as_fractions sum) m (stanley_in w m) 1
     sum_represents = represents_sums (λ κ. schur κ m) sum (stanley_in w m) sum_pairs
 
-    -- if `sum` is a table of partitions with at most m rows and coefficients of 128 bits, no coefficient of the Stanley polynomial exceeds the limit
+    -- if the labels of the table `sum` are partitions of at most m rows, and its coefficients have 128 bits (`AreShapes`), no Schur coefficient of
+    -- the Stanley polynomial exceeds 2^127 - 1
     pub none_past : AreShapes m sum → HasPast (IsCoefficientOfStanley m w) → ⊥
     none_past is (c, d, large) =
         let a : c ≡ over (only (pointwise nat_eq) d.parts) sum =
@@ -66,7 +67,7 @@ module _ (m : ℕ) (w start : List ℕ) (o : IsOneLine w) (e : start ≡ kept (b
         let p = is_past-tells c large in
         absurd (omega (arith, ints))
 
--- if `terms` has the coefficients of `sum`, and the partitions of `sum` have at most m rows, so have those of `terms`
+-- if `terms` has the coefficients of `sum`, and the partitions of `sum` have at most m rows, the partitions of `terms` have at most m rows
 pub labels_within : (m : ℕ) (sum terms : WholeTerms) → AreShapes m sum → IsWholeTable terms → HasSameCoefficients (pointwise nat_eq) (pos 0) sum terms
     → (t : List ℕ × Fraction) → Among t (as_fractions terms) → rows t.0 ≤ m
 labels_within m sum terms is also same t k =

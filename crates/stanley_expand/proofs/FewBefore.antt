@@ -1,11 +1,11 @@
--- Permutations in which at most m greater letters come before each letter: their Schubert polynomials in m variables are not 0.
---     some_cover    if w is such a permutation and its last descent is after place m, so is one of its covers in the transition rule
---     some_shape    if it is also increasing at places 1 to m, its Schubert polynomial has a positive Schur coefficient
+-- Permutations in which each letter has at most m greater letters before it: their Schubert polynomials in m variables are not 0.
+--     some_cover    if w is such a permutation and its last descent r is after place m, some cover v·t_ir, i < r, of v = w·t_rs is such a permutation
+--     some_shape    if such a permutation u has at most m + 16 letters and increases at places 1 to m, S_u has a positive Schur coefficient
 use Rattle.std.proofs.Common.{◌≡◌, ◌⊎◌, ℕ, zero, suc, ◌+◌, ◌-◌, ◌<◌, ◌≤◌, Bool, false, List, [], ◌∷◌, ◌==◌, map, take, drop, length, get_or, refl, sym, ◌∙◌, ap, ap₂, subst, arith, inl, inr, cond, count_by, Some, None, Option, unwrap_or, pos, ◌≤ℤ◌}
 use Rattle.std.proofs.lemmas.Int.{ints}
-use Rattle.std.proofs.lemmas.Bool.{cases_lt, cases_eq, eq-eqb}
+use Rattle.std.proofs.lemmas.Bool.{cases_lt, cases_eq, eq-eqb, cond_below}
 use Rattle.sym_model.specs.Sum.{Among}
-use Rattle.std.proofs.lemmas.List.{get_or_append_left}
+use Rattle.std.proofs.lemmas.List.{get_or_append_left, take-append-le}
 use Rattle.std.proofs.Common.{length-append}
 use Rattle.std.proofs.lemmas.Bool.Decides.{nat_tests}
 use Rattle.sym_model.specs.BetaList.{greater}
@@ -16,7 +16,7 @@ use Rattle.sym_model.specs.Permutation.{IsOneLine, IsTransition, last_descent, l
 use Rattle.sym_model.specs.Schubert.{schubert_in}
 use Rattle.sym_model.proofs.AfterLists.{among_after}
 use Rattle.sym_model.proofs.Exponents.{same_refl}
-use Rattle.sym_model.proofs.Numbers.{counts-less, counts-not_less}
+use Rattle.sym_model.proofs.Numbers.{counts-not_less, greater_fewer}
 use Rattle.sym_model.proofs.Sums.{without, Among-map, Among-select, total-without, Among_from_without}
 use Rattle.schubert_laws.proofs.FixedTails.{one_line_kept, inversions_kept}
 use Rattle.schubert_laws.proofs.LowerPermutations.{kept_whole, transition_exists, transition_covers_lower}
@@ -30,11 +30,12 @@ use Rattle.perm_codes.proofs.OneSwap.{lies_between, rising_count}
 use Rattle.stanley_expand.specs.GreaterBefore.{HasMoreBefore}
 use Rattle.stanley_expand.specs.Grassmannian.{IsRising, front_shape}
 use Rattle.stanley_expand.specs.SchurPositive.{schur_test}
-use Rattle.stanley_expand.proofs.GreaterBefore.{before, at_letter, from_letters, to_letters, greater_longer, greater_fewer, greater_past, greater_one, greater_both, smaller_between, take_later, take_front}
+use Rattle.stanley_expand.proofs.GreaterBefore.{before, at_letter, from_letters, to_letters, greater_longer, greater_past, greater_one, greater_both, smaller_between, take_later}
 use Rattle.stanley_expand.proofs.SchurPositive.{front_partition, front_rows, rising_covers, schur_pairs}
 use Rattle.stanley_expand.proofs.GreaterLetters.{greater_next}
 use Rattle.stanley_expand.proofs.Steps.{covers_pair, shape_pairs}
 use Rattle.stanley_expand.proofs.Tables.{perms_natural}
+use Rattle.partitions.proofs.Growing.{not_more}
 
 -- ---- counts of greater letters in a prefix of a list
 
@@ -47,7 +48,7 @@ greater_gap x z (suc q) (y ∷ w) h =
     let e = greater_gap x z q w (λ c l. h (suc c) (omega arith)) in
     elim (h 0 (omega arith)) [
       | inl a ↦ let p = counts-not_less x y a in omega arith
-      | inr a ↦ let p = counts-less z y a in elim (cases_lt x y) [ inl b ↦ let r = counts-less x y b in omega arith | inr b ↦ let r = counts-not_less x y b in omega arith ]
+      | inr a ↦ let p = sym (cond_below {X = ℕ} z y 1 0 a) in elim (cases_lt x y) [ inl b ↦ let r = sym (cond_below {X = ℕ} x y 1 0 b) in omega arith | inr b ↦ let r = counts-not_less x y b in omega arith ]
     ]
 
 all_greater : (x q : ℕ) (w : List ℕ) → q ≤ length w → ((c : ℕ) → c < q → x < get_or w c 0) → greater x (take q w) ≡ q
@@ -55,7 +56,7 @@ all_greater x zero w h g = refl
 all_greater x (suc q) [] h g = absurd (omega arith)
 all_greater x (suc q) (y ∷ w) h g =
     let e = all_greater x q w (omega arith) (λ c l. g (suc c) (omega arith)) in
-    let p = counts-less x y (g 0 (omega arith)) in
+    let p = sym (cond_below {X = ℕ} x y 1 0 (g 0 (omega arith))) in
     omega arith
 
 none_between : (low high n k : ℕ) (w : List ℕ) → ((c : ℕ) → k ≤ c → c < k + n → (get_or w c 0 ≤ low) ⊎ (high < get_or w c 0)) → k + n ≤ length w
@@ -95,10 +96,10 @@ find_smaller x (suc q) w = by (find_smaller x q w) (cases_lt (get_or w q 0) x)
       | inr g ↦ inl (i, omega arith, s, at_last (λ c. (get_or w c 0 ≤ get_or w i 0) ⊎ (x ≤ get_or w c 0)) all (inl g))
     ]
 
--- ---- the two exchanges of the transition rule, with places counted from 0
+-- ---- the exchanges of w to v = w·t_rs and of v to v·t_ir in the transition rule, with places counted from 0
 
--- if no letter of w has more than m greater ones before it, then, after the letters at q and b, the places of the transition rule, are exchanged, no
--- letter but that at q has
+-- let q and b be the places of the transition rule for w, and let no letter of w have more than m greater letters before it; after the letters at q
+-- and b are exchanged, each letter but the one at q has at most m greater letters before it
 down_few : (m q b p : ℕ) (w : List ℕ) → IsOneLine w → IsStep w q b → ((i : ℕ) → i < length w → before w i ≤ m) → p < length w → (p ≡ q → ⊥)
     → before (swap_at q b w) p ≤ m
 down_few m q b p w o s few i n =
@@ -124,8 +125,8 @@ down_few m q b p w o s few i n =
               | inl d ↦
                   let t = greater_one (get_or w p 0) p q b w (omega arith) (omega arith) inside in
                   let l = smaller_between q b p w o s (omega arith) d in
-                  let x = counts-less (get_or w p 0) (get_or w b 0) l in
-                  let y = counts-less (get_or w p 0) (get_or w q 0) (omega arith) in
+                  let x = sym (cond_below {X = ℕ} (get_or w p 0) (get_or w b 0) 1 0 l) in
+                  let y = sym (cond_below {X = ℕ} (get_or w p 0) (get_or w q 0) 1 0 (omega arith)) in
                   omega arith
               | inr d ↦
                   let t = greater_both (get_or w p 0) p q b w (omega arith) (omega arith) in
@@ -144,8 +145,8 @@ down_few m q b p w o s few i n =
           | inr e ↦ let x = get_swap_other q b j 0 w e (λ z. omega arith) in let y = smaller_between q b j w o s (omega arith) l in omega arith
         ]
 
--- if the letter at b has at most m greater ones before it, then, after the letters at q and b, the places of the transition rule, are exchanged, the
--- letter at q has fewer than m
+-- let q and b be the places of the transition rule for w; if the letter at b has at most m greater letters before it, it has fewer than m of them
+-- after it is exchanged with the letter at q
 down_first : (m q b : ℕ) (w : List ℕ) → IsStep w q b → before w b ≤ m → before (swap_at q b w) q < m
 down_first m q b w s few =
     let order = s.order in
@@ -154,11 +155,11 @@ down_first m q b w s few =
     let a = ap (greater (get_or w b 0)) (take_later q q b w (omega arith) (omega arith)) in
     let l = greater_longer (get_or w b 0) (suc q) b w order in
     let d = greater_next (get_or w b 0) q w (omega arith) in
-    let c = counts-less (get_or w b 0) (get_or w q 0) s.falls in
+    let c = sym (cond_below {X = ℕ} (get_or w b 0) (get_or w q 0) 1 0 s.falls) in
     omega arith
 
--- if each letter of u but that at q has at most m greater ones before it, and that at q fewer than m, then each letter has at most
--- m after the entry at q is exchanged with that at i, the greatest of the smaller entries before q
+-- let u(i) be the greatest of the entries of u before q that are smaller than u(q); if u(q) has fewer than m greater entries before it, and each
+-- other entry of u at most m, then each entry has at most m greater ones before it after u(i) and u(q) are exchanged
 up_few : (m i q p : ℕ) (u : List ℕ) → i < q → q < length u → get_or u i 0 < get_or u q 0
     → ((c : ℕ) → c < q → (c ≡ i → ⊥) → (get_or u c 0 < get_or u i 0) ⊎ (get_or u q 0 < get_or u c 0))
     → ((c : ℕ) → c < length u → (c ≡ q → ⊥) → before u c ≤ m) → before u q < m → p < length u → before (swap_at i q u) p ≤ m
@@ -168,7 +169,7 @@ up_few m i q p u h k l gap few first inside = elim (cases_eq p q) [
       let t = ap (before (swap_at i q u)) e in
       let o = greater_one (get_or u i 0) q i q u h (omega arith) k in
       let a = counts-not_less (get_or u i 0) (get_or u i 0) (omega arith) in
-      let b = counts-less (get_or u i 0) (get_or u q 0) l in
+      let b = sym (cond_below {X = ℕ} (get_or u i 0) (get_or u q 0) 1 0 l) in
       let c = greater_gap (get_or u i 0) (get_or u q 0) q u (λ j y. elim (cases_eq j i) [
         | inl d ↦ let r = ap (λ z. get_or u z 0) d in inl (omega arith)
         | inr n ↦ elim (gap j y n) [ inl r ↦ inl (omega arith) | inr r ↦ inr r ]
@@ -191,7 +192,7 @@ up_few m i q p u h k l gap few first inside = elim (cases_eq p q) [
             | inl b ↦
                 let o = greater_one (get_or u p 0) p i q u (omega arith) (omega arith) k in
                 elim (gap p b e) [
-                  | inl r ↦ let x = counts-less (get_or u p 0) (get_or u i 0) r in let y = counts-less (get_or u p 0) (get_or u q 0) (omega arith) in omega arith
+                  | inl r ↦ let x = sym (cond_below {X = ℕ} (get_or u p 0) (get_or u i 0) 1 0 r) in let y = sym (cond_below {X = ℕ} (get_or u p 0) (get_or u q 0) 1 0 (omega arith)) in omega arith
                   | inr r ↦ let y = counts-not_less (get_or u p 0) (get_or u q 0) (omega arith) in omega arith
                 ]
             | inr b ↦ let o = greater_both (get_or u p 0) p i q u (omega arith) (omega arith) in omega arith
@@ -200,7 +201,7 @@ up_few m i q p u h k l gap few first inside = elim (cases_eq p q) [
   ]
 ]
 
--- ---- a cover in the transition rule with few greater letters before each place
+-- ---- a cover in the transition rule in which each letter has at most m greater letters before it
 
 abbrev IsLeft : ℕ → ℕ → List ℕ → Type 0
 IsLeft m q u = (i : ℕ) × (i < q) × (inversions (swap_at i q u) ≡ inversions u + 1) × ((p : ℕ) → p < length u → before (swap_at i q u) p ≤ m)
@@ -254,7 +255,7 @@ some_left m q b w o s last few = by (find_smaller (get_or (swap_at q b w) q 0) q
               (λ c x n. down_few m q b c w o s few (omega arith) n) (down_first m q b w s (few b inside)) k,
         )
 
--- if no letter of v has more than m greater letters before it, neither has one of v without its last fixed letters
+-- if each letter of v has at most m greater letters before it, so has each letter of v without the fixed letters at its end
 few_kept : (m : ℕ) (v : List ℕ) → IsOneLine v → ((p : ℕ) → p < length v → before v p ≤ m) → HasMoreBefore m (kept v) → ⊥
 few_kept m v o few more =
     let f = from_letters m (kept v) (one_line_kept v o) more in
@@ -263,7 +264,7 @@ few_kept m v o few more =
     let f2 = f.2 in
     let l = ap length t.1 ∙ length-append (kept v) (after (length (kept v)) t.0) in
     let a = ap (λ z. get_or z f.0 0) t.1 ∙ get_or_append_left (kept v) (after (length (kept v)) t.0) 0 f.0 f.1 in
-    let b = ap (take f.0) t.1 ∙ take_front f.0 (kept v) (after (length (kept v)) t.0) (omega arith) in
+    let b = ap (take f.0) t.1 ∙ take-append-le f.0 (kept v) (after (length (kept v)) t.0) (omega arith) in
     let c : before v f.0 ≡ before (kept v) f.0 = ap₂ greater a b in
     let g = few f.0 (omega arith) in
     omega arith
@@ -280,7 +281,7 @@ some_cover w r s m o t h few =
     let lu = length-swap_at p.0 p.1 w in
     let e : times_swap r s w ≡ kept (swap_at p.0 p.1 w) = ap₂ (λ i j. times_swap i j w) p.2 p.3 ∙ kept_swap w p.0 p.1 g.order g.inside in
     let c : covers_down r (times_swap r s w) ≡ covers_down (suc p.0) (swap_at p.0 p.1 w) = ap₂ covers_down p.2 e ∙ covers_down_kept (suc p.0) (swap_at p.0 p.1 w) ou in
-    let left = some_left m p.0 p.1 w o g (omega arith) (λ i l. at_most (λ b. few (to_letters m w (i, l, b)))) in
+    let left = some_left m p.0 p.1 w o g (omega arith) (λ i l. not_more _ m (λ b. few (to_letters m w (i, l, b)))) in
     let first = left.1 in
     let oy = one_line_swap left.0 p.0 (swap_at p.0 p.1 w) (omega arith) (omega arith) ou in
     let y : times_swap (suc left.0) (suc p.0) (swap_at p.0 p.1 w) ≡ kept (swap_at left.0 p.0 (swap_at p.0 p.1 w)) = kept_swap (swap_at p.0 p.1 w) left.0 p.0 left.1 (omega arith) in
@@ -294,11 +295,8 @@ some_cover w r s m o t h few =
           (eq-eqb (inversions (times_swap (suc left.0) (suc p.0) (swap_at p.0 p.1 w))) (inversions (swap_at p.0 p.1 w) + 1) i)),
       λ more. few_kept m (swap_at left.0 p.0 (swap_at p.0 p.1 w)) oy (λ j l. left.3 j (omega arith)) (subst (HasMoreBefore m) y more),
     )
-  where
-    at_most : {n : ℕ} → (m < n → ⊥) → n ≤ m
-    at_most {n} f = elim (cases_lt m n) [ inl l ↦ absurd (f l) | inr l ↦ l ]
 
--- ---- a Schur coefficient that is positive
+-- ---- a positive Schur coefficient of the Schubert polynomial in m variables
 
 abbrev pub HasShape : ℕ → List ℕ → Type 0
 HasShape m u = (κ : List ℕ) × IsPartition κ × (rows κ ≤ m) × (pos 1 ≤ℤ pair (schubert_in u m) (schur_test m κ))

@@ -1,13 +1,13 @@
--- The transition rule in the variables at the first places of a permutation that is increasing there.
---     dropped       if r > m, the term with x_r is 0 in m variables
---     still_rising  if r > m, the covers in the transition rule are also increasing at places 1 to m
+-- The transition rule in m variables for a permutation that is increasing at the places 1 to m.
+--     dropped       if r > m, S_w in m variables is the sum of the S_u over the covers u = v·t_ir, i < r, of v = w·t_rs, since x_r is 0
+--     still_rising  if r > m, these covers u are also increasing at places 1 to m
 --     leaf          the Schubert polynomial of a Grassmannian permutation in m variables is a Schur polynomial
 use Rattle.std.proofs.Common.{◌≡◌, ℕ, zero, suc, ◌+◌, ◌-◌, ◌<◌, ◌≤◌, List, [], ◌∷◌, ◌++◌, ◌==◌, ◌&&◌, map, reverse, take, drop, length, get_or, replicate, refl, sym, ◌∙◌, ap, ap₂, subst, arith, inl, inr, cond, nat_lt, true, false, pos, eqb-true, Some, None, Option, unwrap_or, length-append}
 use Rattle.std.proofs.Math.Seq.{take-suc}
 use Rattle.std.proofs.lemmas.Int.{ints}
-use Rattle.std.proofs.lemmas.Bool.{cases_lt, cases_eq}
-use Rattle.std.proofs.lemmas.List.{take-append-drop, get_or-drop, get_or-take, length-take, length-drop, reverse-append}
-use Rattle.sym_model.specs.Sum.{Among, Once, Within}
+use Rattle.std.proofs.lemmas.Bool.{cases_lt, cases_eq, cond_below}
+use Rattle.std.proofs.lemmas.List.{take-append-drop, get_or-drop, get_or-take, length-take, length-drop, reverse-append, get_or_default}
+use Rattle.sym_model.specs.Sum.{Among, Once}
 use Rattle.sym_model.specs.Polynomial.{Term, Same, coefficient, resize, nothing, plus, times, fits_in}
 use Rattle.sym_model.specs.Partition.{after}
 use Rattle.sym_model.specs.PlaceOrders.{places, smaller, inversions}
@@ -17,10 +17,9 @@ use Rattle.sym_model.specs.Permutation.{IsOneLine, IsTransition, letter, last_de
 use Rattle.sym_model.specs.DividedDifference.{variable_in}
 use Rattle.sym_model.specs.Schubert.{schubert_in, schuberts_in}
 use Rattle.sym_model.proofs.Sums.{total_within, Among-append_left, Among_from_map, Among_from_select}
-use Rattle.sym_model.proofs.AfterLists.{length_after, after_among, among_after}
-use Rattle.sym_model.proofs.Lists.{get_or-any}
-use Rattle.sym_model.proofs.Numbers.{counts-less, counts-not_less}
-use Rattle.schubert_laws.proofs.Codes.{smaller_total}
+use Rattle.sym_model.proofs.AfterLists.{length_after, after_among}
+use Rattle.sym_model.proofs.Numbers.{counts-not_less}
+use Rattle.schubert_laws.proofs.Codes.{smaller_total, letters_in_places}
 use Rattle.schubert_laws.proofs.Exchanges.{Rises}
 use Rattle.schubert_laws.proofs.FixedTails.{one_line_added, schubert_added, inversions_kept, one_less_rising}
 use Rattle.schubert_laws.proofs.Swaps.{swap_at, length-swap_at, get_swap_left}
@@ -48,7 +47,7 @@ dropped w r s m o t h α =
     transition w r s m o t α
     ∙ ap (λ f. coefficient (plus (times f (schubert_in (times_swap r s w) m)) (schuberts_in (covers_down r (times_swap r s w)) m)) α) (variable_past r m h)
 
--- ---- the permutations of the rule are increasing at the first places
+-- ---- the permutations of the transition rule are increasing at the first m places
 
 -- w is strictly increasing at the places below m, counted from 0
 abbrev RisesBelow : ℕ → List ℕ → Type 0
@@ -91,7 +90,7 @@ rises_on m q b j w o s n r h e i k =
     ]
 
 letter_get : (w : List ℕ) (i : ℕ) → i < length w → letter w (suc i) ≡ get_or w i 0
-letter_get w i h = let e : suc i - 1 ≡ i = omega arith in ap (λ t. get_or w t (suc i)) e ∙ get_or-any w i (suc i) 0 h
+letter_get w i h = let e : suc i - 1 ≡ i = omega arith in ap (λ t. get_or w t (suc i)) e ∙ get_or_default w i (suc i) 0 h
 
 from_letters : (m : ℕ) (w : List ℕ) → m ≤ length w → RisesTo m w → RisesBelow m w
 from_letters m w h r i k =
@@ -159,7 +158,7 @@ rises_at (suc k) (a ∷ w) h l = rises_at k w (omega arith) l
 smaller_after : (x a n : ℕ) → a < x → x ≤ a + n → suc (smaller x (after a n) + a) ≡ x
 smaller_after x a zero h l = absurd (omega arith)
 smaller_after x a (suc n) h l = elim (cases_lt (a + 1) x) [
-  | inl f ↦ let c = counts-less (a + 1) x f in let e = smaller_after x (a + 1) n f (omega arith) in omega arith
+  | inl f ↦ let c = sym (cond_below {X = ℕ} (a + 1) x 1 0 f) in let e = smaller_after x (a + 1) n f (omega arith) in omega arith
   | inr f ↦
       let c = counts-not_less (a + 1) x f in
       let e = smaller_of_none x (after (a + 1) n) (λ y m. let g = after_among (a + 1) n y m in let g0 = g.0 in omega arith) in
@@ -168,14 +167,11 @@ smaller_after x a (suc n) h l = elim (cases_lt (a + 1) x) [
 
 smaller_one_line : (x : ℕ) (v : List ℕ) → IsOneLine v → 1 ≤ x → x ≤ length v → smaller x v ≡ x - 1
 smaller_one_line x v o h l =
-    let e = total_within (λ b. pos (cond (nat_lt b x) 1 0)) (places (length v)) v o.once inside (sym (length_after 0 (length v))) in
+    let e = total_within (λ b. pos (cond (nat_lt b x) 1 0)) (places (length v)) v o.once (letters_in_places v o) (sym (length_after 0 (length v))) in
     let p = smaller_total x v in
     let q = smaller_total x (places (length v)) in
     let c = smaller_after x 0 (length v) (omega arith) (omega arith) in
     omega (arith, ints)
-  where
-    inside : Within v (places (length v))
-    inside a m = let r = o.letters a m in let p = r.0 in let q = r.1 in among_after 0 (length v) a (omega arith) (omega arith)
 
 -- if the last descent is at most m, then at the places from m on, counted from 0, no letter is greater than the next
 pub rises_past : (m : ℕ) (v : List ℕ) → last_descent_place v ≤ m → (b : ℕ) → m ≤ b → suc b < length v → get_or v b 0 ≤ get_or v (suc b) 0

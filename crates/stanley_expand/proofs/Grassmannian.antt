@@ -1,8 +1,8 @@
 -- If a permutation is increasing at places 1 to m and after place m, its Schubert polynomial in m variables is a Schur polynomial.
---     symmetric_front  the Schubert polynomial is symmetric
---     grassmannian     a_ρ times the Schubert polynomial and a_ρ times the Schur polynomial are one alternant
+--     symmetric_front  the Schubert polynomial in n variables is symmetric, if the permutation is increasing at places 1 to n
+--     grassmannian     the Schubert polynomial is a Schur polynomial, since a_ρ times each of them is the same alternant
 use Rattle.std.proofs.Common.{◌≡◌, ℕ, zero, suc, ◌<◌, ◌≤◌, List, [], ◌∷◌, ◌++◌, map, reverse, length, replicate, refl, sym, ◌∙◌, ap, ap₂, subst, arith, inl, inr, ◌⊎◌, cond, nat_le, false, ℤ, pos, length-append}
-use Rattle.std.proofs.lemmas.Bool.{cases_eq}
+use Rattle.std.proofs.lemmas.Bool.{cases_eq, cond_below}
 use Rattle.std.proofs.lemmas.Bool.Decides.{nat_tests}
 use Rattle.std.proofs.lemmas.List.{length-map, length-reverse, reverse-append}
 use Rattle.sym_model.specs.Sum.{Among}
@@ -19,7 +19,7 @@ use Rattle.sym_model.specs.Schubert.{schubert, schubert_in}
 use Rattle.sym_model.proofs.Sums.{among_reverse}
 use Rattle.sym_model.proofs.Exponents.{tests_agree, same_true, same_from}
 use Rattle.sym_model.proofs.Polynomials.{In_restrict, at_only, coefficient_pair, coefficient_outside, pair_ext, pair_in, pair_restrict, pair_determined, same_from_pair}
-use Rattle.sym_model.proofs.Numbers.{counts-less, counts-not_less}
+use Rattle.sym_model.proofs.Numbers.{counts-not_less}
 use Rattle.sym_model.proofs.Parts.{length-staircase, Falls-zeros}
 use Rattle.schubert_laws.proofs.Climbs.{across_exchanged}
 use Rattle.schubert_laws.proofs.Differences.{along}
@@ -39,7 +39,7 @@ use Rattle.alternant_laws.proofs.SortedAlternants.{from_beta-join}
 use Rattle.stanley_expand.proofs.SortingPaths.{alternates, along_within, rising_code, rises_front, IsFront, pred, grassmannian_path}
 use Rattle.sym_model.proofs.PolynomialLaws.{restricted_test}
 
--- ---- lists with increasing letters
+-- ---- lists whose letters are increasing
 
 abbrev pub AllRise : List ℕ → Type 0
 AllRise w = (k : ℕ) → suc k < length w → Rises k w
@@ -58,7 +58,7 @@ smaller_of_none a (b ∷ w) h = let g = h b (inl refl) in let c = counts-not_les
 
 greater_of_all : (a : ℕ) (w : List ℕ) → ((x : ℕ) → Among x w → a < x) → greater a w ≡ length w
 greater_of_all a [] h = refl
-greater_of_all a (b ∷ w) h = let c = counts-less a b (h b (inl refl)) in let e = greater_of_all a w (λ x m. h x (inr m)) in omega arith
+greater_of_all a (b ∷ w) h = let c = sym (cond_below {X = ℕ} a b 1 0 (h b (inl refl))) in let e = greater_of_all a w (λ x m. h x (inr m)) in omega arith
 
 pub code_rising : (w : List ℕ) → AllRise w → code w ≡ replicate (length w) 0
 code_rising [] r = refl
@@ -96,7 +96,7 @@ strict_reverse (a ∷ w) r c =
 length-reverse_map : (w : List ℕ) → length (map pred (reverse w)) ≡ length w
 length-reverse_map w = length-map (reverse w) pred ∙ length-reverse w
 
--- ---- symmetry in the variables of the places with increasing letters
+-- ---- Schubert polynomials are symmetric in the variables of places at which the letters are increasing
 
 along_exchanged : (k : ℕ) (φ : List ℕ → ℤ) (α : List ℕ) → along k (λ γ. φ (exchange_at k γ)) α ≡ along k φ α
 along_exchanged zero φ [] = refl

@@ -1,12 +1,12 @@
--- A letter with more than m greater ones before it, in the steps of the transition rule.
---     step_more     each cover in the transition rule has such a letter too
---     none_left     a permutation without a descent after place m has none
---     no_polynomial if there is such a letter, the Schubert polynomial in m variables is 0
-use Rattle.std.proofs.Common.{◌≡◌, ℕ, zero, suc, ◌+◌, ◌-◌, ◌<◌, ◌≤◌, List, [], ◌∷◌, ◌++◌, map, take, set, length}
+-- Permutations in which some letter has more than m greater letters before it, under the transition rule.
+--     step_more     if w is such a permutation, so is each cover v·t_ir, i < r, of v = w·t_rs in the transition rule
+--     none_left     a permutation without a descent after place m is not such a permutation
+--     no_polynomial the Schubert polynomial of such a permutation in m variables is 0
+use Rattle.std.proofs.Common.{◌≡◌, ℕ, zero, suc, ◌+◌, ◌-◌, ◌<◌, ◌≤◌, List, [], ◌∷◌, map, take, length}
 use Rattle.std.proofs.Common.{get_or, refl, sym, ◌∙◌, ap, ap₂, subst, arith, inl, inr, cond, nat_lt, Some, None}
 use Rattle.std.proofs.Common.{Option, unwrap_or, ◌==◌, eqb-true}
-use Rattle.std.proofs.lemmas.Bool.{cases_lt, cases_eq}
-use Rattle.std.proofs.lemmas.List.{get_or-take}
+use Rattle.std.proofs.lemmas.Bool.{cases_lt, cases_eq, cond_below}
+use Rattle.std.proofs.lemmas.List.{get_or-take, get_or_past, take-set-le, take-append-le, get_or_default}
 use Rattle.sym_model.specs.Sum.{Among}
 use Rattle.sym_model.specs.BetaList.{greater}
 use Rattle.sym_model.specs.Polynomial.{Same, nothing}
@@ -17,21 +17,21 @@ use Rattle.sym_model.specs.Permutation.{kept, times_swap, covers_down}
 use Rattle.sym_model.specs.Schubert.{schubert_in, schuberts_in}
 use Rattle.sym_model.proofs.Sums.{Among_from_map, Among_from_select}
 use Rattle.sym_model.proofs.AfterLists.{after_among}
-use Rattle.sym_model.proofs.Lists.{get_or-any}
-use Rattle.sym_model.proofs.Numbers.{counts-less, counts-not_less}
+use Rattle.sym_model.proofs.Numbers.{counts-not_less, greater_fewer}
 use Rattle.sym_model.proofs.Polynomials.{Same_refl, Same_trans, plus_respects}
 use Rattle.schubert_laws.specs.TransitionOrder.{IsShort, rank}
 use Rattle.schubert_laws.proofs.FixedTails.{one_line_kept, inversions_kept, one_less_rising}
 use Rattle.schubert_laws.proofs.Swaps.{swap_at, length-swap_at, get_swap_left, get_swap_right, greater_swap, among_get}
 use Rattle.schubert_laws.proofs.MonkFromOne.{one_line_swap}
 use Rattle.schubert_laws.proofs.Transition.{IsStep, get_swap_other, strict_get, rises_chain}
-use Rattle.schubert_laws.proofs.TransitionFromOne.{get_past, step_of, kept_swap, covers_down_kept}
+use Rattle.schubert_laws.proofs.TransitionFromOne.{step_of, kept_swap, covers_down_kept}
 use Rattle.schubert_laws.proofs.LowerPermutations.{letter_kept, kept_whole, cover_falls, transition_exists}
 use Rattle.schubert_laws.proofs.LowerPermutations.{transition_covers_lower}
 use Rattle.schubert_laws.proofs.Members.{place_within, short_transition, short_cover}
 use Rattle.schubert_laws.proofs.Ranks.{rank_lower}
 use Rattle.stanley_expand.specs.GreaterBefore.{HasMoreBefore, greater_before}
 use Rattle.stanley_expand.proofs.FirstPlaces.{dropped, rises_past}
+use Rattle.std.proofs.Math.Seq.{take-set-lt}
 
 -- ---- counts of greater letters in a prefix of a list
 
@@ -41,22 +41,13 @@ greater_longer x (suc p) zero w h = absurd (omega arith)
 greater_longer x (suc p) (suc q) [] h = omega arith
 greater_longer x (suc p) (suc q) (y ∷ w) h = let e = greater_longer x p q w (omega arith) in omega arith
 
-pub greater_fewer : (x y : ℕ) (w : List ℕ) → y ≤ x → greater x w ≤ greater y w
-greater_fewer x y [] h = omega arith
-greater_fewer x y (z ∷ w) h =
-    let e = greater_fewer x y w h in
-    elim (cases_lt x z) [
-      | inl l ↦ let p = counts-less x z l in let q = counts-less y z (omega arith) in omega arith
-      | inr l ↦ let p = counts-not_less x z l in omega arith
-    ]
-
 greater_most : (x m : ℕ) (w : List ℕ) → greater x (take m w) ≤ m
 greater_most x zero w = omega arith
 greater_most x (suc m) [] = omega arith
 greater_most x (suc m) (y ∷ w) =
     let e = greater_most x m w in
     elim (cases_lt x y) [
-      | inl l ↦ let p = counts-less x y l in omega arith
+      | inl l ↦ let p = sym (cond_below {X = ℕ} x y 1 0 l) in omega arith
       | inr l ↦ let p = counts-not_less x y l in omega arith
     ]
 
@@ -76,18 +67,6 @@ greater_past x (suc k) (suc q) (y ∷ w) h =
 
 -- ---- the numbers of entries before p that are greater than x, after the entries at a and b are exchanged
 
-take_set : (p b x : ℕ) (w : List ℕ) → b < p → take p (set w b x) ≡ set (take p w) b x
-take_set zero b x w h = absurd (omega arith)
-take_set (suc p) b x [] h = refl
-take_set (suc p) zero x (y ∷ w) h = refl
-take_set (suc p) (suc b) x (y ∷ w) h = ap (λ v. y ∷ v) (take_set p b x w (omega arith))
-
-take_set_later : (p b x : ℕ) (w : List ℕ) → p ≤ b → take p (set w b x) ≡ take p w
-take_set_later zero b x w h = refl
-take_set_later (suc p) zero x w h = absurd (omega arith)
-take_set_later (suc p) (suc b) x [] h = refl
-take_set_later (suc p) (suc b) x (y ∷ w) h = ap (λ v. y ∷ v) (take_set_later p b x w (omega arith))
-
 pub take_later : (p a b : ℕ) (w : List ℕ) → p ≤ a → p ≤ b → take p (swap_at a b w) ≡ take p w
 take_later zero a b w h k = refl
 take_later (suc p) zero b w h k = absurd (omega arith)
@@ -100,17 +79,17 @@ take_swap zero a b w h k = absurd (omega arith)
 take_swap (suc p) a b [] h k = refl
 take_swap (suc p) zero zero (y ∷ w) h k = refl
 take_swap (suc p) zero (suc b) (y ∷ w) h k =
-    ap₂ ◌∷◌ (sym (get_or-take p w b y (omega arith))) (take_set p b y w (omega arith))
+    ap₂ ◌∷◌ (sym (get_or-take p w b y (omega arith))) (take-set-lt p w b y (omega arith))
 take_swap (suc p) (suc a) zero (y ∷ w) h k =
-    ap₂ ◌∷◌ (sym (get_or-take p w a y (omega arith))) (take_set p a y w (omega arith))
+    ap₂ ◌∷◌ (sym (get_or-take p w a y (omega arith))) (take-set-lt p w a y (omega arith))
 take_swap (suc p) (suc a) (suc b) (y ∷ w) h k = ap (λ v. y ∷ v) (take_swap p a b w (omega arith) (omega arith))
 
 -- exchanging two entries before place p does not change the number of entries before p that are greater than x
 pub greater_both : (x p a b : ℕ) (w : List ℕ) → a < p → b < p → greater x (take p (swap_at a b w)) ≡ greater x (take p w)
 greater_both x p a b w h k = ap (greater x) (take_swap p a b w h k) ∙ greater_swap x a b (take p w)
 
--- if the entry at a < p is exchanged with that at b ≥ p, the count before p loses the entry at a and gains the entry at b, each if it is greater than
--- x
+-- if the entry at a < p is exchanged with the entry at b ≥ p, the number of entries before p that are greater than x decreases by 1 if the entry at a
+-- is greater than x, and increases by 1 if the entry at b is
 pub greater_one : (x p a b : ℕ) (w : List ℕ) → a < p → p ≤ b → b < length w
     → greater x (take p (swap_at a b w)) + cond (nat_lt x (get_or w a 0)) 1 0
     ≡ greater x (take p w) + cond (nat_lt x (get_or w b 0)) 1 0
@@ -118,28 +97,28 @@ greater_one x zero a b w h k l = absurd (omega arith)
 greater_one x (suc p) a b [] h k l = absurd (omega arith)
 greater_one x (suc p) zero zero (y ∷ w) h k l = absurd (omega arith)
 greater_one x (suc p) zero (suc b) (y ∷ w) h k l =
-    let e = ap (greater x) (take_set_later p b y w (omega arith)) in
-    let g = ap (λ z. cond {A = ℕ} (nat_lt x z) 1 0) (get_or-any w b y 0 (omega arith)) in
+    let e = ap (greater x) (take-set-le p w b y (omega arith)) in
+    let g = ap (λ z. cond {A = ℕ} (nat_lt x z) 1 0) (get_or_default w b y 0 (omega arith)) in
     omega arith
 greater_one x (suc p) (suc a) zero (y ∷ w) h k l = absurd (omega arith)
 greater_one x (suc p) (suc a) (suc b) (y ∷ w) h k l =
     let e = greater_one x p a b w (omega arith) (omega arith) (omega arith) in
     omega arith
 
--- ---- steps of the transition rule, with places counted from 0
+-- ---- the exchanges of the transition rule, with places counted from 0
 
 abbrev pub before : List ℕ → ℕ → ℕ
 before w p = greater (get_or w p 0) (take p w)
 
--- a place, counted from 0, whose letter has more than m greater ones before it
+-- there is a place p, counted from 0, whose letter has more than m greater letters before it
 abbrev pub MoreBefore : ℕ → List ℕ → Type 0
 MoreBefore m w = (p : ℕ) × (p < length w) × (m < before w p)
 
 pub at_letter : (w : List ℕ) (p x : ℕ) → get_or w p 0 ≡ x → before w p ≡ greater x (take p w)
 at_letter w p x e = ap (λ z. greater z (take p w)) e
 
--- if at least m letters of u before q are greater than u(q), and u(j) < u(q) for j < q, a letter has more than m greater ones before it after u(j) and u(q)
--- are exchanged
+-- let j < q and u(j) < u(q), and let at least m letters before q be greater than u(q); after u(j) and u(q) are exchanged, some letter has more than m
+-- greater letters before it
 up_there : (m j q : ℕ) (u : List ℕ) → j < q → q < length u → get_or u j 0 < get_or u q 0 → m ≤ before u q
     → MoreBefore m (swap_at j q u)
 up_there m j q u h k l f =
@@ -147,7 +126,7 @@ up_there m j q u h k l f =
     let g = at_letter (swap_at j q u) q (get_or u j 0) (get_swap_right j q 0 u (omega arith) k) in
     let o = greater_one (get_or u j 0) q j q u h (omega arith) k in
     let a = counts-not_less (get_or u j 0) (get_or u j 0) (omega arith) in
-    let b = counts-less (get_or u j 0) (get_or u q 0) l in
+    let b = sym (cond_below {X = ℕ} (get_or u j 0) (get_or u q 0) 1 0 l) in
     let c = greater_fewer (get_or u q 0) (get_or u j 0) (take q u) (omega arith) in
     (q, omega arith, omega arith)
 
@@ -185,17 +164,19 @@ up m j q p u h k l i f =
   where
     fewer_or_as_many : (x a b : ℕ) → a ≤ b → cond {A = ℕ} (nat_lt x a) 1 0 ≤ cond {A = ℕ} (nat_lt x b) 1 0
     fewer_or_as_many x a b t = elim (cases_lt x a) [
-      | inl y ↦ let r = counts-less x a y in let s = counts-less x b (omega arith) in omega arith
+      | inl y ↦ let r = sym (cond_below {X = ℕ} x a 1 0 y) in let s = sym (cond_below {X = ℕ} x b 1 0 (omega arith)) in omega arith
       | inr y ↦ let r = counts-not_less x a y in omega arith
     ]
 
--- if c is between the last descent q and b, the place of the last smaller letter, the letter at c is smaller than that at b
+-- let q be the last descent and b the place of the last letter smaller than that at q; if c is between q and b, the letter at c is smaller than that
+-- at b
 pub smaller_between : (q b c : ℕ) (w : List ℕ) → IsOneLine w → IsStep w q b → q < c → c < b → get_or w c 0 < get_or w b 0
 smaller_between q b c w o s h k =
     let inside = s.inside in
     strict_get w c b o.once (omega arith) inside (λ z. omega arith) (rises_chain q c b w s.rises h (omega arith) inside)
 
--- if the letter at b has more than m greater ones before it, it has at least m of them after it is exchanged with that at q
+-- let q and b be the places of the transition rule for w; if the letter at b has more than m greater letters before it, it has at least m of them
+-- after it is exchanged with the letter at q
 down_there : (m q b : ℕ) (w : List ℕ) → IsOneLine w → IsStep w q b → m < before w b → m ≤ before (swap_at q b w) q
 down_there m q b w o s f =
     let order = s.order in
@@ -209,7 +190,7 @@ down_there m q b w o s f =
     one_longer : (x k : ℕ) (v : List ℕ) → greater x (take (suc k) v) ≤ suc (greater x (take k v))
     one_longer x k [] = omega arith
     one_longer x zero (y ∷ v) = elim (cases_lt x y) [
-      | inl l ↦ let p = counts-less x y l in omega arith
+      | inl l ↦ let p = sym (cond_below {X = ℕ} x y 1 0 l) in omega arith
       | inr l ↦ let p = counts-not_less x y l in omega arith
     ]
     one_longer x (suc k) (y ∷ v) = let e = one_longer x k v in omega arith
@@ -238,8 +219,8 @@ down m q b p w o s i n f =
               | inl d ↦
                   let t = greater_one (get_or w p 0) p q b w (omega arith) (omega arith) inside in
                   let l = smaller_between q b p w o s (omega arith) d in
-                  let x = counts-less (get_or w p 0) (get_or w b 0) l in
-                  let y = counts-less (get_or w p 0) (get_or w q 0) (omega arith) in
+                  let x = sym (cond_below {X = ℕ} (get_or w p 0) (get_or w b 0) 1 0 l) in
+                  let y = sym (cond_below {X = ℕ} (get_or w p 0) (get_or w q 0) 1 0 (omega arith)) in
                   (p, omega arith, omega arith)
               | inr d ↦
                   let t = greater_both (get_or w p 0) p q b w (omega arith) (omega arith) in
@@ -264,21 +245,21 @@ step_more m q b j w o s h l more =
           up m j q d.0 (swap_at q b w) h (omega arith) l d.1 d.2
     ]
 
--- ---- letters and places counted from 1; fixed letters at the end
+-- ---- the transition rule with places counted from 1, for permutations without fixed letters at the end
 
 one_line_most : (w : List ℕ) (n c : ℕ) → IsOneLine w → length w ≤ n → get_or w c 0 ≤ n
 one_line_most w n c o h = elim (cases_lt c (length w)) [
   | inl l ↦ let p = (o.letters (get_or w c 0) (among_get c 0 w l)).1 in omega arith
-  | inr l ↦ let p = get_past w c 0 l in omega arith
+  | inr l ↦ let p = get_or_past w c 0 l in omega arith
 ]
 
 pub from_letters : (m : ℕ) (w : List ℕ) → IsOneLine w → HasMoreBefore m w → MoreBefore m w
 from_letters m w o (i, h, f) = elim (cases_lt (i - 1) (length w)) [
   | inl l ↦
-      let e = ap (λ z. greater z (take (i - 1) w)) (get_or-any w (i - 1) i 0 l) in
+      let e = ap (λ z. greater z (take (i - 1) w)) (get_or_default w (i - 1) i 0 l) in
       (i - 1, l, omega arith)
   | inr l ↦
-      let e = ap (λ z. greater z (take (i - 1) w)) (get_past w (i - 1) i l) in
+      let e = ap (λ z. greater z (take (i - 1) w)) (get_or_past w (i - 1) i l) in
       let g = greater_past i 0 (i - 1) w (λ c k t. one_line_most w i c o (omega arith)) in
       absurd (omega arith)
 ]
@@ -290,36 +271,31 @@ pub to_letters : (m : ℕ) (w : List ℕ) → MoreBefore m w → HasMoreBefore m
 to_letters m w (p, i, f) =
     let e : suc p - 1 ≡ p = omega arith in
     let a = letter_at w p in
-    let b = get_or-any w p (suc p) 0 i in
+    let b = get_or_default w p (suc p) 0 i in
     let c : greater_before w (suc p) ≡ greater (get_or w p 0) (take p w) = ap₂ (λ x t. greater x (take t w)) (a ∙ b) e in
     (suc p, omega arith, omega arith)
-
-pub take_front : (p : ℕ) (a t : List ℕ) → p ≤ length a → take p (a ++ t) ≡ take p a
-take_front zero a t h = refl
-take_front (suc p) [] t h = absurd (omega arith)
-take_front (suc p) (x ∷ a) t h = ap (λ v. x ∷ v) (take_front p a t (omega arith))
 
 to_kept : (m : ℕ) (v : List ℕ) → IsOneLine v → MoreBefore m v → HasMoreBefore m (kept v)
 to_kept m v o (p, i, f) =
     let t = kept_whole v in
     let k = letter_kept v (suc p) (omega arith) in
-    let g = get_or-any v p (suc p) 0 i in
+    let g = get_or_default v p (suc p) 0 i in
     elim (cases_lt (length (kept v)) p) [
       | inr l ↦
           let a = ap (λ z. greater (get_or v p 0) (take p z)) t.1 in
-          let b = ap (greater (get_or v p 0)) (take_front p (kept v) (after (length (kept v)) t.0) l) in
+          let b = ap (greater (get_or v p 0)) (take-append-le p (kept v) (after (length (kept v)) t.0) l) in
           let c = ap (λ z. greater z (take p (kept v))) (k ∙ letter_at v p ∙ g) in
           let y : suc p - 1 ≡ p = omega arith in
           let d : greater_before (kept v) (suc p) ≡ greater (letter (kept v) (suc p)) (take p (kept v)) =
           ap (λ z. greater (letter (kept v) (suc p)) (take z (kept v))) y in
           (suc p, omega arith, omega arith)
       | inl l ↦
-          let a = get_past (kept v) p (suc p) (omega arith) in
+          let a = get_or_past (kept v) p (suc p) (omega arith) in
           let la = letter_at v p in
           let lb = letter_at (kept v) p in
           let n = greater_past (get_or v p 0) 0 p v (λ c x y.
           let d = letter_kept v (suc c) (omega arith) in
-          let e = get_or-any v c (suc c) 0 (omega arith) in
+          let e = get_or_default v c (suc c) 0 (omega arith) in
           let lc = letter_at v c in
           let r = kept_most c y (omega arith) in
           omega arith) in
@@ -331,10 +307,10 @@ to_kept m v o (p, i, f) =
         let a = letter_at (kept v) c in
         elim (cases_lt c (length (kept v))) [
           | inl l ↦
-              let g = get_or-any (kept v) c (suc c) 0 l in
+              let g = get_or_default (kept v) c (suc c) 0 l in
               let h = one_line_most (kept v) (length (kept v)) c (one_line_kept v o) (omega arith) in
               omega arith
-          | inr l ↦ let g = get_past (kept v) c (suc c) l in omega arith
+          | inr l ↦ let g = get_or_past (kept v) c (suc c) l in omega arith
         ]
 
 covers_more : (m q b : ℕ) (w x : List ℕ) → IsOneLine w → IsStep w q b → MoreBefore m w
@@ -362,7 +338,8 @@ covers_more m q b w x o s more mem =
     subst (HasMoreBefore m) (sym e) (to_kept m (swap_at (c.0 - 1) q (swap_at q b w)) oy
     (step_more m q b (c.0 - 1) w o s (omega arith) l more))
 
--- if w has a letter with more than m greater ones before it, so has each of its covers in the transition rule
+-- if some letter of w has more than m greater letters before it, so has some letter of each cover x = v·t_ir, i < r, of v = w·t_rs in the transition
+-- rule
 pub more_on : (w : List ℕ) (r s m : ℕ) → IsOneLine w → IsTransition w r s → HasMoreBefore m w
     → (x : List ℕ) → Among x (covers_down r (times_swap r s w)) → HasMoreBefore m x
 more_on w r s m o t more x mem =
@@ -375,7 +352,7 @@ more_on w r s m o t more x mem =
     let c : covers_down r (times_swap r s w) ≡ covers_down (suc p.0) (swap_at p.0 p.1 w) = ap₂ covers_down p.2 e ∙ covers_down_kept (suc p.0) (swap_at p.0 p.1 w) ou in
     covers_more m p.0 p.1 w x o g (from_letters m w o more) (subst (Among x) c mem)
 
--- ---- the Schubert polynomial in m variables is 0
+-- ---- if some letter of w has more than m greater letters before it, S_w in m variables is 0
 
 none_left : (m : ℕ) (w : List ℕ) → IsOneLine w → last_descent_place w ≤ m → HasMoreBefore m w → ⊥
 none_left m w o h more =

@@ -1,5 +1,6 @@
--- A count of a waiting permutation that is too large makes a Schur coefficient too large.
-use Rattle.std.proofs.Common.{◌≡◌, ℕ, zero, suc, ◌+◌, ◌≤◌, Bool, true, false, cond, List, [], ◌∷◌, get_or, refl, ◌∙◌, ap, subst, arith, inl, inr, ℤ, pos, negsuc, ◌+ℤ◌, ◌*ℤ◌, ◌≤ℤ◌}
+-- If adding to the count of a permutation in the tables overflows, then the sum of all Schur and Schubert polynomials, with the added ones, has a
+-- Schur coefficient of 2^127 or more.
+use Rattle.std.proofs.Common.{◌≡◌, ℕ, zero, suc, ◌+◌, ◌≤◌, Bool, true, false, cond, List, [], ◌∷◌, get_or, refl, ◌∙◌, ap, subst, arith, inl, inr, ℤ, pos, ◌+ℤ◌, ◌*ℤ◌, ◌≤ℤ◌}
 use Rattle.std.specs.Prelude.{nat_eq}
 use Rattle.std.specs.Cmp.Lexicographic.{pointwise}
 use Rattle.std.proofs.lemmas.Int.{ints}
@@ -7,8 +8,8 @@ use Rattle.sym_model.specs.Partition.{IsPartition, rows}
 use Rattle.sym_model.specs.Polynomial.{pair}
 use Rattle.sym_model.specs.Schubert.{schubert_in}
 use Rattle.sym_model.specs.WholeTerms.{WholeTerms, AreCounts}
-use Rattle.sym_model.proofs.Integers.{product-nonnegative}
-use Rattle.sym_model.proofs.Ring.{distributes_left, distributes_right, product-one}
+use Rattle.sym_model.proofs.Integers.{product-nonnegative, product-at_least}
+use Rattle.sym_model.proofs.Ring.{distributes_right, product-one}
 use Rattle.linear_combinations.specs.Gains.{over, only, Overflows, HaveLabels}
 use Rattle.linear_combinations.specs.Labels.{same_partition}
 use Rattle.stanley_expand.specs.GreaterBefore.{HasMoreBefore}
@@ -41,16 +42,9 @@ at_least_one f p (t ∷ table) counts values =
         let n = product-nonnegative t.1 (f t.0) (counts t (inl refl)) (values t (inl refl)) in
         omega (arith, ints)
 
-times_more : (a f : ℤ) → pos 0 ≤ℤ a → pos 1 ≤ℤ f → a ≤ℤ (a *ℤ f)
-times_more a f h l =
-    let e : f ≡ pos 1 +ℤ (f +ℤ negsuc 0) = omega (arith, ints) in
-    let d = ap (λ z. a *ℤ z) e ∙ distributes_left a (pos 1) (f +ℤ negsuc 0) in
-    let o = product-one a in
-    let n = product-nonnegative a (f +ℤ negsuc 0) h (omega (arith, ints)) in
-    omega (arith, ints)
-
 module _ (m : ℕ) (κ : List ℕ) (q : IsPartition κ) (few : rows κ ≤ m) where
-  -- if no count is negative and each permutation is increasing at places 1 to m, the Schur coefficient at κ of one table is at most that of all
+  -- if no count of the tables is negative and each permutation is increasing at places 1 to m, the coefficient of s_κ in the sum over one table is at
+  -- most that in the sum over all tables
   one_table : (at : ℕ) (todo : List WholeTerms) → ((k : ℕ) → HaveLabels (IsRising m (m + 16)) (get_or todo k [])) → ((k : ℕ) → AreCounts (get_or todo k []))
       → over (λ p. pair (schubert_in p m) (schur_test m κ)) (get_or todo at []) ≤ℤ waited m (schur_test m κ) todo
   one_table at [] labels counts = omega (arith, ints)
@@ -62,7 +56,8 @@ module _ (m : ℕ) (κ : List ℕ) (q : IsPartition κ) (few : rows κ ≤ m) wh
       let b = one_table at todo (λ k. labels (suc k)) (λ k. counts (suc k)) in
       omega (arith, ints)
 
--- if adding c ≥ 0 to the count of p overflows, and no letter of p has more than m greater ones before it, a Schur coefficient is at least 2^127
+-- if adding c ≥ 0 to the count of p overflows, and no letter of p has more than m greater letters before it, some Schur coefficient is then at least
+-- 2^127 (`OverflowsWith`)
 pub large_waiting : (m at : ℕ) (p : List ℕ) (c : ℤ) (sum : WholeTerms) (todo : List WholeTerms) (table : WholeTerms) → WaitsAt m at p → (HasMoreBefore m p → ⊥) → pos 0 ≤ℤ c
     → table ≡ get_or todo at [] → Overflows (pointwise nat_eq) table ((p, c) ∷ []) → OverflowsWith m sum todo (λ φ. c *ℤ pair (schubert_in p m) φ)
 large_waiting m at p c sum todo table waits few positive e overflow waiting shapes =
@@ -78,5 +73,5 @@ large_waiting m at p c sum todo table waits few positive e overflow waiting shap
     let near = shapes.natural s.0 in
     let n = natural p in
     let d = distributes_right (over (only (pointwise nat_eq) p) (get_or todo at [])) c (pair (schubert_in p m) (schur_test m s.0)) in
-    let t = times_more (over (only (pointwise nat_eq) p) (get_or todo at []) +ℤ c) (pair (schubert_in p m) (schur_test m s.0)) (omega (arith, ints)) s.3 in
+    let t = product-at_least (over (only (pointwise nat_eq) p) (get_or todo at []) +ℤ c) (pair (schubert_in p m) (schur_test m s.0)) (omega (arith, ints)) s.3 in
     (s.0, s.1, s.2, omega (arith, ints))

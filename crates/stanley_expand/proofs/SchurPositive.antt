@@ -1,8 +1,8 @@
 -- Stanley polynomials are sums of Schur polynomials.
---     rising_covers    if w is increasing at places 1 to m and r > m, so are its covers in the transition rule
+--     rising_covers    if w is increasing at places 1 to m and r > m, so are the covers v·t_ir, i < r, of v = w·t_rs
 --     schur_positive   the Schubert polynomial in m variables of a permutation increasing at places 1 to m is a sum of Schur polynomials
 --     natural          a sum of Schur polynomials has no negative Schur coefficient
-use Rattle.std.proofs.Common.{◌≡◌, ℕ, zero, suc, ◌+◌, ◌<◌, ◌≤◌, List, [], ◌∷◌, ◌++◌, length, refl, sym, ◌∙◌, ap, ap₂, subst, arith, inl, inr, cond, Bool, true, false, pos, ◌+ℤ◌, ◌≤ℤ◌, Some, None, Option, unwrap_or, flat_map}
+use Rattle.std.proofs.Common.{◌≡◌, ℕ, zero, suc, ◌+◌, ◌<◌, ◌≤◌, List, [], ◌∷◌, ◌++◌, length, refl, sym, ◌∙◌, ap, ap₂, subst, arith, inl, inr, pos, ◌+ℤ◌, ◌≤ℤ◌, Some, None, Option, unwrap_or, flat_map}
 use Rattle.std.proofs.lemmas.Int.{ints}
 use Rattle.std.proofs.lemmas.Bool.{cases_lt}
 use Rattle.sym_model.specs.Sum.{total, Among}
@@ -27,6 +27,7 @@ use Rattle.stanley_expand.specs.Grassmannian.{RisesTo, IsRising, front_beta, fro
 use Rattle.stanley_expand.specs.SchurPositive.{IsSchurPositive, schur_test}
 use Rattle.stanley_expand.proofs.FirstPlaces.{dropped, still_rising, leaf}
 use Rattle.stanley_expand.proofs.FixedFront.{rising_behind, schubert_behind}
+use Rattle.sym_model.proofs.Integers.{cond-nonnegative}
 
 -- ---- the beta list of a Grassmannian permutation is strictly decreasing
 
@@ -50,7 +51,7 @@ front_partition m u o r = from_beta_partition (front_beta m u) (front_strict m u
 pub front_rows : (m : ℕ) (u : List ℕ) → rows (front_shape m u) ≤ m
 front_rows m u = let a = rows-from_beta (front_beta m u) in let l = length_front m u in omega arith
 
--- ---- one step of the transition rule
+-- ---- the permutations of the transition rule for a permutation that is increasing at places 1 to m
 
 pub rising_covers : (m n r s : ℕ) (w x : List ℕ) → IsRising m n w → IsTransition w r s → m < r → Among x (covers_down r (times_swap r s w)) → IsRising m n x
 rising_covers m n r s w x i t h mem =
@@ -59,7 +60,7 @@ rising_covers m n r s w x i t h mem =
     let p1 = p.1 in
     record { short = short_cover n r (times_swap r s w) x (short_transition n w r s i.short t) (omega arith) mem; rises = still_rising w r s m i.short.one_line t h i.rises x mem }
 
--- ---- sums of Schur polynomials, added
+-- ---- a polynomial that is equal to a sum of Schur polynomials, and sums of such polynomials
 
 positive_same : (m : ℕ) (f g : Poly) → Same f g → IsSchurPositive m g → IsSchurPositive m f
 positive_same m f g e p = record { shapes = p.shapes; partitions = p.partitions; sum = Same_trans f g (flat_map (λ κ. schur κ m) p.shapes) e p.sum }
@@ -117,7 +118,7 @@ stanley_positive w m o =
     positive_same m (stanley_in w m) (schubert_in (kept (behind m w)) m) (Same_sym (schubert_in (kept (behind m w)) m) (stanley_in w m) (schubert_behind m w o))
     (schur_positive m (m + length w) (kept (behind m w)) (rising_behind m (length w) w o (omega arith)))
 
--- ---- the Schur coefficients are not negative
+-- ---- the Schur coefficients of a sum of Schur polynomials are not negative
 
 pub schur_coefficient_is : (m : ℕ) (κ : List ℕ) (f : Poly) → schur_coefficient m κ f ≡ pair f (schur_test m κ)
 schur_coefficient_is m κ f =
@@ -134,12 +135,8 @@ counts_natural m κ p h [] g = omega (arith, ints)
 counts_natural m κ p h (ν ∷ shapes) g =
     let a = schur_pairs m ν κ (g ν (inl refl)).0 p h in
     let b = counts_natural m κ p h shapes (λ μ i. g μ (inr i)) in
-    let c = at_least (same ν κ) in
+    let c = cond-nonnegative (same ν κ) (pos 1) (omega (arith, ints)) in
     omega (arith, ints)
-  where
-    at_least : (b : Bool) → pos 0 ≤ℤ cond b (pos 1) (pos 0)
-    at_least true = omega (arith, ints)
-    at_least false = omega (arith, ints)
 
 pub natural : (m : ℕ) (f : Poly) (κ : List ℕ) → IsSchurPositive m f → IsPartition κ → rows κ ≤ m → pos 0 ≤ℤ pair f (schur_test m κ)
 natural m f κ s p h =

@@ -9,9 +9,9 @@ use Rattle.beta_list_laws.proofs.BetaLists.{size-from_beta}
 use Rattle.partitions.specs.Limits.{IsWithinLimits}
 use Rattle.schubert_laws.specs.TransitionOrder.{IsShort}
 use Rattle.schubert_laws.proofs.Ranks.{letter_within}
-use Rattle.schubert_laws.proofs.TransitionFromOne.{get_past}
 use Rattle.stanley_expand.specs.Grassmannian.{IsRising, front_beta, front_shape}
 use Rattle.stanley_expand.proofs.SchurPositive.{front_strict, length_front, front_partition, front_rows}
+use Rattle.std.proofs.lemmas.List.{get_or_past}
 
 size_falling : (t : ℕ) (b : List ℕ) → FallsStrictly b → get_or b 0 0 ≤ t + length b - 1 → size b ≤ size (staircase (length b)) + length b * t
 size_falling t [] f h = omega arith
@@ -24,7 +24,7 @@ size_falling t (a ∷ c ∷ b) f h =
 
 letter_most : (n : ℕ) (u : List ℕ) (i : ℕ) → IsShort n u → 1 ≤ i → i ≤ n → letter u i ≤ n
 letter_most n u i s h l = elim (cases_lt (length u) i) [
-  | inl k ↦ let p = get_past u (i - 1) i (omega arith) in omega arith
+  | inl k ↦ let p = get_or_past u (i - 1) i (omega arith) in omega arith
   | inr k ↦ let p = letter_within u i s.one_line k in let few = s.few in omega arith
 ]
 

@@ -1,9 +1,10 @@
--- Divided differences along the path that sorts the first letters, on alternating functions.
---     along_lowered      ∂ takes an alternating function of d + α to that of c + α, if c is d with one less at the first of two equal places
---     grassmannian_path  the differences along the path give the value of an alternating function at the sorted first letters, each minus 1
+-- The sum of c·A(α) over the terms c·x^α of a Schubert polynomial, for an alternating function A, by divided differences along the path that sorts
+-- the first letters.
+--     along_lowered      ∂ takes A at d + α to A at c + α, if d is c with 1 added to the first of two neighbouring equal entries of c
+--     grassmannian_path  the differences along the path give the value of A at the sorted first letters, each minus 1
 use Rattle.std.proofs.Common.{◌≡◌, ℕ, zero, suc, ◌+◌, ◌-◌, ◌<◌, ◌≤◌, List, [], ◌∷◌, ◌++◌, map, length, replicate, refl, sym, ◌∙◌, ap, ap₂, subst, arith, inl, inr, ◌⊎◌, cond, Bool, true, false, None, ℤ, pos, neg_ℤ, length-append}
 use Rattle.std.proofs.lemmas.Int.{ints}
-use Rattle.std.proofs.lemmas.Bool.{cases_lt}
+use Rattle.std.proofs.lemmas.Bool.{cases_lt, cond_below}
 use Rattle.std.proofs.lemmas.List.{length-map}
 use Rattle.sym_model.specs.Sum.{Among, Once}
 use Rattle.sym_model.specs.Polynomial.{pair, join, resize, fits_in}
@@ -18,7 +19,7 @@ use Rattle.sym_model.proofs.SortedParts.{Falls_tail}
 use Rattle.sym_model.proofs.Parts.{Falls-zeros}
 use Rattle.sym_model.proofs.Exponents.{join_zeros, length-resize, all_zero_zeros}
 use Rattle.sym_model.proofs.Polynomials.{pair_in}
-use Rattle.sym_model.proofs.Numbers.{counts-less, counts-not_less}
+use Rattle.sym_model.proofs.Numbers.{counts-not_less}
 use Rattle.schubert_laws.proofs.Climbs.{across, across_ext, across_alternating}
 use Rattle.schubert_laws.proofs.Differences.{along, along_zero}
 use Rattle.schubert_laws.proofs.Exchanges.{exchange_at, Rises, IsFirstAscent, first_ascent_cases, rises_within, rising_pairs_exchange, length-exchange_at, greater_exchange}
@@ -78,7 +79,7 @@ along_within zero (suc (suc n)) φ (a ∷ []) h l = absurd (omega arith)
 along_within zero (suc (suc n)) φ (a ∷ b ∷ α) h l = across_if (fits_in n α) (λ c d. φ (c ∷ d ∷ resize n α)) a b
 along_within (suc k) (suc n) φ (a ∷ α) h l = along_within k n (λ β. φ (a ∷ β)) α (omega arith) (omega arith)
 
--- ---- a prefix of a list, and its code
+-- ---- the numbers of greater entries after each entry of a list (`rising_code`), and the code of a prefix of a list
 
 abbrev pub rising_code : List ℕ → List ℕ
 rising_code [] = []
@@ -93,7 +94,7 @@ rising_up k [] o f r = absurd r
 rising_up zero (a ∷ []) o f r = absurd r
 rising_up zero (a ∷ b ∷ w) o f r =
     let u = (one_up zero (a ∷ b ∷ w) f r).0 in
-    let p = counts-less a b r in
+    let p = sym (cond_below {X = ℕ} a b 1 0 r) in
     let q = counts-not_less b a (omega arith) in
     let x = greater_or_smaller a w (λ m. o.0 (inr m)) in
     let y = greater_or_smaller b w o.1.0 in
@@ -119,7 +120,8 @@ sorted_exchange_at zero (a ∷ b ∷ w) = sorted-exchange [] b a w
 sorted_exchange_at (suc k) [] = refl
 sorted_exchange_at (suc k) (a ∷ w) = ap (put_falling a) (sorted_exchange_at k w)
 
--- w are the letters at the first places and z those after them, all different; x - 1 letters are smaller than x, for each x of w, and z is increasing
+-- w has the letters at the first places and z those after them, all different; for each x of w exactly x - 1 letters of w and z are smaller than x,
+-- and z is increasing
 pub record IsFront (w z : List ℕ) : Type 0 where
   pub once : Once (w ++ z)
   pub counts : (x : ℕ) → Among x w → 1 ≤ x

@@ -1,13 +1,13 @@
--- One step of the walk, paired with test functions: a permutation is replaced, or its Schur polynomial is added.
-use Rattle.std.proofs.Common.{◌≡◌, ℕ, ◌+◌, ◌-◌, ◌*◌, ◌^◌, ◌<◌, ◌≤◌, List, [], ◌∷◌, ◌∙◌, refl, sym, ap, subst, arith, inl, inr, Bool, true, false, cond, ℤ, negsuc, pos, ◌+ℤ◌, ◌*ℤ◌, ◌≤ℤ◌, unwrap_or}
+-- One step of the transition rule in m variables, for the sums of c·φ(α) over the terms c·x^α: a permutation w is replaced by the covers v·t_ir, i <
+-- r, of v = w·t_rs, or its Schur polynomial is added to the sum.
+use Rattle.std.proofs.Common.{◌≡◌, ℕ, ◌+◌, ◌-◌, ◌*◌, ◌^◌, ◌<◌, ◌≤◌, List, [], ◌∷◌, ◌∙◌, refl, sym, ap, subst, arith, inl, inr, Bool, true, false, cond, ℤ, pos, ◌+ℤ◌, ◌*ℤ◌, ◌≤ℤ◌, unwrap_or}
 use Rattle.std.specs.Prelude.{nat_abs, nat_eq}
 use Rattle.std.specs.Cmp.Lexicographic.{pointwise, nat_list_eq_equiv}
 use Rattle.std.specs.List.{IsDistinct}
 use Rattle.std.specs.Map.{keys_of}
 use Rattle.std.proofs.lemmas.Int.{ints}
-use Rattle.std.proofs.lemmas.Bool.{and_parts, cases_lt, lt-ltb}
+use Rattle.std.proofs.lemmas.Bool.{and_parts, cases_lt, lt-ltb, le-ltb}
 use Rattle.sym_model.proofs.Integers.{cond-nonnegative, product-nonnegative}
-use Rattle.sym_model.proofs.Numbers.{nat_lt-false}
 use Rattle.sym_model.proofs.Ring.{product-one}
 use Rattle.sym_model.specs.Sum.{total, Among}
 use Rattle.sym_model.specs.Polynomial.{pair}
@@ -38,6 +38,7 @@ use Rattle.stanley_expand.proofs.SchurPositive.{front_partition, front_rows, ris
 use Rattle.stanley_expand.specs.Walk.{AreShapes, IsHeld, IsWorkedOff, OverflowsWith, number}
 use Rattle.stanley_expand.proofs.Tables.{waited_natural}
 use Rattle.linear_combinations.specs.Entries.{IsWholeTable}
+use Rattle.transition_walk.proofs.Shares.{natural}
 
 -- ---- the Schur coefficients of a sum of Schur polynomials
 
@@ -49,9 +50,10 @@ over_schurs m κ terms is q few =
     (λ t k. ap (λ z. t.1 *ℤ z) (schur_pairs m t.0 κ (is_label-tells t.0 (and_parts _ _ (term-among is_label whole terms is.proper t k)).1).partition q few))
     ∙ sym (coefficient_pair terms κ) ∙ coefficient_over terms κ
 
--- ---- the sum with one more shape
+-- ---- a sum of Schur polynomials to which one term is added
 
--- if c ≥ 0 is added without overflow at κ, with at most m rows, a table of partitions with at most m rows and coefficients ≥ 0 stays one
+-- if c ≥ 0 is added without overflow at a partition κ of at most m rows to a table of partitions with at most m rows and coefficients ≥ 0
+-- (`AreShapes`), the result is such a table
 pub more_shapes : (m : ℕ) (κ : List ℕ) (c : ℤ) (old new : WholeTerms) → rows κ ≤ m → pos 0 ≤ℤ c → Gains old ((κ, c) ∷ []) new → IsWholeTable new → IsHeld new
     → AreShapes m old → AreShapes m new
 more_shapes m κ c old new few natural gains table held was = record {
@@ -70,45 +72,42 @@ more_shapes m κ c old new few natural gains table held was = record {
 pub large_at : (κ : List ℕ) (c : ℤ) (old : WholeTerms) → IsDistinct (pointwise nat_eq) (keys_of old) → IsHeld old
     → ((ν : List ℕ) → pos 0 ≤ℤ over (only (pointwise nat_eq) ν) old) → pos 0 ≤ℤ c
     → Overflows (pointwise nat_eq) old ((κ, c) ∷ []) → pos (2 ^ 127) ≤ℤ (over (only (pointwise nat_eq) κ) old +ℤ c)
-large_at κ c old distinct held natural positive o = by (pointwise nat_eq o.0 κ) refl o.1
+large_at κ c old distinct held counts positive o = by (pointwise nat_eq o.0 κ) refl o.1
   where
-    natural_abs : (z : ℤ) → pos 0 ≤ℤ z → pos (nat_abs z) ≡ z
-    natural_abs (pos n) h = refl
-    natural_abs (negsuc n) h = absurd (omega (arith, ints))
-
     by : (b : Bool) → pointwise nat_eq o.0 κ ≡ b → 2 ^ 127 ≤ nat_abs (over (only (pointwise nat_eq) o.0) old) + (cond b (nat_abs c) 0 + 0)
         → pos (2 ^ 127) ≤ℤ (over (only (pointwise nat_eq) κ) old +ℤ c)
     by true e l =
         let s = ap (λ ν. over (only (pointwise nat_eq) ν) old) (same_partition o.0 κ e) in
-        let n = natural o.0 in
-        let a = natural_abs (over (only (pointwise nat_eq) o.0) old) n in
-        let b = natural_abs c positive in
+        let n = counts o.0 in
+        let a = sym (natural (over (only (pointwise nat_eq) o.0) old) n) in
+        let b = sym (natural c positive) in
         omega (arith, ints)
     by false e l =
         let d = over_at nat_list_eq_equiv same_partition old distinct o.0 in
         let h = held.at_label o.0 in
-        let n = natural o.0 in
-        let a = natural_abs (over (only (pointwise nat_eq) o.0) old) n in
+        let n = counts o.0 in
+        let a = sym (natural (over (only (pointwise nat_eq) o.0) old) n) in
         absurd (omega (arith, ints))
 
--- ---- a permutation replaced by its covers
+-- ---- a permutation p replaced by the covers v·t_ir, i < r, of v = p·t_rs in the transition rule
 
--- if p is increasing at the first m places and r > m, the sum of the Schubert polynomials of the covers in the transition rule, in m variables, is
--- that of p
+-- if p is increasing at the first m places and r > m, the Schubert polynomial of p in m variables is the sum of those of the covers v·t_ir, i < r, of
+-- v = p·t_rs
 pub covers_pair : (m n r s : ℕ) (p : List ℕ) (φ : List ℕ → ℤ) → IsRising m n p → IsTransition p r s → m < r
     → pair (schubert_in p m) φ ≡ total (λ x. pair (schubert_in x m) φ) (covers_down r (times_swap r s p))
 covers_pair m n r s p φ i t h =
     pair_determined (schubert_in p m) (schuberts_in (covers_down r (times_swap r s p)) m) φ (dropped p r s m i.short.one_line t h)
     ∙ pair_each (λ (x : List ℕ). schubert_in x m) (covers_down r (times_swap r s p)) φ
 
--- if p is increasing at the first m places and r > m, c times the sum of the Schubert polynomials of the covers in the transition rule, in m variables, is
--- c times that of p
+-- if p is increasing at the first m places and r > m, c times the Schubert polynomial of p in m variables is c times the sum of those of the covers
+-- v·t_ir, i < r, of v = p·t_rs
 pub put_pair : (m n r s : ℕ) (p : List ℕ) (c : ℤ) (φ : List ℕ → ℤ) (covers : List (List ℕ)) → covers ≡ covers_down r (times_swap r s p) → IsRising m n p → IsTransition p r s → m < r
     → c *ℤ total (λ x. pair (schubert_in x m) φ) covers ≡ c *ℤ pair (schubert_in p m) φ
 put_pair m n r s p c φ covers e i t h =
     ap (λ xs. c *ℤ total (λ x. pair (schubert_in x m) φ) xs) e ∙ ap (λ z. c *ℤ z) (sym (covers_pair m n r s p φ i t h))
 
--- if p is increasing at the first m places and r > m, the covers in the transition rule are so too, and their table numbers are smaller than that of p
+-- if p is increasing at the first m places and r > m, each cover x = v·t_ir, i < r, of v = p·t_rs is increasing at these places, and the number of
+-- its table is smaller than that of p
 pub covers_number : (m r s : ℕ) (p x : List ℕ) → m ≤ 64 → IsRising m (m + 16) p → IsTransition p r s → m < r → Among x (covers_down r (times_swap r s p))
     → IsRising m (m + 16) x × (number m x < number m p)
 covers_number m r s p x few i t h mem =
@@ -124,12 +123,12 @@ covers_number m r s p x few i t h mem =
             let there = ap (λ b. cond b ((last_descent_place x - m) * 81 + letter x (last_descent_place x)) 0) (lt-ltb m (last_descent_place x) a) in
             omega arith
         | inr a ↦
-            let there = ap (λ b. cond b ((last_descent_place x - m) * 81 + letter x (last_descent_place x)) 0) (nat_lt-false m (last_descent_place x) a) in
+            let there = ap (λ b. cond b ((last_descent_place x - m) * 81 + letter x (last_descent_place x)) 0) (le-ltb m (last_descent_place x) a) in
             omega arith
       ],
     )
 
--- ---- the Schur polynomial of a permutation added
+-- ---- adding the Schur polynomial of a Grassmannian permutation to the sum
 
 module _ (m n : ℕ) (p : List ℕ) (i : IsRising m n p) (h : last_descent_place p ≤ m) where
   pub shape_pairs : (φ : List ℕ → ℤ) → pair (schubert_in p m) φ ≡ pair (schur (front_shape m p) m) φ
@@ -147,7 +146,8 @@ module _ (m n : ℕ) (p : List ℕ) (i : IsRising m n p) (h : last_descent_place
     shapes = more_shapes m (front_shape m p) c old new (front_rows m p) natural gains table held;
   }
 
-  -- if adding the count c ≥ 0 at the partition of the Grassmannian permutation p overflows, some Schur coefficient is 2^127 or more
+  -- if adding the count c ≥ 0 at the partition of the Grassmannian permutation p overflows, some Schur coefficient is then at least 2^127
+  -- (`OverflowsWith`)
   pub large_shape : (c : ℤ) (old : WholeTerms) (todo : List WholeTerms) → pos 0 ≤ℤ c → Overflows (pointwise nat_eq) old ((front_shape m p, c) ∷ [])
       → OverflowsWith m old todo (λ φ. c *ℤ pair (schubert_in p m) φ)
   large_shape c old todo positive overflow waiting is =

@@ -1,8 +1,8 @@
--- The tables of waiting permutations: sums over them, and their change by one more permutation.
---     waited_natural    no Schur coefficient of the sum over the waiting permutations is negative
---     put_step          one more permutation, with its count
---     none_step, both_steps, as_step    no step, two steps in turn, and a step with the same pairings
---     large_with        adding something that is not negative leaves a large coefficient large
+-- The tables of permutations that are still to be expanded: sums over them, and how they change if one more permutation is added.
+--     waited_natural    no Schur coefficient of the sum over the permutations of the tables is negative
+--     put_step          one more permutation, with its count, added to its table
+--     none_step, both_steps, as_step    `IsWorkedOff` for no step, for two steps one after the other, and for a step with an equal function `more`
+--     large_with        a Schur coefficient of at least 2^127 stays so if something that is not negative is added
 use Rattle.std.proofs.Common.{◌≡◌, ℕ, zero, suc, Bool, ◌+◌, ◌^◌, ◌<◌, ◌≤◌, List, [], ◌∷◌, ◌++◌, length, get_or, set, replicate, refl, sym, ◌∙◌, ap, subst, arith, inl, inr, ℤ, pos, ◌+ℤ◌, ◌*ℤ◌, ◌≤ℤ◌}
 use Rattle.std.specs.Prelude.{nat_eq}
 use Rattle.std.specs.Cmp.Lexicographic.{pointwise, nat_list_eq_equiv}
@@ -39,9 +39,9 @@ use Rattle.stanley_expand.specs.SchurPositive.{schur_test}
 use Rattle.stanley_expand.proofs.SchurPositive.{schur_positive, natural}
 use Rattle.stanley_expand.specs.Walk.{WaitsAt, AreWaiting, AreShapes, IsHeld, waited, walked, IsWorkedOff, HasLargeShape, OverflowsWith}
 
--- ---- sums that are not negative
+-- ---- sums over a table of counts that are not negative
 
--- if no count and no value is negative, the sum of counts times values is not negative
+-- if no count of the table and no value of f on its labels is negative, the sum of the counts times the values of f is not negative
 pub over_natural : (f : List ℕ → ℤ) (table : WholeTerms) → AreCounts table → HaveLabels (λ p. pos 0 ≤ℤ f p) table → pos 0 ≤ℤ over f table
 over_natural f [] counts values = omega (arith, ints)
 over_natural f (t ∷ table) counts values =
@@ -75,7 +75,7 @@ module _ (m : ℕ) (κ : List ℕ) (q : IsPartition κ) (few : rows κ ≤ m) wh
       let b = perms_natural ps (λ x i. rising x (inr i)) in
       omega (arith, ints)
 
--- ---- no step, and several steps one after the other
+-- ---- `IsWorkedOff` for no step, and for several steps one after the other
 
 pub none_step : (m : ℕ) (sum : WholeTerms) (todo : List WholeTerms) (more : (List ℕ → ℤ) → ℤ) → ((φ : List ℕ → ℤ) → more φ ≡ pos 0) → IsWorkedOff m sum todo more sum todo
 none_step m sum todo more none = record {
@@ -119,14 +119,15 @@ overflows_as m sum todo f g e large waiting shapes =
 
 -- ---- the elements that a loop has visited, and those still to come
 
--- the elements before x, x and the elements after x are all elements of the list
+-- if `all` is `done` followed by `left`, and `left` is x followed by `rest`, then `all` is `done`, followed by x and `rest`
 pub still_all : {A : Type 0} (done rest left all : List A) (x : A) → left ≡ x ∷ rest → done ++ left ≡ all → done ++ x ∷ rest ≡ all
 still_all done rest left all x next e = ap (λ xs. done ++ xs) (sym next) ∙ e
 
 pub next_among : {A : Type 0} (done rest all : List A) (x : A) → done ++ x ∷ rest ≡ all → Among x all
 next_among done rest all x e = subst (Among x) e (Among-append_right x done (x ∷ rest) (inl refl))
 
--- if c ≥ 0 and adding c at p overflows, after c was added at the permutations before p of a list, adding c at all of the list overflows
+-- let p follow `done` in the list `all`, and let c ≥ 0 have been added at each permutation of `done`; if adding c at p then overflows, adding c at
+-- all permutations of the list overflows
 pub large_perm : (m : ℕ) (c : ℤ) (sum : WholeTerms) (todo mid : List WholeTerms) (done rest all : List (List ℕ)) (p : List ℕ) → pos 0 ≤ℤ c → done ++ p ∷ rest ≡ all
     → ((x : List ℕ) → Among x all → IsRising m (m + 16) x) → IsWorkedOff m sum todo (λ φ. c *ℤ total (λ x. pair (schubert_in x m) φ) done) sum mid
     → OverflowsWith m sum mid (λ φ. c *ℤ pair (schubert_in p m) φ) → OverflowsWith m sum todo (λ φ. c *ℤ total (λ x. pair (schubert_in x m) φ) all)
@@ -146,7 +147,8 @@ large_perm m c sum todo mid done rest all p positive e rising step large waiting
     three : (c x y z : ℤ) → c *ℤ (x +ℤ (y +ℤ z)) ≡ c *ℤ x +ℤ (c *ℤ y +ℤ c *ℤ z)
     three c x y z = distributes_left c x (y +ℤ z) ∙ ap (λ w. c *ℤ x +ℤ w) (distributes_left c y z)
 
--- if no count of a table is negative, and adding a term overflows after those before it were added, adding the whole table overflows
+-- let no count of the table `all` be negative, let the term t follow `done` in it, and let the terms of `done` have been expanded; if expanding t
+-- then overflows, expanding the whole table overflows
 pub large_count : (m : ℕ) (sum sum2 : WholeTerms) (todo mid : List WholeTerms) (done rest all : WholeTerms) (t : List ℕ × ℤ) → done ++ t ∷ rest ≡ all
     → HaveLabels (IsRising m (m + 16)) all → AreCounts all → IsWorkedOff m sum todo (λ φ. over (λ x. pair (schubert_in x m) φ) done) sum2 mid
     → OverflowsWith m sum2 mid (λ φ. t.1 *ℤ pair (schubert_in t.0 m) φ) → OverflowsWith m sum todo (λ φ. over (λ x. pair (schubert_in x m) φ) all)
@@ -160,12 +162,12 @@ large_count m sum sum2 todo mid done rest all t e rising counts step large waiti
     omega (arith, ints))
     (large (step.waiting waiting) (step.shapes shapes))
 
--- ---- one more permutation in the table of its number
+-- ---- one more permutation, with its count, added to the table that has the number of this permutation
 
 pub only_natural : (x y : List ℕ) → pos 0 ≤ℤ only (pointwise nat_eq) x y
 only_natural x y = cond-nonnegative (pointwise nat_eq x y) (pos 1) (omega (arith, ints))
 
--- if P holds of each table and of `new`, it holds of each after the table at `at` is replaced by `new`
+-- if P holds of each table and of `new`, P holds of each table after the one at `at` is replaced by `new`
 set_all : (P : WholeTerms → Type 0) (todo : List WholeTerms) (at : ℕ) (new : WholeTerms) → at < length todo → P new → ((k : ℕ) → P (get_or todo k [])) → (k : ℕ) → P (get_or (set todo at new) k [])
 set_all P todo at new inside here old k = elim (cases_eq k at) [
   | inl e ↦ subst (λ n. P (get_or (set todo at new) n [])) (sym e) (subst P (sym (get_or-set_same todo at new [] inside)) here)
@@ -173,7 +175,7 @@ set_all P todo at new inside here old k = elim (cases_eq k at) [
 ]
 
 module _ (m at : ℕ) (p : List ℕ) (c : ℤ) (waits : WaitsAt m at p) (positive : pos 0 ≤ℤ c) where
-  -- if no count of a table is negative, none is after p is added with the count c ≥ 0
+  -- if no count of the table `old` is negative, no count of `new`, in which c ≥ 0 is added at p, is negative
   pub more_counts : (old new : WholeTerms) {is_label : List ℕ → Bool} → IsCombination (pointwise nat_eq) is_label whole new → Gains old ((p, c) ∷ []) new
       → AreCounts old → AreCounts new
   more_counts old new is gains counts t i =
@@ -208,7 +210,7 @@ module _ (m at : ℕ) (p : List ℕ) (c : ℤ) (waits : WaitsAt m at p) (positiv
       there : table ≡ get_or todo at []
       there = here ∙ get_or_default todo at table [] inside
 
--- ---- the last table and those before it
+-- ---- the last table of a list of tables, and the tables before it
 
 no_terms : IsWholeTable []
 no_terms = IsCombination-empty (pointwise nat_eq) is_label whole
@@ -268,7 +270,7 @@ module _ (m : ℕ) where
   empty_waited φ zero = refl
   empty_waited φ (suc n) = let a = empty_waited φ n in omega (arith, ints)
 
--- ---- the empty table of shapes
+-- ---- the empty sum of Schur polynomials
 
 pub no_shapes : (m : ℕ) → AreShapes m []
 no_shapes m = record {

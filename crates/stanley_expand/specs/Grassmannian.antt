@@ -9,7 +9,7 @@ use Rattle.schubert_laws.specs.TransitionOrder.{IsShort}
 abbrev pub RisesTo : ℕ → List ℕ → Type 0
 RisesTo m u = (i : ℕ) → 1 ≤ i → i < m → letter u i < letter u (i + 1)
 
--- a permutation with no descent except at place m
+-- a permutation with no descent except possibly at place m
 pub record IsGrassmannian (m : ℕ) (u : List ℕ) : Type 0 where
   pub one_line : IsOneLine u
   pub rises : RisesTo m u
@@ -20,7 +20,7 @@ pub record IsRising (m n : ℕ) (u : List ℕ) : Type 0 where
   pub short : IsShort n u
   pub rises : RisesTo m u
 
--- the letters at the places m to 1, each minus 1
+-- the letters of a permutation at the places m, .., 1, each minus 1
 abbrev pub front_beta : ℕ → List ℕ → List ℕ
 front_beta zero u = []
 front_beta (suc i) u = (letter u (suc i) - 1) ∷ front_beta i u

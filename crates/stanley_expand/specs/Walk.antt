@@ -1,4 +1,5 @@
--- Permutations that wait for the transition rule, and the sum of Schur polynomials so far.
+-- Tables of permutations with counts, namely of those that the transition rule has still to expand; and the sum of the
+-- Schur polynomials found so far.
 use Rattle.std.specs.Prelude.{◌≡◌, ℕ, ◌+◌, ◌-◌, ◌*◌, ◌^◌, ◌≤◌, ◌≤ℤ◌, ◌+ℤ◌, ℤ, pos, nat_eq, nat_lt}
 use Rattle.std.specs.Prelude.{FitsSigned, List, [], cond, length, get_or}
 use Rattle.std.specs.Int.{w128}
@@ -17,47 +18,50 @@ use Rattle.linear_combinations.specs.Gains.{over, only, HaveLabels}
 use Rattle.stanley_expand.specs.Grassmannian.{IsRising}
 use Rattle.stanley_expand.specs.SchurPositive.{schur_test}
 
--- the number of the table in which a permutation waits: by its last descent after place m, and then by the letter
--- there, for at most 80 letters; 0 if there is no such descent
+-- the number of the table in which a permutation w is kept: (r - m)·81 + w(r), if the last descent r of w is after
+-- place m, and 0 otherwise
 abbrev pub number : ℕ → List ℕ → ℕ
 number m p = cond (nat_lt m (last_descent_place p))
     ((last_descent_place p - m) * 81 + letter p (last_descent_place p)) 0
 
--- the permutation has increasing letters at places 1 to m and at most m + 16 letters, and waits in the table with
--- this number
+-- the permutation p is increasing at the places 1 to m and has at most m + 16 letters, and the number of its table is
+-- `at`
 pub record WaitsAt (m at : ℕ) (p : List ℕ) : Type 0 where
   pub rising : IsRising m (m + 16) p
   pub here : number m p ≡ at
 
--- each coefficient is a number of 128 bits
+-- each coefficient fits in 128 bits with a sign
 abbrev pub IsHeld : WholeTerms → Type 0
 IsHeld sum = AreHeld (pointwise nat_eq) (pos 0) (FitsSigned w128) sum
 
--- a table of partitions with at most m rows, without negative coefficients
+-- `sum` is a table of partitions with at most m rows; its coefficients are not negative and fit in 128 bits with a
+-- sign
 pub record AreShapes (m : ℕ) (sum : WholeTerms) : Type 0 where
   pub table : IsWholeTable sum
   pub held : IsHeld sum
   pub few : HaveLabels (λ κ. rows κ ≤ m) sum
   pub natural : (κ : List ℕ) → pos 0 ≤ℤ over (only (pointwise nat_eq) κ) sum
 
--- tables of waiting permutations with counts, by their numbers from 0
+-- tables of permutations with counts, listed by their numbers from 0: each permutation is in the table of its number,
+-- at most once, and each count is at least 0 and fits in 128 bits with a sign
 pub record AreWaiting (m : ℕ) (todo : List WholeTerms) : Type 0 where
   pub labels : (at : ℕ) → HaveLabels (WaitsAt m at) (get_or todo at [])
   pub counts : (at : ℕ) → AreCounts (get_or todo at [])
   pub distinct : (at : ℕ) → IsDistinct (pointwise nat_eq) (keys_of (get_or todo at []))
   pub held : (at : ℕ) → IsHeld (get_or todo at [])
 
--- the sum of k·c·φ(α) over the terms c·x^α of S_p in m variables, for each waiting permutation p with its count k
+-- the sum of k·c·φ(α) over all permutations p of the tables, each with its count k, and over the terms c·x^α of the
+-- Schubert polynomial S_p in m variables
 abbrev pub waited : ℕ → (List ℕ → ℤ) → List WholeTerms → ℤ
 waited m φ todo = total (λ table. over (λ p. pair (schubert_in p m) φ) table) todo
 
--- the sum of k·c·φ(α) over the terms c·x^α of s_κ in m variables, for each term (κ, k) of the sum so far, plus that
--- of S_p for each waiting permutation p with its count k
+-- the sum of k·c·φ(α) over the terms (κ, k) of `sum` and over the terms c·x^α of s_κ in m variables; plus the sum
+-- `waited` of the tables, in which the Schubert polynomial S_p of each permutation p takes the place of s_κ
 abbrev pub walked : ℕ → (List ℕ → ℤ) → WholeTerms → List WholeTerms → ℤ
 walked m φ sum todo = over (λ κ. pair (schur κ m) φ) sum +ℤ waited m φ todo
 
--- VALUE: for every φ, the sum and the waiting polynomials, paired with φ, have gained `more φ`; the number of tables
--- is the same, and the invariants of the tables and of the sum are kept
+-- VALUE: for every φ, `walked` of `sum2` and `todo2` is `walked` of `sum` and `todo` plus `more φ`; the number of
+-- tables is the same, and the invariants of the tables and of the sum are kept
 pub record IsWorkedOff (m : ℕ) (sum : WholeTerms) (todo : List WholeTerms)
     (more : (List ℕ → ℤ) → ℤ) (sum2 : WholeTerms) (todo2 : List WholeTerms) : Type 0 where
   pub value : (φ : List ℕ → ℤ) → walked m φ sum2 todo2 ≡ walked m φ sum todo +ℤ more φ
@@ -65,12 +69,14 @@ pub record IsWorkedOff (m : ℕ) (sum : WholeTerms) (todo : List WholeTerms)
   pub waiting : AreWaiting m todo → AreWaiting m todo2
   pub shapes : AreShapes m sum → AreShapes m sum2
 
--- some Schur coefficient of a polynomial in m variables, given by its pairings, is 2^127 or more
+-- Let f be a polynomial in m variables such that, for each φ, `sum φ` is the sum of c·φ(α) over the terms c·x^α of f.
+-- Then f has a Schur coefficient of 2^127 or more at some partition with at most m rows.
 abbrev pub HasLargeShape : ℕ → ((List ℕ → ℤ) → ℤ) → Type 0
 HasLargeShape m sum =
     (κ : List ℕ) × IsPartition κ × (rows κ ≤ m) × (pos (2 ^ 127) ≤ℤ sum (schur_test m κ))
 
--- OVERFLOW: when `more` is added, some Schur coefficient is 2^127 or more
+-- OVERFLOW: if the tables `todo` and the sum satisfy their invariants, `walked` of them plus `more` has a Schur
+-- coefficient of 2^127 or more (`HasLargeShape`)
 abbrev pub OverflowsWith : ℕ → WholeTerms → List WholeTerms → ((List ℕ → ℤ) → ℤ) → Type 0
 OverflowsWith m sum todo more = AreWaiting m todo → AreShapes m sum
     → HasLargeShape m (λ φ. walked m φ sum todo +ℤ more φ)

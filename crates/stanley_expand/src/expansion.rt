@@ -14,15 +14,15 @@ use partitions::Partition;
 use perm_codes::Perm;
 use std::alloc::Global;
 
-/// The Stanley polynomial of a permutation of at most 16 letters, in `rows` variables, in Schur
-/// polynomials, with no label of more rows. `rows` is from 1 to 64.
+/// The Stanley polynomial of a permutation of at most 16 letters, in `rows` variables, as a sum of
+/// Schur polynomials of partitions with at most `rows` rows. `rows` is from 1 to 64.
 ///
-/// Returns `Large` if and only if a coefficient exceeds 2^127 - 1.
+/// Unless memory runs out, returns `Large` if and only if a coefficient exceeds 2^127 - 1.
 ///
-/// The transition rule of Lascoux and Schützenberger starts from 1^`rows` × w and drops the terms
-/// with a variable after the last one, until only Grassmannian permutations are left, whose
-/// Schubert polynomials are Schur polynomials (Macdonald, Notes on Schubert polynomials, IV and
-/// VII).
+/// The transition rule of Lascoux and Schützenberger is applied to 1^`rows` × w. A term with a
+/// factor x_r is dropped if r is greater than `rows`. At the end only Grassmannian permutations are
+/// left, whose Schubert polynomials are Schur polynomials (Macdonald, Notes on Schubert
+/// polynomials, IV and VII).
 pub fn stanley(alloc: Global, w: &Perm, rows: u16) -> Result<Terms<Partition, Int>, SumFault>
     requires variables { (1 ≤ rows) × (rows ≤ 64) }
     requires letters { length w.now ≤ 16 }

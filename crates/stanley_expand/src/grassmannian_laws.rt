@@ -7,9 +7,9 @@ ghost use Rattle.sym_model.specs.Schubert.{schubert_in};
 ghost use Rattle.sym_model.specs.Schur.{schur};
 ghost use Rattle.stanley_expand.specs.Grassmannian.{IsGrassmannian, front_shape};
 
-/// The Schubert polynomial of a permutation u with no descent except at place m, in m variables, is
-/// the Schur polynomial of the partition of the parts u(i) - i for i from m down to 1 (Macdonald,
-/// Notes on Schubert polynomials, IV).
+/// Let u be a permutation that has no descent at a place other than m. In m variables, its Schubert
+/// polynomial is the Schur polynomial of the partition whose parts are the numbers u(i) - i for i
+/// from m down to 1, without the zeros (Macdonald, Notes on Schubert polynomials, IV).
 ///
 /// Example: 1 3 4 2 has its descent at place 3, so its Schubert polynomial in three variables is
 /// the Schur polynomial of (1,1).

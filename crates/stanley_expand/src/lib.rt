@@ -1,7 +1,8 @@
-//! Stanley polynomials in Schur polynomials, by the transition rule from 1^m × w: terms with a
-//! variable after the last one are dropped, and so is a permutation in which some letter has more
-//! greater letters before it than there are variables. A permutation without a descent after place
-//! m contributes a Schur polynomial. Equal permutations are merged, with a count.
+//! Stanley polynomials in Schur polynomials, by the transition rule from 1^m × w: a term with a
+//! factor x_r is dropped if r is greater than m, and a permutation is dropped if some letter has
+//! more than m greater letters before it. A permutation without a descent after place m contributes
+//! a Schur polynomial. Equal permutations are expanded only once, with a count of them as the
+//! coefficient.
 //!
 //! The crate also has laws on Grassmannian permutations, and on Stanley polynomials as sums of
 //! Schur polynomials.
@@ -11,8 +12,8 @@
 //! What is proved:
 //!
 //! `stanley` gives the Stanley polynomial of a permutation of at most 16 letters in 1 to 64
-//! variables, in Schur polynomials with at most one row for each variable; `Large` is returned if
-//! and only if a coefficient exceeds 2^127 - 1.
+//! variables, in Schur polynomials with at most one row for each variable; unless memory runs out,
+//! `Large` is returned if and only if a coefficient exceeds 2^127 - 1.
 //!
 //! `grassmannian_law` says that the Schubert polynomial of a Grassmannian permutation is a Schur
 //! polynomial. `stanley_law` says that a Stanley polynomial is a sum of Schur polynomials, with no

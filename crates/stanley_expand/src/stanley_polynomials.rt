@@ -12,8 +12,8 @@ ghost use Rattle.stanley_expand.specs.SchurPositive.{IsSchurPositive};
 /// rows, since the transition rule ends in Grassmannian permutations (Lascoux and Schützenberger;
 /// Edelman and Greene). So none of its Schur coefficients is negative.
 ///
-/// Example: that of 2 1 4 3 in two variables is the sum of the Schur polynomials of (2) and (1,1),
-/// with x_1·x_2 twice.
+/// Example: the Stanley polynomial of 2 1 4 3 in two variables is the sum of the Schur polynomials
+/// of (2) and (1,1), so the coefficient of x_1·x_2 is 2.
 pub fn stanley_law()
     ensures positive { (w : List ℕ) (m : ℕ) → IsOneLine w → IsSchurPositive m (stanley_in w m) }
     ensures natural { (w : List ℕ) (m : ℕ) (parts : List ℕ) → IsOneLine w → IsPartition parts

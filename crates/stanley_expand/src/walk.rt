@@ -1,4 +1,5 @@
-//! The transition rule without the terms of variables that are 0, on permutations with counts.
+//! The transition rule in m variables, applied to permutations with counts. A term with a factor
+//! x_r for r > m is 0 in m variables, and is left out.
 ghost use Rattle.std.specs.Prelude.{◌≡◌, ℕ, ◌<◌, ◌≤◌, ◌+ℤ◌, ◌*ℤ◌, ℤ, pos, ◌≤ℤ◌, List, [], ◌∷◌};
 ghost use Rattle.std.specs.Prelude.{◌+◌, nat_eq, length, replicate, IfOk, OnOk, IsErrOf};
 ghost use Rattle.std.specs.Cmp.Lexicographic.{pointwise};
@@ -24,21 +25,24 @@ use perm_codes::Perm;
 use std::alloc::Global;
 use transition_walk::transition_places;
 
-/// The greatest number of letters of a permutation that waits.
+/// The greatest number of letters of a permutation in the tables.
 const MAX_LETTERS: usize = 80;
 
 /// A sum of Schur polynomials.
 pub(crate) type Schurs = Lin<Partition, Int>;
 
-/// The permutations that wait, each with the number of times that the rule reached it.
+/// Permutations that are still to be expanded, each with the number of times that the transition
+/// rule has reached it.
 type Counts = Lin<Perm, Int>;
 
-/// The Schubert polynomial of a permutation of at most `rows` + 16 letters, with increasing letters
-/// at places 1 to `rows`, in `rows` variables, as a sum of Schur polynomials.
+/// The Schubert polynomial of the permutation `start`, in `rows` variables, as a sum of Schur
+/// polynomials. `start` has at most `rows` + 16 letters, and its letters at the places 1 to `rows`
+/// are increasing.
 ///
-/// The waiting permutations are kept in numbered tables (`number`). The table with the greatest
-/// number is worked off first: the transition rule lowers the number, so by then all equal
-/// permutations are in that table.
+/// The permutations that are still to be expanded are kept in numbered tables (`number`), and the
+/// table with the greatest number is expanded first. The transition rule replaces a permutation by
+/// others with smaller numbers. So nothing is added to a table after it is expanded, and each
+/// permutation is expanded at most once.
 pub(crate) fn in_schurs(alloc: Global, start: Perm, rows: u16) -> Result<Schurs, SumFault>
     requires few { rows ≤ 64 }
     requires rising { IsRising rows (rows + 16) start }
@@ -57,7 +61,7 @@ pub(crate) fn in_schurs(alloc: Global, start: Perm, rows: u16) -> Result<Schurs,
     Ok(sum)
 }
 
-/// `count` empty tables.
+/// A list of `count` empty tables.
 fn empty_tables(alloc: Global, count: usize) -> Result<Vec<Counts>, NoMemory>
     ensures { IfOk result (λ tables. tables.items ≡ replicate count []) }
 {
@@ -68,8 +72,8 @@ fn empty_tables(alloc: Global, count: usize) -> Result<Vec<Counts>, NoMemory>
     Ok(tables)
 }
 
-/// The number of the table in which a permutation waits: by its last descent after place `rows`,
-/// and then by the letter there. It is 0 if there is no such descent.
+/// The number of the table in which a permutation is kept: (r - `rows`)·81 + w(r), if the last
+/// descent r of the permutation w is after place `rows`, and 0 otherwise.
 fn number(perm: &Perm, rows: u16) -> usize
     ensures number { result ≡ number rows perm.now }
     ensures small { result < 16777216 }
@@ -85,8 +89,9 @@ fn number(perm: &Perm, rows: u16) -> usize
     }
 }
 
-/// Adds a permutation with its count to the table of its number. It is dropped if some letter has
-/// more than `rows` greater letters before it, since its polynomial in `rows` variables is 0.
+/// Adds `count` to the count of a permutation in the table of its number. The permutation is
+/// dropped if some letter has more than `rows` greater letters before it, since its Schubert
+/// polynomial in `rows` variables is then 0.
 fn put(todo: &mut Vec<Counts>, perm: Perm, count: Int, rows: u16) -> Result<(), SumFault>
     requires few { rows ≤ 64 }
     requires rising { IsRising rows (rows + 16) perm }
@@ -107,8 +112,10 @@ fn put(todo: &mut Vec<Counts>, perm: Perm, count: Int, rows: u16) -> Result<(), 
     counts.add_owned(perm, count)
 }
 
-/// Replaces each permutation of a table by those of the transition rule, or adds its Schur
-/// polynomial to the sum if it is Grassmannian.
+/// Makes one step of the transition rule for each permutation w of the table `counts`. If w has no
+/// descent after place `rows`, its count times its Schur polynomial is added to `sum`. Otherwise
+/// the covers v·t_ir with i < r of v = w·t_rs, for the places r and s of the transition rule, are
+/// added to `todo`, each with the count of w.
 fn work_off_each(
     alloc: Global,
     todo: &mut Vec<Counts>,
@@ -130,8 +137,10 @@ fn work_off_each(
     Ok(())
 }
 
-/// Replaces a permutation by those of the transition rule; one without a descent after place `rows`
-/// is Grassmannian, and its Schur polynomial is added to the sum.
+/// Makes one step of the transition rule for w = `perm`. If w has no descent after place `rows`, it
+/// is Grassmannian, and `count` times its Schur polynomial is added to `sum`. Otherwise the covers
+/// v·t_ir with i < r of v = w·t_rs, for the places r and s of the transition rule, are added to
+/// `todo`, each with the count `count`.
 fn work_off(
     alloc: Global,
     todo: &mut Vec<Counts>,
@@ -159,8 +168,9 @@ fn work_off(
     add_shape(alloc, sum, perm, count, rows)
 }
 
-/// Adds the permutations of the transition rule at places r and s to their tables, except the one
-/// that is multiplied by a variable.
+/// Adds the covers v·t_ir with i < r of v = w·t_rs, for w = `perm` and the places r and s of the
+/// transition rule, to the tables of their numbers (`number`), each with the count `count`. The
+/// term of v is left out, since its factor x_r is 0 in `rows` < r variables.
 fn expand(
     todo: &mut Vec<Counts>,
     perm: &Perm,
@@ -185,7 +195,7 @@ fn expand(
     put_each(todo, lower.covers_down(r)?, count, rows)
 }
 
-/// Adds permutations, all with the count `count`, to the tables of their numbers.
+/// Adds each permutation of `perms`, with the count `count`, to the table of its number.
 fn put_each(todo: &mut Vec<Counts>, perms: Vec<Perm>, count: Int, rows: u16) -> Result<(), SumFault>
     requires few { rows ≤ 64 }
     requires waiting { (p : List ℕ) → Among p perms.items
@@ -204,7 +214,7 @@ fn put_each(todo: &mut Vec<Counts>, perms: Vec<Perm>, count: Int, rows: u16) -> 
     Ok(())
 }
 
-/// Adds the Schur polynomial of a Grassmannian permutation.
+/// Adds `count` times the Schur polynomial of the Grassmannian permutation `perm` to `sum`.
 fn add_shape(
     alloc: Global,
     sum: &mut Schurs,
@@ -225,7 +235,7 @@ fn add_shape(
     sum.add_owned(shape, count)
 }
 
-/// The letters at the places from `rows` down to 1, each minus 1.
+/// The letters of `perm` at the places `rows`, .., 1, each minus 1.
 fn front(alloc: Global, perm: &Perm, rows: u16) -> Result<Vec<u16>, NoMemory>
     requires { rows ≤ 64 }
     ensures { IfOk result (λ list. list.items ≡ front_beta rows perm.now) }

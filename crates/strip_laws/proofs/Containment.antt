@@ -1,8 +1,8 @@
 -- Containment of shapes by parts, by cells and as a test.
---     `contains-tells`, `contains-from`  from the test `contains` to the parts, and back
---     `cells-from`, `cells-tell`         from the parts to the cells, and back
---     `cell`                             a column after the inner part of a row, up to its outer part, has a cell in this row
---     `Holds_below`, `Holds-..`          shapes without their first rows, shapes of one size, and the number of long rows
+--     `contains-tells`, `contains-from`  the test `contains` is true if and only if no part of inner is greater than that of outer
+--     `cells-from`, `cells-tell`         no part of inner is greater than that of outer if and only if each cell of inner is a cell of outer
+--     `cell`                             a row of outer/inner has a cell in each column after the part of inner, up to the part of outer
+--     `Holds_below`, `Holds-..`          if inner is inside outer: its later rows are inside those of outer, and it has not more cells or long rows
 use Rattle.std.proofs.Common.{◌≡◌, ◌⊎◌, ℕ, zero, suc, ◌+◌, ◌-◌, ◌<◌, ◌≤◌, true, cond, List, [], ◌∷◌, drop, get_or, leb, eqb, subst, refl, sym, inl, inr, arith, ap, ap₂}
 use Rattle.std.proofs.lemmas.Bool.{cases_lt, eq-eqb, eqb-true, leb-true, le-leb, lt-leb, and_parts, and_from}
 use Rattle.sym_model.specs.Partition.{part, size, ArePositive, Holds, IsCell}
@@ -67,7 +67,7 @@ Holds-get_or outer inner h i =
 pub cell : (outer inner : List ℕ) (row column : ℕ) → 1 ≤ row → part inner row < column → column ≤ part outer row → IsCell outer inner row column
 cell outer inner row column a b c = record { row_counts = a; outside = b; within = c }
 
--- ---- shapes without their first rows
+-- ---- the parts of a list without its first part, and containment of shapes without their first rows
 
 pub get_or-below : (parts : List ℕ) (n : ℕ) → get_or (drop 1 parts) n 0 ≡ get_or parts (suc n) 0
 get_or-below [] zero = refl
@@ -95,7 +95,7 @@ Holds-same_size (a ∷ outer) (b ∷ inner) p q h e =
     let f = h 1 in
     ap₂ ◌∷◌ (omega arith) (Holds-same_size outer inner p.1 q.1 below (omega arith))
 
--- if outer contains inner, it has at least as many rows of length k or more, for k > 0
+-- if outer contains inner and k > 0, outer has at least as many rows of length k or more as inner
 pub Holds-count_from : (k : ℕ) (outer inner : List ℕ) → 0 < k → Holds outer inner → count_from k inner ≤ count_from k outer
 Holds-count_from k outer [] p h = omega arith
 Holds-count_from k [] (b ∷ inner) p h =

@@ -1,5 +1,5 @@
 -- The number of cells of a rim hook, from its rows.
---     size_rows       the size of a partition as the sum of its rows
+--     size_rows       the size of a partition is the sum of its first k parts, if it has at most k parts
 --     hook_size       for a rim hook with the rows first, .., last: |outer| + inner_last = |inner| + outer_first + (last - first)
 use Rattle.std.proofs.Common.{◌≡◌, ℕ, zero, suc, ◌+◌, ◌-◌, ◌≤◌, List, [], ◌∷◌, length, get_or, ◌∙◌, ap, refl, arith}
 use Rattle.sym_model.specs.Partition.{size, part}
@@ -70,3 +70,9 @@ hook_size outer inner first last h =
     let a = size_rows outer k (omega arith) in
     let b = size_rows inner k (omega arith) in
     omega (arith, r, a, b)
+
+-- if outer has k cells more than inner, and outer/inner is a rim hook in the rows from `first` to `last`, the part of outer at `first` plus
+-- last - first is the part of inner at `last` plus k
+pub hook_ends : (outer inner : List ℕ) (first last k : ℕ) → IsHookRows outer inner first last → size outer ≡ size inner + k
+    → part outer first + (last - first) ≡ part inner last + k
+hook_ends outer inner first last k h s = let e = hook_size outer inner first last h in omega arith

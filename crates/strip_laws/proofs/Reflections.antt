@@ -1,15 +1,17 @@
--- The bound for the number of steps in the definition of reflections is never reached: each reflection lowers the sum of the squares.
---     `squares_fall`     a reflection lowers the sum of the squares
---     enough             any two numbers of steps above that sum give the same result
---     reflect_again      the reflection rule holds without a bound
+-- The definition of the reduction into the alcove bounds the number of reflections. The bound is never reached: each reflection lowers the sum of the
+-- squares of the entries.
+--     `squares_fall`     if n is less than the spread (first entry minus last), a reflection lowers the sum of the squares
+--     `enough`           any two bounds greater than this sum give the same result
+--     `reflect_again`    the reduction of a list that is reflected is that of the sorted reflected list, with the sign of sorting
 use Rattle.std.proofs.Common.{◌≡◌, ℕ, zero, suc, ◌+◌, ◌-◌, ◌*◌, ◌<◌, ◌≤◌, ◌==◌, nat_lt, nat_le, Bool, true, false, cond, List, [], ◌∷◌, length, get_or, sym, ◌∙◌, ap, refl, inl, inr, ◌⊎◌, arith, pos, Some, None}
 use Rattle.std.proofs.lemmas.Bool.{cases_Bool, cases_lt}
 use Rattle.std.proofs.lemmas.Bool.Decides.{nat_tests}
 use Rattle.sym_model.specs.Partition.{part}
 use Rattle.sym_model.specs.BetaList.{has_equal_entries, put_falling, sorted_falling, sorting_sign}
 use Rattle.sym_model.specs.AlcoveReduction.{spread, squares, last_raised, reflected, with_sign, reflected_within, reflected_into_alcove}
+use Rattle.std.proofs.Math.Nat.{mul-pos}
 
--- ---- sums of squares of entries
+-- ---- the sum of the squares of the entries of a list
 
 squares_put : (a : ℕ) (b : List ℕ) → squares (put_falling a b) ≡ a * a + squares b
 squares_put a [] = refl
@@ -23,7 +25,7 @@ pub squares_sorted : (b : List ℕ) → squares (sorted_falling b) ≡ squares b
 squares_sorted [] = refl
 squares_sorted (a ∷ b) = squares_put a (sorted_falling b) ∙ ap (λ n. a * a + n) (squares_sorted b)
 
--- the last entry of a list that is not empty
+-- the last entry of the list a ∷ b
 abbrev pub last_of : ℕ → List ℕ → ℕ
 last_of a [] = a
 last_of a (c ∷ b) = last_of c b
@@ -39,11 +41,6 @@ squares_raised : (n a : ℕ) (b : List ℕ) → squares (last_raised n (a ∷ b)
 squares_raised n a [] = omega arith
 squares_raised n a (c ∷ b) = let e = squares_raised n c b in omega (arith, e)
 
-product_of_positives : (n d : ℕ) → 1 ≤ n → 1 ≤ d → 1 ≤ n * d
-product_of_positives zero d h g = absurd (omega arith)
-product_of_positives (suc n) zero h g = absurd (omega arith)
-product_of_positives (suc n) (suc d) h g = omega arith
-
 closer : (a l n d : ℕ) → a ≡ l + n + d → 1 ≤ n * d → (a - n) * (a - n) + (l + n) * (l + n) < a * a + l * l
 closer a l n d e h =
     let p : a - n ≡ l + d = omega arith in
@@ -57,10 +54,10 @@ squares_fall n (a ∷ c ∷ b) h g =
     let r = squares_raised n c b in
     let far : n < a - last_of c b = omega (arith, g, e) in
     let d = a - last_of c b - n in
-    let s = closer a (last_of c b) n d (omega (arith, far)) (product_of_positives n d h (omega (arith, far))) in
+    let s = closer a (last_of c b) n d (omega (arith, far)) (mul-pos h (omega (arith, far))) in
     omega (arith, r, s)
 
--- ---- a number of steps above the sum of the squares of the entries is enough
+-- ---- reductions with a bound for the number of reflections that is greater than the sum of the squares of the entries
 
 step_again : (steps n : ℕ) (b : List ℕ) → n < spread b → has_equal_entries (reflected n b) ≡ false
     → reflected_within (suc steps) n b ≡ with_sign (sorting_sign (reflected n b)) (reflected_within steps n (sorted_falling (reflected n b)))
@@ -84,7 +81,8 @@ step_equal steps n b h e =
 step_stays : (steps n : ℕ) (b : List ℕ) → spread b < n → reflected_within (suc steps) n b ≡ Some (b, pos 1)
 step_stays steps n b h = let p : nat_lt (spread b) n ≡ true = grind (arith, nat_tests) in rw p refl
 
--- if s and t are both greater than the sum of the squares, s steps give the same result as t steps
+-- if s and t are both greater than the sum of the squares of the entries of b, reducing b with at most s reflections has the same result as with at
+-- most t
 pub enough : (s t n : ℕ) (b : List ℕ) → 1 ≤ n → squares b < s → squares b < t → reflected_within s n b ≡ reflected_within t n b
 enough zero t n b h p q = absurd (omega arith)
 enough (suc s) zero n b h p q = absurd (omega arith)
@@ -108,7 +106,7 @@ enough (suc s) (suc t) n b h p q =
         ∙ ap (with_sign (sorting_sign (reflected n b))) (later (below c))
         ∙ sym (step_again t n b c d)
 
--- ---- the rule of reflections without a bound
+-- ---- the reduction into the alcove, without a bound: a list that is not changed, a list that gives 0, and a list that is reflected
 
 pub reflect_stays : (n : ℕ) (b : List ℕ) → spread b < n → reflected_into_alcove n b ≡ Some (b, pos 1)
 reflect_stays n b h = step_stays (squares b) n b h

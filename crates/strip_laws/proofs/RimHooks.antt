@@ -1,17 +1,19 @@
--- Rim hooks by their rows, which are chained (`IsHookRows`): each row begins above the last cell of the next.
---     hook_from_rows      rows that are chained (`IsHookRows`) make a rim hook
---     hook_rows           the rows of each rim hook are chained
---     height_of_rows      the height of a rim hook is the number of its rows
+-- Rim hooks by their rows (`IsHookRows`): in each row of the hook but the first, the outer part is the inner part of the row above plus 1.
+--     `hook_from_rows`      a shape with such rows is a rim hook
+--     `hook_rows`           each rim hook has such rows
+--     `height_of_rows`      the height of a rim hook is the number of its rows
 use Rattle.std.proofs.Common.{◌≡◌, ℕ, zero, suc, ◌+◌, ◌-◌, ◌<◌, ◌≤◌, min, max, ◌⊎◌, List, [], ◌∷◌, ◌++◌, length, Bool, true, false, nat_lt, sym, subst, refl, inl, inr, arith, filter}
 use Rattle.std.proofs.lemmas.Bool.{cases_lt}
 use Rattle.std.proofs.lemmas.Bool.Decides.{nat_tests}
 use Rattle.sym_model.specs.Partition.{Falls, part, rows, after, Holds, IsCell}
 use Rattle.strip_laws.specs.HookRows.{IsHookRows}
 use Rattle.sym_model.specs.Strip.{AreNeighbours, ShareEdge, IsPath, IsConnected, HasNoSquare, IsRimHook, height}
-use Rattle.sym_model.proofs.Parts.{past_end}
 use Rattle.strip_laws.proofs.Strips.{falls_part}
+use Rattle.std.proofs.lemmas.List.{get_or_past}
+use Rattle.sym_model.specs.RimHookReduction.{IsRemoval}
+use Rattle.sym_model.proofs.Parts.{at_least_one, part-get_or}
 
--- ---- paths in a skew shape
+-- ---- pairs of cells of a skew shape that are joined by a path of neighbouring cells
 
 abbrev Linked : List ℕ → List ℕ → ℕ → ℕ → ℕ → ℕ → Type 0
 Linked outer inner i j k l = (path : List (ℕ × ℕ)) × IsPath outer inner i j path k l
@@ -40,7 +42,7 @@ path_back outer inner i j (d ∷ p) k l c h =
 linked_then : (outer inner : List ℕ) (i j k l m n : ℕ) → Linked outer inner i j k l → Linked outer inner k l m n → Linked outer inner i j m n
 linked_then outer inner i j k l m n p q = (p.0 ++ q.0, path_append outer inner i j p.0 k l q.0 m n p.1 q.1)
 
--- ---- if the rows are chained, the shape is a rim hook
+-- ---- two cells of a row are joined by a path; a shape with the rows of a rim hook (`IsHookRows`) is a rim hook
 
 right_link : (outer inner : List ℕ) (d i j l : ℕ) → l ≡ j + d → IsCell outer inner i j → IsCell outer inner i l → Linked outer inner i j i l
 right_link outer inner zero i j l e a b = ([], (refl, omega arith))
@@ -135,9 +137,9 @@ hook_from_rows outer inner first last f h = record {
         let s = d.within in
         omega (arith, e, r, s)
 
--- ---- if the shape is a rim hook, its rows are chained
+-- ---- the rows of a rim hook satisfy `IsHookRows`
 
--- if a path leads from a row at or above row r to a row below r, row r + 1 of outer is longer than row r of inner
+-- if a path of cells of outer/inner leads from a row at or above row r to a row below r, then row r + 1 of outer is longer than row r of inner
 pub crosses : (outer inner : List ℕ) (r i j : ℕ) (path : List (ℕ × ℕ)) (k l : ℕ) → IsCell outer inner i j → IsPath outer inner i j path k l → i ≤ r → r < k
     → part inner r < part outer (r + 1)
 crosses outer inner r i j [] k l c h a b = let e = h.0 in absurd (omega arith)
@@ -222,7 +224,7 @@ hook_rows outer inner f g h =
     let b = c.within in
     let full : HasCells outer inner r = omega (arith, a, b) in
     let u = first_from outer inner (r - 1) 1 r (let p = c.row_counts in omega (arith, p)) (omega arith) (λ k x y. absurd (omega arith)) full in
-    let v = last_from outer inner (length outer) (r + length outer) r refl c.row_counts (λ k l. let s = past_end outer (k - 1) (let p = c.row_counts in omega (arith, p)) in omega (arith, s)) full in
+    let v = last_from outer inner (length outer) (r + length outer) r refl c.row_counts (λ k l. let s = get_or_past outer (k - 1) 0 (let p = c.row_counts in omega (arith, p)) in omega (arith, s)) full in
     (u.0, v.0, rows u.0 v.0 u.1 v.1)
   where
     rows : (first last : ℕ) → IsFirstRow outer inner first → IsLastRow outer inner last → IsHookRows outer inner first last
@@ -249,10 +251,10 @@ hook_rows outer inner f g h =
             let y = square_free_rows outer inner f g h.thin i (omega arith) in
             omega (arith, x, y)
 
--- ---- the height of a rim hook
+-- ---- the height of a rim hook is the number of its rows
 
--- if the test passes exactly for the rows from `first` to `last`, the number of the rows a + 1, .., a + k that pass is the number of these rows that are
--- from `first` to `last`
+-- if the test passes for the rows from `first` to `last` and for no others, the number of the rows a + 1, .., a + k that pass is the number of these
+-- rows that are from `first` to `last`
 counted : (test : ℕ → Bool) (first last a k : ℕ) → ((i : ℕ) → 1 ≤ i → first ≤ i → i ≤ last → test i ≡ true) → ((i : ℕ) → 1 ≤ i → (i < first) ⊎ (last < i) → test i ≡ false)
     → first ≤ last + 1 → length (filter test (after a k)) ≡ (min last (a + k) + 1) - max first (a + 1)
 counted test first last a zero yes' no' o = omega arith
@@ -282,4 +284,18 @@ height_of_rows outer inner first last f h =
     outside i n (inr a) = let c = h.below i a in grind (arith, nat_tests)
 
     last_row_within : last ≤ rows outer
-    last_row_within = elim (cases_lt (rows outer) last) [ inl l ↦ absurd (let e = past_end outer (last - 1) (omega arith) in let g = h.end in omega (arith, e, g)) | inr l ↦ l ]
+    last_row_within = elim (cases_lt (rows outer) last) [ inl l ↦ absurd (let e = get_or_past outer (last - 1) 0 (omega arith) in let g = h.end in omega (arith, e, g)) | inr l ↦ l ]
+
+-- ---- the removal of a rim hook does not increase the number of rows
+
+pub fewer_rows : (n : ℕ) (shape left : List ℕ) → IsRemoval n shape left → rows left ≤ rows shape
+fewer_rows n shape left r = elim (cases_lt (length shape) (length left)) [
+  | inr h ↦ h
+  | inl h ↦ (
+      let a = at_least_one left r.partition.positive (length shape) h in
+      let b = get_or_past shape (length shape) 0 (omega arith) in
+      let c = r.hook.holds (length shape + 1) in
+      let d = part-get_or left (length shape) in
+      let e = part-get_or shape (length shape) in
+      absurd (omega (arith, a, b, c, d, e)))
+]

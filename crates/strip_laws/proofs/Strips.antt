@@ -1,13 +1,13 @@
 -- Horizontal and vertical strips by their rows.
 --     `falls_part`            each part of a decreasing list is at least the next one
---     horizontal_from_rows    outer/inner is a horizontal strip if each outer part i + 1 is at most inner part i
---     vertical_from_rows      outer/inner is a vertical strip if each outer part i is at most inner part i plus 1
+--     `horizontal_from_rows`  outer/inner is a horizontal strip if part i + 1 of outer is at most part i of inner, for each i
+--     `vertical_from_rows`    outer/inner is a vertical strip if part i of outer is at most part i of inner plus 1, for each i
 use Rattle.std.proofs.Common.{◌≡◌, ℕ, zero, suc, ◌+◌, ◌-◌, ◌<◌, ◌≤◌, List, [], ◌∷◌, get_or, sym, ap, subst, refl, inl, inr, arith}
 use Rattle.std.proofs.lemmas.Bool.{cases_order, cases_lt}
 use Rattle.sym_model.specs.Partition.{Falls, part, Holds, IsCell}
 use Rattle.sym_model.specs.Strip.{IsHorizontalStrip, IsVerticalStrip}
 
--- ---- rows of weakly decreasing lists
+-- ---- neighbouring parts of weakly decreasing lists
 
 pub falls_get : (parts : List ℕ) → Falls parts → (k : ℕ) → get_or parts (suc k) 0 ≤ get_or parts k 0
 falls_get [] f k = omega arith
@@ -16,10 +16,13 @@ falls_get (a ∷ []) f (suc k) = omega arith
 falls_get (a ∷ b ∷ parts) f zero = f.0
 falls_get (a ∷ b ∷ parts) f (suc k) = falls_get (b ∷ parts) f.1 k
 
+pub falls_at : (parts : List ℕ) → Falls parts → (k : ℕ) → get_or parts (k + 1) 0 ≤ get_or parts k 0
+falls_at parts f k = let e : suc k ≡ k + 1 = omega arith in subst (λ n. get_or parts n 0 ≤ get_or parts k 0) e (falls_get parts f k)
+
 part_at : (parts : List ℕ) (i k : ℕ) → i ≡ suc k → part parts i ≡ get_or parts k 0
 part_at parts i k e = let d : i - 1 ≡ k = omega arith in ap (λ n. get_or parts n 0) d
 
--- each row of a decreasing list is at least the next
+-- each part of a weakly decreasing list is at least the next one
 pub falls_part : (parts : List ℕ) → Falls parts → (i : ℕ) → 1 ≤ i → part parts (i + 1) ≤ part parts i
 falls_part parts f zero h = absurd (omega arith)
 falls_part parts f (suc k) h =
@@ -38,7 +41,7 @@ falls_steps parts f (suc d) i k h e =
 pub falls_far : (parts : List ℕ) → Falls parts → (i k : ℕ) → 1 ≤ i → i ≤ k → part parts k ≤ part parts i
 falls_far parts f i k h l = falls_steps parts f (k - i) i k h (omega arith)
 
--- ---- horizontal and vertical strips by rows
+-- ---- horizontal and vertical strips by conditions on the parts
 
 pub horizontal_from_rows : (outer inner : List ℕ) → Falls outer → Holds outer inner
     → ((i : ℕ) → 1 ≤ i → part outer (i + 1) ≤ part inner i) → IsHorizontalStrip outer inner

@@ -2,8 +2,8 @@
 use Rattle.std.specs.Prelude.{◌≡◌, ℕ, ◌+◌, ◌<◌, ◌≤◌, List}
 use Rattle.sym_model.specs.Partition.{part}
 
--- outer and inner differ exactly in the rows first, .., last; there each outer part except the first is the inner part
--- of the row above plus 1, so that each row begins above the last cell of the next
+-- outer and inner differ exactly in the rows first, .., last. In each of these rows except the first, the part of outer is 1 greater than the part of
+-- inner in the row above, so that the last cell of the row is directly below the first cell of outer/inner in the row above.
 pub record IsHookRows (outer inner : List ℕ) (first last : ℕ) : Type 0 where
   pub counts : 1 ≤ first
   pub ordered : first ≤ last

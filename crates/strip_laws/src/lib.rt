@@ -1,12 +1,13 @@
-//! Laws of strips, rim hooks and reflections: the conditions on cells as conditions on rows and
-//! beta lists.
+//! Laws of strips, of rim hooks, and of shapes that lie inside other shapes: their conditions on
+//! cells, stated as conditions on parts.
 //!
 //! A law function has an empty body: its contract is the law.
 //!
 //! What is proved:
 //!
-//! `strip_law`: horizontal and vertical strips and rim hooks by rows. `containment_law`: one shape
-//! is inside another if and only if its cells are cells of the other.
+//! `strip_law`: the conditions on the parts of outer and inner under which outer/inner is a
+//! horizontal strip, a vertical strip or a rim hook. `containment_law`: one shape is inside another
+//! if and only if its cells are cells of the other.
 #![tactic(auto)]
 
 mod containing;

@@ -1,17 +1,19 @@
-//! Strips and rim hooks of partitions by their rows.
+//! Conditions on the parts of outer and inner under which outer/inner is a horizontal strip, a
+//! vertical strip or a rim hook.
 
 ghost use Rattle.std.specs.Prelude.{◌≡◌, ℕ, ◌+◌, ◌-◌, ◌≤◌, ◌↔◌, List};
 ghost use Rattle.sym_model.specs.Partition.{Falls, Holds, part, size};
 ghost use Rattle.sym_model.specs.Strip.{IsHorizontalStrip, IsVerticalStrip, IsRimHook, height};
 ghost use Rattle.strip_laws.specs.HookRows.{IsHookRows};
 
-/// The conditions on cells as conditions on parts. A skew shape of decreasing lists is a horizontal
-/// strip if and only if no part of the outer list is greater than the inner part of the row above,
-/// a vertical strip if and only if each part is at most 1 greater than the inner one, and a rim
-/// hook if and only if it has cells exactly in the rows first, .., last, and in each of these rows
-/// but the first the outer part is 1 greater than the inner part of the row above. Its height is
-/// then the number of these rows, and the number of its cells is the height, plus the outer part of
-/// the row first, minus the inner part of the row last, minus 1.
+/// Let outer and inner be weakly decreasing lists, inner inside outer. Then outer/inner is a
+/// horizontal strip if and only if, from the second row on, no part of outer is greater than the
+/// part of inner in the row above. It is a vertical strip if and only if each part of outer is at
+/// most 1 greater than the part of inner in the same row. It is a rim hook if and only if, for some
+/// first and last, it has cells exactly in the rows first, .., last, and in each of these rows but
+/// the first the part of outer is 1 greater than the part of inner in the row above. The height of
+/// the rim hook is then the number of these rows, and the number of its cells is the height, plus
+/// the part of outer in the row first, minus the part of inner in the row last, minus 1.
 pub fn strip_law()
     ensures horizontal { (outer inner : List ℕ) → Falls outer → Falls inner → Holds outer inner
         → (IsHorizontalStrip outer inner

@@ -1,7 +1,7 @@
--- The partitions that contain a partition and have k more cells, by their first rows.
+-- The partitions that contain a partition `inner` and have k more cells, listed by the length of their first row.
 --     added-none        for k = 0 only the partition itself
 --     rows-none, -next, -all     the partitions whose first row is shorter than a bound, one length after the other
---     all_added         all partitions that contain the partition and have k more cells
+--     all_added         all partitions that contain `inner` and have k more cells
 use Rattle.std.proofs.Common.{◌≡◌, ◌⊎◌, ℕ, zero, suc, ◌+◌, ◌-◌, ◌<◌, ◌≤◌, max, min, List, [], ◌∷◌, ◌++◌, map, length, drop, get_or, refl, sym, ◌∙◌, ap, ap₂, subst, inl, inr, arith, append_assoc, append-nil}
 use Rattle.std.proofs.lemmas.Bool.{cases_lt}
 use Rattle.std.proofs.lemmas.List.{map-append}
@@ -16,13 +16,13 @@ use Rattle.sym_model.proofs.SortedParts.{rows_within_size}
 use Rattle.strip_laws.proofs.Containment.{Holds-get_or, Holds_below, Holds-size, Holds-same_size}
 use Rattle.strip_rules.specs.Rows.{AddsBelow, AddsCells, HasAdded}
 
--- if k > 0 and the first row gets a length `row` that is positive and at least the old one, the number of the other rows plus the
--- number of cells left to add is less than the number of all rows plus k
+-- if k > 0, `row` ≥ 1 and `row` is at least the first part of `parts`: the number of the other parts, plus the number of cells left to add after the
+-- first row gets the length `row`, is less than the number of parts plus k
 pub fewer_left : (k row : ℕ) (parts : List ℕ) → 0 < k → 1 ≤ row → part parts 1 ≤ row → length (drop 1 parts) + (part parts 1 + k - row) < length parts + k
 fewer_left k row [] p some l = omega arith
 fewer_left k row (a ∷ parts) p some l = omega arith
 
--- ---- the case k = 0
+-- ---- the partitions with k = 0 more cells
 
 pub adds_itself : (most : ℕ) (inner : List ℕ) → IsPartition inner → Falls (most ∷ inner) → AddsBelow most 0 inner inner
 adds_itself most inner p f = ((p, omega arith, λ i. omega arith), f)
@@ -41,7 +41,7 @@ added-none most inner above old new p f e = record {
     back : (ν : List ℕ) → AddsBelow most 0 inner ν → Among ν (inner ∷ [])
     back ν a = inl (Holds-same_size ν inner a.0.0.positive p.positive a.0.2 (let e = a.0.1 in omega arith))
 
--- ---- the partitions whose first row is shorter than a bound
+-- ---- the partitions with k more cells whose first row is shorter than a bound
 
 abbrev pub HasRow : ℕ → ℕ → List ℕ → ℕ → List ℕ → Type 0
 HasRow most k inner row ν = AddsBelow most k inner ν × (part ν 1 < row)
@@ -62,8 +62,8 @@ rows-none most k inner above row old some e = record {
         omega arith
 
 module _ (most k row : ℕ) (inner : List ℕ) (p : IsPartition inner) (least : part inner 1 ≤ row) (some : 1 ≤ row) (fits : row ≤ most) (room : row ≤ part inner 1 + k) where
-  -- if ν contains `inner` without its first row, has part inner 1 + k - row more cells and no row longer than `row`, then
-  -- row ∷ ν contains `inner`, has k more cells and the first row `row`
+  -- if ν contains the rows of `inner` after the first, has `part inner 1 + k - row` cells more than these rows, and has no row longer than `row`,
+  -- then row ∷ ν contains `inner`, has k cells more than `inner`, and has the first row `row`
   in_front_of : (ν : List ℕ) → AddsBelow row (part inner 1 + k - row) (drop 1 inner) ν → HasRow most k inner (row + 1) (row ∷ ν)
   in_front_of ν a =
       let s = a.0.1 in
@@ -81,8 +81,8 @@ module _ (most k row : ℕ) (inner : List ℕ) (p : IsPartition inner) (least : 
           by (v ∷ μ) l h zero = l
           by (v ∷ μ) l h (suc n) = Holds-get_or ν μ h n
 
-  -- if ν contains `inner`, has k more cells and the first row `row`, then it is row ∷ rest, where `rest` contains `inner` without
-  -- its first row, has part inner 1 + k - row more cells and no row longer than `row`
+  -- if ν contains `inner`, has k more cells than `inner` and the first row `row`, then ν is row ∷ rest for some `rest` that contains `inner` without
+  -- its first row, has `part inner 1 + k - row` more cells than these rows and no row longer than `row`
   behind_it : (ν : List ℕ) → AddsBelow most k inner ν → part ν 1 ≡ row → (rest : List ℕ) × (ν ≡ row ∷ rest) × AddsBelow row (part inner 1 + k - row) (drop 1 inner) rest
   behind_it [] a e = absurd (omega arith)
   behind_it (x ∷ ν) a e =

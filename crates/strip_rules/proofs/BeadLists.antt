@@ -1,4 +1,4 @@
--- Lists of beads that a strip moves up.
+-- Strictly decreasing lists of beads, and the moves of beads by which a horizontal or vertical strip is added to the partition.
 --     AreMoved             each bead moves up to a place below its limit
 --     numbers-set_of       a strictly decreasing list is the list of the numbers of its set
 use Rattle.std.proofs.Common.{◌≡◌, ℕ, suc, ◌+◌, ◌*◌, ◌^◌, ◌<◌, ◌≤◌, List, [], ◌∷◌, length, refl, ap, ap₂, ◌∙◌, inl, arith}
@@ -11,15 +11,15 @@ use Rattle.beta_sets.proofs.GreatestPlaces.{numbers-greatest, numbers-none}
 use Rattle.strip_rules.specs.declared.bead_strips.Strip.{Strip}
 use Rattle.strip_rules.specs.declared.bead_strips.Strip.TheVariants.{Horizontal, Vertical}
 
--- ---- the limits for the moves of beads (barriers)
+-- ---- the limits below which the beads must be after their moves (barriers)
 
--- the limit below which the next bead stays after a bead has moved from `old` to `new`: in a horizontal strip `old`, in a
--- vertical strip `new`
+-- the limit for the new place of the bead below a bead that has moved from `old` to `new`: it must be below `old` in a horizontal strip, below `new`
+-- in a vertical strip
 abbrev pub barrier : Strip → ℕ → ℕ → ℕ
 barrier Horizontal old new = old
 barrier Vertical old new = new
 
--- a bead at b moves to c ≥ b, by at most one place in a vertical strip, and c is below `limit`
+-- a bead moves up from b to c, or does not move (c = b); c is below `limit`, and at most b + 1 in a vertical strip
 pub record Steps (strip : Strip) (limit b c : ℕ) : Type 0 where
   pub up : b ≤ c
   pub below : c < limit
@@ -85,7 +85,7 @@ none_moved strip limit (b ∷ beads) (c ∷ moved) a e =
     let r = size_moved strip (barrier strip b c) beads moved a.1 in
     ap₂ (λ (x : ℕ) xs. x ∷ xs) (let i : c ≡ b = omega arith in i) (none_moved strip (barrier strip b c) beads moved a.1 (omega arith))
 
--- ---- sets and the lists of their numbers
+-- ---- the set of a list of numbers, and the list of the numbers of a set
 
 pub set_of-less : (limit : ℕ) (beads : List ℕ) → FallsBelow limit beads → set_of beads < 2 ^ limit
 unfolding set_of

@@ -1,5 +1,5 @@
--- The partitions made by moves of beads (specs/BeadMoves).
---     strip_lists     the lists of moved beads are those of the partitions made by adding a strip, each once
+-- The partitions that result if beads move up as a horizontal or vertical strip allows (specs/BeadMoves).
+--     strip_lists     the lists of moved beads are the beta lists of the partitions that result from adding a strip, each listed once
 use Rattle.std.proofs.Common.{◌≡◌, ℕ, zero, suc, ◌+◌, ◌-◌, ◌<◌, ◌≤◌, List, [], ◌∷◌, map, length, get_or, refl, sym, ap, ◌∙◌, subst, arith}
 use Rattle.sym_model.specs.Sum.{Among, Once}
 use Rattle.sym_model.specs.Partition.{IsPartition, Holds, part, after, size, rows}
@@ -15,8 +15,9 @@ use Rattle.strip_rules.specs.declared.bead_strips.Strip.{Strip}
 use Rattle.strip_rules.specs.declared.bead_strips.Strip.TheVariants.{Horizontal, Vertical}
 use Rattle.strip_rules.proofs.ShapeLists.{IsAround, rows_around}
 use Rattle.strip_rules.proofs.BeadLists.{barrier, AreMoved, falls_strictly, length-moved, moved_falls}
+use Rattle.strip_rules.proofs.CellMoves.{different}
 
--- ---- the rows of a partition after its beads have moved
+-- ---- the rows of the partition of a list of beads after the beads have moved up
 
 rows_up : (strip : Strip) (limit : ℕ) (beads moved : List ℕ) → AreMoved strip limit beads moved → (i : ℕ) → get_or (less_the_rest beads) i 0 ≤ get_or (less_the_rest moved) i 0
 rows_up strip limit [] [] a i = omega arith
@@ -25,7 +26,7 @@ rows_up strip limit (b ∷ beads) [] a i = absurd a
 rows_up strip limit (b ∷ beads) (c ∷ moved) a zero = let u = a.0.up in let l = length-moved strip (barrier strip b c) beads moved a.1 in omega arith
 rows_up strip limit (b ∷ beads) (c ∷ moved) a (suc i) = rows_up strip (barrier strip b c) beads moved a.1 i
 
--- in a horizontal strip each new row is at most as long as the old row above it
+-- after the moves of a horizontal strip, row i + 1 is at most as long as row i was before
 rows_apart : (limit : ℕ) (beads moved : List ℕ) → AreMoved Horizontal limit beads moved → (i : ℕ) → get_or (less_the_rest moved) (suc i) 0 ≤ get_or (less_the_rest beads) i 0
 rows_apart limit [] [] a i = omega arith
 rows_apart limit [] (c ∷ moved) a i = absurd a
@@ -36,7 +37,7 @@ rows_apart limit (b ∷ e ∷ beads) (c ∷ []) a zero = absurd a.1
 rows_apart limit (b ∷ e ∷ beads) (c ∷ d ∷ moved) a zero = let h = a.1.0.below in let l = length-moved Horizontal e beads moved a.1.1 in omega arith
 rows_apart limit (b ∷ beads) (c ∷ moved) a (suc i) = rows_apart b beads moved a.1 i
 
--- in a vertical strip each row gets at most one cell
+-- after the moves of a vertical strip, each row has at most one cell more than before
 rows_near : (limit : ℕ) (beads moved : List ℕ) → AreMoved Vertical limit beads moved → (i : ℕ) → get_or (less_the_rest moved) i 0 ≤ get_or (less_the_rest beads) i 0 + 1
 rows_near limit [] [] a i = omega arith
 rows_near limit [] (c ∷ moved) a i = absurd a
@@ -44,7 +45,7 @@ rows_near limit (b ∷ beads) [] a i = absurd a
 rows_near limit (b ∷ beads) (c ∷ moved) a zero = let o = a.0.one refl in let l = length-moved Vertical c beads moved a.1 in omega arith
 rows_near limit (b ∷ beads) (c ∷ moved) a (suc i) = rows_near c beads moved a.1 i
 
--- ---- partitions made by adding a strip, and their beads
+-- ---- the beads of the partitions that result from adding a strip
 
 moved_after : (strip : Strip) (f g : ℕ → ℕ) (a k limit : ℕ) → ((i : ℕ) → a < i → i ≤ a + k → (f i ≤ g i) × (strip ≡ Vertical → g i ≤ f i + 1))
     → ((i : ℕ) → a < i → i < a + k → g (i + 1) < barrier strip (f i) (g i)) → g (a + 1) < limit → AreMoved strip limit (map f (after a k)) (map g (after a k))
@@ -57,7 +58,7 @@ moved_after strip f g a (suc (suc k)) limit up below first =
       moved_after strip f g (a + 1) (suc k) (barrier strip (f (a + 1)) (g (a + 1))) (λ i h l. up i (omega arith) (omega arith)) (λ i h l. below i (omega arith) (omega arith)) (below (a + 1) (omega arith) (omega arith)),
     )
 
--- ν is made from the inner partition by adding a strip of k cells
+-- ν results from the partition `inner` by adding a horizontal or vertical strip of k cells, as `strip` says
 abbrev pub AddsStrip : Strip → ℕ → List ℕ → List ℕ → Type 0
 AddsStrip Horizontal = AddsHorizontalStrip
 AddsStrip Vertical = AddsVerticalStrip
@@ -122,23 +123,17 @@ module _ (n k limit : ℕ) (parts : List ℕ) (p : IsPartition parts) (few : row
   around Horizontal ν s = record { partition = s.0; cells = s.1; holds = s.2.holds }
   around Vertical ν s = record { partition = s.0; cells = s.1; holds = s.2.holds }
 
-  -- in a vertical strip each row i of ν has at most one cell more than that of `parts`
+  -- if ν results from `parts` by adding a vertical strip, each row of ν has at most one cell more than the same row of `parts`
   one_more : (strip : Strip) (ν : List ℕ) → AddsStrip strip k parts ν → strip ≡ Vertical → (i : ℕ) → 1 ≤ i → part ν i ≤ part parts i + 1
   one_more Horizontal ν s e i h = absurd (different e)
-    where
-      is_vertical : Strip → Type 0
-      is_vertical Horizontal = ⊥
-      is_vertical Vertical = Unit {0}
-
-      different : Horizontal ≡ Vertical → ⊥
-      different e = subst is_vertical (sym e) tt
   one_more Vertical ν s e i h = vertical_rows ν parts s.2 i h
 
   next_below : (strip : Strip) (ν : List ℕ) → AddsStrip strip k parts ν → (i : ℕ) → 1 ≤ i → i < n → part ν (i + 1) + (n - (i + 1)) < barrier strip (part parts i + (n - i)) (part ν i + (n - i))
   next_below Horizontal ν s i h l = let r = horizontal_rows ν parts s.0.falls p.falls s.2 i h in omega arith
   next_below Vertical ν s i h l = let r = falls_part ν s.0.falls i h in omega arith
 
-  -- the beads of a partition ν made by adding a strip of k cells are moved beads, k places up in all, and ν is their partition
+  -- if ν results from `parts` by adding a strip of k cells, the beta list of ν is that of `parts` with the beads moved up as the strip allows, by k
+  -- places in all
   moved : (strip : Strip) (ν : List ℕ) → AddsStrip strip k parts ν → AreMoved strip limit (beta n parts) (beta n ν) × (size (beta n ν) ≡ size (beta n parts) + k) × (from_beta (beta n ν) ≡ ν)
   moved strip ν s =
       let r = around strip ν s in
@@ -155,8 +150,8 @@ module _ (n k limit : ℕ) (parts : List ℕ) (p : IsPartition parts) (few : row
         from_beta-beta n ν q fit,
       )
 
-  -- if `lists` has each list of beads moved k places up in all once, its partitions are those made by adding a strip of k cells,
-  -- each once
+  -- if `lists` has exactly the lists of beads of `parts` moved up as the strip allows, by k places in all, each once, then their partitions are
+  -- exactly those that result from `parts` by adding a strip of k cells, each once
   pub strip_lists : (strip : Strip) (lists : List (List ℕ)) → Once lists → ((m : List ℕ) → Among m lists → AreMoved strip limit (beta n parts) m × (size m ≡ size (beta n parts) + k))
       → ((m : List ℕ) → AreMoved strip limit (beta n parts) m → size m ≡ size (beta n parts) + k → Among m lists) → ListsEach (AddsStrip strip k parts) (map from_beta lists)
   strip_lists strip lists once tells there = record {

@@ -1,5 +1,5 @@
--- The beta sets made by adding cells, added to a table one after another.
---     gains_next, overflows_next     the sets for one more place
+-- The beta sets that result from adding cells, added to a table one after another.
+--     gains_next, overflows_next     the sets whose first cell is added by the bead at one more place
 --     cells_none, cells_some         the sets if no cell is left to add, and if at least one is
 use Rattle.std.proofs.Common.{◌≡◌, ℕ, zero, suc, ◌+◌, ◌-◌, ◌*◌, ◌^◌, ◌<◌, ◌≤◌, List, [], ◌∷◌, ◌++◌, refl, sym, ap, ◌∙◌, subst, arith, ℤ, pos, flat_map, append_assoc, append-nil, inl}
 use Rattle.std.specs.Prelude.{nat_eq}
@@ -17,11 +17,11 @@ use Rattle.strip_rules.specs.declared.bead_strips.Strip.TheVariants.{Horizontal,
 use Rattle.strip_rules.specs.BeadMoves.{next_bound, next_places, with_cells}
 use Rattle.strip_rules.proofs.CellMoves.{next_tells, place_low, power_within}
 
--- the sets, each with coefficient 1
+-- the list of the sets, each with the coefficient 1
 abbrev pub ones : List ℕ → WholeTermsOf ℕ
 ones sets = each_by (λ (s : ℕ). pos 1) sets
 
--- the sets made by adding `left` cells, the first one by moving the bead at place b
+-- the sets that result from `set` by adding `left` cells, the first one by moving the bead at place b
 abbrev pub from_bead : Strip → ℕ → ℕ → ℕ → List ℕ
 from_bead strip left set b = with_cells strip (left - 1) (next_bound strip b) (set + 2 ^ b)
 
@@ -50,7 +50,8 @@ cells_some strip zero bound set n = absurd (n refl)
 cells_some strip (suc k) bound set n =
     ap (λ j. flat_map (λ b. with_cells strip j (next_bound strip b) (set + 2 ^ b)) (next_places strip bound (numbers set))) (let e : k ≡ suc k - 1 = omega arith in e)
 
--- the step of the loop at place b: `passed` are the places before b, and `others` those after it
+-- the loop of `add_cells` at place b: the sets whose first cell is added at one of the places `passed` have been added to the table, and the places
+-- `others` come after b
 module _ (strip : Strip) (left bound set b : ℕ) (c : ℤ) (passed others : List ℕ) (old cur : WholeTermsOf ℕ) (so_far : Gains old (scaled c (ones (flat_map (from_bead strip left set) passed))) cur) where
   pub gains_next : (new : WholeTermsOf ℕ) → Gains cur (scaled c (ones (from_bead strip left set b))) new → Gains old (scaled c (ones (flat_map (from_bead strip left set) (passed ++ b ∷ [])))) new
   gains_next new more =
@@ -72,9 +73,9 @@ pub gains_all : (strip : Strip) (left bound set : ℕ) (c : ℤ) (passed : List 
 gains_all strip left bound set c passed old new n all =
     subst (λ (l : List ℕ). Gains old (scaled c (ones l)) new) (ap (flat_map (from_bead strip left set)) all ∙ sym (cells_some strip left bound set n))
 
--- ---- the conditions at each call of `add_cells`
+-- ---- at each call of `add_cells`, the numbers are within a machine word
 
--- the next place b of the loop is below 63 - left, and 2^b is at most `set`
+-- if `set` is below 2^(63 - left), the next place b of the loop is below 63 - left, and 2^b is at most `set`
 pub bead_low : (strip : Strip) (bound left set places b : ℕ) (passed : List ℕ) → left ≤ 20 → set < 2 ^ (63 - left) → IsSplit places b (places - 2 ^ b) → passed ++ numbers places ≡ next_places strip bound (numbers set)
     → (b < 63 - left) × (2 ^ b ≤ set)
 bead_low strip bound left set places b passed l h split all =

@@ -1,13 +1,13 @@
--- Moves of beads as products of polynomials (specs/FamilyShapes).
+-- Moves of beads as products of Schur polynomials with h_k and e_k (specs/FamilyShapes).
 --     strips_over, strips_within     the product of the Schur polynomial of one set and h_k or e_k
---     list_times                     the product of a list and a polynomial, from the products of the Schur polynomials of its sets
+--     list_times                     the product of a list and g, from the products of g and the Schur polynomials of the sets of the list
 --     shapes_of_one                  the list of the empty partition, whose polynomial is 1
---     shapes_expansion               the list of partitions is the expansion of f in s
-use Rattle.std.proofs.Common.{◌≡◌, ℕ, zero, suc, true, replicate, ◌+◌, ◌-◌, ◌*◌, ◌^◌, ◌<◌, ◌≤◌, ◌++◌, List, [], ◌∷◌, map, length, take, get_or, refl, sym, ap, ap₂, ◌∙◌, subst, arith, ℤ, pos, ◌+ℤ◌, ◌*ℤ◌, flat_map}
+--     shapes_expansion               if the list is f (`AreShapesOf`), the list of its partitions is the expansion of f in s
+use Rattle.std.proofs.Common.{◌≡◌, ℕ, zero, suc, true, ◌+◌, ◌-◌, ◌*◌, ◌^◌, ◌<◌, ◌≤◌, ◌++◌, List, [], ◌∷◌, map, length, take, get_or, refl, sym, ap, ap₂, ◌∙◌, subst, arith, ℤ, pos, ◌+ℤ◌, ◌*ℤ◌, flat_map}
 use Rattle.std.specs.Prelude.{nat_eq, nat_abs}
 use Rattle.std.proofs.lemmas.Int.{ints}
 use Rattle.sym_model.specs.Sum.{Among, Once}
-use Rattle.sym_model.specs.Partition.{IsPartition, after, part, size}
+use Rattle.sym_model.specs.Partition.{IsPartition, part, size}
 use Rattle.sym_model.specs.Polynomial.{Poly, Same, join, pair, times, one, coefficient}
 use Rattle.sym_model.specs.Schur.{schur}
 use Rattle.sym_model.specs.Bases.{product_over}
@@ -16,7 +16,7 @@ use Rattle.std.proofs.lemmas.Nat.{pow-add}
 use Rattle.sym_model.proofs.PolynomialLaws.{times_assoc, times_comm}
 use Rattle.linear_combinations.proofs.Weighed.{gains_mass}
 use Rattle.sym_model.proofs.Parts.{size-append, get_or-le-size}
-use Rattle.sym_model.specs.BetaList.{beta, from_beta, less_the_rest}
+use Rattle.sym_model.specs.BetaList.{from_beta, less_the_rest}
 use Rattle.sym_model.specs.Expansion.{Basis, Terms, denominators, value_by, IsExpansionOf}
 use Rattle.sym_model.specs.WholeTerms.{WholeTermsOf, combined}
 use Rattle.sym_model.proofs.Sums.{total_ext, total_among, total_map, Among-map, Among_from_map, Once-map}
@@ -24,7 +24,7 @@ use Rattle.sym_model.proofs.Polynomials.{pair_ext, pair_determined, pair_times, 
 use Rattle.sym_model.proofs.WholeTerms.{pair_of_combined}
 use Rattle.sym_model.proofs.SortedParts.{rows_within_size}
 use Rattle.beta_list_laws.specs.StrictFall.{FallsStrictly}
-use Rattle.beta_list_laws.proofs.BetaLists.{beta-from_beta, from_beta_partition, part-from_beta}
+use Rattle.beta_list_laws.proofs.BetaLists.{from_beta_partition, part-from_beta}
 use Rattle.monomial_laws.proofs.DividedTerms.{value-divided}
 use Rattle.product_laws.specs.StripLists.{ListsEach}
 use Rattle.product_laws.proofs.Pieri.{horizontal, vertical}
@@ -35,7 +35,7 @@ use Rattle.linear_combinations.specs.Entries.{IsCombination}
 use Rattle.coeff_rings.specs.Fractions.{whole}
 use Rattle.std.specs.Cmp.{nat_eq_equiv}
 use Rattle.beta_sets.specs.BetaSets.{numbers, places, shape, shapes, same_set, set_of, IsInRows}
-use Rattle.beta_sets.proofs.SetNumbers.{set_of-numbers}
+use Rattle.beta_sets.proofs.SetNumbers.{set_of-numbers, beads_of}
 use Rattle.beta_sets.proofs.GreatestPlaces.{places_strict}
 use Rattle.beta_sets.proofs.ShapeSums.{over-shapes, one_label}
 use Rattle.sparse_polys.specs.Tables.{IsFractionTable}
@@ -49,21 +49,16 @@ use Rattle.strip_rules.proofs.CellMoves.{IsMadeOf, all_inside, among-cells, cell
 use Rattle.strip_rules.proofs.BeadShapes.{AddsStrip, strip_lists}
 use Rattle.strip_rules.proofs.TermProducts.{strips_value}
 use lib.IntN.{+ℤ_idl}
+use Rattle.sym_model.proofs.Contents.{map-zeros}
 
-pub numbers_strict : (set : ℕ) → FallsStrictly (numbers set)
-numbers_strict set = places_strict 64 set
-
--- ---- the Schur polynomial of one set times h_k or e_k
+-- ---- the product of the Schur polynomial of one set and h_k or e_k
 
 pub shape_partition : (set : ℕ) → IsPartition (shape set)
-shape_partition set = from_beta_partition (numbers set) (numbers_strict set)
+shape_partition set = from_beta_partition (numbers set) (places_strict 64 set)
 
-pub beads_of : (n set : ℕ) → length (numbers set) ≡ n → beta n (shape set) ≡ numbers set
-beads_of n set e = ap (λ j. beta j (shape set)) (sym e) ∙ beta-from_beta (numbers set) (numbers_strict set)
-
--- a set of n numbers whose partition has at most d cells is below 2^(n + d)
+-- a beta set of n numbers whose partition has at most d cells is, as a number, below 2^(n + d)
 pub rows_low : (n d set : ℕ) → IsInRows n d set → set < 2 ^ (n + d)
-rows_low n d set r = subst (λ s. s < 2 ^ (n + d)) (set_of-numbers set r.word) (set_of-less (n + d) (numbers set) (by (numbers set) refl (numbers_strict set)))
+rows_low n d set r = subst (λ s. s < 2 ^ (n + d)) (set_of-numbers set r.word) (set_of-less (n + d) (numbers set) (by (numbers set) refl (places_strict 64 set)))
   where
     by : (l : List ℕ) → numbers set ≡ l → FallsStrictly l → FallsBelow (n + d) l
     by [] e f = tt
@@ -153,7 +148,7 @@ module _ (strip : Strip) (k set : ℕ) (low : k ≤ 20) (within : IsInRows 20 (2
       mass_ones [] = refl
       mass_ones (x ∷ xs) = let r = mass_ones xs in omega arith
 
--- ---- a list times a polynomial
+-- ---- the product of a list and a polynomial g, from the products of g and the Schur polynomials of the sets
 
 module _ (g : ℕ → Poly) (f : ℕ → Poly) (image : ℕ → WholeTermsOf ℕ) (list sum : WholeTermsOf ℕ) (gains : Gains [] (replaced image list) sum)
     (here : (n : ℕ) (φ : List ℕ → ℤ) → over (λ s. pair (schur (shape s) n) φ) list ≡ pair (f n) φ)
@@ -175,13 +170,9 @@ module _ (g : ℕ → Poly) (f : ℕ → Poly) (image : ℕ → WholeTermsOf ℕ
 
 -- ---- the list of the empty partition
 
-no_letters : (a n : ℕ) → map {B = ℕ} (λ (k : ℕ). 0) (after a n) ≡ replicate n 0
-no_letters a zero = refl
-no_letters a (suc n) = ap (λ l. 0 ∷ l) (no_letters (a + 1) n)
-
 -- the Schur polynomial of the empty partition is 1
 pub schur-nothing : (n : ℕ) → schur [] n ≡ one n
-schur-nothing n = ap (λ (l : List ℕ). (l, pos 1) ∷ []) (no_letters 0 n)
+schur-nothing n = ap (λ (l : List ℕ). (l, pos 1) ∷ []) (map-zeros 0 n)
 
 in_twenty_rows : (length (numbers (2 ^ 20 - 1)) ≡ 20) × (shape (2 ^ 20 - 1) ≡ [])
 unfolding places
@@ -212,7 +203,7 @@ shapes_of_one set c sum e f is gains = record {
     alone : (x : ℤ) → pos 0 +ℤ (pos 1 *ℤ x +ℤ pos 0) ≡ x
     alone x = omega (arith, ints)
 
--- ---- the list of partitions as an expansion in s
+-- ---- the list of the partitions of the sets as an expansion in s
 
 pub shapes_expansion : (f : ℕ → Poly) (d : ℕ) (list : WholeTermsOf ℕ) (answer : Terms (List ℕ)) → AreShapesOf f d list → IsFractionTable answer → Quotients 1 answer (shapes list)
     → (n : ℕ) → IsExpansionOf Basis.schurs answer n (f n) 1
@@ -235,14 +226,14 @@ shapes_expansion f d list answer are is quotients n =
         ∙ are.value n (at_only α)
         ∙ sym (coefficient_pair (f n) α)
 
--- ---- a list times h_k or e_k
+-- ---- the product of a list and h_k or e_k never overflows
 
 pub strips_mass : (strip : Strip) (k : ℕ) (list : WholeTermsOf ℕ) → k ≤ 20 → HaveLabels (IsInRows 20 (20 - k)) list → mass (replaced (λ set. each_by (λ s. pos 1) (strips strip k set)) list) ≤ mass list * 20 ^ k
 strips_mass strip k list low within =
     mass_replaced (λ set. each_by (λ s. pos 1) (strips strip k set)) (20 ^ k) list (λ t m. strips_few strip k t.0 low (within t m))
 
--- if k ≤ 20, the sets of a list have 20 numbers and at most 20 - k cells, and the absolute values of its coefficients add up to at
--- most 20^(20 - k), adding strips of k cells never overflows
+-- if k ≤ 20, the sets of a list have 20 numbers and partitions of at most 20 - k cells, and the absolute values of its coefficients add up to at most
+-- 20^(20 - k), then adding strips of k cells to the sets never overflows
 pub strips_fit : (strip : Strip) (k : ℕ) (list : WholeTermsOf ℕ) → k ≤ 20 → HaveLabels (IsInRows 20 (20 - k)) list → mass list ≤ 20 ^ (20 - k) → Overflows nat_eq [] (replaced (λ set. each_by (λ s. pos 1) (strips strip k set)) list) → ⊥
 strips_fit strip k list low within few o =
     let l = overflow_mass nat_eq [] (replaced (λ set. each_by (λ s. pos 1) (strips strip k set)) list) o in
@@ -268,12 +259,12 @@ strip_times strip k d f list sum low are within is gains = record {
       omega arith;
 }
 
--- ---- the sets have room for the cells of the next part k
+-- ---- the product over the parts, one part k after another
 
 pub room_left : (d k : ℕ) (list : WholeTermsOf ℕ) → d + k ≤ 20 → HaveLabels (IsInRows 20 d) list → HaveLabels (IsInRows 20 (20 - k)) list
 room_left d k list l w t m = let is = w t m in let c = is.cells in record { word = is.word; rows = is.rows; cells = omega arith }
 
--- the product over `rest`, times the polynomial of k, paired with φ, is the product over `rest` with k at the end, paired with φ
+-- as sums Σ c·φ(α) over the terms c·x^α: the product of P_k and the product of P over `rest` is the product of P over `rest` ++ [k]
 pub product_last : (P : ℕ → ℕ → Poly) (k : ℕ) (rest : List ℕ) (n : ℕ) (φ : List ℕ → ℤ) → pair (times (P k n) (product_over P rest n)) φ ≡ pair (product_over P (rest ++ k ∷ []) n) φ
 product_last P k [] n φ = refl
 product_last P k (a ∷ rest) n φ =

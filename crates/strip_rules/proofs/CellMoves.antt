@@ -1,16 +1,16 @@
--- The beta sets made by adding cells one after another (specs/BeadMoves).
---     cells-tell, among-cells     a set is made by adding k cells if and only if its beads have moved up by k places in all
---     once_cells                  each set is made only once
---     few_cells                   at most 20^k sets are made from a set of 20 numbers
-use Rattle.std.proofs.Common.{◌≡◌, ◌⊎◌, ℕ, zero, suc, ◌+◌, ◌-◌, ◌*◌, ◌/◌, ◌^◌, ◌<◌, ◌≤◌, nat_le, Bool, true, false, ◌||◌, ◌==◌, cond, List, [], ◌∷◌, filter, length, refl, sym, ap, ap₂, ◌∙◌, subst, inl, inr, arith, flat_map, length-append}
+-- The beta sets that result from adding cells one after another (specs/BeadMoves).
+--     cells-tell, among-cells     a set results from adding k cells if and only if its beads have moved up, as the strip allows, by k places in all
+--     once_cells                  the list `with_cells` of the sets that result from adding k cells has no set twice
+--     few_cells                   at most 20^k sets result from a set of 20 numbers
+use Rattle.std.proofs.Common.{◌≡◌, ◌⊎◌, ℕ, zero, suc, ◌+◌, ◌-◌, ◌*◌, ◌^◌, ◌<◌, ◌≤◌, nat_le, Bool, true, false, ◌||◌, ◌==◌, List, [], ◌∷◌, filter, length, refl, sym, ap, ap₂, ◌∙◌, subst, inl, inr, arith, flat_map, length-append}
 use Rattle.std.specs.Prelude.{nat_lt, not}
-use Rattle.std.proofs.Math.Nat.{pow-le-pow_right, mul-div_cancel, mul-le-mul_right}
-use Rattle.std.proofs.lemmas.Bool.{cases_eq, cases_lt, ne_eqb, leb-true, ltb-true, lt-ltb, le-leb}
+use Rattle.std.proofs.Math.Nat.{pow-le-pow_right, mul-le-mul_right}
+use Rattle.std.proofs.lemmas.Bool.{cases_eq, cases_lt, ne_eqb, leb-true, ltb-true, lt-ltb, le-leb, not-true}
 use Rattle.sym_model.specs.Sum.{Among, Once}
 use Rattle.sym_model.specs.Bases.{has}
 use Rattle.sym_model.specs.Partition.{size}
 use Rattle.sym_model.proofs.Sums.{Among-each, Among_from_each, Once-each, Among-select, Among_from_select, Once-select}
-use Rattle.sym_model.proofs.SortedParts.{has_here}
+use Rattle.sym_model.proofs.SortedParts.{not_first}
 use Rattle.beta_sets.specs.BetaSets.{numbers, set_of, free}
 use Rattle.beta_sets.proofs.GreatestPlaces.{places_strict}
 use Rattle.beta_sets.proofs.SetNumbers.{set_of-numbers}
@@ -18,10 +18,15 @@ use Rattle.strip_rules.specs.declared.bead_strips.Strip.{Strip}
 use Rattle.strip_rules.specs.declared.bead_strips.Strip.TheVariants.{Horizontal, Vertical}
 use Rattle.strip_rules.specs.BeadMoves.{first_bound, next_bound, next_places, with_cells}
 use Rattle.strip_rules.proofs.BeadLists.{Steps, barrier, AreMoved, FallsBelow, falls_below, falls_wider, size_moved, none_moved, numbers-set_of}
+use Rattle.sym_model.proofs.Lists.{length-filter-within}
+use Rattle.sym_model.proofs.Numbers.{pow_next}
+use native.Mathlib.Nat.{eq_of_mul-eq-mul_right}
+use Rattle.std.proofs.lemmas.Nat.{pow-add}
+use Rattle.partitions.proofs.Growing.{not_more}
 
--- ---- one bead moves up by one place
+-- ---- lists of beads in which one bead has moved up by one place
 
--- `raised` is the list of beads below `limit` with b replaced by b + 1, which is not in the list
+-- `raised` is the list `beads`, of numbers below `limit`, with b replaced by b + 1, which is below `limit` and not in `beads`
 abbrev pub IsRaised : ℕ → ℕ → List ℕ → List ℕ → Type 0
 IsRaised b limit [] raised = ⊥
 IsRaised b limit (x ∷ beads) [] = ⊥
@@ -68,16 +73,12 @@ raised_sum b limit (x ∷ beads) (y ∷ raised) (inr r) =
     let h = raised_sum b x beads raised r.1 in
     omega arith
 
--- a number that is not in x ∷ beads is not in `beads`
 has_later : (a x : ℕ) (beads : List ℕ) → has a (x ∷ beads) ≡ false → has a beads ≡ false
 has_later a x beads e = by (x == a) e
   where
     by : (t : Bool) → (t || has a beads) ≡ false → has a beads ≡ false
     by true e = cc
     by false e = e
-
-not_first : (a x : ℕ) (beads : List ℕ) → has a (x ∷ beads) ≡ false → x ≡ a → ⊥
-not_first a x beads e i = let t = has_here a x beads i in cc
 
 pub member_below : (limit b : ℕ) (beads : List ℕ) → FallsBelow limit beads → Among b beads → b < limit
 member_below limit b [] f m = absurd m
@@ -119,9 +120,9 @@ next_free b limit (x ∷ beads) (y ∷ raised) f (inr r) =
     let l = (moves_there b x beads raised f.1 r.1).1 in
     ap (λ t. t || has (b + 1) beads) (ne_eqb x (b + 1) (λ i. omega (arith, i, l))) ∙ next_free b x beads raised f.1 r.1
 
--- ---- moves of the beads that are not outside the bound
+-- ---- moves in which each bead outside the bound stays at its place
 
--- the bead b is outside the bound of the next move of a strip
+-- the place b is outside the bound for the next bead that moves: below it in a horizontal strip, and not below it in a vertical strip
 abbrev pub IsOutside : Strip → ℕ → ℕ → Type 0
 IsOutside Horizontal bound b = b < bound
 IsOutside Vertical bound b = bound ≤ b
@@ -138,7 +139,8 @@ forget_bound strip bound limit [] (c ∷ moved) a = absurd a
 forget_bound strip bound limit (b ∷ beads) [] a = absurd a
 forget_bound strip bound limit (b ∷ beads) (c ∷ moved) a = (a.0, forget_bound strip bound (barrier strip b c) beads moved a.2)
 
--- the moves of beads below 63 are within the bound of the first move
+-- if all beads are below 63, no bead is outside the bound of the first move, so moved beads (`AreMoved`) are moved within that bound
+-- (`AreMovedWithin`)
 pub all_inside : (strip : Strip) (limit : ℕ) (beads moved : List ℕ) → FallsBelow 63 beads → AreMoved strip limit beads moved → AreMovedWithin strip (first_bound strip) limit beads moved
 all_inside strip limit [] [] f a = tt
 all_inside strip limit [] (c ∷ moved) f a = absurd a
@@ -151,7 +153,8 @@ all_inside strip limit (b ∷ beads) (c ∷ moved) f a =
     inside Horizontal l o = absurd (omega (arith, o))
     inside Vertical l o = absurd (omega (arith, o, l))
 
--- for a vertical strip the bound may be lowered to `other` if all beads are below `other`
+-- in a vertical strip, if beads have moved within a bound (`AreMovedWithin`) and all are below `other`, which is at most the bound, they have moved
+-- within the bound `other`
 lower_bound : (bound other limit : ℕ) (beads moved : List ℕ) → FallsBelow other beads → other ≤ bound → AreMovedWithin Vertical bound limit beads moved → AreMovedWithin Vertical other limit beads moved
 lower_bound bound other limit [] [] f l a = tt
 lower_bound bound other limit [] (c ∷ moved) f l a = absurd a
@@ -166,7 +169,7 @@ higher_bound bound other limit (b ∷ beads) [] f l a = absurd a
 higher_bound bound other limit (b ∷ beads) (c ∷ moved) f l a =
     let h = f.0 in (a.0, λ o. absurd (omega (arith, o, h, l)), higher_bound bound other c beads moved (falls_wider b other beads (omega arith) f.1) l a.2)
 
--- in a horizontal strip, if all beads are below the bound, none of them moves
+-- in a horizontal strip, if all beads are below the bound and have moved within it (`AreMovedWithin`), none of them has moved
 none_below : (bound limit : ℕ) (beads moved : List ℕ) → FallsBelow bound beads → AreMovedWithin Horizontal bound limit beads moved → moved ≡ beads
 none_below bound limit [] [] f a = refl
 none_below bound limit [] (c ∷ moved) f a = absurd a
@@ -186,17 +189,17 @@ stay_within strip bound limit (b ∷ beads) f = (
   stay_within strip bound (barrier strip b b) beads (subst (λ n. FallsBelow n beads) (sym (same_barrier strip b)) f.1),
 )
 
--- ---- adding the first cell, and then the other cells
+-- ---- k moves by one place: the first one, and then the other ones
 
-different : Horizontal ≡ Vertical → ⊥
+pub different : Horizontal ≡ Vertical → ⊥
 different e = subst is_vertical (sym e) tt
   where
     is_vertical : Strip → Type 0
     is_vertical Horizontal = ⊥
     is_vertical Vertical = Unit {0}
 
--- if the bead b, not outside the bound, moves up by one place, and the beads `raised` that result move to `moved` within the next
--- bound, then `beads` move to `moved` within the bound
+-- if the bead at b, not outside the bound, moves up by one place, and the resulting beads `raised` move to `moved` within the bound for the next
+-- bead, then `beads` move to `moved` within the bound (`AreMovedWithin`)
 pub moved_first : (strip : Strip) (bound limit b : ℕ) (beads raised moved : List ℕ) → FallsBelow limit beads → IsRaised b limit beads raised → (IsOutside strip bound b → ⊥)
     → AreMovedWithin strip (next_bound strip b) limit raised moved → AreMovedWithin strip bound limit beads moved
 moved_first strip bound limit b [] raised moved f r i a = absurd r
@@ -249,8 +252,8 @@ moved_first Vertical bound limit b (x ∷ beads) (y ∷ raised) (c ∷ moved) f 
           (moved_first Vertical bound x b beads raised moved f.1 r.1 i (subst (λ n. AreMovedWithin Vertical b n raised moved) here a.2)),
     )
 
--- the bead at `place`, not outside the bound, moves up by one place, and the beads `raised` that result move to `moved` within the
--- next bound
+-- `beads` move to `moved` in this way: the bead at `place`, not outside the bound, moves up by one place, and then the resulting beads `raised` move
+-- to `moved` within the bound for the next bead
 pub record MovesFirst (strip : Strip) (bound limit : ℕ) (beads moved : List ℕ) : Type 0 where
   pub place : ℕ
   pub raised : List ℕ
@@ -330,11 +333,7 @@ first_moved Vertical bound limit (x ∷ beads) (c ∷ moved) f a l = by (cases_l
           );
         }
 
--- ---- the beads of a set that may move next
-
-pub not_true : (t : Bool) → not t ≡ true → t ≡ false
-not_true true e = cc
-not_true false e = refl
+-- ---- the beads that may move up next (`next_places`)
 
 abbrev bound_test : Strip → ℕ → ℕ → Bool
 bound_test Horizontal bound b = nat_le bound b
@@ -364,46 +363,26 @@ pub next_tells : (strip : Strip) (bound b : ℕ) (beads : List ℕ) → Among b 
 next_tells strip bound b beads m =
     let s = Among_from_select (bound_test strip bound) b (free 1 beads) (subst (Among b) (next_are strip bound beads) m) in
     let f = Among_from_select (λ x. not (has (x + 1) beads)) b beads s.0 in
-    (f.0, not_true (has (b + 1) beads) f.1, test_tells strip bound b s.1)
+    (f.0, not-true (has (b + 1) beads) f.1, test_tells strip bound b s.1)
 
 next_from : (strip : Strip) (bound b : ℕ) (beads : List ℕ) → Among b beads → has (b + 1) beads ≡ false → (IsOutside strip bound b → ⊥) → Among b (next_places strip bound beads)
 next_from strip bound b beads m e i =
     subst (Among b) (sym (next_are strip bound beads))
     (Among-select (bound_test strip bound) b (free 1 beads) (Among-select (λ x. not (has (x + 1) beads)) b beads m (ap not e)) (test_from strip bound b i))
 
-pub length_select : {A : Type 0} (test : A → Bool) (xs : List A) → length (filter test xs) ≤ length xs
-length_select test [] = omega arith
-length_select {A} test (x ∷ xs) = by (test x) (length_select test xs)
-  where
-    by : (b : Bool) → length (filter test xs) ≤ length xs → length (cond b (x ∷ filter test xs) (filter test xs)) ≤ suc (length xs)
-    by true l = omega arith
-    by false l = omega arith
-
 next_length : (strip : Strip) (bound : ℕ) (beads : List ℕ) → length (next_places strip bound beads) ≤ length beads
 next_length strip bound beads =
     let e = ap length (next_are strip bound beads) in
-    let f = length_select (bound_test strip bound) (free 1 beads) in
-    let g = length_select (λ x. not (has (x + 1) beads)) beads in
+    let f = length-filter-within (bound_test strip bound) (free 1 beads) in
+    let g = length-filter-within (λ x. not (has (x + 1) beads)) beads in
     omega arith
 
--- ---- products and differences of powers of 2
-
-pow_parts : (a b c : ℕ) → c ≡ a + b → 2 ^ a * 2 ^ b ≡ 2 ^ c
-pow_parts zero b c e = let p : 2 ^ c ≡ 2 ^ b = ap (λ n. 2 ^ n) (let s : c ≡ b = omega arith in s) in omega arith
-pow_parts (suc a) b c e =
-    let r = pow_parts a b (c - 1) (omega arith) in
-    let p : 2 ^ c ≡ 2 ^ suc (c - 1) = ap (λ n. 2 ^ n) (let s : c ≡ suc (c - 1) = omega arith in s) in
-    let d : 2 ^ suc (c - 1) ≡ 2 * 2 ^ (c - 1) = omega arith in
-    let q : 2 ^ suc a ≡ 2 * 2 ^ a = omega arith in
-    ap (λ x. x * 2 ^ b) q ∙ doubled (2 ^ a) (2 ^ b) ∙ ap (λ x. 2 * x) r ∙ (let g : 2 * 2 ^ (c - 1) ≡ 2 ^ c = omega arith in g)
-  where
-    doubled : (x y : ℕ) → (2 * x) * y ≡ 2 * (x * y)
-    doubled x y = omega arith
+-- ---- sums with products of powers of 2
 
 gathered : (set n x y z : ℕ) → set + x * z + n * (y * z) ≡ set + (x + n * y) * z
 gathered set n x y z = omega arith
 
--- ---- sets below a power of 2, and one cell added to them
+-- ---- sets below a power of 2, before and after a bead moves up by one place
 
 pub power_within : (a b : ℕ) → a ≤ b → 2 ^ a ≤ 2 ^ b
 power_within a b l = pow-le-pow_right {n = 2} (omega arith) {i = a} {j = b} l
@@ -436,7 +415,7 @@ wide_falls m set l h = falls_wider m 64 (numbers set) (omega arith) (low_falls m
 in_word : (m set : ℕ) → m ≤ 63 → set < 2 ^ m → set < 2 ^ 64
 in_word m set l h = let p = power_within m 64 (omega arith) in omega arith
 
--- a bead b of a set below 2^m, moved up by one place
+-- the bead at b of a set below 2^m, one that may move up next (`next_places`)
 module _ (strip : Strip) (bound m set b : ℕ) (l : m < 63) (h : set < 2 ^ m) where
   can_raise : Among b (next_places strip bound (numbers set)) → (raised : List ℕ) × IsRaised b 64 (numbers set) raised
   can_raise i =
@@ -458,7 +437,7 @@ module _ (strip : Strip) (bound m set b : ℕ) (l : m < 63) (h : set < 2 ^ m) wh
       let d : 2 ^ suc m ≡ 2 * 2 ^ m = omega arith in
       omega arith
 
--- ---- the sets made by adding k cells
+-- ---- the sets that result from adding k cells: their beads have moved up by k places in all
 
 pub record IsMadeOf (strip : Strip) (bound k set new : ℕ) : Type 0 where
   pub word : new < 2 ^ 64
@@ -501,7 +480,7 @@ among-cells strip (suc k) bound m set moved l h a e =
     (among-cells strip k (next_bound strip b) (m + 1) (set + 2 ^ b) moved (omega arith) (raised_low strip bound m set b (omega arith) h there)
     (subst (λ l. AreMovedWithin strip (next_bound strip b) 64 l moved) (sym n) r.then) (omega arith))
 
--- ---- each set is made in only one way
+-- ---- the list `with_cells` of the sets that result from adding k cells has no set twice
 
 pub once_falls : (limit : ℕ) (beads : List ℕ) → FallsBelow limit beads → Once beads
 once_falls limit [] f = tt
@@ -512,8 +491,7 @@ once_next strip bound beads o =
     subst (λ (l : List ℕ). Once l) (sym (next_are strip bound beads))
     (Once-select (bound_test strip bound) (free 1 beads) (Once-select (λ x. not (has (x + 1) beads)) beads o))
 
--- in a horizontal strip, a set that is made from `set` by adding k cells, by beads at places of at least `bound`, is `set` plus a
--- multiple of 2^bound
+-- in a horizontal strip, each set that results from `set` by adding k cells, from places of at least `bound` on, is `set` plus a multiple of 2^bound
 multiple : (k bound set new : ℕ) → Among new (with_cells Horizontal k bound set) → (n : ℕ) × (new ≡ set + n * 2 ^ bound)
 multiple zero bound set new (inl e) = (0, omega arith)
 multiple zero bound set new (inr i) = absurd i
@@ -522,20 +500,16 @@ multiple (suc k) bound set new i =
     let b = f.0 in
     let t = next_tells Horizontal bound b (numbers set) f.1 in
     let r = multiple k (b + 1) (set + 2 ^ b) new f.2 in
-    by b r.0 r.1 (inside (cases_lt b bound) t.2)
+    by b r.0 r.1 (not_more bound b t.2)
   where
-    inside : {b : ℕ} → (b < bound) ⊎ (bound ≤ b) → (b < bound → ⊥) → bound ≤ b
-    inside (inl l) n = absurd (n l)
-    inside (inr l) n = l
-
     by : (b n : ℕ) → new ≡ set + 2 ^ b + n * 2 ^ (b + 1) → bound ≤ b → (n : ℕ) × (new ≡ set + n * 2 ^ bound)
     by b n e l =
-        let p : 2 ^ b ≡ 2 ^ (b - bound) * 2 ^ bound = sym (pow_parts (b - bound) bound b (omega arith)) in
-        let q : 2 ^ (b + 1) ≡ 2 ^ (b + 1 - bound) * 2 ^ bound = sym (pow_parts (b + 1 - bound) bound (b + 1) (omega arith)) in
+        let p : 2 ^ b ≡ 2 ^ (b - bound) * 2 ^ bound = sym ((sym (pow-add 2 (b - bound) bound) ∙ ap (λ n. 2 ^ n) (sym (omega arith)))) in
+        let q : 2 ^ (b + 1) ≡ 2 ^ (b + 1 - bound) * 2 ^ bound = sym ((sym (pow-add 2 (b + 1 - bound) bound) ∙ ap (λ n. 2 ^ n) (sym (omega arith)))) in
         (2 ^ (b - bound) + n * 2 ^ (b + 1 - bound), e ∙ ap₂ (λ x y. set + x + n * y) p q ∙ gathered set n (2 ^ (b - bound)) (2 ^ (b + 1 - bound)) (2 ^ bound))
 
--- in a vertical strip, a set that is made from `set` by adding k cells, by beads at places below `bound`, is at least `set` and
--- exceeds it by less than 2^bound
+-- in a vertical strip, each set that results from `set` by adding k cells, by beads at places below `bound`, is at least `set` and less than `set` +
+-- 2^bound
 less_more : (k bound set new : ℕ) → Among new (with_cells Vertical k bound set) → (set ≤ new) × (new < set + 2 ^ bound)
 less_more zero bound set new (inl e) = let p = power_within 0 bound (omega arith) in (omega arith, omega arith)
 less_more zero bound set new (inr i) = absurd i
@@ -552,25 +526,18 @@ less_more (suc k) bound set new i =
     by b u v (inl l) n = let p = power_within (suc b) bound l in let d : 2 ^ suc b ≡ 2 * 2 ^ b = omega arith in (omega arith, omega arith)
     by b u v (inr l) n = absurd (n l)
 
-cancel : (a b x : ℕ) → 0 < x → a * x ≡ b * x → a ≡ b
-cancel a b x p e = sym (mul-div_cancel a p) ∙ ap (λ y. y / x) e ∙ mul-div_cancel b p
-
 -- if b < d, no odd multiple of 2^b is an odd multiple of 2^d
 odd_multiple : (b d m n : ℕ) → b < d → 2 ^ b + m * 2 ^ (b + 1) ≡ 2 ^ d + n * 2 ^ (d + 1) → ⊥
 odd_multiple b d m n l e =
     let q = 2 ^ (d - b - 1) in
-    let s : 2 ^ (b + 1) ≡ 2 * 2 ^ b = power_next b in
-    let t : 2 ^ d ≡ (2 * q) * 2 ^ b = sym (pow_parts (d - b) b d (omega arith)) ∙ ap (λ x. x * 2 ^ b) (power_at (d - b) (d - b - 1) (omega arith)) in
-    let u : 2 ^ (d + 1) ≡ 2 * 2 ^ d = power_next d in
+    let s : 2 ^ (b + 1) ≡ 2 * 2 ^ b = pow_next b in
+    let t : 2 ^ d ≡ (2 * q) * 2 ^ b = sym ((sym (pow-add 2 (d - b) b) ∙ ap (λ n. 2 ^ n) (sym (omega arith)))) ∙ ap (λ x. x * 2 ^ b) (power_at (d - b) (d - b - 1) (omega arith)) in
+    let u : 2 ^ (d + 1) ≡ 2 * 2 ^ d = pow_next d in
     let p = power_within 0 b (omega arith) in
-    by q (cancel (1 + 2 * m) (2 * q + 4 * (q * n)) (2 ^ b) (omega arith)
-    (left (2 ^ b) ∙ ap (λ x. 2 ^ b + m * x) (sym s) ∙ e ∙ ap₂ (λ x y. x + n * y) t (u ∙ ap (λ x. 2 * x) t) ∙ right q (2 ^ b)))
+    by q (eq_of_mul-eq-mul_right (2 ^ b) (omega arith) (1 + 2 * m) (2 * q + 4 * (q * n)) (left (2 ^ b) ∙ ap (λ x. 2 ^ b + m * x) (sym s) ∙ e ∙ ap₂ (λ x y. x + n * y) t (u ∙ ap (λ x. 2 * x) t) ∙ right q (2 ^ b)))
   where
     power_at : (a c : ℕ) → a ≡ suc c → 2 ^ a ≡ 2 * 2 ^ c
     power_at a c e = ap (λ n. 2 ^ n) e ∙ (let d : 2 ^ suc c ≡ 2 * 2 ^ c = omega arith in d)
-
-    power_next : (a : ℕ) → 2 ^ (a + 1) ≡ 2 * 2 ^ a
-    power_next a = power_at (a + 1) a (omega arith)
 
     left : (x : ℕ) → (1 + 2 * m) * x ≡ x + m * (2 * x)
     left x = omega arith
@@ -609,7 +576,7 @@ once_cells strip (suc k) bound m set l h =
     by b d new x y (inr g) (inl o) = absurd (apart_low strip k set new d b o y x)
     by b d new x y (inr g) (inr o) = omega arith
 
--- ---- adding k cells to a set of 20 numbers gives at most 20^k sets
+-- ---- at most 20^k sets result from adding k cells to a set of 20 numbers
 
 length_each : {A B : Type 0} (f : A → List B) (c : ℕ) (xs : List A) → ((x : A) → Among x xs → length (f x) ≤ c) → length (flat_map f xs) ≤ length xs * c
 length_each f c [] h = omega arith

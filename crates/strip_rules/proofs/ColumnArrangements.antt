@@ -1,41 +1,37 @@
--- The coefficients of m_μ·e_k, row by row.
---     column-raised     the coefficient after a row of length c in μ and c + 1 in ν
---     column-kept       the coefficient after a row of length c in both
+-- The coefficient of m_ν in m_μ·e_k: how it changes if a last row is added to μ and to ν.
+--     column-raised     the coefficient after a last row is added, of length c in μ and c + 1 in ν
+--     column-kept       the coefficient after a last row of length c is added to both μ and ν
 --     column-strips     the coefficient is 0 unless ν/μ is a vertical strip
 use Rattle.std.proofs.Common.{◌≡◌, ◌⊎◌, ℕ, zero, suc, ◌+◌, ◌-◌, ◌*◌, ◌<◌, ◌≤◌, Bool, true, false, ◌&&◌, ◌||◌, cond, ◌==◌, eqb, leb, List, [], ◌∷◌, ◌++◌, length, sym, ◌∙◌, ap, ap₂, refl, inl, inr, arith, ℤ, pos, ◌+ℤ◌, ◌*ℤ◌}
 use Rattle.std.proofs.lemmas.Bool.{cases_eq, cases_lt, le-leb, lt-leb, eq-eqb, ne_eqb, and_parts}
 use Rattle.std.proofs.lemmas.Int.{ints}
 use Rattle.sym_model.specs.Sum.{total, Among}
 use Rattle.sym_model.specs.Polynomial.{same, pair}
-use Rattle.sym_model.specs.Partition.{IsPartition, Falls, ArePositive, size, insert_part, sorted_parts}
+use Rattle.sym_model.specs.Partition.{IsPartition, size, insert_part, sorted_parts}
 use Rattle.sym_model.specs.Bases.{has}
 use Rattle.sym_model.specs.RaisedPart.{without_one, distinct}
 use Rattle.sym_model.specs.Schur.{times_in}
 use Rattle.sym_model.specs.Strip.{IsVerticalStrip}
 use Rattle.sym_model.specs.Conjugate.{count_from}
 use Rattle.sym_model.specs.WholeTerms.{WholeTerms}
-use Rattle.sym_model.proofs.Ring.{one-product}
-use Rattle.sym_model.proofs.Parts.{size-ones}
+use Rattle.sym_model.proofs.Parts.{size-ones, ArePositive-ones}
 use Rattle.sym_model.proofs.Sums.{total_ext, total_among, total_none, total_scale, length-select}
 use Rattle.sym_model.proofs.Exponents.{same_true, same_apart}
 use Rattle.sym_model.proofs.Polynomials.{pair_ext}
-use Rattle.sym_model.proofs.SortedParts.{insert_part_comm, without_one-insert_part, without_one-zero, times_in-sorted_parts, has-insert_part, has-zero, has_past, has-zero_or, size-sorted_parts, IsPartition-insert_part, rows-sorted_parts, sorted_parts-partition, insert_part-injective}
+use Rattle.sym_model.proofs.SortedParts.{insert_part_comm, without_one-insert_part, without_one-zero, times_in-sorted_parts, has-insert_part, has-zero, has_past, has-zero_or, size-sorted_parts, IsPartition-insert_part, rows-sorted_parts, sorted_parts-partition, insert_part-injective, length-insert_part}
 use Rattle.monomial_laws.specs.MonomialProduct.{splits, arrangements, product_coefficient}
 use Rattle.monomial_laws.proofs.Splits.{length-splits, product_coefficient-arrangements, product_coefficient-sorted, sorted_total}
 use Rattle.monomial_laws.proofs.Arrangements.{arrangements-cons, arrangements-comm, sizes-splits}
 use Rattle.strip_rules.specs.StripProduct.{column}
 use Rattle.strip_rules.proofs.MarkedPlaces.{IsTaken, marked_taken, marked-equal, marking}
 use Rattle.strip_rules.proofs.SplitCounts.{some_split, counts-splits, counts-near, count_from-sorted_parts, vertical_from_counts}
-use Rattle.strip_rules.proofs.Placings.{is_label-insert_part}
 use lib.IntN.{+ℤ_idr, *ℤ-zero}
+use Rattle.sym_model.proofs.Integers.{pos_equal, single_term}
+use Rattle.std.proofs.Math.Nat.{mul_comm}
+use Rattle.monomial_laws.proofs.AtomTerms.{Falls-ones}
+use Rattle.partitions.proofs.Arrangings.{same-insert_part}
 
-as_number : {a b : ℕ} → pos a ≡ pos b → a ≡ b
-as_number {a} {b} e = omega (arith, ints)
-
--- ---- products of one-term lists
-
-one : (z : ℤ) → pos 1 *ℤ z +ℤ pos 0 ≡ z
-one z = +ℤ_idr (pos 1 *ℤ z) ∙ one-product z
+-- ---- products with lists of one term
 
 pub column-lists : (k : ℕ) (left : WholeTerms) (ν : List ℕ)
     → product_coefficient left ((column k, pos 1) ∷ []) ν
@@ -43,12 +39,12 @@ pub column-lists : (k : ℕ) (left : WholeTerms) (ν : List ℕ)
 column-lists k left ν =
     product_coefficient-arrangements left ((column k, pos 1) ∷ []) ν
     ∙ pair_ext left (λ μ. pair ((column k, pos 1) ∷ []) (λ r. pos (arrangements μ r ν)))
-    (λ μ. pos (arrangements μ (column k) ν)) (λ μ. one (pos (arrangements μ (column k) ν)))
+    (λ μ. pos (arrangements μ (column k) ν)) (λ μ. single_term (pos (arrangements μ (column k) ν)))
 
 -- if ν and ρ sort to the same parts, `arrangements l r` has the same value at ν and at ρ
 pub arrangements-sorted : (l r ν ρ : List ℕ) → sorted_parts ν ≡ sorted_parts ρ → arrangements l r ν
     ≡ arrangements l r ρ
-arrangements-sorted l r ν ρ e = as_number
+arrangements-sorted l r ν ρ e = pos_equal
     (sym (alone ν) ∙ sym (product_coefficient-sorted L R ν) ∙ ap (product_coefficient L R) e
     ∙ product_coefficient-sorted L R ρ ∙ alone ρ)
   where
@@ -60,7 +56,7 @@ arrangements-sorted l r ν ρ e = as_number
 
     alone : (γ : List ℕ) → product_coefficient L R γ ≡ pos (arrangements l r γ)
     alone γ = product_coefficient-arrangements L R γ
-        ∙ one (pos 1 *ℤ pos (arrangements l r γ) +ℤ pos 0) ∙ one (pos (arrangements l r γ))
+        ∙ single_term (pos 1 *ℤ pos (arrangements l r γ) +ℤ pos 0) ∙ single_term (pos (arrangements l r γ))
 
 pub sorted_parts-last : (c : ℕ) (α : List ℕ) → sorted_parts (α ++ c ∷ [])
     ≡ insert_part c (sorted_parts α)
@@ -68,23 +64,14 @@ sorted_parts-last c [] = refl
 sorted_parts-last c (a ∷ α) = ap (insert_part a) (sorted_parts-last c α)
     ∙ insert_part_comm a c (sorted_parts α)
 
--- ---- the label (1^k)
+-- ---- the partition (1^k)
 
 column-first : (k : ℕ) → insert_part 1 (column k) ≡ column (suc k)
 column-first zero = refl
 column-first (suc k) = refl
 
-column-positive : (k : ℕ) → ArePositive (column k)
-column-positive zero = tt
-column-positive (suc k) = (omega arith, column-positive k)
-
-column-falls : (k : ℕ) → Falls (column k)
-column-falls zero = tt
-column-falls (suc zero) = tt
-column-falls (suc (suc k)) = (omega arith, column-falls (suc k))
-
 column-partition : (k : ℕ) → IsPartition (column k)
-column-partition k = record { falls = column-falls k; positive = column-positive k }
+column-partition k = record { falls = Falls-ones k; positive = ArePositive-ones k }
 
 column-lacks : (a k : ℕ) → 1 < a → has a (column k) ≡ false
 column-lacks a zero h = refl
@@ -95,18 +82,7 @@ column-few zero = refl
 column-few (suc k) = omega
     (arith, column-few k, ap (λ (b : Bool). cond {A = ℕ} b 1 0) (lt-leb 2 1 (omega arith)))
 
--- ---- zeros among the numbers of a list
-
-length-insert_part : (a : ℕ) (parts : List ℕ) → length (insert_part (suc a) parts)
-    ≡ suc (length parts)
-length-insert_part a [] = refl
-length-insert_part a (c ∷ parts) = by (leb c (suc a)) (length-insert_part a parts)
-  where
-    by : (b : Bool) → length (insert_part (suc a) parts) ≡ suc (length parts)
-        → length (cond b (suc a ∷ c ∷ parts) (c ∷ insert_part (suc a) parts))
-        ≡ suc (suc (length parts))
-    by true e = refl
-    by false e = ap suc e
+-- ---- the number of zeros of a list, and the multiplicities of its numbers
 
 zeros-sorted : (α : List ℕ) → times_in 0 α + length (sorted_parts α) ≡ length α
 zeros-sorted [] = omega arith
@@ -119,7 +95,7 @@ zeros-sorted (suc a ∷ α) = omega (
       (λ (b : Bool). cond {A = ℕ} b 1 0) (ne_eqb (suc a) 0 (λ e. omega arith)),
 )
 
--- if α and β have one length and sort to the same parts, each number has the same multiplicity in both
+-- if α and β have the same length and sort to the same parts, each number occurs as often in α as in β
 times_in-sorted : (c : ℕ) (α β : List ℕ) → length α ≡ length β → sorted_parts α ≡ sorted_parts β
     → times_in c α ≡ times_in c β
 times_in-sorted zero α β l e = omega (arith, l, zeros-sorted α, zeros-sorted β, ap length e)
@@ -127,7 +103,7 @@ times_in-sorted (suc c) α β l e =
     sym (times_in-sorted_parts (suc c) α (omega arith)) ∙ ap (times_in (suc c)) e
     ∙ times_in-sorted_parts (suc c) β (omega arith)
 
--- ---- a row of length c in μ and c + 1 in ν
+-- ---- the change of the coefficient of m_ν in m_μ·e_k by one more row, of length c in μ and of length c + 1 in ν
 
 -- 1 if x is the label l and y is the label r, else 0
 abbrev are_labels : List ℕ → List ℕ → List ℕ → List ℕ → ℤ
@@ -138,10 +114,15 @@ arrangements-total : (l r ν : List ℕ) → pos (arrangements l r ν)
 arrangements-total l r ν = length-select
     (λ (s : List ℕ × List ℕ). same (sorted_parts s.0) l && same (sorted_parts s.1) r) (splits ν)
 
+second_unequal : (p q : Bool) → q ≡ false → cond (p && q) (pos 1) (pos 0) ≡ pos 0
+second_unequal true q e = ap (λ (b : Bool). cond b (pos 1) (pos 0)) e
+second_unequal false q e = refl
+
 module _ (c k : ℕ) (α ν : List ℕ) (long : length α ≡ length ν)
     (above : (d : ℕ) → Among d ν → c < d) where
-  -- the number of times that c occurs in the first part of a split, summed over the splits that `arrangements` counts, is
-  -- the number of these splits times 1 + the multiplicity of c in α
+  -- a split of (c + 1) ∷ ν is a pair of lists that add up to it, place by place; of these, take those whose first list sorts to c and the parts of α,
+  -- and whose second list sorts to (1^(k + 1)): the number of times that c occurs in the first list, summed over these splits, is the number of these
+  -- splits times 1 more than the multiplicity of c in α
   left : total (λ (s : List ℕ × List ℕ). pos (times_in c s.0) *ℤ are_labels
       (insert_part c (sorted_parts α)) (column (suc k)) (sorted_parts s.0) (sorted_parts s.1))
       (splits (suc c ∷ ν))
@@ -210,9 +191,9 @@ module _ (c k : ℕ) (α ν : List ℕ) (long : length α ≡ length ν)
           (sorted_parts s.1))
           (λ s.
           ap₂ (λ (p q : Bool). cond (p && q) (pos 1) (pos 0))
-          (is_label-insert_part c (sorted_parts α) (sorted_parts s.0))
+          (same-insert_part c (sorted_parts s.0) (sorted_parts α))
           (ap (same (insert_part 1 (sorted_parts s.1))) (sym (column-first k))
-          ∙ is_label-insert_part 1 (column k) (sorted_parts s.1)))
+          ∙ same-insert_part 1 (sorted_parts s.1) (column k)))
           (splits rest)
           ∙ sym (arrangements-total (sorted_parts α) (column k) rest)
           ∙ ap pos
@@ -230,7 +211,7 @@ module _ (c k : ℕ) (α ν : List ℕ) (long : length α ≡ length ν)
           (λ (s : List ℕ × List ℕ). are_labels (insert_part c (sorted_parts α)) (column (suc k))
           (insert_part c (sorted_parts s.0)) (insert_part (d - c) (sorted_parts s.1)))
           (splits rest)
-          (λ s m. none (same (insert_part c (sorted_parts s.0)) (insert_part c (sorted_parts α)))
+          (λ s m. second_unequal (same (insert_part c (sorted_parts s.0)) (insert_part c (sorted_parts α)))
           (same (insert_part (d - c) (sorted_parts s.1)) (column (suc k)))
           (same_apart (insert_part (d - c) (sorted_parts s.1)) (column (suc k))
           (λ e.
@@ -242,15 +223,11 @@ module _ (c k : ℕ) (α ν : List ℕ) (long : length α ≡ length ν)
           absurd (cc))))
           ∙ ap (λ (b : Bool). cond b (pos (arrangements (sorted_parts α) (column k) ν)) (pos 0))
           (sym (ne_eqb d (suc c) n))
-        where
-          none : (p q : Bool) → q ≡ false → cond (p && q) (pos 1) (pos 0) ≡ pos 0
-          none true q e = ap (λ (b : Bool). cond b (pos 1) (pos 0)) e
-          none false q e = refl
 
   raised-front : suc (times_in c α) * arrangements (insert_part c (sorted_parts α)) (column (suc k))
       (suc c ∷ ν) ≡ suc (times_in (suc c) ν) * arrangements (sorted_parts α) (column k) ν
   raised-front =
-      as_number
+      pos_equal
       (sym left
       ∙ marking (suc c ∷ ν) c
       (λ x y. are_labels (insert_part c (sorted_parts α)) (column (suc k)) x y)
@@ -275,30 +252,22 @@ module _ (c k : ℕ) (α ν : List ℕ) (long : length α ≡ length ν)
       (ap (λ l. arrangements l (column (suc k)) (ν ++ suc c ∷ [])) (sorted_parts-last c α)
       ∙ arrangements-sorted (insert_part c (sorted_parts α)) (column (suc k)) (ν ++ suc c ∷ [])
       (suc c ∷ ν) (sorted_parts-last (suc c) ν))
-      ∙ swap (arrangements (insert_part c (sorted_parts α)) (column (suc k)) (suc c ∷ ν))
-      (suc (times_in c α))
+      ∙ mul_comm (arrangements (insert_part c (sorted_parts α)) (column (suc k)) (suc c ∷ ν)) (suc (times_in c α))
       ∙ raised-front
-      ∙ swap (suc (times_in (suc c) ν)) (arrangements (sorted_parts α) (column k) ν)
-    where
-      swap : (a b : ℕ) → a * b ≡ b * a
-      swap a b = omega arith
+      ∙ mul_comm (suc (times_in (suc c) ν)) (arrangements (sorted_parts α) (column k) ν)
 
--- ---- a row of length c in both μ and ν
+-- ---- the coefficient of m_ν in m_μ·e_k with one more row of length c in both μ and ν, and labels with too many parts
 
 pub arrangements-long : (l r ν : List ℕ) → length ν < length r → arrangements l r ν ≡ 0
 arrangements-long l r ν h =
-    as_number
+    pos_equal
     (arrangements-total l r ν
     ∙ total_none (λ (s : List ℕ × List ℕ). are_labels l r (sorted_parts s.0) (sorted_parts s.1))
     (splits ν)
     (λ s m.
-    none (same (sorted_parts s.0) l) (same (sorted_parts s.1) r)
+    second_unequal (same (sorted_parts s.0) l) (same (sorted_parts s.1) r)
     (same_apart (sorted_parts s.1) r
     (λ e. absurd (omega (arith, h, ap length e, rows-sorted_parts s.1, (length-splits ν s m).1))))))
-  where
-    none : (p q : Bool) → q ≡ false → cond (p && q) (pos 1) (pos 0) ≡ pos 0
-    none true q e = ap (λ (b : Bool). cond b (pos 1) (pos 0)) e
-    none false q e = refl
 
 total-column : (f : ℕ → ℤ) (k : ℕ) → f 1 ≡ pos 0 → total f (distinct (column k)) ≡ pos 0
 total-column f zero e = refl
@@ -330,12 +299,12 @@ kept-front : (c k : ℕ) (μ ν : List ℕ) → 0 < c → IsPartition μ → len
 kept-front zero k μ ν h p long above = absurd (omega arith)
 kept-front (suc c) k μ ν h p long above =
     arrangements-comm (insert_part (suc c) μ) (column k) (suc c ∷ ν)
-    ∙ as_number
+    ∙ pos_equal
     (arrangements-cons (suc c) ν (column k) (insert_part (suc c) μ) (column-partition k)
     (IsPartition-insert_part (suc c) μ p)
     ∙ ap (total f)
     (ap (λ (b : Bool). cond b (distinct (column k)) (0 ∷ distinct (column k)))
-    (has-zero (column k) (column-positive k)))
+    (has-zero (column k) (ArePositive-ones k)))
     ∙ ap₂ ◌+ℤ◌ first (total-column f k (second c refl))
     ∙ +ℤ_idr (pos (arrangements (column k) μ ν)))
     ∙ arrangements-comm (column k) μ ν
@@ -357,7 +326,7 @@ kept-front (suc c) k μ ν h p long above =
         (without_one (suc c) (insert_part (suc c) μ)) ν)) (pos 0))
         (has-zero_or (suc c) (insert_part (suc c) μ)
         (inr (has-insert_part (suc c) μ (omega arith))))
-        ∙ ap₂ (λ l r. pos (arrangements l r ν)) (without_one-zero (column k) (column-positive k))
+        ∙ ap₂ (λ l r. pos (arrangements l r ν)) (without_one-zero (column k) (ArePositive-ones k))
         (without_one-insert_part (suc c) μ (omega arith))
 
     second : (d : ℕ) → c ≡ d → f 1 ≡ pos 0
@@ -389,7 +358,7 @@ column-kept c k μ ν h p long above =
     ∙ arrangements-sorted (insert_part c μ) (column k) (ν ++ c ∷ []) (c ∷ ν) (sorted_parts-last c ν)
     ∙ kept-front c k μ ν h p long above
 
--- ---- shapes that are not vertical strips
+-- ---- the coefficient of m_ν in m_μ·e_k is 0 unless ν/μ is a vertical strip
 
 among-count : (k a : ℕ) (numbers : List ℕ) → k ≤ a → Among a numbers → 0 < count_from k numbers
 among-count k a [] h m = absurd m

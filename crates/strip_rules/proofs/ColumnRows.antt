@@ -1,7 +1,7 @@
 -- The coefficient of m_ν in m_μ·e_k for a vertical strip ν/μ, computed row by row.
---     `rises`     the coefficient does not decrease from row to row
---     `at_end`    after the last row it is the coefficient of m_ν in m_μ·e_k
---     fraction, row_.., next_..   the change by one row
+--     `rises`     if i ≤ n, the coefficient for the first i rows is at most that for the first n rows
+--     `at_end`    the coefficient for all rows is that of m_ν in m_μ·e_k
+--     fraction, row_.., next_..   how the coefficient changes if one more row is counted
 use Rattle.std.proofs.Common.{◌≡◌, ◌⊎◌, ℕ, zero, suc, ◌+◌, ◌-◌, ◌*◌, ◌<◌, ◌≤◌, List, [], ◌∷◌, ◌++◌, length, get_or, refl, sym, ap, ap₂, ◌∙◌, inl, inr, arith}
 use Rattle.std.proofs.lemmas.Bool.{cases_lt, cases_eq}
 use Rattle.sym_model.specs.Sum.{Among}
@@ -20,14 +20,14 @@ use Rattle.monomial_laws.specs.MonomialProduct.{arrangements}
 use Rattle.strip_rules.specs.StripProduct.{column}
 use Rattle.strip_rules.proofs.ColumnArrangements.{column-kept, column-raised}
 
--- the coefficient for the first i rows: of m_ν' in m_μ'·e_j, μ' and ν' being the first i rows of μ and ν, and j the number of cells between them
+-- the coefficient for the first i rows: that of m_ν' in m_μ'·e_j, with μ' and ν' the first i rows of μ and ν, and j the number of cells of ν'/μ'
 abbrev pub so_far : List ℕ → List ℕ → ℕ → ℕ
 so_far μ ν i =
     arrangements (sorted_parts (resize i μ)) (column (size (resize i ν) - size (resize i μ)))
     (resize i ν)
 
--- the state before row i + 1: the coefficient for the first i rows, the number `run` of these that are as long as row i + 1 in ν, and `longer` of
--- them that are longer in ν than in μ
+-- the state before row i + 1: `count` is the coefficient for the first i rows, `run` the number of these rows that are as long in ν as row i + 1 of
+-- ν, and `longer` the number of those `run` rows that are longer in ν than in μ
 pub record IsCounted (μ ν : List ℕ) (i count run longer : ℕ) : Type 0 where
   pub count_is : count ≡ so_far μ ν i
   pub run_is : run ≡ times_in (get_or ν i 0) (resize i ν)
@@ -35,8 +35,8 @@ pub record IsCounted (μ ν : List ℕ) (i count run longer : ℕ) : Type 0 wher
   pub few_rows : run ≤ i
   pub few_longer : longer ≤ i
 
--- the state after row i + 1: the coefficient for these rows, the number `run` of them that are as long as row i + 1 in ν,
--- and `longer` of them that are longer in ν than in μ
+-- the state after row i + 1: `count` is the coefficient for the first i + 1 rows, `run` the number of these rows that are as long in ν as row i + 1
+-- of ν, and `longer` the number of those `run` rows that are longer in ν than in μ
 pub record IsRow (μ ν : List ℕ) (i count run longer : ℕ) : Type 0 where
   pub count_is : count ≡ so_far μ ν (suc i)
   pub run_is : run ≡ times_in (get_or ν i 0) (resize (suc i) ν)
@@ -121,8 +121,8 @@ module _ (μ ν : List ℕ) (p : IsPartition μ) (q : IsPartition ν) (s : IsVer
       ∙ column-raised c k (resize i μ) (resize i ν) (both-first i)
       (λ d m. omega (arith, next-resize i ν d q.falls m))
 
-  -- if row i of ν, counted from 0, has length c + 1 and j ≤ i, then among the first j rows, those of μ that have length c
-  -- are at most as many as those of ν that have length c + 1
+  -- if row i of ν, counted from 0, has length c + 1, and j ≤ i: the number of rows of length c among the first j rows of μ is at most the number of
+  -- rows of length c + 1 among the first j rows of ν
   few : (i c j : ℕ) → get_or ν i 0 ≡ suc c → j ≤ i
       → times_in c (resize j μ) ≤ times_in (suc c) (resize j ν)
   few i c zero e h = omega arith
@@ -205,9 +205,9 @@ module _ (μ ν : List ℕ) (p : IsPartition μ) (q : IsPartition ν) (s : IsVer
       ap₂ (λ (l : List ℕ) (j : ℕ). arrangements l (column j) (resize (length ν) ν)) inner left
       ∙ ap (arrangements μ (column k)) outer
 
-  -- ---- the loop over the rows of ν and the coefficient
+  -- ---- the loop over the rows of ν that computes the coefficient
 
-  -- a row that is longer in ν multiplies the coefficient by (run + 1)/(longer + 1)
+  -- if the next row, with index i, is longer in ν than in μ, it multiplies the coefficient by (run + 1)/(longer + 1)
   pub fraction : (i count run longer : ℕ) → IsCounted μ ν i count run longer
       → get_or μ i 0 < get_or ν i 0
       → so_far μ ν (suc i) * (longer + 1) ≡ count * (run + 1)
@@ -263,7 +263,7 @@ module _ (μ ν : List ℕ) (p : IsPartition μ) (q : IsPartition ν) (s : IsVer
         few_longer = omega (arith, h.few_longer);
       }
 
-  -- if the next row of ν is shorter, the counts of rows begin again at 0
+  -- if the next row of ν is shorter than the current one, `run` and `longer` are 0 for the next row
   pub next_shorter : (i count run longer : ℕ) → IsRow μ ν i count run longer
       → get_or ν (suc i) 0 < get_or ν i 0 → IsCounted μ ν (suc i) count 0 0
   next_shorter i count run longer h l = record {
@@ -278,7 +278,7 @@ module _ (μ ν : List ℕ) (p : IsPartition μ) (q : IsPartition ν) (s : IsVer
     few_longer = omega arith;
   }
 
-  -- if the next row of ν is as long as this one, `run` and `longer` also count for the next row
+  -- if the next row of ν is as long as the current one, `run` and `longer` after the current row are those before the next row
   pub next_same : (i count run longer : ℕ) → IsRow μ ν i count run longer
       → get_or ν i 0 ≤ get_or ν (suc i) 0 → IsCounted μ ν (suc i) count run longer
   next_same i count run longer h l =

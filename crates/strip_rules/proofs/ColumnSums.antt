@@ -1,7 +1,7 @@
--- The product with e_k in m as a sum over vertical strips, for one m_μ and for a list.
---     column_sums                        the sum over all partitions is that over the vertical strips
---     product_value, product_large       the coefficients of a list times e_k, and the case of 2^127 or more
-use Rattle.std.proofs.Common.{◌≡◌, ◌⊎◌, ℕ, ◌+◌, ◌^◌, ◌<◌, ◌≤◌, List, sym, ap, ◌∙◌, subst, inl, inr, arith, ℤ, pos, ◌+ℤ◌, ◌*ℤ◌}
+-- The products of m_μ and e_k, and of a list in m and e_k, as sums over vertical strips.
+--     column_sums                        the sum over all partitions ν is that over the ν for which ν/μ is a vertical strip
+--     product_value, product_large       the coefficients of a list times e_k, and when one of them is 2^127 or more
+use Rattle.std.proofs.Common.{◌≡◌, ◌⊎◌, ℕ, ◌+◌, ◌^◌, ◌<◌, ◌≤◌, List, sym, ap, ◌∙◌, subst, inl, inr, arith, ℤ, pos, ◌*ℤ◌}
 use Rattle.std.specs.Prelude.{nat_abs, ◌≤ℤ◌}
 use Rattle.std.proofs.lemmas.Bool.{cases_lt}
 use Rattle.std.proofs.lemmas.Int.{ints}
@@ -12,7 +12,6 @@ use Rattle.sym_model.specs.Polynomial.{pair}
 use Rattle.sym_model.specs.WholeTerms.{WholeTerms}
 use Rattle.sym_model.proofs.PartitionLists.{Among-partitions_of, Once-FallsLexicographically, Once-partitions_of, partitions_of-tells}
 use Rattle.sym_model.proofs.Polynomials.{pair_ext}
-use Rattle.sym_model.proofs.Ring.{one-product}
 use Rattle.sym_model.proofs.Sums.{total_map, total_part}
 use Rattle.monomial_laws.specs.ExpressionTerms.{absolute, elementary_terms}
 use Rattle.monomial_laws.specs.MonomialProduct.{arrangements, product_coefficient}
@@ -31,17 +30,18 @@ use Rattle.sparse_polys.specs.Tables.{equal}
 use Rattle.skew_shapes.specs.VerticalStrips.{AreVerticalStrips, vertical_on}
 use Rattle.skew_shapes.proofs.ShapeLists.{vertical_strips}
 use Rattle.strip_rules.specs.Columns.{column_count, column_terms}
-use lib.IntN.{+ℤ_idr, zero-*ℤ}
+use lib.IntN.{zero-*ℤ}
+use Rattle.sym_model.proofs.Integers.{single_term}
 
--- ---- m_μ·e_k for one label μ
+-- ---- the product m_μ·e_k for one label μ
 
 module _ (k : ℕ) (μ : List ℕ) (p : IsPartition μ) where
   column_labels : HaveLabels IsPartition (column_terms k μ)
   column_labels = each_by-labels (λ ν. pos (column_count k μ ν)) IsPartition (partitions_of (size μ + k))
       (λ ν m. (partitions_of-tells (size μ + k) ν m).0)
 
-  -- the sum of φ(ν) times the coefficient of m_ν in m_μ·e_k is the same over the ν such that ν/μ is a vertical strip of
-  -- k cells and over all partitions ν of |μ| + k cells, since the coefficient is 0 for every other ν
+  -- if `shapes` are the ν for which ν/μ is a vertical strip of k cells, the sum of φ(ν) times the coefficient of m_ν in m_μ·e_k over `shapes` is the
+  -- sum over all partitions ν of |μ| + k cells, since the coefficient is 0 for every other ν
   pub column_sums : (shapes : List (List ℕ)) → AreVerticalStrips μ k shapes → (φ : List ℕ → ℤ)
       → over φ (counted (column_count k μ) shapes) ≡ over φ (column_terms k μ)
   column_sums shapes s φ =
@@ -70,19 +70,17 @@ module _ (k : ℕ) (μ : List ℕ) (p : IsPartition μ) where
       ∙ sym (coefficient_over (counted (column_count k μ) shapes) ν)
       ∙ column-shapes k μ shapes p (Once-FallsLexicographically shapes strips.falls) strips.members ν q
 
--- ---- the product of a list and e_k
+-- ---- the product of a list in m and e_k
 
--- the coefficient at ν of a list times e_k is the sum over the labels μ of the list of its coefficient times that of m_ν in m_μ·e_k
+-- the coefficient of m_ν in the product of a list in m and e_k is the sum, over the terms c·m_μ of the list, of c times the coefficient of m_ν in
+-- m_μ·e_k
 by_labels : (k : ℕ) (list : WholeTerms) (ν : List ℕ)
     → pair list (λ μ. pos (column_count k μ ν)) ≡ product_coefficient (elementary_terms k) list ν
 by_labels k list ν =
     pair_ext list (λ μ. pos (arrangements μ (column k) ν)) (λ μ. pos (arrangements (column k) μ ν))
     (λ μ. ap pos (arrangements-comm μ (column k) ν))
-    ∙ sym (one (pair list (λ μ. pos (arrangements (column k) μ ν))))
+    ∙ sym (single_term (pair list (λ μ. pos (arrangements (column k) μ ν))))
     ∙ sym (product_coefficient-arrangements (elementary_terms k) list ν)
-  where
-    one : (z : ℤ) → pos 1 *ℤ z +ℤ pos 0 ≡ z
-    one z = +ℤ_idr (pos 1 *ℤ z) ∙ one-product z
 
 pub product_value : (k : ℕ) (list : WholeTerms) (ν : List ℕ) → HaveLabels IsPartition list
     → IsPartition ν

@@ -1,4 +1,4 @@
--- A number times a fraction, with quotient and remainder multiplied separately.
+-- A number times a fraction over/under, computed from the quotient and the remainder of the number by `under`.
 use Rattle.std.proofs.Common.{◌≡◌, ℕ, ◌+◌, ◌*◌, ◌/◌, ◌%◌, ◌<◌, sym, ◌∙◌, ap, arith}
 use native.Mathlib.Nat.{div-add-mod', mul-add-div_right, mul-div_cancel}
 

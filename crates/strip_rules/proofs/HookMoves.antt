@@ -1,15 +1,11 @@
--- The beta sets made by adding rim hooks (specs/HookMoves).
+-- The beta sets that result from adding rim hooks (specs/HookMoves).
 --     hooks_over, hooks_within     the product of the Schur polynomial of one set and p_k
 --     hook_times                   the product of a list and p_k
-use Rattle.std.proofs.Common.{◌≡◌, ◌⊎◌, ℕ, zero, suc, ◌+◌, ◌-◌, ◌*◌, ◌/◌, ◌^◌, ◌<◌, ◌≤◌, Bool, true, false, ◌||◌, cond, List, [], ◌∷◌, ◌++◌, map, length, refl, sym, ap, ap₂, ◌∙◌, subst, inl, inr, arith, append_assoc, length-append, ◌%◌, ℤ, pos, negsuc, neg_ℤ, ◌*ℤ◌}
-use Rattle.std.specs.Prelude.{nat_eq, nat_lt, nat_abs, not, Option, Some, None, MatchOption}
-use Rattle.coeff_rings.specs.Checked.{checked_i128}
-use Rattle.coeff_rings.proofs.CheckedResults.{checked-tells}
-use Rattle.sym_model.proofs.Ring.{ring, one-product}
+use Rattle.std.proofs.Common.{◌≡◌, ◌⊎◌, ℕ, zero, suc, ◌+◌, ◌-◌, ◌*◌, ◌^◌, ◌<◌, ◌≤◌, true, false, ◌||◌, cond, List, [], ◌∷◌, ◌++◌, map, length, refl, sym, ap, ap₂, ◌∙◌, subst, inl, inr, arith, append_assoc, length-append, ℤ, ◌*ℤ◌}
+use Rattle.std.specs.Prelude.{nat_eq, nat_lt, nat_abs, not}
 use Rattle.std.specs.Cmp.{nat_eq_equiv}
-use Rattle.std.proofs.Math.Nat.{mul-le-mul_right, mul-div_cancel, pow-le-pow_right}
-use Rattle.std.proofs.lemmas.Int.{ints}
-use Rattle.std.proofs.lemmas.Bool.{cases_eq, cases_lt, lt-ltb, ne_eqb}
+use Rattle.std.proofs.Math.Nat.{mul-le-mul_right, pow-le-pow_right}
+use Rattle.std.proofs.lemmas.Bool.{cases_eq, cases_lt, lt-ltb, ne_eqb, not-true}
 use Rattle.std.proofs.lemmas.Bool.Decides.{nat_tests}
 use Rattle.std.proofs.lemmas.Nat.{pow-add}
 use Rattle.coeff_rings.specs.Fractions.{whole}
@@ -24,7 +20,7 @@ use Rattle.sym_model.specs.Schur.{schur}
 use Rattle.sym_model.specs.Strip.{height}
 use Rattle.sym_model.specs.WholeTerms.{WholeTermsOf}
 use Rattle.sym_model.proofs.Sums.{total_among, total_map, Among-map, Among_from_map, Among-append_right, Among-select, Among_from_select, Once-map, Once-select}
-use Rattle.sym_model.proofs.SortedParts.{rows_within_size, has_here}
+use Rattle.sym_model.proofs.SortedParts.{rows_within_size, not_first}
 use Rattle.beta_list_laws.specs.StrictFall.{FallsStrictly}
 use Rattle.beta_list_laws.proofs.BetaRemovals.{before, lowered, shown_removal, shown_height}
 use Rattle.beta_list_laws.proofs.BetaLowerings.{removal_as_lowered}
@@ -36,19 +32,21 @@ use Rattle.linear_combinations.proofs.Masses.{labels_gained, labels_replaced, ma
 use Rattle.std.proofs.lemmas.List.{map-append}
 use Rattle.linear_combinations.proofs.Gains.{gains_both, scaled_append, overflows_alone, overflows_both, overflows_more}
 use Rattle.linear_combinations.proofs.Weighed.{gains_mass}
-use Rattle.sym_model.proofs.Integers.{nat_abs-product}
+use Rattle.sym_model.proofs.Integers.{nat_abs-product, sign_size}
 use lib.IntN.{*ℤ_comm}
 use Rattle.beta_sets.specs.BetaSets.{numbers, shape, free, set_of, same_set, IsInRows, IsSplit}
-use Rattle.beta_sets.proofs.SetNumbers.{set_of-numbers, same_shape}
+use Rattle.beta_sets.proofs.SetNumbers.{set_of-numbers, same_shape, beads_of}
 use Rattle.strip_rules.specs.FamilyShapes.{AreShapesOf}
 use Rattle.strip_rules.specs.HookMoves.{passed, hook_from, hooks}
 use Rattle.strip_rules.proofs.BeadLists.{FallsBelow, falls_below, falls_wider, falls_strictly, set_of-less, numbers-set_of}
-use Rattle.strip_rules.proofs.CellMoves.{among_sum, past_all, low_falls, place_low, power_within, length_select, not_true, member_below, once_falls}
-use Rattle.strip_rules.proofs.BeadSums.{rows_low, shape_partition, beads_of, list_times}
+use Rattle.strip_rules.proofs.CellMoves.{among_sum, past_all, low_falls, place_low, power_within, member_below, once_falls}
+use Rattle.strip_rules.proofs.BeadSums.{rows_low, shape_partition, list_times}
 use Rattle.strip_rules.proofs.ShapeLists.{IsAround, rows_around}
 use Rattle.strip_rules.proofs.TermProducts.{hooks_value}
+use Rattle.sym_model.proofs.Lists.{length-filter-within}
+use native.Mathlib.Nat.{eq_of_mul-eq-mul_right}
 
--- ---- a list of beads divided at a bead and at a free place above it
+-- ---- a list of beads, split at a bead and at a free place above it
 
 greater_none : (a limit : ℕ) (beads : List ℕ) → FallsBelow limit beads → limit ≤ a + 1 → greater a beads ≡ 0
 greater_none a limit [] f l = refl
@@ -60,7 +58,7 @@ greater_none a limit (x ∷ beads) f l =
 greater_more : (a x : ℕ) (beads : List ℕ) → a < x → greater a (x ∷ beads) ≡ 1 + greater a beads
 greater_more a x beads l = ap (λ t. cond {A = ℕ} t 1 0 + greater a beads) (lt-ltb a x l)
 
--- the list of beads, cut at its bead b: `middle` are the beads above b, and `back` those below b
+-- the strictly decreasing list of beads is split at its bead b: `middle` are the beads above b, and `back` those below b
 record IsCut (limit b : ℕ) (beads : List ℕ) : Type 0 where
   middle : List ℕ
   back : List ℕ
@@ -88,8 +86,8 @@ cut limit b (x ∷ beads) f (inr m) =
       count = ap suc r.count ∙ (let e : suc (greater b beads) ≡ 1 + greater b beads = omega arith in e) ∙ sym (greater_more b x beads l);
     }
 
--- the list of beads, divided at its bead b and at a place c above b: `front` are the beads above c, `middle` those between
--- c and b, and `back` those below b
+-- the strictly decreasing list of beads is split at its bead b and at a place c above b: `front` are the beads above c, `middle` those between c and
+-- b, and `back` those below b
 record IsDivided (limit b c : ℕ) (beads : List ℕ) : Type 0 where
   front : List ℕ
   middle : List ℕ
@@ -99,13 +97,10 @@ record IsDivided (limit b c : ℕ) (beads : List ℕ) : Type 0 where
   count : length middle + greater c beads ≡ greater b beads
 
 has_later : (a x : ℕ) (beads : List ℕ) → has a (x ∷ beads) ≡ false → (has a beads ≡ false) × (x ≡ a → ⊥)
-has_later a x beads e = (later (cases_eq x a), apart)
+has_later a x beads e = (later (cases_eq x a), not_first a x beads e)
   where
-    apart : x ≡ a → ⊥
-    apart i = let t : has a (x ∷ beads) ≡ true = has_here a x beads i in let u = sym t ∙ e in cc
-
     later : (x ≡ a) ⊎ (x ≡ a → ⊥) → has a beads ≡ false
-    later (inl i) = absurd (apart i)
+    later (inl i) = absurd (not_first a x beads e i)
     later (inr n) = sym (ap (λ t. t || has a beads) (ne_eqb x a n)) ∙ e
 
 divide : (limit b c : ℕ) (beads : List ℕ) → FallsBelow limit beads → Among b beads → has c beads ≡ false → b < c → c < limit → IsDivided limit b c beads
@@ -143,7 +138,7 @@ divide limit b c (x ∷ beads) f m h l k = by (has_later c x beads h) (λ i n g.
         strict n g (inl o) = o
         strict n g (inr o) = absurd (n (omega (arith, g, o)))
 
--- ---- the set after a bead has moved
+-- ---- the set of a list after one of its beads has moved
 
 set_of-append : (xs ys : List ℕ) → set_of (xs ++ ys) ≡ set_of xs + set_of ys
 unfolding set_of
@@ -172,7 +167,7 @@ low_list l f h = falls_below 64 l f (λ c m. by c (among_sum c l m) (cases_lt c 
     by c g (inl k) = k
     by c g (inr k) = let p = power_within 64 c k in absurd (omega arith)
 
--- ---- moving a bead b to a free place c above it
+-- ---- lists in which a bead b has moved to a free place c above b
 
 falls_suffix : (limit : ℕ) (front rest : List ℕ) → FallsBelow limit (front ++ rest) → (most : ℕ) × FallsBelow most rest
 falls_suffix limit [] rest f = (limit, f)
@@ -194,10 +189,6 @@ free_place c limit most y front middle back f g l =
     let t = falls_suffix most front (middle ++ y ∷ back) g in
     absent_front c limit front (middle ++ back) (middle ++ y ∷ back) f (past_all c c (middle ++ y ∷ back) (below_both c t.0 y middle back s.1 t.1 l) (omega arith))
 
-one_sign : (n : ℕ) → nat_abs (minus_one_to n) ≡ 1
-one_sign zero = refl
-one_sign (suc n) = let r = one_sign n in omega (arith, ints)
-
 module _ (k set : ℕ) (one : 1 ≤ k) (low : k ≤ 20) (within : IsInRows 20 (20 - k) set) where
   set_low : set < 2 ^ (40 - k)
   set_low = let l = rows_low 20 (20 - k) set within in subst (λ m. set < 2 ^ m) (let e : 20 + (20 - k) ≡ 40 - k = omega arith in e) l
@@ -209,7 +200,7 @@ module _ (k set : ℕ) (one : 1 ≤ k) (low : k ≤ 20) (within : IsInRows 20 (2
   partition = shape_partition set
 
   free_tells : (b : ℕ) → Among b (free k (numbers set)) → Among b (numbers set) × (has (b + k) (numbers set) ≡ false)
-  free_tells b i = let s = Among_from_select (λ x. not (has (x + k) (numbers set))) b (numbers set) i in (s.0, not_true (has (b + k) (numbers set)) s.1)
+  free_tells b i = let s = Among_from_select (λ x. not (has (x + k) (numbers set))) b (numbers set) i in (s.0, not-true (has (b + k) (numbers set)) s.1)
 
   module _ (b : ℕ) (i : Among b (free k (numbers set))) where
     there : Among b (numbers set)
@@ -286,11 +277,8 @@ module _ (k set : ℕ) (one : 1 ≤ k) (low : k ≤ 20) (within : IsInRows 20 (2
       let u = pow-add 2 b k in
       let v = pow-add 2 d k in
       let w = power_within 1 k one in
-      by (cancel (2 ^ b) (2 ^ d) (2 ^ k - 1) (omega arith) (spread (2 ^ b) (2 ^ d) (2 ^ k) (omega arith) (omega arith))) (cases_lt b d) (cases_lt d b)
+      by (eq_of_mul-eq-mul_right (2 ^ k - 1) (omega arith) (2 ^ b) (2 ^ d) (spread (2 ^ b) (2 ^ d) (2 ^ k) (omega arith) (omega arith))) (cases_lt b d) (cases_lt d b)
     where
-      cancel : (x y z : ℕ) → 0 < z → x * z ≡ y * z → x ≡ y
-      cancel x y z p e = sym (mul-div_cancel x p) ∙ ap (λ a. a / z) e ∙ mul-div_cancel y p
-
       spread : (x y z : ℕ) → 1 ≤ z → x * z + y ≡ y * z + x → x * (z - 1) ≡ y * (z - 1)
       spread x y z l e =
           let a : x * z ≡ x * (z - 1) + x = part x z l in
@@ -361,15 +349,15 @@ module _ (k set : ℕ) (one : 1 ≤ k) (low : k ≤ 20) (within : IsInRows 20 (2
   pub hooks_few : mass (hooks k set) ≤ 20
   hooks_few =
       let e = mass_signs (free k (numbers set)) in
-      let l = length_select (λ x. not (has (x + k) (numbers set))) (numbers set) in
+      let l = length-filter-within (λ x. not (has (x + k) (numbers set))) (numbers set) in
       let r = within.rows in
       omega arith
     where
       mass_signs : (xs : List ℕ) → mass (map (hook_from k set) xs) ≡ length xs
       mass_signs [] = refl
-      mass_signs (x ∷ xs) = let r = mass_signs xs in let s = one_sign (passed k set x) in omega arith
+      mass_signs (x ∷ xs) = let r = mass_signs xs in let s = sign_size (passed k set x) in omega arith
 
--- ---- a list times p_k
+-- ---- the product of a list and p_k
 
 pub hooks_mass : (k : ℕ) (list : WholeTermsOf ℕ) → 1 ≤ k → k ≤ 20 → HaveLabels (IsInRows 20 (20 - k)) list → mass (replaced (hooks k) list) ≤ mass list * 20
 hooks_mass k list one low within = mass_replaced (hooks k) 20 list (λ t m. hooks_few k t.0 one low (within t m))
@@ -380,8 +368,8 @@ twenty_more d k one =
     let q : 20 ^ suc d ≡ 20 * 20 ^ d = omega arith in
     omega arith
 
--- if 1 ≤ k ≤ 20, the sets of a list have 20 numbers and at most 20 - k cells, and the absolute values of its coefficients add up to
--- at most 20^(20 - k), adding rim hooks of k cells never overflows
+-- if 1 ≤ k ≤ 20, the sets of a list have 20 numbers and partitions of at most 20 - k cells, and the absolute values of its coefficients add up to at
+-- most 20^(20 - k), then adding rim hooks of k cells to the sets never overflows
 pub hooks_fit : (k : ℕ) (list : WholeTermsOf ℕ) → 1 ≤ k → k ≤ 20 → HaveLabels (IsInRows 20 (20 - k)) list → mass list ≤ 20 ^ (20 - k) → Overflows nat_eq [] (replaced (hooks k) list) → ⊥
 hooks_fit k list one low within few o =
     let l = overflow_mass nat_eq [] (replaced (hooks k) list) o in
@@ -408,64 +396,22 @@ hook_times k d f list sum one low are within is gains = record {
       omega arith;
 }
 
--- ---- coefficients times a power of -1
+-- ---- coefficients times (-1)^m
 
-sign_even : (m : ℕ) → m % 2 ≡ 0 → minus_one_to m ≡ pos 1
-sign_even zero e = refl
-sign_even (suc zero) e = absurd (omega arith)
-sign_even (suc (suc m)) e = let r = sign_even m (omega arith) in omega (arith, ints)
-
-sign_odd : (m : ℕ) → m % 2 ≡ 1 → minus_one_to m ≡ negsuc 0
-sign_odd zero e = absurd (omega arith)
-sign_odd (suc zero) e = refl
-sign_odd (suc (suc m)) e = let r = sign_odd m (omega arith) in omega (arith, ints)
-
-pub even_times : (m : ℕ) (z : ℤ) → m % 2 ≡ 0 → z ≡ minus_one_to m *ℤ z
-even_times m z h = sym (ap (λ s. s *ℤ z) (sign_even m h) ∙ one-product z)
-
-minus-times : (z : ℤ) → negsuc 0 *ℤ z ≡ neg_ℤ z
-minus-times z = simp ring (omega (arith, ints))
-
-odd_times : (m : ℕ) (z : ℤ) → (m % 2 ≡ 0 → ⊥) → neg_ℤ z ≡ minus_one_to m *ℤ z
-odd_times m z n = sym (ap (λ s. s *ℤ z) (sign_odd m (omega (arith, n))) ∙ minus-times z)
-
-pub negated_times : (m : ℕ) (z : ℤ) (o : Option ℤ) → o ≡ checked_i128 (neg_ℤ z) → (m % 2 ≡ 0 → ⊥) → MatchOption o (2 ^ 127 ≤ nat_abs z) (λ v. v ≡ minus_one_to m *ℤ z)
-negated_times m z None h n =
-    let r : 2 ^ 127 ≤ nat_abs (neg_ℤ z) = subst (λ o. MatchOption o (2 ^ 127 ≤ nat_abs (neg_ℤ z)) (λ w. w ≡ neg_ℤ z)) (sym h) (checked-tells (neg_ℤ z)) in
-    omega (arith, ints)
-negated_times m z (Some v) h n =
-    let r : v ≡ neg_ℤ z = subst (λ o. MatchOption o (2 ^ 127 ≤ nat_abs (neg_ℤ z)) (λ w. w ≡ neg_ℤ z)) (sym h) (checked-tells (neg_ℤ z)) in
-    r ∙ odd_times m z n
-
--- ---- the beta sets after a rim hook is added: terms added to a table one after another
+-- ---- the beta sets after a rim hook is added, as terms that are added to a table one after another
 
 pub hook_alone : (k set b new : ℕ) (c number : ℤ) (times : ℕ) → new ≡ set - 2 ^ b + 2 ^ (b + k) → number ≡ minus_one_to times *ℤ c → times ≡ passed k set b → (new, number) ∷ [] ≡ scaled c (hook_from k set b ∷ [])
 hook_alone k set b new c number times e f g =
     ap₂ (λ (s : ℕ) (z : ℤ). (s, z) ∷ []) e (f ∙ ap (λ t. minus_one_to t *ℤ c) g ∙ *ℤ_comm (minus_one_to (passed k set b)) c)
 
--- if |c| is 2^127 or more, adding c at the set after the move overflows
+-- if |c| is 2^127 or more, adding c, with the sign of the hook, at the set after the bead has moved from b to b + k overflows
 pub hook_past : (k set b : ℕ) (c : ℤ) (old : WholeTermsOf ℕ) → 2 ^ 127 ≤ nat_abs c → Overflows nat_eq old (scaled c (hook_from k set b ∷ []))
 hook_past k set b c old l =
     overflows_alone nat_eq_equiv same_set old (set - 2 ^ b + 2 ^ (b + k)) (c *ℤ minus_one_to (passed k set b))
-    (let s = nat_abs-product c (minus_one_to (passed k set b)) in let o = one_sign (passed k set b) in let d = ap (λ n. nat_abs c * n) o in let e : nat_abs c * 1 ≡ nat_abs c = omega arith in omega arith)
+    (let s = nat_abs-product c (minus_one_to (passed k set b)) in let o = sign_size (passed k set b) in let d = ap (λ n. nat_abs c * n) o in let e : nat_abs c * 1 ≡ nat_abs c = omega arith in omega arith)
 
-at_least : (t : Bool) (n : ℕ) → n ≤ cond {A = ℕ} t 1 0 + n
-at_least true n = omega arith
-at_least false n = omega arith
-
-pub greater_less : (a b : ℕ) (beads : List ℕ) → a ≤ b → greater b beads ≤ greater a beads
-greater_less a b [] l = omega arith
-greater_less a b (x ∷ beads) l = by (cases_lt b x) (greater_less a b beads l)
-  where
-    by : (b < x) ⊎ (x ≤ b) → greater b beads ≤ greater a beads → greater b (x ∷ beads) ≤ greater a (x ∷ beads)
-    by (inl p) r = let m = greater_more b x beads p in let n = greater_more a x beads (omega arith) in omega arith
-    by (inr p) r =
-        let e : nat_lt b x ≡ false = grind (arith, nat_tests) in
-        let m : greater b (x ∷ beads) ≡ 0 + greater b beads = ap (λ t. cond {A = ℕ} t 1 0 + greater b beads) e in
-        let n = at_least (nat_lt a x) (greater a beads) in
-        omega arith
-
--- the next place b of the loop has b + k < 63, and 2^b ≤ set < 2^63
+-- if `set` has 20 numbers and a partition of at most 20 - k cells, the next place b of the loop over the beads that can move up by k places has b + k
+-- < 63 and 2^b ≤ set < 2^63
 pub free_low : (k set places b : ℕ) (passed : List ℕ) → 1 ≤ k → k ≤ 20 → IsInRows 20 (20 - k) set → IsSplit places b (places - 2 ^ b) → passed ++ numbers places ≡ free k (numbers set) → (b + k < 63) × (2 ^ b ≤ set) × (set < 2 ^ 63)
 free_low k set places b passed one low within split all =
     let p = place k set one low within b (subst (Among b) all (Among-append_right b passed (numbers places) (subst (Among b) (sym split.numbers) (inl refl)))) in
@@ -492,7 +438,7 @@ module _ (k set b : ℕ) (c : ℤ) (passed others : List ℕ) (old cur : WholeTe
       ∙ sym (map-append f (passed ++ b ∷ []) others) ∙ ap (map f) (append_assoc passed (b ∷ []) others ∙ all)))
       (overflows_more nat_eq old (scaled c (map f passed) ++ scaled c (f b ∷ [])) (scaled c (map f others)) (overflows_both nat_eq old (scaled c (map f passed)) cur (scaled c (f b ∷ [])) so_far large))
 
--- ---- the product over k and the other parts, with k in front
+-- ---- the product over the parts k ∷ rest, from the product over `rest`
 
 pub first_part : (P : ℕ → ℕ → Poly) (k : ℕ) (rest parts : List ℕ) (list : WholeTermsOf ℕ) → k ∷ rest ≡ parts → AreShapesOf (λ n. times (P k n) (product_over P rest n)) (size rest + k) list → AreShapesOf (product_over P parts) (size parts) list
 first_part P k rest parts list split are =

@@ -1,7 +1,7 @@
--- The products of the terms of a list, one after another, and their weights.
---     AddsList-none, AddsList-next    the sum with the products of no term, and of one more term
---     list_large                      if the common denominator or the sum of |c| over it is at least 2^127, so is the weight
---     weight_within                   the weight of the products
+-- The product of f and a list in s, as the sum of the products of f and the terms of the list; the weights of the list and of the product.
+--     AddsList-none, AddsList-next    the sum of the products of no term, and of one more term
+--     list_large                      if D, the common denominator, or D times the sum of the |c| is at least 2^127, so is the weight
+--     weight_within                   the weight of the product
 use Rattle.std.proofs.Common.{◌≡◌, ℕ, zero, suc, ◌+◌, ◌*◌, ◌/◌, ◌^◌, ◌<◌, ◌≤◌, max, List, [], ◌∷◌, ◌++◌, refl, sym, ap, ap₂, ◌∙◌, subst, inl, inr, arith, ℤ, ◌+ℤ◌, ◌*ℤ◌}
 use Rattle.std.specs.Prelude.{nat_eq, nat_abs}
 use Rattle.std.specs.Int.{◌∣◌}
@@ -50,10 +50,10 @@ use native.Mathlib.Nat.{mul-le-mul_left, pow-zero, le-div_iff_mul-le}
 use Rattle.linear_combinations.proofs.Weighed.{gains_mass}
 use lib.IntN.{+ℤ_idr}
 
--- ---- the terms of a list, one after another
+-- ---- the sum of the products of the terms visited so far
 
--- q times the table `sum` is q times the sum of the products of f with the terms in `done`; with bounds for the coefficients and
--- the labels
+-- q·`sum` is the sum of the products of f with the terms of q·`done`, the terms of `list` visited so far; with bounds for the coefficients and the
+-- labels
 pub record AddsList (f : ℕ → Poly) (k q : ℕ) (list done sum : Terms (List ℕ)) : Type 0 where
   pub gained : WholeTerms
   pub gains : GainsCleared (pointwise nat_eq) is_label q [] gained sum
@@ -74,8 +74,8 @@ AddsList-none f k q list = record {
 
 module _ {R : Type 0} (value : R → Fraction) (f : ℕ → Poly) (k q : ℕ) (done : List (List ℕ × R)) (list cur : Terms (List ℕ)) (label : List ℕ) (v : R)
     (h : AddsList f k q list (terms_of value done) cur) (terms : WholeTerms) (p : IsProduct f k label terms) where
-  -- the absolute values of the coefficients gained at a label ν add up to at most Σ|c|·q, over the coefficients c of the terms so
-  -- far and the next one
+  -- the absolute values of the coefficients that were added at a label ν, with those of the product of the next term, add up to at most the sum of
+  -- |q·c| over the coefficients c of the terms visited so far and of the next one
   once_next : (ν : List ℕ) → mass_at (pointwise nat_eq) ν (h.gained ++ gained_times (numerator_over q (value v)) terms) ≤ mass (numerators_over q (terms_of value done)) + nat_abs (numerator_over q (value v))
   once_next ν =
       let z = numerator_over q (value v) in
@@ -135,8 +135,8 @@ module _ {R : Type 0} (value : R → Fraction) (f : ℕ → Poly) (k q : ℕ) (d
             (omega arith, omega arith)));
       }
 
-  -- if adding v times the terms overflows, and q is less than 2^127, the sum of |c|·q over the coefficients c of the list is at
-  -- least 2^127
+  -- if adding v times the terms of a product overflows, and q < 2^127 is a multiple of the denominator of v, the sum of |q·c| over the coefficients c
+  -- of the list is at least 2^127
   pub refused_large : (rest : List (List ℕ × R)) → terms_of value (done ++ (label, v) ∷ rest) ≡ list → IsDenominator q (value v) → q < 2 ^ 127
       → OverflowsMultiple (pointwise nat_eq) (value v) terms cur → 2 ^ 127 ≤ absolute_sum q list
   refused_large rest whole d small e =
@@ -148,13 +148,13 @@ module _ {R : Type 0} (value : R → Fraction) (f : ℕ → Poly) (k q : ℕ) (d
       let i = ap (λ l. mass (numerators_over q l)) whole ∙ mass_over q list in
       omega arith
 
--- ---- the result for the whole list
+-- ---- the sum of the products of all terms of a list
 
 module _ {f : ℕ → Poly} {k q : ℕ} {list done sum : Terms (List ℕ)} (some : 0 < q) (a : AddsList f k q list done sum) where
   pub list_table : IsFractionTable sum
   list_table = table_gained q a.gained sum a.gains
 
-  -- q is a multiple of the denominator of each term of the sum
+  -- q is a multiple of the denominator of each term of `sum`
   pub list_divides : (t : List ℕ × Fraction) → Among t sum → t.1.1 ∣ q
   list_divides = divides_terms q sum list_table (λ ν p. a.gains.cleared ν)
 
@@ -181,7 +181,7 @@ module _ {f : ℕ → Poly} {k q : ℕ} {list done sum : Terms (List ℕ)} (some
       (λ u n. absurd n) (a.small cells lengths within) (t.0, numerator_over q t.1)
       (Among-map (λ (u : List ℕ × Fraction). (u.0, numerator_over q u.1)) t sum m)
 
--- if the labels of the entries are within limits, so are those of the list of their values
+-- if the labels of the entries have at most `cells` cells and `lengths` rows (`AreWithin`), so have those of the list of the values of the entries
 pub within_values : {R : Type 0} (value : R → Fraction) (cells lengths : ℕ) (entries : List (List ℕ × R)) → AreWithin cells lengths entries → AreWithin cells lengths (terms_of value entries)
 within_values {R} value cells lengths entries h t m =
     let u = Among_from_map (λ (p : List ℕ × R). (p.0, value p.1)) t entries m in
@@ -190,7 +190,7 @@ within_values {R} value cells lengths entries h t m =
 pub values_within : {R : Type 0} (value : R → Fraction) (cells lengths : ℕ) (entries : List (List ℕ × R)) → AreWithin cells lengths (terms_of value entries) → AreWithin cells lengths entries
 values_within {R} value cells lengths entries h t m = h (t.0, value t.1) (Among-map (λ (p : List ℕ × R). (p.0, value p.1)) t entries m)
 
--- an entry of a table is a partition with a coefficient in lowest terms
+-- each entry of a table has a partition as its label and a scalar whose value is in lowest terms
 pub entry_term : {R : Type 0} (value : R → Fraction) (entries : List (List ℕ × R)) → IsCombination (pointwise nat_eq) is_label value entries → (t : List ℕ × R) → Among t entries
     → IsPartition t.0 × InLowestTerms (value t.1)
 entry_term value entries is t m =
@@ -202,9 +202,10 @@ pub pair_here : {A : Type 0} (done rest left begun items all : List A) (p : A) �
 pair_here done rest left begun items all p steps so_far given is =
     subst (Among p) (all_pairs done rest left begun items all p steps so_far given is) (next_among done p rest)
 
--- ---- weights of lists
+-- ---- the weight of a list
 
--- if D is the common denominator, and D ≥ 2^127 or the absolute values over D add up to at least 2^127, the weight of the list is at least 2^127
+-- let D be the least common denominator of a list: if D ≥ 2^127, or the absolute values of D times the coefficients add up to at least 2^127, the
+-- weight of the list is at least 2^127
 pub list_large : (terms : Terms (List ℕ)) → IsFractionTable terms → (common_denominator terms < 2 ^ 127 → 2 ^ 127 ≤ absolute_sum (common_denominator terms) terms) → 2 ^ 127 ≤ list_weight terms
 list_large terms is h = by (absolute_sum (common_denominator terms) terms) (common_denominator terms) (least-denominators terms is).positive h
   where
@@ -215,7 +216,7 @@ list_large terms is h = by (absolute_sum (common_denominator terms) terms) (comm
         let y = mul-le-mul_left (max 1 a) (let o : 1 ≤ d = omega arith in o) in
         elim (cases_lt d (2 ^ 127)) [ inl l ↦ (let g = h l in omega arith) | inr l ↦ omega arith ]
 
--- ---- the least common denominator divides each common denominator
+-- ---- the least common denominator of a list divides each common denominator
 
 -- if d is a multiple of a and of b, the least common multiple of a and b divides d
 lcm-divides : (a b d : ℕ) → 0 < b → a ∣ d → b ∣ d → lcm a b ∣ d

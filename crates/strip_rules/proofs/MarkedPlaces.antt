@@ -1,6 +1,6 @@
--- The ways to split a list, with one place of its first part marked.
---     marking            a sum over the splits and the places of b in their first part, as a sum over the places of ν
---     marked-equal, marked-from      the sum over the places of a number, or of the numbers at least it, if all have one value
+-- The splits of a list ν, that is, the pairs of lists that add up to ν place by place, with one place of the first list marked.
+--     marking            a sum over the splits and over the places with b in the first list, as a sum over the places of ν
+--     marked-equal, marked-from      the sum of z over the places of ν with the number v, or with a number of at least v
 use Rattle.std.proofs.Common.{◌≡◌, ℕ, ◌+◌, ◌-◌, cond, eqb, leb, List, [], ◌∷◌, sym, ◌∙◌, ap, ap₂, refl, inl, inr, arith, ℤ, pos, ◌+ℤ◌, ◌*ℤ◌}
 use Rattle.sym_model.specs.Sum.{total, Among}
 use Rattle.sym_model.specs.Partition.{insert_part, sorted_parts}
@@ -15,12 +15,12 @@ use Rattle.monomial_laws.specs.MonomialProduct.{splits}
 use Rattle.monomial_laws.proofs.Splits.{total_splits, sorted_total}
 use lib.IntN.{+ℤ_idr, zero-*ℤ, *ℤ-zero}
 
--- the sum over the places of a list of f at the number there and the list without that number
+-- the sum, over the places of a list ν, of f at the number d at this place and the list of the other numbers of ν
 abbrev pub marked : (ℕ → List ℕ → ℤ) → List ℕ → ℤ
 marked f [] = pos 0
 marked f (d ∷ ν) = f d ν +ℤ marked (λ (e : ℕ) (rest : List ℕ). f e (d ∷ rest)) ν
 
--- d is a number of ν, and `rest` has the numbers of ν without one d, in any order
+-- d is one of the numbers of ν, and `rest` has the other numbers of ν, in any order
 pub record IsTaken (d : ℕ) (rest ν : List ℕ) : Type 0 where
   pub among : Among d ν
   pub parts : insert_part d (sorted_parts rest) ≡ sorted_parts ν

@@ -1,6 +1,6 @@
--- The number of placings of μ in ν (specs/StripProduct), the ways to put the parts of μ, and zeros, in the places of ν, none
--- greater than the number there, computed row by row from the last row on.
---     placings-row      the number of placings with one more row in front
+-- `placings` of μ and ν (specs/StripProduct), the number of lists as long as ν that consist of the parts of μ and zeros, in some order, and have at
+-- each place at most the number of ν. It is computed row by row from the last row on.
+--     placings-row      the number for one more row in front of μ and ν
 use Rattle.std.proofs.Common.{◌≡◌, ℕ, suc, ◌-◌, ◌*◌, ◌<◌, ◌≤◌, cond, List, [], ◌∷◌, length, take, drop, get_or, sym, ◌∙◌, ap, ap₂, subst, arith}
 use Rattle.std.proofs.lemmas.Bool.{le-leb}
 use Rattle.std.proofs.lemmas.List.{take_all}
@@ -14,6 +14,7 @@ use Rattle.strip_rules.specs.StripProduct.{placings}
 use Rattle.strip_rules.proofs.Placings.{repeats, placed-first, placings-placed, placings-first, below_first, repeats-positive}
 use Rattle.strip_laws.proofs.Containment.{Holds_below, Holds-count_from}
 use native.Mathlib.Nat.{eq_of_mul-eq-mul_right}
+use Rattle.std.proofs.Math.Nat.{mul_assoc, mul_comm}
 
 pub placings-row : (v x : ℕ) (μ ν : List ℕ) → IsPartition (v ∷ μ) → v ≤ x
     → placings (v ∷ μ) (x ∷ ν) * count_from v (v ∷ μ) ≡ placings μ ν * count_from v (x ∷ ν)
@@ -29,14 +30,11 @@ placings-row v x μ ν p h =
     eq_of_mul-eq-mul_right (repeats μ) (repeats-positive μ)
     (placings (v ∷ μ) (x ∷ ν) * count_from v (v ∷ μ)) (placings μ ν * count_from v (x ∷ ν))
     (ap (λ n. placings (v ∷ μ) (x ∷ ν) * n * repeats μ) d
-    ∙ grouped (placings (v ∷ μ) (x ∷ ν)) (suc (times_in v μ)) (repeats μ)
+    ∙ (mul_assoc (placings (v ∷ μ) (x ∷ ν)) (suc (times_in v μ)) (repeats μ) ∙ mul_comm (placings (v ∷ μ) (x ∷ ν)) ((suc (times_in v μ)) * (repeats μ)))
     ∙ a
     ∙ ap₂ ◌*◌ e (c ∙ sym b)
     ∙ turned (count_from v (x ∷ ν)) (repeats μ) (placings μ ν))
   where
-    grouped : (x y z : ℕ) → x * y * z ≡ y * z * x
-    grouped x y z = omega arith
-
     turned : (x y z : ℕ) → x * (y * z) ≡ z * x * y
     turned x y z = omega arith
 
@@ -44,9 +42,10 @@ pub no_rows : (inner shape : List ℕ) → length inner < 1 → 1 ≡ placings i
 no_rows [] shape h = sym (placings-first shape)
 no_rows (v ∷ μ) shape h = absurd (omega arith)
 
--- ---- partitions without their first rows
+-- ---- two partitions without their first rows
 
--- `inner` and `shape` have a first row; without it both are partitions, and the second contains the first
+-- `inner` and `shape` each have a first row; without their first rows they are partitions, that of `inner` inside that of `shape`, and `fewer` and
+-- `step` compare the number `placings` of these two partitions with that of `inner` and `shape`
 pub record HaveRows (inner shape : List ℕ) : Type 0 where
   pub first : 1 ≤ length shape
   pub inner_below : IsPartition (take (length inner - 1) (drop 1 inner))

@@ -1,6 +1,6 @@
--- The placings of a partition μ in ν (specs/StripProduct): the ways to put the parts of μ, and zeros, in the places of ν, none
--- greater than the number there.
---     placings-next     the number of placings with one more part v, which is at most the parts before it
+-- `placings` of a partition μ and a list ν (specs/StripProduct): the number of lists as long as ν that consist of the parts of μ and zeros, in some
+-- order, and have at each place at most the number of ν.
+--     placings-next     the number for one more part v, which is at most the parts before it
 use Rattle.std.proofs.Common.{◌≡◌, ◌⊎◌, ℕ, suc, ◌+◌, ◌-◌, ◌*◌, ◌<◌, ◌≤◌, Bool, true, false, cond, ◌==◌, eqb, leb, List, [], ◌∷◌, ◌++◌, length, sym, ◌∙◌, ap, ap₂, subst, refl, inl, inr, arith, ℤ, pos, ◌*ℤ◌}
 use Rattle.std.proofs.lemmas.Bool.{cases_eq, le-leb, eq-eqb, ne_eqb, eqb-true, leb-true}
 use Rattle.std.proofs.lemmas.Int.{ints}
@@ -11,9 +11,9 @@ use Rattle.sym_model.specs.Bases.{has}
 use Rattle.sym_model.specs.Schur.{times_in}
 use Rattle.sym_model.specs.Conjugate.{count_from}
 use Rattle.sym_model.proofs.Sums.{total_ext, total_among, total_none, total_scale, total_cond, length-select}
-use Rattle.sym_model.proofs.Exponents.{tests_agree, same_true, same_from, same_sym}
+use Rattle.sym_model.proofs.Exponents.{tests_agree, same_true, same_sym}
 use Rattle.sym_model.proofs.Monomials.{total_down_from-last}
-use Rattle.sym_model.proofs.SortedParts.{insert_part-front, times_in-sorted_parts, IsPartition_tail, has-insert_part, size-sorted_parts, IsPartition-sorted_parts, insert_part-injective}
+use Rattle.sym_model.proofs.SortedParts.{insert_part-front, times_in-sorted_parts, IsPartition_tail, has-insert_part, size-sorted_parts, IsPartition-sorted_parts}
 use Rattle.monomial_laws.specs.MonomialProduct.{splits, product_coefficient}
 use Rattle.monomial_laws.proofs.Splits.{total_splits, sorted_total}
 use Rattle.strip_rules.specs.StripProduct.{placings}
@@ -25,17 +25,12 @@ use Rattle.sym_model.proofs.Polynomials.{at_only, coefficient_pair, pair_ext, pa
 use Rattle.strip_rules.proofs.SplitCounts.{some_split, counts-splits, count_from-sorted_parts, holds_from_counts}
 use Rattle.monomial_laws.proofs.Arrangements.{sizes-splits}
 use native.Mathlib.Nat.{mul-pos, eq_of_mul-eq-mul_right}
+use Rattle.sym_model.proofs.Integers.{pos_equal, nothing_either}
+use Rattle.partitions.proofs.Arrangings.{same-insert_part}
+use Rattle.std.proofs.Math.Nat.{mul_assoc, mul_comm}
 
 pub placings-total : (μ ν : List ℕ) → pos (placings μ ν) ≡ sorted_total (λ x y. at_only μ x) ν
 placings-total μ ν = length-select (λ (s : List ℕ × List ℕ). same (sorted_parts s.0) μ) (splits ν)
-
-pub is_label-insert_part : (b : ℕ) (μ x : List ℕ) → same (insert_part b x) (insert_part b μ)
-    ≡ same x μ
-is_label-insert_part b μ x =
-    tests_agree (same (insert_part b x) (insert_part b μ)) (same x μ)
-    (λ t. same_from x μ
-    (insert_part-injective b x μ (same_true (insert_part b x) (insert_part b μ) t)))
-    (λ t. same_from (insert_part b x) (insert_part b μ) (ap (insert_part b) (same_true x μ t)))
 
 -- the product of the factorials of the multiplicities of the parts
 abbrev pub repeats : List ℕ → ℕ
@@ -47,8 +42,8 @@ repeats-positive [] = omega arith
 repeats-positive (v ∷ μ) = mul-pos (let p : 0 < suc (times_in v μ) = omega arith in p)
     (repeats-positive μ)
 
--- the number of ways to place the parts one after another in the places of ν, each in a place whose number is at least the
--- part and that is not taken, if j places are taken already
+-- the number of ways to write the parts of μ one after another into the free places of ν, each into a place whose number is at least the part, if j
+-- places of ν are occupied; the parts must be weakly decreasing, and the numbers at the occupied places at least the first part
 abbrev pub placed : ℕ → List ℕ → List ℕ → ℕ
 placed j ν [] = 1
 placed j ν (v ∷ μ) = (count_from v ν - j) * placed (suc j) ν μ
@@ -64,7 +59,8 @@ placed-taken d j rest ν (v ∷ μ) t h =
     ap₂ ◌*◌ (let f : count_from v rest - j ≡ count_from v ν - suc j = omega arith in f)
     (placed-taken d (suc j) rest ν μ t (λ w m. h w (inr m)))
 
--- if x is at least each part of μ, the number of ways to place μ remains the same if a place with the number x is added to ν and one more place is taken
+-- if x is at least each part of μ, adding a place with the number x to ν and having one more place occupied does not change the number `placed` of
+-- ways to write the parts of μ into ν
 pub placed-first : (x j : ℕ) (ν μ : List ℕ) → ((w : ℕ) → Among w μ → w ≤ x) → placed (suc j) (x ∷ ν) μ ≡ placed j ν μ
 placed-first x j ν [] h = refl
 placed-first x j ν (w ∷ μ) h =
@@ -101,7 +97,7 @@ below_first v (a ∷ μ) f w (inr m) = omega (arith, f.0, below_first a μ f.1 w
 pub placings-placed : (μ ν : List ℕ) → IsPartition μ → repeats μ * placings μ ν ≡ placed 0 ν μ
 placings-placed [] ν p = omega (arith, placings-first ν)
 placings-placed (v ∷ μ) ν p =
-    as_number
+    pos_equal
     (ap (λ n. pos n)
     (let e : suc (times_in v μ) * repeats μ * placings (v ∷ μ) ν
     ≡ repeats μ * (suc (times_in v μ) * placings (v ∷ μ) ν) = omega arith in e)
@@ -119,14 +115,11 @@ placings-placed (v ∷ μ) ν p =
     ∙ ap (λ n. pos n *ℤ pos (placed 1 ν μ))
     (let e : count_from v ν ≡ count_from v ν - 0 = omega arith in e))
   where
-    as_number : {a b : ℕ} → pos a ≡ pos b → a ≡ b
-    as_number {a} {b} e = omega (arith, ints)
-
     front : insert_part v μ ≡ v ∷ μ
     front = insert_part-front v μ p.positive.0 p.falls
 
-    -- the multiplicity of v, summed over the splits whose first part sorts to v ∷ μ, is the number of these splits times 1
-    -- + the multiplicity of v in μ
+    -- a split of ν is a pair of lists that add up to ν, place by place: the number of times that v occurs in the first list, summed over the splits
+    -- whose first list sorts to v ∷ μ, is the number of these splits times 1 more than the multiplicity of v in μ
     left : total (λ (s : List ℕ × List ℕ). pos (times_in v s.0) *ℤ at_only (v ∷ μ)
         (sorted_parts s.0)) (splits ν) ≡ pos (suc (times_in v μ) * placings (v ∷ μ) ν)
     left =
@@ -161,14 +154,14 @@ placings-placed (v ∷ μ) ν p =
         (λ (s : List ℕ × List ℕ). at_only (v ∷ μ) (insert_part v (sorted_parts s.0)))
         (λ (s : List ℕ × List ℕ). at_only μ (sorted_parts s.0))
         (λ s. ap (λ y. at_only y (insert_part v (sorted_parts s.0))) (sym front)
-        ∙ ap (λ b. cond b (pos 1) (pos 0)) (is_label-insert_part v μ (sorted_parts s.0)))
+        ∙ ap (λ b. cond b (pos 1) (pos 0)) (same-insert_part v (sorted_parts s.0) μ))
         (splits rest)
         ∙ sym (placings-total μ rest))
         ∙ ap pos (r ∙ placed-taken d 0 rest ν μ t
         (λ w m. omega (arith, below_first v μ p.falls w m)))
     place d rest t false e r = *ℤ-zero (pos (repeats μ))
 
--- ---- placings with one more part
+-- ---- the number of placings for one more part
 
 placed-last : (j v : ℕ) (ν μ : List ℕ) → placed j ν (μ ++ v ∷ [])
     ≡ placed j ν μ * (count_from v ν - (j + length μ))
@@ -230,15 +223,12 @@ placings-next v μ ν p =
     ∙ a
     ∙ c
     ∙ ap (λ n. n * (count_from v ν - length μ)) (sym b)
-    ∙ grouped_again (repeats μ) (placings μ ν) (count_from v ν - length μ))
+    ∙ (mul_assoc (repeats μ) (placings μ ν) (count_from v ν - length μ) ∙ mul_comm (repeats μ) ((placings μ ν) * (count_from v ν - length μ))))
   where
     grouped : (x y z : ℕ) → x * y * z ≡ z * y * x
     grouped x y z = omega arith
 
-    grouped_again : (x y z : ℕ) → x * y * z ≡ y * z * x
-    grouped_again x y z = omega arith
-
--- ---- shapes in which the parts of μ can be placed
+-- ---- the partitions ν with `placings μ ν` > 0
 
 pub placings-hold : (μ ν : List ℕ) → IsPartition μ → IsPartition ν → 0 < placings μ ν → Holds ν μ
 placings-hold μ ν p q h =
@@ -252,7 +242,7 @@ placings-hold μ ν p q h =
       ap (count_from k) (same_true (sorted_parts s.0.0) μ s.2),
     ))
 
--- ---- a list in m times the sum of the m_λ, λ of size k
+-- ---- the product of a list in m and the sum of the m_λ with λ of size k
 
 pub placings-lists : (k : ℕ) (left right : WholeTerms)
     → ((parts : List ℕ) → IsPartition parts → coefficient right parts
@@ -319,9 +309,5 @@ placings-lists k left right h ν =
             (λ t. let u = eqb-true (size (sorted_parts s.1)) k t in eq-eqb (size μ + k) (size ν)
             (omega arith)))
             ∙ sym (one-product (cond (size (sorted_parts s.1) == k) (pos 1) (pos 0)))
-        by s m false e = none (test μ)
+        by s m false e = nothing_either (test μ)
             ∙ sym (zero-*ℤ (cond (size (sorted_parts s.1) == k) (pos 1) (pos 0)))
-          where
-            none : (t : Bool) → cond t (pos 0) (pos 0) ≡ pos 0
-            none true = refl
-            none false = refl

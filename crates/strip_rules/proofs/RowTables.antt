@@ -1,6 +1,6 @@
--- m_μ·h_k over the shapes that contain μ, and a list times h_k.
---     row_sums                         the shapes that contain μ give all of m_μ·h_k
---     product-at, product-large        the coefficients of a list times h_k, and the case that one is 2^127 or more
+-- m_μ·h_k as a sum over the partitions that contain μ, and the product of a list in m and h_k.
+--     row_sums                         the partitions that contain μ give all of m_μ·h_k
+--     product-at, product-large        the coefficients of a list times h_k, and when one of them is 2^127 or more
 use Rattle.std.proofs.Common.{◌≡◌, ◌⊎◌, ℕ, ◌+◌, ◌^◌, ◌<◌, ◌≤◌, Bool, true, false, cond, ◌==◌, List, [], refl, sym, ◌∙◌, ap, subst, inl, inr, arith, ℤ, pos, ◌*ℤ◌}
 use Rattle.std.specs.Prelude.{nat_abs, ◌≤ℤ◌}
 use Rattle.std.proofs.lemmas.Bool.{cases_lt, eqb-true, eq-eqb, both_ways}
@@ -42,10 +42,10 @@ row_sums k μ shapes p l φ =
     none ν q e n (inl h) = absurd (n ((l.members ν).1 (q, e, placings-hold μ ν p q h)))
     none ν q e n (inr h) = let z : placings μ ν ≡ 0 = omega arith in ap (λ i. pos i *ℤ φ ν) z ∙ zero-*ℤ (φ ν)
 
--- ---- the coefficients of a list of shapes
+-- ---- the coefficients of a list of partitions with counts
 
--- in the list of all partitions of d with their counts, the coefficient of ν is its count if |ν| = d, and 0 otherwise; b
--- says whether |ν| = d
+-- in the list of all partitions of d, each with its count, the coefficient of ν is `count ν` if |ν| = d, and 0 otherwise; b is true if and only if
+-- |ν| = d
 listed_at : (d : ℕ) (count : List ℕ → ℕ) (ν : List ℕ) → IsPartition ν → (b : Bool) → (b ≡ true → size ν ≡ d) → (b ≡ false → size ν ≡ d → ⊥)
     → coefficient (counted count (partitions_of d)) ν ≡ cond b (pos (count ν)) (pos 0)
 listed_at d count ν p b here there =
@@ -96,7 +96,7 @@ module _ (k : ℕ) (ν : List ℕ) (p : IsPartition ν) where
       (sym (total_map (λ (t : List ℕ × ℤ). t.1 *ℤ row_at t.0) (λ (t : List ℕ × ℤ). (t.0, pos (nat_abs t.1))) list)
       ∙ sym (placings-lists k (absolute list) (complete_terms k) (complete_at k) ν)) h
 
--- ---- coefficients of the product with h_k that are 2^127 or more
+-- ---- coefficients of the product with h_k that are 2^127 or more in absolute value
 
 pub product-large : (k : ℕ) (list old : WholeTerms) → old ≡ [] → Overflows equal old (replaced (row_terms k) list)
     → (ν : List ℕ) × IsPartition ν × (pos (2 ^ 127) ≤ℤ product_coefficient (absolute list) (complete_terms k) ν)

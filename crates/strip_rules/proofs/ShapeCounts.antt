@@ -1,7 +1,7 @@
--- A product as the list of some shapes, each once with its coefficient.
---     coefficient-shapes     the coefficients of this list, if it has all shapes whose coefficient is not 0
---     column-shapes          m_μ·e_k over the vertical strips
---     row-shapes             m_μ·h_k over the partitions that contain μ
+-- A product in m as a list of partitions, each listed once, with its coefficient in the product.
+--     coefficient-shapes     the coefficients of this list, if it has all partitions whose coefficient is not 0
+--     column-shapes          m_μ·e_k, over the ν for which ν/μ is a vertical strip
+--     row-shapes             m_μ·h_k, over the partitions that contain μ
 use Rattle.std.proofs.Common.{◌≡◌, ◌⊎◌, ℕ, ◌+◌, ◌<◌, ◌≤◌, Bool, cond, List, map, refl, ap, ◌∙◌, subst, inl, inr, arith, ℤ, pos}
 use Rattle.std.specs.Prelude.{◌↔◌}
 use Rattle.std.proofs.lemmas.Bool.{cases_lt}

@@ -1,11 +1,9 @@
--- The shapes that arise from a partition by adding strips and rim hooks of k cells.
---     horizontal_list, vertical_list, hook_list    each list has the shapes made by adding a strip or a rim hook, each once
---     rows_around, shape_limits                    a shape with k more cells has at most k more rows
+-- The partitions that result from a partition by adding strips and rim hooks of k cells.
+--     horizontal_list, vertical_list, hook_list    each list has the partitions that result from adding a strip or a rim hook, each once
+--     rows_around, shape_limits                    a partition with k more cells has at most k more rows
 --     height_positive                              the height of a rim hook is at least 1
---     among_next, next_on, so_far_on               the position of a loop in the list of shapes
-use Rattle.std.proofs.Common.{◌≡◌, ℕ, suc, ◌+◌, ◌≤◌, List, [], ◌∷◌, ◌++◌, append_assoc, get_or, refl, sym, ap, ◌∙◌, subst, inl, arith}
-use Rattle.std.specs.Prelude.{Option, Some}
-use Rattle.std.specs.Option.{option_to_list}
+--     among_next, next_on, so_far_on               the position of a loop in the list of partitions
+use Rattle.std.proofs.Common.{◌≡◌, ℕ, suc, ◌+◌, ◌≤◌, List, [], ◌∷◌, ◌++◌, get_or, refl, subst, inl, arith}
 use Rattle.sym_model.specs.Sum.{Among}
 use Rattle.sym_model.specs.Partition.{IsPartition, ArePositive, Holds, size, rows}
 use Rattle.sym_model.specs.Strip.{height}
@@ -34,7 +32,7 @@ pub record IsAround (k : ℕ) (inner outer : List ℕ) : Type 0 where
   pub cells : size outer ≡ size inner + k
   pub holds : Holds outer inner
 
--- if outer contains inner, the number of rows added is at most the number of cells added
+-- if outer contains inner, then (rows of outer) - (rows of inner) is at most (cells of outer) - (cells of inner)
 rows_grow : (inner outer : List ℕ) → ArePositive inner → ArePositive outer → ((j : ℕ) → get_or inner j 0 ≤ get_or outer j 0) → rows outer + size inner ≤ rows inner + size outer
 rows_grow [] [] p q h = omega arith
 rows_grow [] (b ∷ outer) p q h = let r = rows_grow [] outer tt q.1 (λ j. omega arith) in let s = q.0 in omega arith
@@ -70,14 +68,7 @@ height_positive k parts list p h ν m =
     let o = r.2.ordered in
     omega arith
 
--- ---- the shapes that a lister (an iterator over shapes) returns, one after another
+-- ---- the partitions that an iterator returns, one after another
 
 pub among_next : (done rest all : List (List ℕ)) (k : List ℕ) → done ++ k ∷ rest ≡ all → Among k all
 among_next done rest all k e = subst (Among k) e (Among-append_right k done (k ∷ rest) (inl refl))
-
--- if a lister (an iterator over shapes) returns k next, k follows the shapes listed so far and comes before those still to come
-pub next_on : (done old new all : List (List ℕ)) (item : Option (List ℕ)) (k : List ℕ) → done ++ old ≡ all → old ≡ option_to_list item ++ new → item ≡ Some k → done ++ k ∷ new ≡ all
-next_on done old new all item k so_far next current = ap (λ xs. done ++ xs) (ap (λ o. option_to_list o ++ new) (sym current) ∙ sym next) ∙ so_far
-
-pub so_far_on : (done new all : List (List ℕ)) (k : List ℕ) → done ++ k ∷ new ≡ all → (done ++ k ∷ []) ++ new ≡ all
-so_far_on done new all k on = append_assoc done (k ∷ []) new ∙ on

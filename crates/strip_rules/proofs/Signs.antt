@@ -1,7 +1,7 @@
 -- The signs of rim hooks by their heights.
---     signed_one, _odd, _even     a coefficient with the sign of a height
+--     signed_one, _odd, _even     a coefficient times the sign of a height
 --     negation_large              a negation is refused only if the coefficient is too large
---     height_here                 the height that a lister of rim hooks returns is that of its current shape
+--     height_here                 the height that an iterator of rim hooks returns is that of its current partition
 use Rattle.std.proofs.Common.{◌≡◌, ◌⊎◌, ℕ, ◌-◌, ◌/◌, ◌%◌, ◌^◌, ◌<◌, ◌≤◌, inl, inr, refl, sym, ap, ◌∙◌, subst, arith, pos, neg_ℤ, unsigned_abs}
 use Rattle.std.specs.Prelude.{◌≢◌, List, Option, Some, None, IfSome}
 use Rattle.std.proofs.Math.Nat.{div-le_of_le-mul}
@@ -45,7 +45,7 @@ signed_even h c d l e f = elim (parity_of (h - 1)) [
           ∙ sym (product-negation (scaled q c) (pos 1));
     }
 
--- if the negation of a coefficient c has no result, |c| over any common denominator is at least 2^127
+-- if the ring refuses the negation of a coefficient c, then |q·c| is at least 2^127 for each common denominator q of c
 pub negation_large : {R : Type 0} (value : R → Fraction) (c : R) → AnswersNegation value c None → (q : ℕ) → IsDenominator q (value c) → 2 ^ 127 ≤ magnitude q (value c)
 negation_large value c answers q d = by (cases_lt (magnitude (value c).1 (value c)) (2 ^ 127))
   where
@@ -58,7 +58,8 @@ negation_large value c answers q d = by (cases_lt (magnitude (value c).1 (value 
         let y = mul-le-mul_left (unsigned_abs (value c).0) (let o : 1 ≤ q / (value c).1 = omega arith in o) in
         omega arith
 
--- the height that a lister of rim hooks returns is that of its current shape
+-- if an iterator over the rim hooks added to `base` returns the partition `label`, and `high` is the height that it then returns, then `high` is the
+-- height of label/base
 pub height_here : (item : Option (List ℕ)) (now base label : List ℕ) → (high : ℕ) → IfSome item (λ ν. high ≡ height ν now) → item ≡ Some label → now ≡ base → high ≡ height label base
 height_here item now base label high h e b =
     subst (λ o. IfSome o (λ ν. high ≡ height ν now)) e h ∙ ap (height label) b

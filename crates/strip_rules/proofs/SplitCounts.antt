@@ -1,24 +1,25 @@
--- The two parts of a split of a list, which add up to it place by place, compared with the list by the numbers at least k.
---     counts-splits     the first part has at most as many numbers that are at least k as the whole
---     counts-near       if the second part has only 0 and 1, the whole has at most as many numbers that are at least k + 1
---                       as the first part has that are at least k
+-- The splits of a list, that is, the pairs of lists that add up to it place by place: the number of entries that are at least k in the first list,
+-- compared with that in the whole list.
+--     counts-splits     the first list has at most as many numbers that are at least k as the whole
+--     counts-near       if the second list has only 0 and 1, the whole has at most as many numbers that are at least k + 1
+--                       as the first list has that are at least k
 --     some_split        if the number of splits that pass a test is not 0, some split passes it
 use Rattle.std.proofs.Common.{◌≡◌, ◌⊎◌, ℕ, zero, suc, ◌+◌, ◌-◌, ◌<◌, ◌≤◌, Bool, true, false, cond, leb, List, [], ◌∷◌, map, length, refl, sym, ap, ◌∙◌, subst, inl, inr, arith, filter}
 use Rattle.std.proofs.lemmas.Bool.{cases_lt, le-leb, lt-leb}
 use Rattle.sym_model.specs.Sum.{Among}
 use Rattle.sym_model.specs.Partition.{IsPartition, Holds, part, insert_part, sorted_parts}
 use Rattle.sym_model.specs.Conjugate.{count_from}
-use Rattle.sym_model.proofs.Sums.{Among_from_each, Among_from_map, Among_from_select}
+use Rattle.sym_model.proofs.Sums.{Among_from_each, Among_from_map, Among_from_select, down_from-below}
 use Rattle.sym_model.proofs.Conjugates.{count_from-least, count_from-most}
 use Rattle.monomial_laws.specs.MonomialProduct.{splits}
-use Rattle.monomial_laws.proofs.Arrangements.{down_from-below}
 use Rattle.sym_model.specs.Bases.{down_from}
 use Rattle.sym_model.specs.Strip.{IsVerticalStrip}
-use Rattle.sym_model.proofs.Numbers.{nat_le-suc}
 use Rattle.strip_laws.proofs.Strips.{vertical_from_rows}
 use Rattle.sym_model.proofs.Parts.{positive_within}
+use Rattle.std.proofs.Math.Dec.{leb-suc-suc}
 
--- s is a split of c ∷ ν: its first numbers are `first` ≤ c and c - first, and the numbers after them are a split of ν
+-- the pair s of lists is a split of c ∷ ν: the first numbers of the two lists are `first` ≤ c and c - first, and the lists of the numbers after these
+-- are a split of ν
 pub record IsSplitOf (c : ℕ) (ν : List ℕ) (s : List ℕ × List ℕ) : Type 0 where
   pub first : ℕ
   pub rest : List ℕ × List ℕ
@@ -66,13 +67,13 @@ counts-near (c ∷ ν) s k m h =
     omega (
       arith,
       reaches (suc k) c (suc p.first) (omega (arith, few, p.low)),
-      ap (λ (b : Bool). cond {A = ℕ} b 1 0) (nat_le-suc k p.first),
+      ap (λ (b : Bool). cond {A = ℕ} b 1 0) (leb-suc-suc k p.first),
       ap (λ (q : List ℕ × List ℕ). count_from k q.0) p.is,
       counts-near ν p.rest k p.among
           (λ a n. h a (subst (λ (q : List ℕ × List ℕ). Among a q.1) (sym p.is) (inr n))),
     )
 
--- ---- the number of parts of a list that are at least k
+-- ---- the number of entries of a list that are at least k
 
 count_from-insert_part : (k a : ℕ) (parts : List ℕ) → 0 < k → count_from k (insert_part a parts)
     ≡ cond (leb k a) 1 0 + count_from k parts
@@ -94,7 +95,7 @@ count_from-sorted_parts k [] h = refl
 count_from-sorted_parts k (a ∷ α) h = count_from-insert_part k a (sorted_parts α) h
     ∙ ap (λ n. cond (leb k a) 1 0 + n) (count_from-sorted_parts k α h)
 
--- ---- partitions compared by the counts of their parts
+-- ---- containment of partitions, by the numbers of their parts that are at least k
 
 pub holds_from_counts : (outer inner : List ℕ) → IsPartition outer → IsPartition inner
     → ((k : ℕ) → 0 < k → count_from k inner ≤ count_from k outer) → Holds outer inner
@@ -127,7 +128,7 @@ vertical_from_counts outer inner p q h n =
         absurd (omega (arith, a, b, n k (omega arith)))
     by i (inr l) = l
 
--- ---- splits that pass a test
+-- ---- splits of a list that pass a test
 
 pub some_split : (test : List ℕ × List ℕ → Bool) (ν : List ℕ) → 0 < length (filter test (splits ν))
     → (s : List ℕ × List ℕ) × Among s (splits ν) × (test s ≡ true)

@@ -1,8 +1,8 @@
--- One term times h_k, e_k or p_k, and a list of terms (specs/Adding).
---     strips_value, hooks_value                 the sum over the shapes of a term is its product
---     horizontal_product, vertical_, hooks_     the shapes of a term with their signs are its product
---     list_value                                a list of products is the product of the list
---     expansion                                 a list expands f if its pairings with test functions are those of f
+-- The product of one Schur polynomial, and of a list in s, with h_k, e_k or p_k (specs/Adding).
+--     strips_value, hooks_value                 the sum over the partitions with an added strip or rim hook is the product
+--     horizontal_product, vertical_, hooks_     these partitions with their signs are the product (`IsProduct`)
+--     list_value                                the products of the terms of a list add up to the product of the list
+--     expansion                                 a list expands f if its sums Σ c·φ(α), for every φ, are those of f
 use Rattle.std.proofs.Common.{◌≡◌, ℕ, suc, ◌+◌, ◌-◌, ◌*◌, ◌^◌, ◌≤◌, Bool, true, false, cond, List, [], ◌∷◌, length, refl, sym, ap, ap₂, ◌∙◌, subst, inl, inr, arith, ℤ, pos, ◌+ℤ◌, ◌*ℤ◌, flat_map}
 use Rattle.std.specs.Prelude.{nat_eq, nat_abs}
 use Rattle.std.specs.Int.{◌∣◌}
@@ -56,7 +56,7 @@ hooks_value k n parts list φ h p l =
     ∙ sym (pair_each (λ (ν : List ℕ). scale (sign ν) (schur ν n)) list φ)
     ∙ sym (pair_determined (times (power_sum_of k n) (schur parts n)) (flat_map (λ (ν : List ℕ). scale (sign ν) (schur ν n)) list) φ (rim_hooks n k parts list h p l))
 
--- at most (size + k)^k partitions come from adding a rim hook of k cells to a partition of this size
+-- at most (size + k)^k partitions result from adding a rim hook of k cells to a partition with the given size
 hook_count : (k : ℕ) (parts : List ℕ) (list : List (List ℕ)) → 1 ≤ k → IsPartition parts → ListsEach (AddsRimHook k parts) list → length list ≤ (size parts + k) ^ k
 hook_count k parts list h p l =
     let c = hooks_within k parts list p l in
@@ -67,7 +67,7 @@ hook_count k parts list h p l =
     first_power : (n : ℕ) → n ^ 1 ≡ n
     first_power n = let a = pow-suc n 0 in let b = pow-zero n in let c = ap (λ m. m * n) b in omega arith
 
--- ---- the shapes of one term with their signs
+-- ---- the partitions of the product of one term, with their signs
 
 module _ (sign : List ℕ → ℤ) (unit : (ν : List ℕ) → nat_abs (sign ν) ≡ 1) where
   mass_signs : (shapes : List (List ℕ)) → mass (each_by sign shapes) ≡ length shapes
@@ -95,8 +95,9 @@ module _ (sign : List ℕ → ℤ) (unit : (ν : List ℕ) → nat_abs (sign ν)
           omega arith
       by false e r = omega arith
 
-  -- if the shapes are different partitions, at most (size + k)^k in number, that contain the label and have k more cells, and with
-  -- their signs have the sum f·s_label in every number of variables, they are the product of f and s_label
+  -- if the shapes are different partitions, at most (|label| + k)^k in number, that contain the label and have k more cells, and the sum of
+  -- sign(ν)·s_ν over the shapes ν is f·s_label in every number of variables, then the shapes with their signs are the product of f and s_label
+  -- (`IsProduct`)
   signs_product : (f : ℕ → Poly) (k : ℕ) (label : List ℕ) (shapes : List (List ℕ)) → IsPartition label
       → ((n : ℕ) (φ : List ℕ → ℤ) → total (λ ν. sign ν *ℤ pair (schur ν n) φ) shapes ≡ pair (times (f n) (schur label n)) φ)
       → length shapes ≤ (size label + k) ^ k → Once shapes → ((ν : List ℕ) → Among ν shapes → IsAround k label ν)
@@ -136,7 +137,7 @@ hooks_product k parts base list h p e hooks =
     (signs_product (λ ν. minus_one_to (height ν parts - 1)) (λ ν. sign_size (height ν parts - 1)) (power_sum_of k) k parts list p
     (λ n φ. hooks_value k n parts list φ h p l) (hook_count k parts list h p l) l.once (hook_around k parts list l))
 
--- ---- f times the value of a list, from the products of f with the Schur polynomials of its labels
+-- ---- the product of f and a list in s, from the products of f and the Schur polynomials of its labels
 
 pair_cleared : (n q : ℕ) (terms : Terms (List ℕ)) (φ : List ℕ → ℤ)
     → pair (cleared (λ ν. basis_polynomial Basis.schurs ν n) q terms) φ ≡ pair (over q terms) (λ ν. pair (schur ν n) φ)
@@ -158,7 +159,7 @@ list_value f n terms φ =
     pair_factor t.1 f (λ α. pair (schur t.0 n) (λ β. φ (join α β)))
     ∙ ap (λ z. t.1 *ℤ z) (sym (pair_times f (schur t.0 n) φ))) list)
 
--- ---- a list of terms expands f if its pairings with test functions are those of f
+-- ---- a list of terms in s expands f if, for every function φ, its sum Σ c·φ(α) over its monomials c·x^α is that of f
 
 pub expansion : (terms : Terms (List ℕ)) (d n : ℕ) (f : Poly) → IsFractionTable terms → ((t : List ℕ × Fraction) → Among t terms → t.1.1 ∣ d)
     → ((φ : List ℕ → ℤ) → pair (over d terms) (λ ν. pair (schur ν n) φ) ≡ pair f φ) → IsExpansionOf Basis.schurs terms n f d

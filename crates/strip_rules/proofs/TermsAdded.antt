@@ -1,7 +1,7 @@
--- Terms that are added to a table, each times one coefficient (GainsMultiple, OverflowsMultiple).
---     Gains-shape, Overflows-shape    one shape after another
+-- Terms that are added to a table, each times the coefficient c (`GainsMultiple`, `OverflowsMultiple`).
+--     Gains-shape, Overflows-shape    one partition after another
 --     Gains-signed, Overflows-signed  one term with a sign, in a table over any ring
---     Overflows-size                  a coefficient that is too large by itself
+--     Overflows-size                  adding a term overflows if c is too large by itself
 use Rattle.std.proofs.Common.{◌≡◌, ℕ, ◌*◌, ◌^◌, ◌≤◌, List, [], ◌∷◌, ◌++◌, refl, sym, ap, subst, arith, ℤ, pos, ◌*ℤ◌}
 use Rattle.std.specs.Prelude.{nat_eq, nat_abs, Option}
 use Rattle.std.specs.Int.{◌∣◌}
@@ -25,7 +25,7 @@ use Rattle.linear_combinations.specs.Gains.{each_by}
 use Rattle.linear_combinations.proofs.Counted.{scaled_each_by-append}
 use Rattle.strip_rules.specs.Adding.{IsSigned}
 
--- ---- the shapes added, one after another
+-- ---- partitions that are added with signs, one after another
 
 module _ (c : Fraction) (sign : List ℕ → ℤ) (done : List (List ℕ)) (k : List ℕ)
     (old cur : Terms (List ℕ)) (a : GainsMultiple (pointwise nat_eq) is_label c
@@ -47,7 +47,7 @@ module _ (c : Fraction) (sign : List ℕ → ℤ) (done : List (List ℕ)) (k : 
       subst (λ l. OverflowsCleared (pointwise nat_eq) q old (scaled z (each_by sign l))) on
       (Overflows-next (λ xs. scaled z (each_by sign xs)) (scaled_each_by-append sign z) q done k old cur x rest (e q d small x.cleared))
 
--- ---- one term with a sign added to a table over any ring
+-- ---- one term with the sign s, added to a table over any ring
 
 module _ {R : Type 0} (value : R → Fraction) (zero : R) (none : value zero ≡ whole (pos 0))
     (c : Fraction) (s : ℤ) (k : List ℕ) (v : R) (entries : List (List ℕ × R))
@@ -67,7 +67,7 @@ module _ {R : Type 0} (value : R → Fraction) (zero : R) (none : value zero ≡
       Gains-entry value zero none q entries k v was d.positive (signed_divides q d) cleared sum
       sums after low also more (numerator_over q c *ℤ s) (is.value q)
 
-  -- if adding v to the coefficient of k is refused, adding c times the sign s at k overflows
+  -- if v is the sign s times c, and the ring refuses the sum of v and the coefficient of k, then adding c·s at k overflows (`OverflowsMultiple`)
   pub Overflows-signed : (is_held : R → Type 0) (checked : R → R → Option R)
       → ((a b : R) → is_held a → is_held b → AnswersSum value a b (checked a b))
       → Entries.IsRefused is_held checked (Entries.coefficient (pointwise nat_eq) zero entries k) v
@@ -76,7 +76,7 @@ module _ {R : Type 0} (value : R → Fraction) (zero : R) (none : value zero ≡
       Overflows-entry value zero none q entries k v was d.positive (signed_divides q d) cleared
       is_held checked answers small refused (numerator_over q c *ℤ s) (is.value q)
 
--- if |c| is 2^127 or more over any common denominator, adding c at a label overflows
+-- if |q·c| is 2^127 or more for each multiple q of the denominator of c, adding c times a sign at a label k overflows (`OverflowsMultiple`)
 pub Overflows-size : (c : Fraction) (s : ℤ) (k : List ℕ) (old : Terms (List ℕ)) → nat_abs s ≡ 1
     → ((q : ℕ) → IsDenominator q c → 2 ^ 127 ≤ magnitude q c)
     → OverflowsMultiple (pointwise nat_eq) c ((k, s) ∷ []) old

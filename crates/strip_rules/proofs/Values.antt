@@ -1,4 +1,4 @@
--- A list in m with the coefficients of a product with e_k or h_k has the polynomial of this product.
+-- A list in m with the coefficients of the product of a list in m with e_k or h_k is this product, as a polynomial.
 use Rattle.std.proofs.Common.{◌≡◌, ℕ, List}
 use Rattle.sym_model.specs.Bases.{elementary_of, complete_of}
 use Rattle.sym_model.specs.Partition.{IsPartition}

@@ -1,4 +1,4 @@
--- The product of a monomial symmetric polynomial and e_k, at one label (Macdonald, I.2).
+-- The product of a monomial symmetric polynomial and e_k (Macdonald, I.2).
 use Rattle.std.specs.Prelude.{ℕ, ◌+◌, ◌≤◌, List}
 use Rattle.sym_model.specs.Partition.{IsPartition, size, rows}
 use Rattle.sym_model.specs.PartitionList.{partitions_of}

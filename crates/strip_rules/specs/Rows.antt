@@ -1,4 +1,4 @@
--- The product of a monomial symmetric polynomial and h_k: its partitions and their coefficients (Macdonald, I.2).
+-- The product of a monomial symmetric polynomial and h_k: the partitions that occur and their coefficients (Macdonald, I.2).
 use Rattle.std.specs.Prelude.{◌≡◌, ℕ, ◌+◌, List, ◌∷◌, ◌++◌, map}
 use Rattle.sym_model.specs.Partition.{IsPartition, Falls, Holds, size}
 use Rattle.sym_model.specs.PartitionList.{partitions_of}
@@ -15,17 +15,17 @@ AddsCells k μ ν = IsPartition ν × (size ν ≡ size μ + k) × Holds ν μ
 abbrev pub AddsBelow : ℕ → ℕ → List ℕ → List ℕ → Type 0
 AddsBelow most k μ ν = AddsCells k μ ν × Falls (most ∷ ν)
 
--- the partitions with the property have been added to a list, each once and after the rows of
--- `above`
+-- the list `new` is `old`, followed by the lists `above ++ ν` for the lists ν with the property P, one for each
 pub record HasAdded (P : List ℕ → Type 0) (above : List ℕ) (old new : List (List ℕ)) : Type 0 where
   pub added : List (List ℕ)
   pub listed : new ≡ old ++ map (λ ν. above ++ ν) added
   pub each : ListsEach P added
 
--- the shapes, each with the number of placings of the parts of μ in its rows
+-- the list of the given shapes, each with the number of ways to give each of its rows a part of μ or 0, at most the length of the row, such that each
+-- part of μ is used once (`placings`)
 abbrev pub with_placings : List ℕ → List (List ℕ) → WholeTerms
 with_placings μ shapes = counted (placings μ) shapes
 
--- m_μ·h_k: all partitions with k more cells than μ, with their placings
+-- m_μ·h_k as a list: all partitions ν with k more cells than μ, each with the number `placings μ ν`
 abbrev pub row_terms : ℕ → List ℕ → WholeTerms
 row_terms k μ = with_placings μ (partitions_of (size μ + k))

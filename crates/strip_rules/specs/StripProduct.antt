@@ -1,5 +1,4 @@
--- The product of a monomial symmetric polynomial with e_k = m_(1^k) and with h_k, the sum of all
--- m_λ, λ of size k (Macdonald, I.2).
+-- The products of a monomial symmetric polynomial with e_k = m_(1^k), and with h_k, the sum of all m_λ with λ of size k (Macdonald, I.2).
 use Rattle.std.specs.Prelude.{ℕ, List, length, replicate, filter}
 use Rattle.sym_model.specs.Polynomial.{same}
 use Rattle.sym_model.specs.Partition.{sorted_parts}
@@ -9,6 +8,6 @@ use Rattle.monomial_laws.specs.MonomialProduct.{splits}
 abbrev pub column : ℕ → List ℕ
 column k = replicate k 1
 
--- the number of ways to place the parts of μ, and zeros, in the places of ν, none greater than the number there
+-- the number of ways to give each part of ν a part of μ or 0, at most as great as the part of ν, such that each part of μ is used once
 abbrev pub placings : List ℕ → List ℕ → ℕ
 placings μ ν = length (filter (λ (s : List ℕ × List ℕ). same (sorted_parts s.0) μ) (splits ν))

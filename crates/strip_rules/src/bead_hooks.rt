@@ -1,4 +1,5 @@
-//! Adds rim hooks to partitions by moving the beads of beta sets.
+//! Adds rim hooks to partitions, by moving beads in their beta sets: there is a bead at the place b
+//! for each beta number b.
 ghost use Rattle.std.specs.Prelude.{◌≡◌, ◌+◌, ◌-◌, ◌*ℤ◌, ◌^◌, ◌<◌, ◌≤◌, [], ◌∷◌, nat_abs, nat_eq};
 ghost use Rattle.std.specs.Prelude.{OnOk, IsErrOf, MatchOption};
 ghost use Rattle.sym_model.specs.PlaceOrders.{minus_one_to};
@@ -10,16 +11,16 @@ use calc_base::SumFault;
 use coeff_rings::{Int, Ring};
 use linear_combinations::Rule;
 
-/// The number times (-1)^`times`; `None` if it is too large.
+/// (-1)^`times`·c; `None` only if the absolute value of c is 2^127 or more.
 fn turned(c: Int, times: u32) -> Option<Int>
     ensures { MatchOption result (2 ^ 127 ≤ nat_abs c) (λ z. z ≡ minus_one_to times *ℤ c) }
 {
     if times % 2 == 0 { Some(c) } else { c.neg() }
 }
 
-/// Adds c times the set after the bead at `place` has moved up by `cells` places, with the sign of
-/// its rim hook. Returns `Large` only if, at that set, the absolute values of the old coefficient
-/// and of c add up to 2^127 or more.
+/// Adds c, times the sign of the rim hook, to the coefficient of the set that results if the bead
+/// at `place` moves up by `cells` places. Returns `Large` only if, at that set, the absolute values
+/// of the old coefficient and of c add up to 2^127 or more.
 fn add_hook(sum: &mut Shapes, set: BetaSet, place: u16, cells: u16, c: Int) -> Result<(), SumFault>
     requires low { place + cells < 63 }
     requires there { (2 ^ place ≤ set) × (set < 2 ^ 63) }
@@ -35,8 +36,8 @@ fn add_hook(sum: &mut Shapes, set: BetaSet, place: u16, cells: u16, c: Int) -> R
     sum.add_owned(set.moved(place, to), number)
 }
 
-/// The rule that replaces a partition by all partitions made by adding a rim hook of `cells` cells,
-/// with their signs.
+/// The rule that replaces a partition by all partitions that result from adding a rim hook of
+/// `cells` cells, with the signs of the hooks.
 #[derive(Drop)]
 pub(crate) struct HookAdded {
     pub cells: u16,

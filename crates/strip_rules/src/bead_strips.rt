@@ -1,4 +1,5 @@
-//! Adds strips to partitions, cell by cell, by moving the beads of beta sets.
+//! Adds strips to partitions, cell by cell, by moving beads in their beta sets: there is a bead at
+//! the place b for each beta number b.
 ghost use Rattle.std.specs.Prelude.{◌≡◌, ◌-◌, ◌^◌, ◌<◌, ◌≤◌, pos, nat_eq, OnOk, IsErrOf};
 ghost use Rattle.linear_combinations.specs.Gains.{Gains, Overflows, each_by, scaled};
 ghost use Rattle.beta_sets.specs.BetaSets.{numbers};
@@ -9,7 +10,7 @@ use calc_base::SumFault;
 use coeff_rings::Int;
 use linear_combinations::Rule;
 
-/// The two kinds of strips.
+/// The two kinds of strips: with at most one cell in each column, and with at most one in each row.
 #[derive(Clone, Copy, Drop)]
 pub(crate) enum Strip {
     Horizontal,
@@ -17,8 +18,8 @@ pub(crate) enum Strip {
 }
 
 impl Strip {
-    /// The bound for the place of the first bead that moves: in a horizontal strip the place is at
-    /// least the bound, in a vertical strip it is below the bound.
+    /// The bound for the place of the first bead that moves up: in a horizontal strip the place is
+    /// at least the bound, in a vertical strip it is below the bound.
     fn first_bound(self) -> u16
         ensures { result ≡ first_bound self }
     {
@@ -28,8 +29,8 @@ impl Strip {
         }
     }
 
-    /// The bound for the place of the next bead, after one moved from `place`: the places increase
-    /// in a horizontal strip and decrease in a vertical strip.
+    /// The bound for the place of the next bead that moves up, after a bead has moved up from
+    /// `place`: the places increase in a horizontal strip and decrease in a vertical strip.
     fn next_bound(self, place: u16) -> u16
         requires { place < 63 }
         ensures { result ≡ next_bound self place }
@@ -40,8 +41,8 @@ impl Strip {
         }
     }
 
-    /// The beads that may move next: those with no bead at the next place, from `bound` on in a
-    /// horizontal strip and below it in a vertical one.
+    /// The places of the beads that may move up by one place next: those with no bead at the place
+    /// above, from `bound` on in a horizontal strip, and below `bound` in a vertical strip.
     fn next_places(self, set: BetaSet, bound: u16) -> BetaSet
         requires { bound < 64 }
         ensures { numbers result ≡ next_places self bound (numbers set) }
@@ -53,10 +54,10 @@ impl Strip {
     }
 }
 
-/// Adds `c` to `sum` at each set that is made from `set` by adding `left` cells one after another,
-/// as the strip allows; the first cell comes from a bead within `bound`. Returns `Large` only if,
-/// at some set, the absolute values of the old coefficient and of the gains add up to 2^127 or
-/// more.
+/// Adds `c` to the coefficient in `sum` of each set that results from `set` by moving up a bead by
+/// one place, `left` times, in the order that `strip` allows; the first bead is at a place within
+/// `bound`. Returns `Large` only if, at some set, the absolute values of the old coefficient and of
+/// the terms to be added have a sum of 2^127 or more.
 fn add_cells(
     sum: &mut Shapes,
     strip: Strip,
@@ -85,7 +86,8 @@ fn add_cells(
     Ok(())
 }
 
-/// The rule that replaces a partition by all partitions made by adding a strip of `cells` cells.
+/// The rule that replaces a partition by all partitions that result from adding a strip of `cells`
+/// cells.
 #[derive(Drop)]
 pub(crate) struct StripAdded {
     pub strip: Strip,

@@ -1,4 +1,4 @@
-//! Lists of monomial symmetric polynomials times h_k.
+//! Products of lists of monomial symmetric polynomials and h_k.
 ghost use Rattle.std.specs.Prelude.{◌≡◌, ◌+◌, ◌^◌, ◌<◌, ◌≤◌, ◌≤ℤ◌, ◌*ℤ◌, pos, nat_abs};
 ghost use Rattle.std.specs.Prelude.{ℕ, List, [], ◌∷◌, ◌++◌, drop, MatchResult, SomeIff};
 ghost use Rattle.std.specs.Prelude.{IfOk, OnOk, IsErrOf};
@@ -24,7 +24,7 @@ use partitions::Partition;
 use sparse_polys::Whole;
 use std::alloc::Global;
 
-/// The number of rows that are at least `v`; the rows are weakly decreasing.
+/// The number of rows of length at least `v`; the rows are weakly decreasing.
 fn rows_from(rows: &[u16], v: u16) -> usize
     requires { Falls rows.now }
     ensures { result ≡ count_from v rows.now }
@@ -36,8 +36,9 @@ fn rows_from(rows: &[u16], v: u16) -> usize
     count
 }
 
-/// The number of ways to place the parts of a partition μ (`inner`), and zeros, in the rows of a
-/// shape ν that contains it, no part longer than its row; `None` if it is 2^128 or more.
+/// The number of ways to give each row of a partition ν (`shape`) a part of a partition μ (`inner`)
+/// or 0, such that each part of μ is used once and no row is shorter than its number; `None` if
+/// this number of ways is 2^128 or more. Exchanging equal parts gives no new way. ν must contain μ.
 ///
 /// Let v be the first part of μ. The number for μ and ν, times the number of parts of μ that are at
 /// least v, is the number for μ and ν without their first rows, times the number of rows of ν that
@@ -56,8 +57,8 @@ fn placings(inner: &[u16], shape: &[u16]) -> Option<u128>
     times_quotient(later, rows_from(shape, *v), rows_from(inner, *v))
 }
 
-/// The product of a number and the number that `placings` gives for `inner` and `shape`. Returns an
-/// error only if its absolute value is 2^127 or more.
+/// The product of c and the number `placings` of `inner` and `shape`. Returns an error only if the
+/// absolute value of this product is 2^127 or more.
 fn times_placings(c: Int, inner: &[u16], shape: &[u16]) -> Result<Int, Large>
     requires inner { IsPartition inner.now }
     requires shape { IsPartition shape.now }
@@ -72,8 +73,8 @@ fn times_placings(c: Int, inner: &[u16], shape: &[u16]) -> Result<Int, Large>
     times_count(c, placings(inner, shape))
 }
 
-/// Adds, at each of the shapes, which contain the partition `label`, `c` times the number that
-/// `placings` gives for `label` and the shape.
+/// For each of `shapes`, adds `c` times the number `placings` of `label` and the shape to the
+/// coefficient of the shape in `sum`. Each of `shapes` must contain the partition `label`.
 fn add_placings(
     label: &Partition,
     shapes: &[Partition],
@@ -93,7 +94,7 @@ fn add_placings(
     Ok(())
 }
 
-/// The first row, or 0 if there is none, and the rows below it.
+/// The length of the first row, or 0 if there are no rows, and the rows after the first.
 fn first_and_below(rows: &[u16]) -> (u16, &[u16])
     ensures first { result.0 ≡ part rows.now 1 }
     ensures below { result.1.now ≡ drop 1 rows.now }
@@ -104,8 +105,8 @@ fn first_and_below(rows: &[u16]) -> (u16, &[u16])
     }
 }
 
-/// Appends to `shapes` the partition that has the rows of `above` followed by those of `inner`.
-/// `above` is unchanged.
+/// Appends to `shapes` the partition with the rows of `above`, followed by those of `inner`. At the
+/// end `above` is unchanged.
 fn add_shape(
     alloc: Global,
     inner: &[u16],
@@ -124,9 +125,9 @@ fn add_shape(
     Ok(())
 }
 
-/// Appends to `shapes` the partitions that begin with the rows of `above` and continue with a
-/// partition that contains `inner`, has `left` cells more and no row longer than `most`. `above` is
-/// unchanged at the end.
+/// Appends to `shapes` one partition for each partition ν that contains `inner`, has `left` cells
+/// more than `inner`, and has no row longer than `most`: the rows of `above` followed by the rows
+/// of ν. At the end `above` is unchanged.
 fn add_shapes(
     alloc: Global,
     most: u16,
@@ -157,7 +158,7 @@ fn add_shapes(
     Ok(())
 }
 
-/// The partitions that contain a partition and have k more cells, each once.
+/// The partitions that contain `inner` and have k more cells, each once.
 fn with_cells(alloc: Global, inner: &Partition, k: u16) -> Result<Vec<Partition>, NoMemory>
     requires { size inner.now + k ≤ 512 }
     ensures shapes { IfOk result (λ shapes. ListsEach (AddsCells k inner.now) shapes.items) }
@@ -171,8 +172,9 @@ fn with_cells(alloc: Global, inner: &Partition, k: u16) -> Result<Vec<Partition>
 }
 
 /// The rule that multiplies by h_k: m_μ·h_k is the sum of the m_ν over the partitions ν with k more
-/// cells than μ, each times the number of ways to place the parts of μ, and zeros, in the rows of
-/// ν, no part longer than its row.
+/// cells than μ, each times a number of ways. It is the number of ways to give each row of ν a part
+/// of μ or 0, such that each part of μ is used once and no row is shorter than its number;
+/// exchanging equal parts gives no new way.
 #[derive(Drop)]
 struct TimesComplete {
     alloc: Global,
@@ -193,12 +195,12 @@ impl Rule<Partition, Partition> for TimesComplete {
     }
 }
 
-/// The product of a list of monomial symmetric polynomials and h_k, which is the sum of all m_λ
-/// with λ of size k, in every number of variables (Macdonald, I.2). Each label has at most 512 - k
+/// The product of a list of monomial symmetric polynomials and h_k, in every number of variables
+/// (Macdonald, I.2); h_k is the sum of all m_λ with λ of size k. Each label has at most 512 - k
 /// cells.
 ///
-/// Returns `Large` only if some coefficient of the product of h_k and the list with absolute values
-/// as coefficients is 2^127 or more.
+/// Replace the coefficients of the list by their absolute values. Returns `Large` only if some
+/// coefficient of the product of the resulting list and h_k is 2^127 or more.
 ///
 /// Example: h_2 times m_(1) is m_(3) + 2 m_(2,1) + 3 m_(1,1,1).
 pub fn times_complete(alloc: Global, list: &Whole, k: u16) -> Result<Whole, SumFault>

@@ -1,4 +1,4 @@
-//! Counts that are computed factor by factor, and products of coefficients with counts.
+//! Numbers that are computed as products of fractions, and their products with coefficients.
 ghost use Rattle.std.specs.Prelude.{◌≡◌, ◌≢◌, ℕ, ◌*◌, ◌^◌, ◌<◌, ◌≤◌, ◌*ℤ◌, pos, nat_abs};
 ghost use Rattle.std.specs.Prelude.{MatchOption, MatchResult, SomeIff};
 
@@ -14,20 +14,22 @@ pub(crate) fn times_quotient(count: u128, over: usize, under: usize) -> Option<u
         return Some(count);
     }
     let (over, under) = (over as u128, under as u128);
-    // The remainder is multiplied separately, so only the result can be too large.
+    // The quotient and the remainder of `count` by `under` are multiplied by `over` separately, so
+    // only the result can be too large.
     let most = (count / under).checked_mul(over)?;
     most.checked_add(count % under * over / under)
 }
 
-/// The count as a coefficient, or `None` if it is 2^127 or more.
+/// The number `count` as a coefficient, or `None` if it is 2^127 or more.
 fn coefficient_of(count: u128) -> Option<Int>
     ensures { SomeIff result (count < 2 ^ 127) (pos count) }
 {
     Some(Int::new(i128::try_from(count).ok()?))
 }
 
-/// The product of a number other than 0 and a count; `count` is `None` if the count is 2^128 or
-/// more. Returns an error only if the absolute value of the product is 2^127 or more.
+/// The product of a coefficient c other than 0 and a natural number; `count` is this number, or
+/// `None` if the number is 2^128 or more. Returns an error only if the absolute value of the
+/// product is 2^127 or more.
 pub(crate) fn times_count(c: Int, count: Option<u128>) -> Result<Int, Large>
     requires { c ≢ pos 0 }
     ensures { (n : ℕ) → MatchOption count (2 ^ 128 ≤ n) (λ m. m ≡ n)

@@ -1,4 +1,4 @@
-//! A list in m times e_k.
+//! Products of lists of monomial symmetric polynomials and e_k.
 ghost use Rattle.std.specs.Prelude.{◌≡◌, ℕ, ◌+◌, ◌^◌, ◌≤◌, ◌*ℤ◌, pos, [], ◌∷◌, get_or};
 ghost use Rattle.std.specs.Prelude.{FitsSigned, MatchOption, IfOk, OnOk, IsErrOf};
 ghost use Rattle.std.specs.Int.{w128};
@@ -22,7 +22,7 @@ use skew_shapes::with_vertical_strip;
 use sparse_polys::Whole;
 use std::alloc::Global;
 
-/// The row at a place, counted from 0; 0 after the last one.
+/// The length of the row with the index `at`, counted from 0; 0 after the last row.
 fn row_at(rows: &[u16], at: usize) -> u16
     ensures { result ≡ get_or rows.now at 0 }
 {
@@ -40,8 +40,8 @@ fn coefficient_at(inner: &Partition, outer: &Partition) -> Option<u128>
     let shorter = inner.parts();
     let rows = outer.parts();
     let mut count: u128 = 1;
-    // `run` is the number of rows so far that are as long as the next one, and `longer` is the
-    // number of these that have a new cell.
+    // `run` is the number of rows before the row `at` that are as long as it in `outer`, and
+    // `longer` is the number of these that are longer in `outer` than in `inner`.
     let mut run = 0;
     let mut longer = 0;
     for at in 0..rows.len() {
@@ -59,8 +59,9 @@ fn coefficient_at(inner: &Partition, outer: &Partition) -> Option<u128>
     Some(count)
 }
 
-/// Adds `c` times the coefficient of m_ν in m_μ·e_k at the shape ν, for the label μ; ν/μ is a
-/// vertical strip. If the sum at ν is too large, this returns `Large` even if memory runs out, too.
+/// Adds to `sum`, at ν = `shape`, `c` times the coefficient of m_ν in m_μ·e_k, for μ = `label`; ν/μ
+/// is a vertical strip of k cells. If the new coefficient at ν is too large, `Large` is returned,
+/// even if no memory can be allocated.
 fn add_shape(label: &Partition, shape: &Partition, c: Int, sum: &mut Whole) -> Result<(), SumFault>
     requires { IsVerticalStrip shape.now label.now }
     ensures gains { OnOk result ((k : ℕ) → size shape.now ≡ size label.now + k
@@ -107,8 +108,8 @@ impl Rule<Partition, Partition> for TimesElementary {
 /// The product of a list in m and e_k, in every number of variables. Each label has at most 4,096 -
 /// k cells and at most 512 - k rows.
 ///
-/// Returns `Large` only if some coefficient of the product of e_k and the list with absolute values
-/// as coefficients is 2^127 or more.
+/// Replace the coefficients of the list by their absolute values. Returns `Large` only if some
+/// coefficient of the product of the resulting list and e_k is 2^127 or more.
 ///
 /// Example: m_(2,1) times e_2 has m_(2,2,1) twice.
 pub fn times_elementary(alloc: Global, list: &Whole, k: u16) -> Result<Whole, SumFault>

@@ -1,4 +1,5 @@
-//! Expands products of h_k, of e_k and of p_k in s by moving beads.
+//! Expands products of several h_k, of several e_k and of several p_k in s, by moving beads in beta
+//! sets.
 ghost use Rattle.std.specs.Prelude.{◌+◌, ◌-◌, ◌^◌, ◌≤◌, ℕ, IfOk, IsErrOf};
 ghost use Rattle.sym_model.specs.Bases.{complete_of, elementary_of, power_sum_of, product_over};
 ghost use Rattle.sym_model.specs.Expansion.{schurs, IsExpansionOf};
@@ -17,10 +18,10 @@ use linear_combinations::Lin;
 use partitions::Partition;
 use std::alloc::Global;
 
-/// The number of beta numbers of each set.
+/// The number of rows, and of beta numbers, of each beta set.
 const ROWS: u16 = 20;
 
-/// The list of the empty partition with coefficient 1.
+/// The list of beta sets with the one term 1 at the empty partition.
 fn one(alloc: Global) -> Result<Shapes, SumFault>
     ensures value { IfOk result (AreShapesOf one_of 0) }
     ensures small { ¬ IsErrOf result SumFault.Large }
@@ -30,9 +31,10 @@ fn one(alloc: Global) -> Result<Shapes, SumFault>
     Ok(list)
 }
 
-/// The list times h_k (by horizontal strips) or e_k (by vertical strips), for k = `cells` ≤ 20. The
-/// shapes of the list have at most 20 - k cells, and the absolute values of its coefficients sum to
-/// at most 20^(20 - k), so it never returns `Large`.
+/// The product of a list in s with h_k (if `strip` is `Horizontal`) or with e_k (if `strip` is
+/// `Vertical`), for k = `cells`, which is at most 20. The shapes of the list have at most 20 - k
+/// cells, and the absolute values of its coefficients add up to at most 20^(20 - k), so `Large` is
+/// never returned.
 fn with_strips(alloc: Global, list: &Shapes, strip: Strip, cells: u16) -> Result<Shapes, SumFault>
     requires few { cells ≤ 20 }
     requires within { HaveLabels (IsInRows 20 (20 - cells)) list.now }
@@ -46,8 +48,9 @@ fn with_strips(alloc: Global, list: &Shapes, strip: Strip, cells: u16) -> Result
     Ok(sum)
 }
 
-/// The product of h_k or e_k over the parts k, in s, as a table of beta sets. The last part is
-/// multiplied last. It never returns `Large`.
+/// The product, over the parts k, of h_k (if `strip` is `Horizontal`) or of e_k (if `strip` is
+/// `Vertical`), in s, as a table of beta sets. The last part is multiplied last. `Large` is never
+/// returned.
 fn shapes_of(alloc: Global, strip: Strip, parts: &[u16]) -> Result<Shapes, SumFault>
     requires { size parts.now ≤ 20 }
     ensures value { IfOk result
@@ -61,8 +64,8 @@ fn shapes_of(alloc: Global, strip: Strip, parts: &[u16]) -> Result<Shapes, SumFa
     with_strips(alloc, &others, strip, *k)
 }
 
-/// The product of h_k or e_k over the parts k of a partition of at most 20 cells, in s. It never
-/// returns `Large`.
+/// The product, over the parts k of a partition of at most 20 cells, of h_k (if `strip` is
+/// `Horizontal`) or of e_k (if `strip` is `Vertical`), in s. `Large` is never returned.
 fn product_by(
     alloc: Global,
     strip: Strip,
@@ -99,9 +102,9 @@ pub fn columns_product(alloc: Global, label: &Partition) -> Result<Lin<Partition
     product_by(alloc, Strip::Vertical, label)
 }
 
-/// The list times p_k, for k = `cells` in 1..20, by rim hooks. The shapes of the list have at most
-/// 20 - k cells, and the absolute values of its coefficients sum to at most 20^(20 - k), so it
-/// never returns `Large`.
+/// The product of a list in s with p_k, for k = `cells` from 1 to 20, by rim hooks. The shapes of
+/// the list have at most 20 - k cells, and the absolute values of its coefficients add up to at
+/// most 20^(20 - k), so `Large` is never returned.
 fn with_hooks(alloc: Global, list: &Shapes, cells: u16) -> Result<Shapes, SumFault>
     requires few { (1 ≤ cells) × (cells ≤ 20) }
     requires within { HaveLabels (IsInRows 20 (20 - cells)) list.now }

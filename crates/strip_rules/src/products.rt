@@ -1,4 +1,4 @@
-//! Expansions in s times h_k, e_k and p_k.
+//! Products of expansions in s with h_k, e_k and p_k.
 ghost use Rattle.std.specs.Prelude.{◌≡◌, ◌+◌, ◌*◌, ◌^◌, ◌≤◌, ℕ, nat_eq, IfOk, OnOk, IsErrOf};
 ghost use Rattle.std.specs.Cmp.Lexicographic.{pointwise};
 ghost use Rattle.sym_model.specs.Canonical.{is_label};
@@ -23,7 +23,8 @@ use skew_shapes::{HooksAdded, with_horizontal_strip, with_vertical_strip};
 use sparse_polys::Family;
 use std::alloc::Global;
 
-/// Adds the product of a term and e_k, h_k or p_k.
+/// Adds to `sum` the product of the term c·s_`label` and a polynomial e_k, h_k or p_k; `family`
+/// says which of the three it is.
 fn add_strips<R: Ring>(
     alloc: Global,
     sum: &mut Lin<Partition, R>,
@@ -55,14 +56,15 @@ fn add_strips<R: Ring>(
     }
 }
 
-/// The product of an expansion in s and e_k, h_k or p_k, by the family, in every number of
-/// variables. Each label has at most 4,096 - k cells and at most 512 - k rows; for p_k, k is at
-/// least 1.
+/// The product of an expansion in s and a polynomial e_k, h_k or p_k, in every number of variables;
+/// `family` says which of the three it is. Each label has at most 4,096 - k cells and at most 512 -
+/// k rows; for p_k, k is at least 1.
 ///
-/// The labels of the product have at most k cells and k rows more. If m is the greatest size of a
-/// label, 0 for the empty list, its weight is at most that of the list times (m + k)^k. The weight
-/// of a list is max(1, D·A)·D, with D its least common denominator and A the sum of the absolute
-/// values of its coefficients. Returns `Large` only if the weight of the list is 2^127 or more.
+/// The labels of the product have at most k cells and k rows more than those of the list. If m is
+/// the greatest size of a label of the list, 0 for the empty list, the weight of the product is at
+/// most (m + k)^k times that of the list. The weight of a list is max(1, D·A)·D, with D its least
+/// common denominator and A the sum of the absolute values of its coefficients. Returns `Large`
+/// only if the weight of the list is 2^127 or more.
 pub fn times_family<R: Ring>(
     alloc: Global,
     list: &Lin<Partition, R>,
@@ -92,10 +94,11 @@ pub fn times_family<R: Ring>(
 /// becomes the sum of the s_ν for which ν/λ is a horizontal strip of k cells (Macdonald, I.5). Each
 /// label has at most 4,096 - k cells and at most 512 - k rows.
 ///
-/// The labels of the product have at most k cells and k rows more. If m is the greatest size of a
-/// label, 0 for the empty list, its weight is at most that of the list times (m + k)^k. The weight
-/// of a list is max(1, D·A)·D, with D its least common denominator and A the sum of the absolute
-/// values of its coefficients. Returns `Large` only if the weight of the list is 2^127 or more.
+/// The labels of the product have at most k cells and k rows more than those of the list. If m is
+/// the greatest size of a label of the list, 0 for the empty list, the weight of the product is at
+/// most (m + k)^k times that of the list. The weight of a list is max(1, D·A)·D, with D its least
+/// common denominator and A the sum of the absolute values of its coefficients. Returns `Large`
+/// only if the weight of the list is 2^127 or more.
 pub fn add_row<R: Ring>(
     alloc: Global,
     list: Lin<Partition, R>,
@@ -117,10 +120,11 @@ pub fn add_row<R: Ring>(
 /// becomes the sum of the s_ν for which ν/λ is a vertical strip of k cells (Macdonald, I.5). Each
 /// label has at most 4,096 - k cells and at most 512 - k rows.
 ///
-/// The labels of the product have at most k cells and k rows more. If m is the greatest size of a
-/// label, 0 for the empty list, its weight is at most that of the list times (m + k)^k. The weight
-/// of a list is max(1, D·A)·D, with D its least common denominator and A the sum of the absolute
-/// values of its coefficients. Returns `Large` only if the weight of the list is 2^127 or more.
+/// The labels of the product have at most k cells and k rows more than those of the list. If m is
+/// the greatest size of a label of the list, 0 for the empty list, the weight of the product is at
+/// most (m + k)^k times that of the list. The weight of a list is max(1, D·A)·D, with D its least
+/// common denominator and A the sum of the absolute values of its coefficients. Returns `Large`
+/// only if the weight of the list is 2^127 or more.
 pub fn add_column<R: Ring>(
     alloc: Global,
     list: Lin<Partition, R>,
@@ -143,10 +147,11 @@ pub fn add_column<R: Ring>(
 /// which ν/λ is a rim hook of k cells (Macdonald, I.3; the height is the number of rows of the rim
 /// hook). Each label has at most 4,096 - k cells and at most 512 - k rows.
 ///
-/// The labels of the product have at most k cells and k rows more. If m is the greatest size of a
-/// label, 0 for the empty list, its weight is at most that of the list times (m + k)^k. The weight
-/// of a list is max(1, D·A)·D, with D its least common denominator and A the sum of the absolute
-/// values of its coefficients. Returns `Large` only if the weight of the list is 2^127 or more.
+/// The labels of the product have at most k cells and k rows more than those of the list. If m is
+/// the greatest size of a label of the list, 0 for the empty list, the weight of the product is at
+/// most (m + k)^k times that of the list. The weight of a list is max(1, D·A)·D, with D its least
+/// common denominator and A the sum of the absolute values of its coefficients. Returns `Large`
+/// only if the weight of the list is 2^127 or more.
 pub fn add_hook<R: Ring>(
     alloc: Global,
     list: Lin<Partition, R>,

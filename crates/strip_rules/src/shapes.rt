@@ -1,4 +1,4 @@
-//! The shapes of one term of an expansion in s times h_k, e_k or p_k, added to a table.
+//! Functions that add the terms of a product c·s_λ·h_k, c·s_λ·e_k or c·s_λ·p_k to a table.
 ghost use Rattle.std.specs.Prelude.{◌-◌, ◌^◌, ◌≤◌, ℕ, nat_eq, pos, List, IfOk, IfErr, OnOk, IsErrOf};
 ghost use Rattle.std.specs.Cmp.Lexicographic.{pointwise};
 ghost use Rattle.sym_model.specs.Canonical.{is_label};
@@ -22,7 +22,7 @@ use partitions::Partition;
 use skew_shapes::HooksAdded;
 use std::alloc::Global;
 
-/// Adds a coefficient at each of the shapes.
+/// Adds c to the coefficient in `sum` of each of `shapes`.
 pub(crate) fn add_shapes<R: Ring>(
     sum: &mut Lin<Partition, R>,
     shapes: Vec<Partition>,
@@ -43,7 +43,7 @@ pub(crate) fn add_shapes<R: Ring>(
     Ok(())
 }
 
-/// The coefficient times the sign (-1)^(height - 1) of a rim hook.
+/// The coefficient c times the sign (-1)^(height - 1) of a rim hook of the given height.
 fn signed<R: Ring>(c: R, height: u16) -> Result<R, Large>
     requires height { 1 ≤ height }
     requires lowest { InLowestTerms (R.value c) }
@@ -62,8 +62,8 @@ fn signed<R: Ring>(c: R, height: u16) -> Result<R, Large>
     Ok(negated)
 }
 
-/// Adds a coefficient, times the sign of the rim hook that was added, at each partition that the
-/// lister `hooks` has not returned yet.
+/// For each partition that the iterator `hooks` has not returned yet, adds c, times the sign of the
+/// rim hook that was added, to the coefficient of this partition in `sum`.
 pub(crate) fn add_signed_shapes<R: Ring>(
     alloc: Global,
     sum: &mut Lin<Partition, R>,

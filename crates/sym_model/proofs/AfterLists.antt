@@ -1,4 +1,4 @@
--- The lists `after a k` of the k numbers that follow a (specs/Partition).
+-- The lists `after a k` of the k numbers a + 1, .., a + k (specs/Partition): their lengths, members and pieces.
 use Rattle.std.proofs.Common.{◌≡◌, ℕ, zero, suc, ◌+◌, ◌<◌, ◌≤◌, Bool, cond, nat_le, [], ◌∷◌, ◌++◌, length, ℤ, pos, ◌+ℤ◌, refl, sym, ◌∙◌, ap, ap₂, inl, inr, arith, add-one}
 use Rattle.std.proofs.lemmas.Bool.{cases_eq, le-leb, lt-leb}
 use Rattle.sym_model.specs.Sum.{Among, Once, total}
@@ -9,7 +9,7 @@ pub length_after : (a k : ℕ) → length (after a k) ≡ k
 length_after a zero = refl
 length_after a (suc k) = ap suc (length_after (a + 1) k)
 
--- the members of `after a k` are greater than a and at most a + k
+-- each member of `after a k` is greater than a and at most a + k
 pub after_among : (a k z : ℕ) → Among z (after a k) → (a < z) × (z ≤ a + k)
 after_among a zero z m = absurd m
 after_among a (suc k) z (inl e) = (omega arith, omega arith)
@@ -19,7 +19,7 @@ pub among_after : (a k z : ℕ) → a < z → z ≤ a + k → Among z (after a k
 among_after a zero z h l = absurd (omega arith)
 among_after a (suc k) z h l = elim (cases_eq z (a + 1)) [ inl e ↦ inl e | inr d ↦ inr (among_after (a + 1) k z (omega arith) (omega arith)) ]
 
--- `after a k` has no number twice
+-- no number occurs twice in `after a k`
 pub once_after : (a k : ℕ) → Once (after a k)
 once_after a zero = tt
 once_after a (suc k) = ((λ m. let h = after_among (a + 1) k (a + 1) m in absurd (omega arith)), once_after (a + 1) k)

@@ -1,4 +1,5 @@
--- Lists of terms in strict order: if adjacent terms are in order, so are all pairs; and tests of each term of a list, also of lists appended by `++`.
+-- Lists of terms with strictly increasing labels: if each label is less than the next one, it is less than all later
+-- ones; and a test that each term of a list passes.
 use Rattle.std.proofs.Common.{◌≡◌, Bool, true, [], ◌∷◌, map, refl, sym, ap, ◌∙◌, subst, inl, inr}
 use Rattle.std.specs.Ordering.{is_lt}
 use Rattle.std.specs.declared.cmp.Ordering.{Ordering}
@@ -15,17 +16,17 @@ is_lt-tells Less h = refl
 is_lt-tells Equal h = cc
 is_lt-tells Greater h = cc
 
--- the label is strictly before the label of each term
+-- the label is less, in the given order, than the label of each term of the list
 abbrev pub StandsBefore : {Label : Type 0} → (Label → Label → Ordering) → Label → Terms Label → Type 0
 StandsBefore order label [] = Unit {0}
 StandsBefore order label (t ∷ terms) = (order label t.0 ≡ Less) × StandsBefore order label terms
 
--- each label is strictly before all later ones
+-- each label of the list of terms is less, in the given order, than all later labels
 abbrev pub IsOrdered : {Label : Type 0} → (Label → Label → Ordering) → Terms Label → Type 0
 IsOrdered order [] = Unit {0}
 IsOrdered order (t ∷ terms) = StandsBefore order t.0 terms × IsOrdered order terms
 
--- the order is transitive
+-- the order is transitive: if x is less than y and y less than z, then x is less than z
 abbrev pub IsTransitive : {Label : Type 0} → (Label → Label → Ordering) → Type 0
 IsTransitive {Label} order = (x y z : Label) → order x y ≡ Less → order y z ≡ Less → order x z ≡ Less
 
@@ -34,7 +35,8 @@ stands_before-weaker order trans x y [] h k = tt
 stands_before-weaker order trans x y (t ∷ terms) h k =
     (trans x y t.0 h k.0, stands_before-weaker order trans x y terms h k.1)
 
--- a list that is ordered by the test on adjacent terms is ordered for all pairs of terms
+-- if the order is transitive and each label of the list is less than the next one, then each label is less than all
+-- later ones
 pub is_ordered-tells : {Label : Type 0} (order : Label → Label → Ordering) → IsTransitive order → (terms : Terms Label) → is_ordered order terms ≡ true → IsOrdered order terms
 is_ordered-tells order trans [] h = tt
 is_ordered-tells order trans (t ∷ []) h = (tt, tt)
@@ -44,7 +46,7 @@ is_ordered-tells order trans (t ∷ u ∷ terms) h =
     let rest = is_ordered-tells order trans (u ∷ terms) p.1 in
     ((e, stands_before-weaker order trans t.0 u.0 terms e rest.0), rest)
 
--- if the labels of a list are ordered by a total order, no label occurs twice
+-- if each label of a list of terms is less than all later ones, by a total order, no label occurs twice
 pub labels-once : {Label : Type 0} (order : Label → Label → Ordering) → IsTotalOrder order → (terms : Terms Label) → IsOrdered order terms → Once (map (λ (t : Label × Fraction). t.0) terms)
 labels-once order total [] h = tt
 labels-once {Label = Label} order total (t ∷ terms) h =

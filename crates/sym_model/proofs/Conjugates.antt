@@ -1,4 +1,5 @@
--- The conjugate of a partition: it is the partition whose entries are, for each j, the number of parts that are at least j.
+-- The conjugate of a partition λ, the list whose entry j is the number of parts of λ that are at least j: it is a
+-- partition of the same size as λ.
 use Rattle.std.proofs.Common.{◌≡◌, ◌⊎◌, leb, eqb, sym, ap, ap₂, refl, ℕ, zero, suc, ◌+◌, ◌-◌, ◌<◌, ◌≤◌, nat_le, Bool, true, false, cond, List, [], ◌∷◌, map, length, get_or, ◌∙◌, inl, inr, arith}
 use Rattle.std.proofs.lemmas.Bool.{cases_lt, cases_eq, le-leb, lt-leb, eq-eqb, ne_eqb}
 use Rattle.sym_model.specs.Sum.{Among}
@@ -10,13 +11,13 @@ use Rattle.sym_model.proofs.SortedParts.{Falls_tail}
 use Rattle.sym_model.proofs.AfterLists.{length_after}
 use Rattle.sym_model.proofs.Parts.{size-map_add, size-map_none}
 
--- no entry of the weakly decreasing list a, parts is greater than its first entry a
+-- if the list with the first entry a and then `parts` is weakly decreasing, each entry of `parts` is at most a
 pub under_first : (a : ℕ) (parts : List ℕ) (r : ℕ) → Falls (a ∷ parts) → get_or parts r 0 ≤ a
 under_first a [] r f = omega arith
 under_first a (b ∷ parts) zero f = f.0
 under_first a (b ∷ parts) (suc r) f = omega (arith, under_first b parts r f.1, f.0)
 
-one_at_most : (b : Bool) → cond b 1 0 ≤ 1
+pub one_at_most : (b : Bool) → cond b 1 0 ≤ 1
 one_at_most true = omega arith
 one_at_most false = omega arith
 
@@ -48,7 +49,7 @@ pub count_from-falls : (parts : List ℕ) (j k : ℕ) → j ≤ k → count_from
 count_from-falls [] j k h = omega arith
 count_from-falls (a ∷ parts) j k h = omega (arith, reaches_less a j k h, count_from-falls parts j k h)
 
--- ---- the size of the conjugate
+-- ---- the conjugate has the size of the partition
 
 ones_until : (a s c : ℕ) → a ≤ s + c → size (map (λ j. cond (nat_le j a) 1 0) (after s c)) ≡ a - s
 ones_until a s zero h = omega arith
@@ -69,7 +70,7 @@ size-counts c (a ∷ parts) h =
       size-counts c parts (λ r. h (suc r)),
     )
 
--- ---- the conjugate is a partition
+-- ---- the conjugate of a weakly decreasing list is a partition
 
 falls_after : (f : ℕ → ℕ) (a k : ℕ) → ((i j : ℕ) → i ≤ j → f j ≤ f i) → Falls (map f (after a k))
 falls_after f a zero h = tt
@@ -91,7 +92,7 @@ IsPartition-conjugate (a ∷ parts) f = record {
 pub rows-conjugate : (parts : List ℕ) → length (conjugate parts) ≡ columns parts
 rows-conjugate parts = length-map (after 0 (columns parts)) (λ j. count_from j parts) ∙ length_after 0 (columns parts)
 
-under_columns : (parts : List ℕ) → Falls parts → (r : ℕ) → get_or parts r 0 ≤ columns parts
+pub under_columns : (parts : List ℕ) → Falls parts → (r : ℕ) → get_or parts r 0 ≤ columns parts
 under_columns [] f r = omega arith
 under_columns (a ∷ parts) f zero = omega arith
 under_columns (a ∷ parts) f (suc r) = under_first a parts r f
@@ -99,7 +100,8 @@ under_columns (a ∷ parts) f (suc r) = under_first a parts r f
 pub size-conjugate : (parts : List ℕ) → Falls parts → size (conjugate parts) ≡ size parts
 size-conjugate parts f = size-counts (columns parts) parts (under_columns parts f)
 
--- if no number is greater than v, the numbers that are at least v are those equal to v
+-- if no number of the list is greater than v, the number of its entries that are at least v is the number of those
+-- equal to v
 pub count_from-greatest : (v : ℕ) (numbers : List ℕ) → ((w : ℕ) → Among w numbers → w ≤ v) → count_from v numbers ≡ times_in v numbers
 count_from-greatest v [] h = refl
 count_from-greatest v (w ∷ numbers) h = ap₂ (λ (a b : ℕ). a + b) (by (cases_eq w v)) (count_from-greatest v numbers (λ u m. h u (inr m)))

@@ -1,4 +1,5 @@
--- The number of times that a letter occurs in a list: `times_in` and `content` of specs/Schur.
+-- The number of times that a letter occurs in a word, and the content of a word: `times_in` and `content` of
+-- specs/Schur.
 use Rattle.std.proofs.Common.{◌+◌, Bool, List, ap, arith, cond, suc, ℕ, ◌∙◌, ◌∷◌, ◌≡◌, ◌++◌, [], map, refl, replicate, zero, ◌==◌, false, length, true, ◌≤◌, ◌<◌, eqb, inl, inr, sym}
 use Rattle.std.proofs.lemmas.Bool.{eq-eqb, ne_eqb, cases_eq}
 use Rattle.sym_model.specs.Schur.{times_in, content}
@@ -21,7 +22,7 @@ pub times_in-append : (k : ℕ) (v w : List ℕ) → times_in k (v ++ w) ≡ tim
 times_in-append k [] w = omega arith
 times_in-append k (a ∷ v) w = omega (arith, times_in-append k v w)
 
--- if c = k, a list v followed by c has the letter k once more than v
+-- if c = k, the word v followed by the letter c has the letter k once more than v
 pub times_in-last : (k c : ℕ) (v : List ℕ) → c ≡ k → times_in k (v ++ c ∷ []) ≡ times_in k v + 1
 times_in-last k c v e = omega (arith, times_in-append k v (c ∷ []), times_in-here k c [] e)
 

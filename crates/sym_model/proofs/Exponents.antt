@@ -1,18 +1,21 @@
--- Exponent lists: `same` decides their equality, `join` is their sum, `resize` cuts and pads them.
+-- Exponent lists: the test `same` of their equality, their sums (`join`), and lists cut or padded to n places
+-- (`resize`).
 use Rattle.std.proofs.Common.{◌≡◌, ℕ, zero, suc, ◌+◌, ◌≤◌, max, ◌⊎◌, Bool, true, false, ◌&&◌, ◌==◌, List, [], ◌∷◌, length, replicate, sym, ◌∙◌, ap, ap₂, subst, refl, inl, inr, arith, eqb-true, eq-eqb, add-zero, add_comm, add_assoc, get_or}
 use Rattle.std.proofs.lemmas.Bool.{and_parts, and_from, cases_Bool, false_from_ne_true, both_ways}
 use Rattle.std.proofs.Math.Bool.{and-true}
 use Rattle.sym_model.specs.Polynomial.{same, join, resize, all_zero, fits_in}
 use Rattle.sym_model.specs.Partition.{size}
 use Rattle.sym_model.specs.Sum.{Among}
+use Rattle.std.specs.Prelude.{nat_eq}
+use Rattle.std.specs.Cmp.Lexicographic.{pointwise}
 
--- if each of two tests implies the other, they are equal
+-- two truth values are equal if each of them implies the other
 pub tests_agree : (x y : Bool) → (x ≡ true → y ≡ true) → (y ≡ true → x ≡ true) → x ≡ y
 tests_agree true y f g = sym (f refl)
 tests_agree false true f g = g refl
 tests_agree false false f g = refl
 
--- ---- the test `same`: it passes for two lists if and only if they are equal
+-- ---- the test `same`: two exponent lists pass it if and only if they are equal
 
 pub same_refl : (α : List ℕ) → same α α ≡ true
 same_refl [] = refl
@@ -33,14 +36,14 @@ same_false α β e d = both_ways (same α β) e (same_from α β d)
 pub same_apart : (α β : List ℕ) → (α ≡ β → ⊥) → same α β ≡ false
 same_apart α β h = false_from_ne_true (same α β) (λ e. h (same_true α β e))
 
--- two exponent lists are equal, or they are not
+-- two exponent lists α and β are equal, or they are not equal
 pub same_or_not : (α β : List ℕ) → (α ≡ β) ⊎ (α ≡ β → ⊥)
 same_or_not α β = elim (cases_Bool (same α β)) [ inl e ↦ inl (same_true α β e) | inr e ↦ inr (same_false α β e) ]
 
 pub same_sym : (α β : List ℕ) → same α β ≡ same β α
 same_sym α β = tests_agree (same α β) (same β α) (λ e. same_from β α (sym (same_true α β e))) (λ e. same_from α β (sym (same_true β α e)))
 
--- ---- sums of exponent lists (`join`)
+-- ---- sums of exponent lists (`join`), the exponents of products of monomials
 
 pub join-nil : (α : List ℕ) → join α [] ≡ α
 join-nil [] = refl
@@ -81,13 +84,13 @@ join_cancel_left (a ∷ α) (b ∷ β) (c ∷ γ) l e =
     let t : join α β ≡ join α γ = cc in
     ap₂ ◌∷◌ (omega arith) (join_cancel_left α β γ (omega arith) t)
 
--- the degree of a product of monomials is the sum of their degrees
+-- the degree of a product of two monomials is the sum of their degrees
 pub size-join : (α β : List ℕ) → size (join α β) ≡ size α + size β
 size-join [] β = omega arith
 size-join (a ∷ α) [] = omega arith
 size-join (a ∷ α) (b ∷ β) = let h = size-join α β in omega arith
 
--- ---- exponent lists resized to n places, and the tests `all_zero` and `fits_in`
+-- ---- exponent lists cut or padded to n places (`resize`), and the tests `all_zero` and `fits_in`
 
 pub length-resize : (n : ℕ) (α : List ℕ) → length (resize n α) ≡ n
 length-resize zero α = refl
@@ -150,7 +153,7 @@ fits_in_zeros zero k = all_zero_zeros k
 fits_in_zeros (suc n) zero = refl
 fits_in_zeros (suc n) (suc k) = fits_in_zeros n k
 
--- a list of at most n places has no exponent after place n
+-- an exponent list of at most n places has no positive exponent after place n
 pub fits_in_length : (n : ℕ) (α : List ℕ) → length α ≤ n → fits_in n α ≡ true
 fits_in_length zero [] h = refl
 fits_in_length zero (a ∷ α) h = absurd (omega arith)
@@ -171,3 +174,9 @@ among_or_not x (y ∷ xs) = by (same_or_not x y) (among_or_not x xs)
     by (inl e) r = inl (inl e)
     by (inr n) (inl m) = inl (inr m)
     by (inr n) (inr k) = inr (λ m. elim m [ inl e ↦ n e | inr q ↦ k q ])
+
+pub pointwise-same : (l r : List ℕ) → pointwise nat_eq l r ≡ same l r
+pointwise-same [] [] = refl
+pointwise-same [] (b ∷ r) = refl
+pointwise-same (a ∷ l) [] = refl
+pointwise-same (a ∷ l) (b ∷ r) = ap (λ t. (a == b) && t) (pointwise-same l r)

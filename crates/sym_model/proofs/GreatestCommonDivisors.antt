@@ -1,4 +1,5 @@
--- Euclid's rule computes the greatest common divisor, with any number of steps greater than the second number.
+-- Euclid's rule computes the greatest common divisor of two numbers, with any number of steps greater than the second
+-- number.
 use Rattle.std.proofs.Common.{◌≡◌, ℕ, zero, suc, ◌+◌, ◌*◌, ◌/◌, ◌%◌, ◌<◌, ◌≤◌, refl, sym, subst, ap, ◌∙◌, arith, add-one}
 use Rattle.std.specs.Int.{IsGcd, ◌∣◌}
 use Rattle.std.proofs.lemmas.Nat.Gcd.{IsGcd-from_zero, IsGcd-from_mod, same_from_IsGcd, le_from_IsGcd, dvd_refl, dvd-zero}
@@ -8,7 +9,8 @@ use Rattle.sym_model.specs.Canonical.{gcd_within, gcd}
 below_next : (a b k : ℕ) → suc b < suc k → a % suc b < k
 below_next a b k h = omega arith
 
--- if k and m are both greater than b, k steps of Euclid's rule give the same as m steps
+-- if k and m are both greater than b, Euclid's rule gives for a and b in at most k steps the same result as in at
+-- most m steps
 gcd_within-enough : (k m a b : ℕ) → b < k → b < m → gcd_within k a b ≡ gcd_within m a b
 gcd_within-enough zero m a b h l = absurd (omega arith)
 gcd_within-enough (suc k) zero a b h l = absurd (omega arith)
@@ -36,14 +38,14 @@ IsGcd-within (suc k) a (suc b) h =
 pub IsGcd-gcd : (a b : ℕ) → IsGcd a b (gcd a b)
 IsGcd-gcd a b = IsGcd-within (b + 1) a b (omega arith)
 
--- if g has the properties of a greatest common divisor of a and b, it is gcd(a, b)
+-- if g is a greatest common divisor of a and b (`IsGcd a b g`), it is gcd(a, b)
 pub gcd-only : (a b g : ℕ) → IsGcd a b g → gcd a b ≡ g
 gcd-only a b g h = same_from_IsGcd a b (gcd a b) g (IsGcd-gcd a b) h
 
 mul-zero_at : (n g : ℕ) → g ≡ 0 → n * g ≡ 0
 mul-zero_at n g e = ap (λ x. n * x) e ∙ omega arith
 
--- the greatest common divisor is positive if the first number is
+-- gcd(a, b) is positive if a is positive
 pub gcd-positive : (a b : ℕ) → 0 < a → 0 < gcd a b
 gcd-positive a b h = by (gcd a b) refl
   where

@@ -1,5 +1,6 @@
--- Integers: absolute values, signs, and the test of specs/PastLimit for a coefficient over the limit.
-use Rattle.std.proofs.Common.{ℕ, ◌+◌, ◌+ℤ◌, arith, negsuc, pos, ℤ, ◌≤◌, inl, inr, refl, suc, zero, ◌≡◌, ◌⊎◌, ◌*ℤ◌, ◌^◌, true, neg_ℤ, ◌*◌, Bool, cond, false, ◌<◌, ap}
+-- Integers: absolute values, products and signs, and the test `is_past` of specs/PastLimit for an integer over 2^127
+-- - 1.
+use Rattle.std.proofs.Common.{ℕ, ◌+◌, ◌+ℤ◌, arith, negsuc, pos, ℤ, ◌≤◌, inl, inr, refl, suc, zero, ◌≡◌, ◌⊎◌, ◌*ℤ◌, ◌^◌, true, neg_ℤ, ◌*◌, Bool, cond, false, ◌<◌, ap, ◌&&◌}
 use Rattle.std.proofs.lemmas.Int.{ints}
 use Rattle.std.specs.Prelude.{nat_abs, ◌≤ℤ◌}
 use native.Mathlib.Nat.{eq_of_mul-eq-mul_right, add-mul, mul-le-mul_left}
@@ -49,6 +50,42 @@ pub cond-nonnegative : (b : Bool) (z : ℤ) → pos 0 ≤ℤ z → pos 0 ≤ℤ 
 cond-nonnegative true z h = h
 cond-nonnegative false z h = omega (arith, ints)
 
+pub times_chosen : (b : Bool) (c x : ℤ) → cond b (c *ℤ x) (pos 0) ≡ c *ℤ cond b x (pos 0)
+times_chosen true c x = refl
+times_chosen false c x = omega (arith, ints)
+
+pub chosen_as_product : (b : Bool) (c : ℤ) → cond b c (pos 0) ≡ c *ℤ cond b (pos 1) (pos 0)
+chosen_as_product true c = omega (arith, ints)
+chosen_as_product false c = omega (arith, ints)
+
+pub single_term : (z : ℤ) → pos 1 *ℤ z +ℤ pos 0 ≡ z
+single_term z = omega (arith, ints)
+
+pub nested_tests : (p q : Bool) (z : ℤ) → cond p (cond q z (pos 0)) (pos 0) ≡ cond (p && q) z (pos 0)
+nested_tests true q z = refl
+nested_tests false q z = refl
+
+pub tests_exchanged : (p q : Bool) (z : ℤ) → cond p (cond q z (pos 0)) (pos 0) ≡ cond q (cond p z (pos 0)) (pos 0)
+tests_exchanged true q z = refl
+tests_exchanged false true z = refl
+tests_exchanged false false z = refl
+
+pub at_most_absolute : (z : ℤ) → z ≤ℤ pos (nat_abs z)
+at_most_absolute (pos n) = omega (arith, ints)
+at_most_absolute (negsuc n) = omega (arith, ints)
+
+-- an integer that is not negative and not 0 is at least 1
+pub at_least_one : (z : ℤ) → pos 0 ≤ℤ z → (z ≡ pos 0 → ⊥) → pos 1 ≤ℤ z
+at_least_one (pos zero) g n = absurd (n refl)
+at_least_one (pos (suc a)) g n = omega (arith, ints)
+at_least_one (negsuc a) g n = absurd (omega (arith, ints))
+
+pub sum_left_comm : (x y z : ℤ) → x +ℤ (y +ℤ z) ≡ y +ℤ (x +ℤ z)
+sum_left_comm x y z = omega (arith, ints)
+
+pub le_trans_ℤ : (a b c : ℤ) → a ≤ℤ b → b ≤ℤ c → a ≤ℤ c
+le_trans_ℤ a b c h k = omega (arith, ints)
+
 -- the sign of an integer: -1 if it is negative, and 1 otherwise
 abbrev pub sign_of : ℤ → ℤ
 sign_of (pos n) = pos 1
@@ -64,6 +101,21 @@ product_cancel x y d some e =
 
 pub product-neg_one : (c : ℤ) → c *ℤ negsuc 0 ≡ neg_ℤ c
 product-neg_one c = omega (arith, ints)
+
+pub neg_one-product : (c : ℤ) → negsuc 0 *ℤ c ≡ neg_ℤ c
+neg_one-product c = omega (arith, ints)
+
+-- natural numbers that are equal as integers are equal
+pub pos_equal : {a b : ℕ} → pos a ≡ pos b → a ≡ b
+pos_equal {a} {b} e = omega (arith, ints)
+
+pub nothing_either : (b : Bool) → cond b (pos 0) (pos 0) ≡ pos 0
+nothing_either true = refl
+nothing_either false = refl
+
+pub pos-cond : (b : Bool) (n : ℕ) → pos (cond b n 0) ≡ cond b (pos n) (pos 0)
+pos-cond true n = refl
+pos-cond false n = refl
 
 pub sign_size : (n : ℕ) → nat_abs (minus_one_to n) ≡ 1
 sign_size zero = refl

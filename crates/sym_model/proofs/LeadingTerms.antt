@@ -1,5 +1,6 @@
--- The lexicographic order of exponent lists, and leading monomials x^α of f and x^β of g: at α + β the product f·g has the
--- product of their coefficients, so a factor that leads with 1 or -1 cancels.
+-- The lexicographic order of exponent lists, and greatest monomials: if x^α and x^β are the greatest monomials of f
+-- and g, then the coefficient of f·g at α + β is the product of their coefficients, so a polynomial whose greatest
+-- monomial has the coefficient 1 or -1 can be cancelled from a product.
 use Rattle.std.proofs.Common.{◌≡◌, ℕ, zero, suc, ◌+◌, ◌≤◌, ◌<◌, ◌⊎◌, Bool, true, false, cond, not, List, [], ◌∷◌, length, sym, ◌∙◌, ap, ap₂, subst, refl, inl, inr, arith, ℤ, pos, ◌*ℤ◌, neg_ℤ}
 use Rattle.std.proofs.lemmas.Bool.{cases_eq, cases_Bool, cases_order}
 use Rattle.std.proofs.lemmas.Int.{ints}
@@ -13,7 +14,7 @@ use Rattle.sym_model.proofs.Polynomials.{at_only, coefficient_pair, pair_agree, 
 use Rattle.sym_model.proofs.PolynomialLaws.{times-plus, times-negate}
 use lib.IntN.{*ℤ-zero, *ℤ_comm}
 
--- ---- the lexicographic order of exponent lists
+-- ---- the lexicographic order of exponent lists (`Above`)
 
 pub Above_irrefl : (α : List ℕ) → Above α α → ⊥
 Above_irrefl [] h = h
@@ -29,7 +30,7 @@ Above_trans (a ∷ α) (b ∷ β) (c ∷ γ) (inl h) (inr k) = let e = k.0 in in
 Above_trans (a ∷ α) (b ∷ β) (c ∷ γ) (inr h) (inl k) = let e = h.0 in inl (omega arith)
 Above_trans (a ∷ α) (b ∷ β) (c ∷ γ) (inr h) (inr k) = inr (h.0 ∙ k.0, Above_trans α β γ h.1 k.1)
 
--- of two lists one is above the other, or they are equal
+-- of two exponent lists, one is above the other one in lexicographic order, or they are equal
 pub Above_total : (α β : List ℕ) → (α ≡ β) ⊎ (Above α β ⊎ Above β α)
 Above_total [] [] = inl refl
 Above_total [] (b ∷ β) = inr (inr tt)
@@ -84,13 +85,15 @@ Above_rest α δ τ β k l m h e =
       | inr x ↦ x
     ]
 
--- ---- coefficients of a product at and above the sum of two leading exponent lists
+-- ---- coefficients of a product at and above the sum of the exponents of the greatest monomials of its factors
 
--- the coefficient of a product is a pairing of f with a pairing of g
+-- the coefficient of x^γ in f·g is the sum, over the terms a·x^α of f, of a times the sum of the b over the terms
+-- b·x^δ of g with α + δ = γ
 coefficient_times : (f g : Poly) (γ : List ℕ) → coefficient (times f g) γ ≡ pair f (λ α. pair g (λ δ. at_only γ (join α δ)))
 coefficient_times f g γ = coefficient_pair (times f g) γ ∙ pair_times f g (at_only γ)
 
--- the pairing of g is 0 if g has the coefficient 0 at each δ such that α and δ add up to γ
+-- if g has the coefficient 0 at each δ with α + δ = γ, then the sum of the b over the terms b·x^δ of g with α + δ = γ
+-- is 0
 asks_nothing : (g : Poly) (α γ : List ℕ) → ((δ : List ℕ) → join α δ ≡ γ → coefficient g δ ≡ pos 0) → pair g (λ δ. at_only γ (join α δ)) ≡ pos 0
 asks_nothing g α γ h =
     pair_agree g (λ δ. at_only γ (join α δ)) (λ δ. pos 0) (λ δ. elim (cases_Bool (same (join α δ) γ)) [
@@ -164,14 +167,14 @@ none_above_times n f g τ β i j k l a b γ h =
       ]
     ]
 
--- ---- exponents that are greatest among those of the terms
+-- ---- the greatest exponents of the terms of a polynomial
 
--- if no term of f has exponents above `top`, no monomial of f is above x^top
+-- if no term of f has exponents above `top`, each monomial above x^top has the coefficient 0 in f
 pub none_above_terms : (f : Poly) (top : List ℕ) → ((t : Term) → Among t f → Above t.0 top → ⊥) → IsNoneAbove f top
 none_above_terms f top h α x =
     total_none (λ (t : Term). cond (same t.0 α) t.1 (pos 0)) f (λ t m. ap (λ b. cond b t.1 (pos 0)) (same_apart t.0 α (λ e. h t m (subst (λ γ. Above γ top) (sym e) x))))
 
--- f has a term whose exponents are not below those of any other term
+-- f has a term s such that no term of f has exponents above those of s
 abbrev Greatest : Poly → Type 0
 Greatest f = (s : Term) × Among s f × ((u : Term) → Among u f → Above u.0 s.0 → ⊥)
 
@@ -199,9 +202,10 @@ greatest t (v ∷ f) = by (greatest v f)
         choose (inr (inl x)) = (t, inl refl, rises x)
         choose (inr (inr x)) = (s, inr m, stays (λ h. Above_irrefl s.0 (Above_trans s.0 t.0 s.0 x h)))
 
--- ---- polynomials that lead with 1 or -1
+-- ---- polynomials whose greatest monomial has the coefficient 1 or -1
 
--- a first term with coefficient 1 or -1 leads, if all other terms are below it
+-- if c is 1 or -1 and the exponents of all terms of f are below `top`, then x^top is the greatest monomial of
+-- c·x^top + f, with the coefficient 1 or -1
 pub leads_first : (top : List ℕ) (c : ℤ) (f : Poly) → (c ≡ pos 1) ⊎ (c ≡ neg_ℤ (pos 1)) → ((t : Term) → Among t f → Above top t.0) → Leads ((top, c) ∷ f) top
 leads_first top c f u below = record { unit_at_top = elim u [ inl e ↦ inl (at_top ∙ e) | inr e ↦ inr (at_top ∙ e) ]; none_above = none_above_terms ((top, c) ∷ f) top no_higher }
   where
@@ -215,7 +219,7 @@ leads_first top c f u below = record { unit_at_top = elim u [ inl e ↦ inl (at_
     no_higher t (inl e) h = Above_irrefl top (subst (λ (s : Term). Above s.0 top) e h)
     no_higher t (inr m) h = Above_irrefl top (Above_trans top t.0 top (below t m) h)
 
--- a leading exponent list of a polynomial in n variables has n places
+-- if x^top is the greatest monomial of f (`Leads`), and f is a polynomial in n variables, then `top` has n places
 pub length_top : (n : ℕ) (f : Poly) (top : List ℕ) → In n f → Leads f top → length top ≡ n
 length_top n f top i l = elim (places_or_none n f top i) [
   | inl z ↦ elim l.unit_at_top [ inl e ↦ absurd (omega (arith, ints)) | inr e ↦ absurd (omega (arith, ints)) ]
@@ -240,7 +244,7 @@ unit_times : (c d : ℤ) → (c ≡ pos 1) ⊎ (c ≡ neg_ℤ (pos 1)) → c *�
 unit_times c d (inl e) z = let k = one-product d in let h = ap (λ x. x *ℤ d) e in omega (arith, ints)
 unit_times c d (inr e) z = let k = one-product d in let m = negation-product (pos 1) d in let h = ap (λ x. x *ℤ d) e in omega (arith, ints)
 
--- if f has the coefficient 0 at β, f without the terms at β is the same polynomial
+-- if f has the coefficient 0 at β, then f without its terms at β is the same polynomial as f
 same_others : (β : List ℕ) (f : Poly) → coefficient f β ≡ pos 0 → Same (others β f) f
 same_others β f z α = elim (same_or_not β α) [
   | inl e ↦ subst (λ γ. coefficient (others β f) γ ≡ coefficient f γ) e (others_there β f ∙ sym z)
@@ -281,11 +285,11 @@ nothing_by_length (suc k) n f (t ∷ d) τ h i j l z =
         same_others s.0 (t ∷ d) (unit_times (coefficient f τ) (coefficient (t ∷ d) s.0) l.unit_at_top
         (sym (coefficient_at_top n f (t ∷ d) τ s.0 i j (length_top n f τ i l) (j s r.1) l.none_above (none_above_terms (t ∷ d) s.0 r.2)) ∙ z (join τ s.0)))
 
--- for f and g in n variables: if f leads with 1 or -1, f·g is 0 only if g is 0
+-- for f and g in n variables: if the greatest monomial of f has the coefficient 1 or -1, f·g is 0 only if g is 0
 pub leading_nothing : (n : ℕ) (f g : Poly) (top : List ℕ) → In n f → In n g → Leads f top → Same (times f g) nothing → Same g nothing
 leading_nothing n f g top i j l z = nothing_by_length (length g) n f g top (omega arith) i j l z
 
--- for f, g and h in n variables: if f leads with 1 or -1 and f·g = f·h, then g = h
+-- for f, g and h in n variables: if the greatest monomial of f has the coefficient 1 or -1, and f·g = f·h, then g = h
 pub leading_cancel : (n : ℕ) (f g h : Poly) (top : List ℕ) → In n f → In n g → In n h → Leads f top → Same (times f g) (times f h) → Same g h
 leading_cancel n f g h top i j k l z α =
     let d = leading_nothing n f (plus g (negate h)) top i (In_plus n g (negate h) j (In_negate n h k)) l difference α in

@@ -15,12 +15,13 @@ pub mod Orders
 pub mod CanonicalLists
 pub mod PartitionLists
 pub mod AfterLists
+pub mod Cells
 pub mod OrderLists
-pub mod Signs
 pub mod Parts
 pub mod Numbers
 pub mod Contents
 pub mod Conjugates
 pub mod Integers
+pub mod Signs
 pub mod Lists
 pub mod Tableaux

@@ -1,50 +1,52 @@
--- Lists: `flat_map` and `filter` over appended lists, and the element at a place.
-use Rattle.std.proofs.Common.{◌<◌, List, Some, [], arith, get_or, length, refl, suc, zero, ℕ, ◌∷◌, ◌≡◌, ◌++◌, ap, append_assoc, sym, ◌∙◌, append-nil, drop, ap₂, inl, inr, map, Bool, cond, false, true, ◌+◌, filter, flat_map, ◌≤◌, nat_lt, take}
-use Rattle.std.specs.Prelude.{slice_get}
-use Rattle.std.proofs.Math.Seq.{drop-cons, split_at}
+-- Lists: `flat_map`, `filter` and `map` over lists that are appended or mapped, and the element at a place of a list.
+use Rattle.std.proofs.Common.{◌<◌, List, [], arith, get_or, length, refl, suc, ℕ, ◌∷◌, ◌≡◌, ◌++◌, ap, sym, ◌∙◌, append-nil, drop, ap₂, inl, inr, map, Bool, cond, false, true, ◌+◌, filter, flat_map, ◌≤◌, nat_lt, take, ◌==◌, zero}
+use Rattle.std.proofs.Math.Seq.{split_at}
 use Rattle.std.proofs.lemmas.List.{take_more}
 use Rattle.sym_model.specs.Sum.{Among}
 use Rattle.sym_model.specs.PlaceOrders.{smaller}
-
-pub slice_get-within : (ns : List ℕ) (i : ℕ) → i < length ns → slice_get ns i ≡ Some (get_or ns i 0)
-slice_get-within [] i h = absurd (omega (arith, h))
-slice_get-within (a ∷ ns) zero h = refl
-slice_get-within (a ∷ ns) (suc i) h = slice_get-within ns i (omega (arith, h))
-
-pub each-append : {A B : Type 0} (f : A → List B) (xs ys : List A) → flat_map f (xs ++ ys) ≡ flat_map f xs ++ flat_map f ys
-each-append f [] ys = refl
-each-append f (x ∷ xs) ys = ap (λ z. f x ++ z) (each-append f xs ys) ∙ sym (append_assoc (f x) (flat_map f xs) (flat_map f ys))
-
--- at a place within the list, the default of `get_or` is not used
-pub get_or-any : (v : List ℕ) (i p q : ℕ) → i < length v → get_or v i p ≡ get_or v i q
-get_or-any [] i p q m = absurd (omega arith)
-get_or-any (y ∷ v) zero p q m = refl
-get_or-any (y ∷ v) (suc i) p q m = get_or-any v i p q (omega arith)
+use Rattle.std.proofs.lemmas.List.Elements.{filter-append}
+use Rattle.std.proofs.lemmas.Bool.{eqb-true}
 
 pub all_read : {A : Type 0} (done rest all : List A) → length rest ≡ 0 → done ++ rest ≡ all → done ≡ all
 all_read done [] all none e = sym (append-nil done) ∙ e
 all_read done (x ∷ rest) all none e = absurd (omega arith)
 
-pub drop-none : (w : List ℕ) → drop 0 w ≡ w
+pub drop-none : {A : Type 0} (w : List A) → drop 0 w ≡ w
 drop-none [] = refl
 drop-none (a ∷ w) = refl
+
+pub length-at : {A : Type 0} (rows : List (List A)) (i : ℕ) → length (get_or rows i []) ≡ get_or (map length rows) i 0
+length-at [] i = refl
+length-at (row ∷ rows) zero = refl
+length-at (row ∷ rows) (suc i) = length-at rows i
+
+pub none_chosen : {A : Type 0} (test : Bool) (x : A) → cond test (x ∷ []) [] ≡ [] → test ≡ false
+none_chosen true x h = cc
+none_chosen false x h = refl
+
+pub no_items : {A : Type 0} (xs : List A) → (length xs == 0) ≡ true → xs ≡ []
+no_items [] h = refl
+no_items (x ∷ xs) h = absurd (let e = eqb-true (length (x ∷ xs)) 0 h in omega arith)
+
+pub some_items : {A : Type 0} (xs : List A) → (length xs == 0) ≡ false → 0 < length xs
+some_items [] h = cc
+some_items (x ∷ xs) h = omega arith
+
+pub length-filter-within : {A : Type 0} (test : A → Bool) (xs : List A) → length (filter test xs) ≤ length xs
+length-filter-within test [] = omega arith
+length-filter-within {A} test (x ∷ xs) = by (test x) (length-filter-within test xs)
+  where
+    by : (b : Bool) → length (filter test xs) ≤ length xs → length (cond {A = List A} b (x ∷ filter test xs) (filter test xs)) ≤ suc (length xs)
+    by true h = omega arith
+    by false h = omega arith
 
 pub map-among : {A B : Type 0} (f g : A → B) (xs : List A) → ((x : A) → Among x xs → f x ≡ g x) → map f xs ≡ map g xs
 map-among f g [] h = refl
 map-among f g (x ∷ xs) h = ap₂ ◌∷◌ (h x (inl refl)) (map-among f g xs (λ y m. h y (inr m)))
 
-pub select-append : {A : Type 0} (test : A → Bool) (xs ys : List A) → filter test (xs ++ ys) ≡ filter test xs ++ filter test ys
-select-append test [] ys = refl
-select-append test (x ∷ xs) ys = by (test x) (select-append test xs ys)
-  where
-    by : (b : Bool) → filter test (xs ++ ys) ≡ filter test xs ++ filter test ys
-        → cond b (x ∷ filter test (xs ++ ys)) (filter test (xs ++ ys)) ≡ cond b (x ∷ filter test xs) (filter test xs) ++ filter test ys
-    by true e = ap (λ l. x ∷ l) e
-    by false e = e
-
 pub select-each : {A B : Type 0} (test : B → Bool) (f : A → List B) (xs : List A) → filter test (flat_map f xs) ≡ flat_map (λ (x : A). filter test (f x)) xs
 select-each test f [] = refl
-select-each test f (x ∷ xs) = select-append test (f x) (flat_map f xs) ∙ ap (λ l. filter test (f x) ++ l) (select-each test f xs)
+select-each test f (x ∷ xs) = filter-append test (f x) (flat_map f xs) ∙ ap (λ l. filter test (f x) ++ l) (select-each test f xs)
 
 pub select-map : {A B : Type 0} (test : B → Bool) (g : A → B) (xs : List A) → filter test (map g xs) ≡ map g (filter (λ (x : A). test (g x)) xs)
 select-map test g [] = refl
@@ -72,11 +74,6 @@ pub map-map : {A B C : Type 0} (f : B → C) (h : A → B) (xs : List A) → map
 map-map f h [] = refl
 map-map f h (x ∷ xs) = ap (λ l. f (h x) ∷ l) (map-map f h xs)
 
-pub drop-next : (word : List ℕ) (place : ℕ) → place < length word → drop place word ≡ get_or word place 0 ∷ drop (place + 1) word
-drop-next word place h =
-    let next : suc place ≡ place + 1 = omega arith in
-    drop-cons word place 0 h ∙ ap (λ n. get_or word place 0 ∷ drop n word) next
-
 -- the number of letters of w that are smaller than a is at most the length of w
 pub smaller-within : (a : ℕ) (w : List ℕ) → smaller a w ≤ length w
 smaller-within a [] = omega arith
@@ -86,7 +83,7 @@ smaller-within a (b ∷ w) = by (nat_lt b a) (smaller-within a w)
     by true h = omega arith
     by false h = omega arith
 
--- ---- a list joined again from its first i elements, the element x at place i, counted from 0, and the elements after it
+-- ---- a list is its first i elements, the element at place i, counted from 0, and the elements after it
 
 pub take-read : {A : Type 0} (xs : List A) (i : ℕ) (x : A) → i < length xs → x ≡ get_or xs i x → take i xs ++ x ∷ [] ≡ take (i + 1) xs
 take-read xs i x h e = ap (λ y. take i xs ++ y ∷ []) e ∙ sym (take_more xs i x h)

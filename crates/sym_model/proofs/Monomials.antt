@@ -1,4 +1,5 @@
--- The polynomials of specs/Bases by their coefficients and pairings: sums of monomials, m_λ and p_a.
+-- The polynomials of specs/Bases by their coefficients and their pairings (`pair`) with functions of exponents: sums
+-- of monomials, m_λ and p_a.
 use Rattle.std.proofs.Common.{◌≡◌, ◌⊎◌, ℕ, zero, suc, ◌+◌, ◌-◌, ◌<◌, ◌≤◌, Bool, true, false, ◌&&◌, cond, eqb, leb, List, [], ◌∷◌, map, length, replicate, sym, ◌∙◌, ap, ap₂, subst, refl, inl, inr, arith, ℤ, pos, ◌+ℤ◌, filter, flat_map}
 use Rattle.std.proofs.lemmas.Int.{ints}
 use Rattle.std.proofs.lemmas.Bool.{cases_lt, cases_eq, le-leb, lt-leb, leb-true, eq-eqb, ne_eqb, eqb-true, cond-true, cond-false, true≢false, and_parts, and_from}
@@ -6,13 +7,14 @@ use Rattle.sym_model.specs.Sum.{total, Among}
 use Rattle.sym_model.specs.Polynomial.{Term, same, coefficient, In, pair}
 use Rattle.sym_model.specs.Partition.{size, sorted_parts}
 use Rattle.sym_model.specs.Bases.{down_from, exponent_lists, monomials, has, monomial, power_sum_of}
-use Rattle.sym_model.proofs.Sums.{total_append, total_ext, total_zero, total_none, total_map, total_each, total_select, Among_from_map, Among_from_each, Among_from_select}
+use Rattle.sym_model.proofs.Sums.{total_append, total_ext, total_zero, total_none, total_map, total_each, total_select, Among_from_map, Among_from_each, Among_from_select, down_from-below}
 use Rattle.sym_model.proofs.Exponents.{tests_agree, same_true}
 use Rattle.sym_model.proofs.Polynomials.{pair_monomials}
 use Rattle.sym_model.proofs.SortedParts.{size-sorted_parts, has_here, has_past}
 use lib.IntN.{+ℤ_idl, +ℤ_idr}
+use Rattle.sym_model.proofs.Integers.{nested_tests, tests_exchanged}
 
--- ---- sums in which only one term is not 0
+-- ---- sums over numbers or exponent lists in which only one term is not 0
 
 pub total_down_from-only : (g : ℕ → ℤ) (c d : ℕ) → total (λ (a : ℕ). cond (eqb a c) (g a) (pos 0)) (down_from d) ≡ cond (leb c d) (g c) (pos 0)
 total_down_from-only g c zero = by (cases_eq 0 c)
@@ -41,7 +43,8 @@ total_down_from-only g c (suc d) = by (cases_eq (suc d) c) (cases_lt d c) (total
 abbrev pub is_exponent_list : ℕ → ℕ → List ℕ → Bool
 is_exponent_list n d γ = eqb (length γ) n && eqb (size γ) d
 
--- the sum of φ over the members of `exponent_lists n d` equal to γ is φ(γ) if γ has n places and the sum d, and otherwise 0
+-- the sum of φ(α) over the members α of `exponent_lists n d` that are equal to γ is φ(γ) if γ has n places and the
+-- sum d, and otherwise 0
 pub total_exponent_lists-only : (φ : List ℕ → ℤ) (γ : List ℕ) (n d : ℕ) → total (λ (α : List ℕ). cond (same α γ) (φ α) (pos 0)) (exponent_lists n d) ≡ cond (is_exponent_list n d γ) (φ γ) (pos 0)
 total_exponent_lists-only φ [] zero d = by (cases_eq d 0)
   where
@@ -68,7 +71,7 @@ total_exponent_lists-only φ (c ∷ γ) (suc n) d =
     (λ a. total_map F (λ (α : List ℕ). a ∷ α) (exponent_lists n (d - a)) ∙ row a (eqb a c) (total_exponent_lists-only (λ α. φ (a ∷ α)) γ n (d - a)))
     (down_from d)
     ∙ total_down_from-only inner c d
-    ∙ both (leb c d) (is_exponent_list n (d - c) γ)
+    ∙ nested_tests (leb c d) (is_exponent_list n (d - c) γ) (φ (c ∷ γ))
     ∙ ap (λ b. cond b (φ (c ∷ γ)) (pos 0)) (tests_agree (leb c d && is_exponent_list n (d - c) γ) (is_exponent_list (suc n) d (c ∷ γ)) there back)
   where
     F : List ℕ → ℤ
@@ -81,10 +84,6 @@ total_exponent_lists-only φ (c ∷ γ) (suc n) d =
         → total (λ (α : List ℕ). cond (b && same α γ) (φ (a ∷ α)) (pos 0)) (exponent_lists n (d - a)) ≡ cond b (inner a) (pos 0)
     row a true e = e
     row a false e = total_zero (exponent_lists n (d - a))
-
-    both : (x y : Bool) → cond x (cond y (φ (c ∷ γ)) (pos 0)) (pos 0) ≡ cond (x && y) (φ (c ∷ γ)) (pos 0)
-    both true y = refl
-    both false y = refl
 
     there : (leb c d && is_exponent_list n (d - c) γ) ≡ true → is_exponent_list (suc n) d (c ∷ γ) ≡ true
     there t =
@@ -103,10 +102,10 @@ total_exponent_lists-only φ (c ∷ γ) (suc n) d =
         and_from (leb c d) (is_exponent_list n (d - c) γ) (le-leb c d (omega arith))
         (and_from (eqb (length γ) n) (eqb (size γ) (d - c)) (eq-eqb (length γ) n (omega arith)) (eq-eqb (size γ) (d - c) (omega arith)))
 
--- ---- the coefficients of sums of monomials
+-- ---- the coefficients of a sum of monomials that pass a test, and of m_λ
 
--- in the sum of the monomials of degree d in n variables that pass a test, x^γ has the coefficient 1 if γ has n places and the sum d and passes, and
--- otherwise 0
+-- the coefficient of x^γ in the sum of the monomials of degree d in n variables that pass a test is 1 if γ has n
+-- places, has the sum d and passes the test; otherwise it is 0
 pub coefficient-monomials : (test : List ℕ → Bool) (n d : ℕ) (γ : List ℕ) → coefficient (monomials test n d) γ ≡ cond (is_exponent_list n d γ) (cond (test γ) (pos 1) (pos 0)) (pos 0)
 coefficient-monomials test n d γ =
     total_map (λ (t : Term). cond (same t.0 γ) t.1 (pos 0)) (λ (α : List ℕ). (α, pos 1)) (filter test (exponent_lists n d))
@@ -114,15 +113,9 @@ coefficient-monomials test n d γ =
     ∙ total_ext
     (λ (α : List ℕ). cond (test α) (cond (same α γ) (pos 1) (pos 0)) (pos 0))
     (λ (α : List ℕ). cond (same α γ) (cond (test α) (pos 1) (pos 0)) (pos 0))
-    (λ α. turn (test α) (same α γ))
+    (λ α. tests_exchanged (test α) (same α γ) (pos 1))
     (exponent_lists n d)
     ∙ total_exponent_lists-only (λ α. cond (test α) (pos 1) (pos 0)) γ n d
-  where
-    turn : (x y : Bool) → cond x (cond y (pos 1) (pos 0)) (pos 0) ≡ cond y (cond x (pos 1) (pos 0)) (pos 0)
-    turn true true = refl
-    turn true false = refl
-    turn false true = refl
-    turn false false = refl
 
 -- the coefficient of x^γ in m_λ in n variables is 1 if γ has n places and sorts to λ, and 0 otherwise
 pub coefficient-monomial : (parts : List ℕ) (n : ℕ) (γ : List ℕ) → coefficient (monomial parts n) γ ≡ cond (eqb (length γ) n) (cond (same (sorted_parts γ) parts) (pos 1) (pos 0)) (pos 0)
@@ -137,7 +130,7 @@ coefficient-monomial parts n γ =
     by true false d true e =
         absurd (true≢false (sym (eq-eqb (size γ) (size parts) (sym (size-sorted_parts γ) ∙ ap size (same_true (sorted_parts γ) parts e))) ∙ d))
 
--- ---- the members of `exponent_lists`
+-- ---- the members of `exponent_lists n d` are lists of n places with the sum d
 
 -- each list of `exponent_lists n d` has n places and the sum d
 pub members_of-exponent_lists : (α : List ℕ) (n d : ℕ) → Among α (exponent_lists n d) → (length α ≡ n) × (size α ≡ d)
@@ -154,14 +147,8 @@ members_of-exponent_lists α (suc n) d m =
     let r = Among_from_each (λ (a : ℕ). map (λ (β : List ℕ). a ∷ β) (exponent_lists n (d - a))) α (down_from d) m in
     let s = Among_from_map (λ (β : List ℕ). r.0 ∷ β) α (exponent_lists n (d - r.0)) r.2 in
     let q = members_of-exponent_lists s.0 n (d - r.0) s.1 in
-    let l = below r.0 d r.1 in
+    let l = down_from-below d r.0 r.1 in
     (ap length s.2 ∙ ap suc q.0, ap size s.2 ∙ omega (arith, q.1))
-  where
-    below : (a d : ℕ) → Among a (down_from d) → a ≤ d
-    below a zero (inl e) = omega arith
-    below a zero (inr u) = absurd u
-    below a (suc d) (inl e) = omega arith
-    below a (suc d) (inr u) = omega (arith, below a d u)
 
 pub In-monomials : (test : List ℕ → Bool) (n d : ℕ) → In n (monomials test n d)
 In-monomials test n d t m =
@@ -169,14 +156,14 @@ In-monomials test n d t m =
     let s = Among_from_select test r.0 (exponent_lists n d) r.1 in
     ap (λ (u : Term). length u.0) r.2 ∙ (members_of-exponent_lists r.0 n d s.0).0
 
--- ---- power sums as sums over one place
+-- ---- the power sum p_a as the sum over the exponent lists with a at one place and 0 elsewhere
 
--- the exponent lists of n places with a in one place and 0 in the others
+-- the exponent lists of n places with a at one place and 0 at all others, one for each place
 abbrev pub one_place : ℕ → ℕ → List (List ℕ)
 one_place a zero = []
 one_place a (suc n) = (a ∷ replicate n 0) ∷ map (λ (α : List ℕ). 0 ∷ α) (one_place a n)
 
--- a sum over the exponent lists of n places with the sum 0 is its term at n zeros
+-- a sum of φ over the exponent lists of n places with the sum 0 is the value of φ at the list of n zeros
 pub total_exponent_lists-zero : (φ : List ℕ → ℤ) (n : ℕ) → total φ (exponent_lists n 0) ≡ φ (replicate n 0)
 total_exponent_lists-zero φ zero = +ℤ_idr (φ [])
 total_exponent_lists-zero φ (suc n) =
@@ -185,14 +172,14 @@ total_exponent_lists-zero φ (suc n) =
     ∙ total_map φ (λ (α : List ℕ). 0 ∷ α) (exponent_lists n 0)
     ∙ total_exponent_lists-zero (λ α. φ (0 ∷ α)) n
 
--- a sum over d, .., 1, 0 whose terms at 1, .., d are 0 is its term at 0
+-- if g is 0 at 1, .., d, the sum of g over d, .., 1, 0 is g(0)
 pub total_down_from-last : (g : ℕ → ℤ) (d : ℕ) → ((c : ℕ) → 0 < c → c ≤ d → g c ≡ pos 0) → total g (down_from d) ≡ g 0
 total_down_from-last g zero z = +ℤ_idr (g 0)
 total_down_from-last g (suc d) z =
     ap (λ n. n +ℤ total g (down_from d)) (z (suc d) (omega arith) (omega arith)) ∙ +ℤ_idl (total g (down_from d))
     ∙ total_down_from-last g d (λ c l h. z c l (omega arith))
 
--- if a is greater than the sum of α, it is not an entry of α
+-- if a is greater than the sum of the entries of α, then a is not an entry of α
 pub has_above_size : (a : ℕ) (α : List ℕ) → size α < a → has a α ≡ false
 has_above_size a [] h = refl
 has_above_size a (c ∷ α) h = rw (ne_eqb c a (λ e. omega arith)) (has_above_size a α (omega arith))
@@ -232,7 +219,8 @@ total_power_sum a (suc n) φ =
         ∙ h
         ∙ sym (total_map φ (λ (α : List ℕ). 0 ∷ α) (one_place (suc a) n))
 
--- for a > 0, the pairing of p_a in n variables with φ is the sum of φ over the exponent lists of x_1^a, .., x_n^a
+-- for a > 0, the sum of c·φ(α) over the terms c·x^α of p_a in n variables (`pair`) is the sum of φ over the exponent
+-- lists of x_1^a, .., x_n^a
 pub pair-power_sum_of : (a n : ℕ) (φ : List ℕ → ℤ) → 0 < a → pair (power_sum_of a n) φ ≡ total φ (one_place a n)
 pair-power_sum_of zero n φ h = absurd (omega arith)
 pair-power_sum_of (suc a) n φ h =

@@ -1,8 +1,9 @@
 -- Sums of natural numbers over lists: `sum_by` of specs/Sum.
---     sum_by-ext, -among, -within       the sums of two functions, compared
---     sum_by-append .. sum_by-each      sums over lists that are made of other lists
---     sum_by-at, -insert, -set, -without, -part     the sum over a list, and one element or a part of the list
---     sum_by-none, -zeros, -most        sums that are 0, and a bound
+--     sum_by-ext, -among, -within       the sums of two functions over one list, compared
+--     sum_by-append .. sum_by-each      sums over lists that are built from other lists
+--     sum_by-at, -insert, -set, -without       the sum over a list, and one element that is read, inserted, replaced or left out
+--     sum_by-part                       the sum over a list whose elements are among those of another list
+--     sum_by-none, -zeros, -most        sums that are 0, and an upper bound of a sum
 --     sum_by-total                      the sum as an integer
 use Rattle.std.proofs.Common.{◌≡◌, sym, ℕ, zero, suc, ◌+◌, ◌*◌, ◌<◌, ◌≤◌, Bool, true, false, cond, List, [], ◌∷◌, ◌++◌, map, flat_map, length, get_or, set, take, drop, refl, sym, ap, ap₂, ◌∙◌, inl, inr, arith, pos}
 use Rattle.std.specs.List.{insert}
@@ -11,13 +12,13 @@ use Rattle.std.proofs.lemmas.List.{take-append-drop}
 use Rattle.sym_model.specs.Sum.{total, sum_by, Among, Once, Within}
 use Rattle.sym_model.proofs.Sums.{without, Within-without, Within_tail}
 
--- ---- the sums of two functions over one list
+-- ---- the sums of two functions over one list, compared
 
 pub sum_by-ext : {A : Type 0} (f g : A → ℕ) → ((x : A) → f x ≡ g x) → (xs : List A) → sum_by f xs ≡ sum_by g xs
 sum_by-ext f g e [] = refl
 sum_by-ext f g e (x ∷ xs) = ap₂ ◌+◌ (e x) (sum_by-ext f g e xs)
 
--- two functions that agree on the elements of a list have the same sum
+-- two functions that agree on the elements of a list have the same sum over that list
 pub sum_by-among : {A : Type 0} (f g : A → ℕ) (xs : List A) → ((x : A) → Among x xs → f x ≡ g x) → sum_by f xs ≡ sum_by g xs
 sum_by-among f g [] e = refl
 sum_by-among f g (x ∷ xs) e = ap₂ ◌+◌ (e x (inl refl)) (sum_by-among f g xs (λ y m. e y (inr m)))
@@ -29,7 +30,7 @@ sum_by-within f g (x ∷ xs) h =
     let b = sum_by-within f g xs (λ y m. h y (inr m)) in
     omega arith
 
--- ---- sums over lists that are made of other lists
+-- ---- sums over lists that are built from other lists by `++`, `map` and `flat_map`
 
 pub sum_by-append : {A : Type 0} (f : A → ℕ) (xs ys : List A) → sum_by f (xs ++ ys) ≡ sum_by f xs + sum_by f ys
 sum_by-append f [] ys = omega arith
@@ -43,7 +44,7 @@ pub sum_by-each : {A B : Type 0} (f : B → ℕ) (g : A → List B) (xs : List A
 sum_by-each f g [] = refl
 sum_by-each f g (x ∷ xs) = sum_by-append f (g x) (flat_map g xs) ∙ ap (λ s. sum_by f (g x) + s) (sum_by-each f g xs)
 
--- ---- a sum over a list, and one of its elements
+-- ---- the sum over a list, and over the list with one element inserted, replaced or left out
 
 pub sum_by-at : {A : Type 0} (f : A → ℕ) (xs : List A) (i : ℕ) (x : A) → i < length xs → x ≡ get_or xs i x → f x ≤ sum_by f xs
 sum_by-at f [] i x h e = absurd (omega arith)
@@ -67,7 +68,7 @@ sum_by-without f x [] m = absurd m
 sum_by-without f x (y ∷ xs) (inl e) = ap (λ z. f z + sum_by f xs) (sym e)
 sum_by-without f x (y ∷ xs) (inr m) = let r = sum_by-without f x xs m in omega arith
 
--- if ys is without repeats and within xs, the sum of f over ys is at most that over xs
+-- if ys has no repeats and each element of ys is in xs, the sum of f over ys is at most the sum of f over xs
 pub sum_by-part : {A : Type 0} (f : A → ℕ) (ys xs : List A) → Once ys → Within ys xs → sum_by f ys ≤ sum_by f xs
 sum_by-part f [] xs o w = omega arith
 sum_by-part f (y ∷ ys) xs o w =
@@ -76,7 +77,7 @@ sum_by-part f (y ∷ ys) xs o w =
     let r = sum_by-part f ys (without y xs m) o.1 (Within-without y xs ys m o.0 (Within_tail y ys xs w)) in
     omega arith
 
--- ---- sums that are 0, and a bound
+-- ---- sums that are 0, and an upper bound of a sum
 
 pub sum_by-none : {A : Type 0} (f : A → ℕ) (xs : List A) → ((x : A) → Among x xs → f x ≡ 0) → sum_by f xs ≡ 0
 sum_by-none f [] e = refl
@@ -88,7 +89,7 @@ sum_by-none f (x ∷ xs) e =
 pub sum_by-zero : {A : Type 0} (xs : List A) → sum_by (λ (x : A). 0) xs ≡ 0
 sum_by-zero xs = sum_by-none (λ x. 0) xs (λ x m. refl)
 
--- if f is 0 wherever g is 0, and the sum of g is 0, so is the sum of f
+-- if f(x) = 0 for each x with g(x) = 0, and the sum of g over xs is 0, then the sum of f over xs is 0
 pub sum_by-zeros : {A : Type 0} (f g : A → ℕ) (xs : List A) → ((x : A) → g x ≡ 0 → f x ≡ 0) → sum_by g xs ≡ 0 → sum_by f xs ≡ 0
 sum_by-zeros f g [] e h = refl
 sum_by-zeros f g (x ∷ xs) e h =
@@ -108,7 +109,7 @@ sum_by-most f (x ∷ xs) most h =
     let c : suc (length xs) * most ≡ length xs * most + most = omega arith in
     omega arith
 
--- ---- sums as integers
+-- ---- a sum of natural numbers as a sum of integers
 
 pub sum_by-total : {A : Type 0} (f : A → ℕ) (xs : List A) → pos (sum_by f xs) ≡ total (λ (x : A). pos (f x)) xs
 sum_by-total f [] = refl

@@ -1,19 +1,31 @@
 -- Natural numbers: powers, factorials, products, and tests that compare them.
-use Rattle.std.proofs.Common.{arith, nat_le, suc, ℕ, ◌≡◌, ◌⊎◌, inl, inr, ◌^◌, pow-suc, zero, ◌≤◌, ◌<◌, ◌==◌, sym, cond, nat_lt, ap, true, false, ◌*◌, List, [], ◌∷◌}
+use Rattle.std.proofs.Common.{arith, nat_le, suc, ℕ, ◌≡◌, ◌⊎◌, inl, inr, ◌^◌, pow-suc, zero, ◌≤◌, ◌<◌, ◌==◌, sym, cond, nat_lt, ap, true, false, ◌*◌, List, [], ◌∷◌, Bool, ◌||◌, refl, ◌+◌, ◌∙◌, ◌&&◌, ◌-◌}
 use Rattle.std.proofs.lemmas.Bool.Decides.{nat_tests}
-use Rattle.std.proofs.lemmas.Nat.{mul-le}
 use Rattle.std.proofs.Math.Nat.{pow-zero, le_of_mul-le-mul_right}
-use Rattle.std.proofs.lemmas.Bool.{eq-eqb, eqb-true, lt-ltb, cases_lt}
+use Rattle.std.proofs.lemmas.Bool.{eq-eqb, eqb-true, cases_lt, ne_eqb, cond_below}
 use native.Mathlib.Nat.{mul-pos, mul-le-mul_left}
 use Rattle.sym_model.proofs.Exponents.{tests_agree}
 use Rattle.sym_model.specs.Bounded.{AreBelow}
+use Rattle.sym_model.specs.BetaList.{greater}
 
-pub nat_le-suc : (a b : ℕ) → nat_le (suc a) (suc b) ≡ nat_le a b
-nat_le-suc a b = grind (arith, nat_tests)
+pub positive-test : (n : ℕ) → 0 < n → (n == 0) ≡ false
+positive-test n h = ne_eqb n 0 (λ e. absurd (omega arith))
 
-pub power-base : (a b d : ℕ) → a ≤ b → a ^ d ≤ b ^ d
-power-base a b zero h = rw (pow-zero a, pow-zero b) (omega arith)
-power-base a b (suc d) h = let p = mul-le (a ^ d) a (b ^ d) b (power-base a b d h) h in rw (pow-suc a d, pow-suc b d) p
+pub second_false : (t : Bool) {u : Bool} → t ≡ true → (t && u) ≡ false → u ≡ false
+second_false true e g = g
+second_false false e g = absurd (cc)
+
+pub zero_either : (t : Bool) {x : ℕ} → x ≡ 0 → cond t x 0 ≡ 0
+zero_either true e = e
+zero_either false e = refl
+
+pub or_left_comm : (x y z : Bool) → (x || (y || z)) ≡ (y || (x || z))
+or_left_comm true true z = refl
+or_left_comm true false z = refl
+or_left_comm false y z = refl
+
+pub pow_next : (d : ℕ) → 2 ^ (d + 1) ≡ 2 * 2 ^ d
+pow_next d = ap (λ n. 2 ^ n) (let e : d + 1 ≡ suc d = omega arith in e) ∙ (let e : 2 ^ suc d ≡ 2 * 2 ^ d = omega arith in e)
 
 pub power-positive : (a d : ℕ) → 0 < a → 0 < a ^ d
 power-positive a zero h = rw (pow-zero a) (omega arith)
@@ -22,20 +34,29 @@ power-positive a (suc d) h = rw (pow-suc a d) (mul-pos (power-positive a d h) h)
 pub equal-sym : (a b : ℕ) → (a == b) ≡ (b == a)
 equal-sym a b = tests_agree (a == b) (b == a) (λ e. eq-eqb b a (sym (eqb-true a b e))) (λ e. eq-eqb a b (sym (eqb-true b a e)))
 
+pub nat_lt-suc : (a b : ℕ) → nat_lt (suc a) (suc b) ≡ nat_lt a b
+nat_lt-suc a b = grind (arith, nat_tests)
+
+pub one_before : (from r : ℕ) → from ≡ r → 1 ≤ r → from - 1 + 1 ≡ r
+one_before from r e h = omega arith
+
 pub counts-not_less : (x a : ℕ) → a ≤ x → cond {A = ℕ} (nat_lt x a) 1 0 ≡ 0
 counts-not_less x a h = grind (arith, nat_tests)
 
-pub counts-less : (x y : ℕ) → x < y → cond {A = ℕ} (nat_lt x y) 1 0 ≡ 1
-counts-less x y h = ap (λ t. cond t 1 0) (lt-ltb x y h)
+pub greater_fewer : (x y : ℕ) (w : List ℕ) → y ≤ x → greater x w ≤ greater y w
+greater_fewer x y [] h = omega arith
+greater_fewer x y (z ∷ w) h =
+    let e = greater_fewer x y w h in
+    elim (cases_lt x z) [
+      | inl l ↦ let p = sym (cond_below {X = ℕ} x z 1 0 l) in let q = sym (cond_below {X = ℕ} y z 1 0 (omega arith)) in omega arith
+      | inr l ↦ let p = counts-not_less x z l in omega arith
+    ]
 
 pub nat_le-trans : (a b c : ℕ) → nat_le a b ≡ true → nat_le b c ≡ true → nat_le a c ≡ true
 nat_le-trans a b c h k = grind (arith, nat_tests)
 
 pub not_le-trans : (a b c : ℕ) → nat_le a b ≡ false → nat_le b c ≡ false → nat_le a c ≡ false
 not_le-trans a b c h k = grind (arith, nat_tests)
-
-pub nat_lt-false : (l d : ℕ) → d ≤ l → nat_lt l d ≡ false
-nat_lt-false l d h = grind (arith, nat_tests)
 
 pub times-more : (a b : ℕ) → 0 < b → a ≤ a * b
 times-more a b h = let p = mul-le-mul_left a h in omega arith
@@ -52,7 +73,7 @@ below_more k l (a ∷ w) le h = (omega (arith, h.0), below_more k l w le h.1)
 pub other_factor : (a b c d : ℕ) → a * b ≡ c * d → 0 < b → b ≤ d → c ≤ a
 other_factor a b c d e some h = le_of_mul-le-mul_right (let l = mul-le-mul_left c h in omega arith) some
 
--- if f(i) ≤ f(i + 1) for each i below n, then f(i) ≤ f(j) for i ≤ j ≤ n
+-- if f(i) ≤ f(i + 1) for each i < n, then f(i) ≤ f(j) for all i ≤ j ≤ n
 pub grows_from_steps : (f : ℕ → ℕ) (n : ℕ) → ((i : ℕ) → i < n → f i ≤ f (suc i)) → (i j : ℕ) → i ≤ j → j ≤ n → f i ≤ f j
 grows_from_steps f n step i zero h l = let z : i ≡ 0 = omega arith in omega (arith, ap f z)
 grows_from_steps f n step i (suc j) h l = by (cases_lt j i) (λ g. grows_from_steps f n step i j g (omega arith))

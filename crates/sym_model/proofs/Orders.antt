@@ -1,5 +1,6 @@
--- The printed order and the tests of a canonical list: the order is total, only equal partitions compare as equal, and each test decides the property
--- that it is named after.
+-- The printed order of partitions and the tests of a canonical list: the order is total, partitions that compare as
+-- equal are equal, and each test passes if and only if the list or fraction has the property that the test is named
+-- after.
 use Rattle.std.proofs.Common.{◌≡◌, ℕ, zero, suc, ◌+◌, ◌<◌, ◌≤◌, true, ◌&&◌, List, [], ◌∷◌, length, eqb, leb, ltb, nat_abs, refl, sym, ap, ◌∙◌, subst, arith}
 use Rattle.std.specs.Int.{IsGcd}
 use Rattle.std.specs.Cmp.{IsTotalOrder}
@@ -20,7 +21,8 @@ use Rattle.sym_model.proofs.GreatestCommonDivisors.{IsGcd-gcd, gcd-only}
 abbrev falling : ℕ → ℕ → Ordering
 falling = flip_args nat_cmp
 
--- if xs and ys have at most n numbers, their decreasing lexicographic order compares them padded with zeros to n numbers
+-- for lists xs and ys of at most n numbers, decreasing lexicographic order is the comparison, entry by entry in the
+-- reversed order of numbers, of these lists padded with zeros to n entries
 falling_lexicographic-padded : (n : ℕ) (xs ys : List ℕ) → length xs ≤ n → length ys ≤ n → falling_lexicographic xs ys ≡ slice_cmp falling (resize n xs) (resize n ys)
 falling_lexicographic-padded zero [] [] h k = refl
 falling_lexicographic-padded zero [] (y ∷ ys) h k = absurd (omega arith)
@@ -33,7 +35,7 @@ falling_lexicographic-padded (suc n) (x ∷ xs) [] h k =
 falling_lexicographic-padded (suc n) (x ∷ xs) (y ∷ ys) h k =
     ap (ordering_then (nat_cmp y x)) (falling_lexicographic-padded n xs ys (omega arith) (omega arith))
 
--- decreasing lexicographic order is a total order, up to zeros at the end
+-- decreasing lexicographic order is a total order, in which lists that differ only in zeros at the end are equal
 pub falling_lexicographic-total : IsTotalOrder falling_lexicographic
 falling_lexicographic-total = record { antisymm = antisymm; trans = trans; congr = congr }
   where
@@ -57,11 +59,13 @@ falling_lexicographic-total = record { antisymm = antisymm; trans = trans; congr
         let n : ℕ = length x + (length y + length z) in
         falling_lexicographic-padded n x z (omega arith) (omega arith) ∙ (total.congr (resize n x) (resize n y) (resize n z) (sym (falling_lexicographic-padded n x y (omega arith) (omega arith)) ∙ h) ∙ sym (falling_lexicographic-padded n y z (omega arith) (omega arith)))
 
--- the printed order is a total order: it is antisymmetric and transitive, and lists that compare as equal compare alike with every other one
+-- the printed order is a total order: it is antisymmetric and transitive, and two lists that compare as equal give
+-- the same result in a comparison with any third list
 pub printed_order-total : IsTotalOrder printed_order
 printed_order-total = then_total (on_total size (back_total nat_cmp_total)) falling_lexicographic-total
 
--- if comparing by one order and then by another gives `Equal`, each of them gives `Equal`
+-- let o and p be the results of comparisons by two orders: if the result for the first order and then the second,
+-- `ordering_then o p`, is `Equal`, then o and p are `Equal`
 pub then-equal : (o p : Ordering) → ordering_then o p ≡ Equal → (o ≡ Equal) × (p ≡ Equal)
 then-equal Less p h = cc
 then-equal Equal p h = (refl, h)
@@ -70,7 +74,7 @@ then-equal Greater p h = cc
 pub nat_cmp-equal : (a b : ℕ) → nat_cmp a b ≡ Equal → a ≡ b
 nat_cmp-equal a b h = subst (λ o. MatchOrdering o (a < b) (a ≡ b) (b < a)) h (ranked a b (nat_cmp a b) refl)
 
--- if two lists of positive numbers compare as equal, they are equal
+-- if two lists of positive numbers compare as equal in decreasing lexicographic order, they are equal
 pub falling_lexicographic-equal : (x y : List ℕ) → ArePositive x → ArePositive y → falling_lexicographic x y ≡ Equal → x ≡ y
 falling_lexicographic-equal [] [] h k e = refl
 falling_lexicographic-equal [] (b ∷ y) h k e =
@@ -103,7 +107,7 @@ is_partition-from (a ∷ []) h = lt-ltb 0 a h.positive.0
 is_partition-from (a ∷ b ∷ parts) h =
     and_from (leb b a) (is_partition (b ∷ parts)) (le-leb b a h.falls.0) (is_partition-from (b ∷ parts) (record { falls = h.falls.1; positive = h.positive.1 }))
 
--- a label: a partition of at most 512 rows and 4096 cells
+-- the list may be the label of a term: a partition of at most 512 rows and 4096 cells
 pub record IsLabel (parts : List ℕ) : Type 0 where
   pub partition : IsPartition parts
   pub rows : rows parts ≤ 512
@@ -119,7 +123,7 @@ pub is_label-from : (parts : List ℕ) → IsLabel parts → is_label parts ≡ 
 is_label-from parts h =
     and_from (is_partition parts && leb (rows parts) 512) (leb (size parts) 4096) (and_from (is_partition parts) (leb (rows parts) 512) (is_partition-from parts h.partition) (le-leb _ _ h.rows)) (le-leb _ _ h.size)
 
--- a fraction that is not 0, in lowest terms, with a positive denominator
+-- the fraction c is not 0 and in lowest terms, with a positive denominator
 pub record IsReduced (c : Fraction) : Type 0 where
   pub denominator : 0 < c.1
   pub nonzero : 0 < nat_abs c.0

@@ -1,4 +1,5 @@
--- The list of the partitions of a number has each of them exactly once and nothing else, in decreasing lexicographic order.
+-- The list `partitions_of d` has each partition of d exactly once and nothing else, in decreasing lexicographic
+-- order.
 use Rattle.std.proofs.Common.{◌≡◌, ℕ, zero, suc, ◌-◌, ◌<◌, ◌≤◌, min, List, [], ◌∷◌, ◌++◌, map, length, sym, ◌∙◌, ap, ap₂, subst, refl, inl, inr, ⊎_elim, arith, flat_map}
 use Rattle.std.proofs.Math.Nat.{eq-or-lt_of_le, min-le_left, min-le_right, le-min}
 use Rattle.std.proofs.lemmas.Cmp.{nat_cmp_total, tied_itself}
@@ -11,7 +12,7 @@ use Rattle.sym_model.specs.PrintedOrder.{falling_lexicographic}
 use Rattle.sym_model.specs.PartitionList.{down_to_one, partitions_within, partitions_of, FallsLexicographically}
 use Rattle.sym_model.proofs.Sums.{Among-map, Among_from_map, Among-each, Among_from_each, Among_from_append}
 use Rattle.sym_model.proofs.Orders.{falling_lexicographic-total}
-use Rattle.sym_model.proofs.SortedParts.{rows_within_size, Falls_tail}
+use Rattle.sym_model.proofs.SortedParts.{rows_within_size, Falls_tail, Falls_first}
 
 -- ---- the list of the numbers from k down to 1
 
@@ -25,9 +26,9 @@ Among-down_to_one zero a p h = absurd (omega arith)
 Among-down_to_one (suc k) a p h =
     ⊎_elim (λ e. inl e) (λ l. inr (Among-down_to_one k a p (omega arith))) (eq-or-lt_of_le {n = a} {m = suc k} h)
 
--- ---- the list has exactly the partitions of d
+-- ---- the list `partitions_of d` has exactly the partitions of d
 
--- the parts are weakly decreasing and positive, their sum is d, and none is greater than `most`
+-- `parts` is a partition of d with no part greater than `most`
 pub record IsWithin (d most : ℕ) (parts : List ℕ) : Type 0 where
   pub falls : Falls parts
   pub positive : ArePositive parts
@@ -62,10 +63,6 @@ pub no_part : (parts : List ℕ) → ArePositive parts → size parts ≡ 0 → 
 no_part [] p s = refl
 no_part (a ∷ parts) p s = absurd (omega (arith, p.0))
 
-Falls-first : (a : ℕ) (parts : List ℕ) → Falls (a ∷ parts) → columns parts ≤ a
-Falls-first a [] f = omega arith
-Falls-first a (b ∷ parts) f = f.0
-
 pub Among-partitions_within :
     (rows d most : ℕ) (parts : List ℕ) → IsWithin d most parts → length parts ≤ rows
     → Among parts (partitions_within d most rows)
@@ -82,7 +79,7 @@ Among-partitions_within (suc rows) (suc d) most (a ∷ parts) w h =
       falls = Falls_tail a parts w.falls;
       positive = w.positive.1;
       sum = omega (arith, w.sum);
-      first = Falls-first a parts w.falls;
+      first = Falls_first a parts w.falls;
     } in
     let tail = Among-partitions_within rows (suc d - a) a parts rest (omega arith) in
     Among-each (λ b. map (λ rest. b ∷ rest) (partitions_within (suc d - b) b rows)) a (a ∷ parts) (down_to_one top) here
@@ -109,7 +106,7 @@ Among-partitions_of d parts p s =
     } in
     Among-partitions_within d d d parts w (omega (arith, rows_within_size parts p.positive))
 
--- ---- the list is in strictly decreasing lexicographic order, so it has no partition twice
+-- ---- the list `partitions_of d` is in strictly decreasing lexicographic order, so no partition occurs twice in it
 
 pub FallsLexicographically-append :
     (xs ys : List (List ℕ)) → FallsLexicographically xs → FallsLexicographically ys
@@ -179,7 +176,8 @@ pub Once-partitions_of : (d : ℕ) → Once (partitions_of d)
 Once-partitions_of d =
     Once-FallsLexicographically (partitions_of d) (FallsLexicographically-partitions_within d d d)
 
--- ---- in the list of the partitions of d, a bound on the number of rows that is at least d has no effect
+-- ---- `partitions_within d most rows`, the partitions of d with bounded parts and rows, does not depend on the bound
+-- `rows` if this is at least d
 
 each-among :
     (f g : ℕ → List (List ℕ)) (xs : List ℕ) → ((a : ℕ) → Among a xs → f a ≡ g a) → flat_map f xs ≡ flat_map g xs

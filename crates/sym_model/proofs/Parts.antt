@@ -1,5 +1,5 @@
--- Lists of parts: their entries, sizes, and zeros at their ends (`in_front`, `without_last_zeros`, `part`, `Falls`, `size`
--- of specs/Partition), and lists with one part made smaller by one (specs/Slide).
+-- Lists of parts: their entries, sizes and zeros at the end (`in_front`, `without_last_zeros`, `part`, `Falls`,
+-- `size` of specs/Partition), and lists with one part decreased by 1 (`lowered_at` of specs/Slide).
 use Rattle.std.proofs.Common.{◌+◌, List, [], arith, map, refl, ℕ, ◌∷◌, ◌≡◌, ◌++◌, ap, ◌<◌, suc, zero, ◌∙◌, length, ◌≤◌, get_or, ◌-◌, drop, take, take_all, subst, replicate, inl, inr}
 use Rattle.sym_model.specs.Sum.{Among}
 use Rattle.sym_model.specs.Partition.{size, in_front, without_last_zeros, ArePositive, part, Falls}
@@ -10,7 +10,7 @@ pub size-map_add : (f g : ℕ → ℕ) (xs : List ℕ) → size (map (λ j. f j 
 size-map_add f g [] = refl
 size-map_add f g (x ∷ xs) = omega (arith, size-map_add f g xs)
 
--- a zero appended to xs does not change xs without the zeros at its end
+-- the list xs with a zero appended, and xs itself, are the same list once the zeros at their ends are dropped
 pub without_last_zeros-zero : (xs : List ℕ) → without_last_zeros (xs ++ 0 ∷ []) ≡ without_last_zeros xs
 without_last_zeros-zero [] = refl
 without_last_zeros-zero (x ∷ xs) = ap (in_front x) (without_last_zeros-zero xs)
@@ -36,22 +36,42 @@ pub length-staircase : (n : ℕ) → length (staircase n) ≡ n
 length-staircase zero = refl
 length-staircase (suc n) = ap suc (length-staircase n)
 
-pub past_end : (parts : List ℕ) (k : ℕ) → length parts ≤ k → get_or parts k 0 ≡ 0
-past_end [] k h = refl
-past_end (a ∷ parts) zero h = absurd (omega arith)
-past_end (a ∷ parts) (suc k) h = past_end parts k (omega arith)
-
 pub positive-at : (parts : List ℕ) (k : ℕ) → ArePositive parts → k < length parts → 0 < get_or parts k 0
 positive-at [] k h l = absurd (omega arith)
 positive-at (a ∷ parts) zero h l = h.0
 positive-at (a ∷ parts) (suc k) h l = positive-at parts k h.1 (omega arith)
 
--- a list with at least one part is its first part followed by the slice of the parts after it
+-- if the parts of inner are positive and at most those of outer, place by place, inner has at most as many parts
+pub rows_held : (inner outer : List ℕ) → ArePositive inner → ((k : ℕ) → get_or inner k 0 ≤ get_or outer k 0) → length inner ≤ length outer
+rows_held [] outer p h = omega arith
+rows_held (a ∷ inner) [] p h = let q = p.0 in let r = h 0 in absurd (omega arith)
+rows_held (a ∷ inner) (b ∷ outer) p h = let q = rows_held inner outer p.1 (λ k. h (suc k)) in omega arith
+
+pub sizes_within : (x y : List ℕ) → ((j : ℕ) → get_or x j 0 ≤ get_or y j 0) → size x ≤ size y
+sizes_within [] y h = omega arith
+sizes_within (a ∷ x) [] h = let p = h 0 in let r = sizes_within x [] (λ j. h (suc j)) in omega arith
+sizes_within (a ∷ x) (b ∷ y) h = let p = h 0 in let r = sizes_within x y (λ j. h (suc j)) in omega arith
+
+pub falls_more : (a b : ℕ) (parts : List ℕ) → a ≤ b → Falls (a ∷ parts) → Falls (b ∷ parts)
+falls_more a b [] l f = tt
+falls_more a b (c ∷ parts) l f = (let x = f.0 in omega arith, f.1)
+
+pub size-map_push : {A : Type 0} (f : A → ℕ) (xs : List A) (y : A) → size (map f (xs ++ y ∷ [])) ≡ size (map f xs) + f y
+size-map_push f [] y = omega arith
+size-map_push f (x ∷ xs) y = let h = size-map_push f xs y in omega arith
+
+pub size-drop : (i : ℕ) (parts : List ℕ) → size (drop i parts) ≤ size parts
+size-drop zero [] = omega arith
+size-drop zero (a ∷ parts) = omega arith
+size-drop (suc i) [] = omega arith
+size-drop (suc i) (a ∷ parts) = let h = size-drop i parts in omega arith
+
+-- a list with at least one part is its first part followed by the list of the parts after it
 pub split_first : (parts : List ℕ) → 1 ≤ length parts → get_or parts 0 0 ∷ take (length parts - 1) (drop 1 parts) ≡ parts
 split_first [] h = absurd (omega arith)
 split_first (k ∷ parts) h = ap (λ r. k ∷ r) (take_all (length (k ∷ parts) - 1) parts (omega arith))
 
--- `in_front a l` and a ∷ l have the same number at each place n, read as 0 after the end
+-- `in_front a l` and a ∷ l have the same number at each place n, with 0 for a missing number
 pub get_or-in_front : (a n : ℕ) (l : List ℕ) → get_or (in_front a l) n 0 ≡ get_or (a ∷ l) n 0
 get_or-in_front zero zero [] = refl
 get_or-in_front zero (suc n) [] = refl

@@ -1,4 +1,5 @@
--- The laws of the ring of polynomials, and of restriction to fewer variables, by pairings.
+-- The laws of the ring of polynomials, and of restriction to fewer variables, proved by pairings with functions of
+-- exponents.
 use Rattle.std.proofs.Common.{◌≡◌, ℕ, Bool, true, false, ◌&&◌, cond, List, sym, ◌∙◌, ap, ap₂, refl, arith, ℤ, pos, ◌+ℤ◌, ◌*ℤ◌, neg_ℤ}
 use Rattle.std.proofs.lemmas.Int.{ints}
 use Rattle.sym_model.specs.Polynomial.{Poly, Same, In, nothing, no_exponents, one, join, plus, scale, negate, times, pair, resize, fits_in, restrict}
@@ -6,7 +7,7 @@ use Rattle.sym_model.proofs.Exponents.{join_comm, join_assoc, join_zeros, resize
 use Rattle.sym_model.proofs.Polynomials.{pair_ext, pair_in, pair_add, pair_factor, pair_opposite, pair_zero, pair_exchange, pair_plus, pair_scale, pair_negate, pair_times, pair_one, pair_restrict, same_from_pair, Same_trans, pair_determined}
 use Rattle.std.specs.Prelude.{◌-ℤ◌}
 
--- ---- sums of polynomials
+-- ---- laws of sums of polynomials
 
 pub plus_comm : (f g : Poly) → Same (plus f g) (plus g f)
 plus_comm f g = same_from_pair (plus f g) (plus g f) (λ φ. omega (arith, ints, pair_plus f g φ, pair_plus g f φ))
@@ -14,7 +15,7 @@ plus_comm f g = same_from_pair (plus f g) (plus g f) (λ φ. omega (arith, ints,
 pub plus-negate : (f : Poly) → Same (plus f (negate f)) nothing
 plus-negate f = same_from_pair (plus f (negate f)) nothing (λ φ. omega (arith, ints, pair_plus f (negate f) φ, pair_negate f φ))
 
--- ---- products of polynomials
+-- ---- laws of products of polynomials
 
 pub times_comm : (f g : Poly) → Same (times f g) (times g f)
 times_comm f g =
@@ -76,9 +77,10 @@ times-negate f g =
     ∙ pair_opposite f (λ α. pair g (λ β. φ (join α β)))
     ∙ sym (pair_negate (times f g) φ ∙ ap neg_ℤ (pair_times f g φ)))
 
--- ---- restriction to fewer variables
+-- ---- laws of restriction to fewer variables
 
--- the test function whose pairing with any polynomial f is the pairing of φ with f restricted to n variables
+-- the function ψ of exponents such that, for each polynomial f, the sum of c·ψ(α) over the terms c·x^α of f is the
+-- sum of c·φ(α) over the terms of f restricted to n variables
 abbrev pub restricted_test : ℕ → (List ℕ → ℤ) → List ℕ → ℤ
 restricted_test n φ α = cond (fits_in n α) (φ (resize n α)) (pos 0)
 

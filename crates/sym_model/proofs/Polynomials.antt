@@ -1,6 +1,7 @@
--- The pairing of a polynomial with a test function φ is the sum of c·φ(α) over its terms c·x^α. Two polynomials are the
--- same if and only if all their pairings agree (`pair_determined`, `same_from_pair`); the pairing of a sum, product or
--- restriction is given by pairings of its parts, so that a law of polynomials is a law of finite sums.
+-- The pairing of a polynomial with a function φ of exponent lists, a test function, is the sum of c·φ(α) over its
+-- terms c·x^α. Two polynomials are the same if and only if all their pairings agree (`pair_determined`,
+-- `same_from_pair`); the pairing of a sum, product or restriction is given by pairings of its operands, so that a law
+-- of polynomials is a law of finite sums.
 use Rattle.std.proofs.Common.{◌≡◌, ℕ, zero, suc, ◌+◌, ◌≤◌, ◌⊎◌, Bool, true, false, cond, not, List, [], ◌∷◌, ◌++◌, map, length, length-append, sym, ◌∙◌, ap, ap₂, subst, refl, inl, inr, arith, ℤ, pos, ◌+ℤ◌, ◌*ℤ◌, neg_ℤ, filter, flat_map}
 use Rattle.std.proofs.lemmas.Int.{ints}
 use Rattle.std.proofs.lemmas.Bool.{cases_eq}
@@ -8,18 +9,20 @@ use Rattle.std.proofs.lemmas.List.{length-replicate}
 use Rattle.sym_model.specs.Sum.{total, Among}
 use Rattle.sym_model.specs.Polynomial.{Term, Poly, same, coefficient, Same, In, no_exponents, one, join, plus, scale, negate, times, pair, resize, fits_in, restrict}
 use Rattle.sym_model.specs.Expansion.{beside}
-use Rattle.sym_model.proofs.Ring.{distributes_left, product_assoc, product_left_comm, negation-product, product-negation, product-one, one-product}
+use Rattle.sym_model.proofs.Ring.{distributes_left, product_assoc, product_left_comm, negation-product, product-negation, one-product}
 use Rattle.sym_model.proofs.Sums.{total_ext, total_among, total_append, total_none, total_add, total_neg, total_scale, total_map, total_each, total_select, total_exchange, Among_from_append, Among_from_map, Among_from_each, Among_from_select}
 use Rattle.sym_model.proofs.Exponents.{same_refl, same_true, same_apart, same_or_not, length-join_same, length-resize}
 use Rattle.std.specs.Prelude.{◌≤ℤ◌}
 use lib.IntN.{+ℤ_idl, *ℤ-zero, *ℤ_comm}
+use Rattle.sym_model.proofs.Integers.{times_chosen, chosen_as_product}
 
--- ---- pairings of one polynomial with changed test functions
+-- ---- pairings of one polynomial (`pair`) with different functions of exponents
 
 pub pair_ext : (f : Poly) (φ ψ : List ℕ → ℤ) → ((α : List ℕ) → φ α ≡ ψ α) → pair f φ ≡ pair f ψ
 pair_ext f φ ψ e = total_ext (λ (t : Term). t.1 *ℤ φ t.0) (λ (t : Term). t.1 *ℤ ψ t.0) (λ t. ap (λ n. t.1 *ℤ n) (e t.0)) f
 
--- the pairing with a polynomial in n variables depends only on the test function at lists of n places
+-- for f in n variables: the sum of c·φ(α) over the terms c·x^α of f (`pair f φ`) depends only on the values of φ at
+-- lists of n places
 pub pair_in : (n : ℕ) (f : Poly) (φ ψ : List ℕ → ℤ) → In n f → ((α : List ℕ) → length α ≡ n → φ α ≡ ψ α) → pair f φ ≡ pair f ψ
 pair_in n f φ ψ i e = total_among (λ (t : Term). t.1 *ℤ φ t.0) (λ (t : Term). t.1 *ℤ ψ t.0) f (λ t m. ap (λ c. t.1 *ℤ c) (e t.0 (i t m)))
 
@@ -41,7 +44,7 @@ pair_opposite f φ =
 pub pair_zero : (f : Poly) → pair f (λ α. pos 0) ≡ pos 0
 pair_zero f = total_none (λ (t : Term). t.1 *ℤ pos 0) f (λ t m. *ℤ-zero t.1)
 
--- the pairing with a sum of test functions is the sum of the pairings
+-- the pairing (`pair`) of f with a sum of functions of exponents is the sum of the pairings of f with these functions
 pub pair_total : {A : Type 0} (f : Poly) (φ : A → List ℕ → ℤ) (xs : List A) → pair f (λ α. total (λ (x : A). φ x α) xs) ≡ total (λ (x : A). pair f (φ x)) xs
 pair_total {A} f φ xs =
     total_ext (λ (t : Term). t.1 *ℤ total (λ (x : A). φ x t.0) xs) (λ (t : Term). total (λ (x : A). t.1 *ℤ φ x t.0) xs) (λ t. sym (total_scale t.1 (λ (x : A). φ x t.0) xs)) f
@@ -52,7 +55,7 @@ pair_exchange f g φ =
     pair_total {A = Term} f (λ (t : Term) (α : List ℕ). t.1 *ℤ φ α t.0) g
     ∙ total_ext (λ (t : Term). pair f (λ α. t.1 *ℤ φ α t.0)) (λ (t : Term). t.1 *ℤ pair f (λ α. φ α t.0)) (λ t. pair_factor t.1 f (λ α. φ α t.0)) g
 
--- ---- pairings of sums, multiples, products and restrictions
+-- ---- pairings (`pair`) of sums, multiples, products and restrictions of polynomials
 
 pub pair_plus : (f g : Poly) (φ : List ℕ → ℤ) → pair (plus f g) φ ≡ pair f φ +ℤ pair g φ
 pair_plus f g φ = total_append (λ (t : Term). t.1 *ℤ φ t.0) f g
@@ -72,13 +75,13 @@ pair_negate f φ =
 pub pair_each : {A : Type 0} (h : A → Poly) (xs : List A) (φ : List ℕ → ℤ) → pair (flat_map h xs) φ ≡ total (λ (x : A). pair (h x) φ) xs
 pair_each h xs φ = total_each (λ (t : Term). t.1 *ℤ φ t.0) h xs
 
--- the pairing of a sum of monomials is the sum of the values of the test function
+-- if f is the sum of the monomials x^α over a list of exponents α, then `pair f φ` is the sum of the φ(α)
 pub pair_monomials : (αs : List (List ℕ)) (φ : List ℕ → ℤ) → pair (map (λ (α : List ℕ). (α, pos 1)) αs) φ ≡ total φ αs
 pair_monomials αs φ =
     total_map (λ (t : Term). t.1 *ℤ φ t.0) (λ (α : List ℕ). (α, pos 1)) αs
     ∙ total_ext (λ (α : List ℕ). pos 1 *ℤ φ α) φ (λ α. one-product (φ α)) αs
 
--- for a term s = c·x^α, the pairing of s·g with φ is c times the pairing of g with the function β ↦ φ(α + β)
+-- for a term s = c·x^α: `pair (s·g) φ` is c times the pairing of g with the function that takes β to φ(α + β)
 pub pair_shift : (s : Term) (g : Poly) (φ : List ℕ → ℤ) → pair (map (λ (t : Term). (join s.0 t.0, s.1 *ℤ t.1)) g) φ ≡ s.1 *ℤ pair g (λ β. φ (join s.0 β))
 pair_shift s g φ =
     total_map (λ (t : Term). t.1 *ℤ φ t.0) (λ (t : Term). (join s.0 t.0, s.1 *ℤ t.1)) g
@@ -104,14 +107,10 @@ pub pair_restrict : (n : ℕ) (f : Poly) (φ : List ℕ → ℤ) → pair (restr
 pair_restrict n f φ =
     total_map (λ (t : Term). t.1 *ℤ φ t.0) (λ (t : Term). (resize n t.0, t.1)) (filter (λ (t : Term). fits_in n t.0) f)
     ∙ total_select (λ (t : Term). t.1 *ℤ φ (resize n t.0)) (λ (t : Term). fits_in n t.0) f
-    ∙ total_ext (λ (t : Term). cond (fits_in n t.0) (t.1 *ℤ φ (resize n t.0)) (pos 0)) (λ (t : Term). t.1 *ℤ cond (fits_in n t.0) (φ (resize n t.0)) (pos 0)) (λ t. inside (fits_in n t.0) t.1 (φ (resize n t.0))) f
-  where
-    inside : (b : Bool) (c x : ℤ) → cond b (c *ℤ x) (pos 0) ≡ c *ℤ cond b x (pos 0)
-    inside true c x = refl
-    inside false c x = sym (*ℤ-zero c)
+    ∙ total_ext (λ (t : Term). cond (fits_in n t.0) (t.1 *ℤ φ (resize n t.0)) (pos 0)) (λ (t : Term). t.1 *ℤ cond (fits_in n t.0) (φ (resize n t.0)) (pos 0)) (λ t. times_chosen (fits_in n t.0) t.1 (φ (resize n t.0))) f
 
--- for a term s = c·x^α in variables in front of those of g, the pairing of s·g with φ is c times the pairing of g with the
--- function that takes β to φ at α followed by β
+-- for a term s = c·x^α in variables in front of those of g: `pair (s·g) φ` is c times the pairing of g with the
+-- function that takes β to φ(α followed by β)
 pair_behind : (s : Term) (g : Poly) (φ : List ℕ → ℤ) → pair (map (λ (t : Term). (s.0 ++ t.0, s.1 *ℤ t.1)) g) φ ≡ s.1 *ℤ pair g (λ β. φ (s.0 ++ β))
 pair_behind s g φ =
     total_map (λ (t : Term). t.1 *ℤ φ t.0) (λ (t : Term). (s.0 ++ t.0, s.1 *ℤ t.1)) g
@@ -123,23 +122,19 @@ pair_beside f g φ =
     pair_each (λ (s : Term). map (λ (t : Term). (s.0 ++ t.0, s.1 *ℤ t.1)) g) f φ
     ∙ total_ext (λ (s : Term). pair (map (λ (t : Term). (s.0 ++ t.0, s.1 *ℤ t.1)) g) φ) (λ (s : Term). s.1 *ℤ pair g (λ β. φ (s.0 ++ β))) (λ s. pair_behind s g φ) f
 
--- ---- coefficients are pairings, and determine all of them
+-- ---- coefficients as pairings, and pairings of polynomials with the same coefficients
 
--- the test function that is 1 at α and 0 elsewhere
+-- the function of exponent lists that is 1 at α and 0 elsewhere
 abbrev pub at_only : List ℕ → List ℕ → ℤ
 at_only α β = cond (same β α) (pos 1) (pos 0)
 
 pub coefficient_pair : (f : Poly) (α : List ℕ) → coefficient f α ≡ pair f (at_only α)
-coefficient_pair f α = total_ext (λ (t : Term). cond (same t.0 α) t.1 (pos 0)) (λ (t : Term). t.1 *ℤ at_only α t.0) (λ t. by (same t.0 α) t.1) f
-  where
-    by : (b : Bool) (c : ℤ) → cond b c (pos 0) ≡ c *ℤ cond b (pos 1) (pos 0)
-    by true c = sym (product-one c)
-    by false c = sym (*ℤ-zero c)
+coefficient_pair f α = total_ext (λ (t : Term). cond (same t.0 α) t.1 (pos 0)) (λ (t : Term). t.1 *ℤ at_only α t.0) (λ t. chosen_as_product (same t.0 α) t.1) f
 
 pub same_from_pair : (f g : Poly) → ((φ : List ℕ → ℤ) → pair f φ ≡ pair g φ) → Same f g
 same_from_pair f g e α = coefficient_pair f α ∙ e (at_only α) ∙ sym (coefficient_pair g α)
 
--- the terms of f at exponents other than α
+-- the terms of f whose exponents are not α
 abbrev pub others : List ℕ → Poly → Poly
 others α f = filter (λ (t : Term). not (same t.0 α)) f
 
@@ -169,7 +164,8 @@ others_elsewhere α β f h =
     by t true e = ap (λ d. cond d t.1 (pos 0)) (sym (same_apart t.0 β (λ d. h (sym (same_true t.0 α e) ∙ d))))
     by t false e = refl
 
--- the pairing of f is φ(α) times the coefficient at α, plus the pairing of the terms at other exponents
+-- `pair f φ` is φ(α) times the coefficient of f at α, plus the sum of c·φ(β) over the terms c·x^β of f with β not
+-- equal to α
 pub pair_others : (α : List ℕ) (f : Poly) (φ : List ℕ → ℤ) → pair f φ ≡ φ α *ℤ coefficient f α +ℤ pair (others α f) φ
 pair_others α f φ =
     total_ext (λ (t : Term). t.1 *ℤ φ t.0) (λ (t : Term). φ α *ℤ here t +ℤ there t) (λ t. by t (same t.0 α) refl) f
@@ -186,7 +182,8 @@ pair_others α f φ =
     by t true e = let d = ap (λ γ. t.1 *ℤ φ γ) (same_true t.0 α e) in let k = *ℤ_comm t.1 (φ α) in omega (arith, ints)
     by t false e = let z = *ℤ-zero (φ α) in omega (arith, ints)
 
--- the coefficient of f at the exponents of its first term is that term's coefficient plus the one in the other terms
+-- the coefficient of t + f at the exponents of the term t is the coefficient of t plus the coefficient of f at these
+-- exponents
 coefficient_first : (t : Term) (f : Poly) → coefficient (t ∷ f) t.0 ≡ t.1 +ℤ coefficient f t.0
 coefficient_first t f = ap (λ b. cond b t.1 (pos 0) +ℤ coefficient f t.0) (same_refl t.0)
 
@@ -198,7 +195,8 @@ pair_first t f φ =
     let k = *ℤ_comm t.1 (φ t.0) in
     omega (arith, ints)
 
--- if φ and ψ agree wherever f, of at most n terms, has a coefficient that is not 0, their pairings with f are equal
+-- if f has at most n terms, and φ and ψ agree at each α at which f has a coefficient other than 0, then the sums of
+-- c·φ(α) and of c·ψ(α) over the terms c·x^α of f are equal
 agree_by_length : (n : ℕ) (f : Poly) (φ ψ : List ℕ → ℤ) → length f ≤ n → ((α : List ℕ) → (coefficient f α ≡ pos 0) ⊎ (φ α ≡ ψ α)) → pair f φ ≡ pair f ψ
 agree_by_length n [] φ ψ l h = refl
 agree_by_length zero (t ∷ f) φ ψ l h = absurd (omega arith)
@@ -222,7 +220,8 @@ agree_by_length (suc n) (t ∷ f) φ ψ l h =
       ]
     ]
 
--- if two test functions agree wherever f has a coefficient that is not 0, their pairings with f are equal
+-- if φ and ψ agree at each α at which f has a coefficient other than 0, then the sums of c·φ(α) and of c·ψ(α) over
+-- the terms c·x^α of f are equal
 pub pair_agree : (f : Poly) (φ ψ : List ℕ → ℤ) → ((α : List ℕ) → (coefficient f α ≡ pos 0) ⊎ (φ α ≡ ψ α)) → pair f φ ≡ pair f ψ
 pair_agree f φ ψ h = agree_by_length (length f) f φ ψ (omega arith) h
 
@@ -242,7 +241,7 @@ pair_determined f g φ e =
         let k = e α in
         coefficient_pair (f ++ negate g) α ∙ omega (arith, ints)
 
--- ---- equality of polynomials is an equivalence that sums and products respect
+-- ---- equality of polynomials (`Same`) is an equivalence that sums and products respect
 
 pub Same_refl : (f : Poly) → Same f f
 Same_refl f α = refl
@@ -253,7 +252,7 @@ Same_sym f g e α = sym (e α)
 pub Same_trans : (f g h : Poly) → Same f g → Same g h → Same f h
 Same_trans f g h d e α = d α ∙ e α
 
--- if two formal sums are equal, they are the same polynomial
+-- if the formal sums f and g are equal lists of terms, they are the same polynomial
 pub same_of_equal : (f g : Poly) → f ≡ g → Same f g
 same_of_equal f g e α = ap (λ h. coefficient h α) e
 
@@ -291,7 +290,8 @@ In_one n t (inr m) = absurd m
 pub In_plus : (n : ℕ) (f g : Poly) → In n f → In n g → In n (plus f g)
 In_plus n f g i j t m = elim (Among_from_append t f g m) [ inl l ↦ i t l | inr r ↦ j t r ]
 
--- if h(x) has n exponents for each x in xs, the list of the terms h(x) is a polynomial in n variables
+-- if the exponent list of the term h(x) has n places for each x in xs, the sum of the terms h(x) is a polynomial in n
+-- variables
 pub In_map : {A : Type 0} (n : ℕ) (h : A → Term) (xs : List A) → ((x : A) → Among x xs → length (h x).0 ≡ n) → In n (map h xs)
 In_map n h xs i t m = let r = Among_from_map h t xs m in ap (λ (s : Term). length s.0) r.2 ∙ i r.0 r.1
 
@@ -320,7 +320,7 @@ In_beside n k f g i j =
 pub In_restrict : (n : ℕ) (f : Poly) → In n (restrict n f)
 In_restrict n f = In_map n (λ (t : Term). (resize n t.0, t.1)) (filter (λ (t : Term). fits_in n t.0) f) (λ t m. length-resize n t.0)
 
--- a polynomial in n variables has no coefficient at a list of another length
+-- a polynomial in n variables has the coefficient 0 at each list whose length is not n
 pub coefficient_outside : (n : ℕ) (f : Poly) (α : List ℕ) → In n f → (length α ≡ n → ⊥) → coefficient f α ≡ pos 0
 coefficient_outside n f α i h =
     total_none (λ (t : Term). cond (same t.0 α) t.1 (pos 0)) f (λ t m.
@@ -343,8 +343,8 @@ coefficient_scale c f α = coefficient_pair (scale c f) α ∙ pair_scale c f (a
 pub coefficient_negate : (f : Poly) (α : List ℕ) → coefficient (negate f) α ≡ neg_ℤ (coefficient f α)
 coefficient_negate f α = coefficient_pair (negate f) α ∙ pair_negate f (at_only α) ∙ ap neg_ℤ (sym (coefficient_pair f α))
 
--- the coefficient at α of f restricted to n variables is the sum of the coefficients of f at the lists β that have no exponent after place n and
--- are α once resized to n places
+-- the coefficient of x^α in f restricted to n variables is the sum of the coefficients of f at the lists β that have
+-- no positive exponent after place n and are α if they are cut or padded to n places
 pub coefficient_restrict : (n : ℕ) (f : Poly) (α : List ℕ) → coefficient (restrict n f) α ≡ pair f (λ β. cond (fits_in n β) (at_only α (resize n β)) (pos 0))
 coefficient_restrict n f α = coefficient_pair (restrict n f) α ∙ pair_restrict n f (at_only α)
 

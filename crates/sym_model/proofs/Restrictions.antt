@@ -1,6 +1,6 @@
--- Restricting the polynomials of specs/Bases to fewer variables.
---     coefficient_restrict_padded    a coefficient of the restriction is that at the exponents padded with zeros
---     restrict-monomials             sums of monomials that pass a test which zeros at the end do not change
+-- Restriction of the polynomials of specs/Bases to fewer variables.
+--     coefficient_restrict_padded    a coefficient of f restricted to k variables is the coefficient of f at the exponents padded with zeros
+--     restrict-monomials             sums of the monomials that pass a test which does not depend on zeros at the end
 --     restrict-product_over          products of polynomials over a list of parts
 use Rattle.std.proofs.Common.{◌≡◌, ℕ, zero, suc, ◌+◌, ◌-◌, ◌<◌, ◌≤◌, Bool, true, false, ◌&&◌, ◌||◌, cond, eqb, leb, List, [], ◌∷◌, ◌++◌, length, replicate, sym, ◌∙◌, ap, subst, refl, inl, inr, arith, pos, length-append}
 use Rattle.std.proofs.lemmas.List.{length-replicate}
@@ -10,19 +10,15 @@ use Rattle.sym_model.specs.Sum.{Among}
 use Rattle.sym_model.specs.Polynomial.{Poly, same, coefficient, Same, In, nothing, times, pair, resize, all_zero, fits_in, restrict}
 use Rattle.sym_model.specs.Partition.{ArePositive, size, sorted_parts, rows}
 use Rattle.sym_model.specs.Bases.{monomials, at_most_one, has, monomial, elementary_of, complete_of, power_sum_of, product_over, elementary, complete, power_sum}
-use Rattle.sym_model.proofs.Exponents.{tests_agree, same_true}
+use Rattle.sym_model.proofs.Exponents.{same_true}
 use Rattle.sym_model.proofs.Polynomials.{at_only, coefficient_pair, coefficient_restrict, pair_in, pair_zero, Same_trans, times_respects}
 use Rattle.sym_model.proofs.PolynomialLaws.{restrict-times, restrict-one}
 use Rattle.sym_model.proofs.SortedParts.{sorted_parts-padded, rows-sorted_parts, has_past}
 use Rattle.sym_model.proofs.Monomials.{coefficient-monomials, coefficient-monomial, In-monomials}
+use Rattle.std.proofs.Math.Dec.{eqb-suc-suc}
+use Rattle.sym_model.proofs.Integers.{nested_tests}
 
--- ---- the coefficients of a restriction
-
-eqb-suc : (a b : ℕ) → eqb (suc a) (suc b) ≡ eqb a b
-eqb-suc a b =
-    tests_agree (eqb (suc a) (suc b)) (eqb a b)
-    (λ t. let e = eqb-true (suc a) (suc b) t in eq-eqb a b (omega arith))
-    (λ t. let e = eqb-true a b t in eq-eqb (suc a) (suc b) (omega arith))
+-- ---- the coefficients of a polynomial restricted to fewer variables
 
 -- a list of m numbers is all zeros if and only if it is the list of m zeros
 all_zero-same : (m : ℕ) (β : List ℕ) → length β ≡ m → all_zero β ≡ same β (replicate m 0)
@@ -37,7 +33,8 @@ and_middle true false z = refl
 and_middle false true z = refl
 and_middle false false z = refl
 
--- if β has k + m places, it restricts to γ if and only if γ has k places and β is γ followed by m zeros
+-- for β with k + m places: x^β restricted to k variables is x^γ if and only if γ has k places and β is γ followed by
+-- m zeros
 restricts_to : (k m : ℕ) (β γ : List ℕ) → length β ≡ k + m → (fits_in k β && same (resize k β) γ) ≡ (eqb (length γ) k && same β (γ ++ replicate m 0))
 restricts_to zero m β [] l = and-true (all_zero β) ∙ all_zero-same m β (omega arith)
 restricts_to zero m β (c ∷ γ) l = and-false (all_zero β) ∙ rw (ne_eqb (suc (length γ)) 0 (λ e. omega arith)) refl
@@ -47,32 +44,29 @@ restricts_to (suc k) m (b ∷ β) (c ∷ γ) l =
     and_middle (fits_in k β) (eqb b c) (same (resize k β) γ)
     ∙ ap (λ t. eqb b c && t) (restricts_to k m β γ (omega arith))
     ∙ and_middle (eqb b c) (eqb (length γ) k) (same β (γ ++ replicate m 0))
-    ∙ ap (λ t. t && (eqb b c && same β (γ ++ replicate m 0))) (sym (eqb-suc (length γ) k))
+    ∙ ap (λ t. t && (eqb b c && same β (γ ++ replicate m 0))) (sym (eqb-suc-suc (length γ) k))
 
--- if f is in k + m variables, the coefficient at γ of its restriction to k variables is that of f at γ followed by m zeros, if γ has k places, else 0
+-- for f in k + m variables: the coefficient at γ of f restricted to k variables is the coefficient of f at γ followed
+-- by m zeros if γ has k places, and 0 otherwise
 pub coefficient_restrict_padded : (k m : ℕ) (f : Poly) (γ : List ℕ) → In (k + m) f → coefficient (restrict k f) γ ≡ cond (eqb (length γ) k) (coefficient f (γ ++ replicate m 0)) (pos 0)
 coefficient_restrict_padded k m f γ i =
     coefficient_restrict k f γ
     ∙ pair_in (k + m) f (λ β. cond (fits_in k β) (at_only γ (resize k β)) (pos 0)) (λ β. cond (eqb (length γ) k) (at_only (γ ++ replicate m 0) β) (pos 0)) i
-    (λ β l. both (fits_in k β) (same (resize k β) γ) ∙ ap (λ t. cond t (pos 1) (pos 0)) (restricts_to k m β γ l) ∙ sym (both (eqb (length γ) k) (same β (γ ++ replicate m 0))))
+    (λ β l. nested_tests (fits_in k β) (same (resize k β) γ) (pos 1) ∙ ap (λ t. cond t (pos 1) (pos 0)) (restricts_to k m β γ l) ∙ sym (nested_tests (eqb (length γ) k) (same β (γ ++ replicate m 0)) (pos 1)))
     ∙ by (eqb (length γ) k)
   where
-    both : (x y : Bool) → cond x (cond y (pos 1) (pos 0)) (pos 0) ≡ cond (x && y) (pos 1) (pos 0)
-    both true y = refl
-    both false y = refl
-
     by : (b : Bool) → pair f (λ β. cond b (at_only (γ ++ replicate m 0) β) (pos 0)) ≡ cond b (coefficient f (γ ++ replicate m 0)) (pos 0)
     by true = sym (coefficient_pair f (γ ++ replicate m 0))
     by false = pair_zero f
 
--- ---- sums of monomials restricted
+-- ---- sums of the monomials that pass a test, restricted to fewer variables
 
-size-padded : (γ : List ℕ) (m : ℕ) → size (γ ++ replicate m 0) ≡ size γ
+pub size-padded : (γ : List ℕ) (m : ℕ) → size (γ ++ replicate m 0) ≡ size γ
 size-padded [] zero = refl
 size-padded [] (suc m) = omega (arith, size-padded [] m)
 size-padded (c ∷ γ) m = ap (λ n. c + n) (size-padded γ m)
 
--- zeros at the end of an exponent list do not change the result of the test
+-- zeros appended to an exponent list do not change whether it passes the test
 abbrev pub SeesNoZeros : (List ℕ → Bool) → Type 0
 SeesNoZeros test = (γ : List ℕ) (m : ℕ) → test (γ ++ replicate m 0) ≡ test γ
 
@@ -102,7 +96,7 @@ has-padded k h [] zero = refl
 has-padded k h [] (suc m) = has_past k 0 (replicate m 0) (λ e. omega arith) ∙ has-padded k h [] m
 has-padded k h (c ∷ γ) m = ap (λ t. eqb c k || t) (has-padded k h γ m)
 
--- ---- the bases restricted
+-- ---- m_λ, e_λ, h_λ and p_λ restricted to fewer variables
 
 pub restrict-monomial : (parts : List ℕ) (k n : ℕ) → k ≤ n → Same (restrict k (monomial parts n)) (monomial parts k)
 restrict-monomial parts k n h = restrict-monomials (λ α. same (sorted_parts α) parts) k n (size parts) (λ γ m. ap (λ l. same l parts) (sorted_parts-padded γ m)) h
@@ -140,7 +134,8 @@ restrict-complete parts k n h = restrict-product_over complete_of parts k n (λ 
 pub restrict-power_sum : (parts : List ℕ) (k n : ℕ) → ArePositive parts → k ≤ n → Same (restrict k (power_sum parts n)) (power_sum parts k)
 restrict-power_sum parts k n p h = restrict-product_over power_sum_of parts k n (λ d m. restrict-power_sum_of d k n (positive_among d parts p m) h)
 
--- if there are fewer variables than parts, no exponents sort to the partition `parts`, so its monomial polynomial is 0
+-- if the list `parts` has more than n numbers, no exponents of n variables sort to it, so its monomial symmetric
+-- polynomial in n variables is 0
 pub monomial_few_variables : (parts : List ℕ) (n : ℕ) → n < rows parts → Same (monomial parts n) nothing
 monomial_few_variables parts n h γ = coefficient-monomial parts n γ ∙ by (eqb (length γ) n) refl (same (sorted_parts γ) parts) refl
   where

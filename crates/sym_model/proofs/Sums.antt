@@ -1,8 +1,8 @@
--- Finite sums over lists, and membership in the lists that they range over.
---     total_ext, total_among      two functions that agree (on the members) have the same sum
---     total_append .. total_each  sums over lists that are made of other lists
+-- Finite sums of integers over lists (`total`), and membership in the lists that they range over.
+--     total_ext, total_among      two functions that agree everywhere, or on the members of a list, have the same sum over that list
+--     total_append .. total_each  sums over lists that are built from other lists
 --     total_exchange              a double sum is the same in either order
---     total_within                a list without repeats whose members all occur in another list of its length has the same sums
+--     total_within                if ys has no repeats, its members are in xs, and it has the length of xs, both lists have the same sums
 --     total_same_members, total_part, total_reindex, total_bijection, total_cancel      consequences of total_within
 use Rattle.std.proofs.Common.{◌≡◌, suc, ◌≤◌, ◌⊎◌, Bool, true, false, cond, not, List, [], ◌∷◌, ◌++◌, map, length, sym, ◌∙◌, ap, ap₂, subst, refl, inl, inr, arith, ℤ, pos, ◌+ℤ◌, ◌*ℤ◌, neg_ℤ, ◌<◌, get_or, zero, ℕ, filter, flat_map, reverse, nat_le}
 use Rattle.std.proofs.lemmas.Int.{ints}
@@ -15,13 +15,13 @@ use Rattle.std.proofs.lemmas.Bool.{cases_lt, le-leb, and_from}
 use Rattle.sym_model.specs.Tableau.{are_letters}
 use lib.IntN.{+ℤ_idl, *ℤ-zero}
 
--- ---- sums of integers over a list
+-- ---- sums of integers over a list (`total`)
 
 pub total_ext : {A : Type 0} (f g : A → ℤ) → ((x : A) → f x ≡ g x) → (xs : List A) → total f xs ≡ total g xs
 total_ext f g e [] = refl
 total_ext f g e (x ∷ xs) = ap₂ ◌+ℤ◌ (e x) (total_ext f g e xs)
 
--- two functions that agree on the members of a list have the same sum
+-- two functions that agree on the members of a list have the same sum over that list
 pub total_among : {A : Type 0} (f g : A → ℤ) (xs : List A) → ((x : A) → Among x xs → f x ≡ g x) → total f xs ≡ total g xs
 total_among f g [] e = refl
 total_among f g (x ∷ xs) e = ap₂ ◌+ℤ◌ (e x (inl refl)) (total_among f g xs (λ y m. e y (inr m)))
@@ -34,7 +34,7 @@ pub total_zero : {A : Type 0} (xs : List A) → total (λ (x : A). pos 0) xs ≡
 total_zero [] = refl
 total_zero (x ∷ xs) = +ℤ_idl (total (λ _. pos 0) xs) ∙ total_zero xs
 
--- a sum is 0 if its term at each member is 0
+-- the sum of f over xs is 0 if f is 0 at each member of xs
 pub total_none : {A : Type 0} (f : A → ℤ) (xs : List A) → ((x : A) → Among x xs → f x ≡ pos 0) → total f xs ≡ pos 0
 total_none f xs e = total_among f (λ _. pos 0) xs e ∙ total_zero xs
 
@@ -67,7 +67,8 @@ total_select {A} f test (x ∷ xs) = by (test x) (total_select f test xs)
     by true e = ap (λ n. f x +ℤ n) e
     by false e = e ∙ sym (+ℤ_idl _)
 
--- a sum is the sum over the elements that pass a test plus the sum over those that fail it
+-- the sum of f over xs is its sum over the elements that pass a test plus its sum over the elements that fail the
+-- test
 pub total_split : {A : Type 0} (f : A → ℤ) (test : A → Bool) (xs : List A) → total f xs ≡ total f (filter test xs) +ℤ total f (filter (λ (x : A). not (test x)) xs)
 total_split f test [] = refl
 total_split {A} f test (x ∷ xs) = by (test x) (total_split f test xs)
@@ -85,7 +86,7 @@ pub total_constant : {A : Type 0} (c : ℤ) (xs : List A) → total (λ (x : A).
 total_constant c [] = sym (*ℤ-zero c)
 total_constant c (x ∷ xs) = let e = total_constant c xs in let d = distributes_left c (pos 1) (pos (length xs)) in omega (arith, ints)
 
--- ---- membership in lists
+-- ---- membership in lists that are built from other lists
 
 pub Among-append_left : {A : Type 0} (x : A) (xs ys : List A) → Among x xs → Among x (xs ++ ys)
 Among-append_left x [] ys m = absurd m
@@ -145,7 +146,7 @@ Among_from_select {A} test x (y ∷ xs) m = by (test y) refl m (Among_from_selec
 pub Within_tail : {A : Type 0} (x : A) (xs ys : List A) → Within (x ∷ xs) ys → Within xs ys
 Within_tail x xs ys w z m = w z (inr m)
 
--- ---- lists without repeats and their images
+-- ---- lists without repeats, and their images under `map` and `flat_map`
 
 pub Once-map : {A B : Type 0} (f : A → B) (xs : List A) → ((x y : A) → Among x xs → Among y xs → f x ≡ f y → x ≡ y) → Once xs → Once (map f xs)
 Once-map f [] inj o = tt
@@ -178,7 +179,7 @@ Once-each {A} {B} f (x ∷ xs) o p d =
     apart : (y : B) → Among y (f x) → Among y (flat_map f xs) → ⊥
     apart y m n = let r = Among_from_each f y xs n in o.0 (subst (λ z. Among z xs) (sym (d x r.0 y (inl refl) (inr r.1) m r.2)) r.1)
 
--- ---- a list without one of its members
+-- ---- a list without one of its members (`without`)
 
 abbrev pub without : {A : Type 0} (x : A) (xs : List A) → Among x xs → List A
 without x [] m = []
@@ -219,13 +220,14 @@ Once_without x [] m o = tt
 Once_without x (y ∷ xs) (inl e) o = o.1
 Once_without x (y ∷ xs) (inr m) o = (λ n. o.0 (Among_from_without y x xs m n), Once_without x xs m o.1)
 
--- ---- lists without repeats that have the same members have the same sums
+-- ---- two lists without repeats that have the same members have the same sums
 
--- if each member of ys is in xs and x is not in ys, each member of ys is still in xs once x is left out
+-- if each member of ys is in xs and x is not in ys, then each member of ys is in the list that is xs with the
+-- occurrence m of x removed
 pub Within-without : {A : Type 0} (x : A) (xs ys : List A) (m : Among x xs) → (Among x ys → ⊥) → Within ys xs → Within ys (without x xs m)
 Within-without x xs ys m d w z n = elim (Among-without z x xs m (w z n)) [ inl e ↦ absurd (d (subst (λ u. Among u ys) e n)) | inr r ↦ r ]
 
--- if ys is without repeats and within xs, it is not longer than xs
+-- if ys has no repeats and each member of ys is in xs, then ys is not longer than xs
 pub length_within : {A : Type 0} (xs ys : List A) → Once ys → Within ys xs → length ys ≤ length xs
 length_within xs [] o w = omega arith
 length_within xs (y ∷ ys) o w =
@@ -234,7 +236,8 @@ length_within xs (y ∷ ys) o w =
     let r = length_within (without y xs m) ys o.1 (Within-without y xs ys m o.0 (Within_tail y ys xs w)) in
     omega arith
 
--- if ys is without repeats, within xs and of its length, both have the same sum of f
+-- if ys has no repeats, each member of ys is in xs, and ys and xs have the same length, then f has the same sum over
+-- ys as over xs
 pub total_within : {A : Type 0} (f : A → ℤ) (xs ys : List A) → Once ys → Within ys xs → length ys ≡ length xs → total f ys ≡ total f xs
 total_within f [] [] o w l = refl
 total_within f (x ∷ xs) [] o w l = absurd (omega arith)
@@ -245,14 +248,15 @@ total_within f xs (y ∷ ys) o w l =
     let r = total_within f (without y xs m) ys o.1 (Within-without y xs ys m o.0 (Within_tail y ys xs w)) k in
     ap (λ n. f y +ℤ n) r ∙ sym (total-without f y xs m)
 
--- if two lists are without repeats and have the same members, they have the same sums
+-- if two lists have no repeats and the same members, f has the same sum over both lists
 pub total_same_members : {A : Type 0} (f : A → ℤ) (xs ys : List A) → Once xs → Once ys → Within xs ys → Within ys xs → total f xs ≡ total f ys
 total_same_members f xs ys o p v w =
     let a = length_within xs ys p w in
     let b = length_within ys xs o v in
     total_within f ys xs o v (omega arith)
 
--- if xs and ys are without repeats, xs is within ys, and f is 0 at each member of ys that is not in xs, both have the same sum of f
+-- if xs and ys have no repeats, each member of xs is in ys, and f is 0 at each member of ys that is not in xs, then f
+-- has the same sum over xs as over ys
 pub total_part : {A : Type 0} (f : A → ℤ) (xs ys : List A) → Once xs → Once ys → Within xs ys → ((y : A) → Among y ys → (Among y xs → ⊥) → f y ≡ pos 0) → total f xs ≡ total f ys
 total_part f [] ys o p w none = sym (total_none f ys (λ y m. none y m (λ n. n)))
 total_part {A} f (x ∷ xs) ys o p w none =
@@ -265,7 +269,8 @@ total_part {A} f (x ∷ xs) ys o p w none =
     other y n d (inl e) = Once-without x ys (w x (inl refl)) p (subst (λ u. Among u (without x ys (w x (inl refl)))) e n)
     other y n d (inr k) = d k
 
--- if xs is without repeats and h maps its members one-to-one to members of xs, Σ f(h(x)) = Σ f(x) over xs
+-- if xs has no repeats and h maps its members one-to-one to members of xs, then the sum of f(h(x)) over xs is the sum
+-- of f(x) over xs
 pub total_reindex : {A : Type 0} (f : A → ℤ) (h : A → A) (xs : List A) → Once xs → ((x : A) → Among x xs → Among (h x) xs)
     → ((x y : A) → Among x xs → Among y xs → h x ≡ h y → x ≡ y) → total (λ (x : A). f (h x)) xs ≡ total f xs
 total_reindex {A} f h xs o into inj = sym (total_map f h xs) ∙ total_within f xs (map h xs) (Once-map h xs inj o) within (length-map xs h)
@@ -273,7 +278,8 @@ total_reindex {A} f h xs o into inj = sym (total_map f h xs) ∙ total_within f 
     within : Within (map h xs) xs
     within z m = let r = Among_from_map h z xs m in subst (λ u. Among u xs) (sym r.2) (into r.0 r.1)
 
--- if h and k are inverse bijections between xs and ys, lists without repeats, Σ f(h(x)) over xs = Σ f(y) over ys
+-- if xs and ys have no repeats, and h and k are inverse bijections between their members, then the sum of f(h(x))
+-- over xs is the sum of f(y) over ys
 pub total_bijection : {A B : Type 0} (f : B → ℤ) (h : A → B) (k : B → A) (xs : List A) (ys : List B) → Once xs → Once ys
     → ((x : A) → Among x xs → Among (h x) ys) → ((y : B) → Among y ys → Among (k y) xs)
     → ((x : A) → Among x xs → k (h x) ≡ x) → ((y : B) → Among y ys → h (k y) ≡ y) → total (λ (x : A). f (h x)) xs ≡ total f ys
@@ -289,7 +295,7 @@ total_bijection {A} {B} f h k xs ys o p into back kh hk =
     reach : Within ys (map h xs)
     reach z m = subst (λ u. Among u (map h xs)) (hk z m) (Among-map h (k z) xs (back z m))
 
--- if xs is without repeats and h is an involution of its members with f(h(x)) = -f(x), the sum of f over xs is 0
+-- if xs has no repeats, and h is an involution of its members with f(h(x)) = -f(x), then the sum of f over xs is 0
 pub total_cancel : {A : Type 0} (f : A → ℤ) (h : A → A) (xs : List A) → Once xs → ((x : A) → Among x xs → Among (h x) xs)
     → ((x : A) → Among x xs → h (h x) ≡ x) → ((x : A) → Among x xs → f (h x) ≡ neg_ℤ (f x)) → total f xs ≡ pos 0
 total_cancel {A} f h xs o into twice turn =
@@ -298,7 +304,7 @@ total_cancel {A} f h xs o into twice turn =
     let c = total_neg f xs in
     omega (arith, ints)
 
--- if a is in xs, xs is without repeats, and f is 0 at its other members, the sum of f over xs is f(a)
+-- if a is in xs, xs has no repeats, and f is 0 at the members of xs other than a, then the sum of f over xs is f(a)
 pub total_only : {A : Type 0} (f : A → ℤ) (a : A) (xs : List A) → Once xs → Among a xs → ((x : A) → Among x xs → (x ≡ a → ⊥) → f x ≡ pos 0) → total f xs ≡ f a
 total_only {A} f a xs o m zero_at =
     let e = total-without f a xs m in
@@ -308,7 +314,7 @@ total_only {A} f a xs o m zero_at =
     others : (x : A) → Among x (without a xs m) → f x ≡ pos 0
     others x n = zero_at x (Among_from_without x a xs m n) (λ e. Once-without a xs m o (subst (λ u. Among u (without a xs m)) e n))
 
--- a test that does not depend on the element can be taken out of the sum
+-- if b is true, the sum of the terms `cond b (f x) 0` is the sum of the f(x), and if b is false it is 0
 pub total_cond : {A : Type 0} (b : Bool) (f : A → ℤ) (xs : List A) → total (λ (x : A). cond b (f x) (pos 0)) xs ≡ cond b (total f xs) (pos 0)
 total_cond true f xs = refl
 total_cond false f xs = total_zero xs
@@ -318,7 +324,7 @@ Among-get_or [] i w h e = absurd (omega arith)
 Among-get_or (x ∷ todo) zero w h e = inl e
 Among-get_or (x ∷ todo) (suc i) w h e = inr (Among-get_or todo i w (omega arith) e)
 
--- the number of elements that pass a test is the sum of 1 over these elements
+-- the number of elements of xs that pass a test is the sum of 1 over these elements
 pub length-select : {A : Type 0} (test : A → Bool) (xs : List A) → pos (length (filter test xs)) ≡ total (λ (x : A). cond (test x) (pos 1) (pos 0)) xs
 length-select test [] = refl
 length-select {A} test (x ∷ xs) = by (test x) (length-select test xs)
@@ -328,7 +334,7 @@ length-select {A} test (x ∷ xs) = by (test x) (length-select test xs)
     by true e = omega (arith, ints)
     by false e = omega (arith, ints)
 
--- a sum of numbers that are not negative is not negative
+-- a sum of integers that are at least 0 is at least 0
 pub total_not_negative : {A : Type 0} (f : A → ℤ) (xs : List A) → ((x : A) → pos 0 ≤ℤ f x) → pos 0 ≤ℤ total f xs
 total_not_negative f [] h = omega (arith, ints)
 total_not_negative f (x ∷ xs) h = let r = total_not_negative f xs h in let k = h x in omega (arith, ints)
@@ -336,6 +342,12 @@ total_not_negative f (x ∷ xs) h = let r = total_not_negative f xs h in let k =
 pub total_cond_list : {A : Type 0} (b : Bool) (f : A → ℤ) (xs : List A) → total f (cond b xs []) ≡ cond b (total f xs) (pos 0)
 total_cond_list true f xs = refl
 total_cond_list false f xs = refl
+
+pub down_from-below : (c b : ℕ) → Among b (down_from c) → b ≤ c
+down_from-below zero b (inl e) = omega arith
+down_from-below zero b (inr m) = absurd m
+down_from-below (suc c) b (inl e) = omega arith
+down_from-below (suc c) b (inr m) = omega (arith, down_from-below c b m)
 
 pub among_down_from : (a d : ℕ) → a ≤ d → Among a (down_from d)
 among_down_from a zero h = inl (omega arith)

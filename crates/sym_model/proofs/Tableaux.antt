@@ -1,8 +1,8 @@
--- The lengths of the rows of a shape, and the letters of tableaux.
+-- The lengths of the rows of a skew shape, the number of letters of a tableau, and the words that `words` lists.
 use Rattle.std.proofs.Common.{List, [], arith, length, refl, ℕ, ◌∷◌, ◌≡◌, ap, suc, ◌++◌, nat_le, true, ◌-◌, get_or, zero, ◌≤◌, map, ◌∙◌, sym, subst, inl, inr}
 use Rattle.std.proofs.lemmas.List.{length-append}
 use Rattle.std.proofs.lemmas.Bool.{and_from, and_parts}
-use Rattle.sym_model.specs.Schur.{letters_of, row_lengths, words}
+use Rattle.sym_model.specs.Schur.{letters_of, row_lengths, words, columns_rise}
 use Rattle.sym_model.specs.Tableau.{shape_of, are_letters}
 use Rattle.sym_model.specs.Partition.{size, after}
 use Rattle.sym_model.specs.Sum.{Among}
@@ -48,3 +48,7 @@ word_tells n (suc k) w m =
     let low : 1 ≤ found.0 = omega (arith, past.0) in
     let high : found.0 ≤ n = omega (arith, past.1) in
     (ap length tail.2 ∙ ap suc rest.0, subst (AreLetters n) (sym tail.2) ((low, high), rest.1))
+
+pub columns_rise-nothing : (upper : List ℕ) → columns_rise upper [] ≡ true
+columns_rise-nothing [] = refl
+columns_rise-nothing (a ∷ upper) = refl

@@ -4,7 +4,7 @@ use Rattle.sym_model.specs.Polynomial.{Poly, Term, coefficient, join, scale, tim
 use Rattle.sym_model.specs.Partition.{part}
 use Rattle.sym_model.specs.PlaceOrders.{orders, places, sign}
 
--- w(β) = (β_(w_1), β_(w_2), ..)
+-- the list w(β) = (β_(w_1), β_(w_2), ..), for a list w of places of β
 abbrev pub rearranged : List ℕ → List ℕ → List ℕ
 rearranged w β = map (part β) w
 
@@ -22,6 +22,6 @@ staircase (suc n) = n ∷ staircase n
 abbrev pub schur_coefficient : ℕ → List ℕ → Poly → ℤ
 schur_coefficient n ν f = coefficient (times (alternant (staircase n)) f) (join ν (staircase n))
 
--- the sum of c·a_(β + α) over the terms c·x^α of f
+-- the sum of c·a_(β + α) over the terms c·x^α of the polynomial f
 abbrev pub alternants_over : List ℕ → Poly → Poly
 alternants_over β f = flat_map (λ (t : Term). scale t.1 (alternant (join β t.0))) f

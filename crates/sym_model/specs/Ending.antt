@@ -1,8 +1,8 @@
--- The ending of a command.
+-- The endings of a run of a command: success, or the reason of a refusal.
 
--- the ending of a command: `done` if all of its text was written; `some_refused` if a line of a batch was refused;
--- `syntax` if its words are no command; `range` if they exceed a limit or have a wrong shape; `past` if a number of
--- the words or of the answer exceeds 128 bits
+-- the ending of a run of a command: `done` if the command succeeds; `some_refused` if a line of a `batch` was
+-- refused; `syntax` if the words spell no command; `range` if their first error is of the kind range or shape; `past`
+-- if their first error is a number over 2^127 - 1, or if the answer is refused as too large
 pub data Ending : Type 0 where
   done : Ending
   some_refused : Ending

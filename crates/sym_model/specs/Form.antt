@@ -1,6 +1,5 @@
--- Forms of the words of a command: regular expressions over classes of words, what each of them
--- spells, and their derivatives by a word (derivatives of regular expressions:
--- Brzozowski, Antimirov).
+-- Forms of the words of a command: regular expressions over classes of words, the values that words of a form denote,
+-- and the derivatives of a form by a word (derivatives of regular expressions: Brzozowski, Antimirov).
 use Rattle.std.specs.Prelude.{◌≡◌, ℕ, ◌+◌, nat_le, Bool, true, false, ◌&&◌, ◌||◌, cond, List, []}
 use Rattle.std.specs.Prelude.{◌∷◌, ◌++◌, map, ◌⊎◌, flat_map}
 use Rattle.std.proofs.Common.{inl, inr}
@@ -9,7 +8,7 @@ use Rattle.sym_model.specs.Expansion.{Basis}
 use Rattle.sym_model.specs.NumberWord.{IsNumberWord}
 use Rattle.sym_model.specs.Phrase.{Phrase, Is, expression, letter, spelling, SpellsPhrase}
 
--- a class of words: a fixed text, a number, the letter of one of these bases, an expression
+-- a class of words: only a fixed text, all numbers, the letters of the given bases, or all expressions
 pub data Class : Type 0 where
   exact : List ℕ → Class
   number : Class
@@ -25,14 +24,15 @@ pub data Form : Type 0 where
   either : Form → Form → Form
   many : Form → Form
 
--- the type of what a word of the class denotes
+-- the type of the values that words of the class denote: no value for a fixed text, the digits for a number, the
+-- basis for a letter, the phrase for an expression
 abbrev pub WrittenWord : Class → Type 0
 WrittenWord (exact text) = Unit {0}
 WrittenWord number = List ℕ
 WrittenWord (target bases) = Basis
 WrittenWord formula = Phrase
 
--- the type of what words of the form denote
+-- the type of the values that words of the form denote
 abbrev pub Written : Form → Type 0
 Written empty = Unit {0}
 Written (word c) = WrittenWord c
@@ -40,14 +40,14 @@ Written (sequence f g) = Written f × Written g
 Written (either f g) = Written f ⊎ Written g
 Written (many f) = List (Written f)
 
--- the word of the class that this value denotes
+-- the word of the class c that denotes the value x
 abbrev pub word_of : (c : Class) → WrittenWord c → List ℕ
 word_of (exact text) x = text
 word_of number digits = digits
 word_of (target bases) basis = letter basis
 word_of formula phrase = spelling phrase
 
--- the words of the form that this value denotes
+-- the words of the form f that denote the value x
 abbrev pub words_of : (f : Form) → Written f → List (List ℕ)
 words_of empty x = []
 words_of (word c) x = word_of c x ∷ []
@@ -66,14 +66,15 @@ abbrev pub EachOf : {A : Type 0} → (A → Type 0) → List A → Type 0
 EachOf P [] = Unit {0}
 EachOf P (x ∷ xs) = P x × EachOf P xs
 
--- the value denotes a word of the class
+-- the value x is denoted by a word of the class c: the digits are a number word, the basis is one of `bases`, the
+-- phrase is an expression of the grammar
 abbrev pub MayBe : (c : Class) → WrittenWord c → Type 0
 MayBe (exact text) x = Unit {0}
 MayBe number digits = IsNumberWord digits
 MayBe (target bases) basis = SomeOf (λ b. basis ≡ b) bases
 MayBe formula phrase = Is expression phrase
 
--- the value denotes words of the form
+-- the value x is denoted by words of the form f: each value in it is denoted by a word of its class
 abbrev pub May : (f : Form) → Written f → Type 0
 May empty x = Unit {0}
 May (word c) x = MayBe c x
@@ -82,17 +83,17 @@ May (either f g) (inl x) = May f x
 May (either f g) (inr x) = May g x
 May (many f) xs = EachOf (May f) xs
 
--- the words have the form
+-- the words have the form f: for some value x with `May f x`, they are the words that denote x (`words_of f x`)
 pub record Has (f : Form) (words : List (List ℕ)) : Type 0 where
   pub written : Written f
   pub allowed : May f written
   pub spelled : words ≡ words_of f written
 
--- the words are a prefix of words that have the form
+-- the words are a prefix of a list of words that has the form f
 abbrev pub Begins : Form → List (List ℕ) → Type 0
 Begins f words = (rest : List (List ℕ)) × Has f (words ++ rest)
 
--- after these words, words of the form can go on with an expression
+-- by the form f, the word that comes next after these words may be an expression
 abbrev pub Awaits : Form → List (List ℕ) → Type 0
 Awaits empty words = ⊥
 Awaits (word formula) words = words ≡ []
@@ -115,17 +116,17 @@ abbrev pub are_digits : List ℕ → Bool
 are_digits [] = true
 are_digits (byte ∷ digits) = is_digit byte && are_digits digits
 
--- whether the word is a number
+-- whether the word is a number: one or more ASCII digits
 abbrev pub is_number_word : List ℕ → Bool
 is_number_word [] = false
 is_number_word (byte ∷ digits) = are_digits (byte ∷ digits)
 
--- whether the word is the letter of one of the bases
+-- whether the word is the letter of one of the given bases
 abbrev pub is_letter_of : List Basis → List ℕ → Bool
 is_letter_of [] text = false
 is_letter_of (basis ∷ bases) text = same (letter basis) text || is_letter_of bases text
 
--- whether the word is of the class, if `reads` decides which words are expressions
+-- whether the word is of the class; `reads` is a test of which words are expressions
 abbrev pub fits : (List ℕ → Bool) → Class → List ℕ → Bool
 fits reads (exact w) text = same w text
 fits reads number text = is_number_word text
@@ -140,8 +141,9 @@ is_skippable (sequence f g) = is_skippable f && is_skippable g
 is_skippable (either f g) = is_skippable f || is_skippable g
 is_skippable (many f) = true
 
--- the partial derivatives of a form by a word (Antimirov): the forms of the words that can follow the word, if the
--- word and they together have the form; `reads` decides which words are expressions
+-- the partial derivatives of the form f by the word `text` (Antimirov), a list of forms: a list of words has one of
+-- these forms if and only if `text` followed by the list has the form f; `reads` is a test of which words are
+-- expressions
 abbrev pub derivatives : (List ℕ → Bool) → Form → List ℕ → List Form
 derivatives reads empty text = []
 derivatives reads (word c) text = cond (fits reads c text) (empty ∷ []) []
@@ -151,16 +153,17 @@ derivatives reads (sequence f g) text =
 derivatives reads (either f g) text = derivatives reads f text ++ derivatives reads g text
 derivatives reads (many f) text = map (λ h. sequence h (many f)) (derivatives reads f text)
 
--- the forms of the words that can follow the word, if the word and they together have one of the given forms
+-- the partial derivatives of all given forms by the word `text`: a list of words has one of these if and only if
+-- `text` followed by the list has one of the given forms
 abbrev pub after_word : (List ℕ → Bool) → List Form → List ℕ → List Form
 after_word reads forms text = flat_map (λ f. derivatives reads f text) forms
 
--- one more than the number if some form is left, otherwise 0
+-- n + 1 if the list of forms is not empty, and 0 if it is empty
 abbrev pub one_more : List Form → ℕ → ℕ
 one_more [] n = 0
 one_more (f ∷ forms) n = n + 1
 
--- the number of words in the longest prefix with which words of one of these forms can begin
+-- the number of words in the longest prefix of the given words that begins a list of words of one of these forms
 abbrev pub taken : (List ℕ → Bool) → List Form → List (List ℕ) → ℕ
 taken reads forms [] = 0
 taken reads forms (text ∷ words) =
@@ -171,16 +174,17 @@ abbrev pub has_skippable : List Form → Bool
 has_skippable [] = false
 has_skippable (f ∷ forms) = is_skippable f || has_skippable forms
 
--- the forms of the words that can follow these words, if all of them together have one of the given forms
+-- the partial derivatives of all given forms by these words, one after another: a list of words has one of them if
+-- and only if these words followed by the list have one of the given forms
 abbrev pub after_words : (List ℕ → Bool) → List Form → List (List ℕ) → List Form
 after_words reads forms [] = forms
 after_words reads forms (text ∷ words) = after_words reads (after_word reads forms text) words
 
--- whether the words have the form, if `reads` decides which words are expressions
+-- whether the words have the form f; `reads` is a test of which words are expressions
 abbrev pub are_words_of : (List ℕ → Bool) → Form → List (List ℕ) → Bool
 are_words_of reads f words = has_skippable (after_words reads (f ∷ []) words)
 
--- whether words of the form can begin with an expression
+-- whether the first word of a list of words of the form can be an expression
 abbrev pub awaits_next : Form → Bool
 awaits_next (word formula) = true
 awaits_next (sequence f g) = awaits_next f || (is_skippable f && awaits_next g)
@@ -188,22 +192,23 @@ awaits_next (either f g) = awaits_next f || awaits_next g
 awaits_next (many f) = awaits_next f
 awaits_next f = false
 
--- whether words of one of these forms can begin with an expression
+-- whether the first word of a list of words of one of these forms can be an expression
 abbrev pub some_awaits_next : List Form → Bool
 some_awaits_next [] = false
 some_awaits_next (f ∷ forms) = awaits_next f || some_awaits_next forms
 
--- the test `reads` decides which words are expressions
+-- `reads` is true for the words that spell an expression and false for all others
 pub record TellsExpressions (reads : List ℕ → Bool) : Type 0 where
   pub sound : (text : List ℕ) → reads text ≡ true → (phrase : Phrase) × SpellsPhrase text phrase
   pub complete : (text : List ℕ) (phrase : Phrase) → SpellsPhrase text phrase → reads text ≡ true
 
--- whether some word is of the class
+-- whether there is a word of the class
 abbrev pub has_words : Class → Bool
 has_words (target []) = false
 has_words c = true
 
--- whether some words have the form, and each form of which it is made
+-- whether each class of words that occurs in the form has a word; if so, there are lists of words of this form and of
+-- each form in it
 abbrev pub can_be : Form → Bool
 can_be empty = true
 can_be (word c) = has_words c

@@ -1,4 +1,5 @@
--- The meaning of the text of a command: read back, it is the list of terms that the command asks for.
+-- The meaning of the text that a command writes: if the text is read back, the result is the list of terms that the
+-- command asks for.
 use Rattle.std.specs.Prelude.{◌≡◌, ℕ, List, Some}
 use Rattle.sym_model.specs.Expansion.{Terms}
 use Rattle.sym_model.specs.Kind.{Kind, Label, label_rules}
@@ -8,8 +9,8 @@ use Rattle.sym_model.specs.Answer.{answer}
 use Rattle.sym_model.specs.Command.{Command}
 use Rattle.sym_model.specs.Target.{Meets}
 
--- the text, read back in the printed form of the command, is a canonical list of terms, and this list is the answer to
--- the command
+-- if the text is read back in the printed form of the command, the result is a canonical list of terms, and this list
+-- is the answer that the command asks for (`Meets`)
 pub record ReadsBack (command : Command) (text : List ℕ) : Type 0 where
   pub kind : Kind
   pub terms : Terms (Label kind)

@@ -9,9 +9,9 @@ use Rattle.sym_model.specs.PrintedOrder.{printed_order, pair_order, power_order,
 use Rattle.sym_model.specs.PrintedOrder.{shifted_order}
 use Rattle.sym_model.specs.Bounded.{Lacks}
 
--- The rules that a block uses for its labels: the text that follows the coefficient on a line, the
--- label that such a text spells, the order of the lines, the limits of the labels, and whether a
--- coefficient may be a fraction.
+-- The rules by which a printed block treats its labels: the text that follows the coefficient on a line, the label
+-- that such a text spells, the order of the lines, the limits of the labels, and whether a coefficient may be a
+-- fraction.
 pub record LabelRules (Label : Type 0) : Type 0 where
   pub text : Label → List ℕ
   pub spelled : List ℕ → Label
@@ -19,8 +19,9 @@ pub record LabelRules (Label : Type 0) : Type 0 where
   pub is_within_limits : Label → Bool
   pub has_fractions : Bool
 
--- the kinds of answers: one number; partitions with fractions and with whole coefficients; pairs of partitions;
--- partitions with a power of q; permutations; monomials; permutations with a monomial as a factor
+-- the kinds of answers, by the labels of their terms: one number (`number`); partitions, with fractions (`expansion`)
+-- or whole numbers (`product`) as coefficients; pairs of partitions; partitions with a power of q (`powers`);
+-- permutations; monomials (`polynomial`); permutations with a monomial in y as a factor (`shifts`)
 pub data Kind : Type 0 where
   number : Kind
   expansion : Kind
@@ -31,7 +32,7 @@ pub data Kind : Type 0 where
   polynomial : Kind
   shifts : Kind
 
--- the labels of a kind. A number is a term without a label.
+-- the type of the labels of a kind; a number is printed as one term without a label
 abbrev pub Label : Kind → Type 0
 Label number = Unit {0}
 Label expansion = List ℕ
@@ -42,7 +43,7 @@ Label permutations = List ℕ
 Label polynomial = List ℕ
 Label shifts = List ℕ × List ℕ
 
--- the text without its first two bytes
+-- the text without its first two bytes; empty if it has fewer than two bytes
 abbrev pub after_two : List ℕ → List ℕ
 after_two (first ∷ second ∷ text) = text
 after_two _ = []
@@ -52,35 +53,40 @@ abbrev pub after_one : List ℕ → List ℕ
 after_one [] = []
 after_one (first ∷ text) = text
 
--- two spaces and the list, as in `2  (2,1)`
+-- the text of a label that is a list of numbers: two spaces and the list, as after the 2 in `2  (2,1)`
 abbrev pub list_text : List ℕ → List ℕ
 list_text numbers = codes "  " ++ label_text numbers
 
--- the list that a text has after its first two bytes, as (2,1) in `  (2,1)`
+-- the list of numbers that a text spells after its first two bytes, as (2,1) in `  (2,1)`
 abbrev pub list_of : List ℕ → List ℕ
 list_of text = label_of (after_two text)
 
--- two spaces, the first list, a space and the second, as in `1  (2) (1)`
+-- the text of a label that is a pair of lists: two spaces, the first list, a space and the second list, as after the
+-- first 1 in `1  (2) (1)`
 abbrev pub pair_text : List ℕ × List ℕ → List ℕ
 pair_text pair = codes "  " ++ (label_text pair.0 ++ (codes " " ++ label_text pair.1))
 
--- the two lists of a text that are separated by the first space (the byte 32) after its first two bytes
+-- the pair of lists that a text spells after its first two bytes; the lists are separated by the first space (the
+-- byte 32) after these bytes
 abbrev pub pair_of : List ℕ → List ℕ × List ℕ
 pair_of text =
     let cut = cut_at 32 (after_two text) in
     (label_of cut.0, label_of (after_one cut.1))
 
--- two spaces, `q^` and the power, two spaces and the partition, as in `1  q^1  (2,1)`
+-- the text of a label that is a power of q with a partition: two spaces, `q^` and the power, two spaces and the
+-- partition, as after the first 1 in `1  q^1  (2,1)`
 abbrev pub power_text : ℕ × List ℕ → List ℕ
 power_text label = codes "  q^" ++ (decimal label.0 ++ list_text label.1)
 
--- the number after `q^` and the list after the next two spaces, as 1 and (2,1) in `  q^1  (2,1)`
+-- the power of q and the partition that a text spells: the number after two spaces and `q^`, and the list after the
+-- next two spaces, as 1 and (2,1) in `  q^1  (2,1)`
 abbrev pub power_of : List ℕ → ℕ × List ℕ
 power_of text =
     let cut = cut_at 32 (after_two (after_two text)) in
     (decimal_value cut.0, list_of cut.1)
 
--- the rules of labels that are lists of numbers, with this order and these limits, and with fractions or without
+-- the rules for labels that are lists of numbers, with the given order and limits, and with coefficients that may be
+-- fractions if `with_fractions` is true
 abbrev pub list_rules : (List ℕ → List ℕ → Ordering) → (List ℕ → Bool) → Bool → LabelRules (List ℕ)
 list_rules in_order in_limits with_fractions = record {
   text = list_text;
@@ -90,7 +96,7 @@ list_rules in_order in_limits with_fractions = record {
   has_fractions = with_fractions;
 }
 
--- the rules of each kind
+-- the rules for the labels of each kind of answers
 abbrev pub label_rules : (kind : Kind) → LabelRules (Label kind)
 label_rules number = record {
   text = λ label. [];
@@ -130,8 +136,8 @@ abbrev pub BeginsWithSpace : List ℕ → Type 0
 BeginsWithSpace [] = Unit {0}
 BeginsWithSpace (byte ∷ text) = byte ≡ 32
 
--- Labels within the limits can be read back: their text has no LF (the byte 10), is empty or begins with a space, so
--- that the coefficient in front of it ends there, and spells the label.
+-- The text of each label within the limits can be read back: it has no LF (the byte 10); it is empty or begins with a
+-- space, which ends the coefficient in front of it; and it spells the label.
 pub record IsLegible {Label : Type 0} (rules : LabelRules Label) : Type 0 where
   pub one_line : (label : Label) → rules.is_within_limits label ≡ true → Lacks 10 (rules.text label)
   pub apart : (label : Label) → rules.is_within_limits label ≡ true

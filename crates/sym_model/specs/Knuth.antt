@@ -1,10 +1,10 @@
--- Knuth steps between words, chains of them, which join the words of a Knuth class, and the tableau of straight
--- shape of a class (Knuth; Fulton, 2.1).
+-- Knuth equivalence of words: Knuth relations, steps and chains of steps; and the tableau of straight shape whose
+-- reading word is in the Knuth class of a word (Knuth; Fulton, 2.1).
 use Rattle.std.specs.Prelude.{◌≡◌, ℕ, ◌<◌, ◌≤◌, ◌⊎◌, List, [], ◌∷◌, ◌++◌}
 use Rattle.sym_model.specs.Insertion.{reading_word}
 use Rattle.sym_model.specs.Tableau.{IsStraightTableau}
 
--- three letters y z x become y x z, if x < y ≤ z
+-- v is the word y z x, and w the word y x z, for letters x < y ≤ z
 pub record IsFirstExchange (v w : List ℕ) : Type 0 where
   pub x : ℕ
   pub y : ℕ
@@ -14,7 +14,7 @@ pub record IsFirstExchange (v w : List ℕ) : Type 0 where
   pub before : v ≡ y ∷ z ∷ x ∷ []
   pub after : w ≡ y ∷ x ∷ z ∷ []
 
--- three letters x z y become z x y, if x ≤ y < z
+-- v is the word x z y, and w the word z x y, for letters x ≤ y < z
 pub record IsSecondExchange (v w : List ℕ) : Type 0 where
   pub x : ℕ
   pub y : ℕ
@@ -24,12 +24,14 @@ pub record IsSecondExchange (v w : List ℕ) : Type 0 where
   pub before : v ≡ x ∷ z ∷ y ∷ []
   pub after : w ≡ z ∷ x ∷ y ∷ []
 
--- v and w are the two sides of a Knuth relation: y z x and y x z for x < y ≤ z, or x z y and z x y for x ≤ y < z
+-- v and w are the two sides of a Knuth relation, in one order or the other: y z x and y x z for x < y ≤ z, or x z y
+-- and z x y for x ≤ y < z
 abbrev pub AreKnuthRelated : List ℕ → List ℕ → Type 0
 AreKnuthRelated v w =
     (IsFirstExchange v w ⊎ IsFirstExchange w v) ⊎ (IsSecondExchange v w ⊎ IsSecondExchange w v)
 
--- the words are one Knuth step apart: a Knuth relation changes three neighbouring letters of v into those of w
+-- w is v after one Knuth step: three neighbouring letters of v, one side of a Knuth relation, are replaced by the
+-- other side
 pub record IsKnuthStep (v w : List ℕ) : Type 0 where
   pub front : List ℕ
   pub three : List ℕ
@@ -39,12 +41,13 @@ pub record IsKnuthStep (v w : List ℕ) : Type 0 where
   pub from : v ≡ front ++ (three ++ back)
   pub to : w ≡ front ++ (changed ++ back)
 
--- a chain of Knuth steps leads from v through the listed words to the last of them, w
+-- a chain of Knuth steps leads from v through the listed words, one after another, to w, the last of them; if no word
+-- is listed, v is w
 abbrev pub IsKnuthChain : List ℕ → List (List ℕ) → List ℕ → Type 0
 IsKnuthChain v [] w = v ≡ w
 IsKnuthChain v (u ∷ chain) w = IsKnuthStep v u × IsKnuthChain u chain w
 
--- the words are in one Knuth class: a chain of Knuth steps joins them
+-- the words v and w are Knuth equivalent: a chain of Knuth steps leads from v to w
 pub record AreKnuthEquivalent (v w : List ℕ) : Type 0 where
   pub chain : List (List ℕ)
   pub steps : IsKnuthChain v chain w

@@ -1,5 +1,5 @@
--- The outcomes of a list of words: the text that is defined for it, and how the command ends. The
--- commands that the words can spell are an argument, a list of entries.
+-- The outcomes of a list of words: the texts that a run of a command with these words may write, each with its
+-- ending. The commands that the words can spell are given by a list of entries.
 use Rattle.std.specs.Prelude.{◌≡◌, ℕ, ◌⊎◌, List, codes, Option, Some, None}
 use Rattle.sym_model.specs.GoodTableau.{lattice_readings}
 use Rattle.sym_model.specs.TableauList.{later_than}
@@ -25,16 +25,18 @@ ending_of literal = past
 ending_of beyond = range
 ending_of shape = range
 
--- ---- words that are refused
+-- ---- words that are refused: they spell no command, or have an error
 
--- the words spell no command, and the text names the place of the first error of syntax
+-- the words spell no command, and the text is the line `! Syntax` with the place of the first error of syntax
+-- (`IsSyntaxPlace`)
 pub record IsNoCommand (entries : List Entry) (words : List (List ℕ)) (text : List ℕ) : Type 0 where
   pub word : ℕ
   pub byte : ℕ
   pub place : IsSyntaxPlace entries words word byte
   pub line : text ≡ refusal_line (codes "Syntax") word byte
 
--- the words spell a command and have an error, and the text names the first error and its place
+-- the words spell a command and have an error; the text is the line of their first error, and the ending is the one
+-- for the kind of this error (`ending_of`)
 pub record IsOffending (entries : List Entry) (words : List (List ℕ)) (text : List ℕ)
     (ending : Ending) : Type 0 where
   pub offence : Offence
@@ -42,26 +44,28 @@ pub record IsOffending (entries : List Entry) (words : List (List ℕ)) (text : 
   pub line : text ≡ offence_line offence
   pub ends : ending ≡ ending_of offence.2
 
--- ---- commands that name an expansion
+-- ---- commands whose answer is a list of terms
 
--- the text is the printed form of an answer, and this is the answer to the command
+-- the text is a printable answer that the command asks for (`Meets`), printed in the form that the command asks for
 pub record PrintsAnswer (command : Command) (text : List ℕ) : Type 0 where
   pub answer : Answer
   pub printable : IsPrintable answer
   pub meets : Meets command answer
   pub printed : text ≡ answer_text_in (printed_form command) answer
 
--- the answer must be refused as too large: a coefficient of its definition exceeds 2^127 - 1
+-- the command must be refused because its answer is too large: a coefficient that the answer has by its definition
+-- exceeds 2^127 - 1 (`HasPastCoefficient`)
 abbrev pub MustBeLarge : Command → Type 0
 MustBeLarge command = HasPastCoefficient command
 
--- the answer may be refused as too large: a coefficient of its definition exceeds 2^127 - 1, or a weight that is
--- defined for the command does
+-- the command may be refused because its answer is too large: a coefficient that the answer has by its definition
+-- exceeds 2^127 - 1 (`HasPastCoefficient`), or a weight of the command is 2^127 or more (`IsHeavy`)
 abbrev pub MayBeLarge : Command → Type 0
 MayBeLarge command = HasPastCoefficient command ⊎ IsHeavy command
 
--- either the text is the answer to the command, and the answer need not be refused; or the text is the line of an
--- answer that is too large, and the answer may be refused
+-- an outcome of a command whose answer is a list of terms: either the text is the answer that the command asks for,
+-- the ending is `done`, and it is not the case that the command must be refused (`MustBeLarge`); or the text is the
+-- line `! Large`, the ending is `past`, and the command may be refused (`MayBeLarge`)
 abbrev pub Expands : Command → List ℕ → Ending → Type 0
 Expands command text ending =
     ((MustBeLarge command → ⊥) × PrintsAnswer command text × (ending ≡ done))
@@ -69,7 +73,8 @@ Expands command text ending =
 
 -- ---- commands that print tableaux or words
 
--- the column readings of the lattice tableaux of a skew shape; if one is given, only those after it
+-- the column readings of the lattice tableaux of outer/inner; if one column reading is given, only those that come
+-- after it in the list
 abbrev pub readings_after : List ℕ → List ℕ → Option (List ℕ) → List (List ℕ)
 readings_after outer inner None = lattice_readings outer inner
 readings_after outer inner (Some last) = later_than last (lattice_readings outer inner)
@@ -80,7 +85,7 @@ pub record PrintsWord (p q : List (List ℕ)) (text : List ℕ) : Type 0 where
   pub inserts : insertion_pair word ≡ (p, q)
   pub printed : text ≡ word_line word
 
--- the text is the line of a tableau of straight shape that jeu de taquin slides reach from the filling
+-- the text is the line of a tableau of straight shape that is reached from the filling by jeu de taquin slides
 pub record PrintsRectified (filling : SkewFilling) (text : List ℕ) : Type 0 where
   pub straight : SkewFilling
   pub reached : IsReached filling straight
@@ -88,8 +93,8 @@ pub record PrintsRectified (filling : SkewFilling) (text : List ℕ) : Type 0 wh
 
 -- ---- the outcomes of commands and of words
 
--- the text and the ending are the outcome of a command whose words have no error; false for `batch` and `work`,
--- which run other commands
+-- the text and the ending are an outcome of a command whose words have no error; false for `batch` and `work`, which
+-- run other commands (`AnswersWith`)
 abbrev pub Answers : Command → List ℕ → Ending → Type 0
 Answers (tab outer inner last) text ending =
     (text ≡ readings_text outer inner (readings_after outer inner last)) × (ending ≡ done)
@@ -103,8 +108,8 @@ Answers batch text ending = ⊥
 Answers (work lines seed) text ending = ⊥
 Answers command text ending = Expands command text ending
 
--- the text and the ending are the outcome of the words, given the outcomes of each command: the refusal of the
--- words, or an outcome of the command that they spell without an error
+-- the text and the ending are an outcome of the words: the line of a refusal if the words spell no command or have an
+-- error, and otherwise an outcome of the command that they spell, as `answers` defines the outcomes of commands
 abbrev pub ComesOf : (Command → List ℕ → Ending → Type 0) → List Entry → List (List ℕ) → List ℕ
     → Ending → Type 0
 ComesOf answers entries words text ending =
@@ -113,7 +118,6 @@ ComesOf answers entries words text ending =
     ⊎ ((command : Command) × SpellsWithoutOffence entries words command
     × answers command text ending)
 
--- the text and the ending are the outcome of the words of a line of a batch; no command of a line runs other
--- commands
+-- the text and the ending are an outcome of the words of a line of a batch; `batch` and `work` have no outcome here
 abbrev pub IsLineOutcome : List Entry → List (List ℕ) → List ℕ → Ending → Type 0
 IsLineOutcome entries words text ending = ComesOf Answers entries words text ending

@@ -4,28 +4,28 @@ use Rattle.std.specs.Prelude.{ℕ, zero, suc, ◌+◌, ◌-◌, ◌<◌, ◌≤�
 use Rattle.std.specs.Prelude.{cond, slice_index, flat_map, Option, Some, None}
 use Rattle.sym_model.specs.Sum.{Among}
 
--- no number is greater than the one before it
+-- the list is weakly decreasing
 abbrev pub Falls : List ℕ → Type 0
 Falls [] = Unit {0}
 Falls (a ∷ []) = Unit {0}
 Falls (a ∷ b ∷ parts) = (b ≤ a) × Falls (b ∷ parts)
 
--- the list is weakly decreasing, also from the number before it, if there is one
+-- the list is weakly decreasing, and, if there is a number `before`, the first number of the list is at most `before`
 abbrev pub FallsFrom : Option ℕ → List ℕ → Type 0
 FallsFrom None numbers = Falls numbers
 FallsFrom (Some before) numbers = Falls (before ∷ numbers)
 
--- each number is positive
+-- each number of the list is positive
 abbrev pub ArePositive : List ℕ → Type 0
 ArePositive [] = Unit {0}
 ArePositive (a ∷ parts) = (0 < a) × ArePositive parts
 
--- a partition is a weakly decreasing list of positive numbers, its parts (Macdonald)
+-- the list is a partition: a weakly decreasing list of positive numbers, its parts (Macdonald)
 pub record IsPartition (parts : List ℕ) : Type 0 where
   pub falls : Falls parts
   pub positive : ArePositive parts
 
--- each list is a partition
+-- each list of the list `shapes` is a partition
 abbrev pub ArePartitions : List (List ℕ) → Type 0
 ArePartitions shapes = (parts : List ℕ) → Among parts shapes → IsPartition parts
 
@@ -34,16 +34,16 @@ abbrev pub size : List ℕ → ℕ
 size [] = 0
 size (a ∷ parts) = a + size parts
 
--- the number of rows, which is the number of parts
+-- the number of rows of a partition, which is the number of its parts
 abbrev pub rows : List ℕ → ℕ
 rows parts = length parts
 
--- part i, counted from 1; 0 after the last part. i is at least 1: since i - 1 is cut off at 0, i =
--- 0 would give the first part
+-- part i of a list, counted from 1; 0 after the last part. i must be at least 1: the subtraction i - 1 is cut off at
+-- 0, so i = 0 would give the first part.
 abbrev pub part : List ℕ → ℕ → ℕ
 part parts i = slice_index parts (i - 1)
 
--- the number of columns: the first part
+-- the number of columns of a partition: its first part, or 0 if it is empty
 abbrev pub columns : List ℕ → ℕ
 columns parts = part parts 1
 
@@ -51,7 +51,7 @@ columns parts = part parts 1
 abbrev pub Holds : List ℕ → List ℕ → Type 0
 Holds outer inner = (i : ℕ) → part inner i ≤ part outer i
 
--- (row, column) is a cell of the skew shape outer/inner: a cell of outer and not of inner
+-- (row, column) is a cell of the skew shape outer/inner: a cell of outer that is not a cell of inner
 pub record IsCell (outer inner : List ℕ) (row column : ℕ) : Type 0 where
   pub row_counts : 1 ≤ row
   pub outside : part inner row < column
@@ -67,11 +67,11 @@ abbrev pub row_cells : List ℕ → List ℕ → ℕ → List (ℕ × ℕ)
 row_cells outer inner row =
     map (λ column. (row, column)) (after (part inner row) (part outer row - part inner row))
 
--- the cells of outer/inner, row by row
+-- the cells of outer/inner, row by row from the top, each row from left to right
 abbrev pub cells : List ℕ → List ℕ → List (ℕ × ℕ)
 cells outer inner = flat_map (row_cells outer inner) (after 0 (rows outer))
 
--- a inserted into a decreasing list of positive numbers; a number 0 is left out
+-- the weakly decreasing list of positive numbers with a inserted in its order; if a is 0, the list itself
 abbrev pub insert_part : ℕ → List ℕ → List ℕ
 insert_part zero parts = parts
 insert_part (suc a) [] = suc a ∷ []
@@ -83,7 +83,7 @@ abbrev pub sorted_parts : List ℕ → List ℕ
 sorted_parts [] = []
 sorted_parts (a ∷ α) = insert_part a (sorted_parts α)
 
--- a number in front of a list; a zero in front of the empty list is dropped
+-- the list with a number added in front; if the number is 0 and the list is empty, the empty list
 abbrev pub in_front : ℕ → List ℕ → List ℕ
 in_front zero [] = []
 in_front zero (b ∷ numbers) = 0 ∷ b ∷ numbers

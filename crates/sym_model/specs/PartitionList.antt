@@ -9,9 +9,9 @@ abbrev pub down_to_one : ℕ → List ℕ
 down_to_one zero = []
 down_to_one (suc k) = suc k ∷ down_to_one k
 
--- the partitions of a size that have no part above `most` and at most `rows` rows: the first part
--- runs down from the greatest that it can be, and after it come the partitions of what is left,
--- with no part above the first
+-- the partitions of the first argument into at most `rows` parts, each at most `most`, in decreasing lexicographic
+-- order: the first part a takes all values from the greatest possible one down to 1, and is followed by each partition
+-- of the rest into at most `rows` - 1 parts, each at most a
 unfoldable pub partitions_within : ℕ → ℕ → ℕ → List (List ℕ)
 partitions_within zero most rows = [] ∷ []
 partitions_within (suc left) most zero = []

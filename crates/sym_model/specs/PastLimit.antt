@@ -1,5 +1,5 @@
--- Coefficients and weights that exceed numbers of 128 bits: the coefficients that a product is
--- defined to have, and the weights of products of permutations.
+-- Coefficients that exceed 2^127 - 1 and weights of 2^127 or more: the coefficients that the answers to commands are
+-- defined to have, and the weights of pairs of permutations.
 use Rattle.std.specs.Prelude.{◌≡◌, ℕ, ◌+◌, ◌*◌, ◌^◌, ◌≤◌, nat_le, nat_abs, max, Bool, false, cond}
 use Rattle.std.specs.Prelude.{ℤ, pos, negsuc, List, map, length, Option, Some, None}
 use Rattle.std.specs.Prelude.{IsTrue}
@@ -15,24 +15,24 @@ use Rattle.sym_model.specs.Products.{schur_product}
 
 -- ---- coefficients that exceed 2^127 - 1
 
--- whether a whole number exceeds 2^127 - 1
+-- whether an integer exceeds 2^127 - 1
 abbrev pub is_past : ℤ → Bool
 is_past (pos n) = nat_le (2 ^ 127) n
 is_past (negsuc n) = false
 
--- some whole number with the property exceeds 2^127 - 1
+-- some integer with the property `Is` exceeds 2^127 - 1
 abbrev pub HasPast : (ℤ → Type 0) → Type 0
 HasPast Is = (c : ℤ) × Is c × IsTrue (is_past c)
 
--- c is the Schur coefficient of the polynomial f in n variables at some partition with at most n
--- rows
+-- c is the Schur coefficient of the polynomial f in n variables at some partition ν with at most n rows; if f is
+-- symmetric, c is the coefficient of s_ν in f
 pub record IsSchurCoefficientOf (f : Poly) (n : ℕ) (c : ℤ) : Type 0 where
   pub parts : List ℕ
   pub partition : IsPartition parts
   pub within : rows parts ≤ n
   pub is : c ≡ schur_coefficient n parts f
 
--- the number of variables of an expansion: the given number, or else one that is enough for all labels
+-- the given number of variables, or the number `enough` if no number is given
 abbrev pub variables_or : Option ℕ → ℕ → ℕ
 variables_or None enough = enough
 variables_or (Some k) enough = k
@@ -51,8 +51,8 @@ IsCoefficientOfSkew variables outer inner c =
     let n = variables_or variables (rows outer) in
     IsSchurCoefficientOf (skew_schur outer inner n) n c
 
--- c is a coefficient of the coproduct of s_shape: a Schur coefficient of s_(shape/part), for some part inside the
--- shape; the number of variables is the number of rows of the shape
+-- c is a coefficient of the coproduct of s_λ, for λ = `shape`: a Schur coefficient of s_(λ/μ) for some partition μ
+-- (`part`) inside λ; the number of variables is the number of rows of λ
 pub record IsCoproductCoefficient (shape : List ℕ) (c : ℤ) : Type 0 where
   pub part : List ℕ
   pub partition : IsPartition part
@@ -63,13 +63,14 @@ pub record IsCoproductCoefficient (shape : List ℕ) (c : ℤ) : Type 0 where
 abbrev pub IsCoefficientOfSchubert : List ℕ → ℤ → Type 0
 IsCoefficientOfSchubert w c = (exponents : List ℕ) × (c ≡ coefficient (polynomials.schubert w) exponents)
 
--- c is a coefficient of the Stanley polynomial of w in Schur polynomials of this number of variables
+-- c is a coefficient of the expansion of the Stanley polynomial of w, in this number of variables, in Schur
+-- polynomials
 abbrev pub IsCoefficientOfStanley : ℕ → List ℕ → ℤ → Type 0
 IsCoefficientOfStanley variables w c = IsSchurCoefficientOf (stanley_in w variables) variables c
 
 -- ---- weights of 2^127 or more
 
--- some natural number with the property is 2^127 or more
+-- some natural number with the property `Is` is 2^127 or more
 abbrev pub HasHeavy : (ℕ → Type 0) → Type 0
 HasHeavy Is = (weight : ℕ) × Is weight × (2 ^ 127 ≤ weight)
 
@@ -77,21 +78,22 @@ HasHeavy Is = (weight : ℕ) × Is weight × (2 ^ 127 ≤ weight)
 abbrev pub value_at_ones : Poly → ℤ
 value_at_ones f = total (λ (t : Term). t.1) f
 
--- of two permutations the one with fewer inversions, on a tie the first
+-- of two permutations the one with fewer inversions; if they have equally many, the first one
 abbrev pub shorter : List ℕ → List ℕ → List ℕ
 shorter u v = cond (nat_le (inversions u) (inversions v)) u v
 
--- the weight of a pair of permutations, S_u(1, .., 1)·(n + ℓ)^ℓ: u is the one with fewer inversions, S_u its
--- Schubert polynomial, ℓ the number of its inversions, and n the greater number of letters
+-- the weight of a pair of permutations u and v, S_w(1, .., 1)·(n + ℓ)^ℓ: w is the one of them with fewer inversions
+-- (`shorter`), S_w its Schubert polynomial, ℓ the number of inversions of w, and n the greater of the numbers of
+-- letters of u and v
 abbrev pub pair_weight : List ℕ → List ℕ → ℕ
 pair_weight u v =
     let w = shorter u v in
     nat_abs (value_at_ones (polynomials.schubert w))
     * (max (length u) (length v) + inversions w) ^ inversions w
 
--- the weight of a pair of permutations for the product of their double Schubert polynomials, S_u(1, .., 1)·(n + ℓ +
--- 2)^ℓ: u is the one with fewer inversions, S_u its ordinary Schubert polynomial, ℓ the number of its inversions,
--- and n the greater number of letters
+-- the weight of a pair of permutations u and v for the product of their double Schubert polynomials,
+-- S_w(1, .., 1)·(n + ℓ + 2)^ℓ: w is the one of them with fewer inversions (`shorter`), S_w its ordinary Schubert
+-- polynomial, ℓ the number of inversions of w, and n the greater of the numbers of letters of u and v
 abbrev pub double_weight : List ℕ → List ℕ → ℕ
 double_weight u v =
     let w = shorter u v in

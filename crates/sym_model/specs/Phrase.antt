@@ -1,4 +1,4 @@
--- Expressions as words: the phrases that the grammar allows, the text of each phrase, and its tree.
+-- Expressions as they are typed: the phrases that the grammar allows, the text of each phrase, and its tree.
 use Rattle.std.specs.Prelude.{◌≡◌, ℕ, List, ◌++◌, map, codes}
 use Rattle.sym_model.specs.Expansion.{Basis, monomials, elementaries, completes, power_sums, schurs}
 use Rattle.sym_model.specs.Partition.{without_last_zeros}
@@ -7,13 +7,14 @@ use Rattle.sym_model.specs.NumberWord.{IsNumberWord, AreNumberWords, comma_separ
 use Rattle.sym_model.specs.Expression.{Tree, number, fraction, atom, negation, sum, difference}
 use Rattle.sym_model.specs.Expression.{product}
 
--- the operators of an expression
+-- the operators of an expression: plus, minus and times
 pub data Operator : Type 0 where
   plus : Operator
   minus : Operator
   times : Operator
 
--- the structure of a part of an expression, in which numbers are kept as their digits
+-- an expression or a part of one as it is typed: a number or a fraction by its digits, an atom by its basis and
+-- number words, parentheses around a phrase, a minus sign in front of a phrase, or an operator between two phrases
 pub data Phrase : Type 0 where
   numeral : List ℕ → Phrase
   ratio : List ℕ → List ℕ → Phrase
@@ -28,7 +29,8 @@ pub data Level : Type 0 where
   term : Level
   factor : Level
 
--- a phrase of the second level is one of the first: a factor is a term, and a term is an expression
+-- each phrase of the second level is also a phrase of the first level: a factor is a term, and a term is an
+-- expression
 abbrev pub Covers : Level → Level → Type 0
 Covers expression _ = Unit {0}
 Covers term expression = ⊥
@@ -36,13 +38,13 @@ Covers term _ = Unit {0}
 Covers factor factor = Unit {0}
 Covers factor _ = ⊥
 
--- the level of the result of an operator, and of its left operand
+-- the level of a phrase that consists of this operator between two phrases; the left operand must have the same level
 abbrev pub level_of : Operator → Level
 level_of plus = expression
 level_of minus = expression
 level_of times = term
 
--- the level of the right operand of an operator
+-- the level that the right operand of an operator must have
 abbrev pub level_after : Operator → Level
 level_after plus = term
 level_after minus = term
@@ -70,13 +72,13 @@ letter completes = codes "h"
 letter power_sums = codes "p"
 letter schurs = codes "s"
 
--- the sign of an operator
+-- the text of an operator: `+`, `-` or `*`
 abbrev pub sign : Operator → List ℕ
 sign plus = codes "+"
 sign minus = codes "-"
 sign times = codes "*"
 
--- the bytes of a phrase
+-- the text of a phrase, as its bytes
 abbrev pub spelling : Phrase → List ℕ
 spelling (numeral digits) = digits
 spelling (ratio num den) = num ++ (codes "/" ++ den)
@@ -85,14 +87,14 @@ spelling (brackets inner) = codes "(" ++ (spelling inner ++ codes ")")
 spelling (minus_first inner) = codes "-" ++ spelling inner
 spelling (operation operator left right) = spelling left ++ (sign operator ++ spelling right)
 
--- the sum, difference or product of the expressions e and f, by the operator
+-- the tree of the sum, difference or product of the expressions e and f, by the operator
 abbrev pub join_trees : Operator → Tree → Tree → Tree
 join_trees plus e f = sum e f
 join_trees minus e f = difference e f
 join_trees times e f = product e f
 
--- the expression of a phrase: parentheses leave no trace,
--- and zeros at the end of an atom's list are dropped
+-- the expression that a phrase stands for, as a tree: parentheses leave no trace, and zeros at the end of an atom's
+-- list are dropped
 abbrev pub tree : Phrase → Tree
 tree (numeral digits) = number (decimal_value digits)
 tree (ratio num den) = fraction (decimal_value num) (decimal_value den)
@@ -101,15 +103,16 @@ tree (brackets inner) = tree inner
 tree (minus_first inner) = negation (tree inner)
 tree (operation operator left right) = join_trees operator (tree left) (tree right)
 
--- the word spells the phrase, and the phrase is an expression
+-- the word is the text of the phrase, and the phrase is an expression by the grammar
 pub record SpellsPhrase (word : List ℕ) (phrase : Phrase) : Type 0 where
   pub allowed : Is expression phrase
   pub spelled : word ≡ spelling phrase
 
--- the word spells the expression
+-- the word spells the expression e: it is the text of a phrase that is an expression by the grammar and has the tree
+-- e
 abbrev pub SpellsTree : List ℕ → Tree → Type 0
 SpellsTree word e = (phrase : Phrase) × SpellsPhrase word phrase × (e ≡ tree phrase)
 
--- the word is a prefix of one that spells an expression
+-- the word is a prefix of a word that spells an expression
 abbrev pub BeginsExpression : List ℕ → Type 0
 BeginsExpression word = (rest : List ℕ) × (phrase : Phrase) × SpellsPhrase (word ++ rest) phrase

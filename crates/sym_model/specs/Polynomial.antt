@@ -1,12 +1,11 @@
--- Polynomials with whole coefficients, as formal sums. A polynomial is determined by its
--- coefficients: two formal sums are the same polynomial if all coefficients agree.
+-- Polynomials with integer coefficients, as formal sums of terms. A polynomial is determined by its coefficients: two
+-- formal sums are the same polynomial if all coefficients agree.
 use Rattle.std.specs.Prelude.{◌≡◌, ℕ, zero, suc, ◌+◌, ◌==◌, Bool, true, false, ◌&&◌, cond, ℤ, pos}
 use Rattle.std.specs.Prelude.{neg_ℤ, ◌*ℤ◌, List, [], ◌∷◌, ◌++◌, map, length, replicate, filter}
 use Rattle.std.specs.Prelude.{flat_map}
 use Rattle.sym_model.specs.Sum.{total, Among}
 
--- an exponent list has the exponent of each variable;
--- a term is an exponent list with its coefficient
+-- a term: an exponent list, which has one exponent for each variable; and an integer, the coefficient
 abbrev pub Term : Type 0
 Term = List ℕ × ℤ
 
@@ -21,15 +20,15 @@ same [] (b ∷ bs) = false
 same (a ∷ as') [] = false
 same (a ∷ as') (b ∷ bs) = (a == b) && same as' bs
 
--- the coefficient of x^α: the sum of the coefficients of the terms with these exponents
+-- the coefficient of x^α in f: the sum of the coefficients of the terms of f with the exponents α
 abbrev pub coefficient : Poly → List ℕ → ℤ
 coefficient f α = total (λ (t : Term). cond (same t.0 α) t.1 (pos 0)) f
 
--- f and g are one polynomial: all their coefficients agree
+-- f and g are the same polynomial: all their coefficients agree
 abbrev pub Same : Poly → Poly → Type 0
 Same f g = (α : List ℕ) → coefficient f α ≡ coefficient g α
 
--- f is a polynomial in n variables: each exponent list has n places
+-- f is a polynomial in n variables: the exponent list of each term has n places
 abbrev pub In : ℕ → Poly → Type 0
 In n f = (t : Term) → Among t f → length t.0 ≡ n
 
@@ -37,7 +36,7 @@ In n f = (t : Term) → Among t f → length t.0 ≡ n
 abbrev pub nothing : Poly
 nothing = []
 
--- the exponent list of 1 in n variables
+-- the exponent list of the monomial 1 in n variables: n zeros
 abbrev pub no_exponents : ℕ → List ℕ
 no_exponents n = replicate n 0
 
@@ -45,7 +44,8 @@ no_exponents n = replicate n 0
 abbrev pub one : ℕ → Poly
 one n = (no_exponents n, pos 1) ∷ []
 
--- exponents added place by place, a missing place being 0: the exponents of a product of monomials
+-- the sum of two exponent lists, place by place, with 0 for a missing place: the exponents of the product of two
+-- monomials
 abbrev pub join : List ℕ → List ℕ → List ℕ
 join [] β = β
 join (a ∷ α) [] = a ∷ α
@@ -55,15 +55,15 @@ join (a ∷ α) (b ∷ β) = (a + b) ∷ join α β
 abbrev pub plus : Poly → Poly → Poly
 plus f g = f ++ g
 
--- a formal sum times a whole number
+-- the formal sum f, of labels of any type, times the integer c
 abbrev pub scale : {Label : Type 0} → ℤ → List (Label × ℤ) → List (Label × ℤ)
 scale {Label = Label} c f = map (λ (t : Label × ℤ). (t.0, c *ℤ t.1)) f
 
--- the polynomial with the sign of each coefficient changed
+-- the polynomial -f: the sign of each coefficient is changed
 abbrev pub negate : Poly → Poly
 negate f = map (λ (t : Term). (t.0, neg_ℤ t.1)) f
 
--- the product: each term of f times each term of g
+-- the product of two polynomials: each term of f times each term of g
 abbrev pub times : Poly → Poly → Poly
 times f g = flat_map (λ (s : Term). map (λ (t : Term). (join s.0 t.0, s.1 *ℤ t.1)) g) f
 
@@ -71,18 +71,18 @@ times f g = flat_map (λ (s : Term). map (λ (t : Term). (join s.0 t.0, s.1 *ℤ
 abbrev pub pair : {Label : Type 0} → List (Label × ℤ) → (Label → ℤ) → ℤ
 pair {Label = Label} f φ = total (λ (t : Label × ℤ). t.1 *ℤ φ t.0) f
 
--- the exponent list cut or padded with zeros to n places
+-- the exponent list cut to n places, or padded with zeros to n places
 abbrev pub resize : ℕ → List ℕ → List ℕ
 resize zero α = []
 resize (suc n) [] = 0 ∷ resize n []
 resize (suc n) (a ∷ α) = a ∷ resize n α
 
--- whether each exponent is 0
+-- whether each exponent of the list is 0
 abbrev pub all_zero : List ℕ → Bool
 all_zero [] = true
 all_zero (a ∷ α) = (a == 0) && all_zero α
 
--- whether no exponent after place n is positive
+-- whether no exponent of the list after place n is positive
 abbrev pub fits_in : ℕ → List ℕ → Bool
 fits_in zero α = all_zero α
 fits_in (suc n) [] = true

@@ -1,4 +1,4 @@
--- The printed block of a list of terms, and how a text is read back.
+-- The printed block of a list of terms, one line for each term, and the list of terms that such a text spells.
 use Rattle.std.specs.Prelude.{ℕ, ◌&&◌, nat_lt, nat_abs, List, [], ◌∷◌, ◌++◌, cond, codes, Option}
 use Rattle.std.specs.Prelude.{Some, None}
 use Rattle.sym_model.specs.Polynomial.{same}
@@ -9,11 +9,11 @@ use Rattle.sym_model.specs.NumberText.{cut_at, fraction_of}
 pub use Rattle.sym_model.specs.NumberText.{fraction_text, numbers_text, label_text, split_at}
 pub use Rattle.sym_model.specs.NumberText.{value_from, decimal_value}
 
--- the line of a term: its coefficient and the text of its label
+-- the line of a term: its coefficient, the text of its label, and LF
 abbrev pub line_by : {Label : Type 0} → LabelRules Label → Label × Fraction → List ℕ
 line_by rules t = fraction_text t.1 ++ (rules.text t.0 ++ codes "\n")
 
--- the lines of the terms, one after another
+-- the lines of the terms of a list, one after another
 abbrev pub lines_by : {Label : Type 0} → LabelRules Label → Terms Label → List ℕ
 lines_by rules [] = []
 lines_by rules (t ∷ terms) = line_by rules t ++ lines_by rules terms
@@ -23,49 +23,54 @@ abbrev pub block_by : {Label : Type 0} → LabelRules Label → Terms Label → 
 block_by rules [] = codes "0\n"
 block_by rules (t ∷ terms) = lines_by rules (t ∷ terms)
 
--- the term that a coefficient and the text after it spell; no term if the coefficient is 0
+-- the list of the one term with this coefficient and the label that the text after it spells; empty if the
+-- coefficient is 0
 abbrev pub term_of_parts : {Label : Type 0} → LabelRules Label → Fraction → List ℕ → Terms Label
 term_of_parts rules c text = cond (nat_lt 0 (nat_abs c.0)) ((rules.spelled text, c) ∷ []) []
 
--- the term of a line, whose coefficient ends at the first space (the byte 32)
+-- the list of the term that a line spells, given two pieces of the line, cut in front of its first space (the byte
+-- 32): the first piece is the coefficient, and the second spells the label
 abbrev pub term_of_line : {Label : Type 0} → LabelRules Label → List ℕ × List ℕ → Terms Label
 term_of_line rules cut = term_of_parts rules (fraction_of cut.0) cut.1
 
--- the terms that the lines spell, one after another
+-- the terms that the lines spell, one for each line whose coefficient is not 0
 abbrev pub terms_of_lines : {Label : Type 0} → LabelRules Label → List (List ℕ) → Terms Label
 terms_of_lines rules [] = []
 terms_of_lines rules (line ∷ lines) =
     term_of_line rules (cut_at 32 line) ++ terms_of_lines rules lines
 
--- the list of terms that a text spells, line by line (LF is the byte 10)
+-- the list of the terms that the lines of a text spell (LF is the byte 10)
 abbrev pub terms_of : {Label : Type 0} → LabelRules Label → List ℕ → Terms Label
 terms_of rules text = terms_of_lines rules (split_at 10 text)
 
--- the list of terms, if it is canonical with numbers of 128 bits and the text is its block; otherwise None
+-- `Some terms` if the list of terms is canonical by `rules`, its numerators and denominators fit in 128 bits with a
+-- sign, and the text is its printed block; otherwise None
 abbrev pub accepted : {Label : Type 0} → LabelRules Label → List ℕ → Terms Label
     → Option (Terms Label)
 accepted rules text terms =
     cond (is_canonical_by rules terms && is_printable terms && same (block_by rules terms) text)
     (Some terms) None
 
--- a text read back: the canonical list with numbers of 128 bits whose block it is; None if there is no such list
+-- the list of terms that is canonical by `rules`, has numerators and denominators of 128 bits with a sign, and has
+-- this text as its printed block; None if there is no such list
 abbrev pub read_by : {Label : Type 0} → LabelRules Label → List ℕ → Option (Terms Label)
 read_by rules text = accepted rules text (terms_of rules text)
 
 -- ---- blocks of expansions, whose labels are partitions and whose coefficients may be fractions
 
--- the line of a term of an expansion
+-- the printed line of a term whose label is a partition and whose coefficient may be a fraction
 abbrev pub line_text : List ℕ × Fraction → List ℕ
 line_text t = line_by (label_rules expansion) t
 
--- the lines of an expansion
+-- the printed lines of a list of terms whose labels are partitions and whose coefficients may be fractions
 abbrev pub lines_text : Terms (List ℕ) → List ℕ
 lines_text terms = lines_by (label_rules expansion) terms
 
--- the printed block of an expansion
+-- the printed block of a list of terms whose labels are partitions and whose coefficients may be fractions
 abbrev pub block : Terms (List ℕ) → List ℕ
 block terms = block_by (label_rules expansion) terms
 
--- the expansion whose printed block is this text; None if there is none
+-- the canonical list of terms, with partitions as labels and numerators and denominators of 128 bits with a sign,
+-- whose printed block is this text; None if there is no such list
 abbrev pub read : List ℕ → Option (Terms (List ℕ))
 read text = read_by (label_rules expansion) text

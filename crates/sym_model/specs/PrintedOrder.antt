@@ -6,8 +6,8 @@ use Rattle.std.specs.declared.cmp.Ordering.TheVariants.{Equal}
 use Rattle.sym_model.specs.Partition.{size}
 use Rattle.sym_model.specs.PlaceOrders.{inversions}
 
--- decreasing lexicographic order, a missing number being 0: the list with the first greater number
--- comes first
+-- decreasing lexicographic order of two lists, with 0 for a missing number: at the first place at which they differ,
+-- the list with the greater number comes first
 abbrev pub falling_lexicographic : List ℕ → List ℕ → Ordering
 falling_lexicographic [] [] = Equal
 falling_lexicographic [] (b ∷ bs) = ordering_then (nat_cmp b 0) (falling_lexicographic [] bs)
@@ -21,30 +21,31 @@ abbrev pub printed_order : List ℕ → List ℕ → Ordering
 printed_order first second =
     ordering_then (nat_cmp (size second) (size first)) (falling_lexicographic first second)
 
--- the printed order of pairs of partitions: by the first, then by the second
+-- the printed order of pairs of partitions: by the first partitions, and if these are equal by the second ones
 abbrev pub pair_order : List ℕ × List ℕ → List ℕ × List ℕ → Ordering
 pair_order first second =
     ordering_then (printed_order first.0 second.0) (printed_order first.1 second.1)
 
--- the printed order of partitions with a power of q: the lesser power first, then by the partition
+-- the printed order of partitions with a power of q: the lesser power first, and for equal powers by the partitions
 abbrev pub power_order : ℕ × List ℕ → ℕ × List ℕ → Ordering
 power_order first second = ordering_then (nat_cmp first.0 second.0) (printed_order first.1 second.1)
 
--- increasing lexicographic order of the letters of two permutations after place i; letters after
--- the end are fixed
+-- increasing lexicographic order of two permutations, given by their letters after place i; after the end of its
+-- list, a permutation has only fixed letters, each equal to its place
 abbrev pub rising_letters : ℕ → List ℕ → List ℕ → Ordering
 rising_letters i [] [] = Equal
 rising_letters i [] (b ∷ bs) = ordering_then (nat_cmp (i + 1) b) (rising_letters (i + 1) [] bs)
 rising_letters i (a ∷ as') [] = ordering_then (nat_cmp a (i + 1)) (rising_letters (i + 1) as' [])
 rising_letters i (a ∷ as') (b ∷ bs) = ordering_then (nat_cmp a b) (rising_letters (i + 1) as' bs)
 
--- the printed order of permutations: fewer inversions first, then increasing lexicographic order of
--- the letters
+-- the printed order of permutations: fewer inversions first, and for equally many in increasing lexicographic order
+-- of the letters
 abbrev pub permutation_order : List ℕ → List ℕ → Ordering
 permutation_order first second =
     ordering_then (nat_cmp (inversions first) (inversions second)) (rising_letters 0 first second)
 
--- the printed order of pairs of a permutation and a monomial: by the permutation, then by the monomial
+-- the printed order of pairs of a permutation and a monomial: by the permutations, and if these are equal by the
+-- monomials
 abbrev pub shifted_order : List ℕ × List ℕ → List ℕ × List ℕ → Ordering
 shifted_order first second =
     ordering_then (permutation_order first.0 second.0) (printed_order first.1 second.1)

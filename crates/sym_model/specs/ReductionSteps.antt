@@ -1,4 +1,5 @@
--- Products of several factors that are reduced after each factor, and the weights of the steps.
+-- Quantum and fusion products of several factors, reduced after each factor, and the weights of the multiplications
+-- by one factor.
 use Rattle.std.specs.Prelude.{◌≡◌, ℕ, ◌+◌, Bool, false, ℤ, pos, ◌*ℤ◌, List, [], ◌∷◌}
 use Rattle.std.specs.Prelude.{◌++◌, map, ◌⊎◌, flat_map}
 use Rattle.sym_model.specs.Sum.{Among}
@@ -9,7 +10,7 @@ use Rattle.sym_model.specs.Products.{classical_product}
 use Rattle.sym_model.specs.Reductions.{Reduction, AreReductions, reduced_terms}
 use Rattle.sym_model.specs.Reductions.{reflected_terms}
 
--- the terms are collected: no coefficient is 0, and no two terms have the same label
+-- the list of terms is collected: no coefficient is 0, and no two terms have the same label by `test`
 abbrev pub AreCollected : {Label : Type 0} → (Label → Label → Bool) → WholeTermsOf Label → Type 0
 AreCollected test [] = Unit {0}
 AreCollected {Label = Label} test (t ∷ terms) =
@@ -17,10 +18,10 @@ AreCollected {Label = Label} test (t ∷ terms) =
     × ((u : Label × ℤ) → Among u terms → test t.0 u.0 ≡ false)
     × AreCollected test terms
 
--- ---- reductions of products with one more factor
+-- ---- the product of a list of terms and one factor, reduced
 
--- for each term, `reductions` has the list of the reductions, by rim hooks of n cells, of the partitions of the
--- classical product, in k variables, of the term's partition and the factor
+-- `reductions` has one list for each term: for a term with the partition λ, it lists the reductions, by rim hooks of
+-- n cells, of the partitions in the classical product of λ and the factor in k variables
 abbrev pub ReduceEach : ℕ → ℕ → List ℕ → WholeTermsOf (ℕ × List ℕ) → List (List Reduction) → Type 0
 ReduceEach k n factor [] [] = Unit {0}
 ReduceEach k n factor (t ∷ terms) (r ∷ reductions) =
@@ -28,11 +29,13 @@ ReduceEach k n factor (t ∷ terms) (r ∷ reductions) =
     × ReduceEach k n factor terms reductions
 ReduceEach k n factor _ _ = ⊥
 
--- the terms times c, with their powers of q raised
+-- the terms times c·q^power
 abbrev pub with_power : ℕ → ℤ → WholeTermsOf (ℕ × List ℕ) → WholeTermsOf (ℕ × List ℕ)
 with_power power c terms = map (λ (t : (ℕ × List ℕ) × ℤ). ((power + t.0.0, t.0.1), c *ℤ t.1)) terms
 
--- each term replaced by the reductions of its classical product with the factor, with the powers added
+-- the product of the terms and the factor, reduced: each term c·q^d·λ is replaced by c·q^d times the classical
+-- product of λ and the factor in k variables, with each partition of that product replaced by its reduction in
+-- `reductions`
 abbrev pub reduced_each : ℕ → List ℕ → WholeTermsOf (ℕ × List ℕ) → List (List Reduction)
     → WholeTermsOf (ℕ × List ℕ)
 reduced_each k factor (t ∷ terms) (r ∷ reductions) =
@@ -40,8 +43,9 @@ reduced_each k factor (t ∷ terms) (r ∷ reductions) =
     ++ reduced_each k factor terms reductions
 reduced_each k factor _ _ = []
 
--- `next` is the collected sum of the terms times the factor in k variables, reduced by rim hooks of n cells, with the
--- powers added
+-- one step of a quantum product: `next` is the collected list of the product of the terms and the factor in k
+-- variables, in which each partition is replaced by its reduction by rim hooks of n cells, and the powers of q are
+-- multiplied
 pub record IsQuantumStep (k n : ℕ) (factor : List ℕ)
     (terms next : WholeTermsOf (ℕ × List ℕ)) : Type 0 where
   pub reductions : List (List Reduction)
@@ -51,7 +55,8 @@ pub record IsQuantumStep (k n : ℕ) (factor : List ℕ)
       → coefficient_by same_power next label
       ≡ coefficient_by same_power (reduced_each k factor terms reductions) label
 
--- `next` is the collected sum of the terms times the factor in k variables, reflected into the alcove of level n - k
+-- one step of a fusion product: `next` is the collected list of the product of the terms and the factor in k
+-- variables, in which each partition is replaced by its reduction into the alcove of k rows and level n - k
 pub record IsFusionStep (k n : ℕ) (factor : List ℕ) (terms next : WholeTerms) : Type 0 where
   pub collected : AreCollected same next
   pub sums : Same
@@ -59,7 +64,8 @@ pub record IsFusionStep (k n : ℕ) (factor : List ℕ) (terms next : WholeTerms
       (flat_map (λ (t : List ℕ × ℤ). scale t.1
       (reflected_terms k n (classical_product k (t.0 ∷ factor ∷ [])))) terms)
 
--- steps lead from the terms through the factors, one after the other, to the last list
+-- a chain of steps leads from the list `terms` to the list `last`, one step for each factor in turn; `step factor
+-- terms next` says that one step with this factor leads from `terms` to `next`
 abbrev pub StepsLead : {Label : Type 0}
     → (List ℕ → WholeTermsOf Label → WholeTermsOf Label → Type 0)
     → WholeTermsOf Label
@@ -70,7 +76,8 @@ StepsLead step terms [] last = terms ≡ last
 StepsLead {Label = Label} step terms (factor ∷ factors) last =
     (next : WholeTermsOf Label) × step factor terms next × StepsLead step next factors last
 
--- steps lead from the label of the first factor, with the coefficient 1, through the other factors to the list
+-- a chain of steps leads from the label of the first factor, with the coefficient 1, to the list `last`, one step for
+-- each further factor in turn; false if there is no factor
 abbrev pub LeadsTo : {Label : Type 0}
     → (List ℕ → WholeTermsOf Label → WholeTermsOf Label → Type 0)
     → (List ℕ → Label)
@@ -80,28 +87,31 @@ abbrev pub LeadsTo : {Label : Type 0}
 LeadsTo step start [] last = ⊥
 LeadsTo step start (first ∷ factors) last = StepsLead step ((start first, pos 1) ∷ []) factors last
 
--- the list is the quantum product of the factors for k rows, reduced by rim hooks of n cells after each factor
+-- the list `last` is the quantum product of the factors for k rows and n - k columns, computed factor by factor with
+-- a reduction by rim hooks of n cells after each factor
 abbrev pub IsReducedInSteps : ℕ → ℕ → List (List ℕ) → WholeTermsOf (ℕ × List ℕ) → Type 0
 IsReducedInSteps k n factors last = LeadsTo (IsQuantumStep k n) (λ first. (0, first)) factors last
 
--- the list is the fusion product of the factors for k rows, reflected into the alcove of level n - k after each
--- factor
+-- the list `last` is the fusion product of the factors for k rows at level n - k, computed factor by factor with a
+-- reduction into the alcove after each factor
 abbrev pub IsReflectedInSteps : ℕ → ℕ → List (List ℕ) → WholeTerms → Type 0
 IsReflectedInSteps k n factors last = LeadsTo (IsFusionStep k n) (λ first. first) factors last
 
--- ---- weights of the steps
+-- ---- the weights of the steps of a quantum or fusion product
 
--- the weight of the classical product in k variables: the sum of the absolute values of its coefficients
+-- the weight of the classical product of the factors in k variables: the sum of the absolute values of its
+-- coefficients
 abbrev pub classical_weight : ℕ → List (List ℕ) → ℕ
 classical_weight k factors = absolute_total (classical_product k factors)
 
--- the weight of a step: the sum, over the terms, of the absolute value of the coefficient times the
--- weight of the classical product of the shape of the label and the factor in k variables
+-- the weight of a step with this factor from the list `terms`: the sum of |c|·W over the terms (label, c), with W the
+-- weight of the classical product, in k variables, of the factor and the partition `shape label`
 abbrev pub step_weight : {Label : Type 0} → (Label → List ℕ) → ℕ → List ℕ → WholeTermsOf Label → ℕ
 step_weight shape k factor terms =
     weighed (λ label. classical_weight k (shape label ∷ factor ∷ [])) terms
 
--- the number is the weight of one of the steps that lead from the terms through the factors
+-- `weight` is the weight of one of the steps in a chain of steps from the list `terms`, one step for each factor in
+-- turn
 abbrev pub IsStepWeight : {Label : Type 0}
     → (Label → List ℕ)
     → (List ℕ → WholeTermsOf Label → WholeTermsOf Label → Type 0)
@@ -116,8 +126,8 @@ IsStepWeight {Label = Label} shape step k terms (factor ∷ factors) weight =
     ⊎ ((next : WholeTermsOf Label) × step factor terms next
     × IsStepWeight shape step k next factors weight)
 
--- the number is the weight of one of the steps that lead from the label of the first factor, with the coefficient 1,
--- through the other factors
+-- `weight` is the weight of one of the steps in a chain of steps from the label of the first factor, with the
+-- coefficient 1, one step for each further factor in turn
 abbrev pub IsWeightFrom : {Label : Type 0}
     → (Label → List ℕ)
     → (List ℕ → WholeTermsOf Label → WholeTermsOf Label → Type 0)
@@ -130,16 +140,18 @@ IsWeightFrom shape step start k [] weight = ⊥
 IsWeightFrom shape step start k (first ∷ factors) weight =
     IsStepWeight shape step k ((start first, pos 1) ∷ []) factors weight
 
--- the shape of a label with a power of q
+-- the partition of a label that is a power of q with a partition
 abbrev pub shape_of : ℕ × List ℕ → List ℕ
 shape_of label = label.1
 
--- the number is the weight of a step of the quantum product of the factors, one step for each factor after the first
+-- `weight` is the weight of one of the steps of the quantum product of the factors for k rows and n - k columns, one
+-- step for each factor after the first
 abbrev pub IsQuantumWeight : ℕ → ℕ → List (List ℕ) → ℕ → Type 0
 IsQuantumWeight k n factors weight =
     IsWeightFrom shape_of (IsQuantumStep k n) (λ first. (0, first)) k factors weight
 
--- the number is the weight of a step of the fusion product of the factors, one step for each factor after the first
+-- `weight` is the weight of one of the steps of the fusion product of the factors for k rows at level n - k, one step
+-- for each factor after the first
 abbrev pub IsFusionWeight : ℕ → ℕ → List (List ℕ) → ℕ → Type 0
 IsFusionWeight k n factors weight =
     IsWeightFrom (λ shape. shape) (IsFusionStep k n) (λ first. first) k factors weight

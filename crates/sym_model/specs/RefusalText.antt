@@ -1,4 +1,5 @@
--- The lines of refusals: the error of the words and its place, or an answer that is too large.
+-- The lines that are written for a refusal: for an error of the words, a line with the kind and the place of the
+-- error; and the line for an answer that is too large.
 use Rattle.std.specs.Prelude.{ℕ, List, ◌++◌, codes, decimal}
 use Rattle.sym_model.specs.ExpressionOffence.{OffenceKind, literal, range, shape}
 use Rattle.sym_model.specs.CommandOffence.{Offence}
@@ -9,16 +10,16 @@ offence_name literal = codes "Literal"
 offence_name range = codes "Range"
 offence_name shape = codes "Shape"
 
--- the line of a refusal at a byte of a word, as in `! Range 1:0`
+-- the line of a refusal that names a word and a byte in it, as in `! Range 1:0`
 abbrev pub refusal_line : List ℕ → ℕ → ℕ → List ℕ
 refusal_line name word byte =
     codes "! " ++ (name ++ (codes " "
     ++ (decimal word ++ (codes ":" ++ (decimal byte ++ codes "\n")))))
 
--- the line by which words with this error are refused
+-- the line of a refusal of words with this first error
 abbrev pub offence_line : Offence → List ℕ
 offence_line offence = refusal_line (offence_name offence.2) offence.0 offence.1
 
--- the line of an answer that is too large
+-- the line of a refusal because the answer to the command is too large
 abbrev pub large_line : List ℕ
 large_line = codes "! Large\n"

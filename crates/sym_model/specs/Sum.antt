@@ -1,12 +1,12 @@
 -- Finite sums over lists, and membership in lists.
 use Rattle.std.specs.Prelude.{◌≡◌, ◌⊎◌, ℕ, ◌+◌, ℤ, pos, ◌+ℤ◌, List, [], ◌∷◌}
 
--- the sum of f(x), a whole number, over the elements x of a list
+-- the sum of the integers f(x) over the elements x of a list
 abbrev pub total : {A : Type 0} → (A → ℤ) → List A → ℤ
 total f [] = pos 0
 total f (x ∷ xs) = f x +ℤ total f xs
 
--- the sum of f(x), a natural number, over the elements x of a list
+-- the sum of the natural numbers f(x) over the elements x of a list
 abbrev pub sum_by : {A : Type 0} → (A → ℕ) → List A → ℕ
 sum_by f [] = 0
 sum_by f (x ∷ xs) = f x + sum_by f xs

@@ -5,20 +5,24 @@ use Rattle.sym_model.specs.Phrase.{BeginsExpression}
 use Rattle.sym_model.specs.Command.{Command}
 use Rattle.sym_model.specs.Entry.{Entry, SpellsCommand, BeginsCommand, AwaitsExpression}
 
--- there is a word with this number, counted from 0, and an expression is expected there
+-- `word` is the number, counted from 0, of one of the words, and by the form of some command an expression may come
+-- next after the words before it
 pub record IsExpressionWord (entries : List Entry) (words : List (List ℕ)) (word : ℕ) : Type 0 where
   pub is_there : word < length words
   pub awaited : AwaitsExpression entries (take word words)
 
--- the byte at which the word with this number is invalid: if an expression is expected there, the
--- length of its longest prefix that begins one; otherwise 0
+-- `byte` is the byte at which the word with the number `word` is invalid: if there is such a word and an expression
+-- may come there, the length of the longest prefix of the word that begins an expression; otherwise 0
 abbrev pub IsSyntaxByte : List Entry → List (List ℕ) → ℕ → ℕ → Type 0
 IsSyntaxByte entries words word byte =
     (IsExpressionWord entries words word
     × IsLongestPrefix BeginsExpression (slice_index_or words word []) byte)
     ⊎ ((IsExpressionWord entries words word → ⊥) × (byte ≡ 0))
 
--- the words spell no command, and `word` and `byte` are the place of the first error: the word after the longest prefix that begins a command
+-- the words spell no command, and their first error is at the word with the number `word`, counted from 0, and the
+-- byte `byte`. `word` is the length of the longest prefix of the words that begins a command: the error is at the
+-- first word after this prefix, or after the last word if the prefix is the whole list. `byte` is the byte at which
+-- the word is invalid (`IsSyntaxByte`).
 pub record IsSyntaxPlace (entries : List Entry) (words : List (List ℕ))
     (word byte : ℕ) : Type 0 where
   pub no_command : (command : Command) → SpellsCommand entries words command → ⊥

@@ -1,5 +1,6 @@
--- The answer to each command, defined by polynomials. An answer is too large for numbers of 128 bits if a coefficient
--- that its definition gives exceeds 2^127 - 1, or if a weight that bounds all that is computed is 2^127 or more.
+-- The answer to each command whose answer is a list of terms, defined by polynomials; and the cases in which such an
+-- answer is too large for numbers of 128 bits: a coefficient that the definition gives exceeds 2^127 - 1, or a weight
+-- is 2^127 or more. A weight bounds all numbers of a computation.
 use Rattle.std.specs.Prelude.{ℕ, ◌+◌, Some}
 use Rattle.sym_model.specs.Schur.{skew_schur}
 use Rattle.sym_model.specs.Stanley.{stanley_in}
@@ -23,7 +24,8 @@ use Rattle.sym_model.specs.PastLimit.{IsCoproductCoefficient, IsCoefficientOfSch
 use Rattle.sym_model.specs.PastLimit.{IsCoefficientOfStanley, pair_weight, double_weight}
 use Rattle.sym_model.specs.ReductionSteps.{IsQuantumWeight, IsFusionWeight}
 
--- the given answer is the one that the command asks for; false for a command that asks for no expansion
+-- the given answer is the one that the command asks for; false if the answer is of another kind than the command's,
+-- and for `tab`, `rsk`, `unrsk`, `rect`, `growth`, `batch` and `work`, whose answers are not lists of terms
 abbrev pub Meets : Command → Answer → Type 0
 Meets (mult variables one_line factors) (answer product terms) =
     ExpandsInSchurs variables (schur_product factors) terms
@@ -53,8 +55,8 @@ Meets (stanley variables w) (answer product terms) =
     ExpandsInSchurs (Some variables) (stanley_in w) terms
 Meets _ _ = ⊥
 
--- c is a coefficient that the definition of the answer to `mult`, `skew`, `coef`, `coprod`, `schubert` or `stanley`
--- gives; false for the other commands
+-- c is a coefficient that the answer to the command has by its definition, for `mult`, `skew`, `coef`, `coprod`,
+-- `schubert` and `stanley`; false for the other commands
 abbrev pub IsDefinedCoefficient : Command → ℤ → Type 0
 IsDefinedCoefficient (mult variables one_line factors) c =
     IsCoefficientOfProduct variables factors c
@@ -66,13 +68,13 @@ IsDefinedCoefficient (schubert w) c = IsCoefficientOfSchubert w c
 IsDefinedCoefficient (stanley variables w) c = IsCoefficientOfStanley variables w c
 IsDefinedCoefficient _ c = ⊥
 
--- a coefficient that the definition of the answer to the command gives exceeds 2^127 - 1
+-- a coefficient that the answer to the command has by its definition (`IsDefinedCoefficient`) exceeds 2^127 - 1
 abbrev pub HasPastCoefficient : Command → Type 0
 HasPastCoefficient command = HasPast (IsDefinedCoefficient command)
 
--- the number is a weight of the command: for `quantum` and `fusion`, the weight of one of their steps, of which
--- there is one for each factor after the first; for `schubmult`, `expand`, `plethysm` and `dschubmult`, the one
--- weight defined here; no other command has a weight
+-- the number is a weight of the command: for `quantum` and `fusion`, the weight of one of the multiplications by a
+-- factor, one for each factor after the first; for `schubmult`, `expand`, `plethysm` and `dschubmult`, the one weight
+-- that is defined for the command; the other commands have no weight
 abbrev pub HasWeight : Command → ℕ → Type 0
 HasWeight (quantum k columns factors) weight = IsQuantumWeight k (k + columns) factors weight
 HasWeight (fusion k level factors) weight = IsFusionWeight k (k + level) factors weight
@@ -89,6 +91,6 @@ HasWeight (plethysm target outer inner) weight =
 HasWeight (dschubmult u v) weight = weight ≡ double_weight u v
 HasWeight _ weight = ⊥
 
--- a weight of the command is 2^127 or more
+-- a weight of the command (`HasWeight`) is 2^127 or more
 abbrev pub IsHeavy : Command → Type 0
 IsHeavy command = HasHeavy (HasWeight command)

@@ -1,11 +1,11 @@
-//! Laws of the greatest common divisor, by which coefficients are tested for lowest terms.
+//! Laws of the function `gcd`, by which coefficients are tested for lowest terms.
 
 ghost use Rattle.std.specs.Prelude.{ℕ, ◌+◌, ◌<◌, ◌≤◌};
 ghost use Rattle.std.specs.Int.{◌∣◌};
 ghost use Rattle.sym_model.specs.Canonical.{gcd};
 
-/// The greatest common divisor of two numbers divides both. If one of them is not 0, then no number
-/// that divides both is greater.
+/// The number gcd(a, b) divides a and b. If a and b are not both 0, each number that divides a and
+/// b is at most gcd(a, b).
 pub fn greatest_common_divisor_law()
     ensures divides_first { (a b : ℕ) → gcd a b ∣ a }
     ensures divides_second { (a b : ℕ) → gcd a b ∣ b }

@@ -1,4 +1,5 @@
-//! A factor whose leading coefficient is 1 or -1 cancels from a product of polynomials.
+//! A polynomial whose greatest monomial has the coefficient 1 or -1 can be cancelled from a
+//! product.
 
 ghost use Rattle.std.specs.Prelude.{◌≡◌, ℕ, ℤ, pos, neg_ℤ, ◌⊎◌, List, [], ◌∷◌};
 ghost use Rattle.sym_model.specs.Sum.{Among};
@@ -7,11 +8,12 @@ ghost use Rattle.sym_model.specs.Polynomial.{times};
 ghost use Rattle.sym_model.specs.Leading.{Above, Leads};
 
 /// Let f be a polynomial in n variables whose greatest monomial, in the lexicographic order of
-/// exponent lists, has the coefficient 1 or -1. Then f cancels from products with polynomials in n
-/// variables, and f·g is 0 only if g is 0. The greatest monomial of a product of two such
-/// polynomials is the product of their greatest monomials. If the first term of a polynomial has
-/// the coefficient 1 or -1 and its monomial is above those of all other terms, then it is the
-/// greatest monomial.
+/// exponent lists, has the coefficient 1 or -1. If f·g = f·h for polynomials g and h in n
+/// variables, then g = h; and f·g is 0 only if g is 0. If the greatest monomial of g has the
+/// coefficient 1 or -1 too, then the greatest monomial of f·g is the product of the greatest
+/// monomials of f and g, and it also has the coefficient 1 or -1. If the first term of a polynomial
+/// is x^top or -x^top, and x^top is above the monomials of all other terms, then x^top is the
+/// greatest monomial of the polynomial.
 ///
 /// Example: x₁ - x₂ leads with x₁, so from (x₁ - x₂)·g = (x₁ - x₂)·h follows g = h.
 pub fn leading_cancel_law()

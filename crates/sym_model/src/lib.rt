@@ -1,15 +1,16 @@
-//! The definitions of the project, in `specs/`, one idea a file, over plain lists and whole
-//! numbers; lemmas about them, in `proofs/`; and the laws that need no other crate.
+//! The definitions of the project (in `specs/`, one file for each subject), over plain lists and
+//! whole numbers; lemmas about them, in `proofs/`; and the laws that need no other crate.
 //!
 //! A law function has an empty body: its contract is the law.
 //!
 //! What is proved:
 //!
-//! `poly_ring_law`: polynomials are a commutative ring. `leading_cancel_law`: a factor with a
-//! leading term can be cancelled. `restriction_law`: m, e, h, p and the values of expressions
-//! restrict to fewer variables. `partitions_of_law`, `place_orders_law`: the lists of partitions
-//! and of orders that the definitions use have each member exactly once.
-//! `greatest_common_divisor_law`: Euclid's rule gives the greatest common divisor.
+//! `poly_ring_law`: polynomials are a commutative ring. `leading_cancel_law`: a polynomial whose
+//! greatest monomial has the coefficient 1 or -1 can be cancelled from a product.
+//! `restriction_law`: m_λ, e_λ, h_λ and p_λ in n variables, restricted to fewer variables, are m_λ,
+//! e_λ, h_λ and p_λ in these. `partitions_of_law`, `place_orders_law`: the lists `partitions_of d`
+//! and `orders (places n)` contain each partition of d and each permutation of 1, .., n exactly
+//! once. `greatest_common_divisor_law`: Euclid's rule gives the greatest common divisor.
 #![tactic(auto)]
 
 mod divisors;

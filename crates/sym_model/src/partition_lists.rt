@@ -1,4 +1,5 @@
-//! The list of the partitions of a number is complete, ordered, and without repeats.
+//! The list of the partitions of d has each of them exactly once, in decreasing lexicographic
+//! order.
 
 ghost use Rattle.std.specs.Prelude.{◌≡◌, ◌↔◌, ℕ, List, [], ◌∷◌};
 ghost use Rattle.sym_model.specs.Sum.{Among, Once};

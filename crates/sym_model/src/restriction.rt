@@ -1,4 +1,5 @@
-//! The polynomials of a label in different numbers of variables, related by restriction.
+//! The polynomials m_λ, e_λ, h_λ and p_λ in different numbers of variables, related by setting
+//! variables to 0.
 
 ghost use Rattle.std.specs.Prelude.{◌≡◌, ℕ, ◌<◌, ◌≤◌, List};
 ghost use Rattle.sym_model.specs.Polynomial.{Same, nothing, restrict};
@@ -6,9 +7,9 @@ ghost use Rattle.sym_model.specs.Partition.{ArePositive, rows};
 ghost use Rattle.sym_model.specs.Bases.{monomial, elementary, complete, power_sum};
 
 /// The polynomial m, e, h or p of a label in n variables, restricted to k ≤ n variables, is the
-/// polynomial of the label in k variables. A monomial symmetric polynomial with more parts than
-/// variables is 0. The parts of a power sum must be positive; the other labels may be any lists of
-/// numbers.
+/// polynomial of that label in k variables. The monomial symmetric polynomial of a list with more
+/// parts than variables is 0. The parts of a power sum must be positive; the labels of the others
+/// may be any lists of numbers.
 pub fn restriction_law()
     ensures monomial { (parts : List ℕ) (k n : ℕ) → k ≤ n
         → Same (restrict k (monomial parts n)) (monomial parts k) }

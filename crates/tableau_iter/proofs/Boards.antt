@@ -1,4 +1,4 @@
--- The state of a board when it is made, and after a letter is written or removed.
+-- The position (`position_of`) of a board (`IsBoard`): when the board is made, and after a letter is written on it or removed.
 use Rattle.std.proofs.Common.{◌≡◌, ℕ, ◌+◌, ◌-◌, ◌<◌, ◌≤◌, min, ◌==◌, Bool, true, false, ◌&&◌, cond, List, [], ◌∷◌, ◌++◌, length, take, get_or, ◌∙◌, ap, ap₂, sym, refl, subst, inl, inr, arith}
 use Rattle.std.proofs.Math.ListN.{set}
 use Rattle.std.proofs.lemmas.Bool.{and_parts, cases_eq, eq-eqb, ne_eqb}
@@ -41,7 +41,7 @@ board k outer inner near start sums word n l small fits few count =
       few = omega arith;
     }
 
--- if the letter a is appended to the word v, the entry for a in start plus content is raised by 1
+-- if `sums` is start plus the content of v, then with 1 added to the entry for the letter a it becomes start plus the content of v with a appended
 pub sums-put :
     (start sums v : List ℕ) (k a : ℕ) → rows start ≤ k → 1 ≤ a → a ≤ k → sums ≡ join start (content k v)
     → set sums (a - 1) (get_or sums (a - 1) 0 + 1) ≡ join start (content k (v ++ a ∷ []))
@@ -73,7 +73,8 @@ sums-put start sums v k a few low high e =
           )
     ])
 
--- if the letter a at the end of a word is removed, the entry for a in start plus content is lowered by 1
+-- if `sums` is start plus the content of v with the letter a appended, the entry for a is at least 1, and with 1 subtracted from this entry `sums`
+-- becomes start plus the content of v
 pub sums-take :
     (start sums v : List ℕ) (k a : ℕ) → rows start ≤ k → 1 ≤ a → a ≤ k → sums ≡ join start (content k (v ++ a ∷ []))
     → (1 ≤ get_or sums (a - 1) 0) × (set sums (a - 1) (get_or sums (a - 1) 0 - 1) ≡ join start (content k v))
@@ -112,7 +113,7 @@ sums-take start sums v k a few low high e =
 sum-small : (start v : List ℕ) (k i : ℕ) → rows start ≤ k → i < k → get_or (join start (content k v)) i 0 ≤ size start + length v
 sum-small start v k i few h = omega (arith, sum-at start v k i few h, get_or-le-size start i, times_in-most (i + 1) v)
 
--- ---- the bounds of a letter at a place of a board
+-- ---- the least and the greatest letter allowed by the neighbours at an index of the board
 
 pub ceiling-most : (right most word : List ℕ) (place : ℕ) → ceiling_at right most word place ≤ get_or most place 0
 ceiling-most right most word place = by (get_or right place 0 == 0)
@@ -149,7 +150,7 @@ letter-within rule counts start near sums word place a b h e =
     let low = told.0 in
     (omega arith, told.1)
 
--- ---- a letter written to a board
+-- ---- a board after a letter that fits is written
 
 pub put-tells :
     (rule : Rule) (counts start : List ℕ) (near : Neighbours) (sums word : List ℕ) (place a : ℕ) → IsBoard near start sums word → place < length word
@@ -182,7 +183,7 @@ put-tells rule counts start near sums word place a b h r e =
       },
     )
 
--- ---- a letter removed from a board
+-- ---- a board after the last letter is removed
 
 pub take-tells :
     (rule : Rule) (counts start : List ℕ) (near : Neighbours) (sums word : List ℕ) (place : ℕ) → IsBoard near start sums word → place < length word
@@ -212,10 +213,10 @@ take-tells rule counts start near sums word place b h r =
       },
     )
 
--- ---- letters written and removed, in the form in which the code reads and writes a place
+-- ---- letters written and removed, with the values as the code reads them from its arrays
 
--- if the letter a fits and is written at the place, and the entry of `sums` for a is raised by 1, this entry is at most 4,097, and the board is ready at
--- the next place
+-- let p be the position of a board, ready at `place`: if the letter a fits there, the entry of `sums` for a is at most 4,096, and with a written at
+-- `place` and this entry raised by 1 the board is ready at the next index
 pub put-read :
     (rule : Rule) (counts start : List ℕ) (near : Neighbours) (sums word : List ℕ) (place a n v : ℕ) (p : Position)
     → position_of rule counts start near sums word ≡ p → IsBoard near start sums word → place < length p.word
@@ -236,7 +237,8 @@ put-read rule counts start near sums word place a n v p is b h r e same read =
           (subst (λ m. IsReady (place + 1) (position_of rule counts start near (set sums (a - 1) (m + 1)) (set word place a))) (sym value) told.3),
     )
 
--- if the letter at the place is removed, and the entry of `sums` for this letter is lowered by 1, the board is ready at the place
+-- let p be the position of a board, ready at `place` + 1: if the letter at `place` is removed and the entry of `sums` for it is lowered by 1, the
+-- board is ready at `place`
 pub take-read :
     (rule : Rule) (counts start : List ℕ) (near : Neighbours) (sums word : List ℕ) (place a n : ℕ) (p : Position)
     → position_of rule counts start near sums word ≡ p → IsBoard near start sums word → place < length p.word
@@ -261,7 +263,7 @@ take-read rule counts start near sums word place a n p is b h r letter same =
           ),
     )
 
--- if the arguments are the parts of the board, `least` and `most` bound the letter at a place that is ready
+-- let p be the position of a board, ready at `place`: if `least` is `floor_at` and `most` is `ceiling_at` for `place`, `IsPlace` holds for them
 pub place-read :
     (rule : Rule) (counts start : List ℕ) (near : Neighbours) (sums word : List ℕ) (place least most : ℕ) (p : Position)
     → position_of rule counts start near sums word ≡ p → IsBoard near start sums word → place < length p.word → IsReady place p

@@ -1,4 +1,4 @@
--- The entries of a lattice tableau are from 1 to the number of rows.
+-- The entries of a lattice tableau of shape outer/inner are from 1 to the number of rows of outer.
 use Rattle.std.proofs.Common.{◌≡◌, ℕ, true, List, map, length, subst, sym, ap, ◌∙◌}
 use Rattle.std.proofs.lemmas.Bool.{and_parts}
 use Rattle.sym_model.specs.TableauList.{is_lattice_tableau}
@@ -14,7 +14,7 @@ use Rattle.tableau_iter.proofs.Orders.{filling_of-reading, length-reading}
 use Rattle.tableau_iter.proofs.Membership.{listed_tells}
 use Rattle.sym_model.proofs.Tableaux.{word_tells}
 
--- if the rows of a filling have the lengths of outer/inner, the filling with its column reading is the filling itself
+-- if the rows have the lengths of the rows of outer/inner, the filling of outer/inner with their column reading has these rows
 pub filling_back : (outer inner : List ℕ) (rows : List (List ℕ)) → Falls outer → map length rows ≡ row_lengths outer inner
     → filling_of outer inner (column_reading outer inner rows) ≡ rows
 filling_back outer inner rows f l =

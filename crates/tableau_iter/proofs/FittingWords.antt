@@ -1,4 +1,5 @@
--- The lists of column readings of tableaux are lists of the words in which each letter fits after those before it.
+-- The column readings of the good tableaux, of all tableaux, and of the tableaux with a given content: each list has the words in which every letter
+-- fits, by the rule of the list, after the letters before it (`fits_by`).
 use Rattle.std.proofs.Common.{◌≡◌, ℕ, zero, suc, ◌-◌, ◌<◌, ◌≤◌, min, Bool, true, ◌&&◌, ◌==◌, cond, nat_le, nat_lt, List, [], ◌∷◌, ◌++◌, map, length, take, get_or, ◌∙◌, ap, ap₂, sym, refl, arith, append-nil, append_assoc, filter}
 use Rattle.std.proofs.lemmas.Bool.{and_parts, le-leb, leb-true, lt-ltb, ltb-true, false_from_ne_true}
 use Rattle.std.proofs.lemmas.List.{length-take, get_or-take}
@@ -29,7 +30,7 @@ use Rattle.sym_model.proofs.Contents.{size-content}
 use Rattle.sym_model.proofs.Tableaux.{word_tells}
 use Rattle.std.proofs.Math.Bool.{and-false}
 
--- ---- words whose letters fit, place by place
+-- ---- words in which each letter fits after the letters before it, index by index
 
 pub all_fit-at :
     (fits : List ℕ → ℕ → Bool) (front w : List ℕ) (p : ℕ) → all_fit fits front w ≡ true → p < length w → fits (front ++ take p w) (get_or w p 0) ≡ true
@@ -48,7 +49,7 @@ all_fit-from fits front (a ∷ w) h =
     (all_fit-from fits (front ++ a ∷ []) w
     (λ p l. ap (λ l. fits l (get_or w p 0)) (append_assoc front (a ∷ []) (take p w)) ∙ h (suc p) (omega arith)))
 
--- ---- a letter is greater than its floor and at most its ceiling, which depend on the letters before it
+-- ---- the bounds `floor_at` and `ceiling_at` of a letter depend only on the letters before it
 
 front-length : (w : List ℕ) (p : ℕ) → p < length w → length (take p w) ≡ p
 front-length w p h = omega (arith, length-take p w)
@@ -93,9 +94,10 @@ front-stands near w p h a r e =
     let high = leb-true (get_or w p 0) (ceiling_at near.right near.most (take p w) (length (take p w))) parts.1 in
     (omega (arith, low, floor-front near.above w p h a), omega (arith, high, ceiling-front near.right near.most w p h r))
 
--- ---- the readings of tableaux whose letters a rule allows: the words in which each letter fits
+-- ---- the readings of those tableaux whose letters a rule allows are the words in which each letter fits
 
--- outer/inner is a skew shape with the neighbours `near`, and lines and ranks are the rows and columns of its cells in reading order
+-- outer/inner is a skew shape, `lines` and `ranks` are the rows and the columns of its cells in reading order, and `near` has their neighbours for
+-- letters from 1 to k
 pub record Around (k : ℕ) (outer inner lines ranks : List ℕ) (near : Neighbours) : Type 0 where
   pub outside : Falls outer
   pub inside : Falls inner
@@ -110,7 +112,8 @@ back k outer inner lines ranks near p a h =
     let count = lines-length outer inner lines ranks a.cells in
     ((a.near_cells.above.each p (omega arith)).within, (a.near_cells.right.each p (omega arith)).within)
 
--- if w is the reading of a tableau whose letters the rule allows, its letters fit
+-- if w is the column reading of a tableau of outer/inner with letters from 1 to k, and the rule allows each letter of w after those before it, then
+-- each letter of w fits
 fits-from :
     (rule : Rule) (counts start : List ℕ) (k : ℕ) (outer inner lines ranks : List ℕ) (near : Neighbours) (w : List ℕ)
     → Around k outer inner lines ranks near → length w ≡ length (reading_cells outer inner) → AreLetters k w → is_tableau (filled_with outer inner w) ≡ true
@@ -200,7 +203,7 @@ content-fits counts k outer inner lines ranks near w a few all m =
     let letter = within-at k w p word.1 h in
     (letter.0, letter.1, told.1 p h))))
 
--- ---- lists of the readings of good tableaux, of all tableaux, and of tableaux with one content
+-- ---- the lists of the readings of good tableaux, of all tableaux, and of tableaux with one content
 
 pub good_readings-fits :
     (counts start : List ℕ) (k : ℕ) (outer inner lines ranks : List ℕ) (near : Neighbours) → Around k outer inner lines ranks near
@@ -241,7 +244,7 @@ content_readings-fits counts outer inner lines ranks near a all =
     ap (λ b. b && same (content (length counts) w) counts) (tableau-listed k outer inner w a.outside a.holds m)
     ∙ content-fits counts k outer inner lines ranks near w a refl all m))
 
--- if the numbers of a content do not add up to the number of cells, no tableau has this content
+-- if the numbers of a content do not add up to the number of cells of outer/inner, no tableau of outer/inner has this content
 pub no_content :
     (counts outer inner : List ℕ) → (size counts ≡ length (cells outer inner) → ⊥) → readings_with_content counts outer inner ≡ []
 no_content counts outer inner n =

@@ -1,5 +1,5 @@
--- Start plus the contents of the prefixes of a word, letter by letter: when each of these sums is weakly decreasing, and
--- when it is within limits.
+-- The sums of `start` and the contents of the prefixes of a word: the condition that each of these sums is weakly decreasing, in terms of the
+-- letters.
 use Rattle.std.proofs.Common.{◌≡◌, ℕ, zero, suc, ◌+◌, ◌-◌, ◌<◌, ◌≤◌, true, false, ◌&&◌, ◌||◌, ◌==◌, cond, nat_le, nat_lt, List, [], ◌∷◌, ◌++◌, map, length, take, get_or, reverse, ◌∙◌, ap, ap₂, sym, refl, subst, inl, inr, arith, length-append, filter, flat_map}
 use Rattle.std.proofs.lemmas.Bool.{cases_eq, eq-eqb, ne_eqb, and_parts, le-leb, leb-true, lt-ltb, ltb-true}
 use Rattle.std.proofs.lemmas.List.{length-map, map-append, take_more}
@@ -25,7 +25,7 @@ use Rattle.tableau_iter.proofs.Orders.{Once-reading, columns_far, letters-front,
 use Rattle.tableau_iter.proofs.Neighbours.{below-greater, is_cell, letter-at, every_after-at}
 use Rattle.tableau_iter.proofs.Places.{front_of, cells_below, below-cell, right-split, reading_around, place_of_cell}
 
--- ---- start plus a content, at one place
+-- ---- the entries of start plus the content of a word
 
 pub length-sums : (start v : List ℕ) (k : ℕ) → length start ≤ k → length (join start (content k v)) ≡ k
 length-sums start v k h =
@@ -51,7 +51,7 @@ falls-from [] h = refl
 falls-from (a ∷ []) h = refl
 falls-from (a ∷ b ∷ xs) h = ap₂ (λ x y. x && y) (le-leb b a (h 0 (omega arith))) (falls-from (b ∷ xs) (λ i l. h (suc i) (omega arith)))
 
--- ---- the content of a prefix with one more letter
+-- ---- start plus the content of a prefix, with one more letter
 
 pub times_in-one : (j a : ℕ) (v : List ℕ) → times_in j (v ++ a ∷ []) ≡ times_in j v + cond (a == j) 1 0
 times_in-one j a v = let e = times_in-append j v (a ∷ []) in omega arith
@@ -85,8 +85,8 @@ one_more k start v a few within falls allowed i h = elim (cases_eq a (suc i + 1)
       )
 ]
 
--- if `start` is weakly decreasing, and the rule `Falling` allows each letter of w after those before it, start plus the content of each prefix of w is
--- weakly decreasing
+-- if `start` is weakly decreasing, and the rule `Falling` allows each letter of w after those before it, the entries of start plus the content of the
+-- first e letters of w are weakly decreasing
 fronts_fall :
     (k : ℕ) (start w : List ℕ) (e : ℕ) → length start ≤ k → ((i : ℕ) → get_or start (suc i) 0 ≤ get_or start i 0)
     → ((p : ℕ) → p < length w → (get_or w p 0 ≤ k) × (allows Falling [] (join start (content k (take p w))) (get_or w p 0) ≡ true)) → e ≤ length w
@@ -114,7 +114,7 @@ falls_at-from k start w e few falls allowed h =
       fronts_fall k start w e few falls allowed h i (omega arith),
     ))
 
--- ---- words whose sums are decreasing for the prefixes that end with a column
+-- ---- good tableaux: start plus the content is weakly decreasing for the prefixes of the reading that end with a column, and hence for all prefixes
 
 good-at :
     (k : ℕ) (start outer inner : List ℕ) (T : List (List ℕ)) (j : ℕ) → is_good k start outer inner T ≡ true → j ≤ columns outer
@@ -134,7 +134,8 @@ good-at k start outer inner T j e h = by j h
         ap (λ j. is_falling (join start (content k (reading_right_of j outer inner T)))) same
         ∙ every_after-at (λ j. is_falling (join start (content k (reading_right_of j outer inner T)))) 0 (columns outer) i parts.1 (omega arith)
 
--- in a tableau, no letter is smaller than one above it in its column
+-- in a tableau with the letter f(row, column) in each cell, the letter of a cell (r + 1, j) is at most that of a cell (r + 1 + d, j) of the same
+-- column
 down :
     (f : ℕ → ℕ → ℕ) (outer inner : List ℕ) (r j d : ℕ) → (are_letters (letters_of (rows_by f outer inner)) && semistandard inner (rows_by f outer inner)) ≡ true
     → Falls outer → Falls inner → IsCell outer inner (r + 1) j → j ≤ part outer (r + 1 + d) → f (r + 1) j ≤ f (r + 1 + d) j
@@ -167,7 +168,7 @@ times_in-none b g (c ∷ cells) h =
     let first : cond {A = ℕ} (g c == b) 1 0 ≡ 0 = ap (λ t. cond t 1 0) (ne_eqb (g c) b (λ e. omega (arith, h c (inl refl)))) in
     omega (arith, first, times_in-none b g cells (λ d m. h d (inr m)))
 
--- the first letters of w are those in the cells that are read first
+-- if the cells in reading order are `front` followed by `back`, the first letters of w are those that the filling of w has in the cells of `front`
 first-letters :
     (outer inner w : List ℕ) (front back : List (ℕ × ℕ)) → reading_cells outer inner ≡ front ++ back → length w ≡ length (reading_cells outer inner)
     → take (length front) w ≡ map (λ (c : ℕ × ℕ). letter_of_cell c.0 c.1 (reading_cells outer inner) w) front
@@ -263,7 +264,7 @@ cell_there [] p h = absurd (omega arith)
 cell_there (x ∷ xs) zero h = (x, refl)
 cell_there (x ∷ xs) (suc p) h = cell_there xs p (omega arith)
 
--- if w is the reading of a good tableau, the rule `Falling` allows each letter of w after those before it
+-- if w is the column reading of a good tableau, the rule `Falling` allows each letter of w after those before it
 pub good-allows :
     (k : ℕ) (start outer inner w : List ℕ) (p : ℕ) → length start ≤ k → Falls outer → Falls inner → length w ≡ length (reading_cells outer inner)
     → is_tableau (filled_with outer inner w) ≡ true → is_good k start outer inner (filling_of outer inner w) ≡ true → p < length w

@@ -1,9 +1,8 @@
--- Steps of a walk over the words of a shape: the letters before a place stay, and the later ones change.
+-- The search of walk.rt for the next word: the letters before an index are kept, and the later ones are replaced.
 use Rattle.std.proofs.Common.{◌≡◌, ℕ, suc, ◌+◌, ◌-◌, ◌<◌, ◌≤◌, Bool, true, false, List, [], ◌∷◌, ◌++◌, length, take, drop, get_or, ◌∙◌, ap, ap₂, sym, refl, subst, inl, inr, arith}
 use Rattle.std.proofs.lemmas.Bool.{cases_lt}
-use Rattle.std.proofs.lemmas.List.{length-drop, length-take, take_more, take-take, take_all, get_or-take, nil_from_length}
+use Rattle.std.proofs.lemmas.List.{length-drop, length-take, take_more, take-take, take_all, get_or-take, nil_from_length, drop_more}
 use Rattle.std.specs.Bool.{OnTrue, OnFalse}
-use Rattle.sym_model.proofs.Lists.{drop-next}
 use Rattle.tableau_iter.specs.Walks.{completions, continued, later}
 use Rattle.tableau_iter.specs.Fits.{all_fit}
 use Rattle.tableau_iter.specs.Positions.{Position, Setting, fits_in, passes, IsSameUpTo, Begins}
@@ -48,8 +47,8 @@ later-equal :
 later-equal t u k m f g v w a b c d =
     ap (λ t. later t k f v) a ∙ ap (λ k. later u k f v) b ∙ ap₂ (λ f v. later u m f v) c d
 
--- if `Begins` holds of a list at q, whose word is `front` followed by w, and p has the same test and the same greatest
--- letter as q, the list is w followed by the words after it that `later` gives for p
+-- let `Begins place q list` hold, let `front` be the first `place` letters of the word of q and w the other ones, and let p have the greatest letter
+-- and the test `passes` of q: then the list is w followed by `later` of p for `front` and w
 begins-as :
     (place : ℕ) (p q : Position) (list : List (List ℕ)) (front w : List ℕ) → Begins place q list
     → passes q ≡ passes p → q.setting.letters ≡ p.setting.letters → take place q.word ≡ front → drop place q.word ≡ w
@@ -63,17 +62,17 @@ begins-from :
 begins-from place p q list front w e t k f d =
     e ∙ sym (ap₂ (λ x xs. x ∷ xs) d (later-equal (passes q) (passes p) q.setting.letters p.setting.letters (take place q.word) front (drop place q.word) w t k f d))
 
--- if the first letters of a word are `front` and a, then a is the letter at the next place
+-- if the first place + 1 letters of a word are `front` and a, the letter at the index `place` is a
 letter_at : (word front : List ℕ) (place a : ℕ) → place < length word → length front ≡ place → take (place + 1) word ≡ front ++ a ∷ [] → get_or word place 0 ≡ a
 letter_at word front place a h l e =
     let next : place < place + 1 = omega arith in
     sym (get_or-take (place + 1) word place 0 next) ∙ ap (λ xs. get_or xs place 0) e
     ∙ ap (λ n. get_or (front ++ a ∷ []) n 0) (sym l) ∙ get_or-append_seam front a [] 0
 
--- ---- a letter tried at a place
+-- ---- letters tried at an index one after another
 
--- if no letter b with tried < b < letter fits at the place, the words with a letter greater than `tried` there are those with a letter of at least
--- `letter`
+-- if no letter b with tried < b < letter fits at `place`, each word that fits, with the same letters before `place` and a letter greater than `tried`
+-- at `place`, has a letter of at least `letter` at `place`
 skipped :
     (old : Position) (place tried letter : ℕ) (list : List (List ℕ)) → tried < letter → letter ≤ old.setting.letters
     → ((b : ℕ) → tried < b → b < letter → (fits_in old.setting) (take place old.word) b ≡ false)
@@ -115,7 +114,7 @@ tried-found old b put new place tried letter list h m l skip s sp e n found is =
     skipped old place tried letter list m l skip is
     ∙ continued-found (passes old) old.setting.letters (length old.word - (place + 1)) front w t (omega arith) rest inner in
     begins-from place old new list front ((t + 1) ∷ w) outer (passes-same place old new sn) (letters-same place old new sn) sn.front
-    (drop-next new.word place within ∙ ap (λ a. a ∷ w) at)
+    (drop_more new.word place 0 within ∙ ap (λ a. a ∷ w) at)
 
 pub tried-none :
     (old b put : Position) (place tried letter : ℕ) (list : List (List ℕ)) → place < length old.word → tried < letter → letter ≤ old.setting.letters
@@ -137,7 +136,7 @@ tried-none old b put place tried letter list h m l skip s sp e none is =
     ∙ none)
     ∙ ap (continued (passes old) old.setting.letters (length old.word - (place + 1)) (take place old.word)) (sym up)
 
--- if no letter greater than `tried` fits at the place, no word continues with a greater letter
+-- if no letter greater than `tried` fits at `place`, no word that fits has the same letters before `place` and a letter greater than `tried` there
 pub tried-all :
     (old : Position) (place tried : ℕ) (list : List (List ℕ))
     → ((c : ℕ) → tried < c → c ≤ old.setting.letters → (fits_in old.setting) (take place old.word) c ≡ false)
@@ -151,7 +150,7 @@ tried-all old place tried list skip is = elim (cases_lt tried old.setting.letter
       ∙ continued-none (passes old) old.setting.letters (length old.word - (place + 1)) (take place old.word) old.setting.letters (omega arith)
 ]
 
--- ---- words that are complete, and words to which a letter is still to be added
+-- ---- the words that continue a prefix: if it is the whole word, and if at least one letter is missing
 
 pub end-found :
     (old new : Position) (place : ℕ) → place ≡ length old.word → new ≡ old → passes old old.word ≡ true
@@ -175,7 +174,7 @@ more-letters old place h =
     ap (λ n. completions (passes old) old.setting.letters n (take place old.word)) count
     ∙ completions-first (passes old) old.setting.letters (length old.word - (place + 1)) (take place old.word)
 
--- ---- the word after the current one
+-- ---- the search for the next word after the current one, from the last index to the first
 
 pub next-end :
     (old : Position) (place : ℕ) → place ≡ length old.word → later (passes old) old.setting.letters (take place old.word) (drop place old.word) ≡ []
@@ -203,10 +202,11 @@ next-inside old new place h s found =
     ap (λ f. later (passes old) old.setting.letters f v) (sym (take_more old.word place 0 h))
     ∙ begins-as (place + 1) old new _ (front ++ a ∷ []) w found same (letters-same (place + 1) old new s) new_front refl in
     begins-from place old new _ front (a ∷ w)
-    (ap (later (passes old) old.setting.letters front) (drop-next old.word place h) ∙ later-same (passes old) old.setting.letters front v w a long inner)
-    same (letters-same (place + 1) old new s) less.front (drop-next new.word place within ∙ ap (λ b. b ∷ w) letter)
+    (ap (later (passes old) old.setting.letters front) (drop_more old.word place 0 h) ∙ later-same (passes old) old.setting.letters front v w a long inner)
+    same (letters-same (place + 1) old new s) less.front (drop_more new.word place 0 within ∙ ap (λ b. b ∷ w) letter)
 
--- if no later word has the same letters up to the place, then the later words have a greater letter there
+-- if no later word that fits has the same letters up to and including `place`, the later words with the same letters before `place` are those with a
+-- greater letter at `place`
 pub next-outside :
     (old b : Position) (place : ℕ) → place < length old.word → IsSameUpTo (place + 1) old b
     → later (passes old) old.setting.letters (take (place + 1) old.word) (drop (place + 1) old.word) ≡ []
@@ -218,12 +218,13 @@ next-outside old b place h s none =
     let v = drop (place + 1) old.word in
     let less = IsSameUpTo-less place (place + 1) old b (omega arith) s in
     let long : length v ≡ length b.word - (place + 1) = omega (arith, length-drop (place + 1) old.word, s.length) in
-    ap (later (passes old) old.setting.letters front) (drop-next old.word place h)
+    ap (later (passes old) old.setting.letters front) (drop_more old.word place 0 h)
     ∙ later-greater (passes old) old.setting.letters front v a (ap (λ f. later (passes old) old.setting.letters f v) (sym (take_more old.word place 0 h)) ∙ none)
     ∙ sym (continued-same (passes b) (passes old) b.setting.letters old.setting.letters (length b.word - (place + 1)) (length v) a (take place b.word) front
     (passes-same (place + 1) old b s) (letters-same (place + 1) old b s) (sym long) less.front)
 
--- if no later word has the same letters up to the place, then, with the letter at the place removed, the later words are those with a greater letter there
+-- let old, b and taken have the same letters before `place`, and b the letter `letter` at `place`: if no later word that fits has the same letters as
+-- old up to and including `place`, the later words with the same letters before `place` are those with a letter greater than `letter` there
 pub next-taken :
     (old b taken : Position) (place letter : ℕ) → place < length old.word → IsSameUpTo (place + 1) old b → IsSameUpTo (place + 1) b taken
     → letter ≡ get_or b.word place 0

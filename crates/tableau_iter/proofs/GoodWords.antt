@@ -1,4 +1,4 @@
--- A word is the column reading of a good tableau if and only if its filling passes a test.
+-- A word with letters from 1 to k is the reading of a good tableau if and only if its filling is a tableau and passes `is_good`.
 use Rattle.std.proofs.Common.{◌≡◌, ◌⊎◌, ℕ, zero, suc, ◌+◌, ◌-◌, ◌<◌, ◌≤◌, Bool, true, false, ◌&&◌, ◌==◌, cond, List, [], ◌∷◌, map, length, get_or, ◌∙◌, ap, ap₂, sym, refl, subst, inl, inr, arith, filter}
 use Rattle.std.proofs.lemmas.Bool.{and_parts, le-leb, eq-eqb, true≢false}
 use Rattle.std.proofs.lemmas.List.{length-map}
@@ -19,8 +19,9 @@ use Rattle.tableau_laws.proofs.GoodReadings.{is_among-from, is_among-tells}
 use Rattle.tableau_iter.proofs.Orders.{Among-reading, length-reading, reading-whole, filling_of-reading}
 use Rattle.sym_model.specs.Bounded.{AreLetters}
 use Rattle.std.proofs.Math.Bool.{and-true}
+use Rattle.sym_model.proofs.Lists.{length-at}
 
--- ---- rows whose letters are from 1 to n
+-- ---- fillings with letters from 1 to n (`RowsWithin`), and the list `fillings_of` of all of them
 
 abbrev pub RowsWithin : ℕ → List (List ℕ) → Type 0
 RowsWithin n [] = Unit {0}
@@ -54,7 +55,7 @@ filling_from n (k ∷ lengths) (row ∷ T) l h =
     Among-each (λ row. map (λ rest. row ∷ rest) (fillings_of n lengths)) row (row ∷ T) (words n k) (word_from n k row first h.0)
     (Among-map (λ rest. row ∷ rest) T (fillings_of n lengths) (filling_from n lengths T others h.1))
 
--- ---- the letters of the filling of a word are from 1 to n
+-- ---- the filling of a word with letters from 1 to n has letters from 1 to n
 
 letter_within : (n i j : ℕ) (cells : List (ℕ × ℕ)) (w : List ℕ) → length w ≡ length cells → AreLetters n w → Among (i, j) cells → (1 ≤ letter_of_cell i j cells w) × (letter_of_cell i j cells w ≤ n)
 letter_within n i j [] w l h m = absurd m
@@ -90,7 +91,7 @@ filling-within n outer inner w f l h =
     let cell : IsCell outer inner i j = record { row_counts = omega arith; outside = q; within = omega arith } in
     letter_within n i j (reading_cells outer inner) w l h (Among-reading outer inner i j f cell)))
 
--- ---- each filling is a function of the cells
+-- ---- each filling is given by a function of the cells
 
 pub list_by : {B : Type 0} (xs : List B) (g : ℕ → B) (a n : ℕ) (d : B) → length xs ≡ n → ((i : ℕ) → i < n → get_or xs i d ≡ g (a + i + 1)) → xs ≡ map g (after a n)
 list_by [] g a zero d l h = refl
@@ -100,12 +101,7 @@ list_by (x ∷ xs) g a (suc n) d l h =
     ap₂ ◌∷◌ (h 0 (omega arith) ∙ ap g (omega arith))
     (list_by xs g (a + 1) n d (omega arith) (λ i m. h (suc i) (omega arith) ∙ ap g (omega arith)))
 
-length-at : (rows : List (List ℕ)) (i : ℕ) → length (get_or rows i []) ≡ get_or (map length rows) i 0
-length-at [] i = refl
-length-at (row ∷ rows) zero = refl
-length-at (row ∷ rows) (suc i) = length-at rows i
-
--- the letter in the cell (row, column) of a filling T with the inner partition
+-- the letter in the cell (row, column) of the filling T with the given inner partition
 abbrev pub letter_of : List ℕ → List (List ℕ) → ℕ → ℕ → ℕ
 letter_of inner T row column = get_or (get_or T (row - 1) []) (column - (part inner row + 1)) 0
 
@@ -130,7 +126,7 @@ rows-by_cells outer inner T l =
     let place : j ≡ part inner (0 + i + 1) + j + 1 - (part inner (0 + i + 1) + 1) = omega arith in
     ap₂ (λ r k. get_or (get_or T r []) k 0) this place))
 
--- ---- the words of the list of readings
+-- ---- membership of a word in the list of the readings of tableaux
 
 letters_positive : (n : ℕ) (w : List ℕ) → AreLetters n w → are_letters w ≡ true
 letters_positive n [] h = refl
@@ -144,7 +140,8 @@ pub select-among : (test other : List ℕ → Bool) (xs : List (List ℕ)) → (
 select-among test other [] h = refl
 select-among test other (x ∷ xs) h = ap₂ (λ b l. cond b (x ∷ l) l) (h x (inl refl)) (select-among test other xs (λ y m. h y (inr m)))
 
--- w is among the readings of the tableaux that pass the test if and only if its filling is a tableau and passes it
+-- a word w with letters from 1 to k is in the list of the readings of those tableaux of outer/inner that pass a test if and only if its filling is a
+-- tableau and passes the test
 selected-listed :
     (k : ℕ) (test : List (List ℕ) → Bool) (outer inner w : List ℕ) → Falls outer → contains outer inner ≡ true
     → Among w (words k (length (cells outer inner)))

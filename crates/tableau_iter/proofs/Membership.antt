@@ -1,4 +1,4 @@
--- The fillings in the list of the lattice tableaux.
+-- The test of whether a word is among the readings of the lattice tableaux of a skew shape.
 use Rattle.std.proofs.Common.{◌≡◌, ℕ, suc, ◌<◌, ◌≤◌, Bool, true, false, ◌&&◌, cond, nat_le, List, [], ◌∷◌, map, length, take, get_or, ◌∙◌, ap, ap₂, sym, refl, arith, filter}
 use Rattle.std.proofs.lemmas.Bool.{and_parts, le-leb, leb-true, true≢false, false_from_ne_true}
 use Rattle.sym_model.specs.Sum.{Among}
@@ -24,7 +24,8 @@ use Rattle.tableau_iter.specs.LatticeWords.{is_lattice_word, may_follow}
 use Rattle.sym_model.specs.Bounded.{AreLetters}
 use Rattle.sym_model.proofs.Tableaux.{word_tells}
 
--- if w is among the lattice readings, it is a word in letters from 1 to the number of rows and the column reading of a good tableau
+-- if w is among the lattice readings of outer/inner, its letters are from 1 to the number of rows of outer, its length is the number of cells, and it
+-- is the column reading of a good tableau for the empty start
 pub listed_tells : (outer inner w : List ℕ) → is_among w (lattice_readings outer inner) ≡ true
     → Among w (words (length outer) (length (cells outer inner))) × (is_among w (map (column_reading outer inner) (good_tableaux (length outer) [] outer inner)) ≡ true)
 listed_tells outer inner w h =
@@ -38,7 +39,7 @@ listed_from outer inner w m h =
     (Among-select (λ v. is_among v (map (column_reading outer inner) (good_tableaux (length outer) [] outer inner))) w
     (words (length outer) (length (cells outer inner))) m h)
 
--- if the outer shape does not contain the inner one, no word is listed
+-- if outer does not contain inner, outer/inner has no lattice readings
 pub none_outside : (outer inner w : List ℕ) → contains outer inner ≡ false → is_among w (lattice_readings outer inner) ≡ false
 none_outside outer inner w n =
     false_from_ne_true (is_among w (lattice_readings outer inner))
@@ -61,13 +62,14 @@ none_outside outer inner w n =
         n
         ∙ empty (nat_le 0 (length outer))
 
--- w is listed if and only if its filling is a tableau, and is good
+-- a word w of the right length, with letters from 1 to the number of rows of outer, is the reading of a good tableau for the empty start if and only
+-- if its filling is a tableau and is good
 listed_is : (outer inner w : List ℕ) → Falls outer → contains outer inner ≡ true → Among w (words (length outer) (length (cells outer inner)))
     → is_among w (map (column_reading outer inner) (good_tableaux (length outer) [] outer inner))
     ≡ (is_tableau (filled_with outer inner w) && is_good (length outer) [] outer inner (filling_of outer inner w))
 listed_is outer inner w f c m = good-listed (length outer) [] outer inner w f c (omega arith) m
 
--- a filling that is not a tableau is not listed
+-- if the filling of w is not a tableau, w is not among the lattice readings of outer/inner
 pub none_disordered : (outer inner w : List ℕ) → Falls outer → contains outer inner ≡ true → is_tableau (filled_with outer inner w) ≡ false
     → is_among w (lattice_readings outer inner) ≡ false
 none_disordered outer inner w f c n =
@@ -101,7 +103,8 @@ lattice_good outer inner w l e =
     (λ n h. falls_at-from (length outer) [] w n (omega arith) (λ i. omega arith)
     (λ p q. let t = letter_at (length outer) w p e q in (t.1, t.2)) h)
 
--- a tableau is listed if and only if its column reading is a lattice word
+-- if w has a letter for each cell of outer/inner and its filling is a tableau, w is among the lattice readings if and only if it is a lattice word in
+-- letters from 1 to the number of rows of outer
 pub lattice_listed : (outer inner w : List ℕ) → Falls outer → Falls inner → contains outer inner ≡ true → length w ≡ length (cells outer inner)
     → is_tableau (filled_with outer inner w) ≡ true → is_lattice_word (length outer) w ≡ is_among w (lattice_readings outer inner)
 lattice_listed outer inner w f g c l t =

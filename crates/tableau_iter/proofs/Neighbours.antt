@@ -1,4 +1,4 @@
--- Neighbours in a tableau, and their letters in its column reading.
+-- The letters of neighbouring cells of a tableau, and their indices in the column reading.
 use Rattle.std.proofs.Common.{◌≡◌, ℕ, zero, suc, ◌+◌, ◌-◌, ◌<◌, ◌≤◌, Bool, true, ◌&&◌, cond, leb, ltb, nat_lt, List, [], ◌∷◌, ◌++◌, map, length, drop, get_or, ◌∙◌, ap, ap₂, sym, refl, subst, arith, append-nil, inl, inr}
 use Rattle.std.proofs.lemmas.Bool.{and_parts, leb-true, ltb-true, lt-ltb}
 use Rattle.std.proofs.lemmas.List.{get_or-drop, length-drop, length-map, take_all, get_or-map}
@@ -17,7 +17,7 @@ use Rattle.skew_shapes.proofs.CellRows.{map_after-at, row_of-rows_by, cell_row}
 use Rattle.skew_shapes.proofs.RowOrder.{tests-rows}
 use Rattle.tableau_iter.proofs.Orders.{Once-reading, letters-front, reading_cell}
 
--- ---- tests of consecutive numbers, one by one
+-- ---- tests that each of the numbers a + 1, .., a + k must pass
 
 pub every_after-at : (test : ℕ → Bool) (a k i : ℕ) → every test (after a k) ≡ true → i < k → test (a + i + 1) ≡ true
 every_after-at test a zero i e h = absurd (omega arith)
@@ -40,7 +40,7 @@ row_rises-at (a ∷ []) k e h = absurd (omega arith)
 row_rises-at (a ∷ b ∷ w) zero e h = leb-true a b (and_parts (leb a b) (row_rises (b ∷ w)) e).0
 row_rises-at (a ∷ b ∷ w) (suc k) e h = row_rises-at (b ∷ w) k (and_parts (leb a b) (row_rises (b ∷ w)) e).1 (omega arith)
 
--- ---- neighbouring cells in a tableau
+-- ---- letters of neighbouring cells in a tableau: rows are weakly, columns strictly increasing
 
 row_passes-at :
     (f : ℕ → ℕ → ℕ) (outer inner : List ℕ) (i : ℕ) → (are_letters (letters_of (rows_by f outer inner)) && semistandard inner (rows_by f outer inner)) ≡ true
@@ -120,7 +120,7 @@ right-at_least f outer inner i j e c d =
       at-row_by f outer inner i (j + 1) (suc k) out' in'' (omega arith),
     )
 
--- ---- the letters of a word by the places of their cells
+-- ---- the letters of a word by the indices of their cells in the reading
 
 pub letter-at :
     (outer inner w : List ℕ) (q i j : ℕ) → length w ≡ length (reading_cells outer inner) → q < length w
@@ -159,7 +159,7 @@ is_cell outer inner q i j h e =
     reading_cell outer inner (i, j)
     (subst (λ (c : ℕ × ℕ). Among c (reading_cells outer inner)) e (Among-get (reading_cells outer inner) q (i, j) h))
 
--- ---- words that are not readings of a tableau: a letter at most that above it, or greater than that on its right
+-- ---- words that are not readings of a tableau, since a letter is not greater than the one above it, or is greater than the one on its right
 
 pub no_above :
     (outer inner w : List ℕ) (q p i j : ℕ) → Falls inner → length w ≡ length (reading_cells outer inner) → q < length w → p < length w

@@ -1,4 +1,4 @@
--- The cells of a skew shape in the order of the column reading: each once, and the letters of a word in them.
+-- The cells of a skew shape in the order of the column reading: each occurs once, and gets one letter of a word.
 use Rattle.std.proofs.Common.{◌≡◌, ◌⊎◌, ℕ, ◌+◌, ◌-◌, ◌≤◌, true, false, ◌&&◌, ◌==◌, cond, leb, ltb, List, [], ◌∷◌, ◌++◌, map, length, take, reverse, ◌∙◌, ap, ap₂, sym, refl, subst, inl, inr, arith, append-nil, length-append, filter, flat_map}
 use Rattle.std.proofs.lemmas.Bool.{cases_eq, eq-eqb, ne_eqb, and_from, lt-ltb, le-leb}
 use Rattle.std.proofs.lemmas.List.{reverse-append, take_all}
@@ -8,14 +8,15 @@ use Rattle.sym_model.specs.GoodTableau.{reading_right_of, column_reading}
 use Rattle.sym_model.specs.TableauList.{column_cells, reading_cells, letter_of_cell, filling_of}
 use Rattle.sym_model.proofs.Sums.{Among-map, Among_from_map, Among-each, Among_from_each, Among-select, Among_from_select, Once-map, Once-select, Once-append, Once-each, length_within, among_reverse, Among-append_left}
 use Rattle.sym_model.proofs.AfterLists.{after_among, among_after, once_after, after-append}
-use Rattle.sym_model.proofs.Lists.{each-append, map-among}
+use Rattle.sym_model.proofs.Lists.{map-among}
 use Rattle.strip_laws.proofs.Strips.{falls_far}
 use Rattle.skew_shapes.specs.Rows.{reaches, cells_right_of, rows_by}
 use Rattle.skew_shapes.proofs.CellReadings.{each-cells, reading-rows_by}
 use Rattle.skew_shapes.proofs.CellRows.{cell_row, rows_by-ext}
 use Rattle.skew_shapes.proofs.KeptRows.{is_cell-tells}
+use Rattle.std.proofs.lemmas.Grind.{flat_map-append}
 
--- ---- the cells in reading order: each cell of outer/inner is among them, once, and nothing else is
+-- ---- the cells in reading order are the cells of outer/inner, each once
 
 pub Among-reversed : (x : ℕ) (xs : List ℕ) → Among x xs → Among x (reverse xs)
 Among-reversed x [] m = elim m [ ]
@@ -86,7 +87,7 @@ Once-reading outer inner =
     (λ x y p q e. ap (λ (c : ℕ × ℕ). c.0) e) (Once-select (reaches outer inner j) (after 0 (rows outer)) (once_after 0 (rows outer))))
     (λ x z c m n p q. sym (column_cell outer inner x c p).1 ∙ (column_cell outer inner z c q).1)
 
--- ---- the cells listed row by row
+-- ---- the list `cells`, row by row, has each cell of outer/inner once
 
 pub row_cell : (outer inner : List ℕ) (c : ℕ × ℕ) → Among c (cells outer inner) → IsCell outer inner c.0 c.1
 row_cell outer inner c m =
@@ -123,7 +124,7 @@ Once-cells outer inner =
         let inside = Among_from_map {B = ℕ × ℕ} (λ j. (i, j)) c (after (part inner i) (part outer i - part inner i)) m in
         ap (λ (d : ℕ × ℕ). d.0) inside.2
 
--- each cell of outer/inner is read once, so the length of the reading is the number of cells
+-- the list of the cells in reading order is as long as the list of the cells row by row
 pub length-reading : (outer inner : List ℕ) → Falls outer → length (reading_cells outer inner) ≡ length (cells outer inner)
 length-reading outer inner f =
     let less = length_within (cells outer inner) (reading_cells outer inner) (Once-reading outer inner)
@@ -132,7 +133,7 @@ length-reading outer inner f =
     (λ c m. Among-reading outer inner c.0 c.1 f (row_cell outer inner c m)) in
     omega (arith, less, more)
 
--- ---- the letters of a word in cells that are listed once
+-- ---- the letters of a word in the cells of a list without repeats
 
 other_cell : (c d : ℕ × ℕ) → (d ≡ c → ⊥) → ((c.0 == d.0) && (c.1 == d.1)) ≡ false
 other_cell c d n = elim (cases_eq c.0 d.0) [
@@ -145,7 +146,8 @@ other_cell c d n = elim (cases_eq c.0 d.0) [
 same_cell : (c : ℕ × ℕ) → ((c.0 == c.0) && (c.1 == c.1)) ≡ true
 same_cell c = ap₂ (λ a b. a && b) (eq-eqb c.0 c.0 refl) (eq-eqb c.1 c.1 refl)
 
--- if the letters of w are written into the listed cells, the letters of the first cells are the first letters of w
+-- let the cells of front ++ back be listed once each, and w have at least as many letters as `front` has cells: if the letters of w are written into
+-- these cells one after another, the letters in the cells of `front` are the first letters of w
 pub letters-front :
     (front back : List (ℕ × ℕ)) (w : List ℕ) → Once (front ++ back) → length front ≤ length w
     → map (λ (c : ℕ × ℕ). letter_of_cell c.0 c.1 (front ++ back) w) front ≡ take (length front) w
@@ -159,7 +161,7 @@ letters-front (c ∷ front) back (a ∷ w) o h =
     (other_cell c d (λ e. o.0 (subst (λ x. Among x (front ++ back)) e (Among-append_left d front back m)))))
     ∙ letters-front front back w o.1 (omega arith))
 
--- if the word has f(i, j) for each listed cell (i, j), the letter of the cell c is f of c
+-- if c is a listed cell, and the word has f(d) for each listed cell d in the order of the list, the letter of the cell c is f(c)
 pub letter-read : (f : ℕ → ℕ → ℕ) (cells : List (ℕ × ℕ)) (c : ℕ × ℕ) → Among c cells → letter_of_cell c.0 c.1 cells (map (λ (d : ℕ × ℕ). f d.0 d.1) cells) ≡ f c.0 c.1
 letter-read f [] c m = elim m [ ]
 letter-read f (d ∷ cells) c m = elim (cases_eq d.0 c.0) [
@@ -179,7 +181,7 @@ letter-read f (d ∷ cells) c m = elim (cases_eq d.0 c.0) [
     later n (inr k) r =
         ap (λ b. cond b (f d.0 d.1) (letter_of_cell c.0 c.1 cells (map (λ (d : ℕ × ℕ). f d.0 d.1) cells))) (other_cell d c n) ∙ r k
 
--- ---- the reading of some columns is a prefix of the word
+-- ---- the reading of the columns right of a given column is a prefix of the whole reading
 
 pub reading_split :
     (outer inner : List ℕ) (j : ℕ) → j ≤ columns outer
@@ -190,9 +192,10 @@ reading_split outer inner j h =
     ap (λ n. flat_map (column_cells outer inner) (reverse (after 0 n))) e
     ∙ ap (λ l. flat_map (column_cells outer inner) (reverse l)) (after-append 0 j (columns outer - j) ∙ ap (λ x. after 0 j ++ after x (columns outer - j)) f)
     ∙ ap (flat_map (column_cells outer inner)) (reverse-append (after 0 j) (after j (columns outer - j)))
-    ∙ each-append (column_cells outer inner) (reverse (after j (columns outer - j))) (reverse (after 0 j))
+    ∙ flat_map-append (column_cells outer inner) (reverse (after j (columns outer - j))) (reverse (after 0 j))
 
--- in the filling of a word, the reading of the columns right of column j is a prefix of the word
+-- in the filling of outer/inner with the reading w, the reading of the columns right of column j is the prefix of w whose length is the number of
+-- cells of these columns
 pub reading-prefix :
     (outer inner w : List ℕ) (j : ℕ) → j ≤ columns outer → length w ≡ length (reading_cells outer inner)
     → reading_right_of j outer inner (filling_of outer inner w) ≡ take (length (cells_right_of outer inner j)) w
@@ -217,7 +220,7 @@ reading-whole outer inner w l =
     ∙ letters-front cells [] w (subst (λ (cells : List (ℕ × ℕ)). Once cells) (sym all) (Once-reading outer inner)) few
     ∙ take_all (length cells) w (omega arith)
 
--- a filling is the filling of its column reading
+-- the filling of outer/inner that has f(row, column) in each cell is the filling of its own column reading
 pub filling_of-reading :
     (f : ℕ → ℕ → ℕ) (outer inner : List ℕ) → Falls outer
     → filling_of outer inner (column_reading outer inner (rows_by f outer inner)) ≡ rows_by f outer inner

@@ -1,4 +1,4 @@
--- The place of a cell in the column reading, with the cells before and after it.
+-- The index of a cell in the column reading, with the cells read before it and after it.
 use Rattle.std.proofs.Common.{◌≡◌, ℕ, zero, suc, ◌+◌, ◌-◌, ◌<◌, ◌≤◌, true, cond, leb, ltb, List, [], ◌∷◌, ◌++◌, map, length, get_or, reverse, ◌∙◌, ap, sym, refl, subst, inl, inr, arith, append_assoc, length-append, filter, flat_map}
 use Rattle.std.proofs.lemmas.Bool.{and_from, lt-ltb, le-leb}
 use Rattle.std.proofs.lemmas.List.{map-append, get_or_append_left}
@@ -7,15 +7,15 @@ use Rattle.sym_model.specs.Partition.{IsCell, Falls, part, rows, columns, after}
 use Rattle.sym_model.specs.TableauList.{column_cells, reading_cells}
 use Rattle.sym_model.proofs.Sums.{Among-append_left, Among-append_right, Among-each, Among-map, Among-select}
 use Rattle.sym_model.proofs.AfterLists.{among_after, after-append}
-use Rattle.sym_model.proofs.Lists.{select-append}
 use Rattle.skew_shapes.specs.Rows.{reaches, cells_right_of, cells_above}
 use Rattle.skew_shapes.proofs.CellReadings.{above-reached, right-more}
 use Rattle.skew_shapes.proofs.CellRows.{cell_row}
 use Rattle.tableau_iter.proofs.Orders.{Among-reversed, Once-reading, columns_far, reading_split}
 use Rattle.tableau_iter.proofs.Neighbours.{Among-get}
 use Rattle.std.proofs.Math.Seq.{get_or-append_seam}
+use Rattle.std.proofs.lemmas.List.Elements.{filter-append}
 
--- ---- the place of a cell in a list without repeats
+-- ---- the index of a cell in a list without repeats
 
 pub place_among : (c : ℕ × ℕ) (cells : List (ℕ × ℕ)) → Among c cells → (q : ℕ) × (q < length cells) × ((d : ℕ × ℕ) → get_or cells q d ≡ c)
 place_among c [] m = absurd m
@@ -47,13 +47,13 @@ place_behind front rest p c o h e =
     let longer : length front < length (front ++ c ∷ rest) = omega (arith, length-append front (c ∷ rest)) in
     sym (place_unique (front ++ c ∷ rest) (length front) p c o longer h (get_or-append_seam front c rest c) e)
 
--- ---- the cells read before and after a cell
+-- ---- the cells read before and after the cell (r + 1, j)
 
--- the cells that are read before the cells of column j below row r: those of the columns right of j, and those of column j in the rows 1 to r
+-- the cells of the columns right of column j, followed by those of column j in the rows 1 to r: these are read before (r + 1, j)
 abbrev pub front_of : List ℕ → List ℕ → ℕ → ℕ → List (ℕ × ℕ)
 front_of outer inner j r = cells_right_of outer inner j ++ cells_above outer inner j r
 
--- the cells of column j below row r
+-- the cells of column j in the rows after r
 abbrev pub cells_below : List ℕ → List ℕ → ℕ → ℕ → List (ℕ × ℕ)
 cells_below outer inner j r = map (λ row. (row, j)) (filter (reaches outer inner j) (after r (rows outer - r)))
 
@@ -71,7 +71,7 @@ column_split outer inner r j h =
     let test = reaches outer inner j in
     ap (λ n. map {B = ℕ × ℕ} (λ row. (row, j)) (filter (reaches outer inner j) (after 0 n))) all
     ∙ ap (λ l. map {B = ℕ × ℕ} (λ row. (row, j)) (filter (reaches outer inner j) l)) (after-append 0 r (length outer - r) ∙ ap (λ a. after 0 r ++ after a (length outer - r)) from)
-    ∙ ap (map {B = ℕ × ℕ} (λ row. (row, j))) (select-append test (after 0 r) (after r (length outer - r)))
+    ∙ ap (map {B = ℕ × ℕ} (λ row. (row, j))) (filter-append test (after 0 r) (after r (length outer - r)))
     ∙ map-append {B = ℕ × ℕ} (λ row. (row, j)) (filter test (after 0 r)) (filter test (after r (length outer - r)))
 
 pub below-cell :
@@ -83,7 +83,7 @@ below-cell outer inner r j c =
     ap (λ n. map {B = ℕ × ℕ} (λ row. (row, j)) (filter (reaches outer inner j) (after r n))) more
     ∙ ap (λ b. map {B = ℕ × ℕ} (λ row. (row, j)) (cond b ((r + 1) ∷ rest) rest)) (cell_reaches outer inner (r + 1) j c)
 
--- the cells of the columns from j on are the cells read before (r + 1, j), followed by those of column j below row r
+-- if (r + 1, j) is a cell, the cells right of column j - 1 are those read before (r + 1, j), followed by those of column j in the rows after r
 pub right-split :
     (outer inner : List ℕ) (r j : ℕ) → Falls outer → IsCell outer inner (r + 1) j
     → cells_right_of outer inner (j - 1) ≡ front_of outer inner j r ++ cells_below outer inner j r
@@ -132,7 +132,7 @@ earlier outer inner r j p q d f c h l e g m =
     (subst (λ (l : List (ℕ × ℕ)). q < length l) around l) (subst (λ (l : List (ℕ × ℕ)). get_or l q d ≡ d) around g) in
     omega (arith, here, there)
 
--- the cell above another one is read before it
+-- the cell (r + 1, j) has a smaller index q in the reading than the cell below it, (r + 2, j), at the index p
 pub above_before :
     (outer inner : List ℕ) (r j p q : ℕ) → Falls outer → IsCell outer inner (r + 1) j → IsCell outer inner (r + 1 + 1) j
     → p < length (reading_cells outer inner) → q < length (reading_cells outer inner)
@@ -143,7 +143,7 @@ above_before outer inner r j p q f above c h l g e =
     (subst (λ (l : List (ℕ × ℕ)). Among (r + 1, j) l) (sym (above-reached outer inner j r (cell_reaches outer inner (r + 1) j above)))
     (Among-append_right (r + 1, j) (cells_above outer inner j r) ((r + 1, j) ∷ []) (inl refl))))
 
--- the cell on the right of another one is read before it
+-- the cell (r + 1, j + 1) has a smaller index q in the reading than the cell on its left, (r + 1, j), at the index p
 pub right_before :
     (outer inner : List ℕ) (r j p q : ℕ) → Falls outer → IsCell outer inner (r + 1) j → IsCell outer inner (r + 1) (j + 1)
     → p < length (reading_cells outer inner) → q < length (reading_cells outer inner)

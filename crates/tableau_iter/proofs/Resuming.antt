@@ -1,4 +1,5 @@
--- The words after a given word in the list of the words that pass a test.
+-- The words after a given word w in the list of the words that pass a test: `later` gives the same words as the part of the list after w
+-- (`later_than`).
 use Rattle.std.proofs.Common.{◌≡◌, ◌⊎◌, ℕ, zero, suc, ◌+◌, ◌-◌, ◌<◌, ◌≤◌, Bool, true, false, ◌&&◌, cond, List, [], ◌∷◌, ◌++◌, map, length, ◌∙◌, ap, ap₂, sym, refl, inl, inr, arith, append_assoc}
 use Rattle.std.proofs.lemmas.Bool.{eq-eqb, ne_eqb, false_from_ne_true}
 use Rattle.sym_model.specs.Sum.{Among}
@@ -15,7 +16,7 @@ use Rattle.tableau_iter.proofs.Walking.{completions-first, continued-next}
 use Rattle.sym_model.specs.Bounded.{AreLetters}
 use Rattle.sym_model.proofs.Tableaux.{word_tells}
 
--- ---- whether a word is in a list
+-- ---- whether a word is in the list of the words that pass a test
 
 pub not_among-completions :
     (test : List ℕ → Bool) (k n : ℕ) (w : List ℕ) → ((length w ≡ n) × AreLetters k w → ⊥) → is_among w (completions test k n []) ≡ false
@@ -23,7 +24,7 @@ not_among-completions test k n w h =
     false_from_ne_true (is_among w (completions test k n []))
     (λ e. h (word_tells k n w (Among_from_select (λ v. test ([] ++ v)) w (words k n) (is_among-tells w (completions test k n []) e)).0))
 
--- ---- the words after a given word in a list
+-- ---- the part of a list after a given word (`later_than`)
 
 later_than-append : (w : List ℕ) (xs ys : List (List ℕ)) → Among w xs → later_than w (xs ++ ys) ≡ later_than w xs ++ ys
 later_than-append w [] ys m = absurd m
@@ -77,7 +78,7 @@ later_than-continued test k n front a (suc gap) b v e h m =
     ∙ later_than-other (a + 1) b v (completions test k n (front ++ (a + 1) ∷ [])) (continued test k n front (a + 1)) apart
     ∙ later_than-continued test k n front (a + 1) gap b v (omega arith) h m
 
--- if w is among the words that complete the prefix `front`, those after w in the list are those that `later` gives
+-- if w is in the list of the words that complete the prefix `front`, the part of the list after w is `later test k front w`
 pub later_than-completions :
     (test : List ℕ → Bool) (k n : ℕ) (front w : List ℕ) → Among w (completions test k n front)
     → later_than w (completions test k n front) ≡ later test k front w

@@ -1,4 +1,4 @@
--- Rows with the lengths of the rows of a skew shape.
+-- The test of whether rows have the lengths of the rows of outer/inner.
 use Rattle.std.proofs.Common.{◌≡◌, ℕ, zero, suc, ◌+◌, ◌-◌, ◌<◌, true, false, List, [], ◌∷◌, map, length, get_or, refl, sym, ap, ap₂, subst, ◌∙◌, arith, inl, inr}
 use Rattle.std.proofs.lemmas.Bool.{cases_eq, false_from_ne_true}
 use Rattle.std.proofs.lemmas.List.{length-map}
@@ -16,34 +16,35 @@ pub rows_count : {A : Type 0} (f : A → List ℕ) (outer inner : List ℕ) (xs 
 rows_count f outer inner xs l =
     sym (length-map xs f) ∙ sym (length-map (map f xs) length) ∙ ap length l ∙ length-row_lengths outer inner
 
--- if rows have the lengths of outer/inner, the letters of the cells in reading order are the column reading
+-- if the rows have the lengths of the rows of outer/inner, the letters of the cells in reading order are the column reading of the rows
 pub reading_in : (outer inner : List ℕ) (rows : List (List ℕ)) → map length rows ≡ row_lengths outer inner
     → map (λ (c : ℕ × ℕ). letter_in_rows inner rows c.0 c.1) (reading_cells outer inner) ≡ column_reading outer inner rows
 reading_in outer inner rows l =
     sym (reading-rows_by (letter_in_rows inner rows) outer inner) ∙ ap (column_reading outer inner) (sym (rows-by_cells outer inner rows l))
 
--- two lists of one length with the same number at each place are equal
+-- two lists of the same length with the same number at each index are equal
 alike : (xs ys : List ℕ) → length xs ≡ length ys → ((i : ℕ) → i < length ys → get_or xs i 0 ≡ get_or ys i 0) → xs ≡ ys
 alike [] [] l h = refl
 alike [] (y ∷ ys) l h = absurd (omega (arith, l))
 alike (x ∷ xs) [] l h = absurd (omega (arith, l))
 alike (x ∷ xs) (y ∷ ys) l h = ap₂ ◌∷◌ (h 0 (omega arith)) (alike xs ys (omega (arith, l)) (λ i m. h (suc i) (omega (arith, m))))
 
--- if the number of rows is not that of the parts of outer, the lengths of the rows are not those of outer/inner
+-- if the number of rows is not the number of parts of outer, the rows do not have the lengths of the rows of outer/inner
 pub other_count : {A : Type 0} (f : A → List ℕ) (outer inner : List ℕ) (xs : List A) → (length xs ≡ length outer → ⊥)
     → false ≡ same (map length (map f xs)) (row_lengths outer inner)
 other_count f outer inner xs n =
     sym (false_from_ne_true (same (map length (map f xs)) (row_lengths outer inner))
     (λ e. n (rows_count f outer inner xs (same_true (map length (map f xs)) (row_lengths outer inner) e))))
 
--- if one row does not have the length of its row of outer/inner, the lengths of the rows are not those of outer/inner
+-- if the length of row i is not that of row i of outer/inner, the rows do not have the lengths of the rows of outer/inner
 pub other_length : {A : Type 0} (f : A → List ℕ) (outer inner : List ℕ) (xs : List A) (i : ℕ)
     → (get_or (map length (map f xs)) i 0 ≡ get_or outer i 0 - get_or inner i 0 → ⊥) → false ≡ same (map length (map f xs)) (row_lengths outer inner)
 other_length f outer inner xs i n =
     sym (false_from_ne_true (same (map length (map f xs)) (row_lengths outer inner))
     (λ e. n (ap (λ ls. get_or ls i 0) (same_true (map length (map f xs)) (row_lengths outer inner) e) ∙ get_or-row_lengths outer inner i)))
 
--- if the number of rows is that of the parts of outer, and each has the length of its row of outer/inner, `row_lengths` lists the lengths
+-- if the number of rows is the number of parts of outer, and each row i has the length of row i of outer/inner, the list of the lengths is
+-- `row_lengths outer inner`
 pub all_lengths : {A : Type 0} (f : A → List ℕ) (outer inner : List ℕ) (xs : List A) → length xs ≡ length outer
     → ((i : ℕ) → i < length outer → get_or (map length (map f xs)) i 0 ≡ get_or outer i 0 - get_or inner i 0)
     → true ≡ same (map length (map f xs)) (row_lengths outer inner)
@@ -58,7 +59,7 @@ length_at f [] i x h e = absurd (omega (arith, h))
 length_at f (y ∷ xs) zero x h e = ap (λ z. length (f z)) (sym e)
 length_at f (y ∷ xs) (suc i) x h e = length_at f xs i x (omega (arith, h)) e
 
--- if the first n rows have the lengths of those of outer/inner, and row n, counted from 0, has its length, so have the first n + 1
+-- if each of the rows 0, .., n has the length of that row of outer/inner, then so has row i for i < n + 1
 pub one_more : (lengths outer inner : List ℕ) (n i : ℕ) → ((j : ℕ) → j < n → get_or lengths j 0 ≡ get_or outer j 0 - get_or inner j 0)
     → get_or lengths n 0 ≡ get_or outer n 0 - get_or inner n 0 → i < n + 1 → get_or lengths i 0 ≡ get_or outer i 0 - get_or inner i 0
 one_more lengths outer inner n i h e m = elim (cases_eq i n) [

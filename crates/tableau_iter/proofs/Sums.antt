@@ -1,4 +1,4 @@
--- Start plus the content of the prefixes of a word.
+-- The sum of `start` and the content of a prefix of a word, and a test of good tableaux by the prefixes that end with a column.
 use Rattle.std.proofs.Common.{◌≡◌, ℕ, zero, suc, ◌+◌, ◌-◌, ◌<◌, ◌≤◌, Bool, ◌&&◌, List, [], ◌∷◌, map, length, get_or, reverse, ◌∙◌, ap, ap₂, sym, refl, arith, length-append, take, flat_map}
 use Rattle.sym_model.specs.Partition.{columns, rows, after}
 use Rattle.sym_model.specs.Polynomial.{join}
@@ -10,7 +10,7 @@ use Rattle.skew_shapes.proofs.CellRows.{map_after-ext}
 use Rattle.tableau_iter.proofs.GoodWords.{list_by}
 use Rattle.tableau_iter.proofs.Orders.{reading_split, reading-prefix}
 
--- ---- start plus a content, place by place
+-- ---- the entries of start plus the content of a word
 
 pub join_after :
     (start : List ℕ) (g : ℕ → ℕ) (a k : ℕ) → length start ≤ k
@@ -35,14 +35,14 @@ sums-join sums start word k l h e =
     e i m ∙ ap₂ (λ n j. get_or start n 0 + times_in j word) place letter)
     ∙ sym (join_after start (λ j. times_in j word) 0 k h)
 
--- ---- places where columns end
+-- ---- the lengths of the prefixes that end with a column
 
 -- no number of the list is greater than n
 abbrev pub AreWithinLength : List ℕ → ℕ → Type 0
 AreWithinLength [] n = Unit {0}
 AreWithinLength (a ∷ numbers) n = (a ≤ n) × AreWithinLength numbers n
 
--- whether start plus the content of the first `end` letters is weakly decreasing
+-- whether start plus the content of the first `end` letters of w is weakly decreasing
 abbrev pub falls_at : ℕ → List ℕ → List ℕ → ℕ → Bool
 falls_at k start word end = is_falling (join start (content k (take end word)))
 
@@ -62,7 +62,7 @@ ends-within outer inner word l =
     omega (arith, l, ap (λ (cells : List (ℕ × ℕ)). length cells) split, length-append (cells_right_of outer inner j) rest) in
     (below 0 (omega arith), within_map g 0 (columns outer) (length word) below)
 
--- ---- the prefixes of a word that end with a column
+-- ---- a filling is good if and only if start plus content is weakly decreasing for each prefix that ends with a column
 
 every-after : (f g : ℕ → Bool) (a k : ℕ) → ((j : ℕ) → j ≤ a + k → f j ≡ g j) → every f (after a k) ≡ every g (after a k)
 every-after f g a zero h = refl

@@ -1,4 +1,5 @@
--- The words that are the column readings of tableaux, by the letter at each place.
+-- A word is the column reading of a tableau if and only if each of its letters is greater than the letter above, at most the letter on its right, and
+-- small enough for the cells below to get letters too (`Stands`).
 use Rattle.std.proofs.Common.{◌≡◌, ℕ, zero, suc, ◌+◌, ◌-◌, ◌<◌, ◌≤◌, min, Bool, true, false, ◌&&◌, ◌==◌, cond, nat_lt, List, [], ◌∷◌, map, length, drop, get_or, ◌∙◌, ap, ap₂, sym, refl, subst, inl, inr, arith}
 use Rattle.std.proofs.Math.Dec.{eqb-suc-zero}
 use Rattle.std.proofs.lemmas.Bool.{cases_lt, le-leb, lt-ltb, ltb-true}
@@ -32,7 +33,7 @@ pub lines-length : (outer inner lines ranks : List ℕ) → AreCells outer inner
 lines-length outer inner lines ranks c =
     ap length c.lines_are ∙ length-map {A = ℕ × ℕ} {B = ℕ} (reading_cells outer inner) (λ (c : ℕ × ℕ). c.0)
 
--- ---- the letter at each place of the reading of a tableau is within its bounds
+-- ---- if w is the reading of a tableau, each letter is greater than `floor_at` and at most `ceiling_at`
 
 floors :
     (k : ℕ) (outer inner w lines ranks : List ℕ) (near : Neighbours) (p : ℕ) → Falls inner → length w ≡ length (reading_cells outer inner)
@@ -89,7 +90,8 @@ rights k outer inner w lines ranks near p l cells n good h most =
         ] in
         subst (λ b. get_or w p 0 ≤ cond b (get_or near.most p 0) (min (get_or near.most p 0) (get_or w (suc q - 1) 0))) (sym (eqb-suc-zero q)) (omega (arith, less, most))
 
--- the letter d cells below a letter of a tableau is greater than it by at least d
+-- if each letter is greater than its `floor_at`, and each of the `count` cells read directly after that at p is below the one before it, then for d ≤
+-- count the letter d cells below p is at least the letter at p plus d
 chain :
     (above w : List ℕ) (p count d : ℕ) → ((q : ℕ) → q < length w → floor_at above w q < get_or w q 0)
     → ((d : ℕ) → d < count → (p + d + 1 < length above) × (get_or above (p + d + 1) 0 ≡ p + d + 1)) → length above ≡ length w → d ≤ count
@@ -126,7 +128,7 @@ mosts k w lines ranks near p n l within f h =
         let all = chain near.above w p (suc count) (suc count) f run (omega arith) (omega arith) in
         omega (arith, value, all, (within-at k w (p + suc count) within inside).1)
 
--- the letter at place p is greater than the one above, and at most the one on its right and the greatest letter for the place
+-- the letter of w at the index p is greater than the letter above it, at most the letter on its right, and at most the entry of `near.most` at p
 abbrev pub Stands : Neighbours → List ℕ → ℕ → Type 0
 Stands near w p = (floor_at near.above w p < get_or w p 0) × (get_or w p 0 ≤ ceiling_at near.right near.most w p)
 
@@ -140,7 +142,7 @@ stands-tableau k outer inner w lines ranks near p falls l cells n within good h 
     λ q m. floors k outer inner w lines ranks near q falls l cells n within good m in
     (f p h, rights k outer inner w lines ranks near p l cells n good h (mosts k w lines ranks near p n (omega arith) within f h))
 
--- ---- words whose letters fit at each place are readings of tableaux
+-- ---- words in which each letter is within its bounds (`Stands`): they are readings of tableaux
 
 letters-from : (g : ℕ → ℕ) (a m : ℕ) → ((j : ℕ) → a < j → j ≤ a + m → 1 ≤ g j) → are_letters (map g (after a m)) ≡ true
 letters-from g a zero h = refl
@@ -242,7 +244,7 @@ rise-tableau f outer inner rise falls =
     let before : i ≡ i - 1 + 1 = omega arith in
     ap (row_passes inner T) before ∙ passes-row f outer inner (i - 1) rise falls (omega arith))
 
--- if the cell at q in the order of reading is (i, j), `lines` has i and `ranks` has j at q
+-- if the cell at the index q of the reading is (i, j), `lines` has i and `ranks` has j at q
 line-of :
     (outer inner lines ranks : List ℕ) (q i j : ℕ) → AreCells outer inner lines ranks → q < length (reading_cells outer inner)
     → get_or (reading_cells outer inner) q (i, j) ≡ (i, j) → (get_or lines q 0 ≡ i) × (get_or ranks q 0 ≡ j)

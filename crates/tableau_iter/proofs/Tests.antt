@@ -1,4 +1,5 @@
--- The tests of the rows of a tableau.
+-- The test of `lattice_reading`: rows are a lattice tableau if and only if they have the lengths of the rows of the shape, and their column reading
+-- is among the lattice readings.
 use Rattle.std.proofs.Common.{◌≡◌, ℕ, Bool, true, false, ◌&&◌, List, map, length, sym, ap, ap₂, ◌∙◌}
 use Rattle.std.proofs.lemmas.List.{length-map}
 use Rattle.std.proofs.lemmas.Bool.{false_from_ne_true}

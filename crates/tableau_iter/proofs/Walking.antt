@@ -1,4 +1,4 @@
--- The words that pass a test, one after the other.
+-- The words that continue a prefix and pass a test, by their first letter.
 use Rattle.std.proofs.Common.{◌≡◌, ℕ, zero, suc, ◌+◌, ◌-◌, ◌<◌, ◌≤◌, Bool, true, false, ◌&&◌, cond, List, [], ◌∷◌, ◌++◌, map, length, ◌∙◌, ap, ap₂, sym, refl, arith, append_assoc, append-nil, filter, flat_map}
 use Rattle.sym_model.specs.Partition.{after}
 use Rattle.sym_model.specs.Schur.{words}
@@ -16,7 +16,7 @@ select-select f g (x ∷ xs) = by (f x) (select-select f g xs)
     by true e = ap (λ l. cond (g x) (x ∷ l) l) e
     by false e = e
 
--- the words of n + 1 letters that, after the prefix, pass the test are those with a first letter greater than 0
+-- the words of n + 1 letters that complete the prefix `front` are those with a first letter greater than 0
 pub completions-first :
     (test : List ℕ → Bool) (k n : ℕ) (front : List ℕ) → completions test k (suc n) front ≡ continued test k n front 0
 completions-first test k n front =
@@ -31,7 +31,8 @@ completions-first test k n front =
     (λ w. ap test (sym (append_assoc front (a ∷ []) w)))))
     ∙ ap (λ m. flat_map (λ b. map (λ w. b ∷ w) (completions test k n (front ++ b ∷ []))) (after 0 m)) all
 
--- for a < k, the words with a first letter greater than a are those with a + 1, followed by those with a greater one
+-- for a < k, the words that continue `front` with a first letter greater than a are those with the first letter a + 1, followed by those with a
+-- greater one
 pub continued-next :
     (test : List ℕ → Bool) (k n : ℕ) (front : List ℕ) (a : ℕ) → a < k
     → continued test k n front a
@@ -45,7 +46,8 @@ continued-none test k n front a h =
     let count : k - a ≡ 0 = omega arith in
     ap (λ m. flat_map (λ b. map (λ w. b ∷ w) (completions test k n (front ++ b ∷ []))) (after a m)) count
 
--- if w is the first word after the prefix and a + 1, the words with a first letter greater than a begin with a + 1 followed by w
+-- if w is the first word that completes `front` followed by a + 1, the words that continue `front` with a first letter greater than a are (a + 1) ∷ w
+-- and the words after it (`later`)
 pub continued-found :
     (test : List ℕ → Bool) (k n : ℕ) (front w : List ℕ) (a : ℕ) → a < k → length w ≡ n
     → completions test k n (front ++ (a + 1) ∷ []) ≡ w ∷ later test k (front ++ (a + 1) ∷ []) w
@@ -56,7 +58,8 @@ continued-found test k n front w a h l e =
     ∙ ap (λ xs. map (λ w. (a + 1) ∷ w) xs ++ continued test k n front (a + 1)) e
     ∙ ap (λ m. ((a + 1) ∷ w) ∷ (map (λ w. (a + 1) ∷ w) (later test k (front ++ (a + 1) ∷ []) w) ++ continued test k m front (a + 1))) (sym l)
 
--- if no word continues the prefix and a + 1, the words with a first letter greater than a are those with one greater than a + 1
+-- if no word completes `front` followed by a + 1, the words that continue `front` with a first letter greater than a are those with a first letter
+-- greater than a + 1
 pub continued-passed :
     (test : List ℕ → Bool) (k n : ℕ) (front : List ℕ) (a : ℕ) → a < k → completions test k n (front ++ (a + 1) ∷ []) ≡ []
     → continued test k n front a ≡ continued test k n front (a + 1)
@@ -82,12 +85,12 @@ pub later-none : (test : List ℕ → Bool) (k : ℕ) (front : List ℕ) → lat
 unfolding later
 later-none test k front = refl
 
--- the empty word is the only one of no letters, so it is the only completion of a prefix that passes the test
+-- if `front` passes the test, the only word of 0 letters that completes it is the empty one
 pub completions-end :
     (test : List ℕ → Bool) (k : ℕ) (front : List ℕ) → test front ≡ true → completions test k 0 front ≡ [] ∷ []
 completions-end test k front e = ap (λ b. cond b ([] ∷ []) []) (ap test (append-nil front) ∙ e)
 
--- ---- words with a letter that does not fit
+-- ---- words with a letter that does not fit after the letters before it
 
 pub all_fit-append :
     (fits : List ℕ → ℕ → Bool) (front v w : List ℕ) → all_fit fits front (v ++ w) ≡ (all_fit fits front v && all_fit fits (front ++ v) w)

@@ -1,7 +1,7 @@
--- The next letter that passes a test.
+-- The least letter in a range that passes a test.
 use Rattle.std.specs.Prelude.{◌≡◌, ℕ, ◌<◌, ◌≤◌, Bool, true, false}
 
--- the letter is the least one greater than `from` and at most `to` that passes the test
+-- `letter` is the least letter greater than `from` and at most `to` that passes the test
 pub record IsNextLetter (test : ℕ → Bool) (from to letter : ℕ) : Type 0 where
   pub greater : from < letter
   pub within : letter ≤ to

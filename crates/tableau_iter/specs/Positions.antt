@@ -1,5 +1,4 @@
--- A word in the cells of a skew shape that is changed letter by letter,
--- and the letters that fit in it.
+-- A word in the cells of a skew shape, written letter by letter in the order of the column reading, and the letters that fit in it.
 use Rattle.std.specs.Prelude.{◌≡◌, ℕ, ◌+◌, ◌<◌, ◌≤◌, Bool, true, slice_index, List, [], ◌∷◌, length}
 use Rattle.std.specs.Prelude.{take, drop}
 use Rattle.sym_model.specs.Partition.{rows, size}
@@ -11,8 +10,8 @@ use Rattle.tableau_iter.specs.declared.rule.Rule.{Rule}
 use Rattle.tableau_iter.specs.Fits.{Neighbours, AreCells, AreNear, all_fit, fits_by}
 use Rattle.tableau_iter.specs.Walks.{later}
 
--- the data that decide which letters fit after a prefix: the rule and its numbers, the start, the number of letters,
--- and the neighbours
+-- the data that decide which letters fit after a prefix: the rule, the greatest number of occurrences of each letter (for the rule `Limited`), the
+-- start partition, the greatest letter, and the neighbours of the cells
 pub record Setting : Type 0 where
   pub rule : Rule
   pub counts : List ℕ
@@ -23,35 +22,37 @@ pub record Setting : Type 0 where
 abbrev pub fits_in : Setting → List ℕ → ℕ → Bool
 fits_in s = fits_by s.rule s.counts s.start s.letters s.near
 
--- a word in a setting, and start plus the content of a prefix of it
+-- the setting and the word of a board, and its sums: start plus the content of the prefix written so far
 pub record Position : Type 0 where
   pub setting : Setting
   pub word : List ℕ
   pub sums : List ℕ
 
--- whether all letters of w fit in the setting of the position
+-- whether each letter of w fits, in the setting of p, after the letters before it
 abbrev pub passes : Position → List ℕ → Bool
 passes p w = all_fit (fits_in p.setting) [] w
 
--- the letters before the place fit, and the sums are start plus their content
+-- the letters of the word of p before the index `place` all fit, and the sums of p are start plus the content of these letters
 pub record IsReady (place : ℕ) (p : Position) : Type 0 where
   pub fits : passes p (take place p.word) ≡ true
   pub sums : p.sums ≡ join p.setting.start (content p.setting.letters (take place p.word))
 
--- two positions have the same setting, words of the same length, and the same letters before the place
+-- `old` and `new` have the same setting, words of the same length, and the same letters before the index `place`
 pub record IsSameUpTo (place : ℕ) (old new : Position) : Type 0 where
   pub setting : new.setting ≡ old.setting
   pub length : length new.word ≡ length old.word
   pub front : take place new.word ≡ take place old.word
 
--- the list is the rest of the word from the place on, and then the later words with the same letters before the place
+-- the first element of the list is the suffix w of the word of p from the index `place` on. The others are the words v of the same length and after
+-- w, in lexicographic order, such that in the word of p with v in place of w each letter fits.
 abbrev pub Begins : ℕ → Position → List (List ℕ) → Type 0
 Begins place p list =
     list ≡ drop place p.word ∷ later (passes p) p.setting.letters (take place p.word)
     (drop place p.word)
 
--- `above`, `right` and `most` of `near` have an entry for each letter of the word, each neighbour is at an earlier
--- place, and the numbers are within the limits
+-- `above`, `right` and `most` of `near` have an entry for each letter of the word, and each neighbour above or on the right is at an earlier index.
+-- The list `sums` has at most 4096 entries and at least one for each row of `start`. No entry of `most` exceeds the length of `sums`, and |start|
+-- plus the length of the word is at most 4096.
 pub record IsBoard (near : Neighbours) (start sums word : List ℕ) : Type 0 where
   pub above : length near.above ≡ length word
   pub right : length near.right ≡ length word
@@ -74,15 +75,14 @@ abbrev pub position_of : Rule → List ℕ → List ℕ → Neighbours → List 
 position_of rule counts start near sums word =
     record { setting = setting_of rule counts start (length sums) near; word = word; sums = sums }
 
--- `near` has the neighbours of the cells of outer/inner, for k letters
+-- `near` has the neighbours and the greatest letters of the cells of outer/inner, for letters from 1 to k
 pub record IsNearIn (k : ℕ) (outer inner : List ℕ) (near : Neighbours) : Type 0 where
   pub lines : List ℕ
   pub ranks : List ℕ
   pub cells : AreCells outer inner lines ranks
   pub near_cells : AreNear k lines ranks near
 
--- the position is that of a lister of tableaux of outer/inner with letters from 1 to k, before the first letter of
--- its word is found
+-- p is the position of a new lister of tableaux of outer/inner with letters from 1 to k, by the given rule and start, before any letter is written
 pub record IsNewBoard (rule : Rule) (counts start : List ℕ) (k : ℕ) (outer inner : List ℕ)
     (p : Position) : Type 0 where
   pub shape : IsSkew outer inner

@@ -1,4 +1,5 @@
-//! A word in the cells of a skew shape.
+//! A word written letter by letter into the cells of a skew shape, in the order of the column
+//! reading.
 ghost use Rattle.std.specs.Prelude.{◌≡◌, ℕ, ◌+◌, ◌-◌, ◌<◌, ◌≤◌, false, true, [], ◌∷◌, ◌++◌, length};
 ghost use Rattle.std.specs.Prelude.{take, slice_index, IfOk, MatchOption};
 ghost use Rattle.sym_model.specs.Partition.{cells, rows, size};
@@ -16,9 +17,9 @@ use skew_shapes::Skew;
 use std::alloc::{AllocError, Global};
 use std::marker::Model;
 
-/// For each place of the column reading, one more than the place of the cell above and of the cell
-/// on the right, 0 if there is none; and the greatest letter that leaves greater letters for all
-/// cells below it in its column.
+/// For each index of the column reading: in `above` and `right`, one more than the index of the
+/// cell above and of the cell on the right, or 0 if there is no such cell; in `most`, the greatest
+/// letter that still leaves greater letters for all cells below in the same column.
 #[derive(Drop)]
 struct Near {
     above: Vec<u16>,
@@ -26,8 +27,9 @@ struct Near {
     most: Vec<u16>,
 }
 
-/// A word with a letter for each cell of a skew shape, in the order of the column reading, which is
-/// changed letter by letter; and the sums: start plus the content of a prefix of the word.
+/// A word with a letter for each cell of a skew shape, in the order of the column reading. The word
+/// is changed letter by letter. Each letter of the prefix written so far fits (`admits`), and
+/// `sums` is start plus the content of this prefix.
 #[derive(Drop)]
 pub(crate) struct Board {
     rule: Rule,
@@ -52,7 +54,8 @@ impl Model for Board {
 }
 
 impl Board {
-    /// A board for the shape whose word has no letter yet, only zeros.
+    /// A board for `shape`, with no letter written yet: its word has only zeros, and its sums are
+    /// the parts of `start`.
     pub(crate) fn new(
         alloc: Global,
         shape: &Skew,
@@ -83,7 +86,7 @@ impl Board {
         })
     }
 
-    /// The number of letters of the word.
+    /// The number of letters of the word, one for each cell of the shape.
     pub(crate) fn len(&self) -> usize
         ensures value { result ≡ length self.now.word }
         ensures few { length self.now.word ≤ 4096 }
@@ -91,21 +94,23 @@ impl Board {
         self.word.len()
     }
 
-    /// The word in the cells, of which a prefix has been written.
+    /// The word of the board: the prefix written so far, and after it zeros or letters of earlier
+    /// words.
     pub(crate) fn word(&self) -> &[u16]
         ensures { result.now ≡ self.now.word }
     {
         &self.word
     }
 
-    /// Start plus the content of a prefix of the word.
+    /// The start plus the content of the prefix written so far: a number for each letter from 1 on.
     pub(crate) fn sums(&self) -> &[u16]
         ensures { result.now ≡ self.now.sums }
     {
         &self.sums
     }
 
-    /// The least letter greater than `tried` that fits at a place.
+    /// The least letter greater than `tried` that fits (`admits`) at the index `place`, after the
+    /// letters before it; None if there is no such letter.
     pub(crate) fn next_letter(&self, place: usize, tried: u16) -> Option<u16>
         requires place { place < length self.now.word }
         requires ready { IsReady place self.now }
@@ -120,8 +125,8 @@ impl Board {
         next_allowed(self.rule, &self.counts, &self.sums, tried.max(least), most)
     }
 
-    /// Whether a letter fits at a place: it is greater than the letter above, at most the letter on
-    /// the right, and leaves greater letters for the cells below, and the rule allows it.
+    /// Whether `letter` fits at the index `place`: it is greater than the letter above, at most the
+    /// letter on the right, and leaves greater letters for the cells below, and the rule allows it.
     pub(crate) fn admits(&self, place: usize, letter: u16) -> bool
         requires place { place < length self.now.word }
         requires ready { IsReady place self.now }
@@ -135,7 +140,8 @@ impl Board {
         allows(self.rule, &self.counts, &self.sums, letter)
     }
 
-    /// Writes a letter that fits at a place.
+    /// Writes `letter` at the index `place`, at which it must fit (`admits`), and adds 1 to the
+    /// number for this letter in the sums.
     pub(crate) fn put(&mut self, place: usize, letter: u16)
         requires place { place < length self.old.word }
         requires ready { IsReady place self.old }
@@ -148,7 +154,8 @@ impl Board {
         self.sums[usize::from(letter) - 1] += 1;
     }
 
-    /// Removes the letter at a place, and returns it.
+    /// Returns the letter at the index `place`, which must be the last one written, and subtracts 1
+    /// from the number for this letter in the sums.
     pub(crate) fn take_off(&mut self, place: usize) -> u16
         requires place { place < length self.old.word }
         requires ready { IsReady (place + 1) self.old }
@@ -162,7 +169,7 @@ impl Board {
     }
 }
 
-/// The neighbours of the cells of a shape, for the letters 1 to `letters`.
+/// The neighbours (`Near`) of the cells of `shape`, for tableaux with letters from 1 to `letters`.
 fn near_cells(alloc: Global, shape: &Skew, letters: u16) -> Result<Near, AllocError>
     ensures { IfOk result (λ n. IsNearIn letters shape.now.0 shape.now.1
         (near_of n.above.items n.right.items n.most.items)) }
@@ -175,7 +182,7 @@ fn near_cells(alloc: Global, shape: &Skew, letters: u16) -> Result<Near, AllocEr
     Ok(Near { above, right, most })
 }
 
-/// The parts of the start, with zeros appended so that there is one number for each letter.
+/// The parts of `start`, followed by zeros: `letters` numbers in all.
 fn start_sums(alloc: Global, start: &[u16], letters: u16) -> Result<Vec<u16>, AllocError>
     requires { rows start.now ≤ letters }
     ensures { IfOk result (λ sums. sums.items ≡ join start.now (content letters [])) }

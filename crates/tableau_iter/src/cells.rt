@@ -1,4 +1,5 @@
-//! Rows and columns of the cells of a skew shape.
+//! The row numbers and the column numbers of the cells of a skew shape, in the order of the column
+//! reading.
 ghost use Rattle.std.specs.Prelude.{◌≡◌, ℕ, ◌+◌, ◌<◌, ◌≤◌, ◌++◌, cond, map, length, IfOk, OnOk};
 ghost use Rattle.sym_model.specs.TableauList.{column_cells, reading_cells};
 ghost use Rattle.skew_shapes.specs.Rows.{reaches};
@@ -6,7 +7,8 @@ ghost use Rattle.skew_shapes.specs.Rows.{reaches};
 use skew_shapes::Skew;
 use std::alloc::{AllocError, Global};
 
-/// The row of each cell, or its column, in the order of the column reading.
+/// For each cell in the order of the column reading, the number of its row if `of_row` is true, and
+/// otherwise the number of its column.
 pub(crate) fn cell_numbers(
     alloc: Global,
     shape: &Skew,
@@ -74,7 +76,8 @@ fn chosen(is_first: bool, first: u16, second: u16) -> u16
     if is_first { first } else { second }
 }
 
-/// Whether the row at this place, counted from 0, has a cell in the column.
+/// Whether outer/inner has a cell in column `column` of row `row`, with rows counted from 0 and
+/// columns from 1.
 fn has_cell(outer: &[u16], inner: &[u16], row: usize, column: u16) -> bool
     requires { row < length outer.now }
     ensures { result ≡ reaches outer.now inner.now column (row + 1) }

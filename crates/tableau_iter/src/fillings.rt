@@ -1,4 +1,4 @@
-//! Semistandard tableaux, one at a time.
+//! A lister of the semistandard tableaux of a skew shape.
 ghost use Rattle.std.specs.Prelude.{◌≡◌, ℕ, ◌+◌, ◌*◌, ◌≤◌, length, IfOk, None};
 ghost use Rattle.sym_model.specs.Partition.{size};
 ghost use Rattle.sym_model.specs.TableauList.{readings_with_content, tableau_readings};
@@ -12,9 +12,9 @@ use skew_shapes::Skew;
 use std::alloc::Global;
 use std::marker::Model;
 
-/// The semistandard tableaux of a skew shape, all or those of one content, by their column readings
-/// in increasing lexicographic order, each once: a `Lister` that works in place. Rows are weakly
-/// increasing, columns strictly (Fulton).
+/// A lister (trait `Lister`) of the semistandard tableaux (Fulton) of a skew shape: all those with
+/// entries from 1 to n, or those of one content. It gives their column readings in increasing
+/// lexicographic order, each once; each is written over the one before it.
 #[derive(Drop)]
 pub struct Fillings {
     walker: Walker,
@@ -29,8 +29,8 @@ impl Model for Fillings {
 }
 
 impl Fillings {
-    /// The semistandard tableaux of `shape` with entries from 1 to `n`, none of them current. `n`
-    /// is at most 4,096. Fails only if memory runs out.
+    /// A lister of the semistandard tableaux of `shape` with entries from 1 to `n`. It is before
+    /// the first of them. `n` must be at most 4,096. Fails only if memory runs out.
     pub fn all(alloc: Global, shape: &Skew, n: u16) -> Result<Fillings, NoMemory>
         requires { n ≤ 4096 }
         ensures rest { IfOk result (λ f. ⟦<Fillings as Lister>⟧.rest f
@@ -43,9 +43,9 @@ impl Fillings {
         })
     }
 
-    /// The semistandard tableaux of `shape` in which each entry i from 1 on occurs `content[i - 1]`
-    /// times, none of them current; `content` has at most 4,096 numbers. Fails only if memory runs
-    /// out.
+    /// A lister of the semistandard tableaux of `shape` in which each entry i from 1 on occurs
+    /// `content[i - 1]` times. It is before the first of them. `content` must have at most 4,096
+    /// numbers. Fails only if memory runs out.
     pub fn with_content(alloc: Global, shape: &Skew, content: &[u16]) -> Result<Fillings, NoMemory>
         requires { length content.now ≤ 4096 }
         ensures rest { IfOk result (λ f. ⟦<Fillings as Lister>⟧.rest f

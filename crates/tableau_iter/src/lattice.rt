@@ -1,4 +1,4 @@
-//! Good tableaux, one at a time.
+//! A lister of the good tableaux of a skew shape for a start partition.
 ghost use Rattle.std.specs.Prelude.{◌≡◌, ◌++◌, ◌↔◌, ℕ, ◌+◌, ◌<◌, ◌≤◌, [], ◌∷◌, IsTrue, false, true};
 ghost use Rattle.std.specs.Prelude.{length, IfOk, IfSome, IsErrOf, IsSome, None, OnOk};
 ghost use Rattle.std.specs.Option.{option_to_list};
@@ -21,10 +21,10 @@ use skew_shapes::Skew;
 use std::alloc::Global;
 use std::marker::Model;
 
-/// The good tableaux of a skew shape for a start, with entries from 1 to a number of rows, by their
-/// column readings in increasing lexicographic order, each once: a `Lister` that works in place. A
-/// tableau is good (Stembridge) if, for each column, start plus the content of that column and
-/// those right of it is a partition.
+/// A lister (trait `Lister`) of the good tableaux of a skew shape for a partition `start`, with
+/// entries from 1 to a given number. It gives their column readings in increasing lexicographic
+/// order. A tableau is good (Stembridge) if, for each column, start plus the content of that column
+/// and of those right of it is a partition. Each reading is written over the one before it.
 #[derive(Drop)]
 pub struct Lattice {
     walker: Walker,
@@ -39,9 +39,9 @@ impl Model for Lattice {
 }
 
 impl Lattice {
-    /// The good tableaux of `shape` for `start` with entries from 1 to `rows`, none of them
-    /// current. `start` has at most `rows` rows, `rows` is at most 512, and `start` and the shape
-    /// have at most 4,096 cells together. Fails only if memory runs out.
+    /// A lister of the good tableaux of `shape` for `start` with entries from 1 to `rows`. It is
+    /// before the first of them. `start` must have at most `rows` rows, `rows` is at most 512, and
+    /// `start` and the shape have at most 4,096 cells together. Fails only if memory runs out.
     pub fn new(
         alloc: Global,
         shape: &Skew,
@@ -63,11 +63,13 @@ impl Lattice {
         })
     }
 
-    /// The good tableaux of `shape` for `start` with entries from 1 to `rows`, after the one with
-    /// the column reading `last`, none of them current. `start` has at most `rows` rows, `rows` is
-    /// at most 512, and `start` and the shape have at most 4,096 cells together. Fails with
-    /// `NotInList` if no tableau of the list has that reading, and with `NoMemory` only if memory
-    /// runs out. The tableaux before it are not walked through.
+    /// A lister of good tableaux that continues a list after a given tableau. The list has the good
+    /// tableaux of `shape` for `start` with entries from 1 to `rows`, and `last` is the column
+    /// reading of the given tableau. The lister is before the first tableau after that one. `start`
+    /// must have at most `rows` rows, `rows` is at most 512, and `start` and the shape have at most
+    /// 4,096 cells together. Unless memory runs out, it returns `NotInList` if and only if `last`
+    /// is not the column reading of a tableau of the list. The tableaux before the given one are
+    /// not computed again.
     pub fn resume(
         alloc: Global,
         shape: &Skew,
@@ -100,7 +102,8 @@ impl Lattice {
         })
     }
 
-    /// Start plus the content of the current tableau: a number for each entry from 1 on.
+    /// Start plus the content of the current tableau: for each letter i from 1 to the greatest
+    /// allowed one, part i of start plus the number of entries i of the tableau.
     pub fn content(&self) -> &[u16]
         requires { IsSome self.now.item }
         ensures { IfSome self.now.item

@@ -1,4 +1,4 @@
-//! A test of whether rows of numbers are a lattice tableau.
+//! The test of whether rows of numbers are a lattice tableau of a skew shape.
 ghost use Rattle.std.specs.Prelude.{◌≡◌, true, false, length, map, IfOk, MatchOption};
 ghost use Rattle.sym_model.specs.TableauList.{is_lattice_tableau};
 ghost use Rattle.sym_model.specs.GoodTableau.{column_reading, is_among, lattice_readings};
@@ -14,7 +14,7 @@ use partitions::Partition;
 use skew_shapes::{Skew, Tableau, TableauFault};
 use std::alloc::Global;
 
-/// Whether the rows of numbers have the lengths of the rows of outer/inner.
+/// Whether the lengths of `rows` are the lengths of the rows of outer/inner.
 fn have_lengths(outer: &[u16], inner: &[u16], rows: &[Vec<u16>]) -> bool
     ensures { result ≡ same (map length (map (λ r. r.items) rows.now))
         (row_lengths outer.now inner.now) }
@@ -30,7 +30,8 @@ fn have_lengths(outer: &[u16], inner: &[u16], rows: &[Vec<u16>]) -> bool
     true
 }
 
-/// Whether the filling of a shape with this column reading is semistandard with entries at least 1.
+/// Whether the filling of `shape` with the column reading `reading` is semistandard with entries at
+/// least 1.
 fn is_semistandard(alloc: Global, shape: Skew, reading: &[u16]) -> Result<bool, NoMemory>
     requires { length reading.now ≡ length (cells shape.0 shape.1) }
     ensures { IfOk result (λ b. b ≡ is_tableau (filled_with shape.0 shape.1 reading.now)) }
@@ -45,8 +46,8 @@ fn is_semistandard(alloc: Global, shape: Skew, reading: &[u16]) -> Result<bool, 
     }
 }
 
-/// Whether a word is the column reading of a lattice tableau of a shape: the filling with that
-/// reading is semistandard, and the word is a lattice word.
+/// Whether `reading` is the column reading of a lattice tableau of `shape`: the filling with that
+/// reading is semistandard, and the reading is a lattice word.
 fn is_listed(alloc: Global, shape: Skew, reading: &[u16]) -> Result<bool, NoMemory>
     requires { length reading.now ≡ length (cells shape.0 shape.1) }
     ensures { IfOk result (λ b. b ≡ is_among reading.now (lattice_readings shape.0 shape.1)) }
@@ -58,10 +59,10 @@ fn is_listed(alloc: Global, shape: Skew, reading: &[u16]) -> Result<bool, NoMemo
     is_lattice(alloc, letters, reading)
 }
 
-/// The column reading of the rows if they are a lattice tableau of shape outer/inner, and otherwise
-/// `None`: the rows must have that shape and be semistandard, with entries from 1 to the number of
-/// rows of `outer`, and for each column the content of that column and those right of it must be a
-/// partition. Fails only if memory runs out.
+/// The column reading of `rows` if they are a lattice tableau of shape outer/inner, and otherwise
+/// `None`. Lattice tableaux are semistandard, have entries from 1 to the number of rows of `outer`,
+/// and for each column the content of that column and of those right of it is a partition. Fails
+/// only if memory runs out.
 pub fn lattice_reading(
     alloc: Global,
     outer: &Partition,

@@ -1,19 +1,20 @@
-//! Tableaux one at a time, by their column readings: all semistandard ones, those of one content,
-//! and the good ones for a start partition. A tableau is good (Stembridge) if, for each column,
-//! start plus the content of that column and those right of it is a partition. Also a test of
-//! whether rows of numbers are a lattice tableau, that is, a semistandard tableau whose column
-//! reading is a lattice word.
+//! Listers of the tableaux of a skew shape, by their column readings: all semistandard tableaux,
+//! those of one content, and the good tableaux for a start partition. A tableau is good
+//! (Stembridge) if, for each column, start plus the content of that column and of those right of it
+//! is a partition. Also the test of whether rows of numbers are a lattice tableau, that is, a
+//! semistandard tableau whose column reading is a lattice word.
 //!
 //! What is proved:
 //!
 //! `Lattice` lists the good tableaux of a skew shape for a start partition, by their column
-//! readings in increasing lexicographic order, each once, with their contents: all of them, or
-//! those after a given tableau; `NotInList` is returned if and only if that tableau is not in the
-//! list. `Fillings` lists all semistandard tableaux with entries up to a number, or those of one
-//! content. A step works in place and allocates no memory. `lattice_reading` tests whether rows of
-//! numbers are a lattice tableau of a skew shape, without listing any, and returns its column
-//! reading. `reading_of_rows` returns the column reading of rows. The last two fail only if memory
-//! runs out.
+//! readings in increasing lexicographic order, each once: all of them, or those after a given
+//! tableau. For the current tableau, `content` gives start plus its content. Unless memory runs
+//! out, `NotInList` is returned if and only if the given tableau is not in the list. `Fillings`
+//! lists all semistandard tableaux with entries up to a given number, or those of one content.
+//! Moving on to the next tableau writes it over the current one and allocates no memory.
+//! `lattice_reading` tests whether rows of numbers are a lattice tableau of a skew shape, without
+//! listing any, and returns its column reading. `reading_of_rows` returns the column reading of a
+//! filling given by its rows. `lattice_reading` and `reading_of_rows` fail only if memory runs out.
 #![tactic(auto)]
 
 mod board;

@@ -1,4 +1,5 @@
-//! The neighbours of the cells of a skew shape, by their places in the column reading.
+//! The neighbours above and on the right of the cells of a skew shape, by their indices in the
+//! column reading.
 ghost use Rattle.std.specs.Prelude.{◌≡◌, ℕ, ◌+◌, ◌-◌, ◌<◌, ◌≤◌, ◌==◌, ◌&&◌, length, slice_index};
 ghost use Rattle.std.specs.Prelude.{IfOk};
 ghost use Rattle.tableau_iter.specs.Fits.{AreNeighbours, IsNeighbour, IsGreatest, IsRun};
@@ -6,9 +7,9 @@ ghost use Rattle.tableau_iter.specs.Fits.{ceiling_at, floor_at};
 
 use std::alloc::{AllocError, Global};
 
-/// For each place of the column reading, one more than the earlier place whose cell is `down` rows
-/// above and `left` columns right; 0 if there is none. `lines` and `ranks` are the rows and the
-/// columns of the cells.
+/// For each index of the column reading, one more than the earlier index whose cell is `down` rows
+/// above and `left` columns to the right; 0 if there is no such index. `lines` and `ranks` have the
+/// row and the column of each cell.
 pub(crate) fn earlier_places(
     alloc: Global,
     lines: &[u16],
@@ -27,9 +28,9 @@ pub(crate) fn earlier_places(
     Ok(found)
 }
 
-/// One more than the earlier place whose cell is `down` rows above that at `place` and `left`
-/// columns right; 0 if there is none. `lines` and `ranks` are the rows and the columns of the
-/// cells.
+/// One more than the index before `place` whose cell is `down` rows above the cell at `place` and
+/// `left` columns right of it; 0 if there is no such index. `lines` and `ranks` have the row and
+/// the column of each cell.
 fn earlier_place(lines: &[u16], ranks: &[u16], place: usize, down: u16, left: u16) -> u16
     requires place { place < length lines.now }
     requires few { length lines.now ≤ 4096 }
@@ -46,8 +47,8 @@ fn earlier_place(lines: &[u16], ranks: &[u16], place: usize, down: u16, left: u1
     0
 }
 
-/// Whether the cell at the place `at` is `down` rows above that at `place` and `left` columns
-/// right; `lines` and `ranks` are the rows and the columns of the cells.
+/// Whether the cell at the index `at` is `down` rows above the cell at `place` and `left` columns
+/// right of it; `lines` and `ranks` have the row and the column of each cell.
 fn is_there(lines: &[u16], ranks: &[u16], place: usize, at: usize, down: u16, left: u16) -> bool
     requires place { place < length lines.now }
     requires at { at < length lines.now }
@@ -59,8 +60,9 @@ fn is_there(lines: &[u16], ranks: &[u16], place: usize, at: usize, down: u16, le
         && usize::from(ranks[at]) == usize::from(ranks[place]) + usize::from(left)
 }
 
-/// For each place of the column reading, the greatest letter up to `letters` that leaves greater
-/// letters for all cells below it in its column.
+/// For each index of the column reading, `letters` minus the number of cells below in the same
+/// column: the greatest letter that leaves greater letters up to `letters` for all of them. `above`
+/// has the neighbours above, as made by `earlier_places`.
 pub(crate) fn greatest_letters(
     alloc: Global,
     above: &[u16],
@@ -78,7 +80,8 @@ pub(crate) fn greatest_letters(
     Ok(most)
 }
 
-/// The number of places directly after this one whose cells are each below the cell before.
+/// The number of indices directly after `place` such that the cell of each is below the cell of the
+/// index before it.
 fn cells_below(above: &[u16], place: usize) -> u16
     requires place { place < length above.now }
     requires few { length above.now ≤ 4096 }
@@ -94,7 +97,7 @@ fn cells_below(above: &[u16], place: usize) -> u16
     count
 }
 
-/// The letter above the one at a place; 0 if there is none.
+/// The letter of `word` in the cell above that at the index `place`; 0 if there is no such cell.
 pub(crate) fn floor(above: &[u16], word: &[u16], place: usize) -> u16
     requires place { place < length above.now }
     requires back { slice_index above.now place ≤ length word.now }
@@ -104,7 +107,8 @@ pub(crate) fn floor(above: &[u16], word: &[u16], place: usize) -> u16
     if found == 0 { 0 } else { word[found - 1] }
 }
 
-/// The greatest letter for a place, or the letter on its right if that is smaller.
+/// The smaller of `most[place]` and the letter of `word` in the cell right of that at `place`;
+/// `most[place]` if there is no such cell.
 pub(crate) fn ceiling(right: &[u16], most: &[u16], word: &[u16], place: usize) -> u16
     requires place { place < length right.now }
     requires most { place < length most.now }

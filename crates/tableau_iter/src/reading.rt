@@ -1,4 +1,4 @@
-//! The column reading of rows of numbers.
+//! The column reading of a filling given by its rows.
 ghost use Rattle.std.specs.Prelude.{◌≡◌, ◌<◌, ◌+◌, ◌++◌, ℕ, slice_index, OnOk, IfOk, map, length};
 ghost use Rattle.sym_model.specs.GoodTableau.{column_reading};
 ghost use Rattle.sym_model.specs.Partition.{part};
@@ -10,14 +10,15 @@ ghost use Rattle.tableau_iter.specs.ReadRows.{letter_in_rows};
 use calc_base::NoMemory;
 use std::alloc::{AllocError, Global};
 
-/// The part at this place, counted from 0; 0 after the last.
+/// The part at the index `place`, counted from 0; 0 after the last part.
 pub(crate) fn part_at(parts: &[u16], place: usize) -> u16
     ensures { result ≡ part parts.now (place + 1) }
 {
     parts.get(place).copied().unwrap_or(0)
 }
 
-/// Whether the row at this place, counted from 0, has a cell in the column.
+/// Whether outer/inner has a cell in column `column` of row `row`, with rows counted from 0 and
+/// columns from 1.
 fn has_cell(outer: &[u16], inner: &[u16], row: usize, column: u16) -> bool
     requires { row < length outer.now }
     ensures { result ≡ reaches outer.now inner.now column (row + 1) }
@@ -25,14 +26,15 @@ fn has_cell(outer: &[u16], inner: &[u16], row: usize, column: u16) -> bool
     inner.get(row).copied().unwrap_or(0) < column && column <= outer[row]
 }
 
-/// The number at a place; 0 after the last.
+/// The number at the index `place`; 0 after the last one.
 fn number_at(numbers: &[u16], place: usize) -> u16
     ensures { result ≡ slice_index numbers.now place }
 {
     numbers.get(place).copied().unwrap_or(0)
 }
 
-/// The number in the cell of this row, counted from 0, and this column.
+/// The number in column `column`, counted from 1, of row `row`, counted from 0, if the rows are
+/// those of a filling with the inner partition `inner`.
 fn cell(rows: &[Vec<u16>], inner: &[u16], row: usize, column: u16) -> u16
     requires { row < length rows.now }
     ensures { result ≡ letter_in_rows inner.now (map (λ r. r.items) rows.now) (row + 1) column }
@@ -44,7 +46,8 @@ fn cell(rows: &[Vec<u16>], inner: &[u16], row: usize, column: u16) -> u16
     )
 }
 
-/// Appends the numbers of a column to a list, from top to bottom.
+/// Appends to `letters` the numbers of one column of the filling of outer/inner with these rows,
+/// from top to bottom.
 fn push_column(
     letters: &mut Vec<u16>,
     rows: &[Vec<u16>],
@@ -67,7 +70,8 @@ fn push_column(
     Ok(())
 }
 
-/// Appends the numbers of rows to a list, in the order of the column reading.
+/// Appends to `letters` the numbers of the filling of outer/inner with these rows, in the order of
+/// the column reading.
 fn push_columns(
     letters: &mut Vec<u16>,
     rows: &[Vec<u16>],
@@ -88,9 +92,9 @@ fn push_columns(
     Ok(())
 }
 
-/// The column reading of a filling, given by its rows: the numbers of the columns from the
-/// rightmost to the leftmost, each from top to bottom. The rows must have the lengths of the rows
-/// of outer/inner. Fails only if memory runs out.
+/// The column reading of the filling of outer/inner with these rows: the numbers of the columns
+/// from the rightmost to the leftmost, each column from top to bottom. The rows must have the
+/// lengths of the rows of outer/inner. Fails only if memory runs out.
 pub fn reading_of_rows(
     alloc: Global,
     outer: &[u16],

@@ -1,10 +1,12 @@
-//! The rule for a letter that depends on the letters before it.
+//! The rules that decide, by the letters before it, whether a letter is allowed in a column
+//! reading.
 ghost use Rattle.std.specs.Prelude.{◌≡◌, ℕ, ◌<◌, ◌≤◌, false, length, MatchOption};
 ghost use Rattle.tableau_iter.specs.Fits.{allows};
 ghost use Rattle.tableau_iter.specs.NextLetters.{IsNextLetter};
 
-/// `Free`: a letter may occur anywhere. `Falling`: start plus the content must still be a partition
-/// with the new letter. `Limited`: each letter has a greatest number of occurrences.
+/// The condition on the content of each prefix of a column reading. `Free`: no condition.
+/// `Falling`: start plus the content is a partition. `Limited`: no letter occurs more often than a
+/// given number of times.
 #[derive(Clone, Copy)]
 pub(crate) enum Rule {
     Free,
@@ -12,8 +14,9 @@ pub(crate) enum Rule {
     Limited,
 }
 
-/// Whether the rule allows one more `letter`: `sums` is start plus the number of each letter so
-/// far, and `counts` has the greatest number of each letter for the rule `Limited`.
+/// Whether the rule allows one more `letter` after a prefix. `sums` is start plus the content of
+/// the prefix; for the rule `Limited`, `counts` has the greatest number of occurrences of each
+/// letter.
 pub(crate) fn allows(rule: Rule, counts: &[u16], sums: &[u16], letter: u16) -> bool
     requires low { 1 ≤ letter }
     requires high { letter ≤ length sums.now }
@@ -27,7 +30,8 @@ pub(crate) fn allows(rule: Rule, counts: &[u16], sums: &[u16], letter: u16) -> b
     }
 }
 
-/// The least letter greater than `from` and at most `to` that the rule allows.
+/// The least letter greater than `from` and at most `to` that the rule allows after a prefix, with
+/// `sums` and `counts` as in `allows`; None if there is no such letter.
 pub(crate) fn next_allowed(
     rule: Rule,
     counts: &[u16],

@@ -1,7 +1,8 @@
-//! The stage of a lister of words.
+//! The stages of a lister of words.
 
-/// The stage: no word listed yet (`New`), a word is current (`Listing`), the word after which the
-/// list continues has been set but is not listed (`Passed`), or all words were listed (`Ended`).
+/// The stage of a lister. `New`: before the first word. `Listing`: the word of the board is
+/// current. `Passed`: the word of the board is the one after which the list continues, and is not
+/// listed itself. `Ended`: after the last word.
 #[derive(Clone, Copy)]
 pub(crate) enum Stage {
     New,

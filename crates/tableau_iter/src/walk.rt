@@ -1,4 +1,5 @@
-//! The words whose letters all fit, one after the other: each is written over the one before.
+//! The search for the next word whose letters all fit in a board (`Board::admits`); it is written
+//! over the current one.
 ghost use Rattle.std.specs.Prelude.{◌≡◌, ◌+◌, ◌-◌, ◌<◌, ◌≤◌, true, false, [], length, take, drop};
 ghost use Rattle.std.specs.Bool.{OnTrue, OnFalse};
 ghost use Rattle.tableau_iter.specs.Positions.{Begins, IsReady, IsSameUpTo, passes};
@@ -6,8 +7,9 @@ ghost use Rattle.tableau_iter.specs.Walks.{completions, continued, later};
 
 use crate::board::Board;
 
-/// Finds the first word whose letters all fit, with the current letters before the place; false if
-/// there is none.
+/// Writes to the board the first word, in lexicographic order, whose letters all fit
+/// (`Board::admits`) and whose letters before `place` are the current ones; false if there is no
+/// such word.
 #[cycle(walk)]
 pub(crate) fn first(board: &mut Board, place: usize) -> bool
     requires place { place ≤ length board.old.word }
@@ -28,8 +30,9 @@ pub(crate) fn first(board: &mut Board, place: usize) -> bool
     first_after(board, place, 0)
 }
 
-/// Finds the first word whose letters all fit, with the current letters before the place and a
-/// letter greater than `least` there; false if there is none.
+/// Writes to the board the first word, in lexicographic order, whose letters all fit
+/// (`Board::admits`), with the current letters before `place` and a letter greater than `least` at
+/// `place`; false if there is no such word.
 #[cycle(walk)]
 fn first_after(board: &mut Board, place: usize, least: u16) -> bool
     requires few { length board.old.word ≤ 4096 }
@@ -57,8 +60,9 @@ fn first_after(board: &mut Board, place: usize, least: u16) -> bool
     false
 }
 
-/// Finds the next word whose letters all fit, with the current letters before the place; false if
-/// this is the last one.
+/// Writes to the board the next word after the current one, in lexicographic order, whose letters
+/// all fit (`Board::admits`) and whose letters before `place` are the current ones; false if there
+/// is no such word.
 pub(crate) fn next(board: &mut Board, place: usize) -> bool
     requires place { place ≤ length board.old.word }
     requires ready { IsReady (length board.old.word) board.old }
@@ -82,7 +86,8 @@ pub(crate) fn next(board: &mut Board, place: usize) -> bool
     first_after(board, place, letter)
 }
 
-/// Writes the letters of a word one by one; false if one of them does not fit.
+/// Writes the letters of `word` to the board one by one; stops and returns false if one of them
+/// does not fit (`Board::admits`).
 pub(crate) fn put_all(board: &mut Board, word: &[u16]) -> bool
     requires word { length word.now ≡ length board.old.word }
     requires ready { IsReady 0 board.old }

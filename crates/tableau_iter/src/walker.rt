@@ -1,4 +1,4 @@
-//! The words whose letters all fit in a board, as a lister.
+//! A lister of the words whose letters all fit in a board (`Board::admits`).
 ghost use Rattle.std.specs.Prelude.{◌≡◌, ◌++◌, ◌↔◌, ℕ, [], ◌∷◌, length, IfSome, IsSome, IsTrue};
 ghost use Rattle.std.specs.Option.{option_to_list};
 ghost use Rattle.std.specs.Bool.{OnTrue, OnFalse};
@@ -14,7 +14,8 @@ use crate::walk::{first, next};
 use calc_base::Lister;
 use std::marker::Model;
 
-/// A board, and the stage of the lister of the words whose letters all fit in it.
+/// A lister (trait `Lister`) of the words whose letters all fit in a board (`Board::admits`): the
+/// board has the word last written, and the stage says whether this word is current.
 #[derive(Drop)]
 pub(crate) struct Walker {
     board: Board,
@@ -32,7 +33,7 @@ impl Model for Walker {
 }
 
 impl Walker {
-    /// The lister of a board at a stage.
+    /// The lister with this board and this stage.
     pub(crate) fn at(board: Board, stage: Stage) -> Walker
         requires { IsReadyAt stage board }
         ensures { result ≡ listed_at stage board }
@@ -40,7 +41,7 @@ impl Walker {
         Walker { board, stage }
     }
 
-    /// Start plus the content of the current word.
+    /// Start plus the content of the current word: a number for each letter from 1 on.
     pub(crate) fn sums(&self) -> &[u16]
         requires { IsSome self.now.item }
         ensures { IfSome self.now.item
@@ -75,7 +76,8 @@ impl Lister for Walker {
     }
 }
 
-/// Replaces the word with the next one; false if there is none.
+/// Writes to the board the next word of the lister at the given stage; false if there is no further
+/// word.
 fn step(board: &mut Board, stage: Stage) -> bool
     requires { IsReadyAt stage board.old }
     ensures found { OnTrue result

@@ -1,4 +1,4 @@
--- The columns of a filling and its column reading, by the padded columns.
+-- The columns of a filling of a skew shape and its column reading, computed from its rows padded with zeros.
 use Rattle.std.proofs.Common.{◌≡◌, ℕ, zero, suc, ◌+◌, ◌-◌, ◌<◌, ◌≤◌, ◌⊎◌, ◌==◌, Bool, true, false, cond, ◌&&◌, List, [], ◌∷◌, ◌++◌, length, replicate, reverse, take, drop, get_or, nat_lt, sym, ◌∙◌, ap, ap₂, refl, inl, inr, arith, append-nil, flat_map}
 use Rattle.std.proofs.lemmas.Bool.{lt-ltb, le-ltb, ne_eqb, cases_Bool, ltb-true, ltb-false}
 use Rattle.std.proofs.lemmas.List.{reverse-append, drop_all}
@@ -17,7 +17,7 @@ use Rattle.sym_model.proofs.Contents.{times_in-append}
 use Rattle.std.proofs.lemmas.Grind.{flat_map-append}
 use Rattle.std.proofs.Math.Bool.{and-true}
 
--- ---- letters other than zeros
+-- ---- words without their zeros (`filled`)
 
 pub filled-append : (v w : List ℕ) → filled (v ++ w) ≡ filled v ++ filled w
 filled-append [] w = refl
@@ -30,10 +30,10 @@ filled-append (a ∷ v) w = by (nat_lt 0 a) (filled-append v w)
 filled_letter : (a : ℕ) (w : List ℕ) → 0 < a → filled (a ∷ w) ≡ a ∷ filled w
 filled_letter a w h = ap (λ b. cond b (a ∷ filled w) (filled w)) (lt-ltb 0 a h)
 
--- ---- one letter of a row of a filling
+-- ---- the letter at one place of a row of a filling
 
--- the letter at place i as a word; the empty word after the end
-abbrev at_place : ℕ → List ℕ → List ℕ
+-- the word that consists of the letter at place i, counted from 0; the empty word if i is after the end
+abbrev pub at_place : {A : Type 0} → ℕ → List A → List A
 at_place i w = take 1 (drop i w)
 
 filled_one : (i : ℕ) (row : List ℕ) → ArePositive row → filled (at_place i row) ≡ at_place i row
@@ -55,20 +55,20 @@ letter_in-padded (suc c) (suc i) row h =
     same_test (inl e) = let l = ltb-true c (suc i) e in lt-ltb (suc c) (suc (suc i)) (omega arith) ∙ sym e
     same_test (inr e) = let l = ltb-false c (suc i) e in le-ltb (suc c) (suc (suc i)) (omega arith) ∙ sym e
 
--- ---- column i + 1 of a filling is line i of its padded rows transposed, without zeros
+-- ---- column i + 1 of a filling: the word at place i of the transposed padded rows, without zeros
 
--- the line at place i; the empty one after the end
+-- the line at place i of a list of lines, counted from 0; the empty line if i is after the end
 abbrev pub line_at : ℕ → List (List ℕ) → List ℕ
 line_at i lines = get_or lines i []
 
-line_at-put : (i : ℕ) (row : List ℕ) (lines : List (List ℕ)) → line_at i (put_row row lines) ≡ at_place i row ++ line_at i lines
+pub line_at-put : {A : Type 0} (i : ℕ) (row : List A) (lines : List (List A)) → get_or (put_row row lines) i [] ≡ at_place i row ++ get_or lines i []
 line_at-put zero [] lines = refl
 line_at-put (suc i) [] lines = refl
 line_at-put zero (x ∷ row) [] = refl
 line_at-put zero (x ∷ row) (c ∷ lines) = refl
-line_at-put (suc i) (x ∷ row) [] = line_at-put i row [] ∙ ap (λ l. at_place i row ++ l) (nothing_there i)
+line_at-put {A} (suc i) (x ∷ row) [] = line_at-put i row [] ∙ ap (λ l. at_place i row ++ l) (nothing_there i)
   where
-    nothing_there : (j : ℕ) → line_at j [] ≡ []
+    nothing_there : (j : ℕ) → get_or {A = List A} [] j [] ≡ []
     nothing_there zero = refl
     nothing_there (suc j) = refl
 line_at-put (suc i) (x ∷ row) (c ∷ lines) = line_at-put i row lines
@@ -81,10 +81,10 @@ column-padded inner (row ∷ rows) i h =
     ∙ sym (filled-append (at_place i (replicate (part inner 1) 0 ++ row)) (line_at i (transposed (padded (drop 1 inner) rows))))
     ∙ ap filled (sym (line_at-put i (replicate (part inner 1) 0 ++ row) (transposed (padded (drop 1 inner) rows))))
 
--- ---- the columns right of a given one
+-- ---- the column reading of the columns to the right of a column
 
--- if f(i + 1) are the letters of line i, counted from 0, the columns j + k, .., j + 1, read one after another, are the reading of the lines after the
--- first j
+-- if f(i + 1) is line i, counted from 0, without zeros, then the words f(j + k), .., f(j + 1), joined in this order, are the column reading of the
+-- lines after the first j; j + k is the number of lines
 columns_between : (f : ℕ → List ℕ) (lines : List (List ℕ)) (j k : ℕ) → ((i : ℕ) → f (suc i) ≡ filled (line_at i lines)) → j + k ≡ length lines
     → flat_map f (reverse (after j k)) ≡ reading_of (drop j lines)
 columns_between f lines j zero e l = ap reading_of (sym (drop_all j lines (omega arith)))
@@ -105,7 +105,7 @@ pub column_reading-padded : (outer inner : List ℕ) (rows : List (List ℕ)) �
     → column_reading outer inner rows ≡ reading_of (transposed (padded inner rows))
 column_reading-padded outer inner rows p l = reading-padded 0 outer inner rows p l (omega arith)
 
--- ---- the contents of readings
+-- ---- the content of the column reading of lines is the content of the lines
 
 pub times_in-filled : (k : ℕ) (w : List ℕ) → 0 < k → times_in k (filled w) ≡ times_in k w
 times_in-filled k [] h = refl
@@ -126,7 +126,7 @@ times_in-reading k (c ∷ lines) h =
 pub content-reading : (n : ℕ) (lines : List (List ℕ)) → content n (reading_of lines) ≡ content n (letters_of lines)
 content-reading n lines = content_same n (reading_of lines) (letters_of lines) (λ k h. times_in-reading k lines h)
 
--- ---- tableaux that are good at every column
+-- ---- tests of all elements of a list; a tableau is good for start if and only if its padded columns are (`is_good_by_columns`)
 
 every_among : (f g : ℕ → Bool) (xs : List ℕ) → ((x : ℕ) → Among x xs → f x ≡ g x) → every f xs ≡ every g xs
 every_among f g [] e = refl
@@ -138,7 +138,8 @@ every_later f a (suc k) =
     let e : suc a + 1 ≡ suc (a + 1) = omega arith in
     ap (λ i. f i && every f (after i k)) e ∙ ap (λ p. f (suc (a + 1)) && p) (every_later f (a + 1) k)
 
--- start plus the content of the lines after the first j is weakly decreasing for each j, if and only if `is_good_by_columns` is true
+-- start plus the content of the lines after the first j is weakly decreasing for each j from 0 to the number of lines if and only if
+-- `is_good_by_columns` is true
 good_drops : (n : ℕ) (start : List ℕ) (lines : List (List ℕ))
     → every (λ j. is_falling (sum_reached n start (drop j lines))) (0 ∷ after 0 (length lines)) ≡ is_good_by_columns n start lines
 good_drops n start [] = and-true (is_falling (sum_reached n start []))

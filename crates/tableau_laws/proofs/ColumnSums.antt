@@ -1,4 +1,4 @@
--- The sum over the good fillings by columns is the sum over all ways to add the columns one by one.
+-- The sum over the good fillings that are given by columns is the sum over all ways to choose the columns one by one from the right (`over_columns`).
 use Rattle.std.proofs.Common.{◌≡◌, ℕ, Bool, true, false, cond, ◌&&◌, List, [], ◌∷◌, ◌++◌, nat_le, sym, ◌∙◌, ap, refl, arith, ℤ, pos}
 use Rattle.sym_model.specs.Sum.{total}
 use Rattle.sym_model.specs.Polynomial.{join}
@@ -13,7 +13,7 @@ use Rattle.tableau_laws.specs.ColumnFold.{sum_reached, is_good_by_columns, may_b
 use Rattle.tableau_laws.proofs.Transposing.{fillings_sum}
 use Rattle.tableau_laws.proofs.Contents.{content-append}
 
--- `sum_reached`, start plus the content of the columns, with one more column c in front is that without it plus the content of c
+-- `sum_reached`, start plus the content of the columns, with one more column c: the content of c is added
 pub sum_reached-cons : (n : ℕ) (start c : List ℕ) (columns : List (List ℕ)) → sum_reached n start (c ∷ columns) ≡ join (sum_reached n start columns) (content n c)
 sum_reached-cons n start c columns =
     ap (join start) (content-append n c (letters_of columns) ∙ join_comm (content n c) (content n (letters_of columns)))
@@ -24,7 +24,7 @@ pub total_under : {A : Type 0} (b : Bool) (test : A → Bool) (f : A → ℤ) (x
 total_under true test f xs = refl
 total_under false test f xs = total_zero xs
 
--- f of start plus the content of the columns, and of the leftmost column, if the columns are a good tableau; otherwise 0
+-- f(start + content, leftmost column) if the columns are those of a semistandard tableau that is good for start; otherwise 0
 abbrev pub of_good_columns : ℕ → List ℕ → (List ℕ → List ℕ → ℤ) → List (List ℕ) → ℤ
 of_good_columns n start f columns =
     cond (are_tableau_columns columns && is_good_by_columns n start columns) (f (sum_reached n start columns) (first_line columns)) (pos 0)
@@ -55,8 +55,8 @@ total_good_columns n start (line ∷ lines) f =
     (fillings_over n lines)
     ∙ total_good_columns n start lines (next_columns n line f)
 
--- the sum over the ways to add the columns of `lines` and, before them, one of a further `line` at the right end is a sum over the columns of `line`
--- that can be next
+-- if `line` is the rightmost line, the sum over the ways to choose the columns of all lines (`over_columns`) is the sum, over the columns c of `line`
+-- that can be added left of `right`, of the sum over the ways to choose the columns of `lines` left of c
 pub over_columns-last : (n : ℕ) (lines : List (List Bool)) (line : List Bool) (f : List ℕ → List ℕ → ℤ) (ν right : List ℕ)
     → over_columns n (lines ++ (line ∷ [])) f ν right ≡ next_columns n line (over_columns n lines f) ν right
 over_columns-last n [] line f ν right = refl

@@ -1,4 +1,4 @@
--- Contents of padded rows and columns: they do not depend on zeros or on the order of the letters.
+-- Contents of fillings by padded rows and by columns: a content depends neither on zeros nor on the order of the letters.
 use Rattle.std.proofs.Common.{◌≡◌, ℕ, zero, suc, ◌+◌, ◌<◌, ◌==◌, Bool, false, cond, List, [], ◌∷◌, ◌++◌, map, replicate, drop, ◌∙◌, ap, refl, arith}
 use Rattle.std.proofs.lemmas.Bool.{ne_eqb}
 use Rattle.sym_model.specs.Partition.{part, after}
@@ -16,7 +16,7 @@ times_in-zeros k (suc b) h =
     let d : (0 == k) ≡ false = ne_eqb 0 k (λ i. absurd (omega arith)) in
     ap (λ (p : Bool). cond p 1 0 + times_in k (replicate b 0)) d ∙ omega arith
 
--- words with the same number of each letter have the same content
+-- if each letter k ≥ 1 occurs equally often in v and w, the two words have the same content
 pub content_same : (n : ℕ) (v w : List ℕ) → ((k : ℕ) → 0 < k → times_in k v ≡ times_in k w) → content n v ≡ content n w
 content_same n v w e = map-among (λ k. times_in k v) (λ k. times_in k w) (after 0 n) (λ k m. let h = after_among 0 n k m in e k h.0)
 

@@ -1,5 +1,5 @@
--- Fillings with letters up to n in which no letter is greater than k are the fillings with letters up to k; so Schur
--- polynomials in n variables restricted to k variables are those in k variables.
+-- The fillings with letters up to n in which no letter is greater than k are the fillings with letters up to k; so a Schur polynomial in n variables,
+-- restricted to k variables, is the one in k variables.
 use Rattle.std.proofs.Common.{◌≡◌, ℕ, zero, suc, ◌+◌, ◌-◌, ◌<◌, ◌≤◌, ◌⊎◌, ◌==◌, Bool, true, false, cond, ◌&&◌, List, [], ◌∷◌, ◌++◌, map, nat_le, sym, ◌∙◌, ap, ap₂, refl, inl, inr, arith, ℤ, pos, ◌+ℤ◌, ◌*ℤ◌, filter}
 use Rattle.std.proofs.lemmas.Bool.{and_parts, and_from, leb-true, le-leb, eqb-true, eq-eqb, ne_eqb, cases_eq, cases_lt, cases_Bool}
 use Rattle.sym_model.specs.Sum.{total}
@@ -21,8 +21,9 @@ use Rattle.tableau_laws.proofs.Contents.{content-padded}
 use Rattle.tableau_laws.proofs.ColumnSums.{total_under}
 use Rattle.sym_model.specs.Bounded.{AreAtMost}
 use Rattle.std.proofs.Math.Bool.{and_assoc}
+use Rattle.sym_model.proofs.Integers.{tests_exchanged}
 
--- whether no letter is greater than k
+-- whether no letter of the word is greater than k
 abbrev pub are_up_to : ℕ → List ℕ → Bool
 are_up_to k w = every (λ a. nat_le a k) w
 
@@ -30,7 +31,7 @@ up_to-append : (k : ℕ) (v w : List ℕ) → are_up_to k (v ++ w) ≡ (are_up_t
 up_to-append k [] w = refl
 up_to-append k (a ∷ v) w = ap (λ b. nat_le a k && b) (up_to-append k v w) ∙ sym (and_assoc (nat_le a k) (are_up_to k v) (are_up_to k w))
 
--- ---- letters, words and fillings with letters up to k
+-- ---- sums over the letters, words and fillings with letters up to n in which no letter is greater than k
 
 total_letters : (k n : ℕ) (p : Bool) (g : ℕ → ℤ) → k ≤ n → total (λ (x : ℕ). cond (nat_le x k) (g x) (pos 0)) (letters_at n p) ≡ total g (letters_at k p)
 total_letters k n true g h =
@@ -66,7 +67,8 @@ total_up_to k n (line ∷ pattern) g h =
     ∙ total_words k n line (λ (w : List ℕ). total (λ (rest : List (List ℕ)). g (w ∷ rest)) (fillings_over k pattern)) h
     ∙ sym (fillings_sum k line pattern g)
 
--- ---- the content shows whether the letters are up to k
+-- ---- lists of function values, cut to k places; the content of a word has zeros after place k if and only if no letter of the word is greater than
+-- k
 
 resize_map : (f : ℕ → ℕ) (a k n : ℕ) → k ≤ n → resize k (map f (after a n)) ≡ map f (after a k)
 resize_map f a zero n h = refl
@@ -145,18 +147,12 @@ filling_within n [] (w ∷ rows) f = absurd f
 filling_within n (line ∷ pattern) [] f = absurd f
 filling_within n (line ∷ pattern) (w ∷ rows) f = within_append n w (letters_of rows) (word_within n line w f.0) (filling_within n pattern rows f.1)
 
--- ---- Schur polynomials in k variables
+-- ---- skew Schur polynomials: their pairings as sums over tableaux, and their restrictions to k variables
 
 pub pair-skew_schur : (n : ℕ) (outer inner : List ℕ) (χ : List ℕ → ℤ) → pair (skew_schur outer inner n) χ ≡ total (λ (T : List (List ℕ)). χ (content n (letters_of T))) (tableaux n outer inner)
 pair-skew_schur n outer inner χ =
     total_map (λ (t : Term). t.1 *ℤ χ t.0) (λ (T : List (List ℕ)). (content n (letters_of T), pos 1)) (tableaux n outer inner)
     ∙ total_ext (λ (T : List (List ℕ)). pos 1 *ℤ χ (content n (letters_of T))) (λ (T : List (List ℕ)). χ (content n (letters_of T))) (λ T. one-product (χ (content n (letters_of T)))) (tableaux n outer inner)
-
-swap_tests : (a b : Bool) (x : ℤ) → cond a (cond b x (pos 0)) (pos 0) ≡ cond b (cond a x (pos 0)) (pos 0)
-swap_tests true true x = refl
-swap_tests true false x = refl
-swap_tests false true x = refl
-swap_tests false false x = refl
 
 restricted_sum : (k n : ℕ) (outer inner : List ℕ) (φ : List ℕ → ℤ) → k ≤ n → Falls inner → contains outer inner ≡ true
     → total (λ (T : List (List ℕ)). cond (fits_in k (content n (letters_of T))) (φ (resize k (content n (letters_of T)))) (pos 0)) (tableaux n outer inner)
@@ -169,7 +165,7 @@ restricted_sum k n outer inner φ h falls holds =
     (λ R m. ap₂ (λ (b : Bool) (κ : List ℕ). cond (is_padded_tableau R) (cond b (φ κ) (pos 0)) (pos 0))
     (fits_in-content k n (letters_of R) h (filling_within n (pattern_of outer inner) R (filling_tells n (pattern_of outer inner) R m)))
     (resize-content k n (letters_of R) h)
-    ∙ swap_tests (is_padded_tableau R) (are_up_to k (letters_of R)) (φ (content k (letters_of R))))
+    ∙ tests_exchanged (is_padded_tableau R) (are_up_to k (letters_of R)) (φ (content k (letters_of R))))
     ∙ total_up_to k n (pattern_of outer inner) (of_tableaux (λ (S : List (List ℕ)). φ (content k (letters_of S)))) h
     ∙ sym (total_tableaux k outer inner (λ (T : List (List ℕ)). φ (content k (letters_of T))) (λ (R : List (List ℕ)). φ (content k (letters_of R))) falls holds
     (λ T m. ap φ (sym (content-padded k inner T))))

@@ -1,4 +1,5 @@
--- Sums over the good readings are sums over the good fillings by columns: each reading is that of one tableau.
+-- Sums over the good readings are sums over the good tableaux, given by their columns: each good reading is the column reading of exactly one good
+-- tableau.
 use Rattle.std.proofs.Common.{◌≡◌, ℕ, zero, suc, ◌+◌, ◌-◌, ◌≤◌, Bool, true, false, cond, ◌&&◌, List, [], ◌∷◌, ◌++◌, map, length, replicate, drop, nat_le, nat_lt, slice_index, sym, ◌∙◌, ap, ap₂, subst, refl, inl, inr, arith, ℤ, pos, filter, flat_map}
 use Rattle.std.proofs.lemmas.Bool.{or_cases, or_left, or_right, lt-ltb, and_parts}
 use Rattle.std.proofs.lemmas.List.{length-append, length-map, append_cancel_left}
@@ -20,8 +21,9 @@ use Rattle.tableau_laws.proofs.ColumnReadings.{column_reading-padded, content-re
 use Rattle.tableau_laws.proofs.Contents.{content-padded, content-transposed}
 use Rattle.tableau_laws.proofs.PatternFillings.{Once-fronts, Fits, AllFit, MayStand, word_from, words_once, filling_tells, filling_lengths}
 use Rattle.sym_model.proofs.AfterLists.{length_after}
+use Rattle.sym_model.proofs.Integers.{nested_tests}
 
--- ---- the test `is_among` of membership in a list
+-- ---- the test `is_among` is true if and only if the word is in the list
 
 pub is_among-tells : (w : List ℕ) (ws : List (List ℕ)) → is_among w ws ≡ true → Among w ws
 is_among-tells w [] e = absurd (cc)
@@ -32,9 +34,9 @@ is_among-from w [] m = absurd m
 is_among-from w (v ∷ ws) (inl e) = or_left (same w v) (is_among w ws) (same_from w v e)
 is_among-from w (v ∷ ws) (inr m) = or_right (same w v) (is_among w ws) (is_among-from w ws m)
 
--- ---- the reading determines the columns
+-- ---- the column reading determines the columns
 
--- the number of cells of a line of a pattern
+-- the number of cells (entries true) of a line of a pattern
 cells_in : List Bool → ℕ
 cells_in [] = 0
 cells_in (true ∷ line) = suc (cells_in line)
@@ -115,7 +117,7 @@ reading_determines n (line ∷ lines) (c ∷ cs) (d ∷ ds) f g e =
     let r = split_append (reading_of cs) (filled c) (reading_of ds) (filled d) (a ∙ sym b) e in
     ap₂ ◌∷◌ (filled_determines n line c d f.0 g.0 r.1) (reading_determines n lines cs ds f.1 g.1 r.0)
 
--- ---- the number of cells of lines
+-- ---- the number of cells of the lines of a pattern and of its columns
 
 cells_first : (p : Bool) (line : List Bool) → cells_in (p ∷ line) ≡ cond p 1 0 + cells_in line
 unfolding cells_in
@@ -177,7 +179,7 @@ length_cells outer inner =
     ∙ (let k : 0 + suc i - 1 ≡ i = omega arith in ap (λ j. slice_index outer j - slice_index inner j) k))
     ∙ sym (cells_transposed (pattern_of outer inner))
 
--- ---- the columns determine the filling
+-- ---- the padded columns determine the filling
 
 put_injective : (v w : List ℕ) (cs ds : List (List ℕ)) → length v ≡ length w → length cs ≡ length ds → length cs ≤ length v
     → put_row v cs ≡ put_row w ds → (v ≡ w) × (cs ≡ ds)
@@ -246,7 +248,8 @@ transposed_fits n [] (r ∷ R) f = absurd f
 transposed_fits n (line ∷ pattern) [] f = absurd f
 transposed_fits n (line ∷ pattern) (r ∷ R) f = put_fits n line (transposed pattern) r (transposed R) f.0 (transposed_fits n pattern R f.1)
 
--- ---- the properties of a filling of a skew shape
+-- ---- a filling T of outer/inner with letters from 1 to n: its letters are positive, and its padded rows fit the pattern and have the lengths of
+-- outer
 
 record IsFillingOf (n : ℕ) (outer inner : List ℕ) (T : List (List ℕ)) : Type 0 where
   positive : ArePositiveRows T
@@ -269,13 +272,9 @@ filling_gives n outer inner T falls holds m =
     let l = filling_lengths n (pattern_of outer inner) (padded inner T) f ∙ pattern_lengths outer inner holds in
     record { positive = filling_positive n (row_lengths outer inner) T m; fits = f; lengths = l; columns = number_of_columns outer (padded inner T) falls l }
 
--- ---- good tableaux by their padded columns
+-- ---- two tests, one after the other; sums over the good tableaux as sums over their padded columns
 
-pub both_tests : (a b : Bool) (x : ℤ) → cond a (cond b x (pos 0)) (pos 0) ≡ cond (a && b) x (pos 0)
-both_tests true b x = refl
-both_tests false b x = refl
-
--- h of the padded columns, if they are a good tableau; otherwise 0
+-- h of the padded columns if they are the columns of a semistandard tableau that is good for start; otherwise 0
 abbrev pub of_good : ℕ → List ℕ → (List (List ℕ) → ℤ) → List (List ℕ) → ℤ
 of_good n start h cs = cond (are_tableau_columns cs && is_good_by_columns n start cs) (h cs) (pos 0)
 
@@ -291,9 +290,9 @@ total_good_tableaux n start outer inner f h falls inner_falls holds e =
     (λ T m. let g = filling_gives n outer inner T falls holds m in
     ap₂ (λ (b : Bool) (x : ℤ). cond b x (pos 0)) (good-padded n start outer inner T g.positive g.columns) (e T m))
     ∙ total_ext (of_columns (λ (cs : List (List ℕ)). cond (is_good_by_columns n start cs) (h cs) (pos 0))) (of_good n start h)
-    (λ cs. both_tests (are_tableau_columns cs) (is_good_by_columns n start cs) (h cs)) (fillings_over n (transposed (pattern_of outer inner))))
+    (λ cs. nested_tests (are_tableau_columns cs) (is_good_by_columns n start cs) (h cs)) (fillings_over n (transposed (pattern_of outer inner))))
 
--- ---- each good reading is that of one good tableau
+-- ---- the good readings are the column readings of the good tableaux, and each is the reading of one good tableau
 
 good_member : (n : ℕ) (start outer inner : List ℕ) (T : List (List ℕ)) → Among T (good_tableaux n start outer inner) → Among T (fillings_of n (row_lengths outer inner))
 good_member n start outer inner T m = by (nat_le (rows start) n) m
@@ -369,7 +368,7 @@ total_good_readings n start outer inner g falls inner_falls holds =
     ∙ total_good_tableaux n start outer inner (λ (T : List (List ℕ)). g (column_reading outer inner T)) (λ (cs : List (List ℕ)). g (reading_of cs)) falls inner_falls holds
     (λ T m. let t = filling_gives n outer inner T falls holds m in ap g (column_reading-padded outer inner T t.positive t.columns))
 
--- start plus the content of a good tableau is weakly decreasing
+-- the column reading of a filling T has the content of T
 
 content_of_reading : (n : ℕ) (outer inner : List ℕ) (T : List (List ℕ)) → IsFillingOf n outer inner T → content n (column_reading outer inner T) ≡ content n (letters_of T)
 content_of_reading n outer inner T t =
@@ -390,7 +389,7 @@ good_falls n start outer inner T falls m = by (nat_le (rows start) n) m
         ap (λ κ. is_falling (join start κ)) (sym (content_of_reading n outer inner T (filling_gives n outer inner T falls s.1.1 s.0))) ∙ p.0
     by false a = absurd a
 
--- a sum of f over the contents of the good readings is that over the contents of the good tableaux
+-- the sum of f(content of w) over the good readings w is the sum of f(content of T) over the good tableaux T
 pub total_good_contents : (n : ℕ) (start outer inner : List ℕ) (f : List ℕ → ℤ) → Falls outer → contains outer inner ≡ true
     → total (λ w. f (content n w)) (good_readings n start outer inner) ≡ total (λ (T : List (List ℕ)). f (content n (letters_of T))) (good_tableaux n start outer inner)
 total_good_contents n start outer inner f falls holds =

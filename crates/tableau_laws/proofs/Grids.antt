@@ -1,11 +1,11 @@
--- Rows are a grid for two tests if the first holds of neighbours in a row and the second of neighbours in a column. If no row is longer than the one
--- above, the rows are a grid if and only if the columns are one for the two tests exchanged.
+-- A list of rows is a grid (`is_grid`) for two tests if the first holds of neighbours in a row and the second of neighbours in a column. If no row is
+-- longer than the one above, the rows are a grid for two tests if and only if the columns are a grid for the tests in the opposite order.
 use Rattle.std.proofs.Common.{◌≡◌, ℕ, ◌≤◌, Bool, true, ◌&&◌, List, [], ◌∷◌, map, length, sym, ◌∙◌, ap, ap₂, refl, arith}
 use Rattle.sym_model.specs.Partition.{Falls}
 use Rattle.tableau_laws.specs.PaddedRows.{put_row, transposed}
 use Rattle.tableau_laws.specs.Grid.{may_precede, is_chain, pass_by_place, first_line, is_grid}
 
--- ---- a row on top of columns
+-- ---- columns with a row on top (`put_row`)
 
 -- no column of the list is empty
 AreNonempty : List (List ℕ) → Type 0
@@ -13,7 +13,7 @@ AreNonempty [] = Unit {0}
 AreNonempty ([] ∷ columns) = ⊥
 AreNonempty ((x ∷ c) ∷ columns) = AreNonempty columns
 
--- the first letters of the columns, one for each
+-- the first letters of the columns
 heads : List (List ℕ) → List ℕ
 heads [] = []
 heads ([] ∷ columns) = []
@@ -49,8 +49,8 @@ pub pass-nothing : (test : ℕ → ℕ → Bool) (w : List ℕ) → pass_by_plac
 pass-nothing test [] = refl
 pass-nothing test (a ∷ w) = refl
 
--- with x ∷ row on top of the column c and of `columns`, the first two columns pass the test if and only if x may precede `row`, and c passes it with
--- the first of `columns`
+-- let x ∷ row be on top of the column c and the later `columns`: the first two columns pass the test place by place if and only if the test holds of
+-- x and the first letter of `row`, and c and the first of `columns` pass it place by place
 pass-first : (test : ℕ → ℕ → Bool) (x : ℕ) (c row : List ℕ) (columns : List (List ℕ)) → length columns ≤ length row
     → pass_by_place test (x ∷ c) (first_line (put_row row columns)) ≡ (may_precede test x row && pass_by_place test c (first_line columns))
 pass-first test x c [] [] h = sym (pass-nothing test c)
@@ -75,7 +75,7 @@ grid-put along between (x ∷ row) ((y ∷ c) ∷ columns) h n =
     ap₂ (λ (p q : Bool). (between x y && is_chain between (y ∷ c)) && (p && q)) first e
     ∙ regroup (between x y) (is_chain between (y ∷ c)) (may_precede along x row) (pass_by_place along (y ∷ c) (first_line columns)) (is_chain along row) (pass_by_place between row (heads columns)) (is_grid between along columns)
 
--- ---- all rows of a grid
+-- ---- the number of columns of a list of rows, and the columns of a grid
 
 pub length-transposed : {A : Type 0} (rows : List (List A)) → Falls (map length rows) → (row : List A) → Falls (map length (row ∷ rows)) → length (transposed rows) ≤ length row
 length-transposed [] f row g = omega arith
@@ -100,7 +100,8 @@ unfolding AreNonempty
 nonempty-transposed [] f = tt
 nonempty-transposed (row ∷ rows) f = nonempty-put row (transposed rows) (length-transposed rows (falls_below row rows f) row f)
 
--- if no row is longer than the one above, the rows are a grid if and only if their columns are one for the two tests exchanged
+-- if no row is longer than the one above, the rows are a grid for `along` and `between` if and only if their columns are a grid for `between` and
+-- `along`
 pub grid-transposed : (along between : ℕ → ℕ → Bool) (rows : List (List ℕ)) → Falls (map length rows) → is_grid along between rows ≡ is_grid between along (transposed rows)
 grid-transposed along between [] f = refl
 grid-transposed along between (row ∷ rows) f =

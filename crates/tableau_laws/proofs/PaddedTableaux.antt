@@ -1,4 +1,4 @@
--- The padded rows of a filling are a semistandard tableau if and only if the filling is one.
+-- The padded rows of a filling pass the test `is_padded_tableau` if and only if the filling is semistandard.
 use Rattle.std.proofs.Common.{◌≡◌, ℕ, zero, suc, ◌+◌, ◌-◌, ◌<◌, ◌≤◌, Bool, true, ◌&&◌, List, [], ◌∷◌, ◌++◌, drop, replicate, nat_le, nat_lt, sym, ◌∙◌, ap, ap₂, subst, refl, arith}
 use Rattle.std.proofs.lemmas.Bool.{le-leb, lt-ltb}
 use Rattle.std.proofs.Math.Bool.{and-true, and_assoc}
@@ -8,23 +8,24 @@ use Rattle.tableau_laws.specs.PaddedRows.{padded}
 use Rattle.tableau_laws.proofs.Grids.{pass-nothing}
 use Rattle.tableau_laws.specs.Grid.{is_chain, pass_by_place, may_stand_above, is_padded_tableau}
 use Rattle.sym_model.proofs.Parts.{falls_after, part-drop}
+use Rattle.sym_model.proofs.Tableaux.{columns_rise-nothing}
 
--- ---- the test of a padded row
+-- ---- one padded row: it is weakly increasing if and only if the row without the zeros is
 
 zero_first : (w : List ℕ) → is_chain nat_le (0 ∷ w) ≡ is_chain nat_le w
 zero_first [] = refl
 zero_first (b ∷ w) = ap (λ p. p && is_chain nat_le (b ∷ w)) (le-leb 0 b (omega arith))
 
-zeros_first : (b : ℕ) (w : List ℕ) → is_chain nat_le (replicate b 0 ++ w) ≡ is_chain nat_le w
+pub zeros_first : (b : ℕ) (w : List ℕ) → is_chain nat_le (replicate b 0 ++ w) ≡ is_chain nat_le w
 zeros_first zero w = refl
 zeros_first (suc b) w = zero_first (replicate b 0 ++ w) ∙ zeros_first b w
 
-chain_row : (w : List ℕ) → is_chain nat_le w ≡ row_rises w
+pub chain_row : (w : List ℕ) → is_chain nat_le w ≡ row_rises w
 chain_row [] = refl
 chain_row (a ∷ []) = refl
 chain_row (a ∷ b ∷ w) = ap (λ p. nat_le a b && p) (chain_row (b ∷ w))
 
--- ---- the test of two padded rows
+-- ---- two neighbouring padded rows: `may_stand_above` holds at each place if and only if the columns of the two rows are strictly increasing
 
 above_zero : (b : ℕ) → may_stand_above 0 b ≡ true
 above_zero b = lt-ltb 0 (b + 1) (omega arith)
@@ -32,19 +33,15 @@ above_zero b = lt-ltb 0 (b + 1) (omega arith)
 above_letter : (a b : ℕ) → 0 < a → may_stand_above a b ≡ nat_lt a b
 above_letter a b h = let e : b + (1 - a) ≡ b = omega arith in ap (nat_lt a) e
 
--- for rows that begin in the same column, the upper one with positive letters, `may_stand_above` holds place by place if and only if the columns
--- strictly increase
+-- if two rows begin in the same column and the letters of the upper one are positive, `may_stand_above` holds at each place if and only if the
+-- columns of the two rows are strictly increasing
 pass_rows : (upper lower : List ℕ) → ArePositive upper → pass_by_place may_stand_above upper lower ≡ columns_rise upper lower
 pass_rows [] lower h = refl
 pass_rows (a ∷ upper) [] h = refl
 pass_rows (a ∷ upper) (b ∷ lower) h = ap₂ (λ (p q : Bool). p && q) (above_letter a b h.0) (pass_rows upper lower h.1)
 
-pub columns_rise-nothing : (upper : List ℕ) → columns_rise upper [] ≡ true
-columns_rise-nothing [] = refl
-columns_rise-nothing (a ∷ upper) = refl
-
--- if the upper row has positive letters and begins d places further right, its padded row passes the test with the lower row if and only if it has
--- strictly increasing columns with the lower row without its first d letters
+-- let the upper row have positive letters and begin d places further right than the lower row: padded with d zeros, it passes `may_stand_above` with
+-- the lower row at each place if and only if its columns with the lower row without the first d letters are strictly increasing
 pass_shifted : (d : ℕ) (upper lower : List ℕ) → ArePositive upper → pass_by_place may_stand_above (replicate d 0 ++ upper) lower ≡ columns_rise upper (drop d lower)
 pass_shifted zero upper lower h = pass_rows upper lower h
 pass_shifted (suc d) upper [] h = sym (columns_rise-nothing upper)
@@ -66,9 +63,9 @@ pass_padded b c upper lower h p =
     ∙ pass_zeros c (replicate (b - c) 0 ++ upper) lower
     ∙ pass_shifted (b - c) upper lower p
 
--- ---- the test of all padded rows
+-- ---- the padded rows of a filling with positive letters pass `is_padded_tableau` if and only if the filling is semistandard
 
--- each row of the filling has positive letters
+-- all letters of all rows of the filling are positive
 abbrev pub ArePositiveRows : List (List ℕ) → Type 0
 ArePositiveRows [] = Unit {0}
 ArePositiveRows (row ∷ rows) = ArePositive row × ArePositiveRows rows

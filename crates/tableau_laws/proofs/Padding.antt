@@ -1,4 +1,4 @@
--- The fillings of a skew shape, padded with zeros, are the fillings of its pattern.
+-- The fillings of a skew shape, padded with zeros, are the fillings of its pattern (`fillings_over`).
 use Rattle.std.proofs.Common.{◌≡◌, ℕ, zero, suc, ◌-◌, Bool, true, false, List, [], ◌∷◌, ◌++◌, map, drop, replicate, sym, ◌∙◌, ap, refl, arith, append-nil, flat_map}
 use Rattle.std.proofs.lemmas.List.{map-append, map-id}
 use Rattle.sym_model.specs.Partition.{part, after}
@@ -6,7 +6,7 @@ use Rattle.sym_model.specs.Schur.{words, row_lengths, fillings_of}
 use Rattle.sym_model.proofs.Lists.{map-map}
 use Rattle.tableau_laws.specs.PaddedRows.{words_over, fillings_over, line_of, pattern_of, padded}
 
--- ---- `flat_map` and `map` of equal functions and of composed lists
+-- ---- `flat_map` of equal functions, `flat_map` after `map`, and `map` after `flat_map`
 
 pub each_ext : {A B : Type 0} (f g : A → List B) → ((x : A) → f x ≡ g x) → (xs : List A) → flat_map f xs ≡ flat_map g xs
 each_ext f g e [] = refl
@@ -20,7 +20,7 @@ pub map_each : {A B C : Type 0} (h : B → C) (f : A → List B) (xs : List A) �
 map_each h f [] = refl
 map_each h f (x ∷ xs) = map-append h (f x) (flat_map f xs) ∙ ap (λ l. map h (f x) ++ l) (map_each h f xs)
 
--- ---- the words over a line of cells
+-- ---- the words over a line (`words_over`): a line of k cells, a line that begins with b places outside the shape, and the line of a row
 
 pub words_over-cells : (n k : ℕ) → words_over n (replicate k true) ≡ words n k
 words_over-cells n zero = refl
@@ -36,7 +36,7 @@ words_over-outside n (suc b) line =
 pub words_over-line : (n b k : ℕ) → words_over n (line_of b k) ≡ map (λ (w : List ℕ). replicate b 0 ++ w) (words n k)
 words_over-line n b k = words_over-outside n b (replicate k true) ∙ ap (map (λ (w : List ℕ). replicate b 0 ++ w)) (words_over-cells n k)
 
--- ---- the padded rows of a filling
+-- ---- the fillings of a skew shape, with each row padded with zeros, are the fillings of its pattern (`fillings_over`); first for one more row
 
 padded_row : (n k : ℕ) (inner : List ℕ) (rests padded_rests : List (List (List ℕ))) → map (padded (drop 1 inner)) rests ≡ padded_rests
     → map (padded inner) (flat_map (λ (row : List ℕ). map (λ (rest : List (List ℕ)). row ∷ rest) rests) (words n k))

@@ -1,13 +1,13 @@
--- The words and fillings that are listed for a pattern; each is listed once.
+-- The words over a line (`words_over`) and the fillings of a pattern (`fillings_over`): which ones are listed, and that each is listed once.
 use Rattle.std.proofs.Common.{◌≡◌, ℕ, suc, ◌<◌, ◌≤◌, Bool, true, false, List, [], ◌∷◌, map, length, sym, ap, ap₂, subst, refl, inl, inr, arith, flat_map}
 use Rattle.sym_model.specs.Sum.{Among, Once}
 use Rattle.sym_model.proofs.Sums.{Among-map, Among_from_map, Among-each, Among_from_each, Once-map, Once-each}
 use Rattle.tableau_laws.specs.PaddedRows.{letters_at, words_over, fillings_over}
 use Rattle.sym_model.proofs.AfterLists.{after_among, among_after, once_after}
 
--- ---- lists of a first element and a rest
+-- ---- lists of lists that begin with one of given elements and continue with one of given lists
 
--- the lists with one of `firsts` in front of one of `rests`
+-- the lists x ∷ rest with x from `firsts` and rest from `rests`
 abbrev pub fronts : {A : Type 0} → List A → List (List A) → List (List A)
 fronts {A} firsts rests = flat_map (λ (x : A). map (λ (ys : List A). x ∷ ys) rests) firsts
 
@@ -36,14 +36,14 @@ Once-fronts {A} firsts rests o p =
         let e : w ≡ z ∷ s.0 = s.2 in
         cc
 
--- ---- the words over a line
+-- ---- the words over a line: those with an allowed letter at each place, each listed once
 
--- a is a letter for a place: one from 1 to n if the place is a cell, and 0 outside the shape
+-- the letter a is allowed at a place: it is from 1 to n if the place is a cell (true), and 0 if it is outside the shape (false)
 abbrev pub MayStand : ℕ → Bool → ℕ → Type 0
 MayStand n true a = (0 < a) × (a ≤ n)
 MayStand n false a = a ≡ 0
 
--- w has a letter for each place of the line
+-- the word w is as long as the line and has an allowed letter (`MayStand`) at each place
 abbrev pub Fits : ℕ → List Bool → List ℕ → Type 0
 Fits n [] [] = Unit {0}
 Fits n [] (a ∷ w) = ⊥
@@ -86,9 +86,9 @@ fits_length n [] (a ∷ w) f = absurd f
 fits_length n (p ∷ line) [] f = absurd f
 fits_length n (p ∷ line) (a ∷ w) f = ap suc (fits_length n line w f.1)
 
--- ---- the fillings over a pattern
+-- ---- the fillings of a pattern: those with a word for each line, each listed once
 
--- the filling has a word for each line of the pattern
+-- the filling has one word for each line of the pattern, and each word fits its line (`Fits`)
 abbrev pub AllFit : ℕ → List (List Bool) → List (List ℕ) → Type 0
 AllFit n [] [] = Unit {0}
 AllFit n [] (w ∷ ws) = ⊥

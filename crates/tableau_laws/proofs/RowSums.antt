@@ -1,4 +1,4 @@
--- Sums over the semistandard tableaux of a skew shape as sums over padded rows, and as sums over padded columns.
+-- Sums over the semistandard tableaux of a skew shape as sums over the fillings of its pattern by padded rows, and by padded columns.
 use Rattle.std.proofs.Common.{◌≡◌, ℕ, zero, suc, ◌-◌, ◌≤◌, Bool, true, false, cond, List, [], ◌∷◌, map, length, replicate, drop, nat_le, sym, ◌∙◌, ap, ap₂, subst, refl, inl, inr, arith, ℤ, pos, filter}
 use Rattle.std.proofs.lemmas.Bool.{and_parts, leb-true}
 use Rattle.std.proofs.lemmas.List.{length-append, length-replicate}
@@ -15,7 +15,7 @@ use Rattle.tableau_laws.proofs.PaddedTableaux.{ArePositiveRows, padded-semistand
 use Rattle.tableau_laws.proofs.PatternFillings.{Among_from_fronts, filling_tells, filling_lengths}
 use Rattle.sym_model.proofs.AfterLists.{after_among}
 
--- ---- the letters of a filling are positive
+-- ---- all letters of the listed fillings are positive
 
 word_positive : (n k : ℕ) (w : List ℕ) → Among w (words n k) → ArePositive w
 word_positive n zero w (inl e) = subst ArePositive (sym e) tt
@@ -32,7 +32,7 @@ filling_positive n (k ∷ lengths) rows m =
     let r = Among_from_fronts rows (words n k) (fillings_of n lengths) m in
     subst ArePositiveRows (sym r.4) (word_positive n k r.0 r.2, filling_positive n lengths r.1 r.3)
 
--- ---- members of the list of tableaux are fillings that pass the tests
+-- ---- the members of `tableaux n outer inner`: the fillings that are semistandard, if outer contains inner
 
 pub tableau_tells : (n : ℕ) (outer inner : List ℕ) (T : List (List ℕ)) → Among T (tableaux n outer inner)
     → Among T (fillings_of n (row_lengths outer inner)) × ((semistandard inner T ≡ true) × (contains outer inner ≡ true))
@@ -43,9 +43,9 @@ tableau_tells n outer inner T m = by (contains outer inner) refl m
     by true e a = let r = Among_from_select (semistandard inner) T (fillings_of n (row_lengths outer inner)) a in (r.0, (r.1, e))
     by false e a = absurd a
 
--- ---- sums over padded rows
+-- ---- sums over the tableaux as sums over padded rows
 
--- g of the padded rows, if they are a tableau; otherwise 0
+-- g of the padded rows if they are the rows of a semistandard tableau; otherwise 0
 abbrev pub of_tableaux : (List (List ℕ) → ℤ) → List (List ℕ) → ℤ
 of_tableaux g rows = cond (is_padded_tableau rows) (g rows) (pos 0)
 
@@ -62,7 +62,7 @@ total_tableaux n outer inner f g falls holds e =
     ∙ sym (total_map (of_tableaux g) (padded inner) (fillings_of n (row_lengths outer inner)))
     ∙ ap (total (of_tableaux g)) (padded-fillings n outer inner)
 
--- ---- the rows of a shape are not longer than those above
+-- ---- the lines of the pattern of outer/inner have the lengths of the parts of outer
 
 pub length_line : (a b : ℕ) → b ≤ a → length (line_of b (a - b)) ≡ a
 length_line a b h =
@@ -85,13 +85,14 @@ pattern_lengths (a ∷ outer) inner h =
     let r = contains_rest a outer inner h in
     ap₂ ◌∷◌ (length_line a (part inner 1) r.0) (pattern_lengths outer (drop 1 inner) r.1)
 
--- ---- sums over padded columns
+-- ---- sums over the tableaux as sums over padded columns
 
--- h of the padded columns, if they are a tableau; otherwise 0
+-- h of the padded columns if they are the columns of a semistandard tableau; otherwise 0
 abbrev pub of_columns : (List (List ℕ) → ℤ) → List (List ℕ) → ℤ
 of_columns h columns = cond (are_tableau_columns columns) (h columns) (pos 0)
 
--- if the lines of a pattern have weakly decreasing lengths, a sum over its fillings by rows is that over its fillings by columns
+-- if no line of a pattern is longer than the one above, the sum of h(columns of T) over the tableaux T that fill the pattern by rows is the sum of h
+-- over those fillings of the transposed pattern that are the columns of a tableau
 pub total_rows : (n : ℕ) (pattern : List (List Bool)) (h : List (List ℕ) → ℤ) → Falls (map length pattern)
     → total (of_tableaux (λ (rows : List (List ℕ)). h (transposed rows))) (fillings_over n pattern) ≡ total (of_columns h) (fillings_over n (transposed pattern))
 total_rows n pattern h falls =
@@ -100,7 +101,8 @@ total_rows n pattern h falls =
     (grid-transposed _ _ rows (subst Falls (sym (filling_lengths n pattern rows (filling_tells n pattern rows m))) falls)))
     ∙ transposed-sum n pattern (of_columns h)
 
--- a sum over the tableaux of a skew shape is a sum over their padded columns
+-- if f of each filling is h of its padded columns, the sum of f over the tableaux of outer/inner is the sum of h over the lists of padded columns
+-- that are those of a tableau
 pub total_columns : (n : ℕ) (outer inner : List ℕ) (f h : List (List ℕ) → ℤ) → Falls outer → Falls inner → contains outer inner ≡ true
     → ((rows : List (List ℕ)) → Among rows (fillings_of n (row_lengths outer inner)) → f rows ≡ h (transposed (padded inner rows)))
     → total f (tableaux n outer inner) ≡ total (of_columns h) (fillings_over n (transposed (pattern_of outer inner)))

@@ -1,4 +1,4 @@
-//! Fillings read by columns.
+//! Good tableaux of a skew shape, counted column by column.
 
 ghost use Rattle.std.specs.Prelude.{◌≡◌, ◌≤◌, ℕ, ℤ, pos, Bool, true, List, [], ◌∷◌, ◌++◌};
 ghost use Rattle.sym_model.specs.Sum.{total};
@@ -8,12 +8,12 @@ ghost use Rattle.sym_model.specs.Schur.{contains, content};
 ghost use Rattle.sym_model.specs.GoodTableau.{good_readings, product_count, skew_count};
 ghost use Rattle.tableau_laws.specs.ColumnFold.{next_columns, over_columns, column_lines, is_sum};
 
-/// The good tableaux of a skew shape for a start, those for which start plus the content of each
-/// column and of the columns right of it is a partition, are counted column by column, from the
-/// rightmost column on; whether a further column may be added depends only on the sum reached,
-/// which is start plus the content so far, and on the column to its right. The law is about the
-/// sum, over the good tableaux, of a function of start plus the content, and so about the counts of
-/// products and skew shapes.
+/// The good tableaux of outer/inner for a start are those for which start plus the content of the
+/// columns right of column j is a partition, for each j ≥ 0. They are listed by choosing the
+/// columns one by one from the right: whether a column may be added depends only on the sum
+/// reached, which is start plus the content so far, and on the column to its right. So the sum of
+/// f(start + content) over the good tableaux, for any function f, is a sum over these choices
+/// (`over_columns`), and the counts of products and of skew shapes are such sums.
 ///
 /// Example: two of the good tableaux of the shape (2,1) for the start (2,1) reach the sum (3,2,1).
 pub fn column_counting_law()

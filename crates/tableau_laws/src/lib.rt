@@ -1,11 +1,13 @@
-//! Laws of tableaux: fillings by rows and by columns.
+//! Laws of tableaux: the number of good tableaux, computed column by column, and skew Schur
+//! polynomials in fewer variables.
 //!
 //! A law function has an empty body: its contract is the law.
 //!
 //! What is proved:
 //!
 //! `column_counting_law`: good tableaux are counted column by column. `schur_restriction_law`: a
-//! skew Schur polynomial restricts to that in fewer variables.
+//! skew Schur polynomial with the last variables set to 0 is the skew Schur polynomial of the same
+//! shape in fewer variables.
 #![tactic(auto)]
 
 mod by_columns;

@@ -1,4 +1,4 @@
--- Lists that represent one polynomial: their sums, and other lists with the same coefficients.
+-- Lists of terms (x, c) that represent a polynomial (`Represents`): sums over such a list, and lists with the same coefficients.
 use Rattle.std.proofs.Common.{◌≡◌, Bool, true, pos, List, ℕ, ℤ, ◌*ℤ◌, sym, ap, ◌∙◌}
 use Rattle.std.specs.Cmp.{IsEquivalence}
 use Rattle.coeff_rings.specs.Fractions.{whole}
@@ -20,11 +20,11 @@ represents_as polynomial terms f g e h = record {
   equal = Same_trans (scale (pos 1) (value_by polynomial terms)) (scale (pos (denominators terms)) f) (scale (pos (denominators terms)) g) h.equal (scale_respects (pos (denominators terms)) f g e);
 }
 
--- if f and g agree on all labels, the sums of a list with f and with g are equal
+-- if f and g agree on all labels, the sums of c·f(x) and of c·g(x) over the terms (x, c) of a list are equal
 pub sums_as : {L : Type 0} (f g : L → ℤ) → ((x : L) → f x ≡ g x) → (list : WholeTermsOf L) → over f list ≡ over g list
 sums_as {L} f g e list = total_ext (λ (t : L × ℤ). t.1 *ℤ f t.0) (λ (t : L × ℤ). t.1 *ℤ g t.0) (λ t. ap (λ z. t.1 *ℤ z) (e t.0)) list
 
--- if a list represents f, the sum of its pairings with a test function φ is the pairing of f with φ
+-- if a list of terms (x, c) represents f, the sum of c times the pairing of the polynomial of x with φ is the pairing of f with φ
 pub sums_represented : {L : Type 0} (polynomial : L → Poly) (terms : WholeTermsOf L) (f : Poly) → Represents polynomial (as_fractions terms) f 1
     → (φ : List ℕ → ℤ) → over (λ x. pair (polynomial x) φ) terms ≡ pair f φ
 sums_represented polynomial terms f h φ =

@@ -1,5 +1,5 @@
--- The covers of a permutation at a place: their number, and the number of their letters.
-use Rattle.std.proofs.Common.{◌≡◌, ℕ, suc, ◌+◌, ◌-◌, ◌<◌, ◌≤◌, ◌==◌, max, Bool, true, false, cond, List, [], ◌∷◌, map, length, refl, sym, ap, subst, arith, length-append, filter}
+-- The covers of a permutation in which the letter at a given place is exchanged with another one: their number, and the number of their letters.
+use Rattle.std.proofs.Common.{ℕ, ◌+◌, ◌-◌, ◌<◌, ◌≤◌, ◌==◌, max, List, map, length, sym, ap, subst, arith, length-append}
 use Rattle.sym_model.specs.Sum.{Among}
 use Rattle.sym_model.specs.Partition.{after}
 use Rattle.sym_model.specs.PlaceOrders.{inversions}
@@ -9,23 +9,13 @@ use Rattle.sym_model.proofs.Sums.{Among_from_map, Among_from_select}
 use Rattle.schubert_laws.proofs.MonkFromOne.{swap_is}
 use Rattle.schubert_laws.proofs.Swaps.{swap_at, length-swap_at}
 use Rattle.schubert_laws.proofs.Members.{fewer_kept}
-
-length_select : {A : Type 0} (test : A → Bool) (xs : List A) → length (filter test xs) ≤ length xs
-length_select test [] = omega arith
-length_select test (x ∷ xs) = by (test x) (length_select test xs)
-  where
-    by : (b : Bool) → length (filter test xs) ≤ length xs → length (cond b (x ∷ filter test xs) (filter test xs)) ≤ suc (length xs)
-    by true h = omega arith
-    by false h = omega arith
-
-length_map : (f : ℕ → List ℕ) (js : List ℕ) → length (map f js) ≡ length js
-length_map f [] = refl
-length_map f (j ∷ js) = ap suc (length_map f js)
+use Rattle.std.proofs.lemmas.List.{length-map}
+use Rattle.sym_model.proofs.Lists.{length-filter-within}
 
 some_covers : (w : List ℕ) (f : ℕ → List ℕ) (a k : ℕ) → length (covers_among w (map f (after a k))) ≤ k
 some_covers w f a k =
-    let s = length_select (λ (v : List ℕ). inversions v == inversions w + 1) (map f (after a k)) in
-    let m = length_map f (after a k) in
+    let s = length-filter-within (λ (v : List ℕ). inversions v == inversions w + 1) (map f (after a k)) in
+    let m = length-map (after a k) f in
     let l = length_after a k in
     omega arith
 

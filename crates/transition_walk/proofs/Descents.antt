@@ -1,10 +1,10 @@
--- The letters at the last descent and next to it.
+-- The last descent r of a permutation w of n letters: 1 ≤ r < n and w(r) > w(r + 1); and no letter of w is greater than a fixed letter after the end
+-- of w.
 use Rattle.std.proofs.Common.{◌≡◌, ℕ, suc, ◌+◌, ◌-◌, ◌<◌, ◌≤◌, List, length, get_or, ap, ◌∙◌, arith, Some}
 use Rattle.sym_model.specs.Permutation.{IsOneLine, letter, last_descent}
-use Rattle.sym_model.proofs.Lists.{get_or-any}
 use Rattle.schubert_laws.proofs.Transition.{last_descent_is}
-use Rattle.schubert_laws.proofs.TransitionFromOne.{get_past}
 use Rattle.schubert_laws.proofs.Ranks.{letter_within}
+use Rattle.std.proofs.lemmas.List.{get_or_past, get_or_default}
 
 pub descent_facts : (w : List ℕ) (r : ℕ) → last_descent w ≡ Some r → (1 ≤ r) × (r + 1 ≤ length w) × (letter w (suc r) < letter w r)
 descent_facts w r e =
@@ -14,9 +14,9 @@ descent_facts w r e =
     let f3 = f.3 in
     let i : r - 1 ≡ f.0 = omega arith in
     let j : suc r - 1 ≡ suc f.0 = omega arith in
-    let a = ap (λ t. get_or w t r) i ∙ get_or-any w f.0 r 0 (omega arith) in
-    let b = ap (λ t. get_or w t (suc r)) j ∙ get_or-any w (suc f.0) (suc r) 0 f2 in
+    let a = ap (λ t. get_or w t r) i ∙ get_or_default w f.0 r 0 (omega arith) in
+    let b = ap (λ t. get_or w t (suc r)) j ∙ get_or_default w (suc f.0) (suc r) 0 f2 in
     (omega arith, omega arith, omega arith)
 
 pub letter_past : (w : List ℕ) (r j : ℕ) → IsOneLine w → r ≤ length w → length w < j → letter w r ≤ letter w j
-letter_past w r j o h l = let a = letter_within w r o h in let b = get_past w (j - 1) j (omega arith) in omega arith
+letter_past w r j o h l = let a = letter_within w r o h in let b = get_or_past w (j - 1) j (omega arith) in omega arith

@@ -1,8 +1,8 @@
--- Lists that are added to those that wait (specs/Waiting).
---     joined, joined_overflow                  one list at one permutation
---     joins_none, joins_both, overflows_both   nothing added, two lists added one after the other
---     joins_swapped, overflows_swapped         two lists added in the other order
---     each_append, each_value, each_growth     one list at each of some permutations
+-- Lists of terms added to the lists of waiting permutations (`Joins` of specs/Waiting).
+--     joined, joined_overflow                  one list added at one permutation
+--     joins_none, joins_both, overflows_both   nothing added, and two lists of entries added one after the other
+--     joins_swapped, overflows_swapped         two lists of entries added in the other order
+--     each_append, each_value, each_growth     the same list of terms added at each of several permutations
 use Rattle.std.proofs.Common.{◌≡◌, ℕ, ◌+◌, ◌<◌, ◌≤◌, Bool, true, List, [], ◌∷◌, ◌++◌, length, get_or, set, refl, sym, ap, ◌∙◌, subst, inl, inr, arith, ℤ, ◌+ℤ◌}
 use Rattle.std.specs.Cmp.{IsEquivalence}
 use Rattle.std.proofs.lemmas.Int.{ints}
@@ -15,7 +15,7 @@ use Rattle.linear_combinations.specs.Gains.{WholeTermsOf, over, HaveLabels, Gain
 use Rattle.linear_combinations.proofs.Masses.{labels_gained}
 use Rattle.transition_walk.specs.Todo.{load, MayGain, AreInOrder}
 use Rattle.transition_walk.specs.Transitions.{weight}
-use Rattle.transition_walk.proofs.TodoLists.{total_gain, among_gain, total_set, among_set, load_gain, load_set, load_append}
+use Rattle.transition_walk.proofs.TodoLists.{total_gain, among_gain, total_set, load_gain, load_set, load_append}
 use Rattle.transition_walk.proofs.WaitingOrder.{order_set}
 use Rattle.transition_walk.proofs.Weights.{sum_by-gain}
 use Rattle.transition_walk.specs.Waiting.{WithList, value_of, growth, IsWaiting, each_waits, Joins, WaitingOverflows}
@@ -24,12 +24,13 @@ use Rattle.sym_model.proofs.NumberSums.{sum_by-set, sum_by-at, sum_by-append}
 use Rattle.linear_combinations.specs.Gains.{weighed}
 use Rattle.linear_combinations.proofs.Weighed.{weighed_zero, weighed_add, gains_weighed, overflow_weighed}
 use lib.IntN.{+ℤ_idr}
+use Rattle.schubert_laws.proofs.Swaps.{among_set}
 
--- the entry with the permutation of w and the list `factor`
+-- `entry w factor`: the permutation of w with the list `factor` in place of its own
 abbrev pub entry : {L : Type 0} → WithList L → WholeTermsOf L → WithList L
 entry w factor = record { perm = w.perm; factor = factor }
 
--- ---- one list added at one permutation
+-- ---- one list of terms added at one permutation
 
 module _ {L : Type 0} (old mid : List (WithList L)) (perm : List ℕ) (none : WholeTermsOf L) (empty : none ≡ []) (gain : MayGain old (record { perm = perm; factor = none }) mid)
     (at : ℕ) (w : WithList L) (inside : at < length mid) (is : w ≡ get_or mid at w) (same : w.perm ≡ perm) (order : AreInOrder old → AreInOrder mid) (factor gained : WholeTermsOf L) where
@@ -53,7 +54,7 @@ module _ {L : Type 0} (old mid : List (WithList L)) (perm : List ℕ) (none : Wh
           let here = more (record { perm = perm; factor = gained }) (inl refl) in
           let middle = among_gain (IsWaiting extent n top) old mid (record { perm = perm; factor = none }) gain
           (record { few = here.few; inside = here.inside; labels = subst (HaveLabels (λ label. extent label + inversions perm ≤ top)) (sym empty) (λ t k. absurd k) }) was in
-          elim (among_set mid at (entry w factor) x m) [
+          elim (among_set x at (entry w factor) mid m) [
             | inl e ↦
                 let before = middle w (Among-get_or mid at w inside is) in
                 subst (IsWaiting extent n top) (sym e)
@@ -86,7 +87,7 @@ module _ {L : Type 0} (old mid : List (WithList L)) (perm : List ℕ) (none : Wh
           omega arith;
     }
 
--- ---- two lists added one after the other
+-- ---- two lists of entries added one after the other
 
 module _ {L : Type 0} where
   pub joins_none : (old : List (WithList L)) → Joins old [] old
@@ -139,7 +140,7 @@ module _ {L : Type 0} where
         omega arith;
   }
 
-  -- if `new` is `old` with the lists g and then h joined, it is `old` with h and then g joined
+  -- if `new` results from adding the entries g and then h to `old`, it results from adding h and then g to `old`
   pub joins_swapped : (old g h new : List (WithList L)) → Joins old (g ++ h) new → Joins old (h ++ g) new
   joins_swapped old g h new a = record {
     value = λ φ.
@@ -171,13 +172,13 @@ module _ {L : Type 0} where
         omega arith;
   }
 
-  -- ---- one list added at each of some permutations
+  -- ---- one list of terms added at each of several permutations
 
   pub each_append : (list : WholeTermsOf L) (xs ys : List (List ℕ)) → each_waits list (xs ++ ys) ≡ each_waits list xs ++ each_waits list ys
   each_append list [] ys = refl
   each_append list (x ∷ xs) ys = ap (λ (l : List (WithList L)). (record { perm = x; factor = list }) ∷ l) (each_append list xs ys)
 
-  -- if xs is `rest` followed by x, the permutations of xs, each with `list`, are those of `rest`, each with `list`, followed by x with `list`
+  -- if xs is `rest` followed by x, the entries of `rest`, each with `list`, followed by x with `list`, are the entries of xs, each with `list`
   pub each_popped : (list : WholeTermsOf L) (xs rest : List (List ℕ)) (x : List ℕ) → xs ≡ rest ++ x ∷ []
       → each_waits list rest ++ (record { perm = x; factor = list }) ∷ [] ≡ each_waits list xs
   each_popped list xs rest x e = sym (each_append list rest (x ∷ [])) ∙ ap (each_waits list) (sym e)

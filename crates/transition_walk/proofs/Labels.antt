@@ -1,4 +1,4 @@
--- Properties of a permutation that the test of labels decides.
+-- Lists of numbers that the test `is_permutation_label` accepts are permutations.
 use Rattle.std.proofs.Common.{◌≡◌, ℕ, ◌≤◌, true, false, ◌&&◌, not, List, [], ◌∷◌, length, inl, inr, arith, leb}
 use Rattle.std.proofs.lemmas.Bool.{and_parts, leb-true, or_parts, not-true}
 use Rattle.sym_model.specs.Sum.{Among, Once}
@@ -32,6 +32,6 @@ label_one_line w h =
     let d = and_parts (are_letters (length w) w) (not (has_equal_entries w)) c in
     record { letters = letters_tell (length w) w d.0; once = once_tells w (not-true (has_equal_entries w) d.1) }
 
--- the identity of one letter is a permutation
+-- (1), the identity of one letter, is a permutation
 pub one_one_line : IsOneLine (1 ∷ [])
 one_one_line = record { letters = λ a m. elim m [ inl e ↦ (omega arith, omega arith) | inr k ↦ absurd k ]; once = ((λ m. m), tt) }

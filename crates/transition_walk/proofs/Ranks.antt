@@ -1,5 +1,5 @@
 -- The weights of permutations, which decrease with each step of the transition rule.
---     weights_less    at most 255 lower permutations together weigh less than the permutation they replace
+--     weights_less    at most 255 permutations of a rank (`rank 256`) below b together weigh less than one of rank b
 use Rattle.std.proofs.Common.{◌≡◌, ℕ, zero, suc, ◌+◌, ◌-◌, ◌*◌, ◌^◌, ◌<◌, ◌≤◌, List, ap, ◌∙◌, arith}
 use Rattle.transition_walk.specs.Transitions.{rank, weight}
 use native.Mathlib.Nat.{mul-le-mul_left, pow-suc}

@@ -1,8 +1,9 @@
--- The value of a Schubert polynomial with each variable 1, by the transition rule, and bounds that no step of the rule raises (specs/Growth).
---     ones_positive, ones_step    the value at w is positive, and is the sum of the values at w·t_rs and its covers
---     share_step                  no step of the rule raises a multiple of S_w(1, .., 1)·base^l, if w·t_rs counts at most `base` times
---     ones_limit                  with one variable for each letter of w the value is that of the whole polynomial
---     limit_share                 S_w(1, .., 1)·base^l, for l inversions of w, is a bound that no step raises
+-- The value of a Schubert polynomial with each variable 1, by the transition rule, and bounds that no step of the rule increases (`IsShare` of
+-- specs/Growth).
+--     ones_positive, ones_step    the value at w is positive, and is the sum of the values at w·t_rs and at the covers in the rule
+--     share_step                  no step increases S_w(1, .., 1)·base^l, with l inversions of w, if one term becomes at most `base` terms at w·t_rs
+--     ones_limit                  the value of S_w in one variable for each letter of w is the value of the whole polynomial
+--     limit_share                 S_w(1, .., 1)·base^l, with l inversions of w, is a bound that no step increases
 use Rattle.std.proofs.Common.{◌≡◌, ℕ, suc, zero, ◌+◌, ◌-◌, ◌*◌, ◌^◌, ◌≤◌, true, cond, List, [], ◌∷◌, length, refl, sym, ap, ◌∙◌, inl, inr, arith, ℤ, pos, negsuc, ◌*ℤ◌, ◌≤ℤ◌}
 use Rattle.std.specs.Prelude.{nat_abs}
 use Rattle.std.proofs.lemmas.Int.{ints}
@@ -26,13 +27,14 @@ use Rattle.transition_walk.specs.Growth.{GrowsBy, IsShare}
 use native.Mathlib.Nat.{mul-le-mul_left, pow-suc}
 use Rattle.sym_model.specs.Sum.{sum_by}
 use Rattle.linear_combinations.proofs.Weighed.{weighed_all}
-use Rattle.std.proofs.Math.Nat.{pow-zero}
+use Rattle.std.proofs.Math.Nat.{pow-zero, mul-pos}
 
--- the value of the Schubert polynomial of a permutation with each of n variables 1
+-- `ones n w`: the value of the Schubert polynomial of w in n variables with each variable 1
 abbrev pub ones : ℕ → List ℕ → ℕ
 ones n w = nat_abs (value_at_ones (schubert_in w n))
 
--- a bound for the number of terms made from one term at w, if each inversion turns a term into at most `base` terms
+-- `share n base w`: the value `ones n w` times base^l, with l the number of inversions of w; it bounds the number of terms that one term at w becomes
+-- if each step of the transition rule turns a term into at most `base` terms at w·t_rs
 abbrev pub share : ℕ → ℕ → List ℕ → ℕ
 share n base w = ones n w * base ^ inversions w
 
@@ -103,11 +105,8 @@ power_positive base (suc k) h =
     omega arith
 
 pub share_positive : (n base : ℕ) (w : List ℕ) → IsShort n w → n ≤ base → 1 ≤ share n base w
-share_positive n base w short some = by (ones n w) (base ^ inversions w) (ones_positive n w short) (power n w short.few some)
+share_positive n base w short some = mul-pos (ones_positive n w short) (power n w short.few some)
   where
-    by : (a b : ℕ) → 1 ≤ a → 1 ≤ b → 1 ≤ a * b
-    by a b h k = let m = mul-le-mul_left a k in omega arith
-
     power : (n : ℕ) (w : List ℕ) → length w ≤ n → n ≤ base → 1 ≤ base ^ inversions w
     power zero [] h k = let e = pow-zero base in omega arith
     power zero (a ∷ w) h k = absurd (omega arith)
@@ -144,8 +143,8 @@ share_step n r s base few m w short t h =
         let s : m * ((a + b) * y) ≡ m * (a * y) + m * (b * y) = omega arith in
         omega arith
 
--- if an image of a label of extent at most k has at most k + extra terms, S_w(1, .., 1)·(top + extra)^l, for l inversions of w, is a share: no step of the
--- transition rule increases it
+-- if a factor turns each label of extent at most k into a list with Σ|c| ≤ k + extra, then S_w(1, .., 1)·(top + extra)^l, with l the number of
+-- inversions of w, is a share: no step of the transition rule increases it
 pub limit_share : {L : Type 0} (images : ℕ → List ℕ → L → WholeTermsOf L) (extent : L → ℕ) (takes : ℕ → List ℕ → L → Type 0) (most extra n top : ℕ) → top ≤ most + 1
     → ((k r : ℕ) (v : List ℕ) (label : L) → IsShort k v → 1 ≤ r → r ≤ k → r ≤ 255 → k ≤ most → extent label ≤ k → GrowsBy extent (takes r v) (images r v) k extra label)
     → IsShare images extent n top (λ w label. share n (top + extra) w)

@@ -1,6 +1,7 @@
 -- Lists whose keys are strictly sorted by a total order: the result of a binary search, and changes that keep them
 -- sorted.
 use Rattle.std.proofs.Common.{◌≡◌, ℕ, zero, suc, ◌<◌, ◌≤◌, List, [], ◌∷◌, ◌++◌, map, length, get_or, set, refl, sym, ap, ◌∙◌, subst, inl, inr, arith}
+use Rattle.std.specs.Prelude.{Some, slice_get}
 use Rattle.std.specs.Cmp.{IsTotalOrder, alike_right, tied_itself}
 use Rattle.std.specs.List.{AllByRecursion, insert}
 use Rattle.std.specs.List.Sorted.{IsStrictlySortedBy, IsNonDecreasingBy, IsPartitionPoint}
@@ -8,8 +9,10 @@ use Rattle.std.specs.declared.cmp.Ordering.{Ordering}
 use Rattle.std.specs.declared.cmp.Ordering.TheVariants.{Less, Equal, Greater}
 use Rattle.std.specs.Ordering.{ordering_index, ordering_reverse}
 use Rattle.std.proofs.lemmas.Bool.{cases_lt}
+use Rattle.std.proofs.lemmas.List.{get_or_default}
 use Rattle.std.proofs.lemmas.Map.Keys.{sorted_head, sorted_tail}
 use Rattle.sym_model.specs.Sum.{Among}
+use Rattle.std.proofs.lemmas.List.{map-append}
 
 -- ---- the keys of a list with one element replaced, and of a prefix of a list
 
@@ -28,13 +31,9 @@ unfolding IsStrictlySortedBy
 sorted_front R [] ls s = tt
 sorted_front R (k ∷ ks) ls s = (all_front (λ l. R k l ≡ Less) ks ls s.0, sorted_front R ks ls s.1)
 
-keys_append : {X K : Type 0} (key : X → K) (xs ys : List X) → map key (xs ++ ys) ≡ map key xs ++ map key ys
-keys_append key [] ys = refl
-keys_append key (x ∷ xs) ys = ap (λ l. key x ∷ l) (keys_append key xs ys)
-
 -- if the keys of a list are strictly sorted, so are those of its first elements
 pub sorted_rest : {X K : Type 0} (key : X → K) (R : K → K → Ordering) (all xs ys : List X) → all ≡ xs ++ ys → IsStrictlySortedBy R (map key all) → IsStrictlySortedBy R (map key xs)
-sorted_rest key R all xs ys e s = sorted_front R (map key xs) (map key ys) (subst (IsStrictlySortedBy R) (ap (map key) e ∙ keys_append key xs ys) s)
+sorted_rest key R all xs ys e s = sorted_front R (map key xs) (map key ys) (subst (IsStrictlySortedBy R) (ap (map key) e ∙ map-append key xs ys) s)
 
 pub sorted_one : {X K : Type 0} (key : X → K) (R : K → K → Ordering) (all : List X) (x : X) → all ≡ x ∷ [] → IsStrictlySortedBy R (map key all)
 unfolding IsStrictlySortedBy
@@ -67,7 +66,7 @@ module _ {X K : Type 0} (key : X → K) (R : K → K → Ordering) (o : IsTotalO
       by Equal e = let p = ap ordering_index (sym (alike_right o b k a e) ∙ h) in omega arith
       by Greater e = let p = ap ordering_index e in let q = index_most (R a k) in omega arith
 
-  -- along a list with strictly sorted keys the comparisons with a key are non-decreasing, as a binary search requires
+  -- if the keys of xs are strictly sorted, the results of comparing them with the key k are non-decreasing, as a binary search requires
   pub comparisons_rise : (xs : List X) (k : K) → IsStrictlySortedBy R (map key xs) → IsNonDecreasingBy (λ x. ordering_index (R (key x) k)) xs
   comparisons_rise xs k s i j d h l = elim (cases_lt i j) [
     | inl f ↦ index_rises (key (get_or xs i d)) (key (get_or xs j d)) k (below xs i j d s f l)
@@ -79,9 +78,29 @@ module _ {X K : Type 0} (key : X → K) (R : K → K → Ordering) (o : IsTotalO
   absent_where (x ∷ xs) k h (inl e) = h 0 x (omega arith) (ap (λ l. R l k) (sym e) ∙ tied_itself o k)
   absent_where (x ∷ xs) k h (inr m) = absent_where xs k (λ j d l. h (suc j) d (omega arith)) m
 
-  -- a key for which there is a gap is not one of the keys
+  -- if the keys before the index `at` are less than k and those from `at` on are greater, k is not one of the keys
   pub absent : (xs : List X) (k : K) (at : ℕ) → IsPartitionPoint (λ x. R (key x) k ≡ Less) (λ x. R (key x) k ≡ Greater) xs at → Among k (map key xs) → ⊥
   absent xs k at p = absent_where xs k (λ j d l e. elim (cases_lt j at) [ inl f ↦ let q = p.0 j d (omega arith) f in cc | inr f ↦ let q = p.1 j d f l in cc ])
+
+  not_below : (k l : K) → R k l ≡ Less → k ≡ l → ⊥
+  not_below k l h e = let p = tied_itself o k in let q : R k k ≡ Less = ap (R k) e ∙ h in cc
+
+  member_above : (k : K) (xs : List X) (w : X) → AllByRecursion (λ l. R k l ≡ Less) (map key xs) → Among w xs → R k (key w) ≡ Less
+  member_above k [] w a m = absurd m
+  member_above k (x ∷ xs) w a (inl e) = subst (λ y. R k (key y) ≡ Less) (sym e) a.0
+  member_above k (x ∷ xs) w a (inr m) = member_above k xs w a.1 m
+
+  -- if the keys of a list are strictly sorted, and the key at an index is that of an element w, then w is at the index
+  pub found_entry : (xs : List X) (at : ℕ) (w : X) → IsStrictlySortedBy R (map key xs) → at < length xs → ((x : X) → x ≡ get_or xs at x → key x ≡ key w) → Among w xs
+      → slice_get xs at ≡ Some w
+  found_entry [] at w s h same m = absurd m
+  found_entry (x ∷ xs) zero w s h same (inl e) = ap Some (sym e)
+  found_entry (x ∷ xs) zero w s h same (inr m) =
+      absurd (not_below (key x) (key w) (member_above (key x) xs w (sorted_head R (key x) (map key xs) s) m) (same x refl))
+  found_entry (x ∷ xs) (suc at) w s h same (inl e) =
+      absurd (not_below (key x) (key (get_or xs at w)) (head_below (key x) xs at w (sorted_head R (key x) (map key xs) s) (omega arith))
+      (ap key (sym e) ∙ sym (same (get_or xs at w) (get_or_default xs at w (get_or xs at w) (omega arith)))))
+  found_entry (x ∷ xs) (suc at) w s h same (inr m) = found_entry xs at w (sorted_tail R (key x) (map key xs) s) (omega arith) same m
 
   all_above : (xs : List X) (k : K) → ((j : ℕ) (d : X) → j < length xs → R (key (get_or xs j d)) k ≡ Greater) → AllByRecursion (λ l. R k l ≡ Less) (map key xs)
   all_above [] k h = tt
@@ -93,7 +112,8 @@ module _ {X K : Type 0} (key : X → K) (R : K → K → Ordering) (o : IsTotalO
   all_insert k (y ∷ xs) zero x a h = (h, a)
   all_insert k (y ∷ xs) (suc at) x a h = (a.0, all_insert k xs at x a.1 h)
 
-  -- an element inserted into the gap for its key leaves the keys of the list strictly sorted
+  -- if the keys are strictly sorted, those before the index `at` less than that of x and those from `at` on greater, they stay strictly sorted after
+  -- x is inserted at `at`
   pub sorted_insert : (xs : List X) (at : ℕ) (x : X) → at ≤ length xs → IsPartitionPoint (λ y. R (key y) (key x) ≡ Less) (λ y. R (key y) (key x) ≡ Greater) xs at
       → IsStrictlySortedBy R (map key xs) → IsStrictlySortedBy R (map key (insert xs at x))
   unfolding IsStrictlySortedBy

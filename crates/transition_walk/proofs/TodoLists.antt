@@ -1,5 +1,5 @@
 -- Lists of waiting permutations with one entry inserted, or with the factor of an entry replaced (specs/Todo).
-use Rattle.std.proofs.Common.{◌≡◌, ◌⊎◌, ℕ, zero, suc, ◌+◌, ◌<◌, ◌≤◌, List, [], ◌∷◌, ◌++◌, length, get_or, set, take, drop, refl, sym, ap, ◌∙◌, subst, inl, inr, arith, ℤ, pos, ◌+ℤ◌}
+use Rattle.std.proofs.Common.{◌≡◌, ◌⊎◌, ℕ, zero, suc, ◌+◌, ◌<◌, ◌≤◌, List, [], ◌∷◌, ◌++◌, length, get_or, set, take, drop, sym, ap, ◌∙◌, subst, inl, inr, arith, ℤ, pos, ◌+ℤ◌}
 use Rattle.std.specs.List.{insert}
 use Rattle.std.proofs.lemmas.Int.{ints}
 use Rattle.std.proofs.lemmas.List.{take-append-drop}
@@ -8,6 +8,7 @@ use Rattle.sym_model.proofs.Sums.{total_append, Among_from_append, Among-append_
 use Rattle.transition_walk.specs.declared.todo.Waiting.{Waiting}
 use Rattle.transition_walk.specs.Transitions.{weight}
 use Rattle.transition_walk.specs.Todo.{load, HasPermutation, MayGain}
+use Rattle.std.proofs.lemmas.List.Edits.{length-insert}
 
 -- ---- one entry inserted into a list
 
@@ -38,18 +39,12 @@ among_insert todo i w x m = elim (Among_from_append x (take i todo) (w ∷ drop 
   ]
 ]
 
--- the entry at the index of an insertion is the inserted one
+-- if w is inserted at the index i, the entry of the new list at i is w
 pub inserted_at : {A : Type 0} (todo : List A) (i : ℕ) (w x : A) → i ≤ length todo → x ≡ get_or (insert todo i w) i x → x ≡ w
 inserted_at [] zero w x h e = e
 inserted_at [] (suc i) w x h e = absurd (omega arith)
 inserted_at (y ∷ todo) zero w x h e = e
 inserted_at (y ∷ todo) (suc i) w x h e = inserted_at todo i w x (omega arith) e
-
-pub length_insert : {A : Type 0} (todo : List A) (i : ℕ) (w : A) → i ≤ length todo → length (insert todo i w) ≡ length todo + 1
-length_insert [] zero w h = refl
-length_insert [] (suc i) w h = absurd (omega arith)
-length_insert (y ∷ todo) zero w h = omega arith
-length_insert (y ∷ todo) (suc i) w h = let r = length_insert todo i w (omega arith) in omega arith
 
 -- if f(w) is 0, a list that is `old` or `old` with w inserted has the same sum of f as `old`
 
@@ -65,12 +60,12 @@ pub among_gain : {A : Type 0} (P : A → Type 0) (old new : List A) (w : A) → 
 among_gain P old new w (inl e) here all x m = all x (subst (Among x) e m)
 among_gain P old new w (inr (i, e)) here all x m = elim (among_insert old i w x (subst (Among x) e m)) [ inl s ↦ subst P (sym s) here | inr k ↦ all x k ]
 
--- if w is inserted at the index, the entry there has the permutation of w
+-- if `new` is `todo` with w inserted at the index `at`, the entry of `new` at `at` has the permutation of w
 
 pub has_inserted : {F : Type 0} (todo new : List (Waiting F)) (at : ℕ) (w : Waiting F) → at ≤ length todo → new ≡ insert todo at w → (at < length new) × HasPermutation w.perm new at
 has_inserted {F} todo new at w h e =
     let l = ap length e in
-    let m = length_insert todo at w h in (
+    let m = length-insert todo at w h in (
       omega arith,
       λ x is. ap (λ (y : Waiting F). y.perm) (inserted_at todo at w x h (is ∙ ap (λ (xs : List (Waiting F)). get_or xs at x) e)),
     )
@@ -87,10 +82,3 @@ pub load_set : {F : Type 0} (todo : List (Waiting F)) (i : ℕ) (w v : Waiting F
 load_set [] i w v h e p = absurd (omega arith)
 load_set {F} (x ∷ todo) zero w v h e p = let q = ap weight (p ∙ ap (λ (y : Waiting F). y.perm) e) in omega arith
 load_set (x ∷ todo) (suc i) w v h e p = ap (λ n. weight x.perm + n) (load_set todo i w v (omega arith) e p)
-
-pub among_set : {A : Type 0} (todo : List A) (i : ℕ) (v x : A) → Among x (set todo i v) → (x ≡ v) ⊎ Among x todo
-among_set [] i v x m = absurd m
-among_set (y ∷ todo) zero v x (inl e) = inl e
-among_set (y ∷ todo) zero v x (inr m) = inr (inr m)
-among_set (y ∷ todo) (suc i) v x (inl e) = inr (inl e)
-among_set (y ∷ todo) (suc i) v x (inr m) = elim (among_set todo i v x m) [ inl e ↦ inl e | inr k ↦ inr (inr k) ]

@@ -1,6 +1,6 @@
--- The order of the waiting list: it is total, and permutations that compare as equal are the same.
+-- The order of waiting permutations (`waiting_order`): it is total, and permutations that compare as equal are the same.
 use Rattle.std.proofs.Common.{◌≡◌, ℕ, ◌<◌, ◌≤◌, List, [], ◌∷◌, ◌++◌, length, get_or, set, sym, ap, ◌∙◌, subst}
-use Rattle.std.specs.Prelude.{Result, Ok, Err, MatchResult, IfErr}
+use Rattle.std.specs.Prelude.{Result, Ok, Err, MatchResult, IfErr, Some, slice_get}
 use Rattle.std.specs.Cmp.{IsTotalOrder, nat_cmp_total, on_total, back_total, then_total}
 use Rattle.std.specs.Cmp.Lexicographic.{slice_cmp, texts_ties}
 use Rattle.std.specs.List.{insert}
@@ -11,9 +11,10 @@ use Rattle.std.proofs.lemmas.Cmp.{nat_list_cmp_total}
 use Rattle.sym_model.specs.PlaceOrders.{inversions}
 use Rattle.sym_model.specs.Sum.{Among}
 use Rattle.sym_model.proofs.Orders.{then-equal}
+use Rattle.sym_model.proofs.Sums.{Among-map}
 use Rattle.transition_walk.specs.declared.todo.Waiting.{Waiting}
 use Rattle.transition_walk.specs.Todo.{waiting_order, permutations, AreInOrder, HasPermutation, IsGapFor}
-use Rattle.transition_walk.proofs.SortedKeys.{comparisons_rise, absent, keys_set, sorted_insert, sorted_rest, sorted_one}
+use Rattle.transition_walk.proofs.SortedKeys.{comparisons_rise, absent, keys_set, found_entry, sorted_insert, sorted_rest, sorted_one}
 use Rattle.linear_combinations.specs.Labels.{same_partition}
 
 pub waiting_order-total : IsTotalOrder waiting_order
@@ -24,7 +25,8 @@ waiting_order-equal v w e =
     let t = then-equal (nat_cmp (inversions v) (inversions w)) (slice_cmp nat_cmp w v) e in
     sym (same_partition w v (texts_ties w v ∙ ap is_eq t.1))
 
--- a binary search by this order returns the place of the permutation as `Ok`, or a gap for it as `Err`
+-- a binary search of `todo` by `waiting_order` returns the index of an entry with the permutation `perm` as `Ok`, or an index of at most the length
+-- of `todo` as `Err`; if `todo` is in order, it is then a gap for `perm`
 
 pub found_place : {F : Type 0} (todo : List (Waiting F)) (perm : List ℕ) (r : Result ℕ ℕ) → IsSearchInRange r (length todo)
     → IsBinarySearchResult (λ (w : Waiting F). waiting_order w.perm perm) todo r
@@ -42,7 +44,23 @@ pub found_absent : {F : Type 0} (todo : List (Waiting F)) (perm : List ℕ) (r :
 found_absent todo perm (Ok at) gap = tt
 found_absent {F} todo perm (Err at) gap = λ order m. absent (λ (w : Waiting F). w.perm) waiting_order waiting_order-total todo perm at (gap order) m
 
--- inserting at the gap, replacing a factor and removing the last entry keep the order
+-- let `todo` be in order, and let its entry at the index `at` have the permutation `perm`: if w is an entry of `todo` with this permutation, the
+-- entry at `at` is w
+
+pub found_there : {F : Type 0} (todo seen : List (Waiting F)) (perm : List ℕ) (at : ℕ) → seen ≡ todo → (at < length seen) × HasPermutation perm seen at
+    → AreInOrder todo → (w : Waiting F) → Among w todo → w.perm ≡ perm → slice_get todo at ≡ Some w
+found_there {F} todo seen perm at same place order w m is =
+    let all = subst (λ (l : List (Waiting F)). (at < length l) × HasPermutation perm l at) same place in
+    found_entry (λ (x : Waiting F). x.perm) waiting_order waiting_order-total todo at w order all.0 (λ x here. all.1 x here ∙ sym is) m
+
+pub not_absent : {F : Type 0} (todo seen : List (Waiting F)) (perm : List ℕ) → seen ≡ todo → (AreInOrder seen → ¬ Among perm (permutations seen))
+    → AreInOrder todo → (w : Waiting F) → Among w todo → w.perm ≡ perm → ⊥
+not_absent {F} todo seen perm same none order w m is =
+    let all = subst (λ (l : List (Waiting F)). AreInOrder l → ¬ Among perm (permutations l)) same none in
+    all order (subst (λ p. Among p (permutations todo)) is (Among-map (λ (x : Waiting F). x.perm) w todo m))
+
+-- a list stays in order if an entry is inserted at the gap for its permutation, if the factor of an entry is replaced, and if the last entry is
+-- removed
 
 pub order_insert : {F : Type 0} (todo seen new : List (Waiting F)) (at : ℕ) (w : Waiting F) → seen ≡ todo → at ≤ length seen → (AreInOrder seen → IsGapFor w.perm seen at)
     → new ≡ insert todo at w → AreInOrder todo → AreInOrder new

@@ -1,4 +1,4 @@
--- Sums of numbers over lists into which an element may be inserted.
+-- Sums of natural numbers over a list, and over the same list with one element inserted.
 use Rattle.std.proofs.Common.{◌≡◌, ℕ, List, ap, inl, inr, arith}
 use Rattle.sym_model.specs.Sum.{sum_by}
 use Rattle.sym_model.proofs.NumberSums.{sum_by-insert}

@@ -1,4 +1,4 @@
--- The definitions that the contracts cite.
+-- The modules of definitions that the contracts of `transition_walk` refer to.
 pub mod Transitions
 pub mod Todo
 pub mod Waiting

@@ -1,17 +1,17 @@
--- Permutations that wait for the transition rule, each with the list by which its Schubert polynomial is multiplied,
--- and terms added to these lists.
-use Rattle.std.specs.Prelude.{◌≡◌, ℕ, ◌+◌, ◌^◌, ◌≤◌, ℤ, ◌+ℤ◌, List, [], ◌∷◌, ◌++◌}
+-- Waiting permutations, that is, those that the transition rule has not yet replaced, each with the list of terms by
+-- which its Schubert polynomial is multiplied; and terms added to these lists.
+use Rattle.std.specs.Prelude.{◌≡◌, ℕ, ◌+◌, ◌^◌, ◌≤◌, ℤ, ◌+ℤ◌, Bool, List, [], ◌∷◌, ◌++◌}
 use Rattle.std.specs.Prelude.{length}
 use Rattle.sym_model.specs.Permutation.{times_swap, covers_down}
 use Rattle.sym_model.specs.PlaceOrders.{inversions}
 use Rattle.sym_model.specs.Sum.{total, Among}
-use Rattle.linear_combinations.specs.Gains.{WholeTermsOf, over, replaced, HaveLabels}
+use Rattle.linear_combinations.specs.Gains.{WholeTermsOf, over, replaced, HaveLabels, RefusesFirst}
 use Rattle.transition_walk.specs.declared.todo.Waiting.{Waiting}
 use Rattle.sym_model.specs.Sum.{sum_by}
 use Rattle.linear_combinations.specs.Gains.{weighed}
 use Rattle.transition_walk.specs.Todo.{load, AreInOrder}
 
--- a permutation with the list by which its Schubert polynomial is multiplied
+-- a permutation with the list of terms by which its Schubert polynomial is multiplied
 abbrev pub WithList : Type 0 → Type 0
 WithList L = Waiting (WholeTermsOf L)
 
@@ -23,8 +23,8 @@ value_of {L} φ todo = total (λ (w : WithList L). over (φ w.perm) w.factor) to
 abbrev pub growth : {L : Type 0} → (List ℕ → L → ℕ) → List (WithList L) → ℕ
 growth {L} share todo = sum_by (λ (w : WithList L). weighed (share w.perm) w.factor) todo
 
--- a permutation of at most n letters; its inversions plus n, and plus the extent of each of its labels, are at most
--- `top`
+-- the permutation of w has at most n letters; with l its number of inversions, n + l ≤ top, and extent x + l ≤ top
+-- for each label x of the list of w
 pub record IsWaiting {L : Type 0} (extent : L → ℕ) (n top : ℕ) (w : WithList L) : Type 0 where
   pub few : length w.perm ≤ n
   pub inside : n + inversions w.perm ≤ top
@@ -33,13 +33,14 @@ pub record IsWaiting {L : Type 0} (extent : L → ℕ) (n top : ℕ) (w : WithLi
 abbrev pub AreWaiting : {L : Type 0} → (L → ℕ) → ℕ → ℕ → List (WithList L) → Type 0
 AreWaiting {L} extent n top todo = (w : WithList L) → Among w todo → IsWaiting extent n top w
 
--- each permutation of a list, with the same list of terms
+-- an entry for each permutation of a list, all with the same list of terms
 abbrev pub each_waits : {L : Type 0} → WholeTermsOf L → List (List ℕ) → List (WithList L)
 each_waits list [] = []
 each_waits list (x ∷ xs) = (record { perm = x; factor = list }) ∷ each_waits list xs
 
--- the lists that replace w: each cover v·t_ir of v = w·t_rs with the list of w, and v with the image of the list of w
--- under the factor
+-- the entries by which the transition rule at r and s replaces w. With v the permutation w·t_rs, they are an entry for
+-- each cover v·t_ir, with the list of w; and an entry for v, with the list of w in which each label is replaced by its
+-- image under the factor (`image`).
 abbrev pub stepped : {L : Type 0} → (List ℕ → L → WholeTermsOf L) → ℕ → ℕ → WithList L
     → List (WithList L)
 stepped image r s w = each_waits w.factor (covers_down r (times_swap r s w.perm))
@@ -48,8 +49,9 @@ stepped image r s w = each_waits w.factor (covers_down r (times_swap r s w.perm)
       factor = replaced (image (times_swap r s w.perm)) w.factor;
     }) ∷ []
 
--- VALUE: new is old and more, with the lists at one permutation added up: it has the sum of their values, at most the
--- sum of their shares, their bounds, the order of old, and at most the sum of their loads
+-- VALUE: the entries of `more` have been added to `old`, which gives `new`: for each φ, the values of `old` and
+-- `more` add up to that of `new` (`value_of`); the shares and the load of `new` are at most the sums of those of
+-- `old` and `more`; and the bounds and the order of `old` are kept
 pub record Joins {L : Type 0} (old more new : List (WithList L)) : Type 0 where
   pub value : (φ : List ℕ → L → ℤ) → value_of φ new ≡ value_of φ old +ℤ value_of φ more
   pub grows : (share : List ℕ → L → ℕ) → growth share new ≤ growth share old + growth share more
@@ -58,11 +60,21 @@ pub record Joins {L : Type 0} (old more new : List (WithList L)) : Type 0 where
   pub ordered : AreInOrder old → AreInOrder new
   pub loaded : load new ≤ load old + load more
 
--- OVERFLOW: for a label of some permutation in `more`, and every share that is at least 1 at this label, the shares
--- of old and more add up to at least 2^127
+-- OVERFLOW: there are an entry of `more` and a label such that the shares of `old` and `more` have a sum of at least
+-- 2^127 for every share that is at least 1 at the permutation of this entry and this label
 pub record WaitingOverflows {L : Type 0} (old more : List (WithList L)) : Type 0 where
   pub entry : WithList L
   pub added : Among entry more
   pub label : L
   pub large : (share : List ℕ → L → ℕ) → 1 ≤ share entry.perm label
       → 2 ^ 127 ≤ growth share old + growth share more
+
+-- REFUSAL: `old` is in order and has an entry with the permutation of `more`, and the list of this entry refuses the
+-- first term of the list of `more` (`RefusesFirst`)
+pub record WaitingRefuses {L : Type 0} (eq : L → L → Bool) (old : List (WithList L))
+    (more : WithList L) : Type 0 where
+  pub ordered : AreInOrder old
+  pub entry : WithList L
+  pub waits : Among entry old
+  pub same : entry.perm ≡ more.perm
+  pub refuses : RefusesFirst eq entry.factor more.factor

@@ -1,4 +1,5 @@
-//! The trait of the factors with which the transition rule multiplies lists.
+//! The trait `Factor`. The transition rule writes S_w as a factor times S_v, plus a sum of other
+//! Schubert polynomials; a `Factor` is this factor, as an operation on lists of labels.
 ghost use Rattle.std.specs.Prelude.{◌≡◌, ℕ, ◌≤◌, ◌+ℤ◌, ℤ, List, [], ◌∷◌, IsTrue};
 ghost use Rattle.sym_model.specs.Permutation.{IsOneLine, IsTransition, times_swap, covers_down};
 ghost use Rattle.sym_model.specs.Polynomial.{Poly, pair};
@@ -10,30 +11,32 @@ ghost use Rattle.transition_walk.specs.Growth.{GrowsBy};
 use linear_combinations::{Label, Rule};
 use perm_codes::Perm;
 
-/// The factor in the transition rule: for the last descent r of w, the last place s after it with a
-/// smaller letter, and v = w·t_rs, S_w is the factor times S_v, plus the sum of the S_u over the
-/// covers u = v·t_ir with i < r.
+/// A factor of the transition rule. Let r be the last descent of a permutation w, s the last place
+/// whose letter is smaller than the letter at r, and v = w·t_rs. Then S_w is the factor times S_v,
+/// plus the sum of the S_u over the covers u = v·t_ir with i < r.
 pub trait Factor<L: Label>: Rule<L, L> + Drop {
-    // The factor of the place r for the permutation v.
+    // `made r v`: the factor of S_v in the transition rule with the last descent r.
     ghost made: { ℕ → List ℕ → Self };
 
-    // A measure of a label, which each factor increases by at most 1.
+    // `extent x` measures a label x. A factor turns a label of extent at most k into labels of
+    // extent at most k + 1 (`grows`).
     ghost extent: { L → ℕ };
 
-    // The greatest extent of a label that a factor takes.
+    // The greatest `extent` of a label to which a factor can be applied.
     ghost most: { ℕ };
 
-    // A label of extent k becomes at most k + `extra` terms.
+    // A factor turns a label of `extent` at most k into terms (x, c) for which the sum of |c| is at
+    // most k + `extra`.
     ghost extra: { ℕ };
 
-    // The polynomial of a label in n variables.
+    // `polynomial n x`: the polynomial of the label x in n variables.
     ghost polynomial: { ℕ → L → Poly };
 
-    // The product of S_w and the label, paired with a test function, in n variables: the laws
-    // `start` and `step` determine it.
+    // `product n φ w x`: the sum of c·φ(α) over the terms c·x^α of the product of S_w and the
+    // polynomial of the label x, in n variables. The laws `start` and `step` determine it.
     ghost product: { ℕ → (List ℕ → ℤ) → List ℕ → L → ℤ };
 
-    /// The factor of the place r for the permutation `lower`.
+    /// The factor of S_v in the transition rule with the last descent r, for v = `lower`.
     fn at(r: u16, lower: &Perm) -> Self
         requires { 1 ≤ r }
         ensures { result ≡ made r lower.now };

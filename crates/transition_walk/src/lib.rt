@@ -2,17 +2,23 @@
 //!
 //! What is proved:
 //!
-//! `transition_places` returns the two places of the transition rule, whose exchange removes one
-//! inversion; None if and only if the permutation is the identity. `product_of` returns the product
-//! of a Schubert polynomial and a label as a list of labels, for every type of label with a
-//! `Factor` of the transition rule, whose laws `start` and `step` determine this product. It
-//! returns `Large` only if the value of the Schubert polynomial at 1 in each variable, times a
-//! power that depends on its inversions, is 2^127 or more. A weight on labels that no step of the
-//! rule increases (`IsShare`) bounds the list; if the result is `Large`, its total is at least
-//! 2^127. So for a list without negative coefficients, `Large` is returned if and only if a
-//! coefficient is too large. Permutations wait, each with a list by which its Schubert polynomial
-//! is multiplied: one relation (`Joins`) says what each step adds to these lists, and no
-//! permutation waits twice (`AreInOrder`).
+//! `transition_places` returns the places r < s of the transition rule for a permutation w;
+//! exchanging the letters of w there removes one inversion. It returns None if and only if w is the
+//! identity. `product_of` returns the product of a Schubert polynomial S_w and the polynomial of a
+//! label, as a list of labels. It is written for every type of label with a `Factor`, whose laws
+//! `start` and `step` determine this product. It returns `Large` only if S_w(1, .., 1), times a
+//! power with the number of inversions of w as its exponent, is 2^127 or more.
+//!
+//! A share (`IsShare`) is a function of a permutation and a label; no step of the transition rule
+//! increases its value. For each share, the sum of |c|·share(id, x) over the terms (x, c) of the
+//! returned list is at most the share of w and the given label; id is the identity. If `Large` is
+//! returned, there are a permutation v and a label x such that each share that is at least 1 at v
+//! and x is at least 2^127 at w and the given label. So, if no coefficient can be negative, then,
+//! unless memory runs out, `Large` is returned if and only if a coefficient is too large.
+//!
+//! The permutations that the rule has not yet replaced are called waiting. They are kept in a list,
+//! each with the list of terms by which its Schubert polynomial is multiplied. `Joins` says what
+//! each step adds to these lists of terms, and `AreInOrder` that no permutation is kept twice.
 #![tactic(auto)]
 
 mod factor;

@@ -1,4 +1,4 @@
-//! The product of a Schubert polynomial and a label.
+//! The product of a Schubert polynomial and the polynomial of a label, by the transition rule.
 ghost use Rattle.std.specs.Prelude.{◌≡◌, ℕ, ◌^◌, ◌≤◌, ℤ, pos, FitsSigned, List, IfOk, IsErrOf};
 ghost use Rattle.std.specs.Int.{w128};
 ghost use Rattle.coeff_rings.specs.Fractions.{whole};
@@ -18,17 +18,18 @@ use linear_combinations::{Label, Lin};
 use perm_codes::Perm;
 use std::alloc::Global;
 
-/// The product of the Schubert polynomial of a permutation w and a label, as a list of labels.
+/// The product of the Schubert polynomial of a permutation w and the polynomial of a label, as a
+/// list of labels.
 ///
-/// With m the greater of the number of letters of w and the extent of the label, and l the number
-/// of inversions of w, m + l must be at most `most` + 1; `most` and `extra` are those of the
-/// `Factor`. Returns `Large` only if the value of the Schubert polynomial at 1 in each variable,
-/// times (m + l + `extra`)^l, is 2^127 or more; and only if, for some permutation and some label,
-/// the terms that wait there add up to 2^127 or more (`SharesOverflow`).
+/// Let m be the greater one of the number of letters of w and the extent of the label, and let l be
+/// the number of inversions of w. The sum m + l must be at most `most` + 1; `most` and `extra` are
+/// those of the `Factor`. Returns `Large` only if the value of the Schubert polynomial at 1 in each
+/// variable, times (m + l + `extra`)^l, is 2^127 or more; and only if the condition `OverflowsFrom`
+/// on the shares of w and the label holds.
 ///
-/// The waiting lists are permutations, each with a list by which its Schubert polynomial is
-/// multiplied. The transition rule replaces the greatest permutation by lower ones, until only the
-/// identity is left.
+/// The list `todo` has the permutations that are not yet expanded, each with the list of terms by
+/// which its Schubert polynomial is multiplied. The transition rule replaces the greatest of these
+/// permutations by lower ones, until only the identity is left.
 pub fn product_of<L: Label, F: Factor<L>>(
     alloc: Global,
     w: &Perm,
@@ -59,7 +60,7 @@ pub fn product_of<L: Label, F: Factor<L>>(
     Ok(sum)
 }
 
-/// The list whose only term is a label, with coefficient 1.
+/// The list whose only term is `label`, with the coefficient 1.
 fn single<L: Label>(alloc: Global, label: &L) -> Result<Lin<L, Int>, SumFault>
     ensures sums { IfOk result (λ list. (φ : L → ℤ) → over φ list ≡ φ label.now) }
     ensures few { IfOk result (λ list. IsSingle label.now list) }

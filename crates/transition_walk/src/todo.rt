@@ -1,5 +1,7 @@
-//! The permutations that wait for the transition rule.
+//! The list of waiting permutations, that is, of those that the transition rule has not yet
+//! replaced.
 ghost use Rattle.std.specs.Prelude.{◌≡◌, ◌<◌, ◌≤◌, length, MatchResult, IfOk, IfErr, OnOk};
+ghost use Rattle.std.specs.Prelude.{IsOkAnd, Some, slice_get};
 ghost use Rattle.sym_model.specs.Sum.{Among};
 ghost use Rattle.transition_walk.specs.Todo.{waiting_order, permutations, AreInOrder};
 ghost use Rattle.transition_walk.specs.Todo.{HasPermutation, IsGapFor, MayGain};
@@ -18,7 +20,9 @@ pub struct Waiting<F> {
     pub factor: F,
 }
 
-/// An order that the transition rule lowers: by inversions, then decreasing by letters.
+/// Compares two permutations: first their numbers of inversions, and if these are equal, their
+/// letters in decreasing lexicographic order. The transition rule replaces a permutation by lower
+/// ones.
 fn compare(first: &Perm, second: &Perm) -> Ordering
     ensures { result ≡ waiting_order first.now second.now }
 {
@@ -28,8 +32,9 @@ fn compare(first: &Perm, second: &Perm) -> Ordering
         .then(second.letters().cmp(first.letters()))
 }
 
-/// The place of a permutation in the list as `Ok`, or the place where it would be inserted as
-/// `Err`. In a list in order, it is `Err` if and only if the permutation is not there.
+/// The index of the entry of `todo` that has the permutation `perm`, as `Ok`, or the index at which
+/// an entry with `perm` would be inserted, as `Err`. If `todo` is in order, the result is `Err` if
+/// and only if no entry has the permutation `perm`.
 fn place_of<F>(todo: &[Waiting<F>], perm: &Perm) -> Result<usize, usize>
     ensures place { MatchResult result
         (λ at. (at < length todo.now) × HasPermutation perm.now todo.now at)
@@ -41,8 +46,10 @@ fn place_of<F>(todo: &[Waiting<F>], perm: &Perm) -> Result<usize, usize>
     todo.binary_search_by(|waiting| compare(&waiting.perm, perm))
 }
 
-/// The index of a permutation in the list; if it is not there, it is inserted with the factor. A
-/// list in order, in which no permutation occurs twice, remains in order.
+/// The index of the entry of `todo` that has the permutation `perm`; if there is no such entry, one
+/// with `perm` and `factor` is inserted. If the permutations of `todo` are in order (and so all
+/// different), they remain in order. If, moreover, one of them is `perm`, no memory is allocated
+/// and the result is `Ok`.
 pub(crate) fn entry_at<F: Drop>(
     todo: &mut Vec<Waiting<F>>,
     perm: Perm,
@@ -53,6 +60,8 @@ pub(crate) fn entry_at<F: Drop>(
     ensures list { OnOk result (MayGain todo.old.items
         (record { perm = perm; factor = factor }) todo.new.items) }
     ensures order { OnOk result (AreInOrder todo.old.items → AreInOrder todo.new.items) }
+    ensures there { AreInOrder todo.old.items → (w : Waiting F) → Among w todo.old.items
+        → w.perm ≡ perm → IsOkAnd result (λ at. slice_get todo.new.items at ≡ Some w) }
 {
     match place_of(todo.as_slice(), &perm) {
         Ok(at) => Ok(at),

@@ -1,5 +1,5 @@
-//! The transition rule on permutations that wait, each with the list by which its Schubert
-//! polynomial is multiplied.
+//! The transition rule on waiting permutations, that is, those that it has not yet replaced, each
+//! with the list of terms by which its Schubert polynomial is multiplied.
 ghost use Rattle.std.specs.Prelude.{ℕ, ◌<◌, ◌≤◌, ◌∷◌, ◌++◌, [], pos, FitsSigned, List, length};
 ghost use Rattle.std.specs.Prelude.{OnOk, IsErrOf};
 ghost use Rattle.std.specs.Int.{w128};
@@ -8,8 +8,10 @@ ghost use Rattle.sym_model.specs.PlaceOrders.{inversions};
 ghost use Rattle.coeff_rings.specs.Fractions.{whole};
 ghost use Rattle.linear_combinations.specs.Entries.{AreHeld, IsCombination, IsTable};
 ghost use Rattle.linear_combinations.specs.Gains.{Gains, HaveLabels, Overflows, replaced};
+ghost use Rattle.linear_combinations.specs.Gains.{RefusesFirst};
 ghost use Rattle.transition_walk.specs.Transitions.{IsShort};
 ghost use Rattle.transition_walk.specs.Waiting.{Joins, WaitingOverflows, each_waits, stepped};
+ghost use Rattle.transition_walk.specs.Waiting.{WaitingRefuses};
 ghost use Rattle.transition_walk.specs.Growth.{WorksOff, OverflowsAt};
 
 use crate::factor::Factor;
@@ -22,12 +24,18 @@ use perm_codes::Perm;
 use std::alloc::Global;
 use std::mem;
 
-/// Adds a list that is not needed afterwards: the shorter of the two is added to the longer one.
+/// Adds the terms of `list`, which is consumed, to `sum`. For this the shorter of the two lists is
+/// added to the longer one.
+///
+/// Returns `Large` if `list` is not longer than `sum` and the sum of the two coefficients at the
+/// first label of `list` overflows.
 fn add_given<L: Label>(sum: &mut Lin<L, Int>, list: Lin<L, Int>) -> Result<(), SumFault>
     ensures gains { OnOk result (Gains sum.old list sum.new) }
     ensures table { OnOk result (IsCombination L.eq L.is_label whole sum.new) }
     ensures held { OnOk result (AreHeld L.eq (pos 0) (FitsSigned w128) sum.new) }
     ensures large { IsErrOf result SumFault.Large → Overflows L.eq sum.old list }
+    ensures past { length list ≤ length sum.old → RefusesFirst L.eq sum.old list
+        → IsErrOf result SumFault.Large }
 {
     if list.len() <= sum.len() {
         return sum.add_terms(&list);
@@ -36,8 +44,11 @@ fn add_given<L: Label>(sum: &mut Lin<L, Int>, list: Lin<L, Int>) -> Result<(), S
     sum.add_terms(&shorter)
 }
 
-/// Adds a list to the factor of a permutation in `todo`; if the permutation is not there, it is
-/// inserted with the list as its factor.
+/// Adds `list` to the list of terms that `todo` has for the permutation `perm`. If `todo` has no
+/// entry for `perm`, one with `list` is inserted.
+///
+/// Returns `Large` if `todo` is in order and has an entry for `perm`, and the sum of the two
+/// coefficients at the first label of `list` overflows.
 fn add_waiting<L: Label>(
     alloc: Global,
     todo: &mut Vec<Waiting<Lin<L, Int>>>,
@@ -48,6 +59,8 @@ fn add_waiting<L: Label>(
         (record { perm = perm; factor = list.now } ∷ []) todo.new.items) }
     ensures large { IsErrOf result SumFault.Large
         → WaitingOverflows todo.old.items (record { perm = perm; factor = list.now } ∷ []) }
+    ensures past { WaitingRefuses L.eq todo.old.items (record { perm = perm; factor = list.now })
+        → IsErrOf result SumFault.Large }
 {
     let none = Lin::new(alloc);
     let at = entry_at(todo, perm, none)?;
@@ -55,8 +68,11 @@ fn add_waiting<L: Label>(
     waiting.factor.add_terms(list)
 }
 
-/// Adds a list that is not needed afterwards to the factor of a permutation in `todo`; if the
-/// permutation is not there, it is inserted with the list as its factor.
+/// Adds `list`, which is consumed, to the list of terms that `todo` has for the permutation `perm`.
+/// If `todo` has no entry for `perm`, one with `list` is inserted.
+///
+/// Returns `Large` if `todo` is in order and has for `perm` a list of terms that is not shorter
+/// than `list`, and the sum of the two coefficients at the first label of `list` overflows.
 fn give_waiting<L: Label>(
     alloc: Global,
     todo: &mut Vec<Waiting<Lin<L, Int>>>,
@@ -67,6 +83,8 @@ fn give_waiting<L: Label>(
         (record { perm = perm; factor = list } ∷ []) todo.new.items) }
     ensures large { IsErrOf result SumFault.Large
         → WaitingOverflows todo.old.items (record { perm = perm; factor = list } ∷ []) }
+    ensures past { (r : WaitingRefuses L.eq todo.old.items (record { perm = perm; factor = list }))
+        → length list ≤ length r.entry.factor → IsErrOf result SumFault.Large }
 {
     let none = Lin::new(alloc);
     let at = entry_at(todo, perm, none)?;
@@ -74,13 +92,13 @@ fn give_waiting<L: Label>(
     add_given(&mut waiting.factor, list)
 }
 
-/// Adds the image of a list under a rule, which must take each label of the list, to the factor of
-/// a permutation in `todo`; if the permutation is not there, it is inserted with the image as its
-/// factor.
+/// Applies the rule `factor`, which must be defined for each label of `list`, to `list`, and adds
+/// the resulting terms to those that `todo` has for the permutation `perm`. If `todo` has no entry
+/// for `perm`, one with the resulting terms is inserted.
 ///
-/// Returns `Large` only if at some label the absolute values of the coefficient in this factor and
-/// of the coefficients of the image add up to 2^127 or more. On an error a part of the image may
-/// have been added.
+/// Returns `Large` only if, at some label, the absolute values of the old coefficient in the list
+/// of `perm` and of the coefficients added to it have a sum of 2^127 or more. On an error, some of
+/// the resulting terms may have been added.
 pub fn add_waiting_by<L: Label, F: Rule<L, L>>(
     alloc: Global,
     todo: &mut Vec<Waiting<Lin<L, Int>>>,
@@ -102,8 +120,8 @@ pub fn add_waiting_by<L: Label, F: Rule<L, L>>(
     waiting.factor.add_by(factor, list)
 }
 
-/// Adds a list to the factor in `todo` of each permutation of `covers`; those that are not there
-/// are inserted with the list as their factor.
+/// For each permutation of `covers`, adds `list` to the list of terms that `todo` has for it; if
+/// `todo` has no entry for the permutation, one with `list` is inserted.
 fn add_to_each<L: Label>(
     alloc: Global,
     todo: &mut Vec<Waiting<Lin<L, Int>>>,
@@ -121,8 +139,9 @@ fn add_to_each<L: Label>(
     Ok(())
 }
 
-/// Adds a list that is not needed afterwards to the factors in `todo` of the permutations of
-/// `covers` and of `last`; those that are not there are inserted with the list as their factor.
+/// For each permutation of `covers` and for `last`, adds `list`, which is consumed, to the list of
+/// terms that `todo` has for the permutation; if `todo` has no entry for it, one with `list` is
+/// inserted.
 fn give_to_last<L: Label>(
     alloc: Global,
     todo: &mut Vec<Waiting<Lin<L, Int>>>,
@@ -140,8 +159,8 @@ fn give_to_last<L: Label>(
     give_waiting(alloc, todo, last, list)
 }
 
-/// Adds a list that is not needed afterwards to the factor in `todo` of each permutation of
-/// `covers`; those that are not there are inserted with the list as their factor.
+/// For each permutation of `covers`, adds `list`, which is consumed, to the list of terms that
+/// `todo` has for it; if `todo` has no entry for the permutation, one with `list` is inserted.
 fn add_covers<L: Label>(
     alloc: Global,
     todo: &mut Vec<Waiting<Lin<L, Int>>>,
@@ -160,7 +179,9 @@ fn add_covers<L: Label>(
     }
 }
 
-/// Replaces a waiting permutation by those of the transition rule at the places r and s.
+/// Adds to `todo` the permutations by which the transition rule at the places r and s replaces w =
+/// `waiting.perm`: v = w·t_rs with the list of w times the factor, and each cover v·t_ir with i < r
+/// with the list of w (`stepped`).
 fn expand<L: Label, F: Factor<L>>(
     alloc: Global,
     todo: &mut Vec<Waiting<Lin<L, Int>>>,
@@ -186,8 +207,9 @@ fn expand<L: Label, F: Factor<L>>(
     add_covers(alloc, todo, covers, list)
 }
 
-/// Replaces a waiting permutation by those of the transition rule; if it is the identity, its list
-/// is added to the sum.
+/// One step of the transition rule for the permutation w of `waiting`: if w is the identity, its
+/// list is added to `sum`; otherwise the permutations by which the rule replaces w are added to
+/// `todo`.
 pub(crate) fn work_off<L: Label, F: Factor<L>>(
     alloc: Global,
     todo: &mut Vec<Waiting<Lin<L, Int>>>,

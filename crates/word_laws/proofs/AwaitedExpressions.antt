@@ -1,4 +1,4 @@
--- The places in the words of a form where an expression can be next, found with the derivatives of the form.
+-- The lists of words that an expression can follow in words of a given form, found with the derivatives of the form.
 use Rattle.std.proofs.Common.{◌≡◌, ℕ, Bool, true, false, ◌&&◌, cond, List, [], ◌∷◌, ◌++◌, map, append_assoc, refl, sym, ap, ◌∙◌, subst, ◌⊎◌, inl, inr}
 use Rattle.std.proofs.lemmas.Bool.{and_parts, and_from, or_cases, or_left, or_right}
 use Rattle.sym_model.specs.Sum.{Among}
@@ -8,7 +8,7 @@ use Rattle.word_laws.proofs.Derivatives.{sequence_parts, has_more, has_none, ski
 use Rattle.word_laws.proofs.LongestPrefixes.{some_in, some_out}
 use Rattle.word_laws.specs.Words.{Words}
 
--- ---- an expression as the first word of a form
+-- ---- forms of which an expression can be the first word
 
 pub next_sound : (f : Form) → awaits_next f ≡ true → Awaits f []
 next_sound empty h = cc
@@ -50,9 +50,9 @@ next_complete (either f g) (inl h) = or_left (awaits_next f) (awaits_next g) (ne
 next_complete (either f g) (inr h) = or_right (awaits_next f) (awaits_next g) (next_complete g h)
 next_complete (many f) h = let p = no_append h.0 h.1 (sym h.2) in next_complete f (subst (Awaits f) p.1 h.4)
 
--- ---- an expression after one word of a form
+-- ---- an expression can follow one word and then further words in a form (`AwaitsAfter`)
 
--- a derivative of f by the word `text` in which an expression can follow the words ws
+-- f has a derivative by the word `text` in which an expression can follow the words ws
 pub record AwaitsAfter (reads : List ℕ → Bool) (f : Form) (text : List ℕ) (ws : Words) : Type 0 where
   pub next : Form
   pub among : Among next (derivatives reads f text)
@@ -186,7 +186,7 @@ awaits_before reads tells (many f) h text ws m a =
       w.4.4,
     )
 
--- ---- an expression after several words of a form
+-- ---- an expression can follow several words in one of several forms (`AwaitsOne`)
 
 abbrev pub AwaitsOne : List Form → Words → Type 0
 AwaitsOne forms ws = SomeOf (λ f. Awaits f ws) forms
@@ -204,7 +204,7 @@ nothing_complete [] h = absurd h
 nothing_complete (f ∷ forms) (inl h) = or_left (awaits_next f) (some_awaits_next forms) (next_complete f h)
 nothing_complete (f ∷ forms) (inr h) = or_right (awaits_next f) (some_awaits_next forms) (nothing_complete forms h)
 
--- if one of the derivatives of the forms by the words can begin with an expression, an expression can follow the words
+-- if one of the derivatives of the forms by the words ws can begin with an expression, an expression can follow ws in one of the forms
 pub awaits_sound : (reads : List ℕ → Bool) → TellsExpressions reads → (forms : List Form) (ws : Words)
     → some_awaits_next (after_words reads forms ws) ≡ true → AwaitsOne forms ws
 awaits_sound reads tells forms [] h = nothing_sound forms h

@@ -1,4 +1,4 @@
--- Words of a class: the test of a class passes for exactly its words, and some word is of the class if `has_words` passes.
+-- The classes of words: the test `fits` passes exactly for the words of a class, and if `has_words` passes, the class has a word.
 use Rattle.std.proofs.Common.{◌≡◌, ℕ, ◌<◌, nat_le, Bool, true, List, [], ◌∷◌, refl, sym, subst, arith, ◌⊎◌, inl, inr}
 use Rattle.std.specs.Prelude.{codes}
 use Rattle.std.proofs.lemmas.Bool.{leb-true, le-leb, and_parts, and_from, or_cases, or_left, or_right}

@@ -1,5 +1,5 @@
--- Words that begin with a part of a command (a number, a letter of a basis, an expression, `-r` and a number, `-m`), and
--- the places where words without this part first fail.
+-- Words that begin with a part of a command (a number, a letter of a basis, an expression, `-r` and a number, `-m`), and for words that do not begin
+-- with this part, the place of the error.
 use Rattle.std.proofs.Common.{◌≡◌, ℕ, true, List, [], ◌∷◌, ◌++◌, length, refl, sym, ap, ◌∙◌, subst, arith, inl, inr, flat_map}
 use Rattle.std.specs.Prelude.{codes}
 use Rattle.sym_model.specs.Expansion.{Basis, monomials, elementaries, completes, power_sums, schurs}
@@ -13,7 +13,7 @@ use Rattle.word_laws.proofs.Classes.{number_sound, number_complete, letter_compl
 use Rattle.word_laws.proofs.Readings.{OfOne, Unlike}
 use Rattle.word_laws.proofs.Cuts.{IsTaken, StopsIn, ends_unlike, stops_first, stops_right, optional_taken, optional_absent, optional_stops}
 
--- the word of a class that allows one text only is that text
+-- the only word of the class `exact text` is this text
 pub is_exact : (c : Class) (x : WrittenWord c) (text : List ℕ) → c ≡ exact text → word_of c x ≡ text
 is_exact (exact a) x text e = cc
 is_exact number x text e = cc
@@ -37,7 +37,7 @@ unlike_nothing words = unlike_kind (λ t. ⊥) [] words (λ t o. o.among) (nothi
     nothing [] = tt
     nothing (t ∷ ws) = λ n. n
 
--- if P holds of `word_of c x` for each value x that denotes a word of the class c, it holds of each word of c
+-- if P holds for `word_of c x` for each value x that denotes a word of the class c, it holds for each word of the class c
 of_class : (c : Class) (P : List ℕ → Type 0) → ((x : WrittenWord c) → MayBe c x → P (word_of c x)) → (t : List ℕ) → OfOne (c ∷ []) t → P t
 of_class c P h t o = elim (o.among) as (λ m. P t) [
   | inl e ↦ subst P (sym o.spelled) (subst (λ k. (x : WrittenWord k) → MayBe k x → P (word_of k x)) (sym e) h o.written o.allowed)
@@ -51,7 +51,7 @@ pub unlike_text : (text : List ℕ) (words : Words) → BeginsOtherwise (λ t. t
 unlike_text text words b =
     unlike_kind (λ t. t ≡ text) (exact text ∷ []) words (of_class (exact text) (λ t. t ≡ text) (λ x m. refl)) b
 
--- if each of the words is a number, the form of one number allows each of them
+-- if each of the words ns is a number, each is allowed by the form of one number
 pub may_be : (ns : Words) → EachOf IsNumber ns → EachOf (May (word number)) ns
 may_be [] e = tt
 may_be (t ∷ ns) e = (number_sound t e.0, may_be ns e.1)
@@ -60,9 +60,9 @@ pub singles : (ns : Words) → flat_map (λ t. t ∷ []) ns ≡ ns
 singles [] = refl
 singles (t ∷ ns) = ap (λ ws. t ∷ ws) (singles ns)
 
--- ---- a word of one class, numbers, and letters of permutations
+-- ---- words that begin with a word of one class, with numbers, or with the letters of a permutation
 
--- if a word of the class is in front of other words, it is taken, as in `IsTaken`, by the form of one word of this class
+-- if words begin with a word of the class c, the form of one word of this class takes this word (`IsTaken`)
 word_taken : (c : Class) (x : WrittenWord c) (piece rest words : Words) → MayBe c x → piece ≡ word_of c x ∷ [] → words ≡ word_of c x ∷ rest
     → IsTaken (word c) piece rest words
 word_taken c x piece rest words m p e = record {
@@ -86,7 +86,7 @@ number_taken digits piece rest words n p e = word_taken number digits piece rest
 pub number_wrong : (words : Words) → BeginsOtherwise IsNumber words → StopsIn (word number) words (length words)
 number_wrong words b = stops_first (word number) words refl refl (unlike_numbers words b)
 
--- ---- the letter of a basis, and an expression
+-- ---- words that begin with the letter of a basis or with an expression
 pub is_basis : (t : Basis) → SomeOf (λ b. t ≡ b) all_bases
 is_basis monomials = inl refl
 is_basis elementaries = inr (inl refl)
@@ -141,7 +141,7 @@ letters_taken t more (u ∷ ns) rest words f i e n b = record {
 pub letters_wrong : (words : Words) → BeginsOtherwise IsNumber words → StopsIn permutation_words words (length words)
 letters_wrong words b = stops_first permutation_words words refl refl (unlike_numbers words b)
 
--- ---- words that begin with `-r` and a number of rows, and the place where other words first fail
+-- ---- words that begin with `-r` and a number of rows, and the place of the error in other words
 
 pub rows_taken : (digits : List ℕ) (piece rest words : Words) → IsNumber digits → piece ≡ codes "-r" ∷ digits ∷ [] → words ≡ codes "-r" ∷ digits ∷ rest
     → IsTaken rows_words piece rest words
@@ -161,7 +161,7 @@ rows_unnumbered words more e b =
     stops_right (the (codes "-r")) (word number) (codes "-r" ∷ []) more words (length more) refl
     (the_taken (codes "-r") (codes "-r" ∷ []) more words refl e) (number_wrong more b)
 
--- ---- `-r` and a number, or nothing; `-m`, or nothing
+-- ---- the optional words `-r` and a number, and the optional word `-m`
 
 pub maybe_rows_taken : (digits : List ℕ) (piece rest words : Words) → IsNumber digits → piece ≡ codes "-r" ∷ digits ∷ [] → words ≡ codes "-r" ∷ digits ∷ rest
     → IsTaken (optional rows_words) piece rest words

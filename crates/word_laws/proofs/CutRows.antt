@@ -1,4 +1,4 @@
--- Words that begin with the rows of a tableau, and the places where words that do not begin so first fail.
+-- Words that begin with the rows of a tableau, and the place of the error in words that do not begin with such rows.
 use Rattle.std.proofs.Common.{◌≡◌, ℕ, true, ◌<◌, List, [], ◌∷◌, ◌++◌, append_assoc, length, length-append, refl, sym, ap, ◌∙◌, subst, arith, inl, inr}
 use Rattle.std.specs.Prelude.{codes}
 use Rattle.sym_model.specs.Sum.{Among}
@@ -12,7 +12,7 @@ use Rattle.word_laws.proofs.Readings.{OfOne, Unlike, unlike}
 use Rattle.word_laws.proofs.Cuts.{StartsAs, EndsAt, IsTaken, StopsIn, unlike_second, unlike_last, ends_unlike, stops_first, stops_left, stops_right, optional_taken, optional_absent, optional_stops}
 use Rattle.word_laws.proofs.CutParts.{is_exact, is_number, unlike_kind, unlike_text, the_taken, letters_taken}
 
--- ---- words of one form followed by other words
+-- ---- words of one form followed by further words
 
 starts_behind : (q r rest : Words) → StartsAs r rest → StartsAs (q ++ r) (q ++ rest)
 starts_behind [] r rest s = s
@@ -34,9 +34,9 @@ sequence_taken f g p q behind rest ws a k l = record {
       (unlike_last f g s u);
 }
 
--- ---- the words of one row
+-- ---- words that begin with the words of one row
 
--- a word that can be the first of a row and is not `.` is a number
+-- a word that can be the first word of a row and is not `.` is a number
 of_row : (t : List ℕ) → OfOne (firsts row_words) t → (t ≡ codes "." → ⊥) → IsNumber t
 of_row t o n = elim (o.among) as (λ m. IsNumber t) [
   | inl e ↦ absurd (n (o.spelled ∙ is_exact o.class o.written (codes ".") e))
@@ -76,7 +76,7 @@ row_wrong words d b = stops_first row_words words refl refl (by words d b)
     by [] d b = tt
     by (t ∷ ws) d b = λ o. b (of_row t o d)
 
--- ---- the rows after the first one, each after a `/`
+-- ---- words that begin with the rows after the first one, each after a `/`
 
 abbrev next_row : Form
 next_row = sequence (the (codes "/")) row_words
@@ -149,8 +149,8 @@ further_taken p q more behind rest ws e k l =
     (optional_taken more_rows ((codes "/" ∷ p) ++ q) rest ws refl
     (sequence_taken next_row further_rows (codes "/" ∷ p) q behind rest ws refl (next_taken p more behind ws e k) l))
 
--- if words first fail after their first word and inside the form of one more row after a `/`, they first fail at the same
--- place inside the form of all further rows
+-- if the words ws fail (`StopsIn`) after their first word inside the form of one or more rows, each after a `/`, they fail at the same place inside
+-- the form of any number of such rows
 stops_more : (ws : Words) (left : ℕ) → left < length ws → StopsIn more_rows ws left → StopsIn further_rows ws left
 stops_more ws left l w =
     let o = optional_stops more_rows ws left l w in (
@@ -172,7 +172,8 @@ stops_more ws left l w =
     has_more : (us : Words) → Has further_rows us → Has (optional more_rows) us
     has_more us h = record { written = as_more h.written; allowed = may_more h.written h.allowed; spelled = h.spelled ∙ sym (words_more h.written) }
 
--- if ws is a word followed by us, and us first fail with `left` words left, `left` is less than the number of words of ws
+-- if ws is a word followed by us, and the words us fail inside the form f (`StopsIn`) with `left` words left, `left` is less than the number of words
+-- of ws
 fewer_left : (f : Form) (us ws : Words) (t : List ℕ) (left : ℕ) → ws ≡ t ∷ us → StopsIn f us left → left < length ws
 fewer_left f us ws t left e w =
     let a = ap length e in
@@ -202,7 +203,7 @@ further_stops p more behind ws left e k w =
         let i = w.0.left_is in
         omega (arith, a, b, c, d, i)
 
--- ---- the rows that have been taken so far, and the words after them
+-- ---- rows that have been taken from the front of the words, and the words after them
 
 pub record RowsPassed (rest words : Words) : Type 0 where
   pub front : Words
@@ -235,7 +236,7 @@ next_passed p rest more behind words r e k = record {
   stops = λ left w. r.stops left (further_stops p more behind rest left e k w);
 }
 
--- ---- `-from` and a tableau, or nothing
+-- ---- the optional word `-from` and a tableau
 
 pub from_absent : (words : Words) → BeginsOtherwise (λ t. t ≡ codes "-from") words → IsTaken (optional from_words) [] words words
 from_absent words b = optional_absent from_words words refl (unlike_text (codes "-from") words b)

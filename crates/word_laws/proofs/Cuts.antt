@@ -1,4 +1,5 @@
--- Words that begin with words of one form and then of another, and the places where words that are not of a form first fail.
+-- Words that begin with words of one form and then of another one; and, for words that are not of a form, the place of the error: after their longest
+-- prefix that is also the beginning of some words of the form.
 use Rattle.std.proofs.Common.{◌≡◌, ℕ, zero, suc, ◌+◌, ◌-◌, ◌<◌, ◌≤◌, Bool, true, false, ◌&&◌, cond, List, [], ◌∷◌, ◌++◌, append_assoc, length, length-append, take, refl, sym, ap, ◌∙◌, subst, arith, ◌⊎◌, inl, inr}
 use Rattle.std.proofs.lemmas.Bool.{and_parts}
 use Rattle.std.proofs.lemmas.List.{append-nil}
@@ -22,12 +23,13 @@ abbrev pub StartsAs : Words → Words → Type 0
 StartsAs [] rest = Unit {0}
 StartsAs (t ∷ r) rest = (u : Words) × (rest ≡ t ∷ u)
 
--- after the words of x, no word of `rest` continues words of the form
+-- let x denote words of the form f, and let r be empty or begin with the first word of `rest`: if the words of x followed by r are also words of f
+-- followed by s, and s does not begin with a word that can continue words of f, then s is r
 abbrev pub EndsAt : (f : Form) → Written f → Words → Type 0
 EndsAt f x rest =
     (y : Written f) (r s : Words) → May f y → StartsAs r rest → words_of f x ++ r ≡ words_of f y ++ s → Unlike (continuing f) s → r ≡ s
 
--- the piece is of the form, it is in front of `rest`, and words of the form end after it
+-- the words `words` are `piece` followed by `rest`, `piece` is of the form f, and the words of the form f end before `rest` (`EndsAt`)
 pub record IsTaken (f : Form) (piece rest words : Words) : Type 0 where
   pub written : Written f
   pub allowed : May f written
@@ -35,7 +37,7 @@ pub record IsTaken (f : Form) (piece rest words : Words) : Type 0 where
   pub words_are : words ≡ piece ++ rest
   pub ends : EndsAt f written rest
 
--- the words are not of the form, and first fail with this number of words left
+-- the words are not of the form f, and `left` of them come after their longest prefix that is also the beginning of some words of f
 pub record GoesWrong (f : Form) (words : Words) (left : ℕ) : Type 0 where
   pub before : Words
   pub after : Words
@@ -45,13 +47,13 @@ pub record GoesWrong (f : Form) (words : Words) (left : ℕ) : Type 0 where
   pub stops : (t : List ℕ) (rest : Words) → after ≡ t ∷ rest → Begins f (before ++ t ∷ []) → ⊥
   pub is_none : Has f words → ⊥
 
--- the words first fail inside the form: if the words before the failure are us and vs, and us has the form, then vs begins with a word that can continue
--- words of the form
+-- the words fail (`GoesWrong`) inside the form f: if the words before the failure are us and vs, and us is of the form f, then vs begins with a word
+-- that can continue words of f
 abbrev pub StopsIn : Form → Words → ℕ → Type 0
 StopsIn f words left =
     (w : GoesWrong f words left) × ((us vs : Words) → w.before ≡ us ++ vs → Has f us → Unlike (continuing f) vs → ⊥)
 
--- ---- lists cut into a first part and a rest
+-- ---- lists that are empty or begin with the first word of another list (`StartsAs`), and a list that is split at two places
 
 starts_unlike : (r rest : Words) → StartsAs r rest → (f : Form) → Unlike (continuing f) rest → Unlike (continuing f) r
 starts_unlike [] rest s f u = tt
@@ -69,7 +71,7 @@ starts_itself : (us : Words) → StartsAs us us
 starts_itself [] = tt
 starts_itself (u ∷ us) = (us, refl)
 
--- either the words us begin with `first`, or `first` begins with us and the word t
+-- either the words us begin with `first`, or `first` begins with us followed by the word t
 data Seam (us : Words) (t : List ℕ) (first : Words) : Type 0 where
   short : (v : Words) → us ≡ first ++ v → Seam us t first
   long : (v : Words) → first ≡ (us ++ t ∷ []) ++ v → Seam us t first
@@ -86,7 +88,7 @@ seam (u ∷ us) t vs (x ∷ first) second e = by (seam us t vs first second cc)
     by (short v h) = short v (ap (λ ws. u ∷ ws) h ∙ ap (λ y. y ∷ (first ++ v)) (sym same))
     by (long v h) = long v (ap (λ ws. x ∷ ws) h ∙ ap (λ y. y ∷ ((us ++ t ∷ []) ++ v)) same)
 
--- if the words us are `first` followed by v, and us, t, vs are `first` followed by `second`, then `second` is v, t, vs
+-- if us is `first` followed by v, and us, t, vs are together `first` followed by `second`, then `second` is v followed by t and vs
 seam_rest : (us : Words) (t : List ℕ) (vs first second v : Words) → us ≡ first ++ v → (us ++ t ∷ []) ++ vs ≡ first ++ second → second ≡ v ++ t ∷ vs
 seam_rest us t vs first second v i e = same first (sym e ∙ append_assoc us (t ∷ []) vs ∙ ap (λ ws. ws ++ t ∷ vs) i ∙ append_assoc first v (t ∷ vs))
   where
@@ -94,19 +96,19 @@ seam_rest us t vs first second v i e = same first (sym e ∙ append_assoc us (t 
     same [] h = h
     same (x ∷ first) h = same first cc
 
--- if no first word of g can continue words of f, words of g do not begin with a word that can continue words of f
+-- if no first word of the form g can continue words of the form f, words of g do not begin with a word that can continue words of f
 unlike_words : (f g : Form) (ws : Words) → are_apart (continuing f) (firsts g) ≡ true → Has g ws → Unlike (continuing f) ws
 unlike_words f g ws a h =
     subst (Unlike (continuing f)) (append-nil (words_of g h.written) ∙ sym h.spelled) (unlike_front (continuing f) g h.written h.allowed [] a (λ e. tt))
 
--- ---- words that a form takes, as in `IsTaken`
+-- ---- words that a form takes from the front of other words (`IsTaken`)
 
 pub ends_unlike : (f : Form) → is_unambiguous f ≡ true → (x : Written f) → May f x → (rest : Words) → Unlike (continuing f) rest → EndsAt f x rest
 ends_unlike f h x a rest u =
     λ y r s b st e v. (reads_once one_phrase f h x y a b r s e (starts_unlike r rest st f u) v).1
 
--- let no first word of g continue words of f, and let q be empty or begin with the word after p: if p is taken by f (`IsTaken`), and p followed by q is
--- of f and then g, then q is of g
+-- let no first word of g continue words of f, let f take p from the front of words (`IsTaken`), and let q be empty or begin with the word after p: if
+-- p followed by q is of the form `sequence f g`, then q is of the form g
 has_right : (f g : Form) (p rest ws q : Words) → are_apart (continuing f) (firsts g) ≡ true → IsTaken f p rest ws → StartsAs q rest
     → Has (sequence f g) (p ++ q) → Has g q
 has_right f g p rest ws q a k s h = record {
@@ -143,8 +145,8 @@ wrong_right f g p rest ws left a k w = record {
   is_none = λ h. w.is_none (has_right f g p rest ws rest a k (starts_itself rest) (subst (Has (sequence f g)) k.words_are h));
 }
 
--- if no first word of g can continue words of f, and vs begins with no word that can continue words of f and then g, then the words of z followed by vs
--- begin with no word that can continue words of f
+-- if no first word of g can continue words of f, and vs does not begin with a word that can continue words of `sequence f g`, then the words of z
+-- followed by vs do not begin with a word that can continue words of f
 pub unlike_second : (f g : Form) (z : Written g) → May g z → (vs : Words) → are_apart (continuing f) (firsts g) ≡ true
     → Unlike (continuing (sequence f g)) vs → Unlike (continuing f) (words_of g z ++ vs)
 unlike_second f g z m vs a u =
@@ -168,10 +170,10 @@ stops_right f g p rest ws left a k w = (
       w.1 (words_of g h.written.1) vs s (record { written = h.written.1; allowed = h.allowed.1; spelled = refl }) (unlike_last f g vs u),
 )
 
--- ---- words that first fail inside a form
+-- ---- words that fail inside a form (`StopsIn`)
 
--- if no first word of g can continue words of f, and words first fail inside f at the word t, then no words of f followed by words of g begin with the
--- words up to t
+-- if no first word of g can continue words of f, and words fail inside f at the word t (`StopsIn`), then no words of f followed by words of g begin
+-- with the words up to and including t
 none_within : (f g : Form) (words : Words) (left : ℕ) → are_apart (continuing f) (firsts g) ≡ true → (w : StopsIn f words left) (t : List ℕ) (more tail : Words)
     → w.0.after ≡ t ∷ more → Parts f g ((w.0.before ++ t ∷ []) ++ tail) → ⊥
 none_within f g words left a w t more tail k p = next (seam w.0.before t tail p.before p.after p.are)
@@ -217,7 +219,8 @@ stops_left f g words left a c w =
         (sequence_parts f g ((w.0.before ++ t ∷ []) ++ more)
         (subst (Has (sequence f g)) (ap (λ us. w.0.before ++ us) k ∙ sym (append_assoc w.0.before (t ∷ []) more)) h))
 
--- if some lists of words, but not the empty list, are of the form f, and ws does not begin with a first word of f, then ws first fails at its start
+-- if f allows some words, but not the empty list, and ws is empty or begins with a word that cannot be the first of words of f, then ws fails inside
+-- f at its start (`StopsIn`)
 pub stops_first : (f : Form) (ws : Words) → can_be f ≡ true → is_skippable f ≡ false → Unlike (firsts f) ws → StopsIn f ws (length ws)
 stops_first f ws c n b =
     let some = some_words f c in (
@@ -244,7 +247,7 @@ stops_first f ws c n b =
     nothing [] vs e h = never h
     nothing (u ∷ us) vs e h = cc
 
--- ---- a form that may be absent
+-- ---- words that an optional form takes (`IsTaken`), and words that fail inside it (`StopsIn`)
 
 pub optional_taken : (f : Form) (p rest ws : Words) → is_skippable f ≡ false → IsTaken f p rest ws → IsTaken (optional f) p rest ws
 optional_taken f p rest ws n k = record { written = inr k.written; allowed = k.allowed; piece_is = k.piece_is; words_are = k.words_are; ends = ends }
@@ -331,7 +334,7 @@ optional_stops f ws left l w = (
         w.1 us vs e (record { written = x; allowed = m; spelled = k })
         (unlike (continuing f) (continuing (optional f)) vs (λ t o. of_left (continuing f) (firsts f ++ cond (is_skippable f) [] []) t o) u)
 
--- ---- words left after the end of a form
+-- ---- words that are left after the words of a form
 
 pub end_wrong : (ws : Words) → 0 < length ws → GoesWrong empty ws (length ws)
 end_wrong ws l = record {
@@ -344,7 +347,7 @@ end_wrong ws l = record {
   is_none = λ h. let k = ap length h.spelled in absurd (omega (arith, k, l));
 }
 
--- if the form takes p and words are left after p, the words first fail at the first word after p
+-- if the form f takes p (`IsTaken`) and words are left after p, the words fail (`GoesWrong`) at the first word after p
 pub left_over : (f : Form) (p rest ws : Words) (left : ℕ) → IsTaken f p rest ws → GoesWrong empty rest left → GoesWrong f ws left
 left_over f p rest ws left k w = record {
   before = p;
@@ -369,7 +372,7 @@ left_over f p rest ws left k w = record {
     all : rest ≡ w.after
     all = w.words_are ∙ ap (λ us. us ++ w.after) (nothing w.before w.begins.0 w.begins.1.spelled)
 
--- ---- forms without an expression
+-- ---- forms in which no word can be an expression
 
 abbrev pub is_plain : Form → Bool
 is_plain empty = true
@@ -393,27 +396,28 @@ none_awaited (either f g) ws h (inl a) = none_awaited f ws (and_parts (is_plain 
 none_awaited (either f g) ws h (inr a) = none_awaited g ws (and_parts (is_plain f) (is_plain g) h).1 a
 none_awaited (many f) ws h a = none_awaited f a.1 h a.4
 
--- ---- the byte at which the failing word is invalid
+-- ---- the byte of the error in the word at which words fail
 
--- a word follows the words `before`, and an expression can be next there
+-- `after` is not empty, and an expression can follow the words `before` in the form f
 abbrev pub IsAwaited : Form → Words → Words → Type 0
 IsAwaited f before after = (t : List ℕ) × (rest : Words) × (after ≡ t ∷ rest) × Awaits f before
 
--- the byte at which the word after the words `before` fails: after its longest prefix that begins an expression, if an expression can be next there;
--- otherwise 0
+-- the byte of the error in the first of the words `after`, which follow `before`: if an expression can follow `before` in the form f, the length of
+-- the longest prefix of that word that is also the beginning of some expression; otherwise 0
 abbrev pub IsByte : Form → Words → Words → ℕ → Type 0
 IsByte f before after byte =
     ((a : IsAwaited f before after) × IsLongestPrefix BeginsExpression a.0 byte) ⊎ ((IsAwaited f before after → ⊥) × (byte ≡ 0))
 
--- the words are not of the form, and first fail at this byte of the first of the last `left` words
+-- the words are not of the form f, and the first error is at this byte of the first of the last `left` words (`GoesWrong`, `IsByte`)
 abbrev pub IsWrongAt : Form → Words → ℕ → ℕ → Type 0
 IsWrongAt f words left byte = (w : GoesWrong f words left) × IsByte f w.before w.after byte
 
--- in a form without an expression, the byte at which a word is invalid is 0
+-- in a form in which no word can be an expression, the byte of the error is 0
 pub plain_byte : (f : Form) (before after : Words) → is_plain f ≡ true → IsByte f before after 0
 plain_byte f before after h = inr (λ a. none_awaited f before h a.3, refl)
 
--- if a word is no expression, the byte at which it is invalid is the length of its longest prefix that begins one
+-- for the form of one word that is an expression, if the first word is not an expression, the byte of the error is the length of the longest prefix
+-- of that word that is also the beginning of some expression
 pub expression_byte : (words : Words) (left byte : ℕ) (w : StopsIn (word formula) words left)
     → ((t : List ℕ) (rest : Words) → words ≡ t ∷ rest → ((phrase : Phrase) × SpellsPhrase t phrase) ⊎ IsLongestPrefix BeginsExpression t byte)
     → (words ≡ [] → byte ≡ 0) → IsByte (word formula) w.0.before w.0.after byte
@@ -448,7 +452,7 @@ expression_byte words left byte w l z = at (view w.0.before)
                   record { written = p.0; allowed = p.1.allowed; spelled = ap (λ us. (us ++ t ∷ []) ++ []) e ∙ ap (λ u. u ∷ []) p.1.spelled },
                 ))
 
--- if an expression can follow the words ws, the first of these words is a first word of the form
+-- if an expression can follow the words ws in the form g, then the first of ws, if ws is not empty, is of a class of first words of g
 awaits_first : (g : Form) (ws : Words) → Awaits g ws → (t : List ℕ) (more : Words) → ws ≡ t ∷ more → OfOne (firsts g) t
 awaits_first empty ws a t more e = absurd a
 awaits_first (word (exact text)) ws a t more e = absurd a
@@ -486,7 +490,7 @@ byte_on : (f g : Form) (b c after : Words) (byte : ℕ) → (Awaits f b → Awai
 byte_on f g b c after byte h k (inl (a, l)) = inl ((a.0, a.1, a.2, h a.3), l)
 byte_on f g b c after byte h k (inr (n, z)) = inr (λ a. n (a.0, a.1, a.2, k a.3), z)
 
--- after the words p, no words lead to a place where the form has an expression
+-- in the form f, no expression can follow the words p, nor p followed by any words
 abbrev pub IsSettled : Form → Words → Type 0
 IsSettled f p = (us : Words) → Awaits f (p ++ us) → ⊥
 
@@ -527,7 +531,7 @@ left_over_at f p rest ws left byte k settled (w, inl (a, l)) = absurd a.3
 left_over_at f p rest ws left byte k settled (w, inr (n, z)) =
     (left_over f p rest ws left k w, inr (λ a. settled [] (subst (Awaits f) (sym (append-nil p)) a.3), z))
 
--- for the list of one command, the place where its form first fails is the place of the syntax error
+-- for a list of one command, the place at which words fail in its form is the place of the error of syntax
 pub wrong_place : (e : Entry) (words : Words) (left byte : ℕ) → IsWrongAt e.form words left byte
     → IsSyntaxPlace (e ∷ []) words (length words - left) byte
 wrong_place e words left byte (w, b) =

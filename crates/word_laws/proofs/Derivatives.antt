@@ -1,5 +1,4 @@
--- Derivatives of forms: the words after a word are words of the form's derivatives by it, so `taken` is the length of the
--- longest prefix that begins words of a form.
+-- Derivatives of forms: a word followed by ws is of a form if and only if ws is of one of the derivatives of the form by this word.
 use Rattle.std.proofs.Common.{◌≡◌, ℕ, Bool, true, false, cond, List, [], ◌∷◌, ◌++◌, map, refl, sym, ap, ◌∙◌, subst, ◌⊎◌, inl, inr, flat_map}
 use Rattle.std.proofs.lemmas.Bool.{and_parts, and_from, or_cases, or_left, or_right}
 use Rattle.sym_model.specs.Sum.{Among}
@@ -8,7 +7,7 @@ use Rattle.sym_model.specs.Form.{Form, empty, word, sequence, either, many, Writ
 use Rattle.word_laws.proofs.Classes.{fits_sound, fits_complete}
 use Rattle.word_laws.specs.Words.{Words}
 
--- if the words us have the form f and the words vs the form g, us followed by vs has the form `sequence f g`
+-- if the words us are of the form f and the words vs of the form g, us followed by vs is of the form `sequence f g`
 pub has_sequence : (f g : Form) (us vs : Words) → Has f us → Has g vs → Has (sequence f g) (us ++ vs)
 has_sequence f g us vs h k = record {
   written = (h.written, k.written);
@@ -48,7 +47,7 @@ has_more f us vs h k = record {
 pub has_none : (f : Form) → Has (many f) []
 has_none f = record { written = []; allowed = tt; spelled = refl }
 
--- if the form is skippable, the empty list of words has it
+-- if the test `is_skippable` passes for a form, the empty list of words is of the form
 pub skipped : (f : Form) → is_skippable f ≡ true → Has f []
 skipped empty h = record { written = tt; allowed = tt; spelled = refl }
 skipped (word c) h = cc
@@ -85,7 +84,7 @@ pub among_cond_true : {A : Type 0} (b : Bool) (x : A) (xs : List A) → b ≡ tr
 among_cond_true true x xs h m = m
 among_cond_true false x xs h m = cc
 
--- if ws has a derivative of f by `text` as its form, `text` followed by ws has the form f
+-- if the words ws are of a derivative of f by the word `text`, then `text` followed by ws is of the form f
 pub derivative_sound : (reads : List ℕ → Bool) → TellsExpressions reads → (f h : Form) (text : List ℕ) (ws : Words)
     → Among h (derivatives reads f text) → Has h ws → Has f (text ∷ ws)
 derivative_sound reads tells empty h text ws m k = absurd m
@@ -134,7 +133,7 @@ derivative_sound reads tells (many f) h text ws m k =
     subst (Has (many f)) (sym (ap (λ w. text ∷ w) q.are))
     (has_more f (text ∷ q.before) q.after (derivative_sound reads tells f b.0 text q.before b.1 q.first) q.second)
 
--- some derivative of the form by `text` has the words ws
+-- the words ws are of some derivative of the form f by the word `text`
 pub record Follows (reads : List ℕ → Bool) (f : Form) (text : List ℕ) (ws : Words) : Type 0 where
   pub next : Form
   pub among : Among next (derivatives reads f text)
@@ -143,7 +142,7 @@ pub record Follows (reads : List ℕ → Bool) (f : Form) (text : List ℕ) (ws 
 abbrev pub CompleteAt : (List ℕ → Bool) → Form → Type 0
 CompleteAt reads f = (x : Written f) → May f x → (text : List ℕ) (ws : Words) → words_of f x ≡ text ∷ ws → Follows reads f text ws
 
--- if the words us followed by the words vs are the word `text` followed by ws, either us begins with `text`, or us is empty and vs begins with it
+-- if us followed by vs is `text` followed by ws, either us begins with `text`, or us is empty and vs begins with `text`
 pub data Splits (us vs : Words) (text : List ℕ) (ws : Words) : Type 0 where
   inside : (rest : Words) → us ≡ text ∷ rest → ws ≡ rest ++ vs → Splits us vs text ws
   behind : us ≡ [] → vs ≡ text ∷ ws → Splits us vs text ws
@@ -191,7 +190,7 @@ many_complete reads f l (x ∷ xs) a text ws h =
         }
     by (behind e k) again = again k
 
--- if a word followed by ws has the form f, then ws has a derivative of f by this word as its form
+-- if a word followed by ws is of the form f, then ws is of some derivative of f by this word
 pub derivative_complete : (reads : List ℕ → Bool) → TellsExpressions reads → (f : Form) → CompleteAt reads f
 derivative_complete reads tells empty x a text ws h = cc
 derivative_complete reads tells (word c) x a text ws h =

@@ -1,4 +1,4 @@
--- The first error of two lists together, and the first error of a list, which depends only on the number of each error in it.
+-- The first error of two lists together, and the first error of a list, which depends only on the multiplicity of each error in the list.
 use Rattle.std.proofs.Common.{◌≡◌, ℕ, ◌+◌, ◌<◌, ◌==◌, nat_le, nat_lt, Bool, true, false, not, ◌&&◌, ◌||◌, cond, List, [], ◌∷◌, ◌++◌, refl, sym, ap, ◌∙◌, subst, arith, Option, Some, None, inl, inr}
 use Rattle.std.proofs.lemmas.Bool.Decides.{nat_tests}
 use Rattle.std.proofs.lemmas.Bool.{and_parts}
@@ -9,7 +9,7 @@ use Rattle.sym_model.proofs.Numbers.{nat_le-trans, not_le-trans}
 use Rattle.word_laws.proofs.FirstOffences.{first-among, first_none}
 use Rattle.word_laws.specs.JudgedRows.{earlier}
 
--- ---- the order of the places of errors
+-- ---- the order of errors (`is_no_later`): by word, then byte, then kind
 
 abbrev goes : ℕ → ℕ → Bool → Bool
 goes a c test = nat_lt a c || ((a == c) && test)
@@ -87,7 +87,7 @@ or_later o p h = by (is_no_later p o) refl
     by true e = refl
     by false e = let l = later_not o p o h e in let m = itself o in cc
 
--- ---- the first error of two lists
+-- ---- the first error of two lists together
 
 regrouped : (x a b : Offence) (xa ab xb : Bool) → is_no_later x a ≡ xa → is_no_later a b ≡ ab → is_no_later x b ≡ xb
     → (xa ≡ true → ab ≡ true → xb ≡ true) → (xa ≡ false → ab ≡ false → xb ≡ false)
@@ -113,7 +113,7 @@ pub first_of_both : (xs ys : List Offence) → first_offence (xs ++ ys) ≡ earl
 first_of_both [] ys = refl
 first_of_both (x ∷ xs) ys = ap (earlier_of x) (first_of_both xs ys) ∙ earlier_both x (first_offence xs) (first_offence ys)
 
--- ---- the errors of a list, counted
+-- ---- the sum of f over a list of errors; two lists of errors with equal sums for every f have the same first error
 
 abbrev pub tally : (Offence → ℕ) → List Offence → ℕ
 tally f [] = 0
@@ -126,7 +126,7 @@ pub tally_append : (f : Offence → ℕ) (xs ys : List Offence) → tally f (xs 
 tally_append f [] ys = omega arith
 tally_append f (x ∷ xs) ys = let e = tally_append f xs ys in omega (arith, e)
 
--- the first error of a list is no later than any of its errors
+-- if o is the first error of a list (`first_offence`), it is no later than any error p of the list
 first_least : (os : List Offence) (o p : Offence) → first_offence os ≡ Some o → Among p os → is_no_later o p ≡ true
 first_least [] o p h m = absurd m
 first_least (x ∷ os) o p h m = by (first_offence os) refl h m (first_least os)
@@ -145,7 +145,7 @@ first_least (x ∷ os) o p h m = by (first_offence os) refl h m (first_least os)
     by None e h (inr s) ih = absurd (subst (Among p) (first_none os e) s)
     by (Some y) e h m ih = first_is (is_no_later x y) y refl h m (ih y p e)
 
--- an error of a list that is no later than any other is the first
+-- an error of a list that is no later than any of its errors is the first error of the list (`first_offence`)
 pub first_is_least : (os : List Offence) (o : Offence) → Among o os → ((p : Offence) → Among p os → is_no_later o p ≡ true)
     → first_offence os ≡ Some o
 first_is_least os o m h = by (first_offence os) refl

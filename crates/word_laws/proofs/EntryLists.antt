@@ -1,4 +1,4 @@
--- Statements about lists of commands, from those about forms: the place where words first fail, and the one command that words spell.
+-- Laws of lists of commands, from laws of the forms of their words: the place of the first error of syntax, and the one command that words spell.
 use Rattle.std.proofs.Common.{◌≡◌, ℕ, ◌<◌, nat_lt, Bool, true, false, not, ◌&&◌, cond, List, [], ◌∷◌, ◌++◌, length, take, refl, sym, ap, ◌∙◌, subst, arith, inl, inr, Option, Some, None}
 use Rattle.std.specs.Prelude.{slice_index_or}
 use Rattle.std.proofs.lemmas.Bool.{ltb-true, lt-ltb, and_parts, both_ways}
@@ -19,7 +19,7 @@ use Rattle.word_laws.proofs.ExpressionWords.{tells_expressions, bytes_longest}
 use Rattle.word_laws.specs.Words.{Words}
 use Rattle.std.proofs.lemmas.Option.{some_pair_parts}
 
--- ---- the forms of a list of commands
+-- ---- words spell a command of a list if and only if they are of the form of one of its commands
 
 pub of_forms : (P : Form → Type 0) (entries : List Entry) → SomeOf P (forms_of entries) → SomeOf (λ (e : Entry). P e.form) entries
 of_forms P [] h = h
@@ -45,7 +45,7 @@ has_spells [] words h = absurd h
 has_spells (e ∷ entries) words (inl h) = (e.says h.written, inl (record { has = h; says_it = refl }))
 has_spells (e ∷ entries) words (inr h) = let r = has_spells entries words h in (r.0, inr r.1)
 
--- ---- the place where words first fail
+-- ---- the place of the first error of syntax
 
 begins_entry : (entries : List Entry) (ws : Words) → BeginsOne (forms_of entries) ws → BeginsCommand entries ws
 begins_entry entries ws h = of_forms (λ f. Begins f ws) entries h
@@ -58,7 +58,7 @@ prefix_entry entries words k h = record {
   longest = λ j l b. h.longest j l (to_forms (λ f. Begins f (take j words)) entries b);
 }
 
--- `syntax_word` is the length of the longest prefix of the words that begins a command
+-- `syntax_word` is the length of the longest prefix of the words that is also the beginning of some command
 pub word_longest : (entries : List Entry) → CanBe (forms_of entries) → 0 < length entries → (words : Words)
     → IsLongestPrefix (BeginsCommand entries) words (syntax_word entries words)
 word_longest entries c n words =
@@ -91,7 +91,7 @@ byte_is entries words word = by (nat_lt word (length words)) (some_awaits_next (
           refl,
         )
 
--- if `syntax_place` gives a word and a byte, the words are no command and first fail there
+-- if `syntax_place` gives a word and a byte, the words spell no command, and their first error of syntax is at this word and byte
 pub syntax_sound : (entries : List Entry) → CanBe (forms_of entries) → 0 < length entries → (words : Words) (word byte : ℕ)
     → syntax_place entries words ≡ Some (word, byte) → IsSyntaxPlace entries words word byte
 syntax_sound entries c n words word byte h = by (is_command entries words) refl h
@@ -167,8 +167,8 @@ only_has f words b [] k = k
 only_has f words b (g ∷ entries) (inl k) = inl k.0
 only_has f words b (g ∷ entries) (inr k) = inr (only_has f words b entries k)
 
--- if each word spells at most one phrase, and the entries are unambiguous, a function f of an entry and of what the words denote in it has only one
--- value for given words
+-- let each word spell at most one phrase, and let the entries be unambiguous: if the given words are of the form of an entry e, and x is the value
+-- that they denote in this form, then f e x is the same for every such e
 pub said_once : {B : Type 0} → OnePhrase → (f : (e : Entry) → Written e.form → B) (entries : List Entry) → are_unambiguous (forms_of entries) ≡ true
     → (words : Words) (b d : B)
     → SomeOf (λ (e : Entry). (h : Has e.form words) × (b ≡ f e h.written)) entries
@@ -205,14 +205,14 @@ pub one_offence : OnePhrase → (entries : List Entry) → are_unambiguous (form
 one_offence one entries u words o p h k =
     said_once one (λ e x. first_offence (e.offends x)) entries u words o p (offence_pairs entries words o h) (offence_pairs entries words p k)
 
--- ---- the place where words first fail is unique
+-- ---- the place of the first error of syntax is unique
 
 one_length : {A : Type 0} (P : List A → Type 0) (xs : List A) (k j : ℕ) → IsLongestPrefix P xs k → IsLongestPrefix P xs j → k ≡ j
 one_length P xs k j h l =
     let up = l.longest k h.within h.begins in
     let down = h.longest j l.within l.begins in omega arith
 
--- if words first fail at two places, these are the same
+-- if two places are the place of the first error of syntax of the same words, they are equal
 pub one_place : (entries : List Entry) (words : Words) (word byte other at : ℕ)
     → IsSyntaxPlace entries words word byte → IsSyntaxPlace entries words other at → (word ≡ other) × (byte ≡ at)
 one_place entries words word byte other at h k =

@@ -1,4 +1,4 @@
--- Words that are expressions, read from the left, and their longest prefix that begins one.
+-- Words that are expressions, and the longest prefix of a text that is also the beginning of some expression, found by reading bytes from the left.
 use Rattle.std.proofs.Common.{◌≡◌, ℕ, zero, suc, ◌+◌, ◌≤◌, Bool, true, false, cond, List, [], ◌∷◌, length, take, refl, sym, ap, ◌∙◌, subst, arith, Option, Some, None}
 use Rattle.std.specs.Prelude.{is_some}
 use Rattle.std.proofs.Math.Numerals.{suc-eq-add-one}
@@ -25,12 +25,12 @@ tells_expressions = record {
 abbrev Live : State Phrase (List ℕ) → List ℕ → Type 0
 Live state text = is_live (run phrases text state) ≡ true
 
--- if the state after reading a text is not dead, neither is the state before it
+-- if the state after reading a text from a given state is not `dead`, the given state is not `dead` either
 live_before : (text : List ℕ) (state : State Phrase (List ℕ)) → Live state text → is_live state ≡ true
 live_before text dead h = sym (ap is_live (read-dead text)) ∙ h
 live_before text (at p t f o) h = refl
 
--- from a live state, `bytes_taken` is the length of the longest prefix of the text after which the state is still live
+-- from a state that is not `dead`, `bytes_taken` is the length of the longest prefix of the text after which the state is not `dead`
 live_longest : (text : List ℕ) (state : State Phrase (List ℕ)) → is_live state ≡ true
     → IsLongestPrefix (Live state) text (bytes_taken state text)
 live_longest [] state h = record { within = omega arith; begins = h; longest = λ j k b. k }
@@ -63,7 +63,7 @@ live_longest (byte ∷ text) state h =
         longest a zero k b = omega arith
         longest a (suc j) k b = let q = a.longest j (omega arith) b in omega arith
 
--- `bytes_taken` from the start is the length of the longest prefix of the text that begins an expression
+-- `bytes_taken` from the start is the length of the longest prefix of the text that is also the beginning of some expression
 pub bytes_longest : (text : List ℕ) → IsLongestPrefix BeginsExpression text (bytes_taken start text)
 bytes_longest text =
     let l = live_longest text start refl in

@@ -1,4 +1,4 @@
--- The first of a list of errors is one of them, and no other is before it.
+-- The first of a list of the errors of words is one of them, and no other one is before it.
 use Rattle.std.proofs.Common.{◌≡◌, ℕ, ◌<◌, ◌==◌, nat_le, nat_lt, Bool, true, false, ◌&&◌, ◌||◌, cond, List, [], ◌∷◌, refl, sym, ap, ◌∙◌, subst, arith, Option, Some, None, ◌⊎◌, inl, inr}
 use Rattle.std.proofs.lemmas.Bool.Decides.{nat_tests}
 use Rattle.sym_model.specs.Sum.{Among}
@@ -6,7 +6,7 @@ use Rattle.sym_model.specs.CommandOffence.{Offence, is_no_later, ComesBefore, ea
 use Rattle.sym_model.specs.ExpressionOffence.{rank}
 use Rattle.expression_laws.proofs.FirstOffences.{one_of}
 
--- an error does not come before itself
+-- an error does not come before itself (`ComesBefore`)
 never_itself : (o : Offence) → ComesBefore o o → ⊥
 never_itself o (inl h) = omega arith
 never_itself o (inr h) = by h.1
@@ -15,7 +15,8 @@ never_itself o (inr h) = by h.1
     by (inl k) = omega arith
     by (inr k) = let l = k.1 in omega arith
 
--- the triple (a, b, c) comes before (d, e, f): the order of errors, by their words, then their bytes, then the ranks of their kinds
+-- the triple (a, b, c) is lexicographically before (d, e, f): this is the order of errors, with a and d their words, b and e their bytes, and c and f
+-- the ranks of their kinds
 abbrev Before : ℕ → ℕ → ℕ → ℕ → ℕ → ℕ → Type 0
 Before a b c d e f = (a < d) ⊎ ((a ≡ d) × ((b < e) ⊎ ((b ≡ e) × (c < f))))
 
@@ -32,7 +33,7 @@ first_before a b c d e f (inl x) = grind (arith, nat_tests)
 first_before a b c d e f (inr (x, inl y)) = grind (arith, nat_tests)
 first_before a b c d e f (inr (x, inr y)) = grind (arith, nat_tests)
 
--- if p is before x, and x is not after y, p is before y
+-- if the error p is before x, and x is no later than y, p is before y
 before-first : (p x y : Offence) → ComesBefore p x → is_no_later x y ≡ true → ComesBefore p y
 before-first p x y h k = before_first p.0 p.1 (rank p.2) x.0 x.1 (rank x.2) y.0 y.1 (rank y.2) h k
 
@@ -54,7 +55,7 @@ first_none (x ∷ os) h = absurd (by (first_offence os) h)
 pub none-empty : (os : List Offence) → os ≡ [] → first_offence os ≡ None
 none-empty os h = ap first_offence h
 
--- the first error of a list, if there is one, is in the list
+-- the first error of a list (`first_offence`), if there is one, is in the list
 pub first-among : (os : List Offence) (o : Offence) → first_offence os ≡ Some o → Among o os
 first-among [] o h = cc
 first-among (x ∷ os) o h = by (first_offence os) refl h (first-among os)

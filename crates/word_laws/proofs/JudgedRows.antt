@@ -1,4 +1,5 @@
--- Rows judged by one rule for each number have the same number of each error as rows judged by one rule after another.
+-- The errors of rows of numbers. A rule for each number that combines several rules finds the same errors, each as often, as these rules find if they
+-- are applied to the rows one after another.
 use Rattle.std.proofs.Common.{◌≡◌, ℕ, ◌+◌, Bool, List, [], ◌∷◌, ◌++◌, map, length, drop, refl, arith, Option, Some, None}
 use Rattle.sym_model.specs.Partition.{part}
 use Rattle.sym_model.specs.ExpressionOffence.{OffenceKind, range, shape}
@@ -10,7 +11,7 @@ use Rattle.word_laws.proofs.EarlierOffences.{tally, Alike, tally_append, first_a
 abbrev Weight : Type 0
 Weight = Offence → ℕ
 
--- the error of this kind at the word k
+-- the error of the given kind at byte 0 of word k
 abbrev pub of_kind : ℕ → OffenceKind → Offence
 of_kind k kind = (k, 0, kind)
 
@@ -19,7 +20,7 @@ kinds_of_both : (f : Weight) (k : ℕ) (xs ys : List OffenceKind)
 kinds_of_both f k [] ys = omega arith
 kinds_of_both f k (x ∷ xs) ys = let e = kinds_of_both f k xs ys in omega (arith, e)
 
--- the sum of f over the errors found by the rules r and s together is the sum over those found by r plus the sum over those found by s
+-- the sum of f over the errors found by the rules r and s together is the sum of f over those found by r plus the sum of f over those found by s
 both_rules : (f : Weight) (r s : Rule) (b : List ℕ) (k : ℕ) (ns : List ℕ)
     → tally f (offences_after (λ before a. r before a ++ s before a) b k ns) ≡ tally f (offences_after r b k ns) + tally f (offences_after s b k ns)
 both_rules f r s b k [] = refl
@@ -54,7 +55,7 @@ cell_tally f count most test k ns =
     let z = both_rules f (long most) (wrong test) [] k ns in
     omega (arith, x, y, z)
 
--- ---- the rows of an insertion tableau
+-- ---- sums of f over the errors of the rows of an insertion tableau
 
 abbrev ordered : ℕ → List ℕ → ℕ → Rule
 ordered c upper d = wrong (is_disordered c upper d)
@@ -101,7 +102,7 @@ inserted_first [] = refl
 inserted_first (row ∷ rows) =
     first_alike (insertion_offences (row ∷ rows)) (inserted 0 None [] (row ∷ rows) ++ empty_row_offences (row ∷ rows)) (inserted_alike row rows)
 
--- ---- the rows of a recording tableau
+-- ---- sums of f over the errors of the rows of a recording tableau
 
 recorded_tally : (f : Weight) (cells count : ℕ) (earlier upper : List ℕ) (rows : List PlacedRow)
     → tally f (recorded cells count earlier upper rows)
@@ -130,7 +131,7 @@ recorded_first cells rows =
     let r = recorded_tally f cells 0 [] [] rows in
     omega (arith, p, q, r))
 
--- ---- the rows of a skew tableau
+-- ---- sums of f over the errors of the rows of a skew tableau
 
 skewed_tally : (f : Weight) (c : ℕ) (upper inner : List ℕ) (rows : List PlacedRow)
     → tally f (skewed c upper inner rows) ≡ tally f (row_offences entry_rule rows) + tally f (order_offences c upper inner rows)

@@ -1,4 +1,4 @@
--- The place where words of rows first fail to be a tableau with rows of given lengths, word by word.
+-- The place of the error in words that must be a tableau with rows of given lengths, found word by word.
 use Rattle.std.proofs.Common.{◌≡◌, ℕ, zero, suc, ◌+◌, ◌==◌, min, Bool, true, false, ◌&&◌, ◌||◌, cond, List, [], ◌∷◌, ◌++◌, map, length, refl, sym, ap, ◌∙◌, arith, Option, Some, None}
 use Rattle.std.specs.Prelude.{codes}
 use Rattle.std.proofs.lemmas.Bool.{eqb-true, eqb-false}
@@ -15,7 +15,8 @@ use Rattle.word_laws.specs.Words.{Words}
 abbrev never : List ℕ → Bool
 never text = false
 
--- ---- the number of words after which the words no longer begin words of a form, if they are not of the form
+-- ---- `found`: None if a list of words is of the form, and otherwise the length of its longest prefix that is also the beginning of some words of
+-- the form
 
 abbrev left_if : Bool → ℕ → Option ℕ
 left_if b n = cond b None (Some n)
@@ -46,7 +47,7 @@ shift_more : (a b c : ℕ) (x : Option ℕ) → a + b ≡ c → shift a (shift b
 shift_more a b c None e = refl
 shift_more a b c (Some n) e = let g : a + (b + n) ≡ c + n = omega (arith, e) in ap Some g
 
--- the forms h and g have the same derivatives by the first of the words, or, if there is no word, both or neither are skippable
+-- the forms h and g have the same derivatives by the first of the words, or, if there is no word, both allow the empty list or neither does
 abbrev Going : Form → Form → Words → Type 0
 Going h g [] = is_skippable h ≡ is_skippable g
 Going h g (text ∷ rest) = derivatives never h text ≡ derivatives never g text
@@ -74,7 +75,7 @@ stop_found : (h : Form) (text : List ℕ) (rest : Words) → derivatives never h
 stop_found h text rest e =
     ap (λ ds. found_by ds rest) e ∙ ap (λ fs. left_if (has_skippable fs) 0) (nothing_left rest)
 
--- ---- the form of a row and the rows after it
+-- ---- the form of a row and of further rows after it
 
 abbrev then : List ℕ → Form → Form
 then [] f = f
@@ -128,7 +129,8 @@ not_text text w n h = by (same text w) refl
     by true e = let z : true ≡ false = sym h ∙ sym (ap is_number_word (same_true text w e)) ∙ n in cc
     by false e = refl
 
--- if a row has the right length n, the words first fail where the words `more` after it do, read as the rows after it
+-- if a row has the length n that it must have, the error in the words of the row followed by `more` is the error in `more`, read as the words after
+-- the row
 row_fits : (lengths : List ℕ) (n : ℕ) (row more : Words) → EachOf IsNumber row → length row ≡ n
     → found (then lengths (row_of n)) (row_text row ++ more) ≡ shift (length (row_text row)) (found (then lengths empty) more)
 row_fits lengths zero [] more a e =
@@ -148,7 +150,7 @@ row_fits lengths (suc (suc n)) (w ∷ v ∷ row) more a e =
     ∙ row_fits lengths (suc n) (v ∷ row) more a.1 (omega (arith, e)))
     ∙ shift_more 1 (length (v ∷ row)) (length (w ∷ v ∷ row)) (found (then lengths empty) more) (omega arith)
 
--- if a row must have one more number, but a `/` or no word follows, the words first fail there
+-- if a row must have at least one more number, but a `/` or no word follows, the error is at this place
 further_stops : (lengths : List ℕ) (n : ℕ) (rows : List Words) → found (then lengths (row_of (suc n))) (further_text rows) ≡ Some 0
 further_stops lengths n [] =
     ap (λ b. left_if (b || false) 0) (no_skip lengths (row_of (suc n)) (row_no_skip (suc n)))
@@ -201,9 +203,9 @@ row_misses lengths (suc (suc n)) (w ∷ v ∷ row) rows m a e k =
     ∙ row_misses lengths (suc n) (v ∷ row) rows (min (suc n) (length (v ∷ row))) a.1 (λ h. e (omega (arith, h))) refl)
     ∙ (let z : 1 + min (suc n) (length (v ∷ row)) ≡ m = omega (arith, k) in ap Some z)
 
--- ---- the place where the words of all rows first fail
+-- ---- the place of the error in the words of all rows
 
--- if a row fits and ends at word e, and no further row must follow, there is an error at e if and only if rows are left
+-- if the last of the required rows is correct and ends before word e, there is an error, at e, if and only if further rows follow
 no_rows_asked : (e : ℕ) (rows : List Words) (later : List Offence)
     → offence_at e (found (then [] empty) (further_text rows)) ≡ left_behind e [] rows later
 no_rows_asked e [] later = refl
@@ -215,7 +217,8 @@ no_rows_there : (e m : ℕ) (ls : List ℕ) (later : List Offence)
     → offence_at e (found (then (m ∷ ls) empty) (further_text [])) ≡ left_behind e (m ∷ ls) [] later
 no_rows_there e m ls later = let z : e + 0 ≡ e = omega arith in ap (λ p. (p, 0, shape) ∷ []) z
 
--- the error of a row and the rows after it: inside the row if it has a wrong length, otherwise that of the words after it
+-- for a row that must have the length n, followed by further rows: if the row has another length, the error is in the row, and otherwise it is the
+-- error of the words after the row (`behind`)
 row_left : (k n : ℕ) (lengths : List ℕ) (row : Words) (rows : List Words) (behind : List Offence) → EachOf IsNumber row
     → offence_at (k + length (row_text row)) (found (then lengths empty) (further_text rows)) ≡ behind
     → offence_at k (found (tableau_of (n ∷ lengths)) (rows_text (row ∷ rows)))

@@ -1,5 +1,4 @@
--- `taken` is the length of the longest prefix that begins words of one of the forms; the places at which an expression can
--- be next.
+-- `taken` is the length of the longest prefix of a list of words that is also the beginning of words of one of the forms.
 use Rattle.std.proofs.Common.{◌≡◌, ℕ, zero, suc, ◌+◌, ◌<◌, ◌≤◌, Bool, true, false, cond, List, [], ◌∷◌, ◌++◌, map, length, take, refl, sym, ap, ◌∙◌, subst, arith, ◌⊎◌, inl, inr}
 use Rattle.std.proofs.lemmas.Bool.{and_parts, and_from, or_cases, or_left, or_right}
 use Rattle.std.proofs.Math.Numerals.{suc-eq-add-one}
@@ -11,7 +10,7 @@ use Rattle.word_laws.proofs.Classes.{some_word}
 use Rattle.word_laws.proofs.Derivatives.{has_sequence, has_left, has_none, skipped, skippable, derivative_sound, derivative_complete}
 use Rattle.word_laws.specs.Words.{Words}
 
--- ---- if `can_be` holds of a form, some words have this form
+-- ---- if the test `can_be` passes for a form, some words are of this form
 
 pub some_words : (f : Form) → can_be f ≡ true → (ws : Words) × Has f ws
 some_words empty h = ([], record { written = tt; allowed = tt; spelled = refl })
@@ -62,7 +61,7 @@ derivative_can_be reads (many f) h text c m =
     let b = Among_from_map (λ h. sequence h (many f)) h (derivatives reads f text) m in
     ap can_be b.2 ∙ and_from (can_be b.0) (can_be f) (derivative_can_be reads f b.0 text c b.1) c
 
--- ---- words of one of several forms
+-- ---- words that are of one of several forms
 
 pub some_in : {A : Type 0} (P : A → Type 0) (x : A) (xs : List A) → Among x xs → P x → SomeOf P xs
 some_in P x [] m h = absurd m
@@ -83,11 +82,11 @@ pub each_out : {A : Type 0} (P : A → Type 0) (xs : List A) → ((x : A) → Am
 each_out P [] h = tt
 each_out P (x ∷ xs) h = (h x (inl refl), each_out P xs (λ y m. h y (inr m)))
 
--- each of the forms has words
+-- the test `can_be` passes for each of the forms, so that each allows some words
 abbrev pub CanBe : List Form → Type 0
 CanBe forms = EachOf (λ f. can_be f ≡ true) forms
 
--- the words have one of the forms
+-- the words are of one of the forms
 abbrev pub HasOne : List Form → Words → Type 0
 HasOne forms ws = SomeOf (λ f. Has f ws) forms
 
@@ -100,7 +99,7 @@ after_can_be reads forms text c =
     let b = Among_from_each (λ f. derivatives reads f text) h forms m in
     derivative_can_be reads b.0 h text (each_in (λ f. can_be f ≡ true) b.0 forms c b.1) b.2)
 
--- if `text` followed by ws has one of the forms, ws has one of their derivatives by `text` as its form
+-- if `text` followed by ws is of one of the forms, ws is of one of their derivatives by `text`
 pub has_after : (reads : List ℕ → Bool) → TellsExpressions reads → (forms : List Form) (text : List ℕ) (ws : Words)
     → HasOne forms (text ∷ ws) → HasOne (after_word reads forms text) ws
 has_after reads tells forms text ws h =
@@ -135,8 +134,8 @@ more_than_none reads tells forms text ws e h =
     let b = begins_has forms (text ∷ ws) h in
     subst (λ fs. HasOne fs (ws ++ b.0)) e (has_after reads tells forms text (ws ++ b.0) b.1)
 
--- if there are forms and each has words, `taken` is the length of the longest prefix of ws with which words of one of the
--- forms begin
+-- if there are forms and each allows some words, `taken` is the length of the longest prefix of ws that is also the beginning of words of one of the
+-- forms
 pub taken_longest : (reads : List ℕ → Bool) → TellsExpressions reads → (forms : List Form) → CanBe forms → 0 < length forms
     → (ws : Words) → IsLongestPrefix (BeginsOne forms) ws (taken reads forms ws)
 taken_longest reads tells forms c n [] =
@@ -178,7 +177,7 @@ taken_longest reads tells forms c n (text ∷ ws) =
             (has_begins (after_word reads forms text) (take j ws) p.0 (has_after reads tells forms text (take j ws ++ p.0) p.1)) in
             omega arith
 
--- ---- lists of words all of which `taken` counts
+-- ---- words are of one of the forms if and only if one of the derivatives of the forms by these words is skippable
 
 skippable_some : (forms : List Form) → has_skippable forms ≡ true → HasOne forms []
 skippable_some [] h = cc

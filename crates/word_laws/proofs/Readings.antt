@@ -1,4 +1,4 @@
--- Words of an unambiguous form are read in one way.
+-- Words of an unambiguous form denote one value of the form.
 use Rattle.std.proofs.Common.{◌≡◌, ℕ, Bool, true, false, not, ◌&&◌, cond, List, [], ◌∷◌, ◌++◌, append_assoc, refl, sym, ap, ◌∙◌, subst, inl, inr, flat_map}
 use Rattle.std.specs.Prelude.{codes}
 use Rattle.std.proofs.lemmas.Bool.{and_parts, and_from}
@@ -15,7 +15,7 @@ use Rattle.word_laws.proofs.Classes.{number_complete, letter_complete}
 use Rattle.word_laws.proofs.Derivatives.{skippable}
 use Rattle.word_laws.specs.Words.{Words}
 
--- if two phrases are spelled by the same word, they are equal
+-- a word spells at most one phrase
 abbrev pub OnePhrase : Type 0
 OnePhrase = (text : List ℕ) (p q : Phrase) → SpellsPhrase text p → SpellsPhrase text q → p ≡ q
 
@@ -23,7 +23,7 @@ not_both : (b : Bool) → not b ≡ true → b ≡ true → ⊥
 not_both true h k = cc
 not_both false h k = cc
 
--- if the test `is_apart` passes for two classes, no word is of both
+-- if the test `is_apart` passes for the classes c and d, no word is of both classes
 apart_sound : (c d : Class) → is_apart c d ≡ true → (x : WrittenWord c) (y : WrittenWord d) → MayBe c x → MayBe d y
     → word_of c x ≡ word_of d y → ⊥
 apart_sound (exact a) (exact b) h x y m n e = not_both (same a b) h (same_from a b e)
@@ -92,7 +92,7 @@ pub of_cond : (b : Bool) (cs : List Class) (text : List ℕ) → b ≡ true → 
 of_cond true cs text h o = o
 of_cond false cs text h o = cc
 
--- the list is empty or begins with a word that is of none of the classes
+-- the list of words is empty or begins with a word that is of none of the classes
 abbrev pub Unlike : List Class → Words → Type 0
 Unlike cs [] = Unit {0}
 Unlike cs (text ∷ ws) = OfOne cs text → ⊥
@@ -114,7 +114,7 @@ pub view : (ws : Words) → View ws
 view [] = none refl
 view (text ∷ ws) = some text ws refl
 
--- the first word of words of a form is of one of its first classes
+-- the first of words of the form f is of one of the classes `firsts f`
 pub first_word : (f : Form) (x : Written f) → May f x → (text : List ℕ) (ws : Words) → words_of f x ≡ text ∷ ws → OfOne (firsts f) text
 first_word empty x a text ws h = cc
 first_word (word c) x a text ws h = record { class = c; among = inl refl; written = x; allowed = a; spelled = cc }
@@ -147,8 +147,8 @@ first_word (many f) xs a text ws h = of_many f (first_word f) xs a text ws h
             let k : t ∷ (rest ++ flat_map (words_of f) xs) ≡ text ∷ ws = subst (λ us. us ++ flat_map (words_of f) xs ≡ text ∷ ws) e h in
             let n : t ≡ text = cc in subst (OfOne (firsts f)) n (l x a.0 t rest e)
 
--- if the classes are apart from the first classes of f, and, if f is skippable, r begins with none of them, words of f followed by r begin with none
--- of them
+-- if the classes cs have no word in common with the first words of f (`are_apart`), and, if f allows the empty list, r does not begin with a word of
+-- these classes, then words of f followed by r do not begin with a word of these classes
 pub unlike_front : (cs : List Class) (f : Form) (x : Written f) → May f x → (r : Words) → are_apart cs (firsts f) ≡ true
     → (is_skippable f ≡ true → Unlike cs r) → Unlike cs (words_of f x ++ r)
 unlike_front cs f x a r h u = by (view (words_of f x))
@@ -173,7 +173,7 @@ basis_of-letter schurs = refl
 pub letter_once : (b c : Basis) → letter b ≡ letter c → b ≡ c
 letter_once b c h = sym (basis_of-letter b) ∙ ap basis_of h ∙ basis_of-letter c
 
--- if two values that denote words of a class denote the same word, they are equal
+-- if two values denote the same word of a class, they are equal
 one_word : OnePhrase → (c : Class) (x y : WrittenWord c) → MayBe c x → MayBe c y → word_of c x ≡ word_of c y → x ≡ y
 one_word one (exact w) x y a b h = refl
 one_word one number x y a b h = h
@@ -181,9 +181,10 @@ one_word one (target bases) x y a b h = letter_once x y h
 one_word one formula x y a b h =
     one (word_of formula x) x y (record { allowed = a; spelled = refl }) (record { allowed = b; spelled = h })
 
--- ---- one reading of the words of a form
+-- ---- the one value that words of an unambiguous form denote
 
--- if words begin with words of an unambiguous form, they determine the value of the form and the words after it
+-- if a list of words consists of words of the form f and then words that do not begin with a word that can continue words of f, the list determines
+-- the value of f and the words after those of f
 abbrev pub ReadsOnce : Form → Type 0
 ReadsOnce f =
     (x y : Written f) → May f x → May f y → (r s : Words) → words_of f x ++ r ≡ words_of f y ++ s
@@ -212,8 +213,8 @@ sequence_once f g l k d x y a b r s h u v =
     same_pair : (p q : Written f) (m n : Written g) → p ≡ q → m ≡ n → ◌≡◌ {A = Written f × Written g} (p, m) (q, n)
     same_pair p q m n e k = ap (λ (z : Written f). (z, m)) e ∙ ap (λ (z : Written g). (q, z)) k
 
--- let f and g have no first word in common and not both be skippable; if f is skippable, let r begin with no first word of
--- g, and if g is, s with none of f: then words of f followed by r are not words of g followed by s
+-- let f and g have no first word in common and not both allow the empty list; if f allows it, let r not begin with a first word of g; if g allows it,
+-- let s not begin with a first word of f: then words of f followed by r are not words of g followed by s
 pub told_apart : (f g : Form) (x : Written f) (y : Written g) → May f x → May g y → (r s : Words)
     → words_of f x ++ r ≡ words_of g y ++ s → are_apart (firsts f) (firsts g) ≡ true → not (is_skippable f && is_skippable g) ≡ true
     → (is_skippable f ≡ true → Unlike (firsts g) r) → (is_skippable g ≡ true → Unlike (firsts f) s) → ⊥
@@ -291,7 +292,7 @@ many_once f l n d = once
         subst (Unlike (continuing f)) (sym (append_assoc (words_of f x) (flat_map (words_of f) xs) r))
         (unlike_front (continuing f) f x a.0 (flat_map (words_of f) xs ++ r) d (λ e. absurd (never e)))
 
-    -- if r begins with none of the first words of f, it does not begin with words of f
+    -- if r does not begin with a first word of f, it does not begin with one or more lists of words of f
     not_more : (x : Written f) (xs : List (Written f)) → May f x → (r s : Words) → Unlike (firsts f) r
         → r ≡ (words_of f x ++ flat_map (words_of f) xs) ++ s → ⊥
     not_more x xs a r s u h = by (view (words_of f x))
@@ -337,7 +338,7 @@ reads_once one (many f) h =
     let q = and_parts (not (is_skippable f)) (are_apart (continuing f) (firsts f)) p.1 in
     many_once f (reads_once one f p.0) q.0 q.1
 
--- if each word spells at most one phrase, words of an unambiguous form denote one value of it
+-- if a word spells at most one phrase, words of an unambiguous form f denote only one value of f
 pub one_written : OnePhrase → (f : Form) → is_unambiguous f ≡ true → (ws : Words) (h k : Has f ws) → h.written ≡ k.written
 one_written one f u ws h k =
     (reads_once one f u h.written k.written h.allowed k.allowed [] []

@@ -1,4 +1,4 @@
--- Tableaux of a shape as words: they are judged only by the lengths of their rows.
+-- The words of a tableau with rows of given lengths, and the errors of shape of other words.
 use Rattle.std.proofs.Common.{◌≡◌, ℕ, zero, suc, ◌+◌, Bool, true, false, ◌&&◌, cond, List, [], ◌∷◌, ◌++◌, map, length, take, refl, sym, ap, ◌∙◌, subst, arith, ◌⊎◌, inl, inr, ◌↔◌, flat_map}
 use Rattle.std.specs.Prelude.{codes}
 use Rattle.std.proofs.lemmas.List.{append-nil}
@@ -18,7 +18,7 @@ use Rattle.word_laws.proofs.Readings.{one_written}
 use Rattle.word_laws.proofs.ExpressionWords.{tells_expressions}
 use Rattle.word_laws.specs.Words.{Words}
 
--- ---- for forms without expressions it does not matter which words are expressions
+-- ---- for forms without expressions, the derivatives do not depend on which words are expressions
 
 abbrev is_plain_class : Class → Bool
 is_plain_class formula = false
@@ -110,7 +110,7 @@ same_left r s forms (text ∷ words) p =
     same_left r s (after_word r forms text) words (plain_after r forms text p)
     ∙ ap (λ fs. after_words s fs words) (same_after r s forms text p)
 
--- ---- tableaux with rows of given lengths
+-- ---- the longest prefix of words that is also the beginning of a tableau with rows of given lengths, and the error of the words
 
 plain_row : (n : ℕ) → is_plain (row_of n) ≡ true
 plain_row zero = refl
@@ -145,7 +145,7 @@ only P f (inr h) = absurd h
 abbrev never : Reads
 never text = false
 
--- `taken` is the length of the longest prefix of the words that begins a tableau with rows of these lengths
+-- `taken` is the length of the longest prefix of the words that is also the beginning of a tableau with rows of these lengths
 pub shape_longest : (lengths : List ℕ) (words : Words)
     → IsLongestPrefix (Begins (tableau_of lengths)) words (taken never (tableau_of lengths ∷ []) words)
 shape_longest lengths words =
@@ -175,7 +175,7 @@ no_offence : (b : Bool) (o : Offence) → cond b [] (o ∷ []) ≡ [] → b ≡ 
 no_offence true o h = refl
 no_offence false o h = cc
 
--- there is no error if and only if the words are a tableau with rows of these lengths
+-- there is no error of shape if and only if the words are a tableau with rows of these lengths
 pub shape_none : (k : ℕ) (lengths : List ℕ) (words : Words) → (shape_offences k lengths words ≡ []) ↔ Has (tableau_of lengths) words
 shape_none k lengths words = (
   λ h. has_sound lengths words (no_offence (are_words_of never (tableau_of lengths) words) (k + taken never (tableau_of lengths ∷ []) words, 0, shape) h),
@@ -187,7 +187,7 @@ the_one true o p m = absurd m
 the_one false o p (inl e) = e
 the_one false o p (inr m) = absurd m
 
--- an error is at the word after the longest prefix that begins a tableau with rows of these lengths
+-- an error of shape is at the word after the longest prefix of the words that is also the beginning of a tableau with rows of these lengths
 pub shape_place : (k : ℕ) (lengths : List ℕ) (words : Words) (o : Offence) → Among o (shape_offences k lengths words)
     → (n : ℕ) × (o ≡ (k + n, 0, shape)) × IsLongestPrefix (Begins (tableau_of lengths)) words n
 shape_place k lengths words o m = (
@@ -204,7 +204,7 @@ Row = Written row_words
 abbrev row_length : Row → ℕ
 row_length r = length (row_entries r)
 
--- the rows of the tableau x: its first one, and those after each `/`
+-- the rows of the tableau x: its first row, and the row after each `/`
 abbrev rows_of : Written tableau_words → List Row
 rows_of x = x.0 ∷ map (λ (y : Unit {0} × Row). y.1) x.1
 
@@ -212,7 +212,7 @@ placed_lengths : (k : ℕ) (rs : List Row) → map length (entries (placed k rs)
 placed_lengths k [] = refl
 placed_lengths k (r ∷ rs) = ap (λ ns. row_length r ∷ ns) (placed_lengths (k + length (words_of row_words r) + 1) rs)
 
--- the words of a row have the form of a row of its own length
+-- the words of a row that begins with a number are of the form of a row of the length of this row
 row_to : (w : List ℕ) (ws : Words) → May row_words (inr (w, ws)) → Has (row_of (row_length (inr (w, ws)))) (w ∷ ws)
 row_to w [] a = record { written = w; allowed = a.0; spelled = refl }
 row_to w (v ∷ ws) a =
@@ -240,7 +240,7 @@ tableau_has r (y ∷ rs) a =
     (record { written = tt; allowed = tt; spelled = refl })
     (tableau_has y.1 rs (a.1.0.1, a.1.1)))
 
--- some row of length n has the words ws
+-- ws are the words of some row of length n
 record RowOf (n : ℕ) (ws : Words) : Type 0 where
   row : Row
   may : May row_words row
@@ -268,7 +268,7 @@ row_from (suc (suc n)) ws h =
     by : RowOf (suc n) (words_of (row_of (suc n)) h.written.1) → RowOf (suc (suc n)) ws
     by r = more r.row r.may r.words_are r.long
 
--- some tableau with rows of these lengths has the words
+-- ws are the words of some tableau with rows of these lengths
 record TableauOf (lengths : List ℕ) (ws : Words) : Type 0 where
   tableau : Written tableau_words
   may : May tableau_words tableau
@@ -301,7 +301,7 @@ tableau_from n (m ∷ lengths) ws h =
       long = ap (λ k. k ∷ map row_length (rows_of t.tableau)) r.long ∙ ap (λ ks. n ∷ ks) t.long;
     }
 
--- the words of a tableau are those of one with rows of these lengths if and only if its rows have these lengths
+-- the words of a tableau x are of the form of a tableau with rows of the lengths n ∷ lengths if and only if the rows of x have these lengths
 pub shape_rows : (n : ℕ) (lengths : List ℕ) (x : Written tableau_words) → May tableau_words x
     → Has (tableau_of (n ∷ lengths)) (words_of tableau_words x) ↔ (map length (tableau_rows x) ≡ n ∷ lengths)
 shape_rows n lengths x a = (

@@ -16,7 +16,7 @@ no_letter (completes ∷ bases) = no_letter bases
 no_letter (power_sums ∷ bases) = no_letter bases
 no_letter (schurs ∷ bases) = no_letter bases
 
--- the test that the first word determines the command, as it is computed from whether `-m` is the letter of a target
+-- the result of the test `are_unambiguous` for the forms of the commands, given whether `-m` is the letter of a basis
 abbrev clear : Bool → Bool
 clear letter = (((not letter && true) && true) && true) && true
 

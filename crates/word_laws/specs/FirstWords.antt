@@ -6,7 +6,7 @@ use Rattle.sym_model.specs.Form.{is_number_word}
 abbrev pub IsNumber : List ℕ → Type 0
 IsNumber text = is_number_word text ≡ true
 
--- the first of the words, if there is one, does not have the property P
+-- the list of words is empty, or its first word does not have the property P
 abbrev pub BeginsOtherwise : (List ℕ → Type 0) → List (List ℕ) → Type 0
 BeginsOtherwise P [] = Unit {0}
 BeginsOtherwise P (text ∷ words) = P text → ⊥

@@ -1,4 +1,5 @@
-//! Laws of the words of any grammar of commands, and of the grammar of this program.
+//! Laws of the lists of words that any given forms of commands allow, and of the words of the
+//! commands of this program.
 
 ghost use Rattle.std.specs.Prelude.{◌≡◌, ◌↔◌, ◌≤◌, ◌<◌, ℕ, Bool, true, List, [], ◌∷◌, length};
 ghost use Rattle.std.specs.Prelude.{Option};
@@ -20,11 +21,13 @@ ghost use Rattle.sym_model.specs.SyntaxPlace.{IsSyntaxPlace};
 ghost use Rattle.word_laws.specs.OneReading.{are_unambiguous};
 ghost use Rattle.word_laws.specs.Reading.{bytes_taken, forms_of, syntax_place};
 
-/// For a list of one or more forms, each of which has words, `taken` is the length of the longest
-/// prefix of the words that begins words of one of the forms; `bytes_taken` is the length of the
-/// longest prefix of a text that begins an expression. If `syntax_place` gives a place, the words
-/// spell no command and first fail there, and at no other place; if it gives none, the words spell
-/// a command.
+/// Let one or more forms (`Form`, a pattern of words) be given, each of which some list of words
+/// has, and let `reads` test whether a word is an expression. For a list of words, `taken` is the
+/// greatest k such that some list of words of one of the forms begins with the first k of the given
+/// words. For a text, `bytes_taken` is the greatest k such that some expression begins with the
+/// first k bytes of the text. If `syntax_place` gives a place, the words spell no command, and this
+/// is the one place of their first error of syntax (`IsSyntaxPlace`); if it gives none, the words
+/// spell a command.
 pub fn syntax_place_law()
     ensures longest_prefix { (reads : List ℕ → Bool) → TellsExpressions reads → (forms : List Form)
         → EachOf (λ f. can_be f ≡ true) forms → 0 < length forms → (words : List (List ℕ))
@@ -43,9 +46,10 @@ pub fn syntax_place_law()
         → (command : Command) × SpellsCommand entries words command }
 {}
 
-/// If the first word determines the command and the class of each further word determines the part
-/// of the form to which it belongs, words spell at most one command and have at most one first
-/// error. This holds for all commands, and for those of a line of a batch.
+/// Each command has a form, a pattern of words. If each form is unambiguous and the first word
+/// determines the form (`are_unambiguous`), then a list of words spells at most one command and has
+/// at most one first error. The forms of all commands of this program, and those of the commands
+/// that a line of a batch allows, have this property.
 pub fn one_command_law()
     ensures all_commands { (bases : List Basis)
         → are_unambiguous (forms_of (entries_of bases)) ≡ true }
@@ -60,8 +64,8 @@ pub fn one_command_law()
         → a ≡ b }
 {}
 
-/// The first error of a list of errors is one of them, and none of them is before it; there is no
-/// first error if and only if the list is empty.
+/// The first error of a list of errors (`first_offence`) is one of them, and none of them is before
+/// it. There is no first error if and only if the list is empty.
 pub fn command_offence_law()
     ensures is_one { (offences : List Offence) (first : Offence)
         → first_offence offences ≡ Some first
@@ -72,8 +76,8 @@ pub fn command_offence_law()
     ensures none { (offences : List Offence) → (first_offence offences ≡ None) ↔ (offences ≡ []) }
 {}
 
-/// Each command has words. The expression of an `expand` without an error has at most the greatest
-/// degree for its target.
+/// For each command there are words of its form. If the words of a command `expand` have no error,
+/// the degree of its expression is at most the greatest degree that its target basis allows.
 pub fn words_of_commands_law()
     ensures words { (basis : Basis) (bases : List Basis)
         → EachOf (λ (e : Entry). (words : List (List ℕ)) × Has e.form words)

@@ -1,4 +1,5 @@
-//! The errors of the rows of a tableau, by one rule for each number.
+//! The errors of the rows of a tableau: the first error is found if all rules are applied to each
+//! number in turn.
 
 ghost use Rattle.std.specs.Prelude.{◌≡◌, ℕ, List, [], ◌∷◌, ◌++◌, None};
 ghost use Rattle.sym_model.specs.CommandOffence.{Offence, PlacedRow, first_offence, row_offences};
@@ -7,16 +8,15 @@ ghost use Rattle.sym_model.specs.CommandOffence.{standard_offences, empty_row_of
 ghost use Rattle.sym_model.specs.Grammar.{insertion_offences, filled_offences};
 ghost use Rattle.word_laws.specs.JudgedRows.{earlier, inserted, recorded, skewed};
 
-/// The first error of two lists is the earlier of the first errors of each. A law: it does nothing
-/// when it runs.
+/// The first error of two lists of errors together is the earlier of the first error of the one and
+/// that of the other. A law: it does nothing when it runs.
 pub fn earlier_offence_law()
     ensures { (left right : List Offence)
         → first_offence (left ++ right) ≡ earlier (first_offence left) (first_offence right) }
 {}
 
-/// The first error of the rows of a tableau is the same if each number is judged once, by all
-/// rules, and if all numbers are judged by one rule after another. A law: it does nothing when it
-/// runs.
+/// The first error of the rows of a tableau is the same if all rules are applied to each number in
+/// turn, and if each rule in turn is applied to all numbers. A law: it does nothing when it runs.
 pub fn judged_rows_law()
     ensures inserted { (rows : List PlacedRow)
         → first_offence (insertion_offences rows)

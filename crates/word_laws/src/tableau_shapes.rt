@@ -1,4 +1,4 @@
-//! The words of a tableau of a given shape.
+//! The words of a tableau whose rows must have given lengths.
 
 ghost use Rattle.std.specs.Prelude.{◌≡◌, ◌↔◌, ◌+◌, ℕ, List, [], ◌∷◌, map, length};
 ghost use Rattle.sym_model.specs.Sum.{Among};
@@ -9,10 +9,11 @@ ghost use Rattle.sym_model.specs.CommandOffence.{Offence};
 ghost use Rattle.sym_model.specs.WordForms.{tableau_words, tableau_rows, tableau_of};
 ghost use Rattle.sym_model.specs.WordForms.{shape_offences};
 
-/// The words of a tableau that must have rows of given lengths are judged only by these lengths:
-/// they have no error if and only if the rows have these lengths, and otherwise the error is at the
-/// word after the longest prefix that begins such a tableau. A tableau without rows and one with a
-/// single row without cells are both written `.`.
+/// The words of a tableau that must have rows of given lengths have no error of shape if and only
+/// if they are a tableau whose rows have these lengths. Otherwise they have one error. It is at the
+/// word after the first k words, for the greatest k such that some tableau with rows of these
+/// lengths begins with these k words. A tableau without rows and one with a single row without
+/// cells are both written `.`.
 pub fn tableau_shape_law()
     ensures none { (k : ℕ) (lengths : List ℕ) (words : List (List ℕ))
         → (shape_offences k lengths words ≡ []) ↔ Has (tableau_of lengths) words }

@@ -1,19 +1,19 @@
--- Strips, rim hooks and removals of shapes that are written out, for worked examples.
+-- Strips, rim hooks and removals of rim hooks for given shapes, such as (2,1), by tests of their rows; used for worked examples.
 use Rattle.std.proofs.Common.{◌≡◌, ℕ, zero, suc, ◌+◌, ◌-◌, ◌<◌, ◌≤◌, ◌⊎◌, inl, inr, List, [], ◌∷◌, length, sym, ◌∙◌, subst, arith}
 use Rattle.std.proofs.lemmas.Bool.{cases_eq, cases_lt}
 use Rattle.sym_model.specs.Partition.{Falls, ArePositive, size, part, Holds}
 use Rattle.sym_model.specs.Strip.{IsHorizontalStrip, IsVerticalStrip, IsRimHook}
 use Rattle.strip_laws.specs.HookRows.{IsHookRows}
 use Rattle.sym_model.specs.RimHookReduction.{IsRemoval, HasNoRemoval}
-use Rattle.sym_model.proofs.Parts.{past_end}
 use Rattle.sym_model.proofs.PartitionLists.{no_part}
 use Rattle.strip_laws.proofs.Containment.{cell}
 use Rattle.strip_laws.proofs.Strips.{horizontal_from_rows, vertical_from_rows}
 use Rattle.strip_laws.proofs.RimHooks.{hook_from_rows, crosses}
+use Rattle.std.proofs.lemmas.List.{get_or_past}
 
 -- if i is greater than the number of parts, part i is 0
 part_past : (parts : List ℕ) (i : ℕ) → length parts < i → part parts i ≡ 0
-part_past parts i h = past_end parts (i - 1) (omega arith)
+part_past parts i h = get_or_past parts (i - 1) 0 (omega arith)
 
 -- P holds of each of the rows a + 1, .., a + k
 abbrev pub EachRow : (ℕ → Type 0) → ℕ → ℕ → Type 0
@@ -56,7 +56,7 @@ holds_closed outer inner l r = from
     from zero = counted 1 (omega arith)
     from (suc i) = counted (suc i) (omega arith)
 
--- outer/inner is a rim hook with the rows first, .., last, by tests of one row after another
+-- outer/inner is a rim hook with the rows first, .., last, by conditions that are tested one row after another
 pub record AreHookRows (outer inner : List ℕ) (first last : ℕ) : Type 0 where
   pub falls : Falls outer
   pub longer : length inner ≤ length outer

@@ -1,12 +1,10 @@
--- Proofs of the worked examples of words: the readings of words are computed from the forms of the commands.
-use Rattle.std.proofs.Common.{◌≡◌, ℕ, ◌<◌, List, [], ◌∷◌, length, refl, sym, subst, arith, inl, Some}
+-- Proofs of the worked examples of words: all ways to read the words are computed from the forms of the commands.
+use Rattle.std.proofs.Common.{◌≡◌, ℕ, List, [], ◌∷◌, refl, sym, subst, arith, inl, Some}
 use Rattle.sym_model.specs.Sum.{Among}
 use Rattle.sym_model.specs.Command.{Command}
 use Rattle.sym_model.specs.CommandOffence.{Offence}
-use Rattle.sym_model.specs.Entry.{Entry}
 use Rattle.sym_model.specs.Grammar.{line_entries, all_bases}
 use Rattle.sym_model.specs.BatchLine.{words_of_line}
-use Rattle.sym_model.specs.SyntaxPlace.{IsSyntaxPlace}
 use Rattle.word_laws.specs.Reading.{forms_of, syntax_place}
 use Rattle.worked_examples.specs.Examples.{all_commands, Says, Offends, GoesWrong}
 use Rattle.word_laws.proofs.LongestPrefixes.{CanBe}
@@ -19,24 +17,17 @@ can_be_all = search parts 64
 pub can_be_line : CanBe (forms_of (line_entries all_bases))
 can_be_line = search parts 64
 
-pub gone_wrong_in : (entries : List Entry) → CanBe (forms_of entries) → 0 < length entries → (words : List (List ℕ)) (word byte : ℕ)
-    → syntax_place entries words ≡ Some (word, byte) → IsSyntaxPlace entries words word byte
-gone_wrong_in entries c n words word byte h = syntax_sound entries c n words word byte h
-
 pub gone_wrong : (line : List ℕ) (word byte : ℕ) → syntax_place all_commands (words_of_line line) ≡ Some (word, byte)
     → GoesWrong line word byte
 gone_wrong line word byte h = syntax_sound all_commands can_be_all (omega arith) (words_of_line line) word byte h
 
+only : {A : Type 0} {x : A} {xs : List A} → xs ≡ x ∷ [] → Among x xs
+only h = subst (Among _) (sym h) (inl refl)
+
 pub offended : (line : List ℕ) (first : Offence) → offences_found all_commands (words_of_line line) ≡ Some first ∷ []
     → Offends line first
 offended line first h = offends_sound all_commands (words_of_line line) (Some first) (only h)
-  where
-    only : {A : Type 0} {x : A} {xs : List A} → xs ≡ x ∷ [] → Among x xs
-    only h = subst (Among _) (sym h) (inl refl)
 
 pub said : (line : List ℕ) (command : Command) → commands_found all_commands (words_of_line line) ≡ command ∷ []
     → Says line command
 said line command h = commands_sound all_commands (words_of_line line) command (only h)
-  where
-    only : {A : Type 0} {x : A} {xs : List A} → xs ≡ x ∷ [] → Among x xs
-    only h = subst (Among _) (sym h) (inl refl)

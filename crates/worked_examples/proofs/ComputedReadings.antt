@@ -1,4 +1,4 @@
--- The meaning and the errors of words, computed from their forms: used to prove worked examples.
+-- All ways to read words as a command, and the errors of each, computed from the forms of the commands; used to prove worked examples.
 use Rattle.std.proofs.Common.{◌≡◌, ℕ, zero, suc, Bool, true, false, cond, List, [], ◌∷◌, ◌++◌, map, length, append_assoc, refl, sym, ap, ◌∙◌, subst, ◌⊎◌, inl, inr, Option, Some, None, filter, flat_map}
 use Rattle.std.proofs.lemmas.List.{append-nil}
 use Rattle.sym_model.specs.Sum.{Among}
@@ -20,21 +20,21 @@ abbrev of_option : {A : Type 0} → Option A → List A
 of_option None = []
 of_option (Some x) = x ∷ []
 
--- the ways to read a word as a word of the class c
+-- the values that the word can have as a word of the class c
 abbrev pub word_readings : (c : Class) → List ℕ → List (WrittenWord c)
 word_readings (exact w) text = cond (same w text) (tt ∷ []) []
 word_readings number text = cond (is_number_word text) (text ∷ []) []
 word_readings (target bases) text = filter (λ b. same (letter b) text) bases
 word_readings formula text = of_option (found phrases (run phrases text start))
 
--- the lists of at most n values that `read` gives one after another, each with the words left
+-- the lists of at most n values that are read one after another by `read` at the front of the words, each with the words that remain
 abbrev pub more_readings : {A : Type 0} → (Words → List (A × Words)) → ℕ → Words → List (List A × Words)
 more_readings read zero words = ([], words) ∷ []
 more_readings {A} read (suc n) words =
     ([], words)
     ∷ flat_map (λ (p : A × Words). map (λ (q : List A × Words). (p.0 ∷ q.0, q.1)) (more_readings read n p.1)) (read words)
 
--- the values written by words of the form at the front of a list, each with the words left
+-- the values of the form f that some words at the front of the list spell, each with the words that remain
 abbrev pub readings : (f : Form) → Words → List (Written f × Words)
 readings empty words = (tt, words) ∷ []
 readings (word c) [] = []
@@ -88,7 +88,7 @@ more_sound f sound (suc n) words p (inr m) =
     subst (IsReading (many f) words) (sym b.2)
     ((s.0, t.0), s.1 ∙ ap (λ us. words_of f a.0.0 ++ us) t.1 ∙ sym (append_assoc (words_of f a.0.0) (flat_map (words_of f) b.0.0) b.0.1))
 
--- each listed reading is a reading of the words
+-- each element of `readings f words` is a reading of the words by the form f (`IsReading`)
 pub readings_sound : (f : Form) (words : Words) (p : Written f × Words) → Among p (readings f words) → IsReading f words p
 readings_sound empty words p (inl e) = subst (IsReading empty words) (sym e) (tt, refl)
 readings_sound empty words p (inr m) = absurd m
@@ -149,7 +149,7 @@ whole_readings_sound f words x m =
       sym a.2,
     )
 
--- the first error of the words, or `None`, for each way to read them as words of an entry
+-- for each way to read the words as a command of the list of entries, its first error, or `None` if it has none
 abbrev pub offences_found : List Entry → Words → List (Option Offence)
 offences_found entries words =
     flat_map (λ (e : Entry). map (λ (x : Written e.form). first_offence (e.offends x)) (whole_readings e.form words)) entries
@@ -170,7 +170,7 @@ offends_sound (e ∷ entries) words o m =
         inl (record { has = s.0; first_is = a.2 ∙ ap (λ x. first_offence (e.offends x)) (sym s.1) })
     by (inr m) again = inr (again m)
 
--- the list of the command if there is no error, otherwise the empty list
+-- the list with only the command if there is no error, and otherwise the empty list
 abbrev freely : Option Offence → Command → List Command
 freely None c = c ∷ []
 freely (Some o) c = []

@@ -1,4 +1,5 @@
--- The form of the worked examples of words of commands: a line of words, and its meaning over all commands.
+-- The form of the worked examples of words: a line of words, and either the command that it spells, or its first
+-- error, or the place of its first error of syntax.
 use Rattle.std.specs.Prelude.{ℕ, List, [], ◌++◌, Some, codes, replicate}
 use Rattle.std.proofs.Common.{zero, suc}
 use Rattle.sym_model.specs.Command.{Command}
@@ -8,23 +9,23 @@ use Rattle.sym_model.specs.Grammar.{entries_of, all_bases}
 use Rattle.sym_model.specs.SyntaxPlace.{IsSyntaxPlace}
 use Rattle.sym_model.specs.BatchLine.{words_of_line}
 
--- all commands, with all targets
+-- the entries of all commands, with all target bases
 abbrev pub all_commands : List Entry
 all_commands = entries_of all_bases
 
--- the words of the line spell the command, without error
+-- the words of the line spell the command, without an error
 abbrev pub Says : List ℕ → Command → Type 0
 Says line command = SpellsWithoutOffence all_commands (words_of_line line) command
 
--- the words of the line have this first error
+-- the words of the line spell a command whose first error is this one
 abbrev pub Offends : List ℕ → Offence → Type 0
 Offends line first = HasFirstOffence all_commands (words_of_line line) (Some first)
 
--- the words of the line are no command, and first fail at this word and byte
+-- the words of the line spell no command, and their first error of syntax is at this word and byte
 abbrev pub GoesWrong : List ℕ → ℕ → ℕ → Type 0
 GoesWrong line word byte = IsSyntaxPlace all_commands (words_of_line line) word byte
 
--- a text n times, each with a space after it
+-- n copies of a text, each with a space after it
 abbrev pub repeated : ℕ → List ℕ → List ℕ
 repeated zero text = []
 repeated (suc n) text = text ++ (codes " " ++ repeated n text)

@@ -1,4 +1,4 @@
-//! Worked examples of what the answers to commands must be, of the weights by which they are
+//! Worked examples of what the answers to commands must be, of the weights by which commands are
 //! refused as too large, and of the texts of commands and batches.
 
 ghost use Rattle.std.specs.Prelude.{◌≡◌, ◌^◌, ◌-◌, ℕ, true, false, pos, negsuc, List, [], ◌∷◌};
@@ -23,10 +23,10 @@ ghost use Rattle.sym_model.specs.BatchOutcome.{batch_text, batch_ending, RunsInp
 
 /// Classical products, their reductions, and the weights of lists and of pairs of permutations.
 pub fn target_examples_law()
-    // s_(2,1)^2 in two variables
+    // s_(2,1)^2 in two variables: s_(4,2) + s_(3,3)
     ensures classical { classical_product 2 ((2 ∷ 1 ∷ []) ∷ (2 ∷ 1 ∷ []) ∷ [])
         ≡ (4 ∷ 2 ∷ [], pos 1) ∷ (3 ∷ 3 ∷ [], pos 1) ∷ [] }
-    // s_(2,1)^2 in four variables, which are enough for all its labels
+    // s_(2,1)^2 in four variables: all its Schur polynomials have at most four rows
     ensures classical_in_four { classical_product 4 ((2 ∷ 1 ∷ []) ∷ (2 ∷ 1 ∷ []) ∷ [])
         ≡ (4 ∷ 2 ∷ [], pos 1) ∷ (4 ∷ 1 ∷ 1 ∷ [], pos 1) ∷ (3 ∷ 3 ∷ [], pos 1)
         ∷ (3 ∷ 2 ∷ 1 ∷ [], pos 2)
@@ -34,21 +34,21 @@ pub fn target_examples_law()
     ensures more_rows_than_variables { classical_product 1 ((1 ∷ 1 ∷ []) ∷ (1 ∷ []) ∷ []) ≡ [] }
     ensures empty_factors { classical_product 2 ([] ∷ [] ∷ []) ≡ ([], pos 1) ∷ [] }
     ensures classical_weight { classical_weight 2 ((2 ∷ 1 ∷ []) ∷ (2 ∷ 1 ∷ []) ∷ []) ≡ 2 }
-    // with two rows and two columns, a rim hook of four cells is removed from (3,1), and (2,2)
-    // stays
+    // s_1·s_(2,1) for two rows and two columns: a rim hook of four cells is removed from (3,1), and
+    // none can be removed from (2,2)
     ensures quantum { reduced_terms (classical_product 2 ((1 ∷ []) ∷ (2 ∷ 1 ∷ []) ∷ []))
         (Some ([], pos 1, 1) ∷ Some (2 ∷ 2 ∷ [], pos 1, 0) ∷ [])
         ≡ ((1, []), pos 1) ∷ ((0, 2 ∷ 2 ∷ []), pos 1) ∷ [] }
     ensures quantum_to_nothing { reduced_terms ((3 ∷ [], pos 2) ∷ (2 ∷ 1 ∷ [], pos 5) ∷ [])
         (None ∷ Some ([], negsuc 0, 1) ∷ [])
         ≡ ((1, []), negsuc 4) ∷ [] }
-    // (2) is on the wall of the alcove, so its reflection is 0
+    // s_1·s_1 for two rows at level 1: (2) is on the wall of the alcove, so its reduction is 0
     ensures fusion { reflected_terms 2 3 (classical_product 2 ((1 ∷ []) ∷ (1 ∷ []) ∷ []))
         ≡ (1 ∷ 1 ∷ [], pos 1) ∷ [] }
     ensures fusion_whole { Meets (fusion 2 1 ((1 ∷ []) ∷ (1 ∷ []) ∷ []))
         (answer product ((1 ∷ 1 ∷ [], (pos 1, 1)) ∷ [])) }
-    // (3,2,1) has the coefficient 2 in the classical product, and (4,2) is reflected to minus
-    // (3,2,1)
+    // s_(2,1)^2 for three rows at level 2: (3,2,1) has the coefficient 2 in the classical product,
+    // and (4,2) is reflected to minus (3,2,1)
     ensures fusion_sign { coefficient
         (reflected_terms 3 5 (classical_product 3 ((2 ∷ 1 ∷ []) ∷ (2 ∷ 1 ∷ []) ∷ [])))
         (3 ∷ 2 ∷ 1 ∷ [])
@@ -56,17 +56,17 @@ pub fn target_examples_law()
     ensures coefficient_of_product { Meets (coef (3 ∷ 2 ∷ 1 ∷ []) (2 ∷ 1 ∷ []) (2 ∷ 1 ∷ []))
         (answer number ((tt, (pos 2, 1)) ∷ [])) }
     ensures coefficient_nothing { Meets (coef (3 ∷ []) (1 ∷ []) (1 ∷ [])) (answer number []) }
-    // s_(2,1)(x, y) = x^2 y + x y^2
+    // s_(2,1)(x, y) = x^2 y + x y^2, for one variable x and one variable y
     ensures coproduct { coefficient
         (value_by (pair_polynomial 1 1)
         (((2 ∷ [], 1 ∷ []), (pos 1, 1)) ∷ ((1 ∷ [], 2 ∷ []), (pos 1, 1)) ∷ [])) (2 ∷ 1 ∷ [])
         ≡ pos 1 }
     ensures pair_in_no_variables { pair_polynomial 0 1 ([], 1 ∷ []) ≡ (1 ∷ [], pos 1) ∷ [] }
     ensures pair_that_vanishes { pair_polynomial 0 1 (1 ∷ [], []) ≡ nothing }
-    // the list with the coefficient 1/0 at (1) represents no polynomial, not even 0
+    // the list with the coefficient 1/0 at (1) represents no polynomial, not even the polynomial 0
     ensures denominator_zero { Represents (λ parts. schur parts 1)
         ((1 ∷ [], (pos 1, 0)) ∷ []) nothing 1 → ⊥ }
-    // (1,3,2) has one inversion and three letters, and S_(1,3,2) = x_1 + x_2
+    // 2·4 = 8: (1,3,2) has one inversion and three letters, and S_(1,3,2) = x_1 + x_2
     ensures pair_weight { pair_weight (1 ∷ 3 ∷ 2 ∷ []) (1 ∷ 3 ∷ 2 ∷ []) ≡ 8 }
     ensures pair_with_identity { pair_weight (2 ∷ 3 ∷ 1 ∷ []) (1 ∷ []) ≡ 1 }
     ensures weight_of_fractions { list_weight {Label = List ℕ}
@@ -105,6 +105,6 @@ pub fn outcome_texts_law()
         ((codes "0\n", done) ∷ (codes "! Shape 2:0\n", out_of_range) ∷ []) ≡ some_refused }
     ensures empty_batch { RunsInput [] [] [] done }
     ensures only_passed_over { RunsInput [] (codes "# x\n\n") [] done }
-    // a line of 4,097 bytes, one more than a line may have
+    // a line of 4,097 bytes is refused, since a line has at most 4,096 bytes
     ensures long_line { RunsInput [] (replicate 4097 97) (codes "! Range 0:4096\n") some_refused }
 {}

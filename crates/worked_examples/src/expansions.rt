@@ -12,10 +12,12 @@ ghost use Rattle.sym_model.specs.Reductions.{reduced_terms, reflected_terms};
 ghost use Rattle.sym_model.specs.Expansion.{value, value_by, pair_polynomial, elementaries};
 ghost use Rattle.sym_model.specs.Expansion.{completes, power_sums, schurs};
 
-/// Changes of basis, at the monomials with the exponents (3,0,0), (2,1,0) and (1,1,1): s_(2,1) in
-/// p, h and e, m_(2,1) and p_3 in s; and some coefficients, of degree 9, of m_(5,3,1) in p.
+/// Changes of basis, by the coefficients at the exponents (3,0,0), (2,1,0) and (1,1,1): s_(2,1) in
+/// p, h and e, and m_(2,1) and p_3 in s; and m_(5,3,1) in p, by the coefficients at five monomials
+/// of degree 9.
 pub fn change_of_basis_examples_law()
-    // the coefficients 0, 1 and 2, each multiplied by the denominators 3 and 3
+    // s_(2,1) = (p_1^3 - p_3)/3: its coefficients 0, 1 and 2 at the exponents (3,0,0), (2,1,0) and
+    // (1,1,1), each multiplied by the denominators 3 and 3
     ensures power_sums { map
         (coefficient (value power_sums
         (((3 ∷ []), (negsuc 0, 3)) ∷ ((1 ∷ 1 ∷ 1 ∷ []), (pos 1, 3)) ∷ []) 3))
@@ -61,7 +63,7 @@ pub fn change_of_basis_examples_law()
 /// The skew Schur polynomial of (3,2,1)/(2,1) in Schur polynomials, s_(2,1) in two sets of
 /// variables, and products of two Schubert polynomials.
 pub fn expansion_examples_law()
-    // the coefficients of (3), (2,1) and (1,1,1)
+    // the Schur coefficients of s_((3,2,1)/(2,1)) at (3), (2,1) and (1,1,1)
     ensures skew { map (λ κ. schur_coefficient 3 κ (skew_schur (3 ∷ 2 ∷ 1 ∷ []) (2 ∷ 1 ∷ []) 3))
         ((3 ∷ []) ∷ (2 ∷ 1 ∷ []) ∷ (1 ∷ 1 ∷ 1 ∷ []) ∷ [])
         ≡ pos 1 ∷ pos 2 ∷ pos 1 ∷ [] }
@@ -76,7 +78,7 @@ pub fn expansion_examples_law()
         ∷ (1 ∷ 0 ∷ 1 ∷ 1 ∷ [])
         ∷ (0 ∷ 0 ∷ 1 ∷ 2 ∷ []) ∷ (3 ∷ 0 ∷ 0 ∷ 0 ∷ []) ∷ [])
         ≡ pos 1 ∷ pos 1 ∷ pos 2 ∷ pos 1 ∷ pos 2 ∷ pos 1 ∷ pos 0 ∷ [] }
-    // (x + y)^2 = (x^2 + x y + y^2) + x y
+    // S_(1,3,2)^2 = S_(1,4,2,3) + S_(2,3,1), in two variables: (x + y)^2 = (x^2 + x y + y^2) + x y
     ensures square { map
         (coefficient
         (value_by (λ w. schubert_in w 2)
@@ -85,7 +87,7 @@ pub fn expansion_examples_law()
         ≡ map (coefficient (times (schubert_in (1 ∷ 3 ∷ 2 ∷ []) 2)
         (schubert_in (1 ∷ 3 ∷ 2 ∷ []) 2)))
         ((2 ∷ 0 ∷ []) ∷ (1 ∷ 1 ∷ []) ∷ (0 ∷ 2 ∷ []) ∷ []) }
-    // x (x + y) = x y + x^2
+    // S_(2,1) S_(1,3,2) = S_(2,3,1) + S_(3,1,2), in two variables: x (x + y) = x y + x^2
     ensures product { map
         (coefficient
         (value_by (λ w. schubert_in w 2)
@@ -95,8 +97,8 @@ pub fn expansion_examples_law()
         ((2 ∷ 0 ∷ []) ∷ (1 ∷ 1 ∷ []) ∷ (0 ∷ 2 ∷ []) ∷ []) }
 {}
 
-/// Products with h_2 and e_2 in s, h_2 - s_2,
-/// and products reduced by rim hooks and into the alcove.
+/// The products h_2 p_1 and e_2 m_1 in s, h_2 = s_2, a skew Schur polynomial in one variable,
+/// products reduced by rim hooks and into the alcove, and the square of a Schubert polynomial.
 pub fn reduced_product_examples_law()
     // h_2 p_1 = s_3 + s_(2,1) and e_2 m_1 = s_(2,1) + s_(1,1,1), at the exponents (3,0,0), (2,1,0)
     // and (1,1,1)
@@ -115,12 +117,11 @@ pub fn reduced_product_examples_law()
         ≡ map (coefficient (schur (2 ∷ []) 2)) ((2 ∷ 0 ∷ []) ∷ (1 ∷ 1 ∷ []) ∷ []) }
     ensures one_variable { schur_coefficient 1 (2 ∷ []) (skew_schur (2 ∷ 1 ∷ []) (1 ∷ []) 1)
         ≡ pos 1 }
-    // (2,2) times (2,2) is (4,4) in two variables, from which two rim hooks of four cells are
-    // removed
+    // s_(2,2)^2 in two variables is s_(4,4); two rim hooks of four cells are removed from (4,4)
     ensures two_hooks { reduced_terms (((4 ∷ 4 ∷ []), pos 1) ∷ []) (Some ([], pos 1, 2) ∷ [])
         ≡ ((2, []), pos 1) ∷ [] }
-    // (2,1) times (2,1) in three variables, with rim hooks of six cells: none can be removed from
-    // (4,2), which has too many columns
+    // s_(2,1)^2 in three variables, reduced by rim hooks of six cells: the reduction of (4,2) is 0,
+    // since no such hook can be removed from it and it has more than three columns
     ensures three_rows { reduced_terms
         ((4 ∷ 2 ∷ [], pos 1) ∷ (4 ∷ 1 ∷ 1 ∷ [], pos 1) ∷ (3 ∷ 3 ∷ [], pos 1)
         ∷ (3 ∷ 2 ∷ 1 ∷ [], pos 2) ∷ (2 ∷ 2 ∷ 2 ∷ [], pos 1) ∷ [])
@@ -128,15 +129,15 @@ pub fn reduced_product_examples_law()
         ∷ Some (2 ∷ 2 ∷ 2 ∷ [], pos 1, 0) ∷ [])
         ≡ ((1, []), pos 1) ∷ ((0, 3 ∷ 3 ∷ []), pos 1) ∷ ((0, 3 ∷ 2 ∷ 1 ∷ []), pos 2)
         ∷ ((0, 2 ∷ 2 ∷ 2 ∷ []), pos 1) ∷ [] }
-    // (2,1) times (2,1) in three variables at level 2: (4,2) is reflected to minus (3,2,1), and
-    // (3,3) and (4,1,1) to 0
+    // s_(2,1)^2 in three variables at level 2: (4,2) is reflected to minus (3,2,1), and (3,3) and
+    // (4,1,1) to 0
     ensures at_level_two { map
         (coefficient (reflected_terms 3 5
         ((4 ∷ 2 ∷ [], pos 1) ∷ (4 ∷ 1 ∷ 1 ∷ [], pos 1) ∷ (3 ∷ 3 ∷ [], pos 1)
         ∷ (3 ∷ 2 ∷ 1 ∷ [], pos 2) ∷ (2 ∷ 2 ∷ 2 ∷ [], pos 1) ∷ [])))
         ((3 ∷ 2 ∷ 1 ∷ []) ∷ (2 ∷ 2 ∷ 2 ∷ []) ∷ (3 ∷ 3 ∷ []) ∷ (4 ∷ 2 ∷ []) ∷ [])
         ≡ pos 1 ∷ pos 1 ∷ pos 0 ∷ pos 0 ∷ [] }
-    // the square of the Schubert polynomial x of (2,1)
+    // S_(2,1)^2 = S_(3,1,2), in two variables: the square of x is x^2
     ensures squared_letter { map (coefficient
         (times (schubert_in (2 ∷ 1 ∷ []) 2) (schubert_in (2 ∷ 1 ∷ []) 2)))
         ((2 ∷ 0 ∷ []) ∷ (1 ∷ 1 ∷ []) ∷ [])

@@ -3,8 +3,7 @@ ghost use Rattle.std.specs.Prelude.{◌≡◌, pos, negsuc};
 ghost use Rattle.coeff_rings.specs.Fractions.{fraction_sum, fraction_difference, fraction_product};
 ghost use Rattle.coeff_rings.specs.Fractions.{fraction_quotient};
 
-/// 1/6 and 1/3 add up to 1/2, 1/6 less 1/3 is -1/6, -4/9 times 3/8 is -1/6,
-/// and -1/3 over -2/9 is 3/2.
+/// 1/6 + 1/3 = 1/2, 1/6 - 1/3 = -1/6, (-4/9)·(3/8) = -1/6, and (-1/3)/(-2/9) = 3/2.
 pub fn fraction_examples_law()
     ensures sum { fraction_sum (pos 1, 6) (pos 1, 3) ≡ (pos 1, 2) }
     ensures difference { fraction_difference (pos 1, 6) (pos 1, 3) ≡ (negsuc 0, 6) }

@@ -15,7 +15,7 @@ ghost use Rattle.sym_model.specs.PrintedBlock.{block_by, read_by};
 
 /// Blocks of each kind, and texts that are no blocks.
 pub fn kind_examples_law()
-    // s_(2,1) in two sets of variables
+    // the block of s_(2,1) in two sets of variables
     ensures pairs { block_by (label_rules pairs)
         (((2 ∷ 1 ∷ [], []), (pos 1, 1)) ∷ ((2 ∷ [], 1 ∷ []), (pos 1, 1))
         ∷ ((1 ∷ 1 ∷ [], 1 ∷ []), (pos 1, 1))
@@ -26,7 +26,7 @@ pub fn kind_examples_law()
         ≡ Some (((2 ∷ [], 1 ∷ []), (pos 1, 1)) ∷ (([], 2 ∷ 1 ∷ []), (negsuc 1, 1)) ∷ []) }
     ensures one_label_of_two { read_by (label_rules pairs) (codes "1  (2)\n") ≡ None }
     ensures two_spaces_between { read_by (label_rules pairs) (codes "1  (2)  (1)\n") ≡ None }
-    // the quantum product of (1) and (2,1) with two rows and two columns
+    // the block of the quantum product of (1) and (2,1) with two rows and two columns
     ensures powers { block_by (label_rules powers)
         (((0, 2 ∷ 2 ∷ []), (pos 1, 1)) ∷ ((1, []), (pos 1, 1)) ∷ [])
         ≡ codes "1  q^0  (2,2)\n1  q^1  ()\n" }
@@ -35,7 +35,7 @@ pub fn kind_examples_law()
     ensures powers_fall { read_by (label_rules powers) (codes "1  q^1  ()\n1  q^0  (2,2)\n")
         ≡ None }
     ensures power_with_zero { read_by (label_rules powers) (codes "1  q^01  ()\n") ≡ None }
-    // the square of the Schubert polynomial of (1,3,2)
+    // the block of the square of the Schubert polynomial of (1,3,2)
     ensures permutations { block_by (label_rules permutations)
         ((1 ∷ 4 ∷ 2 ∷ 3 ∷ [], (pos 1, 1)) ∷ (2 ∷ 3 ∷ 1 ∷ [], (pos 1, 1)) ∷ [])
         ≡ codes "1  (1,4,2,3)\n1  (2,3,1)\n" }
@@ -48,7 +48,7 @@ pub fn kind_examples_law()
     ensures fixed_letter { read_by (label_rules permutations) (codes "1  (2,1,3)\n") ≡ None }
     ensures letter_twice { read_by (label_rules permutations) (codes "1  (1,1)\n") ≡ None }
     ensures letter_past_the_end { read_by (label_rules permutations) (codes "1  (3,1)\n") ≡ None }
-    // the Schubert polynomial of (2,1,4,3)
+    // the block of the Schubert polynomial of (2,1,4,3)
     ensures polynomial { block_by (label_rules polynomial)
         ((2 ∷ [], (pos 1, 1)) ∷ (1 ∷ 1 ∷ [], (pos 1, 1)) ∷ (1 ∷ 0 ∷ 1 ∷ [], (pos 1, 1)) ∷ [])
         ≡ codes "1  (2)\n1  (1,1)\n1  (1,0,1)\n" }
@@ -59,7 +59,7 @@ pub fn kind_examples_law()
     ensures constant { read_by (label_rules polynomial) (codes "5  ()\n")
         ≡ Some (([], (pos 5, 1)) ∷ []) }
     ensures zero_at_the_end { read_by (label_rules polynomial) (codes "1  (1,0)\n") ≡ None }
-    // the product of the double Schubert polynomials of (2,1) and (2,1)
+    // the block of the square of the double Schubert polynomial of (2,1)
     ensures shifts { block_by (label_rules shifts)
         (((2 ∷ 1 ∷ [], 1 ∷ []), (negsuc 0, 1)) ∷ ((2 ∷ 1 ∷ [], 0 ∷ 1 ∷ []), (pos 1, 1))
         ∷ ((3 ∷ 1 ∷ 2 ∷ [], []), (pos 1, 1)) ∷ [])

@@ -8,7 +8,7 @@ ghost use Rattle.sym_model.specs.OneLine.{one_line, read_one_line};
 /// One-line forms in each basis, the lists that they read back as, and texts that are no such
 /// forms.
 pub fn line_examples_law()
-    // the square of s_(2,1)
+    // the square of s_(2,1), on one line
     ensures square { one_line schurs
         ((4 ∷ 2 ∷ [], (pos 1, 1)) ∷ (4 ∷ 1 ∷ 1 ∷ [], (pos 1, 1)) ∷ (3 ∷ 3 ∷ [], (pos 1, 1))
         ∷ (3 ∷ 2 ∷ 1 ∷ [], (pos 2, 1)) ∷ (3 ∷ 1 ∷ 1 ∷ 1 ∷ [], (pos 1, 1))
@@ -21,7 +21,7 @@ pub fn line_examples_law()
         ∷ (3 ∷ 2 ∷ 1 ∷ [], (pos 2, 1)) ∷ (3 ∷ 1 ∷ 1 ∷ 1 ∷ [], (pos 1, 1))
         ∷ (2 ∷ 2 ∷ 2 ∷ [], (pos 1, 1))
         ∷ (2 ∷ 2 ∷ 1 ∷ 1 ∷ [], (pos 1, 1)) ∷ []) }
-    // s_(2,1) in power sums
+    // s_(2,1) in power sums, on one line
     ensures fractions { one_line power_sums
         ((3 ∷ [], (negsuc 0, 3)) ∷ (1 ∷ 1 ∷ 1 ∷ [], (pos 1, 3)) ∷ [])
         ≡ codes "-1/3*p[3]+1/3*p[1,1,1]\n" }
@@ -36,7 +36,7 @@ pub fn line_examples_law()
     ensures negative_first { one_line schurs (([], (negsuc 0, 1)) ∷ []) ≡ codes "-s[]\n" }
     ensures reads_negative_first { read_one_line schurs (label_rules expansion) (codes "-s[]\n")
         ≡ Some (([], (negsuc 0, 1)) ∷ []) }
-    // h_12 - 10 h_(10,2)/3 + h_1, with numbers of two digits
+    // h_12 - 10 h_(10,2)/3 + h_1, on one line: parts and a numerator of two digits
     ensures signs { one_line completes
         ((12 ∷ [], (pos 1, 1)) ∷ (10 ∷ 2 ∷ [], (negsuc 9, 3)) ∷ (1 ∷ [], (pos 1, 1)) ∷ [])
         ≡ codes "h[12]-10/3*h[10,2]+h[1]\n" }

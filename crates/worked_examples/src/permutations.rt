@@ -13,8 +13,8 @@ ghost use Rattle.sym_model.specs.DividedDifference.{divided_difference};
 ghost use Rattle.sym_model.specs.Schubert.{schubert, schubert_in};
 ghost use Rattle.sym_model.specs.Straightening.{straightened};
 
-/// Permutations in one-line form. The identity is kept as its first letter; letters after the end
-/// are fixed.
+/// Permutations in one-line form. Fixed letters at the end are dropped, but the identity is written
+/// as (1); letters after the end are fixed.
 pub fn permutation_examples_law()
     ensures letter { letter (3 ∷ 1 ∷ 2 ∷ []) 2 ≡ 1 }
     ensures letter_past_the_end { letter (3 ∷ 1 ∷ 2 ∷ []) 5 ≡ 5 }
@@ -45,12 +45,13 @@ pub fn permutation_examples_law()
     ensures covers_down { covers_down 1 (2 ∷ 1 ∷ []) ≡ [] }
     ensures covers_of_identity { covers_up 2 (1 ∷ []) ≡ (1 ∷ 3 ∷ 2 ∷ []) ∷ [] }
     ensures covers_down_of_identity { covers_down 2 (1 ∷ []) ≡ (2 ∷ 1 ∷ []) ∷ [] }
-    // (4,2,1,3) has three inversions more than (1,2,4,3)
+    // (1,2,4,3)·t_13 = (4,2,1,3) is not listed, since it has three inversions more than (1,2,4,3)
     ensures three_more { covers_down 3 (1 ∷ 2 ∷ 4 ∷ 3 ∷ []) ≡ (1 ∷ 4 ∷ 2 ∷ 3 ∷ []) ∷ [] }
 {}
 
-/// Divided differences of monomials, whose first exponent is greater than, less than or equal to
-/// the second, and of a number; polynomials in more and in fewer variables.
+/// Divided differences at i of monomials whose exponent i is greater than, less than or equal to
+/// the next one, and of a number; also single variables and one monomial, written in a given number
+/// of variables.
 pub fn divided_difference_examples_law()
     // (x^3 y - x y^3)/(x - y) = x y^2 + x^2 y
     ensures falling { divided_difference 1 (x_to (3 ∷ 1 ∷ []))
@@ -130,7 +131,7 @@ pub fn schubert_more_examples_law()
     ensures one_letter { schubert (1 ∷ []) ≡ one 1 }
     ensures no_letter { schubert [] ≡ one 0 }
     ensures identity { schubert (1 ∷ 2 ∷ 3 ∷ []) ≡ one 3 }
-    // the Schubert polynomial x_1 + x_2 + x_3 in two variables loses its last term
+    // the Schubert polynomial x_1 + x_2 + x_3 of (1,2,4,3) loses its last term in two variables
     ensures drops_a_term { schubert_in (1 ∷ 2 ∷ 4 ∷ 3 ∷ []) 2
         ≡ ((0 ∷ 1 ∷ []), pos 1) ∷ ((1 ∷ 0 ∷ []), pos 1) ∷ [] }
     ensures more_variables { schubert_in (2 ∷ 1 ∷ []) 3 ≡ ((1 ∷ 0 ∷ 0 ∷ []), pos 1) ∷ [] }

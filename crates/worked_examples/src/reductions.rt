@@ -1,5 +1,5 @@
-//! Worked examples of tableaux, alternants, strips and reductions, with values worked out by hand
-//! or taken from outside.
+//! Worked examples of tableaux, alternants, beta lists and reductions, with values worked out by
+//! hand or taken from other sources.
 
 ghost use Rattle.std.specs.Prelude.{◌≡◌, pos, negsuc, [], ◌∷◌, length, Some, None};
 ghost use Rattle.sym_model.specs.Polynomial.{coefficient};
@@ -44,8 +44,8 @@ pub fn tableaux_examples_law()
 {}
 
 /// Alternants: the number of orders of four places, inversions and signs of orders, the Vandermonde
-/// determinant in two variables, and coefficients of alternants and Schur coefficients of known
-/// expansions.
+/// determinant in two variables, coefficients of alternants, and Schur coefficients of polynomials
+/// whose expansions in Schur polynomials are known.
 pub fn alternant_examples_law()
     ensures orders { length (orders (places 4)) ≡ 24 }
     ensures no_places { orders (places 0) ≡ [] ∷ [] }

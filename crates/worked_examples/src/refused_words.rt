@@ -1,5 +1,5 @@
-//! Worked examples: words that are refused, each at its place,
-//! and words at the limits that are not.
+//! Worked examples of words that are refused, each with the place of its first error, and of words
+//! at the limits that are not refused.
 
 ghost use Rattle.std.specs.Prelude.{ℕ, true, false, List, [], ◌∷◌, ◌++◌, codes, replicate};
 ghost use Rattle.std.specs.Prelude.{flat_map};
@@ -48,8 +48,8 @@ pub fn words_that_go_wrong_law()
         (words_of_line (codes "mult 1 - " ++ (255 ∷ []))) 3 0 }
 {}
 
-/// Errors of numbers, partitions, permutations and letters, and lists at the limits without an
-/// error.
+/// Errors of numbers, partitions, permutations and words of letters, and such lists at the limits
+/// that have no error.
 pub fn refused_lists_law()
     ensures rows_65 { Offends (codes "mult -r 65 1 - 1") (2, 0, range) }
     ensures rows_64 { Says (codes "mult -r 64 1 - 1")

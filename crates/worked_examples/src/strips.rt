@@ -8,7 +8,8 @@ ghost use Rattle.sym_model.specs.Target.{Meets};
 ghost use Rattle.sym_model.specs.Strip.{IsHorizontalStrip, IsVerticalStrip, IsRimHook, height};
 ghost use Rattle.sym_model.specs.RimHookReduction.{IsRemoval, HasNoRemoval, GoesTo, ReducesTo};
 
-/// Strips and rim hooks around (2,1), (1) and (2,2).
+/// Horizontal strips, vertical strips and rim hooks with their heights, and skew shapes that are
+/// not such strips or rim hooks.
 pub fn strip_examples_law()
     ensures row_of_two { IsHorizontalStrip (4 ∷ 1 ∷ []) (2 ∷ 1 ∷ []) }
     ensures three_rows { IsHorizontalStrip (3 ∷ 1 ∷ 1 ∷ []) (2 ∷ 1 ∷ []) }
@@ -37,7 +38,7 @@ pub fn removal_examples_law()
     ensures hook_of_six { ReducesTo 3 6 (4 ∷ 1 ∷ 1 ∷ []) (Some ([], pos 1, 1)) }
     ensures too_wide { ReducesTo 3 6 (4 ∷ 2 ∷ []) None }
     ensures empty { HasNoRemoval 3 [] }
-    // the answers to `quantum 2 2 1 - 2 1` and `quantum 2 2 2 2 - 2 2`: s_(2,2) + q, and q^2
+    // the answers to `quantum 2 2 1 - 2 1` and `quantum 2 2 2 2 - 2 2`: σ_(2,2) + q, and q^2
     ensures product { Meets (quantum 2 2 ((1 ∷ []) ∷ (2 ∷ 1 ∷ []) ∷ []))
         (answer powers (((0, 2 ∷ 2 ∷ []), (pos 1, 1)) ∷ ((1, []), (pos 1, 1)) ∷ [])) }
     ensures product_of_squares { Meets (quantum 2 2 ((2 ∷ 2 ∷ []) ∷ (2 ∷ 2 ∷ []) ∷ []))

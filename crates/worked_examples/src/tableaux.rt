@@ -1,5 +1,5 @@
 //! Worked examples of arrangements, lists of tableaux, insertion, slides and growth, with values
-//! worked out by hand or taken from outside.
+//! worked out by hand or taken from other sources.
 
 ghost use Rattle.std.specs.Prelude.{◌≡◌, ℕ, List, [], ◌∷◌, Some, map};
 ghost use Rattle.sym_model.specs.Arrangement.{arrangements};
@@ -13,8 +13,8 @@ ghost use Rattle.sym_model.specs.Knuth.{IsKnuthStep, AreKnuthEquivalent};
 ghost use Rattle.sym_model.specs.Slide.{slide, IsReached};
 ghost use Rattle.sym_model.specs.StandardTableau.{IsStandard};
 
-/// Arrangements and conjugates: the exponents of `m_(2,1)` in three variables, no arrangement of
-/// more parts than places, the empty partition.
+/// Arrangements and conjugates: the exponents of `m_(2,1)` in three variables, no arrangement if
+/// there are more parts than places, and the empty partition.
 pub fn arrangement_examples_law()
     ensures three_places { arrangements (2 ∷ 1 ∷ []) 3
         ≡ (2 ∷ 1 ∷ 0 ∷ []) ∷ (2 ∷ 0 ∷ 1 ∷ []) ∷ (1 ∷ 2 ∷ 0 ∷ []) ∷ (1 ∷ 0 ∷ 2 ∷ [])
@@ -28,9 +28,10 @@ pub fn arrangement_examples_law()
     ensures empty_conjugate { conjugate [] ≡ [] }
 {}
 
-/// Lists of tableaux by their column readings: all of (2,1) with two letters, the standard ones of
-/// (2,1), and the lattice tableaux of (3,2,1)/(2,1) after the second and after one that is not in
-/// the list. A filling and its reading determine each other.
+/// Lists of tableaux by their column readings: all tableaux of (2,1) with two letters, the standard
+/// tableaux of (2,1), and those lattice tableaux of (3,2,1)/(2,1) that come after the second one
+/// (and none after a tableau that is not in the list). A filling and its reading determine each
+/// other.
 pub fn tableau_list_examples_law()
     ensures all { tableau_readings 2 (2 ∷ 1 ∷ []) [] ≡ (1 ∷ 1 ∷ 2 ∷ []) ∷ (2 ∷ 1 ∷ 2 ∷ []) ∷ [] }
     ensures standard { readings_with_content (1 ∷ 1 ∷ 1 ∷ []) (2 ∷ 1 ∷ []) []
@@ -77,9 +78,9 @@ pub fn insertion_examples_law()
     ensures from_two { IsStandard ((2 ∷ []) ∷ []) → ⊥ }
 {}
 
-/// Knuth steps: the two relations in the letters 1, 2 and 3, both ways, with equal letters and
-/// inside a longer word, and a word that a chain of two steps joins to the reading word of its
-/// insertion tableau.
+/// Knuth steps: the two relations in the letters 1, 2 and 3, in both directions, with equal
+/// letters, and inside a longer word; and a word that is Knuth equivalent to the reading word of
+/// its insertion tableau.
 pub fn knuth_examples_law()
     ensures first { IsKnuthStep (2 ∷ 3 ∷ 1 ∷ []) (2 ∷ 1 ∷ 3 ∷ []) }
     ensures first_back { IsKnuthStep (2 ∷ 1 ∷ 3 ∷ []) (2 ∷ 3 ∷ 1 ∷ []) }
@@ -136,8 +137,8 @@ pub fn slide_examples_law()
         ≡ record { outer = 3 ∷ []; inner = []; rows = (1 ∷ 1 ∷ 2 ∷ []) ∷ [] } }
 {}
 
-/// Growth: the lines of the grid of 3 1 2 below the empty one, and the tableaux that its last line
-/// and its last column grow to.
+/// Growth: the lines 1, 2 and 3 of the growth grid of 3 1 2, and the tableaux that the chains of
+/// shapes in its last line and in its last column give.
 pub fn growth_examples_law()
     ensures first { map (growth_shape (3 ∷ 1 ∷ 2 ∷ []) 1) (0 ∷ 1 ∷ 2 ∷ 3 ∷ [])
         ≡ [] ∷ [] ∷ [] ∷ (1 ∷ []) ∷ [] }

@@ -1,4 +1,5 @@
-//! Worked examples of the printed forms of tableaux and words, and of the generator of work.
+//! Worked examples of the printed forms of tableaux and words, and of the lines that are generated
+//! for the command `work`.
 
 ghost use Rattle.std.specs.Prelude.{◌≡◌, [], ◌∷◌, codes, map};
 ghost use Rattle.sym_model.specs.Partition.{after};
@@ -34,8 +35,8 @@ pub fn tableau_text_examples_law()
         (lattice_readings (1 ∷ 1 ∷ []) (1 ∷ 1 ∷ [])) ≡ codes ". / .\n" }
 {}
 
-/// The generator with the seeds 0 and 65,536: its first draws, its lines, and the summaries of
-/// their blocks.
+/// The generator of `work` with the seeds 0 and 65,536: its first draws, its lines, and the
+/// summaries of the blocks of these lines.
 pub fn workload_examples_law()
     ensures draws { map (λ k. after_draws k 0) (after 0 11)
         ≡ 74 ∷ 5624 ∷ 28652 ∷ 51790 ∷ 17641 ∷ 12409 ∷ 13231 ∷ 9344 ∷ 45504 ∷ 4950 ∷ 43639 ∷ [] }

@@ -1,4 +1,4 @@
--- Fractions cleared: a fraction times a multiple of its denominator.
+-- Fractions with their denominators cleared: a fraction times a multiple of its denominator is an integer.
 use Rattle.std.proofs.Common.{◌≡◌, ℕ, ◌*◌, ◌/◌, ◌<◌, sym, ap, ◌∙◌, subst, arith, ℤ, pos, ◌+ℤ◌, ◌*ℤ◌}
 use Rattle.std.proofs.Common.{unsigned_abs}
 use Rattle.std.specs.Int.{◌∣◌}
@@ -16,7 +16,8 @@ use Rattle.sym_model.proofs.Integers.{product_cancel}
 pub unsigned_abs-scaled : (d : ℕ) (r : Fraction) → unsigned_abs (scaled d r) ≡ magnitude d r
 unsigned_abs-scaled d r = unsigned_abs-mul r.0 (pos (d / r.1))
 
--- the fraction r equals (d·r)/d
+-- if r is in lowest terms and d > 0 is a multiple of its denominator, r equals (d·r)/d (`Stands`), with the integer
+-- d·r
 pub Stands-scaled : (d : ℕ) (r : Fraction) → InLowestTerms r → 0 < d → r.1 ∣ d
     → Stands r (scaled d r) d
 Stands-scaled d r l some h = record {
@@ -27,7 +28,7 @@ Stands-scaled d r l some h = record {
       ∙ sym (product_assoc r.0 (pos (d / r.1)) (pos r.1));
 }
 
--- if r equals n/d, the denominator of r divides d, and d·r is n
+-- if r is in lowest terms and equals n/d (`Stands`), then the denominator of r divides d, and d·r is n
 pub scaled-Stands : (d : ℕ) (n : ℤ) (r : Fraction) → Stands r n d → (r.1 ∣ d) × (scaled d r ≡ n)
 scaled-Stands d n r p =
     let sizes : unsigned_abs r.0 * d ≡ unsigned_abs n * r.1 =

@@ -1,4 +1,5 @@
--- Common divisors: Euclid's algorithm, Euclid's lemma, and `greatest_common_divisor` as the greatest common divisor.
+-- Common divisors: Euclid's algorithm, Euclid's lemma, and the proof that `greatest_common_divisor` computes the
+-- greatest common divisor.
 use Rattle.std.proofs.Common.{◌≡◌, ℕ, zero, suc, ◌+◌, ◌*◌, ◌/◌, ◌%◌, ◌<◌, ◌≤◌}
 use Rattle.std.proofs.Common.{subst, sym, refl, ap, ◌∙◌, arith}
 use Rattle.std.specs.Int.{IsGcd, ◌∣◌}
@@ -10,7 +11,7 @@ use native.Mathlib.Nat.{pos_of_dvd_of_pos, one-dvd, mod-lt, one-mul, add-mul, mu
 use Rattle.sym_model.proofs.GreatestCommonDivisors.{gcd-only, IsGcd-gcd}
 use Rattle.coeff_rings.specs.Fractions.{greatest_common_divisor}
 
--- if a = q·b + r, the greatest common divisor of b and r is that of a and b
+-- if a = q·b + r, each greatest common divisor of b and r is one of a and b
 euclid_step : (a b q r g : ℕ) → a ≡ q * b + r → IsGcd b r g → IsGcd a b g
 euclid_step a b q r g e h =
     let divides = λ (d : ℕ) (s : d ∣ b). dvd-mul_left_of_dvd d s q in (
@@ -75,7 +76,7 @@ coprime-product a b c h k =
     coprime_from a (b * c) (λ d p q.
     k.2 d p (divides_other_factor d b c (coprime_from d b (λ e r s. h.2 e (dvd_trans e r p) s)) q))
 
--- if a and b each are coprime to c and to d, so are the products ab and cd
+-- if each of a and b is coprime to each of c and d, then a·b and c·d are coprime
 pub coprime-products : (a b c d : ℕ) → IsGcd a c 1 → IsGcd a d 1 → IsGcd b c 1 → IsGcd b d 1
     → IsGcd (a * b) (c * d) 1
 coprime-products a b c d ac ad bc bd =
@@ -84,7 +85,7 @@ coprime-products a b c d ac ad bc bd =
     (IsGcd-swap a (c * d) 1 (coprime-product a c d ac ad))
     (IsGcd-swap b (c * d) 1 (coprime-product b c d bc bd)))
 
--- two numbers divided by their greatest common divisor are coprime
+-- if g > 0 is the greatest common divisor of a and b, then a/g and b/g are coprime
 pub coprime_without : (a b g : ℕ) → 0 < g → IsGcd a b g → IsGcd (a / g) (b / g) 1
 coprime_without a b g some h =
     coprime_from (a / g) (b / g) (λ d p q.
@@ -104,7 +105,7 @@ quotient_positive n g some h =
     pos_of_dvd_of_pos (dvd-mul_right (n / g) g)
     (subst (λ (m : ℕ). 0 < m) (sym (div-mul_cancel g h)) some)
 
--- ---- `greatest_common_divisor` is the greatest common divisor
+-- ---- the function `greatest_common_divisor` computes the greatest common divisor
 
 pub greatest_common_divisor-is : (a b g : ℕ) → IsGcd a b g → greatest_common_divisor a b ≡ g
 unfolding greatest_common_divisor

@@ -1,4 +1,5 @@
--- The laws of `Frac`: the results of its operations, when there are results, and that `Frac` can hold them.
+-- The laws of `Frac`: its operations give the exact values; under certain conditions (specs/Room) they give a result;
+-- and `Frac` can hold each of their results.
 use Rattle.std.proofs.Common.{◌≡◌, ◌≢◌, ℕ, ◌+◌, ◌*◌, ◌/◌, ◌<◌, ◌≤◌, ◌^◌, sym, refl, ap, ◌∙◌, subst}
 use Rattle.std.proofs.Common.{arith, ℤ, pos, ◌+ℤ◌, ◌-ℤ◌, ◌*ℤ◌, neg_ℤ, unsigned_abs, Bool, true}
 use Rattle.std.proofs.Common.{false, cond, ◌&&◌, FitsSigned, Option, Some, None, IsSome, IfSome}
@@ -38,7 +39,7 @@ use Rattle.coeff_rings.specs.Proved.FractionLaws.{sum-zero, difference-is, recip
 use Rattle.coeff_rings.specs.Proved.Whole.{fitted, where_fits-true, IfSome-where_fits}
 use Rattle.coeff_rings.specs.Proved.Whole.{IsSome-where_fits, fits_from_test, test_from_fits}
 
--- ---- a result is the exact value
+-- ---- if a checked operation has a result, this is the exact value
 
 pub fitted_sum : (a b s : Fraction) → checked_fraction_sum a b ≡ Some s → s ≡ fraction_sum a b
 fitted_sum a b s =
@@ -49,7 +50,7 @@ pub fitted_product : (a b p : Fraction) → checked_fraction_product a b ≡ Som
     → p ≡ fraction_product a b
 fitted_product a b p = fitted (fits_fraction (fraction_product a b)) (fraction_product a b) p
 
--- ---- `Frac` can hold a fraction in lowest terms whose numbers fit
+-- ---- fractions that `Frac` can hold (`IsFraction`): those in lowest terms whose numerators and denominators fit
 
 pub IsFraction-lowest_terms : (n : ℤ) (d : ℕ) → 0 < d → FitsSigned w128 n → d < 2 ^ 127
     → IsFraction (lowest_terms n d)
@@ -95,9 +96,9 @@ IsFraction-negation n m d h f e =
       lowest = (Stands-negation r n d (Stands-itself r h.lowest)).lowest;
     })
 
--- ---- the least common denominator of two fractions
+-- ---- the least common denominator of two fractions, and their numerators over it
 
--- y divided by gcd(x, y) divides d/x
+-- if the positive numbers x and y divide d, then y/gcd(x, y) divides d/x
 cofactor_divides : (x y d : ℕ) → 0 < x → 0 < y → x ∣ d → y ∣ d
     → y / greatest_common_divisor x y ∣ d / x
 cofactor_divides x y d sx sy p q =
@@ -144,7 +145,7 @@ greatest_common_divisor_comm x y =
     greatest_common_divisor-is x y (greatest_common_divisor y x)
     (IsGcd-swap y x _ (IsGcd-greatest y x))
 
--- ---- the sum and the difference are those over the least common denominator
+-- ---- the sum and the difference of two fractions, computed over their least common denominator
 
 common_cross : (an ad bn bd p q g : ℤ) → g *ℤ p ≡ ad → g *ℤ q ≡ bd
     → (an *ℤ q +ℤ bn *ℤ p) *ℤ (ad *ℤ bd) ≡ (an *ℤ bd +ℤ bn *ℤ ad) *ℤ (ad *ℤ q)
@@ -189,9 +190,10 @@ difference_over_common a b la lb =
     (Stands-negation b b.0 b.1 (Stands-itself b lb)).lowest
     ∙ sym (difference-is a b)
 
--- ---- the four numbers of a sum or a difference
+-- ---- the four numbers in the computation of a sum or a difference fit in 128 bits
 
--- each of the four numbers fits: both numerators over the least common denominator, the total, and that denominator
+-- four numbers fit in 128 bits with a sign: the least common denominator of a and b, the numerators that a and b have
+-- over it, and the number `total`
 pub record FourNumbersFit (a b : Fraction) (total : ℤ) : Type 0 where
   pub left : FitsSigned w128 (numerator_over_common a b)
   pub right : FitsSigned w128 (numerator_over_common b a)
@@ -227,8 +229,8 @@ FourNumbersFit-from a b total t =
       den = ltb-true (common_denominator a b) (2 ^ 127) last.1;
     }
 
--- if a sum has room, the absolute values of both numerators add up to less than 2^127, and the common denominator is
--- below 2^127
+-- if a and b have room for a sum (`HasRoomForSum`), the absolute values of their numerators over the least common
+-- denominator add up to less than 2^127, and that denominator is below 2^127
 numbers_with_room : (d : ℕ) (a b : Fraction) → InLowestTerms a → InLowestTerms b
     → HasRoomForSum d a b
     → (unsigned_abs (numerator_over_common a b) + unsigned_abs (numerator_over_common b a)
@@ -264,7 +266,7 @@ total_difference_fits : (x y : ℤ) → unsigned_abs x + unsigned_abs y < 2 ^ 12
     → FitsSigned w128 (x -ℤ y)
 total_difference_fits x y h = omega (arith, ints)
 
--- ---- sums in which one fraction is 0
+-- ---- sums of two fractions of which one is 0
 
 greatest_common_divisor-one : (x : ℕ) → greatest_common_divisor x 1 ≡ 1
 greatest_common_divisor-one x = greatest_common_divisor-is x 1 1 (coprime-one x)
@@ -273,8 +275,8 @@ greatest_common_divisor-of_one : (x : ℕ) → 0 < x → greatest_common_divisor
 greatest_common_divisor-of_one x some =
     greatest_common_divisor-is 1 x 1 (IsGcd-swap x 1 1 (coprime-one x))
 
--- over the least common denominator of the fractions 0 and b, the numerator of 0 is 0 (`zero_numerator`), that of b is
--- unchanged (`same_numerator`), and this denominator is that of b
+-- over the least common denominator of 0 and a fraction b, the numerator of 0 is 0 (`zero_numerator`), the numerator
+-- of b is unchanged (`same_numerator`), and this denominator is the denominator of b
 zero_numerator : (b : Fraction) → numerator_over_common (whole (pos 0)) b ≡ pos 0
 zero_numerator b = ap pos (zero-mul (b.1 / greatest_common_divisor 1 b.1))
 
@@ -331,7 +333,7 @@ sum_before_zero b h =
     }))
     ∙ ap Some (sum-zero b h.lowest)
 
--- ---- the results of a sum and a difference
+-- ---- the results of a checked sum and a checked difference of fractions
 
 pub sum_answers_fraction : (a b : Fraction) → IsFraction a → IsFraction b
     → AnswersSum (λ r. r) a b (checked_fraction_sum a b)
@@ -393,9 +395,9 @@ difference_held_fraction a b h k =
     (held_over_common a b (fraction_difference a b) total h k
     (difference_over_common a b h.lowest k.lowest))
 
--- ---- the results of a product and a quotient
+-- ---- the results of a checked product and a checked quotient of fractions
 
--- the numerator and the denominator of n/d in lowest terms are at most |n| and d
+-- in n/d in lowest terms, the numerator has an absolute value of at most |n|, and the denominator is at most d
 pub lowest_terms_le : (n : ℤ) (d : ℕ) → 0 < d
     → (unsigned_abs (lowest_terms n d).0 ≤ unsigned_abs n) × ((lowest_terms n d).1 ≤ d)
 unfolding lowest_terms
@@ -406,7 +408,7 @@ lowest_terms_le n d some =
       div-le_self d g,
     )
 
--- if a and b have room for a product, there is a result
+-- if a and b have room for a product (`HasRoomForProduct`), the checked product of a and b has a result
 product_fits : (d e : ℕ) (a b : Fraction) → HasRoomForProduct d e a b
     → IsSome (checked_fraction_product a b)
 product_fits d e a b r =
@@ -469,7 +471,7 @@ quotient_answers_fraction a b = record {
   room = λ d e r. product_fits d e a (reciprocal b) r;
 }
 
--- ---- the result of a negation
+-- ---- the result of a checked negation of a fraction
 
 negation_step : (a : Fraction) (t : Bool) (P : Option Fraction → Type 0)
     → int_eq a.0 (neg_ℤ (pos (2 ^ 127))) ≡ t

@@ -1,4 +1,4 @@
--- Fractions in lowest terms are a field, so the values of every type of scalars obey its laws.
+-- Fractions in lowest terms satisfy the laws of a field, and so do the values of each type of scalars.
 use Rattle.std.proofs.Common.{◌≡◌, ◌≢◌, ℕ, zero, suc, ◌*◌, ◌<◌, sym, refl, ap, ◌∙◌, arith, ℤ, pos}
 use Rattle.std.proofs.Common.{negsuc, ◌+ℤ◌, ◌*ℤ◌, neg_ℤ, unsigned_abs}
 use Rattle.std.specs.Int.{IsGcd}
@@ -115,7 +115,7 @@ distributes a b c la lb lc =
     (Stands-product a b _ _ _ _ pa pb) (Stands-product a c _ _ _ _ pa pc))
     (distributes_cross a.0 (pos a.1) b.0 (pos b.1) c.0 (pos c.1))
 
--- ---- quotients of fractions cancel
+-- ---- quotients of fractions: (a/b)·b = a
 
 turned_over-lowest : (n : ℤ) (d : ℕ) → 0 < d → n ≢ pos 0 → IsGcd (unsigned_abs n) d 1
     → InLowestTerms (turned_over n d)
@@ -161,7 +161,7 @@ quotient_cancels a b la lb other =
     (quotient_cross a.0 (pos a.1) b.0 (pos b.1) (reciprocal b).0 (pos (reciprocal b).1)
     (turned_over_times b.0 b.1))
 
--- ---- the laws of a type of scalars
+-- ---- the laws of a type of scalars whose values are in lowest terms
 
 pub sum_laws : {A : Type 0} (held : A → Type 0) (value : A → Fraction)
     → ((a : A) → held a → InLowestTerms (value a)) → SumLaws held value

@@ -1,5 +1,5 @@
--- Arithmetic of fractions. A fraction in lowest terms stands for n/d if its numerator times d is n times its
--- denominator; two fractions that stand for equal quotients are the same.
+-- Arithmetic of fractions. A fraction in lowest terms equals n/d (`Stands`) if its numerator times d is n times its
+-- denominator; two fractions in lowest terms that equal the same quotient are the same.
 use Rattle.std.proofs.Common.{◌≡◌, ℕ, zero, suc, ◌+◌, ◌*◌, ◌/◌, ◌<◌, subst, sym, refl, ap, ◌∙◌}
 use Rattle.std.proofs.Common.{arith, ℤ, pos, negsuc, ◌+ℤ◌, ◌*ℤ◌, neg_ℤ, unsigned_abs, int_div}
 use Rattle.std.specs.Int.{IsGcd, ◌∣◌}
@@ -52,7 +52,7 @@ same_fraction r s l k e =
     same_parts r s (product_cancel r.0 s.0 s.1 k.positive (e ∙ ap (λ (n : ℕ). s.0 *ℤ pos n) dens))
     dens
 
--- ---- the quotient that a fraction stands for
+-- ---- the fraction r, in lowest terms, equals the quotient n/d (`Stands`)
 
 pub record Stands (r : Fraction) (n : ℤ) (d : ℕ) : Type 0 where
   pub lowest : InLowestTerms r
@@ -92,7 +92,8 @@ Stands-lowest_terms n d some =
           (div-mul_cancel g is.1);
     }
 
--- if x/r = n/d and y/s = m/e, and n/d = m/e, then x·s and y·r, both times d·e, are equal
+-- if x·d = n·r, y·e = m·s and n·e = m·d, then (x·s)·(d·e) = (y·r)·(d·e); for quotients of integers: if x/r = n/d,
+-- y/s = m/e and n/d = m/e, then x/r = y/s
 cross : (x s y r n m d e : ℤ) → x *ℤ d ≡ n *ℤ r → y *ℤ e ≡ m *ℤ s → n *ℤ e ≡ m *ℤ d
     → (x *ℤ s) *ℤ (d *ℤ e) ≡ (y *ℤ r) *ℤ (d *ℤ e)
 cross x s y r n m d e p q c =

@@ -21,7 +21,7 @@ use Rattle.coeff_rings.specs.Proved.Fractions.{InLowestTerms-whole, Stands-same,
 use Rattle.coeff_rings.specs.Proved.Fractions.{Stands-sum, Stands-product}
 use Rattle.coeff_rings.specs.Proved.FractionLaws.{sum_laws, ring_laws, difference-is}
 
--- ---- `where_fits`: a value if a test holds
+-- ---- the function `where_fits`, which gives a value if a test is true
 
 pub where_fits-true : {A : Type 0} (t : Bool) (x : A) → t ≡ true → where_fits t x ≡ Some x
 where_fits-true true x e = refl
@@ -46,7 +46,7 @@ whole_fitted z = fitted (fits_128_bits z) z
 pub count_fitted : (n s : ℕ) → checked_u128 n ≡ Some s → s ≡ n
 count_fitted n = fitted (nat_lt n (2 ^ 128)) n
 
--- ---- the integers that fit i128
+-- ---- integers and natural numbers that fit in 128 bits, and their checked values
 
 pub fits_from_test : (z : ℤ) → fits_128_bits z ≡ true → FitsSigned w128 z
 fits_from_test (pos n) t = let small : n < 2 ^ 127 = ltb-true n (2 ^ 127) t in omega (arith, ints)
@@ -96,7 +96,7 @@ product-whole a b =
     Stands-same _ _ _ _ _ _ (Stands-product (whole a) (whole b) _ _ _ _ (Stands-whole a)
     (Stands-whole b)) (Stands-whole (a *ℤ b)) e
 
--- the absolute value of an integer is at most that of the integer times a positive d
+-- for d > 0, the absolute value of the integer z is at most the absolute value of z times d
 abs_le_magnitude : (d : ℕ) (z : ℤ) → 0 < d → unsigned_abs z ≤ magnitude d (whole z)
 abs_le_magnitude d z some =
     subst (λ (n : ℕ). unsigned_abs z ≤ unsigned_abs z * n) (sym (div-one d))
@@ -201,7 +201,7 @@ sum_answers_u128 a b f g = record {
 pub sum_laws_u128 : SumLaws (λ n. n < 2 ^ 128) whole_count
 sum_laws_u128 = sum_laws (λ n. n < 2 ^ 128) whole_count (λ a _. InLowestTerms-whole (pos a))
 
--- ---- the results of `Int` and `Count`, from the numbers that their functions compute
+-- ---- if an operation of `Int` or `Count` returns the checked number, its result satisfies `AnswersSum`, ..
 
 pub sum_answers_i128-from : (a b : ℤ) (answer : Option ℤ) → FitsSigned w128 a → FitsSigned w128 b
     → answer ≡ checked_i128 (a +ℤ b) → AnswersSum whole a b answer

@@ -1,4 +1,4 @@
-use Rattle.std.proofs.Common.{◌≡◌, ◌++◌, ◌∷◌, [], ◌/◌, ◌*ℤ◌, ℕ, ℤ, List, pos, map, refl, sym, ◌∙◌, ap}
+use Rattle.std.proofs.Common.{◌≡◌, ◌++◌, ◌∷◌, [], ℕ, List, pos, map, refl, sym, ◌∙◌, ap}
 use Rattle.std.proofs.Common.{subst, Err}
 use Rattle.std.specs.Map.Iter.{deref_pair}
 use Rattle.std.proofs.lemmas.List.{map-append}
@@ -8,7 +8,7 @@ use Rattle.sym_model.specs.Expansion.{Fraction, Terms}
 use Rattle.sym_model.specs.Polynomial.{Same, coefficient}
 use Rattle.sym_model.specs.LabelLimits.{is_label}
 use Rattle.monomial_laws.specs.ExpressionTerms.{over}
-use Rattle.monomial_laws.proofs.DividedTerms.{labels_of, over-missing}
+use Rattle.monomial_laws.proofs.DividedTerms.{labels_of, over-missing, over-append}
 use Rattle.linear_combinations.specs.Gains.{Gains}
 use Rattle.linear_combinations.proofs.Found.{coefficient_found, gains_same}
 use Rattle.linear_combinations.proofs.Gains.{all_pairs, gains_none, next_among, pairs_gain}
@@ -19,11 +19,7 @@ use Rattle.sparse_polys.proofs.PartitionTerms.{once_before}
 use Rattle.sparse_polys.proofs.WholeLists.{Once-keys, not_refused}
 use Rattle.basis_change.proofs.clearing.whole_terms.Goals as goal
 
-over-append : (m : ℕ) (xs ys : Terms (List ℕ)) → over m (xs ++ ys) ≡ over m xs ++ over m ys
-over-append m xs ys = map-append (λ (t : List ℕ × Fraction). let term : List ℕ × ℤ =
-    (t.0, t.1.0 *ℤ pos (m / t.1.1)) in term) xs ys
-
--- a label has the coefficient 0 in the terms before it
+-- if x is a term of a table and `done` are the terms before it, the label of x has the coefficient 0 in `den` times `done`
 missing : (den : ℕ) (all done rest : Terms (List ℕ)) (x : List ℕ × Fraction) → IsFractionTable all
     → done ++ x ∷ rest ≡ all → coefficient (over den done) x.0 ≡ pos 0
 missing den all done rest x is e =

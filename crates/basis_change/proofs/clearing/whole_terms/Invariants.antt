@@ -5,7 +5,8 @@ use Rattle.linear_combinations.specs.Gains.{Gains}
 use Rattle.sparse_polys.specs.Tables.{IsWholeTable}
 use Rattle.basis_change.proofs.clearing.whole_terms.Given as goal
 
--- the table has gained den times the terms visited so far; they and those still to come are all terms of the list
+-- the terms visited so far, followed by those still to come, are all terms of the list; the terms added to the table so far are `den` times the
+-- visited ones
 abbrev pub invariant-loop-label : goal.invariant-loop-label
 invariant-loop-label l = record {
   gains : Gains [] (over l.den (map deref_pair l.yielded)) l.terms;

@@ -3,11 +3,11 @@ use Rattle.std.specs.Prelude.{nat_eq}
 use Rattle.sym_model.specs.Bases.{has}
 use Rattle.linear_combinations.specs.Gains.{Gains, Overflows, scaled}
 use Rattle.linear_combinations.proofs.Gains.{gains_none}
-use Rattle.linear_combinations.proofs.Steps.{on_ok}
 use Rattle.beta_sets.specs.BetaSets.{numbers}
 use Rattle.basis_change.proofs.HookEntries.{greater_within, hook-none, hook-added}
 use Rattle.basis_change.proofs.HookEntries.{hook-past}
 use Rattle.basis_change.proofs.hooks.add_hook.Goals as goal
+use Rattle.std.proofs.lemmas.Result.{on_ok_weaker}
 
 pub overflow_sub-passed : goal.overflow_sub-passed
 overflow_sub-passed c =
@@ -30,11 +30,10 @@ returns-in_default-clause-large c err =
 
 pub returns-clause-gains : goal.returns-clause-gains
 returns-clause-gains c =
-    on_ok c.add_owned.result c.add_owned.ensures.gains
-    (subst (λ l. Gains c.args.sum.now l c.add_owned.new.self)
+    on_ok_weaker c.add_owned.result (subst (λ l. Gains c.args.sum.now l c.add_owned.new.self)
     (hook-added c.args.a c.args.beta c.raised-others.result c.args.c c.raised-others.ensures
     (sym c.if-has.ensures) c.with.result (c.len.result - c.greater.result) c.in-Some.number
-    c.with.ensures c.in-Some.ensures (ap₂ (λ m n. m - n) c.len.ensures c.greater.ensures)))
+    c.with.ensures c.in-Some.ensures (ap₂ (λ m n. m - n) c.len.ensures c.greater.ensures))) c.add_owned.ensures.gains
 
 pub returns-clause-large : goal.returns-clause-large
 returns-clause-large c err =

@@ -1,4 +1,5 @@
-use Rattle.basis_change.proofs.SortingSigns.{even_sign, negated_number}
+use Rattle.sym_model.proofs.Signs.{even_sign}
+use Rattle.coeff_rings.proofs.CheckedResults.{negated_number}
 use Rattle.basis_change.proofs.hooks.turned.Goals as goal
 
 pub returns-then-times-eq0 : goal.returns-then-times-eq0

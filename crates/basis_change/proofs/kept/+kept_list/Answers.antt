@@ -7,7 +7,7 @@ use Rattle.coeff_rings.specs.Fractions.{whole}
 use Rattle.sym_model.specs.Bases.{has}
 use Rattle.sym_model.specs.Partition.{IsPartition, size}
 use Rattle.sym_model.specs.RaisedPart.{without_one, distinct}
-use Rattle.sym_model.proofs.SortedParts.{rows_within_size, size-without_one}
+use Rattle.sym_model.proofs.SortedParts.{rows_within_size, size-without_one, has-get_or}
 use Rattle.sym_model.proofs.SortedParts.{IsPartition-without_one}
 use Rattle.linear_combinations.specs.Gains.{Gains, Overflows, replaced}
 use Rattle.linear_combinations.proofs.Gains.{gains_none, pairs_gain, pairs_overflow}
@@ -18,11 +18,11 @@ use Rattle.beta_sets.specs.BetaSets.{IsShapeTable}
 use Rattle.basis_change.specs.KeptLists.{IsKept}
 use Rattle.basis_change.specs.RimHooks.{hooks_below, hooked_lists}
 use Rattle.beta_sets.proofs.BetaSets.{within_more}
-use Rattle.basis_change.proofs.Walks.{has-index}
-use Rattle.basis_change.proofs.KeptLists.{part-positive, no_parts, some_parts, kept-step}
+use Rattle.basis_change.proofs.KeptLists.{part-positive, kept-step}
 use Rattle.basis_change.proofs.KeptLists.{not_large, listed-next, listed-end, parts_of}
 use Rattle.basis_change.proofs.KeptLists.{rests-next, hooked_lists-append}
 use Rattle.basis_change.proofs.kept.+kept_list.Goals as goal
+use Rattle.sym_model.proofs.Lists.{no_items, some_items}
 
 pub from_valid_parts-requires : goal.from_valid_parts-requires
 from_valid_parts-requires t c =
@@ -39,8 +39,7 @@ returns-then-is_empty-clause-kept t c =
     lists-kept IsKept c.args.lists.now.entries c.keep.new.lists.entries _ c.in_ok-of_nothing.field-0
     c.requires.kept
     (subst (λ (x : List ℕ). IsKept x c.in_ok-of_nothing.field-0)
-    (sym (c.label.view_is ∙ c.in_ok-label.ensures.ok ∙ no_parts c.args.parts.now
-    c.if-is_empty.ensures)) c.in_ok-of_nothing.ensures.kept)
+    (sym (c.label.view_is ∙ c.in_ok-label.ensures.ok ∙ no_items c.args.parts.now (sym c.if-is_empty.ensures))) c.in_ok-of_nothing.ensures.kept)
     c.in_ok-keep.ensures.kept
 
 pub loop-at-init : goal.loop-at-init
@@ -60,7 +59,7 @@ pub kept_list-requires : goal.kept_list-requires
 kept_list-requires t c =
     let parts = c.args.parts.now in
     let a = get_or parts c.loop-at.at 0 in
-    let here = has-index parts c.loop-at.at c.loop-at-test.true in
+    let here = has-get_or parts c.loop-at.at c.loop-at-test.true in
     let s = size-without_one a parts here in
     let q = part-positive parts a c.requires.partition here in
     let e = c.deref.ensures.value ∙ c.in_ok-rest.ensures in
@@ -85,7 +84,7 @@ pub add_by-requires : goal.add_by-requires
 add_by-requires t c u m =
     let parts = c.args.parts.now in
     let a = get_or parts c.loop-at.at 0 in
-    let s = size-without_one a parts (has-index parts c.loop-at.at c.loop-at-test.true) in
+    let s = size-without_one a parts (has-get_or parts c.loop-at.at c.loop-at-test.true) in
     let l = c.requires.low in
     let kept : IsKept (without_one a parts) c.list_at.result.1.now =
     list-found IsKept c.kept_list.new.lists.entries _ (without_one a parts) c.list_at.result.0.now
@@ -104,14 +103,14 @@ returns-in_err-add_by-clause-small t c err =
     let done = c.loop-at.invariant.0 in
     let inv = c.loop-at.invariant.1 in
     let list = c.list_at.result.1.now in
-    let here = has-index parts c.loop-at.at c.loop-at-test.true in
+    let here = has-get_or parts c.loop-at.at c.loop-at-test.true in
     let kept : IsKept (without_one a parts) list =
     list-found IsKept c.kept_list.new.lists.entries _ (without_one a parts) c.list_at.result.0.now
     list c.in_ok-place.place
     (c.deref.ensures.value ∙ c.in_ok-rest.ensures) c.in_ok-place.ensures.kept
     c.in_ok-place.ensures.place c.list_at.ensures in
     not_large parts c.requires.partition c.requires.low (done ++ (a, list) ∷ [])
-    (distinct (drop (c.loop-at.at + 1) parts)) (some_parts parts c.if-is_empty.ensures)
+    (distinct (drop (c.loop-at.at + 1) parts)) (some_items parts (sym c.if-is_empty.ensures))
     (listed-next parts c.loop-at.at done list c.loop-at-test.true
     (ap (has a) (sym (take_rest parts (c.loop-at.at + 1))) ∙ sym c.if-has.ensures) inv.listed)
     (rests-next parts done (a, list) inv.rests (record { part = here; kept = kept }))
@@ -128,7 +127,7 @@ loop-at-preserved t c =
     let done = c.loop-at.invariant.0 in
     let inv = c.loop-at.invariant.1 in
     let list = c.list_at.result.1.now in
-    let here = has-index parts c.loop-at.at c.loop-at-test.true in
+    let here = has-get_or parts c.loop-at.at c.loop-at-test.true in
     let kept : IsKept (without_one a parts) list =
     list-found IsKept c.kept_list.new.lists.entries _ (without_one a parts) c.list_at.result.0.now
     list c.in_ok-place.place
@@ -160,7 +159,7 @@ returns-clause-kept t c =
     c.loop-at.sum inv.kept
     (subst (λ (x : List ℕ). IsKept x c.loop-at.sum) (sym c.in_ok-label.ensures.ok)
     (kept-step parts c.requires.partition c.requires.low done c.loop-at.sum
-    (some_parts parts c.if-is_empty.ensures)
+    (some_items parts (sym c.if-is_empty.ensures))
     (listed-end parts c.loop-at.at (parts_of done) (omega arith) inv.listed) inv.rests inv.gains
     inv.table))
     c.in_ok-keep-2.ensures.kept

@@ -4,12 +4,12 @@ use Rattle.std.specs.Cmp.{nat_eq_equiv}
 use Rattle.sym_model.specs.Partition.{size}
 use Rattle.family_lists.proofs.KeptLists.{list-found}
 use Rattle.linear_combinations.proofs.Masses.{labels_gained, on_both}
-use Rattle.linear_combinations.proofs.Steps.{on_ok}
 use Rattle.beta_sets.specs.BetaSets.{IsInRows, same_set}
 use Rattle.beta_sets.proofs.BetaSets.{within_more}
 use Rattle.basis_change.specs.KeptLists.{IsKept}
 use Rattle.basis_change.proofs.TwentyRows.{wide-gains, wide-labels, wide-large}
 use Rattle.basis_change.proofs.kept.add_straightened.Goals as goal
+use Rattle.std.proofs.lemmas.Result.{on_ok_weaker}
 
 pub list_at-requires : goal.list_at-requires
 list_at-requires c = slice_get_within c.kept_list.new.lists.entries c.in_ok-at.at _
@@ -29,9 +29,8 @@ returns-clause-gains c =
     list-found IsKept c.kept_list.new.lists.entries _ c.args.parts.now c.list_at.result.0.now
     c.list_at.result.1.now c.in_ok-at.at refl c.in_ok-at.ensures.kept c.in_ok-at.ensures.place
     c.list_at.ensures in
-    on_ok c.add_by.result c.add_by.ensures.gains
-    (λ gains n enough. wide-gains c.args.c c.args.parts.now n c.list_at.result.1.now kept c.requires.low enough
-    c.args.sum.now c.add_by.new.self gains)
+    on_ok_weaker c.add_by.result (λ gains n enough. wide-gains c.args.c c.args.parts.now n c.list_at.result.1.now kept c.requires.low enough
+    c.args.sum.now c.add_by.new.self gains) c.add_by.ensures.gains
 
 pub returns-clause-within : goal.returns-clause-within
 returns-clause-within c =

@@ -1,8 +1,9 @@
 use Rattle.std.proofs.Common.{◌≡◌, ◌+◌, ◌*◌, ◌∙◌, drop, get_or, suc, ap, arith, ◌<◌, ◌^◌, rules}
 use Rattle.basis_change_laws.specs.AugmentedMonomial.{multiplicity_factorials}
 use Rattle.sym_model.specs.Schur.{times_in}
-use Rattle.family_lists.proofs.MultiplicityPlaces.{multiplicity-fits, multiplicity-next, whole_rest}
+use Rattle.family_lists.proofs.MultiplicityPlaces.{multiplicity-fits, multiplicity-next}
 use Rattle.basis_change.proofs.parts.multiplicity_factorials.Goals as goal
+use Rattle.std.proofs.lemmas.List.{take_rest}
 
 pub overflow_mul-product : goal.overflow_mul-product
 overflow_mul-product c =
@@ -11,7 +12,7 @@ overflow_mul-product c =
     let e = multiplicity-next c.loop-at.product c.from-product.result
     (multiplicity_factorials parts) parts at c.loop-at-test.true c.loop-at.invariant
     (c.from-product.ensures ∙ c.times_in.ensures ∙ ap (times_in (get_or parts at 0))
-    (whole_rest parts at)) in
+    (take_rest parts at)) in
     let h : c.loop-at.product * c.from-product.result < 2 ^ 128 = multiplicity-fits
     (c.loop-at.product * c.from-product.result) (multiplicity_factorials parts)
     (drop (suc at) parts) e c.requires.fits in
@@ -24,7 +25,7 @@ loop-at-preserved c =
     let e = multiplicity-next c.loop-at.product c.from-product.result
     (multiplicity_factorials parts) parts at c.loop-at-test.true c.loop-at.invariant
     (c.from-product.ensures ∙ c.times_in.ensures ∙ ap (times_in (get_or parts at 0))
-    (whole_rest parts at)) in
+    (take_rest parts at)) in
     let s : at + 1 ≡ suc at = omega arith in
     ap (λ k. (c.loop-at.product * c.from-product.result) * multiplicity_factorials (drop k parts)) s
     ∙ e

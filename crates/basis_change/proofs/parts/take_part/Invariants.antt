@@ -1,7 +1,7 @@
 use Rattle.std.proofs.Common.{◌≡◌, ◌<◌, ◌-◌, ℕ, length, get_or}
 use Rattle.basis_change.proofs.parts.take_part.Given as goal
 
--- no part before `at` equals the number
+-- no part before the index `at` equals `part`
 abbrev pub invariant-loop-at : goal.invariant-loop-at
 invariant-loop-at l = (i : ℕ) → i < l.at → get_or l.parts.items i 0 ≡ l.part → ⊥
 

@@ -1,15 +1,15 @@
 use Rattle.std.proofs.Common.{◌≡◌, ◌∷◌, [], ◌++◌, get_or, ℕ, List, ap, Err}
 use Rattle.std.proofs.Common.{refl, arith, ℤ, neg_ℤ, inr}
-use Rattle.sym_model.proofs.Lists.{get_or-any}
 use Rattle.sym_model.specs.RaisedPart.{raise}
-use Rattle.sym_model.proofs.SortedParts.{IsPartition-raise, size-raise, has-zero_or}
+use Rattle.sym_model.proofs.SortedParts.{IsPartition-raise, size-raise, has-zero_or, has-get_or}
 use Rattle.linear_combinations.specs.Gains.{each_with}
 use Rattle.linear_combinations.proofs.Gains.{places_gain, places_overflow}
 use Rattle.linear_combinations.proofs.Steps.{error_is}
 use Rattle.sparse_polys.proofs.PartitionTerms.{IsWithinLimits-low}
 use Rattle.basis_change.specs.AugmentedProducts.{Mixed, equal, raised}
-use Rattle.basis_change.proofs.Walks.{part-within, has-index}
 use Rattle.basis_change.proofs.products.take_raised.Goals as goal
+use Rattle.std.proofs.lemmas.List.{get_or_default}
+use Rattle.sym_model.proofs.Parts.{get_or-le-size}
 
 abbrev taken : ℤ → List ℕ → ℕ → List ℕ → List ℕ → Mixed
 taken z converted by augmented numbers = each_with z (raised converted by augmented numbers)
@@ -23,7 +23,7 @@ taken-append z converted by augmented (b ∷ xs) ys = ap (λ (l : Mixed).
 
 pub take_one-requires-clause-small : goal.take_one-requires-clause-small
 take_one-requires-clause-small c =
-    let s = part-within c.args.augmented.now c.loop-part.part-index c.loop-part-test.true in
+    let s = get_or-le-size c.args.augmented.now c.loop-part.part-index in
     omega (arith, c.requires.small)
 
 pub take_one-requires-clause-limits : goal.take_one-requires-clause-limits
@@ -31,7 +31,7 @@ take_one-requires-clause-limits c =
     let aug = c.args.augmented.now in
     let b = get_or aug c.loop-part.part-index 0 in
     let s = size-raise c.args.by b aug c.requires.partition
-    (has-zero_or b aug (inr (has-index aug c.loop-part.part-index c.loop-part-test.true))) in
+    (has-zero_or b aug (inr (has-get_or aug c.loop-part.part-index c.loop-part-test.true))) in
     IsWithinLimits-low (raise c.args.by b aug)
     (IsPartition-raise c.args.by b aug c.requires.partition) (omega (arith, c.requires.small))
 
@@ -43,7 +43,7 @@ returns-in_err-take_one-clause-large c err =
     let i = c.loop-part.part-index in
     places_overflow (taken z conv c.args.by aug) (taken-append z conv c.args.by aug) aug i
     (get_or aug i 0) c.loop-part-test.true
-    (get_or-any aug i 0 (get_or aug i 0) c.loop-part-test.true) c.args.sum.now c.loop-part.sum
+    (get_or_default aug i 0 (get_or aug i 0) c.loop-part-test.true) c.args.sum.now c.loop-part.sum
     c.loop-part.invariant equal
     (c.in_err-take_one.ensures.large (ap Err (error_is _ _ _ c.from_residual.ensures.1 err)))
 
@@ -55,5 +55,5 @@ loop-part-preserved c =
     let i = c.loop-part.part-index in
     places_gain (taken z conv c.args.by aug) (taken-append z conv c.args.by aug) aug i
     (get_or aug i 0) c.loop-part-test.true
-    (get_or-any aug i 0 (get_or aug i 0) c.loop-part-test.true) c.args.sum.now c.loop-part.sum
+    (get_or_default aug i 0 (get_or aug i 0) c.loop-part-test.true) c.args.sum.now c.loop-part.sum
     c.loop-part.invariant c.take_one.new.sum c.in_ok-take_one.ensures.gains

@@ -8,7 +8,8 @@ use Rattle.basis_expand.specs.SchurLists.{ComeTo, products_at}
 use Rattle.linear_combinations.specs.Cleared.{IsCommonDenominator, GainsCleared}
 use Rattle.basis_expand.proofs.schur_products.product.Given as goal
 
--- the products of the terms visited so far have been added; these terms and those still to come are all terms of the left list
+-- the products of the terms of `left` visited so far with `right` have been added to `sum`; these terms and those still to come are all terms of
+-- `left`
 abbrev pub invariant-loop-label : goal.invariant-loop-label
 invariant-loop-label l = record {
   sums :

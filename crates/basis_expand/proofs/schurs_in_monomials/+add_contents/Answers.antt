@@ -1,7 +1,6 @@
 use Rattle.std.proofs.Common.{◌≡◌, ◌≤◌, ◌++◌, ◌∷◌, [], ◌+◌, ◌-◌, subst, ap, ◌∙◌, arith, Err}
 use Rattle.std.proofs.Common.{append-nil}
 use Rattle.partitions.specs.Limits.{IsWithinLimits}
-use Rattle.linear_combinations.proofs.Multiples.{nothing_left}
 use Rattle.linear_combinations.proofs.Steps.{error_is}
 use Rattle.sparse_polys.proofs.WholeLists.{label-partition}
 use Rattle.basis_expand.specs.Contents.{CountsContents}
@@ -9,6 +8,7 @@ use Rattle.basis_expand.proofs.StripTables.{leads-next, large-lead}
 use Rattle.basis_expand.proofs.ContentCounts.{counts-missed, counts-step, counts-all}
 use Rattle.basis_expand.proofs.ContentCounts.{limits-longer, fresh-longer}
 use Rattle.basis_expand.proofs.schurs_in_monomials.+add_contents.Goals as goal
+use Rattle.std.proofs.lemmas.List.{nil_from_length}
 
 pub add_content-requires-clause-limits : goal.add_content-requires-clause-limits
 add_content-requires-clause-limits t c = subst IsWithinLimits (append-nil c.args.chosen.now)
@@ -33,7 +33,7 @@ loop-part-preserved-then-is_empty t c =
     let part = c.loop-part.part in
     let inv = c.loop-part.invariant in
     let same : part ≡ part + 1 - 1 = omega arith in
-    let none = nothing_left c.in_ok-next.next (c.is_empty.ensures.0 c.if-is_empty.true) in
+    let none = nil_from_length c.in_ok-next.next (c.is_empty.ensures.0 c.if-is_empty.true) in
     record {
       counted =
           subst (λ k. CountsContents c.args.terms.now c.args.chosen.now k c.args.left

@@ -6,7 +6,7 @@ use Rattle.basis_expand.proofs.strips_taken.+add_strips.Given as goal
 abbrev pub decreases-add_strips : goal.decreases-add_strips
 decreases-add_strips l = length l.rows.now
 
--- the strips with fewer than `cells` cells in the first row have been listed
+-- the shapes that remain if a strip of k cells with fewer than `cells` cells in the first row is removed have been listed; `above` is unchanged
 abbrev pub invariant-loop-cells : goal.invariant-loop-cells
 invariant-loop-cells l = record {
   same : l.above.items ≡ l.fn.above.items;

@@ -5,8 +5,8 @@ use Rattle.sparse_polys.proofs.Quotients.{Quotients}
 use Rattle.beta_sets.specs.BetaSets.{shapes}
 use Rattle.beta_sets.proofs.beta_set.in_partitions.Given as goal
 
--- the table has the coefficients of the terms so far, divided by `den`, at their partitions, and these terms followed
--- by those still to come are all terms
+-- the table has, at the partition of each term visited so far, the coefficient of the term divided by `den`; the terms visited, followed by those not
+-- yet visited, are all terms
 abbrev pub invariant-loop-set : goal.invariant-loop-set
 invariant-loop-set l = record {
   quotients : Quotients l.den l.answer (shapes l.yielded);

@@ -2,7 +2,7 @@ use Rattle.std.proofs.Common.{length, take, ◌-◌, ◌≤◌}
 use Rattle.std.specs.Io.KnownBytes.{Appends}
 use Rattle.calc_base.proofs.std_out.write_whole.Given as goal
 
--- the bytes before `at` were appended to the writer
+-- the first `at` of the bytes were appended to the writer
 abbrev pub invariant-loop-at : goal.invariant-loop-at
 invariant-loop-at g l =
     (l.at ≤ length l.bytes) × Appends (g.W.Write.contents l.fn.writer) (g.W.Write.contents l.writer) (take l.at l.bytes)

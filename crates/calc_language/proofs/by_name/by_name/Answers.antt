@@ -1,4 +1,4 @@
--- If a word is not one of the names, it names no command.
+-- If a word is not one of the names of commands, `entry_named` finds no entry for it.
 use Rattle.std.proofs.Common.{◌≡◌, map, None, Err, ap, sym, subst}
 use Rattle.std.specs.Prelude.{string_bytes}
 use Rattle.calc_language.specs.BuiltCommands.{command_entries}

@@ -1,4 +1,4 @@
--- Words are read as those of the command of a line that their first word names.
+-- The words of a line are read as those of the command of a line whose name is their first word.
 use Rattle.std.proofs.Common.{map, Err, ap, subst, ◌≡◌, ◌∙◌, ◌⊎◌}
 use Rattle.std.specs.Prelude.{string_bytes, codes}
 use Rattle.calc_language.specs.BuiltCommands.{command_entries, batch_entries}

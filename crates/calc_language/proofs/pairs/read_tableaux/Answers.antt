@@ -13,8 +13,9 @@ use Rattle.calc_words.specs.Reading.{IsFirst}
 use Rattle.calc_language.specs.PairOffences.{pair_offences}
 use Rattle.calc_language.proofs.FaultlessPairs.{written_pair}
 use Rattle.calc_language.proofs.PairJudging.{first_of_pair, second_of_pair, read_lengths}
-use Rattle.calc_language.proofs.PairJudging.{lengths_fit, place_of_second, map_twice}
+use Rattle.calc_language.proofs.PairJudging.{lengths_fit, place_of_second}
 use Rattle.calc_language.proofs.pairs.read_tableaux.Goals as goal
+use Rattle.std.proofs.lemmas.Simd.{map-map}
 
 pub returns-in_err-insertion : goal.returns-in_err-insertion
 returns-in_err-insertion c =
@@ -73,10 +74,10 @@ tableaux_of-requires c =
     let at = ap (λ n. 1 + n) c.text_length-at.ensures ∙ place_of_second w1 n1 in
     let one = ap (map (λ r. r.items)) c.as_slice-3.ensures.value ∙ c.without_dot-insertion.ensures
     ∙ ap (rows_in []) (c.in_ok-insertion.ensures.0
-    ∙ sym (map_twice (λ r. map string_bytes r.now) numbers c.args.first.now)) in
+    ∙ sym (map-map numbers (λ r. map string_bytes r.now) c.args.first.now)) in
     let two = ap (map (λ r. r.items)) c.as_slice-4.ensures.value ∙ c.without_dot-recording.ensures
     ∙ ap (rows_in []) (c.in_ok-recording.ensures.0
-    ∙ sym (map_twice (λ r. map string_bytes r.now) numbers c.args.second.now)) in
+    ∙ sym (map-map numbers (λ r. map string_bytes r.now) c.args.second.now)) in
     rw (one, two)
     (written_pair (1 + c.text_length-at.result) w1 w2 c.as_slice-2.result.now n1 n2 asked
     c.in_ok-insertion.ensures.1 c.in_ok-recording.ensures.1)

@@ -1,8 +1,9 @@
 use Rattle.std.proofs.Common.{◌≤◌, map, length, sym, ap, subst, ◌∙◌, arith}
 use Rattle.std.proofs.lemmas.List.{take_all}
 use Rattle.partitions.specs.Limits.{IsWithinLimits}
-use Rattle.calc_language.proofs.ReadTableaux.{row_length, row_within, few_letters}
+use Rattle.calc_language.proofs.ReadTableaux.{row_within, few_letters}
 use Rattle.calc_language.proofs.pairs.straight.Goals as goal
+use Rattle.tableau_iter.proofs.RowLengths.{length_at}
 
 pub overflow_cast-len : goal.overflow_cast-len
 overflow_cast-len c =
@@ -11,8 +12,7 @@ overflow_cast-len c =
     let is : length c.row-item.result.items ≤ 256 =
     omega (
       arith,
-      row_length (λ r. r.items) c.args.rows.now i c.row-item.result c.loop-row-test.true
-          c.row-item.is,
+      sym (length_at (λ r. r.items) c.args.rows.now i c.row-item.result c.loop-row-test.true c.row-item.is),
       row_within rows i c.requires.few,
     ) in
     omega (arith, c.len.ensures, is)

@@ -1,4 +1,4 @@
--- The lengths of the rows visited so far have been appended.
+-- `parts` lists the lengths of the rows visited so far.
 use Rattle.std.proofs.Common.{◌≡◌, map, length, take}
 use Rattle.calc_language.proofs.pairs.straight.Given as goal
 

@@ -9,9 +9,10 @@ use Rattle.std.specs.Bool.{then_some}
 use Rattle.std.proofs.lemmas.Bool.{eqb-true, eqb-false}
 use Rattle.sym_model.specs.ExpressionOffence.{shape}
 use Rattle.calc_language.proofs.RowJudging.{left_last, rows_left, left_misses, left_fewer, left_on}
-use Rattle.calc_language.proofs.RowJudging.{left_none, split_first}
+use Rattle.calc_language.proofs.RowJudging.{left_none}
 use Rattle.calc_language.specs.FoundOffences.{found_of}
 use Rattle.calc_language.proofs.row_offences.left_shape.Goals as goal
+use Rattle.sym_model.proofs.Parts.{split_first}
 
 pub overflow_add-result : goal.overflow_add-result
 overflow_add-result c =
@@ -44,7 +45,7 @@ returns-then-row-length c =
     let left = c.loop-i.left.now in
     let n = get_or left 0 0 in
     let later = take (length left - 1) (drop 1 left) in
-    let cut = split_first left c.in-len1-up.len_at_least in
+    let cut = sym (split_first left c.in-len1-up.len_at_least) in
     let here = c.loop-i.invariant.0 ∙ ap (λ ds. first_offence (left_at place left ds)) next
     ∙ ap (λ ls. first_offence (left_at place ls (w ∷ rest))) cut in
     let l = length-map row string_bytes in
@@ -83,7 +84,7 @@ returns-then-is_empty c =
     let left = c.loop-i.left.now in
     let n = get_or left 0 0 in
     let later = take (length left - 1) (drop 1 left) in
-    let cut = split_first left c.in-len1-up.len_at_least in
+    let cut = sym (split_first left c.in-len1-up.len_at_least) in
     let here = c.loop-i.invariant.0 ∙ ap (λ ds. first_offence (left_at place left ds)) next
     ∙ ap (λ ls. first_offence (left_at place ls (w ∷ rest))) cut in
     let l = length-map row string_bytes in
@@ -115,7 +116,7 @@ returns-then-is_last_row c =
     let left = c.loop-i.left.now in
     let n = get_or left 0 0 in
     let later = take (length left - 1) (drop 1 left) in
-    let cut = split_first left c.in-len1-up.len_at_least in
+    let cut = sym (split_first left c.in-len1-up.len_at_least) in
     let here = c.loop-i.invariant.0 ∙ ap (λ ds. first_offence (left_at place left ds)) next
     ∙ ap (λ ls. first_offence (left_at place ls (w ∷ rest))) cut in
     let l = length-map row string_bytes in
@@ -159,7 +160,7 @@ loop-i-preserved c =
     let left = c.loop-i.left.now in
     let n = get_or left 0 0 in
     let later = take (length left - 1) (drop 1 left) in
-    let cut = split_first left c.in-len1-up.len_at_least in
+    let cut = sym (split_first left c.in-len1-up.len_at_least) in
     let room = room_next place (drop i ws) rest w next c.loop-i.invariant.1 in
     let here = c.loop-i.invariant.0 ∙ ap (λ ds. first_offence (left_at place left ds)) next
     ∙ ap (λ ls. first_offence (left_at place ls (w ∷ rest))) cut in

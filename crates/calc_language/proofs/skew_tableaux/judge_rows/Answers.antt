@@ -9,12 +9,12 @@ use Rattle.word_laws.specs.JudgedRows.{earlier}
 use Rattle.calc_words.specs.Reading.{IsFirst}
 use Rattle.calc_language.specs.AskedLengths.{asked_lengths}
 use Rattle.calc_language.specs.FoundOffences.{judged}
-use Rattle.calc_language.proofs.PairJudging.{map_twice}
 use Rattle.sym_model.specs.Tableau.{IsTableau}
 use Rattle.calc_language.proofs.OnceJudged.{skewed_judged}
 use Rattle.calc_language.proofs.SkewTableaux.{skew_tableau}
 use Rattle.calc_language.proofs.SkewJudging.{rows_first_offence}
 use Rattle.calc_language.proofs.skew_tableaux.judge_rows.Goals as goal
+use Rattle.std.proofs.lemmas.Simd.{map-map}
 
 pub returns-in_err-read-clause-judged : goal.returns-in_err-read-clause-judged
 returns-in_err-read-clause-judged c =
@@ -89,8 +89,7 @@ returns-clause-tableau c =
     (sym
     (c.rows_of_shape.ensures ∙ ap (λ o. rows_in o (map (λ r. r.items) c.in_ok-read.read.items))
     c.parts-4.ensures.value
-    ∙ ap (rows_in c.args.outer.now) (c.in_ok-read.ensures.0 ∙ sym (map_twice
-    (λ r. map string_bytes r.now) numbers c.args.rows.now))))
+    ∙ ap (rows_in c.args.outer.now) (c.in_ok-read.ensures.0 ∙ sym (map-map numbers (λ r. map string_bytes r.now) c.args.rows.now))))
     (skew_tableau at c.args.outer.now c.args.inner.now ws c.parts.ensures.limits.partition
     c.parts-2.ensures.limits.partition c.requires.holds some c.requires.some.1
     (all ∙ c.in_ok-read.ensures.1))

@@ -5,9 +5,10 @@ use Rattle.sym_model.specs.GoodTableau.{column_reading}
 use Rattle.sym_model.specs.WordForms.{numbers}
 use Rattle.calc_language.specs.FoundOffences.{at_most_entry}
 use Rattle.calc_words.specs.declared.command.Command.TheVariants.{Tab}
-use Rattle.calc_language.proofs.TabJudging.{some_rows, unlisted_last, listed_last, read_listed}
+use Rattle.calc_language.proofs.TabJudging.{unlisted_last, listed_last, read_listed}
 use Rattle.calc_language.proofs.TabJudging.{read_same}
 use Rattle.calc_language.proofs.tab.judge_last.Goals as goal
+use Rattle.sym_model.proofs.Lists.{some_items}
 
 pub returns-in-None : goal.returns-in-None
 returns-in-None c =
@@ -22,7 +23,7 @@ returns-in-None c =
     c.parts.ensures.value in
     let unlisted = rw c.in-None.is at c.in_ok-lattice_reading.ensures in
     unlisted_last (λ r. map string_bytes r.now) c.args.at outer inner rows
-    c.offence.result (some_rows rows (sym c.is_empty.ensures ∙ c.if-is_empty.false))
+    c.offence.result (some_items rows (sym c.is_empty.ensures ∙ c.if-is_empty.false))
     (sym (read_listed (λ r. map string_bytes r.now) outer inner rows read limits.partition.falls
     limits.few is)
     ∙ unlisted)
@@ -41,7 +42,7 @@ returns-in-Some c =
     c.parts.ensures.value in
     let told = rw c.in-Some.is at c.in_ok-lattice_reading.ensures in
     listed_last (λ r. map string_bytes r.now) c.args.at outer inner rows _
-    (some_rows rows (sym c.is_empty.ensures ∙ c.if-is_empty.false)) limits.partition.falls
+    (some_items rows (sym c.is_empty.ensures ∙ c.if-is_empty.false)) limits.partition.falls
     limits.few
     (sym (read_listed (λ r. map string_bytes r.now) outer inner rows read limits.partition.falls
     limits.few is) ∙ told.0)

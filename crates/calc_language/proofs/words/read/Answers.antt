@@ -1,4 +1,4 @@
--- Words are read as those of the command that their first word names.
+-- Words are read as those of the command whose name is their first word.
 use Rattle.std.proofs.Common.{map, Err, ap, subst}
 use Rattle.std.specs.Prelude.{string_bytes}
 use Rattle.calc_language.specs.BuiltCommands.{command_entries}

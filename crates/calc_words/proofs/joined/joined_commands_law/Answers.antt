@@ -1,4 +1,4 @@
--- The clauses of `joined_commands_law`.
+-- Proofs of the clauses of `joined_commands_law`.
 use Rattle.calc_words.proofs.Joining.{joined_freely, joined_first, joined_syntax}
 use Rattle.calc_words.proofs.joined.joined_commands_law.Goals as goal
 

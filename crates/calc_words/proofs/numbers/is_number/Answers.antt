@@ -5,7 +5,7 @@ use Rattle.std.proofs.Math.ListN.{drop_of_length-le}
 use Rattle.sym_model.specs.Form.{is_digit, are_digits, is_number_word}
 use Rattle.calc_words.proofs.numbers.is_number.Goals as goal
 
--- the bytes from a place on are digits if and only if the byte there is one and the later bytes are digits
+-- let b say whether byte i of w is a digit: all bytes from place i on are digits if and only if b is true and all bytes after place i are digits
 digits_from : (w : List ℕ) (i : ℕ) (b : Bool) → i < length w → is_digit (get_or w i 0) ≡ b →
     are_digits (drop i w) ≡ (b && are_digits (drop (i + 1) w))
 digits_from w i b h e = rw (add-one, drop-cons w i 0) (ap (λ x. x && are_digits (drop (suc i) w)) e)

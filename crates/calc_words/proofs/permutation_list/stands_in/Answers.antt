@@ -1,15 +1,12 @@
-use Rattle.std.proofs.Common.{◌≡◌, ℕ, ◌==◌, ◌||◌, List, [], ◌∷◌, refl, ap, ◌∙◌, arith}
+use Rattle.std.proofs.Common.{◌≡◌, ℕ, ◌==◌, ◌||◌, List, [], ◌∷◌, refl, ap, ◌∙◌}
 use Rattle.std.specs.List.{list_any}
-use Rattle.std.proofs.lemmas.Bool.Decides.{nat_tests}
 use Rattle.sym_model.specs.CommandOffence.{stands_in}
 use Rattle.calc_words.proofs.permutation_list.stands_in.Goals as goal
-
-same_test : (a b : ℕ) → (b == a) ≡ (a == b)
-same_test a b = grind (arith, nat_tests)
+use Rattle.sym_model.proofs.Numbers.{equal-sym}
 
 any_stands : (a : ℕ) (ns : List ℕ) → list_any (λ b. b == a) ns ≡ stands_in a ns
 any_stands a [] = refl
-any_stands a (b ∷ ns) = ap (λ t. t || list_any (λ c. c == a) ns) (same_test a b) ∙ ap (λ t.
+any_stands a (b ∷ ns) = ap (λ t. t || list_any (λ c. c == a) ns) (equal-sym b a) ∙ ap (λ t.
     (a == b) || t) (any_stands a ns)
 
 pub returns : goal.returns

@@ -1,4 +1,4 @@
--- The image of the polynomial is added at the permutations so far.
+-- The image of `poly` under the rule has been added at the permutations visited so far.
 use Rattle.std.proofs.Common.{take}
 use Rattle.linear_combinations.specs.Gains.{replaced}
 use Rattle.transition_walk.specs.Waiting.{Joins, each_waits}

@@ -3,13 +3,14 @@ use Rattle.std.specs.Prelude.{Err}
 use Rattle.sym_model.specs.Permutation.{letter, covers_down}
 use Rattle.schubert_laws.proofs.Ranks.{letter_counts}
 use Rattle.double_schubert_laws.proofs.DoubleFromOne.{letter_small}
-use Rattle.linear_combinations.proofs.Steps.{error_is, on_ok}
+use Rattle.linear_combinations.proofs.Steps.{error_is}
 use Rattle.linear_combinations.specs.Gains.{replaced}
 use Rattle.transition_walk.specs.Waiting.{Joins, WaitingOverflows, each_waits}
 use Rattle.transition_walk.proofs.JoinedLists.{joins_both, overflows_both, overflows_more}
 use Rattle.double_schubert.specs.ByPermutations.{plus_terms, minus_terms, difference_terms}
 use Rattle.double_schubert.proofs.FactorLists.{lists_as}
 use Rattle.double_schubert.proofs.by_permutations.add_product.Goals as goal
+use Rattle.std.proofs.lemmas.Result.{on_ok_weaker}
 
 pub add_waiting_by-requires : goal.add_waiting_by-requires
 add_waiting_by-requires c t m =
@@ -30,8 +31,7 @@ add_waiting_by-requires c t m =
 
 pub returns-clause-joins : goal.returns-clause-joins
 returns-clause-joins c =
-    on_ok c.add_waiting_by.result c.add_waiting_by.ensures.joins
-    (λ last.
+    on_ok_weaker c.add_waiting_by.result (λ last.
     let s0 = c.args.sum.now.items in
     let s1 = c.add_at_each.new.sum.items in
     let s2 = c.add_at_each-2.new.sum.items in
@@ -47,7 +47,7 @@ returns-clause-joins c =
     (c.up.ensures ∙ c.in_ok-covers.ensures.up) (c.down.ensures ∙ c.in_ok-covers.ensures.down)
     c.letter.ensures.value)
     (joins_both s0 up s1 (down ++ here) new c.in_ok-add_at_each.ensures.joins
-    (joins_both s1 down s2 here new c.in_ok-add_at_each-2.ensures.joins last)))
+    (joins_both s1 down s2 here new c.in_ok-add_at_each-2.ensures.joins last))) c.add_waiting_by.ensures.joins
 
 pub returns-clause-large : goal.returns-clause-large
 returns-clause-large c err =

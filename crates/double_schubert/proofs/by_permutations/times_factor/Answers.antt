@@ -65,7 +65,7 @@ returns-in_err-add_product-clause-large c err n top last are =
     c.requires.first last are
     (c.in_err-add_product.ensures.large (ap Err (error_is _ _ _ c.from_residual.ensures.1 err)))
 
--- if no term is still to come, the terms `done` are all terms, so the lists of all terms have been added
+-- if `rest` is empty, the terms `done` are all terms, so `factor_lists` has been added for all terms
 module _ (r n : ℕ) (done rest all new : List (WithList (List ℕ))) (none : rest ≡ []) (is : done ++ rest ≡ all) where
   whole : done ≡ all
   whole = sym (append-nil done) ∙ ap (λ (xs : List (WithList (List ℕ))). done ++ xs) (sym none) ∙ is

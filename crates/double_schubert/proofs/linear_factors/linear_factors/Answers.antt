@@ -34,7 +34,7 @@ loop-r-init c =
       few = omega arith;
     }
 
--- the factors and their product, when the factor (r, letter_is) has been appended
+-- the invariant of the loop after the factor (r, letter_is) is appended to `factors`, and `rest` is replaced by `lower`
 module _ (w rest lower : List ℕ) (r s letter_is : ℕ) (factors new : List (ℕ × ℕ)) (only : IsOnlyLower rest r s lower) (t : IsTransition rest r s) (short : IsShort 255 rest)
     (o : IsOneLine lower) (is : letter_is ≡ letter lower r) (pushed : new ≡ factors ++ (r, letter_is) ∷ []) (few : length rest ≤ length w) where
   next_few : length lower ≤ length rest
@@ -105,7 +105,7 @@ loop-r-smaller c =
     let f = c.in-Some.ensures.fewer in
     omega arith
 
--- if the permutation that is left is the identity, the double Schubert polynomial is the product of the factors found
+-- if the permutation `rest` that is left is the identity, the double Schubert polynomial of w is the product of the factors found
 whole : (n : ℕ) (w rest : List ℕ) (factors : List (ℕ × ℕ)) → rest ≡ 1 ∷ [] → Same (double_schubert_in w n) (product_with n factors (double_schubert_in rest n))
     → Same (double_schubert_in w n) (product_in n factors)
 whole n w rest factors is h =

@@ -10,14 +10,11 @@ use Rattle.linear_combinations.proofs.Masses.{represents_sums}
 use Rattle.transition_walk.proofs.Shares.{ones_positive, ones_limit}
 use Rattle.double_schubert.proofs.FactorProducts.{within_more, general_value, whole_product, positive_times}
 use Rattle.double_schubert.proofs.product.act_by_factors.Goals as goal
+use Rattle.std.proofs.lemmas.Option.{IfSome_then}
 
 if_some : {T : Type 0} (P : T → Type 0) (o : Option T) (x : T) → o ≡ Some x → IfSome o P → P x
 if_some P None x e h = cc
 if_some P (Some y) x e h = let i : y ≡ x = cc in subst P i h
-
-if_some_all : {T : Type 0} (P Q : T → Type 0) (o : Option T) → ((x : T) → P x → Q x) → IfSome o P → IfSome o Q
-if_some_all P Q None all h = h
-if_some_all P Q (Some x) all h = all x h
 
 pub times_factors-requires-clause-places : goal.times_factors-requires-clause-places
 times_factors-requires-clause-places c =
@@ -42,8 +39,7 @@ returns-in_err-sum-clause-large c err =
 
 pub returns-clause-value : goal.returns-clause-value
 returns-clause-value c =
-    if_some_all _ _ c.in_ok-terms_of.field-0
-    (λ terms h n.
+    IfSome_then c.in_ok-terms_of.field-0 c.in_ok-terms_of.ensures (λ terms h n.
     represents_sums (λ label. shifted_in label n) terms
     (times (double_schubert_in c.args.w.now n) (double_schubert_in c.args.other.now n))
     (λ φ.
@@ -52,4 +48,3 @@ returns-clause-value c =
     ∙ c.in_ok-sum.ensures.value n φ
     ∙ whole_product n φ c.args.w.now c.args.other.now c.in-Some.factors.items
     (if_some _ c.in_ok-factors.field-0 c.in-Some.factors c.in-Some.is c.in_ok-factors.ensures.value n)))
-    c.in_ok-terms_of.ensures

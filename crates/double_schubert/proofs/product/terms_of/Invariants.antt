@@ -1,5 +1,5 @@
--- The terms of the permutations so far are written, and these permutations followed by those still to come are all of
--- them.
+-- The terms of the permutations visited so far have been written; these permutations, followed by those still to come, are all permutations of the
+-- sum.
 use Rattle.std.proofs.Common.{◌≡◌, ℕ, List, ◌++◌, ℤ}
 use Rattle.std.specs.Vec.Iter.{into_iter_items}
 use Rattle.linear_combinations.specs.Gains.{over}

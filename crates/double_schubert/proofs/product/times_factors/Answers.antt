@@ -13,8 +13,9 @@ use Rattle.double_schubert.specs.LinearFactors.{product_in}
 use Rattle.double_schubert.proofs.EightLetters.{inversions_of_eight}
 use Rattle.double_schubert.proofs.LinearProducts.{times_next}
 use Rattle.double_schubert.proofs.FactorProducts.{room, next_bounds, next_power, next_large, first_bounds}
-use Rattle.double_schubert.proofs.FactorProducts.{first_power, member, counted, one_more, last_value}
+use Rattle.double_schubert.proofs.FactorProducts.{first_power, member, counted, last_value}
 use Rattle.double_schubert.proofs.product.times_factors.Goals as goal
+use Rattle.std.proofs.lemmas.List.{length_push}
 
 pub loop-r-init : goal.loop-r-init
 loop-r-init c = record {
@@ -78,7 +79,7 @@ loop-r-preserved c =
     c.in-Some.ensures.steps.0 c.loop-r.invariant.so_far in
     let inside = member c.loop-r.yielded (into_iter_items c.next.new.self) _ c.args.factors.items (c.in-Some.r, c.in-Some.c)
     c.in-Some.ensures.steps.0 c.loop-r.invariant.so_far in
-    let more = one_more c.loop-r.yielded (c.in-Some.r, c.in-Some.c) in
+    let more = length_push c.loop-r.yielded (c.in-Some.r, c.in-Some.c) in
     record {
       value = λ n φ.
           c.in_ok-sum-2.ensures.value

@@ -1,5 +1,5 @@
-use Rattle.std.proofs.Common.{◌≡◌, ℕ, ◌+◌, ◌-◌, ◌*◌, ◌<◌, ◌≤◌, ◌^◌, List, [], ◌∷◌, length}
-use Rattle.std.proofs.Common.{get_or, take, drop, ap, subst, sym, arith, Err, refl}
+use Rattle.std.proofs.Common.{◌≡◌, ℕ, ◌+◌, ◌-◌, ◌*◌, ◌≤◌, ◌^◌, List, [], length}
+use Rattle.std.proofs.Common.{get_or, take, drop, ap, subst, sym, arith, Err}
 use Rattle.sym_model.specs.Partition.{IsPartition, size}
 use Rattle.sym_model.specs.Bases.{product_over}
 use Rattle.sym_model.specs.Expansion.{completes}
@@ -20,19 +20,16 @@ use Rattle.family_lists.proofs.FactorSteps.{factor-loose}
 use Rattle.family_lists.proofs.PartLists.{parts-none, parts-next, parts-large}
 use Rattle.family_lists.proofs.TableLists.{stands-greatest}
 use Rattle.expand_in_families.proofs.atoms.+over_parts.Goals as goal
+use Rattle.basis_expand.proofs.AtomLists.{no_parts}
 
 pub returns-in_default-clause-value : goal.returns-in_default-clause-value
 returns-in_default-clause-value t c =
-    let none : [] ≡ c.args.parts.now = empty c.args.parts.now c.in_default.len_below in
+    let none : [] ≡ c.args.parts.now = no_parts c.args.parts.now c.in_default.len_below in
     subst (λ (p : List ℕ). Stands (polynomial_of c.args.target) (factorial (size p))
     (growth completes (size p)) (size p) (product_over (polynomial_of c.args.family) p)
     c.in_ok-one.one) none
     (parts-none (polynomial_of c.args.target) (polynomial_of c.args.family) c.in_ok-one.one
     c.in_ok-one.ensures.table c.in_ok-one.ensures.value)
-  where
-    empty : (p : List ℕ) → length p < 1 → [] ≡ p
-    empty [] h = refl
-    empty (a ∷ p) h = absurd (omega arith)
 
 pub over_parts-requires : goal.over_parts-requires
 over_parts-requires t c =

@@ -2,7 +2,7 @@ use Rattle.std.proofs.Common.{◌≡◌, ℕ, ◌<◌, length}
 use Rattle.std.specs.Prelude.{slice_index}
 use Rattle.expansion_printer.proofs.reading.numbers_below.Given as goal
 
--- the list has the numbers from 0 up to, but without, the next one, each at the place equal to it
+-- element i of the list is i, for each i below the next number, and the list has no further element
 abbrev pub invariant-loop-number : goal.invariant-loop-number
 invariant-loop-number l = record {
   long : length l.numbers.items ≡ l.number;

@@ -1,4 +1,4 @@
--- The clauses of `grammar_law`: a word is read in one way.
+-- The clauses of `grammar_law`: a word spells at most one phrase and at most one expression.
 use Rattle.std.proofs.Common.{◌≡◌, ℕ, List, sym, ap, ◌∙◌}
 use Rattle.sym_model.specs.Expression.{Tree}
 use Rattle.sym_model.specs.Phrase.{tree, SpellsTree}

@@ -1,5 +1,5 @@
 use Rattle.std.proofs.Common.{◌*ℤ◌, pos, sym, ap, ◌∙◌}
-use Rattle.family_lists.proofs.SignParities.{sign-parity}
+use Rattle.sym_model.proofs.Signs.{sign-parity}
 use Rattle.family_lists.proofs.coefficients.signed.Goals as goal
 
 pub returns : goal.returns

@@ -6,7 +6,8 @@ use Rattle.family_lists.specs.ClosedCoefficients.{closed_coefficient}
 use Rattle.linear_combinations.specs.Gains.{each_by}
 use Rattle.family_lists.proofs.factors.closed_list.Given as goal
 
--- the table has the coefficients of the partitions visited so far; they and those still to come are all partitions of size k
+-- the table has the coefficients of the partitions visited so far; these partitions, followed by those still to come, are the list of all partitions
+-- of k
 abbrev pub invariant-loop-alloc : goal.invariant-loop-alloc
 invariant-loop-alloc l = (done : List (List ℕ)) × record {
   so_far : done ++ l.labels.0 ≡ partitions_of l.k;

@@ -4,7 +4,7 @@ use Rattle.linear_combinations.specs.Gains.{Gains}
 use Rattle.basis_change_laws.specs.JoinedLists.{row}
 use Rattle.family_lists.proofs.products.add_row.Given as goal
 
--- the products with the labels visited so far have been added
+-- the terms added to `sum` so far are the products of z·`left` with the terms of `right` visited so far
 abbrev pub invariant-loop-label : goal.invariant-loop-label
 invariant-loop-label l = record {
   gains : Gains l.fn.sum (row l.left l.z (map deref_pair l.yielded)) l.sum;

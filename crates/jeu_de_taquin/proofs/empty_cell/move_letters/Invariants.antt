@@ -1,4 +1,4 @@
--- The rows after the slide stay the same, and the empty cell goes down or to the right.
+-- Loop invariant: the slide that continues with the present empty cell ends with the same rows as the one that began before the loop.
 use Rattle.std.proofs.Common.{◌≡◌, ◌+◌, ◌-◌}
 use Rattle.sym_model.specs.Partition.{IsCell}
 use Rattle.skew_shapes.specs.CellFillings.{IsFilling}
@@ -14,6 +14,6 @@ invariant-loop-letter l = record {
   rows : slid_from l.fn.filled l.fn.row l.fn.column ≡ slid_from l.filled l.row l.column;
 }
 
--- each move increases row + column, which is at most 512 + 4096
+-- decreases: each move increases row + column, which is at most 512 + 4096
 abbrev pub decreases-loop-letter : goal.decreases-loop-letter
 decreases-loop-letter l = 5000 - (l.row + l.column)

@@ -1,5 +1,5 @@
--- Each tableau that slides reach from the current one is reached from the first one, the reading words of these two are
--- Knuth equivalent, and each slide makes the inner partition smaller.
+-- Loop invariant: each tableau that slides reach from the current tableau is also reached from the given one, and the reading words of these two, the
+-- current and the given tableau, are Knuth equivalent. Each slide decreases the size of the inner partition.
 use Rattle.sym_model.specs.Partition.{size}
 use Rattle.sym_model.specs.Insertion.{reading_word}
 use Rattle.sym_model.specs.Knuth.{AreKnuthEquivalent}

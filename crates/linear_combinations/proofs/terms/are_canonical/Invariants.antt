@@ -3,7 +3,7 @@ use Rattle.std.specs.Option.{option_copied}
 use Rattle.linear_combinations.specs.Entries.{each_follows}
 use Rattle.linear_combinations.proofs.terms.are_canonical.Given as goal
 
--- each term may follow the one before it if and only if this holds for each term from the current one on
+-- the list is canonical if and only if each term from the current one on may follow the one before it
 abbrev pub invariant-loop-label : goal.invariant-loop-label
 invariant-loop-label g l =
     each_follows g.L.Label.order g.L.Label.is_label g.R.Scalar.value None l.pairs

@@ -2,9 +2,10 @@ use Rattle.std.proofs.Common.{◌≡◌, ℕ, ◌+◌, ◌≤◌, List, [], ◌�
 use Rattle.std.proofs.Common.{length-append, sym, ap, ◌∙◌, subst, arith}
 use Rattle.sym_model.specs.Partition.{Falls, size, without_last_zeros}
 use Rattle.schur_laws.specs.InnerShapes.{shapes_inside}
-use Rattle.lr_coproduct.proofs.InnerLists.{limits_front, falls_next, size_append, listed_from}
+use Rattle.lr_coproduct.proofs.InnerLists.{limits_front, falls_next, listed_from}
 use Rattle.lr_coproduct.proofs.InnerLists.{listed_next, below_it}
 use Rattle.lr_coproduct.proofs.inner_shapes.+add_shapes.Goals as goal
+use Rattle.sparse_polys.proofs.SearchWays.{size-chosen}
 
 pub from_valid_numbers-requires : goal.from_valid_numbers-requires
 from_valid_numbers-requires t c = limits_front c.args.front.now c.args.most c.requires.falls
@@ -20,7 +21,7 @@ add_shapes-requires t c =
     let count = ap length rows in
     let cells = ap size rows in
     let long = length-append c.args.front.now (part ∷ []) in
-    let sum = size_append c.args.front.now part in (
+    let sum = size-chosen c.args.front.now part in (
       omega arith,
       (
         subst (λ (l : List ℕ). Falls (l ++ part ∷ [])) (sym next)

@@ -2,7 +2,6 @@ use Rattle.std.proofs.Common.{◌≡◌, ◌+◌, ◌-◌, ◌*◌, ◌≤◌, �
 use Rattle.std.proofs.Common.{length, take, sym, ap, ◌∙◌, subst, arith}
 use Rattle.sym_model.specs.GoodTableau.{is_falling}
 use Rattle.sym_model.specs.Partition.{size}
-use Rattle.linear_combinations.proofs.Steps.{on_ok}
 use Rattle.lr_product.specs.WeighedSum.{weighed}
 use Rattle.lr_product.specs.Extension.{raised, mark, can_rise}
 use Rattle.lr_product.proofs.Raising.{size-raised, length-placed, width_placed}
@@ -10,6 +9,7 @@ use Rattle.lr_product.proofs.Agreeing.{agree_then, agree_same}
 use Rattle.lr_product.proofs.Pruned.{falls-placed}
 use Rattle.lr_product.proofs.FreeLetters.{only-letter}
 use Rattle.lr_product.proofs.extension.+extend_first.Goals as goal
+use Rattle.std.proofs.lemmas.Result.{on_ok_weaker}
 
 pub extend_first-requires : goal.extend_first-requires
 extend_first-requires t c =
@@ -63,12 +63,12 @@ extend_first-requires t c =
 pub returns-in-Some-clause-adds : goal.returns-in-Some-clause-adds
 returns-in-Some-clause-adds t c =
     let n = c.args.column.now.letters in
-    on_ok c.extend_first.result c.extend_first.ensures.adds (λ adds f v. agree_then _ _ _ (adds f v)
+    on_ok_weaker c.extend_first.result (λ adds f v. agree_then _ _ _ (adds f v)
     (agree_same _ _ (ap (λ y. weighed n f c.args.table.now.entries + c.args.column.now.ways * y)
     (sym (only-letter c.args.column.now.is_kept n c.args.line.now c.in-Some.rest.now
     c.args.right.now c.in-Some.others.now c.args.above f c.args.state.now.items
     c.place.new.state.items (omega (arith, c.if-above-column.true)) c.in-Some.ensures.0
-    c.in-Some.ensures.1 c.in_ok-place.ensures.state)))))
+    c.in-Some.ensures.1 c.in_ok-place.ensures.state))))) c.extend_first.ensures.adds
 
 pub returns-in-Some-clause-reached : goal.returns-in-Some-clause-reached
 returns-in-Some-clause-reached t c =
@@ -81,5 +81,5 @@ returns-in-Some-clause-reached t c =
     let line : length c.args.line.now ≡ length rest + 1 =
     ap length c.in-Some.ensures.0 ∙ omega arith in
     let more = size-raised n b s (mark kept b) c.requires.long in
-    on_ok c.extend_first.result c.extend_first.ensures.reached (λ r m h z. r m
-    (subst (λ x. size (take n x) + length rest ≤ m) (sym state) (omega (arith, line, more, h))) z)
+    on_ok_weaker c.extend_first.result (λ r m h z. r m
+    (subst (λ x. size (take n x) + length rest ≤ m) (sym state) (omega (arith, line, more, h))) z) c.extend_first.ensures.reached

@@ -2,11 +2,11 @@ use Rattle.std.proofs.Common.{◌≡◌, ◌∙◌, ap, max, map}
 use Rattle.std.specs.Option.{unwrap_or}
 use Rattle.sym_model.specs.Partition.{size, rows}
 use Rattle.linear_combinations.proofs.Steps.{if_answered}
-use Rattle.linear_combinations.proofs.Steps.{on_ok}
 use Rattle.lr_product.proofs.Results.{on_any}
 use Rattle.lr_product.proofs.PastCoefficients.{past_factors, small_factors}
 use Rattle.lr_product.proofs.NothingLeft.{nothing_meets, nothing_classical, nothing_fits, classical_given}
 use Rattle.lr_product.proofs.factor_product.mult_all.Goals as goal
+use Rattle.std.proofs.lemmas.Result.{on_ok_weaker}
 
 pub returns-then-has_longer-clause-meets : goal.returns-then-has_longer-clause-meets
 returns-then-has_longer-clause-meets c =
@@ -43,9 +43,8 @@ returns-clause-fits c =
     (max (size (map rows c.args.factors.now)) 1) =
     c.unwrap_or-variables.ensures ∙ ap (unwrap_or c.args.rows)
     (c.max.ensures ∙ ap (λ n. max n 1) c.rows.ensures.value) in
-    on_ok c.product_in.result c.product_in.ensures.small
-    (small_factors c.args.rows c.unwrap_or-variables.result c.args.factors.now
-    c.rows.ensures.limits e)
+    on_ok_weaker c.product_in.result (small_factors c.args.rows c.unwrap_or-variables.result c.args.factors.now
+    c.rows.ensures.limits e) c.product_in.ensures.small
 
 pub returns-then-has_longer-clause-classical : goal.returns-then-has_longer-clause-classical
 returns-then-has_longer-clause-classical c =

@@ -1,8 +1,10 @@
 use Rattle.std.proofs.Common.{Vec, Global, ℕ, ◌≡◌, ◌-◌, length, take, get_or, set, ◌++◌, subst, sym}
 use Rattle.std.proofs.Common.{ap, ◌∙◌, arith}
-use Rattle.lr_product.proofs.Raising.{taken_back, raised-none, read_number, take_all}
+use Rattle.lr_product.proofs.Raising.{taken_back, raised-none}
 use Rattle.lr_product.proofs.letters.take_back.Goals as goal
 use Rattle.lr_product.proofs.letters.take_back.Goals.{then-letter-gt0, else-letter-gt0}
+use Rattle.std.proofs.lemmas.List.{get_or_read}
+use Rattle.std.proofs.Math.Seq.{take-append_seam}
 
 pub returns : goal.returns
 returns c before after was len within =
@@ -12,9 +14,7 @@ returns c before after was len within =
     ∙ (elim c.if-letter-gt0.branch [
       | then-letter-gt0 w ↦
           let x = w.index-number.result.now in
-          let read = read_number s (b - 1) x
-          (omega (arith, c.requires.within, w.if-letter-gt0.true))
-          (subst (λ k. x ≡ get_or s (k - 1) x) w.from-at.ensures w.index-number.ensures) in
+          let read = sym (get_or_read s (b - 1) x (omega (arith, c.requires.within, w.if-letter-gt0.true)) (subst (λ k. x ≡ get_or s (k - 1) x) w.from-at.ensures w.index-number.ensures) 0) in
           taken_back b before after s c.if-letter-gt0.state.items w.if-letter-gt0.true (omega arith)
           was
           (ap (λ (v : Vec ℕ Global). v.items) w.state-is ∙ ap (set s (w.from-at.result - 1))
@@ -24,5 +24,5 @@ returns c before after was len within =
       | else-letter-gt0 w ↦ ap (λ (v : Vec ℕ Global). take (length before) v.items) w.state-is
           ∙ ap (take (length before)) (was ∙ ap (λ s. s ++ after)
           (raised-none c.args.letter before w.if-letter-gt0.false))
-          ∙ take_all before after
+          ∙ take-append_seam before after
     ])

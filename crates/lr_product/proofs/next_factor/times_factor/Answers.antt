@@ -15,7 +15,8 @@ use Rattle.lr_product.proofs.RowRounds.{started-fresh}
 use Rattle.lr_product.specs.RowExtension.{begun}
 use Rattle.lr_product.proofs.next_factor.times_factor.Goals as goal
 
--- n letters are enough for each label of the product, and for it together with the factor `next`
+-- let each label have at most m rows and satisfy `MayMeet` for k and `next`, and let n = min(k, m + rows of next): then each label has at most n
+-- rows, and n is at least min(k, rows of the label plus rows of next)
 enough : (n k : ℕ) (m : ℕ) (next : List ℕ) (product : List (List ℕ × ℤ)) → n ≡ min k (m + rows next)
     → AllMayMeet k next product
     → ((t : List ℕ × ℤ) → Among t product → rows t.0 ≤ m) → (t : List ℕ × ℤ) → Among t product →

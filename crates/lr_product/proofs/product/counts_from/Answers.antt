@@ -4,10 +4,10 @@ use Rattle.sym_model.specs.GoodTableau.{product_count}
 use Rattle.lr_product.specs.Counts.{good_count, HasCounts, IsPastSomewhere}
 use Rattle.schur_laws.proofs.ProductCounts.{product_count-none}
 use Rattle.linear_combinations.proofs.Steps.{if_answered}
-use Rattle.linear_combinations.proofs.Steps.{on_ok}
 use Rattle.lr_product.proofs.GoodCounts.{none_counted, same_product, lists_in, fits_in, past_in}
 use Rattle.lr_product.proofs.Results.{on_any}
 use Rattle.lr_product.proofs.product.counts_from.Goals as goal
+use Rattle.std.proofs.lemmas.Result.{on_ok_weaker}
 
 pub returns-then-rows-letters-clause-counts : goal.returns-then-rows-letters-clause-counts
 returns-then-rows-letters-clause-counts c =
@@ -74,12 +74,11 @@ returns-clause-fits c =
     let same = same_product c.min-letters.result c.args.variables c.args.left.now c.args.right.now
     most enough c.rows.ensures.limits.partition c.rows-2.ensures.limits.partition
     (omega (arith, c.if-rows-letters.false, c.rows-3.ensures.value)) in
-    on_ok c.good_counts.result c.good_counts.ensures.fits
-    (λ f. fits_in c.min-letters.result c.args.variables
+    on_ok_weaker c.good_counts.result (λ f. fits_in c.min-letters.result c.args.variables
     (good_count c.min-letters.result c.args.left.now c.args.right.now [])
     (product_count c.args.variables c.args.left.now c.args.right.now) same
     (subst (λ s. (parts : List ℕ) → good_count c.min-letters.result s c.args.right.now [] parts < 2
-    ^ 127) c.parts.ensures.value f))
+    ^ 127) c.parts.ensures.value f)) c.good_counts.ensures.fits
 
 pub returns-clause-large : goal.returns-clause-large
 returns-clause-large c = λ e.

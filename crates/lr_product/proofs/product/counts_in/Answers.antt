@@ -1,7 +1,8 @@
 use Rattle.std.proofs.Common.{arith}
-use Rattle.linear_combinations.proofs.Steps.{if_answered, on_ok}
+use Rattle.linear_combinations.proofs.Steps.{if_answered}
 use Rattle.lr_product.proofs.ExchangedFactors.{exchanged, counts_exchanged, past_exchanged}
 use Rattle.lr_product.proofs.product.counts_in.Goals as goal
+use Rattle.std.proofs.lemmas.Result.{on_ok_weaker}
 
 pub returns-then-size-clause-counts : goal.returns-then-size-clause-counts
 returns-then-size-clause-counts c =
@@ -11,11 +12,10 @@ returns-then-size-clause-counts c =
 
 pub returns-then-size-clause-fits : goal.returns-then-size-clause-fits
 returns-then-size-clause-fits c =
-    on_ok c.counts_from.result c.counts_from.ensures.fits
-    (λ fits ν q few.
+    on_ok_weaker c.counts_from.result (λ fits ν q few.
     let e = exchanged c.args.variables c.args.right.now c.args.left.now ν
     c.counts_from.ensures.factors.0 c.counts_from.ensures.factors.1 q few in
-    let f = fits ν q few in omega arith)
+    let f = fits ν q few in omega arith) c.counts_from.ensures.fits
 
 pub returns-then-size-clause-large : goal.returns-then-size-clause-large
 returns-then-size-clause-large c = λ e.

@@ -2,10 +2,10 @@ use Rattle.std.proofs.Common.{◌≡◌, ℕ, ◌^◌, ◌<◌, min, List, [], s
 use Rattle.sym_model.specs.Partition.{rows}
 use Rattle.sym_model.specs.GoodTableau.{skew_count}
 use Rattle.linear_combinations.proofs.Steps.{if_answered}
-use Rattle.linear_combinations.proofs.Steps.{on_ok}
 use Rattle.lr_product.specs.Counts.{good_count, HasCounts, IsPastSomewhere}
 use Rattle.lr_product.proofs.GoodCounts.{same_skew, lists_in, fits_in, past_in}
 use Rattle.lr_product.proofs.skew_expansion.counts_in.Goals as goal
+use Rattle.std.proofs.lemmas.Result.{on_ok_weaker}
 
 pub returns-clause-counts : goal.returns-clause-counts
 returns-clause-counts c =
@@ -26,12 +26,11 @@ returns-clause-fits c =
     c.min-letters.ensures ∙ ap (min c.args.variables) c.rows.ensures.value in
     let same = same_skew c.min-letters.result c.args.variables c.args.outer.now c.args.inner.now n
     c.rows.ensures.limits.partition c.parts.ensures.limits.partition c.requires.inside in
-    on_ok c.good_counts.result c.good_counts.ensures.fits
-    (λ f. fits_in c.min-letters.result c.args.variables
+    on_ok_weaker c.good_counts.result (λ f. fits_in c.min-letters.result c.args.variables
     (good_count c.min-letters.result [] c.args.outer.now c.args.inner.now)
     (skew_count c.args.outer.now c.args.inner.now) same
     (subst (λ s. (parts : List ℕ) → good_count c.min-letters.result [] c.args.outer.now s parts < 2
-    ^ 127) c.parts.ensures.value f))
+    ^ 127) c.parts.ensures.value f)) c.good_counts.ensures.fits
 
 pub returns-clause-large : goal.returns-clause-large
 returns-clause-large c = λ e.

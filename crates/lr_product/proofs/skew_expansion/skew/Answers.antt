@@ -5,12 +5,12 @@ use Rattle.sym_model.specs.WholeTerms.{as_fractions}
 use Rattle.sym_model.specs.Products.{ExpandsInSchurs}
 use Rattle.sym_model.specs.Schur.{skew_schur}
 use Rattle.linear_combinations.proofs.Steps.{if_answered}
-use Rattle.linear_combinations.proofs.Steps.{on_ok}
 use Rattle.strip_laws.proofs.Containment.{contains-from, contains-tells}
 use Rattle.lr_product.proofs.GoodCounts.{contains-false, skew_counted, outside_answers}
 use Rattle.lr_product.proofs.GoodCounts.{outside_fits, skew_answers, skew_past, skew_fits}
 use Rattle.lr_product.proofs.Results.{on_any}
 use Rattle.lr_product.proofs.skew_expansion.skew.Goals as goal
+use Rattle.std.proofs.lemmas.Result.{on_ok_weaker}
 
 pub returns-then-not-contains-clause-meets : goal.returns-then-not-contains-clause-meets
 returns-then-not-contains-clause-meets c =
@@ -69,6 +69,5 @@ returns-clause-fits c =
     c.unwrap_or-variables.ensures ∙ ap (unwrap_or c.args.rows) c.rows.ensures.value in
     let yes : c.contains.result ≡ true = cc in
     let inside = contains-from c.args.outer.now c.args.inner.now (c.contains.ensures.0 yes) in
-    on_ok c.counts_in.result c.counts_in.ensures.fits
-    (skew_fits c.args.rows c.unwrap_or-variables.result c.args.outer.now c.args.inner.now m
-    c.counts_in.ensures.shape.0 c.counts_in.ensures.shape.1 inside)
+    on_ok_weaker c.counts_in.result (skew_fits c.args.rows c.unwrap_or-variables.result c.args.outer.now c.args.inner.now m
+    c.counts_in.ensures.shape.0 c.counts_in.ensures.shape.1 inside) c.counts_in.ensures.fits

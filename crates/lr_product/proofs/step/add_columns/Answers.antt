@@ -1,10 +1,10 @@
 use Rattle.std.proofs.Common.{◌≡◌, ℕ, ◌+◌, ◌*◌, List, ◌++◌, length, take, drop, sym, ap, ap₂, ◌∙◌}
-use Rattle.linear_combinations.proofs.Steps.{on_ok}
 use Rattle.lr_product.specs.WeighedSum.{weighed}
 use Rattle.lr_product.specs.Extension.{extended}
 use Rattle.lr_product.proofs.Agreeing.{agree_then, agree_same}
 use Rattle.lr_product.proofs.ColumnExtension.{extended-seen}
 use Rattle.lr_product.proofs.step.add_columns.Goals as goal
+use Rattle.std.proofs.lemmas.Result.{on_ok_weaker}
 
 pub returns-clause-adds : goal.returns-clause-adds
 returns-clause-adds c =
@@ -19,7 +19,7 @@ returns-clause-adds c =
     let long : length (take n s) ≡ n =
     ap length (sym (c.split_at.ensures.front ∙ ap (λ k. take k s) c.from.ensures))
     ∙ c.split_at.ensures.front_len ∙ c.from.ensures in
-    on_ok c.extend_first.result c.extend_first.ensures.adds (λ adds f v. agree_then _ _ _ (adds f v)
+    on_ok_weaker c.extend_first.result (λ adds f v. agree_then _ _ _ (adds f v)
     (agree_same _ _ (ap (λ x. weighed n f c.args.next.now.entries + c.args.column.ways * x)
     (ap₂ (λ (r t : List ℕ). extended kept n c.args.line.now r 0 f t) back front ∙ extended-seen kept
-    n c.args.line.now (drop n s) f (take n s) long))))
+    n c.args.line.now (drop n s) f (take n s) long)))) c.extend_first.ensures.adds

@@ -1,4 +1,4 @@
--- The list has the first entries of the beta list.
+-- The list `entries` has the first `i` entries of the beta list.
 use Rattle.std.proofs.Common.{◌≡◌, ◌+◌, ◌-◌, map}
 use Rattle.sym_model.specs.Partition.{part, after}
 use Rattle.partitions.proofs.beta.lengthened.Given as goal

@@ -1,5 +1,4 @@
--- The list has the first of the numbers, each minus the number of entries after it, and `later` is the number of
--- entries left.
+-- The list has the entries visited so far, each minus the number of entries after it, and `later` is the number of entries not yet visited.
 use Rattle.std.proofs.Common.{◌≡◌, ◌-◌, ◌++◌, length, drop}
 use Rattle.sym_model.specs.BetaList.{less_the_rest}
 use Rattle.partitions.proofs.beta.less_the_later.Given as goal

@@ -1,4 +1,4 @@
--- The list has the lengths of the first `j` columns, and `rows` is at least the length of the last of them.
+-- The list `lengths` has the lengths of the first `j` columns, and `rows` is at least the length of column `j`.
 use Rattle.std.proofs.Common.{◌≡◌, ◌≤◌, length, map}
 use Rattle.sym_model.specs.Conjugate.{count_from}
 use Rattle.sym_model.specs.Partition.{after}

@@ -1,4 +1,4 @@
--- At most `rows` parts are at least `least`.
+-- At most `rows` parts are greater than or equal to `least`.
 use Rattle.std.proofs.Common.{◌≤◌, length}
 use Rattle.sym_model.specs.Conjugate.{count_from}
 use Rattle.partitions.proofs.conjugate.rows_reaching.Given as goal

@@ -1,4 +1,5 @@
--- The parts written so far, followed by the first partition of the number that is left, are the first partition of the whole number.
+-- The parts written so far, followed by the lexicographically greatest partition of the number that is left, are the lexicographically greatest
+-- partition of the number at the start.
 use Rattle.std.proofs.Common.{◌≡◌, ◌+◌, ◌-◌, ◌<◌, ◌≤◌, ◌++◌, length, take}
 use Rattle.partitions.specs.Listing.{greatest_within}
 use Rattle.partitions.proofs.listing.fill.Given as goal

@@ -27,8 +27,8 @@ loop-other-preserved c =
           c.loop-other.invariant
     ]
 
--- if exchanging the letters at `place` and `other` makes one inversion more, the argument `count` of `exchanged` is the number of inversions after this
--- exchange
+-- if exchanging the letters at `place` and `other` makes exactly one more inversion, the argument `count` of `exchanged` is the number of inversions
+-- after this exchange
 pub exchanged-requires-clause-count : goal.exchanged-requires-clause-count
 exchanged-requires-clause-count c =
     let w = c.args.letters.now in

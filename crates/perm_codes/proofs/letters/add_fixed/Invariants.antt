@@ -1,4 +1,4 @@
--- The list has the letters, and fixed letters up to the current place.
+-- The list has the given letters, followed by fixed letters up to the current place.
 use Rattle.std.proofs.Common.{◌≡◌, ◌-◌, ◌≤◌, ◌++◌, length}
 use Rattle.sym_model.specs.Partition.{after}
 use Rattle.perm_codes.proofs.letters.add_fixed.Given as goal

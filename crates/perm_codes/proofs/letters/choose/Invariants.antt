@@ -1,5 +1,5 @@
--- The letters so far, followed by those that the rest of the code chooses from the remaining letters, are the letters
--- of the code.
+-- The letters chosen so far, followed by those that the rest of the code chooses from the remaining letters, are the letters of the permutation with
+-- this code.
 use Rattle.std.proofs.Common.{◌≡◌, ◌+◌, ◌++◌, length, drop}
 use Rattle.sym_model.specs.PlaceOrders.{places}
 use Rattle.sym_model.specs.Permutation.{IsCode, letters_by_code}

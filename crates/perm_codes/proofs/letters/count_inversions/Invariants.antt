@@ -1,4 +1,4 @@
--- The count so far plus the inversions of the letters from the current place on is the number of all inversions.
+-- The count so far plus the number of inversions of the letters from the current place on is the number of all inversions.
 use Rattle.std.proofs.Common.{◌≡◌, ◌+◌, ◌*◌, ◌≤◌, drop}
 use Rattle.sym_model.specs.PlaceOrders.{inversions}
 use Rattle.perm_codes.proofs.letters.count_inversions.Given as goal

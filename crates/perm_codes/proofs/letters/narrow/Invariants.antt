@@ -1,4 +1,4 @@
--- The list has the letters so far, and there is room for the letters still to come.
+-- The list has the letters visited so far, and there is room in it for the other letters.
 use Rattle.std.proofs.Common.{◌≡◌, ◌-◌, length, take}
 use Rattle.smallvec.specs.SmallVec.{HasRoomFor}
 use Rattle.perm_codes.proofs.letters.narrow.Given as goal

@@ -1,5 +1,6 @@
 use Rattle.std.proofs.Common.{◌+◌, ◌≤◌, length, arith}
-use Rattle.plain_programs.proofs.Cells.{cells_to-more, cells_to_within}
+use Rattle.plain_programs.proofs.Cells.{cells_to_within}
+use Rattle.sym_model.proofs.Cells.{cells_to-more}
 use Rattle.plain_programs.proofs.good.count_cells.Goals as goal
 
 pub overflow_add-count : goal.overflow_add-count

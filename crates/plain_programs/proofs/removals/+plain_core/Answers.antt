@@ -5,9 +5,9 @@ use Rattle.sym_model.specs.RimHookReduction.{GoesTo}
 use Rattle.plain_programs.specs.Signed.{sign_of}
 use Rattle.plain_programs.specs.Removed.{IsFound}
 use Rattle.plain_programs.proofs.Searching.{goes_on}
-use Rattle.plain_programs.proofs.Parity.{sign_of_parity}
-use Rattle.plain_programs.proofs.Removing.{fewer_rows}
+use Rattle.sym_model.proofs.Signs.{sign-parity}
 use Rattle.plain_programs.proofs.removals.+plain_core.Goals as goal
+use Rattle.strip_laws.proofs.RimHooks.{fewer_rows}
 
 pub plain_core-requires : goal.plain_core-requires
 plain_core-requires t c =
@@ -46,4 +46,4 @@ returns-clause-end t c =
     (subst (λ l. GoesTo k n l core.shape.items (sign_of core.is_negative) core.power)
     c.deref.ensures.value c.in_ok-core.ensures.end)
     (c.is_one_odd-is_negative.ensures ∙ ap (λ s. s *ℤ sign_of core.is_negative)
-    (sign_of_parity c.saturating_sub.result ∙ ap minus_one_to c.saturating_sub.ensures))
+    (sym (sign-parity c.saturating_sub.result) ∙ ap minus_one_to c.saturating_sub.ensures))

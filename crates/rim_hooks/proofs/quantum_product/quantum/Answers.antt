@@ -47,7 +47,7 @@ returns-clause-meets c =
 pub returns-clause-large : goal.returns-clause-large
 returns-clause-large c err = c.product_in_steps.ensures.large err
 
--- each list of reductions of the classical product has the same sums as the result
+-- the clause `only`: the terms of any list of reductions of the classical product have the same sums as the result
 pub returns-then-has_long-clause-only : goal.returns-then-has_long-clause-only
 returns-then-has_long-clause-only c =
     let some = c.requires.variables.0 in

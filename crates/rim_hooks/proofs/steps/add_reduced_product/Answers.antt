@@ -5,11 +5,12 @@ use Rattle.sym_model.specs.Polynomial.{Same}
 use Rattle.sym_model.specs.ReductionSteps.{classical_weight}
 use Rattle.sym_model.specs.Products.{classical_product}
 use Rattle.linear_combinations.specs.Gains.{HaveLabels}
-use Rattle.linear_combinations.proofs.Steps.{error_is, on_ok}
+use Rattle.linear_combinations.proofs.Steps.{error_is}
 use Rattle.rim_hooks.proofs.ClassicalLists.{weight_within}
 use Rattle.rim_hooks.proofs.ReducedProducts.{seen, rows_listed, gains_classical, overflow_list}
 use Rattle.rim_hooks.proofs.ReducedProducts.{overflow_taken}
 use Rattle.rim_hooks.proofs.steps.add_reduced_product.Goals as goal
+use Rattle.std.proofs.lemmas.Result.{on_ok_weaker}
 
 pub mult-requires-clause-sizes : goal.mult-requires-clause-sizes
 mult-requires-clause-sizes g c =
@@ -62,11 +63,10 @@ returns-clause-gains g c =
     let same = seen (λ n x. Same c.in_ok-classical.classical
     (classical_product n (x ∷ c.args.factor.now ∷ []))) _ _ _ _ c.variables.ensures
     c.shape.ensures c.in_ok-classical.ensures.classical in
-    on_ok c.add_reductions.result c.add_reductions.ensures.gains
-    (gains_classical k g.R.Reduction.shape (g.R.Reduction.reduced c.args.rule.now)
+    on_ok_weaker c.add_reductions.result (gains_classical k g.R.Reduction.shape (g.R.Reduction.reduced c.args.rule.now)
     (g.met.R.Reduction.light c.args.rule.now) c.args.sums.now c.add_reductions.new.sums
     c.args.label.now c.args.c c.args.factor.now
-    c.in_ok-classical.classical same)
+    c.in_ok-classical.classical same) c.add_reductions.ensures.gains
 
 pub returns-clause-large : goal.returns-clause-large
 returns-clause-large g c err =

@@ -8,7 +8,7 @@ use Rattle.rim_hooks.specs.HeavySteps.{HasHeavyStep}
 use Rattle.rim_hooks.specs.Reductions.{HaveRoom, IsHeavyFrom}
 use Rattle.rim_hooks.proofs.steps.product_in_steps.Given as goal
 
--- `terms` results from steps through the factors before the place `at`, and its labels have room for the cells of the other factors
+-- `terms` results from the steps through the factors before the index `at`, and its labels have room for the cells of the other factors
 abbrev pub invariant-loop-at : goal.invariant-loop-at
 invariant-loop-at g l = record {
   table : IsCombination g.L.PartialEq.eq g.L.Label.is_label whole l.terms;

@@ -6,7 +6,7 @@ use Rattle.linear_combinations.specs.Gains.{Gains}
 use Rattle.rim_hooks.specs.Reductions.{multiplied}
 use Rattle.rim_hooks.proofs.steps.times_factor.Given as goal
 
--- `sums` is the sum of the reduced products of the terms visited so far with `factor`
+-- `sums` is the sum of the reduced products of `factor` and the terms visited so far
 abbrev pub invariant-loop-label : goal.invariant-loop-label
 invariant-loop-label g l = record {
   gains : Gains [] (multiplied (g.R.Reduction.variables l.rule) g.R.Reduction.shape (g.R.Reduction.reduced l.rule) l.factor (map deref_pair l.yielded)) l.sums;

@@ -2,8 +2,8 @@ use Rattle.std.proofs.Common.{◌≡◌, ◌≤◌, ℕ, List, length, drop, rev
 use Rattle.sym_model.specs.Schur.{letters_of}
 use Rattle.skew_shapes.proofs.StandardNumbers.{rows-tableau}
 use Rattle.row_insertion.proofs.MadeTableaux.{read_more}
-use Rattle.row_insertion.proofs.GrowingRows.{nothing_left}
 use Rattle.row_insertion.proofs.reading.reading_word.Goals as goal
+use Rattle.std.proofs.Math.Seq.{drop-length}
 
 pub loop-row-init : goal.loop-row-init
 loop-row-init c =
@@ -17,7 +17,7 @@ loop-row-init c =
       read =
           c.new-letters.ensures.items
           ∙ ap (λ (l : List (List ℕ)). letters_of (reverse l))
-          (sym (ap (λ n. drop n t.rows) count ∙ nothing_left t.rows));
+          (sym (ap (λ n. drop n t.rows) count ∙ drop-length t.rows));
     }
 
 pub row-requires : goal.row-requires

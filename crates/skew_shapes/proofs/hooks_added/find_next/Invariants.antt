@@ -2,7 +2,7 @@ use Rattle.std.proofs.Common.{◌≡◌, ◌-◌, ◌≤◌}
 use Rattle.skew_shapes.specs.AddedHooks.{BeginsFrom, hooks_ending_after}
 use Rattle.skew_shapes.proofs.hooks_added.find_next.Given as goal
 
--- no rim hook that can be added ends in one of the rows tried so far
+-- each rim hook that can be added and ends after the initial `hook.last` ends after the present `hook.last`
 abbrev pub invariant-loop-hook : goal.invariant-loop-hook
 invariant-loop-hook l =
     BeginsFrom l.k l.inner l.hook.first l.hook.last × (l.hook.last ≤ l.most)

@@ -2,7 +2,7 @@ use Rattle.std.proofs.Common.{◌≡◌, ◌-◌}
 use Rattle.skew_shapes.specs.RemovedHooks.{EndsUpTo, hooks_beginning_within}
 use Rattle.skew_shapes.proofs.hooks_removed.find_next.Given as goal
 
--- no rim hook that can be removed begins in one of the rows tried so far
+-- each rim hook that can be removed and begins before the initial `hook.first` begins before the present `hook.first`
 abbrev pub invariant-loop-hook : goal.invariant-loop-hook
 invariant-loop-hook l =
     EndsUpTo l.k l.outer l.hook.first l.hook.last

@@ -1,4 +1,4 @@
--- The numbers from `len` on are zeros.
+-- Loop invariant: the numbers at the indices from `len` on are zeros.
 use Rattle.std.proofs.Common.{◌≡◌, ◌≤◌, length, take}
 use Rattle.sym_model.specs.Partition.{without_last_zeros}
 use Rattle.skew_shapes.proofs.lengths.before_zeros.Given as goal

@@ -1,4 +1,4 @@
--- The numbers visited so far are zeros.
+-- Loop invariant: the numbers visited so far are zeros.
 use Rattle.std.proofs.Common.{◌≡◌, ℕ, ◌<◌, get_or}
 use Rattle.skew_shapes.proofs.places.clear.Given as goal
 

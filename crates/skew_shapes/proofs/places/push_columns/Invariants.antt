@@ -1,4 +1,4 @@
--- The numbers of the columns right of the current column were appended.
+-- Loop invariant: the numbers of the cells in the columns right of the current column have been appended.
 use Rattle.std.proofs.Common.{◌≡◌, ◌≤◌, ℕ, ◌++◌, map}
 use Rattle.sym_model.specs.Partition.{columns}
 use Rattle.skew_shapes.specs.Rows.{number_in, cells_right_of}

@@ -10,7 +10,8 @@ use Rattle.skew_shapes.proofs.CellReadings.{letters-passed, right-more}
 use Rattle.skew_shapes.proofs.places.put_column.Goals as goal
 use Rattle.std.proofs.lemmas.Option.{get_or_from_slice_get}
 
--- if row k + 1 has a cell in column j, the cells right of column j and those of column j in the first k + 1 rows are one more than those with k rows
+-- if row k + 1 has a cell in column j, the list of the cells right of column j and of the cells of column j in the first k + 1 rows has one cell more
+-- than the list for the first k rows
 more_done :
     (outer inner : List ℕ) (j k : ℕ) → reaches outer inner j (k + 1) ≡ true
     → length (cells_right_of outer inner j ++ cells_above outer inner j (k + 1))
@@ -117,7 +118,8 @@ loop-row-preserved c =
           (sym c.place.ensures) put;
     }
 
--- if k is the last row, the cells right of column j and those of column j in the first k rows are the cells right of column j - 1
+-- if k is the number of rows of outer, the cells right of column j, followed by those of column j in the first k rows, are the cells right of column
+-- j - 1
 all_rows :
     (outer inner : List ℕ) (j k : ℕ) → 1 ≤ j → j ≤ columns outer → k ≡ length outer
     → cells_right_of outer inner j ++ cells_above outer inner j k ≡ cells_right_of outer inner

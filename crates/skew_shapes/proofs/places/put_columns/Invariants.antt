@@ -1,4 +1,4 @@
--- The letters of the columns further right are in their cells, and `rest` has the letters of the word that are not yet written.
+-- Loop invariant: the letters of the word are in the cells of the columns right of the current one, and `rest` has the letters not yet written.
 use Rattle.std.proofs.Common.{◌≡◌, ◌≤◌, length, drop}
 use Rattle.sym_model.specs.Partition.{columns}
 use Rattle.skew_shapes.specs.Rows.{HoldsLetters, cells_right_of}

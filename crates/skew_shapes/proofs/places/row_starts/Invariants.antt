@@ -1,4 +1,5 @@
--- Each row visited so far begins at the sum of the lengths of the rows before it, and `start` is the sum of all these lengths.
+-- Loop invariant: each row visited so far begins at the sum of the lengths of the rows before it, and `start` is the sum of the lengths of all rows
+-- visited so far.
 use Rattle.std.proofs.Common.{◌≡◌, ℕ, ◌<◌, length, take, get_or}
 use Rattle.sym_model.specs.Partition.{size}
 use Rattle.skew_shapes.proofs.places.row_starts.Given as goal

@@ -1,4 +1,4 @@
--- Each number tried so far occurs once.
+-- Loop invariant: each number tried so far occurs once in the tableau.
 use Rattle.std.proofs.Common.{◌≡◌, ◌==◌, true}
 use Rattle.sym_model.specs.Partition.{after}
 use Rattle.sym_model.specs.GoodTableau.{every}

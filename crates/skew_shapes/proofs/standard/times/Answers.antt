@@ -8,7 +8,8 @@ use Rattle.skew_shapes.proofs.StandardNumbers.{letters-more, length-letters-take
 use Rattle.skew_shapes.proofs.StandardNumbers.{few-letters}
 use Rattle.skew_shapes.proofs.standard.times.Goals as goal
 
--- `count` plus the occurrences in row i + 1 is the number of occurrences in the first i + 1 rows
+-- if `count` is the number of times that `number` occurs in the first i rows, and `this` the number of times in row i + 1, their sum is that in the
+-- first i + 1 rows
 more :
     (rows : List (List ℕ)) (row : List ℕ) (i count this number : ℕ) → i < length rows →
     row ≡ row_of rows (i + 1)

@@ -1,4 +1,4 @@
--- `count` is the number of times that the number occurs in the rows visited so far.
+-- Loop invariant: `count` is the number of times that `number` occurs in the rows visited so far.
 use Rattle.std.proofs.Common.{◌≡◌, ◌≤◌, length, take}
 use Rattle.sym_model.specs.Schur.{letters_of, times_in}
 use Rattle.skew_shapes.proofs.standard.times.Given as goal

@@ -4,12 +4,12 @@ use Rattle.std.proofs.Common.{refl, flat_map}
 use Rattle.std.proofs.lemmas.List.{take_at}
 use Rattle.sym_model.specs.Partition.{Falls}
 use Rattle.sym_model.specs.Sum.{Among}
-use Rattle.sym_model.proofs.Parts.{split_first}
+use Rattle.sym_model.proofs.Parts.{split_first, falls_more}
 use Rattle.partitions.specs.Limits.{IsWithinLimits}
 use Rattle.skew_shapes.specs.HorizontalStrips.{counting_down}
 use Rattle.skew_shapes.proofs.StripLists.{each-next}
 use Rattle.skew_shapes.specs.VerticalStrips.{vertical_on}
-use Rattle.skew_shapes.proofs.ShapeLists.{widened_all, listed_further, falls_more}
+use Rattle.skew_shapes.proofs.ShapeLists.{widened_all, listed_further}
 use Rattle.skew_shapes.proofs.vertical_strips.+add_strips.Goals as goal
 
 falls_rows : (a b c : ℕ) (below inner : List ℕ) → b ∷ below ≡ inner → Falls (a ∷ inner) → b ≤ c →

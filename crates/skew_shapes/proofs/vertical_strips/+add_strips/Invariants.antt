@@ -6,7 +6,7 @@ use Rattle.skew_shapes.proofs.vertical_strips.+add_strips.Given as goal
 abbrev pub decreases-add_strips : goal.decreases-add_strips
 decreases-add_strips l = length l.inner.now
 
--- the shapes whose first row has one of the lengths tried so far have been added
+-- the shapes whose first row has one of the lengths longest, longest - 1, .., longest - shorter + 1 have been appended, and no others
 abbrev pub invariant-loop-shorter : goal.invariant-loop-shorter
 invariant-loop-shorter l = record {
   same : l.above.items ≡ l.fn.above.items;

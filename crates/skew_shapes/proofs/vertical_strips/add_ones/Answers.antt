@@ -6,7 +6,7 @@ use Rattle.std.proofs.lemmas.List.{take_all, take_at}
 use Rattle.partitions.specs.Limits.{IsWithinLimits}
 use Rattle.skew_shapes.proofs.vertical_strips.add_ones.Goals as goal
 
--- resizing the list `above` by `left` places with 1 as the value appends `left` rows of one cell
+-- the list `above` extended to n = length above + left places, with 1 at each new place, is `above` followed by `left` rows of one cell
 resized : (above longer : List ℕ) (left len n : ℕ) → len ≡ length above → n ≡ len + left →
     longer ≡ take n above ++ replicate (n - len) 1
     → longer ≡ above ++ replicate left 1

@@ -18,11 +18,12 @@ use Rattle.sparse_polys.specs.MonomialProducts.{product_terms, AreSmall}
 use Rattle.linear_combinations.specs.Cleared.{GainsCleared, OverflowsCleared}
 use Rattle.sparse_polys.proofs.Accumulating.{Overflows-many}
 use Rattle.linear_combinations.proofs.Cleared.{Gains-none, Gains-next, Overflows-next}
-use Rattle.sparse_polys.proofs.ExactCounts.{among_at, all_among}
+use Rattle.sparse_polys.proofs.ExactCounts.{all_among}
 use Rattle.sparse_polys.proofs.ProductLists.{counted_terms, counted_pieces, counted_gains}
 use Rattle.sparse_polys.proofs.ProductLists.{counted_overflows}
 use Rattle.sym_model.proofs.Lists.{take-read, split-read}
 use Rattle.sparse_polys.proofs.expansion_products.add_pair.Goals as goal
+use Rattle.sym_model.proofs.Sums.{Among-get_or}
 
 pub exact_product-requires : goal.exact_product-requires
 exact_product-requires g c =
@@ -54,8 +55,7 @@ loop-term-init g c d e h cleared =
 pub add_count-requires : goal.add_count-requires
 add_count-requires g c =
     let t = c.term-item.result in
-    let m = among_at c.as_slice-entries.result.now c.loop-term.term-index t c.loop-term-test.true
-    c.term-item.is in
+    let m = Among-get_or c.as_slice-entries.result.now c.loop-term.term-index t c.loop-term-test.true c.term-item.is in
     let p =
     all_among (λ (u : Counted). IsPartition u.parts.items
     × (size u.parts.items ≡ size c.parts.result.now + size c.parts-2.result.now))

@@ -9,7 +9,7 @@ use Rattle.sparse_polys.specs.Combination.{terms_of}
 use Rattle.sparse_polys.proofs.ProductLists.{counted_terms}
 use Rattle.sparse_polys.proofs.expansion_products.add_pair.Given as goal
 
--- `sum` has gained `left`·`right` times the terms of the entries visited so far
+-- the terms added to `sum` so far are `left`·`right` times the entries visited so far (`GainsCleared`)
 abbrev pub invariant-loop-term : goal.invariant-loop-term
 invariant-loop-term g l =
     (d e : ℕ) → IsDenominator d (g.R.Scalar.value l.left) × IsDenominator e

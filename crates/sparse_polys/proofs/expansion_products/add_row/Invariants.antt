@@ -12,7 +12,7 @@ use Rattle.linear_combinations.specs.Cleared.{IsDenominator, IsCommonDenominator
 use Rattle.linear_combinations.specs.Cleared.{GainsCleared}
 use Rattle.sparse_polys.proofs.expansion_products.add_row.Given as goal
 
--- `sum` has gained the products of `left`·m_`label` with the terms of `right` visited so far
+-- the terms added to `sum` so far are the products of `left`·m_`label` with the terms of `right` visited so far
 abbrev pub invariant-loop-other : goal.invariant-loop-other
 invariant-loop-other g l = record {
   gains :

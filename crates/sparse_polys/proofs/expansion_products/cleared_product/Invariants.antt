@@ -9,7 +9,7 @@ use Rattle.sparse_polys.specs.MonomialProducts.{products}
 use Rattle.linear_combinations.specs.Cleared.{IsCommonDenominator, GainsCleared}
 use Rattle.sparse_polys.proofs.expansion_products.cleared_product.Given as goal
 
--- `sum` has gained the products of the terms of `left` visited so far with `right`
+-- the terms added to `sum` so far are the products of `right` and the terms of `left` visited so far
 abbrev pub invariant-loop-label : goal.invariant-loop-label
 invariant-loop-label g l = record {
   gains :

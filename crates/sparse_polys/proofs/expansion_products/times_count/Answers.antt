@@ -4,8 +4,9 @@ use Rattle.std.specs.Int.{w128}
 use Rattle.std.proofs.lemmas.Int.{to_z_pos}
 use Rattle.coeff_rings.specs.Fractions.{whole, fraction_product}
 use Rattle.coeff_rings.specs.Answers.{AnswersProduct}
-use Rattle.sparse_polys.proofs.Accumulating.{if_some, product-value, refused-first, refused-second}
+use Rattle.sparse_polys.proofs.Accumulating.{product-value, refused-first, refused-second}
 use Rattle.sparse_polys.proofs.expansion_products.times_count.Goals as goal
+use Rattle.std.proofs.lemmas.Option.{IfSome_then}
 
 pub returns-in_err-product-clause-none : goal.returns-in_err-product-clause-none
 returns-in_err-product-clause-none g c none d e h small some =
@@ -17,15 +18,13 @@ returns-clause-value g c =
     let lowest = g.met.R.Scalar.lowest in
     let is : g.R.Scalar.value c.from_whole.result ≡ whole (pos c.args.count) =
     c.from_whole.ensures.value ∙ ap whole (to_z_pos w128 c.args.count c.requires) in
-    if_some c.mul-2.result
-    (λ w v d e h.
+    IfSome_then c.mul-2.result c.mul-2.ensures.answer.value (λ w v d e h.
     product-value d e (g.R.Scalar.value c.args.left) (g.R.Scalar.value c.args.right)
     (g.R.Scalar.value c.in_ok-product.product) (g.R.Scalar.value w) c.args.count
     (lowest c.args.left c.mul.ensures.held.0) (lowest c.args.right c.mul.ensures.held.1)
     (lowest c.in_ok-product.product c.mul-2.ensures.held.0)
     c.in_ok-product.ensures.answer.value
     (v ∙ ap (fraction_product (g.R.Scalar.value c.in_ok-product.product)) is) h)
-    c.mul-2.ensures.answer.value
 
 pub returns-clause-none : goal.returns-clause-none
 returns-clause-none g c none d e h small some =

@@ -3,10 +3,11 @@ use Rattle.std.proofs.Common.{refl, ap, ◌∙◌, inr, arith, append_assoc}
 use Rattle.sym_model.specs.Partition.{size}
 use Rattle.sym_model.proofs.Parts.{get_or-le-size}
 use Rattle.sparse_polys.specs.Raised.{raised}
-use Rattle.sparse_polys.proofs.Raising.{length-then, set-raised, size-padded, refilled}
-use Rattle.std.proofs.lemmas.List.{length-set}
+use Rattle.sparse_polys.proofs.Raising.{set-raised, refilled}
+use Rattle.std.proofs.lemmas.List.{length-set, length-append}
 use Rattle.sym_model.specs.Polynomial.{no_exponents}
 use Rattle.sparse_polys.proofs.monomial.raise.Goals as goal
+use Rattle.sym_model.proofs.Restrictions.{size-padded}
 
 more_zeros : (k : ℕ) → no_exponents k ++ (0 ∷ []) ≡ no_exponents (suc k)
 more_zeros zero = refl
@@ -25,8 +26,7 @@ loop-exponents-preserved c =
       inr (omega (
         arith,
         ap length pushed,
-        length-then c.loop-exponents.exponents.items
-            (0 ∷ []),
+        length-append c.loop-exponents.exponents.items (0 ∷ []),
       )),
     )
 
@@ -35,8 +35,7 @@ add_one-requires-clause-small c =
     let inv = c.loop-exponents.invariant in
     let items = c.loop-exponents.exponents.items in
     let small = get_or-le-size items c.args.at in
-    let same : size items ≡ size c.args.exponents.now.items = ap size inv.1 ∙ size-padded
-    c.args.exponents.now.items inv.0 in
+    let same : size items ≡ size c.args.exponents.now.items = ap size inv.1 ∙ size-padded c.args.exponents.now.items inv.0 in
     let e : get_or c.as_mut_slice.result.now c.args.at 0 ≡ get_or items c.args.at 0 =
     ap (λ x. get_or x c.args.at 0) c.as_mut_slice.ensures.value in
     omega arith

@@ -4,9 +4,10 @@ use Rattle.std.specs.Cmp.Lexicographic.{pointwise}
 use Rattle.sym_model.specs.Polynomial.{join}
 use Rattle.linear_combinations.specs.Entries.{coefficient, HasMoreAt, IsRefused}
 use Rattle.sparse_polys.specs.Combination.{terms_of}
-use Rattle.sparse_polys.proofs.ClearedSums.{on_ok, cleared-product, Gains-entry, Overflows-entry}
+use Rattle.sparse_polys.proofs.ClearedSums.{cleared-product, Gains-entry, Overflows-entry}
 use Rattle.sparse_polys.proofs.Accumulating.{Overflows-product}
 use Rattle.sparse_polys.proofs.products.add_product.Goals as goal
+use Rattle.std.proofs.lemmas.Result.{on_ok_weaker}
 
 pub returns-in_default-clause-large : goal.returns-in_default-clause-large
 returns-in_default-clause-large g c err d e h small cleared =
@@ -18,8 +19,7 @@ returns-clause-ok g c =
     let value = g.R.Scalar.value in
     let lowest = g.met.R.Scalar.lowest in
     let old = c.args.sum.now in
-    on_ok c.add_term.result c.add_term.ensures.ok
-    (λ more d e h cleared.
+    on_ok_weaker c.add_term.result (λ more d e h cleared.
     let p = cleared-product d e (value c.args.a) (value c.args.b) (value c.in-Some.c)
     (lowest c.args.a c.mul.ensures.held.0) (lowest c.args.b c.mul.ensures.held.1)
     c.in-Some.ensures.answer.value h in
@@ -29,7 +29,7 @@ returns-clause-ok g c =
     (lowest c.in-Some.c c.in-Some.ensures.held_product) c.add_term.ensures.tables.after.combination
     (subst (λ l. HasMoreAt (pointwise nat_eq) g.R.Scalar.zero g.R.Scalar.sum old l c.in-Some.c
     c.add_term.new.self) c.in_ok-times.ensures more)
-    _ p.value)
+    _ p.value) c.add_term.ensures.ok
 
 pub returns-clause-large : goal.returns-clause-large
 returns-clause-large g c err d e h small cleared =

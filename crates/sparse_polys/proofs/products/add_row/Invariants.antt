@@ -11,7 +11,7 @@ use Rattle.linear_combinations.specs.Cleared.{IsDenominator, IsCommonDenominator
 use Rattle.linear_combinations.specs.Cleared.{GainsCleared}
 use Rattle.sparse_polys.proofs.products.add_row.Given as goal
 
--- `sum` has gained the products of the term of `a` and `left` with the terms of `right` visited so far
+-- the terms added to `sum` so far are the products of the term a·x^`left` with the terms of `right` visited so far
 abbrev pub invariant-loop-monomial : goal.invariant-loop-monomial
 invariant-loop-monomial g l = record {
   gains :

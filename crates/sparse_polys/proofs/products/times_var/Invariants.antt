@@ -9,7 +9,7 @@ use Rattle.linear_combinations.specs.Cleared.{IsCommonDenominator, GainsCleared}
 use Rattle.sparse_polys.specs.Products.{times_variable, AreRaised}
 use Rattle.sparse_polys.proofs.products.times_var.Given as goal
 
--- the list has the products of the terms visited so far with the variable
+-- the list has the products of x_r and the terms visited so far, and no other terms
 abbrev pub invariant-loop-monomial : goal.invariant-loop-monomial
 invariant-loop-monomial g l = record {
   gains :

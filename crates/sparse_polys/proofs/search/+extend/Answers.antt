@@ -1,5 +1,5 @@
 use Rattle.std.proofs.Common.{◌≡◌, ◌+◌, ◌-◌, ◌∷◌, ◌++◌, [], List, cond, length, min, ap, ◌∙◌, sym}
-use Rattle.std.proofs.Common.{subst, refl, arith, eqb-true}
+use Rattle.std.proofs.Common.{subst, arith, eqb-true}
 use Rattle.sym_model.specs.Polynomial.{same}
 use Rattle.sym_model.specs.Partition.{IsPartition, size}
 use Rattle.sparse_polys.specs.declared.states.State.{State}
@@ -11,15 +11,11 @@ use Rattle.sparse_polys.proofs.SearchWays.{found-min, count_at-append, counted-m
 use Rattle.sparse_polys.proofs.SearchWays.{IsPartition-chosen, IsChosen-more, size-chosen}
 use Rattle.sparse_polys.proofs.SearchWays.{Counts-end, Counts-step, counts-more}
 use Rattle.sparse_polys.proofs.search.+extend.Goals as goal
-
-no_states : (states : List State) → length states ≡ 0 → states ≡ []
-no_states [] e = refl
-no_states (s ∷ states) e = absurd (omega arith)
+use Rattle.std.proofs.lemmas.List.{nil_from_length}
 
 pub returns-then-is_empty-clause-found : goal.returns-then-is_empty-clause-found
 returns-then-is_empty-clause-found t c ν =
-    let none : c.args.states.now ≡ [] = no_states c.args.states.now
-    (eqb-true (length c.args.states.now) 0 (sym c.if-is_empty.ensures)) in
+    let none : c.args.states.now ≡ [] = nil_from_length c.args.states.now (eqb-true (length c.args.states.now) 0 (sym c.if-is_empty.ensures)) in
     let z = ap (λ (l : List State). found c.args.chosen.now c.args.largest l ν) none ∙ found-nothing
     c.args.chosen.now c.args.largest ν in
     omega arith

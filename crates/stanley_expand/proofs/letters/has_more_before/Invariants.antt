@@ -2,7 +2,7 @@ use Rattle.std.proofs.Common.{◌≡◌, ℕ, ◌-◌, ◌<◌, ◌≤◌, get_o
 use Rattle.stanley_expand.proofs.GreaterBefore.{before}
 use Rattle.stanley_expand.proofs.letters.has_more_before.Given as goal
 
--- no letter before the place `at` has more than `most` greater ones before it; `last` is the letter before `at`
+-- no letter before the place `at` has more than `most` greater letters before it; `last` is the letter just before `at`
 abbrev pub invariant-loop-at : goal.invariant-loop-at
 invariant-loop-at l = record {
   few : (p : ℕ) → p < l.at → before l.letters p ≤ l.most;

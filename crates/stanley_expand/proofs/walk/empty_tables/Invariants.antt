@@ -2,6 +2,6 @@ use Rattle.std.proofs.Common.{◌≡◌, [], replicate, List}
 use Rattle.sym_model.specs.WholeTerms.{WholeTerms}
 use Rattle.stanley_expand.proofs.walk.empty_tables.Given as goal
 
--- there are `counter` empty tables
+-- the list has `counter` empty tables so far
 abbrev pub invariant-loop : goal.invariant-loop
 invariant-loop l = ◌≡◌ {A = List WholeTerms} l.tables.items (replicate l.counter [])

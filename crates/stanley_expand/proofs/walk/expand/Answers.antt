@@ -4,11 +4,11 @@ use Rattle.sym_model.specs.Polynomial.{pair}
 use Rattle.sym_model.specs.Schubert.{schubert_in}
 use Rattle.sym_model.specs.Sum.{total, Among}
 use Rattle.schubert_laws.proofs.Members.{place_within}
-use Rattle.linear_combinations.proofs.Steps.{on_ok}
 use Rattle.stanley_expand.specs.Walk.{number}
 use Rattle.stanley_expand.proofs.Tables.{as_step, overflows_as}
 use Rattle.stanley_expand.proofs.Steps.{put_pair, covers_number}
 use Rattle.stanley_expand.proofs.walk.expand.Goals as goal
+use Rattle.std.proofs.lemmas.Result.{on_ok_weaker}
 
 pub times_swap-requires-clause-first : goal.times_swap-requires-clause-first
 times_swap-requires-clause-first c =
@@ -49,15 +49,14 @@ put_each-requires-clause-waiting c p mem =
     (k.0, subst (λ n. number c.args.rows p < n) c.requires.waiting.here k.1)
 
 pub returns-clause-step : goal.returns-clause-step
-returns-clause-step c = on_ok c.put_each.result c.put_each.ensures.step
-    (λ step sum. as_step c.args.rows sum c.args.todo.now.items
+returns-clause-step c = on_ok_weaker c.put_each.result (λ step sum. as_step c.args.rows sum c.args.todo.now.items
     (λ φ. c.args.count *ℤ total (λ p. pair (schubert_in p c.args.rows) φ)
     c.in_ok-covers_down.field-0.items)
     (λ φ. c.args.count *ℤ pair (schubert_in c.args.perm.now c.args.rows) φ)
     sum c.put_each.new.todo.items (λ φ. put_pair c.args.rows (c.args.rows + 16) c.args.r c.args.s c.args.perm.now
     c.args.count φ c.in_ok-covers_down.field-0.items
     (c.in_ok-covers_down.ensures ∙ ap (covers_down c.args.r) c.in_ok-lower.ensures)
-    c.requires.waiting.rising c.requires.places c.requires.after) (step sum))
+    c.requires.waiting.rising c.requires.places c.requires.after) (step sum)) c.put_each.ensures.step
 
 pub returns-clause-large : goal.returns-clause-large
 returns-clause-large c err sum =

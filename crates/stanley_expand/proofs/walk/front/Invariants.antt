@@ -2,7 +2,7 @@ use Rattle.std.proofs.Common.{◌≡◌, ◌≤◌, ◌++◌}
 use Rattle.stanley_expand.specs.Grassmannian.{front_beta}
 use Rattle.stanley_expand.proofs.walk.front.Given as goal
 
--- the list written so far, followed by the letters at the places from i to 1, each minus 1, has the letters at the places from `rows` to 1, each minus 1
+-- the list so far, followed by the letters at the places i, .., 1, each minus 1, is the list of the letters at the places `rows`, .., 1, each minus 1
 abbrev pub invariant-loop-i : goal.invariant-loop-i
 invariant-loop-i l = record {
   all : l.list.items ++ front_beta l.i l.perm ≡ front_beta l.rows l.perm;

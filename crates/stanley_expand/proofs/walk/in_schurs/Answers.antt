@@ -20,7 +20,8 @@ pub put-requires-clause-counts : goal.put-requires-clause-counts
 put-requires-clause-counts c = subst (λ z. pos 0 ≤ℤ z) (sym c.one.ensures.one)
     (omega (arith, ints))
 
--- at the start only the permutation `start` waits
+-- if adding `start` to the empty tables overflows, some Schur coefficient of its Schubert polynomial is 2^127 or more, since no other permutation is
+-- in the tables
 pub returns-in_err-put-clause-large : goal.returns-in_err-put-clause-large
 returns-in_err-put-clause-large c err =
     large_same c.args.rows (λ φ. walked c.args.rows φ [] c.in_ok-todo.todo.items

@@ -4,7 +4,8 @@ use Rattle.sym_model.specs.Schubert.{schubert_in}
 use Rattle.stanley_expand.specs.Walk.{AreWaiting, AreShapes, walked}
 use Rattle.stanley_expand.proofs.walk.in_schurs.Given as goal
 
--- the Schur polynomials of `sum` and the Schubert polynomials of the waiting permutations add up to that of `start`, in `rows` variables
+-- the Schur polynomials of `sum` and the Schubert polynomials of the permutations in the tables, with their counts, add up to the Schubert polynomial
+-- of `start`, in `rows` variables
 abbrev pub invariant-loop-counts : goal.invariant-loop-counts
 invariant-loop-counts l = record {
   value : (φ : List ℕ → ℤ) → walked l.rows φ l.sum l.todo.items ≡ pair (schubert_in l.fn.start l.rows) φ;

@@ -18,7 +18,8 @@ use Rattle.stanley_expand.proofs.Tables.{none_step, put_step}
 use Rattle.stanley_expand.proofs.walk.put.Goals as goal
 use lib.IntN.{*ℤ-zero}
 
--- if some letter has more than m = `rows` greater ones before it, the polynomial in m variables is 0, so that nothing is added
+-- if some letter of the permutation has more than m = `rows` greater letters before it, its Schubert polynomial in m variables is 0, so nothing has
+-- to be added
 pub returns-then-has_more_before-clause-step : goal.returns-then-has_more_before-clause-step
 returns-then-has_more_before-clause-step c sum =
     none_step c.args.rows sum c.args.todo.now.items

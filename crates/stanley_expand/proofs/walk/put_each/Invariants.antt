@@ -7,7 +7,7 @@ use Rattle.sym_model.specs.WholeTerms.{WholeTerms}
 use Rattle.stanley_expand.specs.Walk.{IsWorkedOff}
 use Rattle.stanley_expand.proofs.walk.put_each.Given as goal
 
--- the permutations visited so far are added with `count`; they and those still to come are the whole list
+-- the permutations visited so far have been added with the count `count`; these permutations, followed by those still to come, are the whole list
 abbrev pub invariant-loop-perm : goal.invariant-loop-perm
 invariant-loop-perm l = record {
   step : (sum : WholeTerms) → IsWorkedOff l.rows sum l.fn.todo.items

@@ -1,17 +1,16 @@
 use Rattle.std.proofs.Common.{◌≤◌, ◌+◌, arith, ap, unwrap_or}
 use Rattle.sym_model.specs.Permutation.{last_descent_place}
 use Rattle.linear_combinations.proofs.Masses.{on_both}
-use Rattle.linear_combinations.proofs.Steps.{on_ok}
 use Rattle.linear_combinations.specs.Entries.{IsWholeTable}
 use Rattle.stanley_expand.specs.Walk.{IsHeld}
 use Rattle.stanley_expand.proofs.ShapeLimits.{shape_limits}
 use Rattle.stanley_expand.proofs.Steps.{shape_step, large_shape}
 use Rattle.stanley_expand.proofs.walk.work_off.Goals.{in-Some+else-r-rows, in-None}
 use Rattle.stanley_expand.proofs.walk.work_off.Goals as goal
+use Rattle.std.proofs.lemmas.Result.{on_ok_weaker}
 
 pub returns-then-r-rows-clause-step : goal.returns-then-r-rows-clause-step
-returns-then-r-rows-clause-step c = on_ok c.expand.result c.expand.ensures.step
-    (λ step. step c.args.sum.now)
+returns-then-r-rows-clause-step c = on_ok_weaker c.expand.result (λ step. step c.args.sum.now) c.expand.ensures.step
 
 pub returns-then-r-rows-clause-large : goal.returns-then-r-rows-clause-large
 returns-then-r-rows-clause-large c err = c.expand.ensures.large err c.args.sum.now

@@ -6,7 +6,8 @@ use Rattle.linear_combinations.specs.Gains.{over}
 use Rattle.stanley_expand.specs.Walk.{IsWorkedOff}
 use Rattle.stanley_expand.proofs.walk.work_off_each.Given as goal
 
--- the permutations visited so far were replaced by their covers, or their Schur polynomials were added; they and those still to come are the whole table
+-- each permutation visited so far has been replaced by the permutations of the transition rule, or its Schur polynomial has been added; the
+-- permutations visited so far, followed by those still to come, are the whole table
 abbrev pub invariant-loop-perm : goal.invariant-loop-perm
 invariant-loop-perm l = record {
   step : IsWorkedOff l.rows l.fn.sum l.fn.todo.items

@@ -1,9 +1,10 @@
-use Rattle.strip_rules.proofs.HookMoves.{even_times, negated_times}
+use Rattle.sym_model.proofs.Signs.{even_sign}
+use Rattle.coeff_rings.proofs.CheckedResults.{negated_number}
 use Rattle.strip_rules.proofs.bead_hooks.turned.Goals as goal
 
 pub returns-then-times-eq0 : goal.returns-then-times-eq0
-returns-then-times-eq0 c = even_times c.args.times c.args.c c.if-times-eq0.true
+returns-then-times-eq0 c = even_sign c.args.times c.args.c c.if-times-eq0.true
 
 pub returns-else-times-eq0 : goal.returns-else-times-eq0
-returns-else-times-eq0 c = negated_times c.args.times c.args.c c.neg.result c.neg.ensures.negation
+returns-else-times-eq0 c = negated_number c.args.times c.args.c c.neg.result c.neg.ensures.negation
     c.if-times-eq0.false

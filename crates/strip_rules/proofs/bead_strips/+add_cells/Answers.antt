@@ -2,18 +2,18 @@ use Rattle.std.proofs.Common.{◌≡◌, ◌-◌, ◌^◌, ◌<◌, ◌++◌, �
 use Rattle.std.specs.Prelude.{nat_eq}
 use Rattle.linear_combinations.specs.Gains.{Gains, Overflows, scaled}
 use Rattle.linear_combinations.proofs.Gains.{gains_none}
-use Rattle.linear_combinations.proofs.Steps.{on_ok, error_is}
+use Rattle.linear_combinations.proofs.Steps.{error_is}
 use Rattle.beta_sets.specs.BetaSets.{numbers}
 use Rattle.beta_sets.proofs.GreatestPlaces.{numbers-none}
 use Rattle.strip_rules.specs.BeadMoves.{with_cells}
 use Rattle.strip_rules.proofs.BeadSteps.{ones, cells_none, gains_next, gains_all, overflows_next, bead_low, next_bound_low, raised_room, word_room}
 use Rattle.strip_rules.proofs.bead_strips.+add_cells.Goals as goal
+use Rattle.std.proofs.lemmas.Result.{on_ok_weaker}
 
 pub returns-then-left-eq0-clause-gains : goal.returns-then-left-eq0-clause-gains
 returns-then-left-eq0-clause-gains t c =
-    on_ok c.add_owned.result c.add_owned.ensures.gains
-    (subst (λ l. Gains c.args.sum.now l c.add_owned.new.self)
-    (cells_none c.args.strip c.args.left c.args.bound c.args.set c.args.c c.if-left-eq0.true))
+    on_ok_weaker c.add_owned.result (subst (λ l. Gains c.args.sum.now l c.add_owned.new.self)
+    (cells_none c.args.strip c.args.left c.args.bound c.args.set c.args.c c.if-left-eq0.true)) c.add_owned.ensures.gains
 
 pub returns-then-left-eq0-clause-large : goal.returns-then-left-eq0-clause-large
 returns-then-left-eq0-clause-large t c err =

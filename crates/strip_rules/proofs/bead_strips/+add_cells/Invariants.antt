@@ -11,7 +11,7 @@ decreases-add_cells l = l.left
 abbrev pub decreases-loop-place : goal.decreases-loop-place
 decreases-loop-place l = l.places
 
--- the sets whose first cell is added at one of the places `passed` have been added, and the other places are to come
+-- the sets whose first cell is added by the bead at one of the places `passed` have been added to the table; the other places are still to come
 abbrev pub invariant-loop-place : goal.invariant-loop-place
 invariant-loop-place l = (passed : List ℕ) × record {
   all : passed ++ numbers l.places ≡ next_places l.strip l.bound (numbers l.set);

@@ -3,22 +3,21 @@ use Rattle.std.proofs.Common.{sym, ap, ◌∙◌, subst, arith}
 use Rattle.std.proofs.lemmas.List.{take_at}
 use Rattle.sym_model.specs.Partition.{IsPartition, Falls, part, size}
 use Rattle.partitions.specs.Limits.{IsWithinLimits}
-use Rattle.linear_combinations.proofs.Steps.{on_ok}
 use Rattle.strip_rules.specs.Rows.{AddsBelow, HasAdded}
 use Rattle.strip_rules.proofs.AddedCells.{added-none, rows-none, rows-next, rows-all}
 use Rattle.strip_rules.proofs.AddedCells.{limits_behind, fewer_left}
 use Rattle.strip_rules.proofs.complete.+add_shapes.Goals as goal
 use Rattle.sym_model.proofs.Parts.{size-first}
 use Rattle.sym_model.proofs.SortedParts.{Falls_first, Falls_below, IsPartition_below}
+use Rattle.std.proofs.lemmas.Result.{on_ok_weaker}
 
 pub returns-then-left-eq0-clause-shapes : goal.returns-then-left-eq0-clause-shapes
 returns-then-left-eq0-clause-shapes t c =
-    on_ok c.add_shape.result c.add_shape.ensures.shapes
-    (λ e. subst (λ (k : ℕ). HasAdded (AddsBelow c.args.most k c.args.inner.now)
+    on_ok_weaker c.add_shape.result (λ e. subst (λ (k : ℕ). HasAdded (AddsBelow c.args.most k c.args.inner.now)
     c.args.above.now.items c.args.shapes.now.items c.add_shape.new.shapes.items)
     (sym c.if-left-eq0.true)
     (added-none c.args.most c.args.inner.now c.args.above.now.items c.args.shapes.now.items
-    c.add_shape.new.shapes.items c.requires.inner c.requires.falls e))
+    c.add_shape.new.shapes.items c.requires.inner c.requires.falls e)) c.add_shape.ensures.shapes
 
 pub loop-row-init : goal.loop-row-init
 loop-row-init t c =

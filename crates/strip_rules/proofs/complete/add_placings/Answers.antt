@@ -15,7 +15,6 @@ use Rattle.strip_rules.specs.Rows.{with_placings}
 use Rattle.std.proofs.lemmas.List.{take_all}
 use Rattle.strip_rules.proofs.complete.add_placings.Goals as goal
 
--- if `inner` is μ and `shape` is ν, the product of c and the placings of inner in shape is that of c and those of μ in ν
 term : (μ ν inner shape : List ℕ) (c z : ℤ) → inner ≡ μ → shape ≡ ν →
     z ≡ c *ℤ pos (placings inner shape) → z ≡ c *ℤ pos (placings μ ν)
 term μ ν inner shape c z e f h = h ∙ ap (λ (l : List ℕ). c *ℤ pos (placings l shape)) e

@@ -1,4 +1,4 @@
--- At least as many rows as have been visited are of length v or more.
+-- The rows visited so far have a length of at least v.
 use Rattle.std.proofs.Common.{◌-◌, ◌≤◌, length}
 use Rattle.sym_model.specs.Conjugate.{count_from}
 use Rattle.strip_rules.proofs.complete.rows_from.Given as goal

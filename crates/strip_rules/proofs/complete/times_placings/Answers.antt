@@ -9,7 +9,6 @@ pub times_count-requires : goal.times_count-requires
 times_count-requires c = λ z. both_ways c.is_zero.result c.if-is_zero.false
     (c.is_zero.ensures.zero.1 (ap whole z))
 
--- an option that is `Some n` if n < 2^128 and None otherwise satisfies the two cases of `MatchOption`
 counted : (o : Option ℕ) (n : ℕ) → SomeIff o (n < 2 ^ 128) n
     → MatchOption o (2 ^ 128 ≤ n) (λ m. m ≡ n)
 counted None n h = omega (arith, h)

@@ -6,7 +6,7 @@ use Rattle.sparse_polys.specs.Families.{polynomial_of}
 use Rattle.strip_rules.proofs.ListProducts.{AddsList}
 use Rattle.strip_rules.proofs.products.times_family.Given as goal
 
--- the products of the terms visited so far are added
+-- the products of e_k, h_k or p_k and the terms of the list visited so far have been added to the table
 abbrev pub invariant-loop-label : goal.invariant-loop-label
 invariant-loop-label g l =
     let value = g.R.Scalar.value in

@@ -9,12 +9,12 @@ use Rattle.linear_combinations.proofs.Steps.{error_is, all_done}
 use Rattle.sparse_polys.specs.Combination.{terms_of}
 use Rattle.linear_combinations.proofs.Cleared.{Gains-none}
 use Rattle.linear_combinations.specs.Cleared.{GainsMultiple}
-use Rattle.strip_rules.proofs.ShapeLists.{so_far_on}
 use Rattle.strip_rules.proofs.Signs.{signed_one}
 use Rattle.strip_rules.proofs.TermsAdded.{Gains-shape, Overflows-shape, Gains-signed}
 use Rattle.strip_rules.proofs.TermsAdded.{Overflows-signed}
 use Rattle.linear_combinations.specs.Gains.{each_by}
 use Rattle.strip_rules.proofs.shapes.add_shapes.Goals as goal
+use Rattle.sparse_polys.proofs.PartitionTerms.{listed_next}
 
 pub loop-shape-init : goal.loop-shape-init
 loop-shape-init g c = record {
@@ -30,7 +30,7 @@ loop-shape-preserved g c =
     let on = ap (λ (xs : List (List ℕ)). done ++ xs) (sym c.in-Some.ensures.steps.0)
     ∙ c.loop-shape.invariant.so_far in
     record {
-      so_far = so_far_on done _ _ label on;
+      so_far = listed_next done _ _ label on;
       adds =
           Gains-shape (value c.args.c) (λ ν. pos 1) done label (terms_of value c.args.sum.now)
           (terms_of value c.loop-shape.sum) c.loop-shape.invariant.adds

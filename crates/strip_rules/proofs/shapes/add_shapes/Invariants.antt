@@ -8,7 +8,7 @@ use Rattle.linear_combinations.specs.Cleared.{GainsMultiple}
 use Rattle.linear_combinations.specs.Gains.{each_by}
 use Rattle.strip_rules.proofs.shapes.add_shapes.Given as goal
 
--- the shapes visited so far are added, and these shapes followed by those still to come are all shapes
+-- the shapes visited so far have been added with the coefficient c; these shapes followed by those still to come are all shapes
 abbrev pub invariant-loop-shape : goal.invariant-loop-shape
 invariant-loop-shape g l =
     let value = g.R.Scalar.value in

@@ -10,7 +10,7 @@ use Rattle.sparse_polys.specs.Combination.{terms_of}
 use Rattle.linear_combinations.proofs.Cleared.{Gains-none}
 use Rattle.linear_combinations.specs.Cleared.{GainsMultiple}
 use Rattle.strip_rules.specs.Adding.{IsSigned}
-use Rattle.strip_rules.proofs.ShapeLists.{among_next, next_on, so_far_on}
+use Rattle.strip_rules.proofs.ShapeLists.{among_next}
 use Rattle.strip_rules.proofs.Signs.{height_here}
 use Rattle.strip_rules.proofs.TermsAdded.{Gains-shape, Overflows-shape, Gains-signed}
 use Rattle.strip_rules.proofs.TermsAdded.{Overflows-signed}
@@ -18,6 +18,7 @@ use Rattle.strip_rules.proofs.TermsAdded.{Overflows-size}
 use Rattle.sym_model.proofs.Integers.{sign_size}
 use Rattle.linear_combinations.specs.Gains.{each_by}
 use Rattle.strip_rules.proofs.shapes.add_signed_shapes.Goals as goal
+use Rattle.sparse_polys.proofs.PartitionTerms.{listed_on, listed_next}
 
 pub loop-alloc-init : goal.loop-alloc-init
 loop-alloc-init g c = (
@@ -34,14 +35,13 @@ from_valid_parts-requires g c =
     let inv = c.loop-alloc.invariant in
     let label = c.current.result.now in
     c.requires.limits label
-    (among_next inv.0 _ _ label (next_on inv.0 _ _ _ _ label inv.1.so_far c.advance.ensures.next
-    c.current.ensures))
+    (among_next inv.0 _ _ label (listed_on inv.0 _ _ _ _ label inv.1.so_far c.advance.ensures.next c.current.ensures))
 
 pub signed-requires-clause-height : goal.signed-requires-clause-height
 signed-requires-clause-height g c =
     let inv = c.loop-alloc.invariant in
     let label = c.current.result.now in
-    let on = next_on inv.0 _ _ _ _ label inv.1.so_far c.advance.ensures.next c.current.ensures in
+    let on = listed_on inv.0 _ _ _ _ label inv.1.so_far c.advance.ensures.next c.current.ensures in
     let high = height_here _ _ c.args.hooks.now.base label c.height.result c.height.ensures
     c.current.ensures (c.advance.ensures.base ∙ inv.1.base) in
     let some = c.requires.heights label (among_next inv.0 _ _ label on) in
@@ -57,7 +57,7 @@ loop-alloc-preserved g c =
     let cur = c.loop-alloc.sum in
     let new = c.add_term-in-loop-alloc.new.self in
     let v = c.in_ok-signed.field-0 in
-    let on = next_on inv.0 _ _ _ _ label inv.1.so_far c.advance.ensures.next c.current.ensures in
+    let on = listed_on inv.0 _ _ _ _ label inv.1.so_far c.advance.ensures.next c.current.ensures in
     let same_base = c.advance.ensures.base ∙ inv.1.base in
     let high = height_here _ _ base label c.height.result c.height.ensures c.current.ensures
     same_base in
@@ -69,7 +69,7 @@ loop-alloc-preserved g c =
     c.in_ok-shape.ensures.ok c.in_ok-add_term.ensures.ok in (
       inv.0 ++ label ∷ [],
       record {
-        so_far = so_far_on inv.0 _ _ label on;
+        so_far = listed_next inv.0 _ _ label on;
         base = same_base;
         adds =
             Gains-shape (value c.args.c) sign inv.0 label (terms_of value c.args.sum.now)
@@ -90,7 +90,7 @@ returns-in_err-add_term-clause-large g c large =
     let sign : List ℕ → ℤ = λ ν. minus_one_to (height ν base - 1) in
     let cur = c.loop-alloc.sum in
     let v = c.in_ok-signed.field-0 in
-    let on = next_on inv.0 _ _ _ _ label inv.1.so_far c.advance.ensures.next c.current.ensures in
+    let on = listed_on inv.0 _ _ _ _ label inv.1.so_far c.advance.ensures.next c.current.ensures in
     let high = height_here _ _ base label c.height.result c.height.ensures c.current.ensures
     (c.advance.ensures.base ∙ inv.1.base) in
     let is : IsSigned (value c.args.c) (sign label) (value v) =
@@ -114,7 +114,7 @@ returns-in_err-signed-clause-large g c large =
     let base = c.args.hooks.now.base in
     let sign : List ℕ → ℤ = λ ν. minus_one_to (height ν base - 1) in
     let cur = terms_of value c.loop-alloc.sum in
-    let on = next_on inv.0 _ _ _ _ label inv.1.so_far c.advance.ensures.next c.current.ensures in
+    let on = listed_on inv.0 _ _ _ _ label inv.1.so_far c.advance.ensures.next c.current.ensures in
     Overflows-shape (value c.args.c) sign inv.0 label (terms_of value c.args.sum.now) cur inv.1.adds
     _
     _ on

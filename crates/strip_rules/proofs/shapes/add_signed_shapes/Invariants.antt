@@ -9,7 +9,8 @@ use Rattle.linear_combinations.specs.Cleared.{GainsMultiple}
 use Rattle.linear_combinations.specs.Gains.{each_by}
 use Rattle.strip_rules.proofs.shapes.add_signed_shapes.Given as goal
 
--- the shapes visited so far are added with their signs, they and those still to come are all shapes, and the inner partition is unchanged
+-- the shapes visited so far have been added with their signs; these shapes, followed by those still to come, are all shapes, and the partition to
+-- which the rim hooks are added (`base`) is unchanged
 abbrev pub invariant-loop-alloc : goal.invariant-loop-alloc
 invariant-loop-alloc g l =
     let value = g.R.Scalar.value in

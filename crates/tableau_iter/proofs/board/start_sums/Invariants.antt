@@ -1,4 +1,4 @@
--- The sums written so far are the numbers of the start, with zeros after them.
+-- Loop invariant: the sums written so far are the parts of the start, and the others are zeros.
 use Rattle.std.proofs.Common.{◌≡◌, ℕ, ◌<◌, length, get_or}
 use Rattle.tableau_iter.proofs.board.start_sums.Given as goal
 

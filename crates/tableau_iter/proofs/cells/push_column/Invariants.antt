@@ -1,4 +1,4 @@
--- The row numbers, or the column numbers, of the cells of the column in the rows visited so far were appended.
+-- Loop invariant: the row numbers, or the column numbers, of the cells of this column in the rows visited so far have been appended.
 use Rattle.std.proofs.Common.{◌≡◌, ℕ, ◌++◌, cond, map}
 use Rattle.skew_shapes.specs.Rows.{cells_above}
 use Rattle.tableau_iter.proofs.cells.push_column.Given as goal

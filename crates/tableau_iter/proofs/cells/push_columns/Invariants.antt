@@ -1,4 +1,4 @@
--- The row numbers, or the column numbers, of the cells in the columns right of the current one were appended.
+-- Loop invariant: the row numbers, or the column numbers, of the cells in the columns right of the current one have been appended.
 use Rattle.std.proofs.Common.{◌≡◌, ◌≤◌, ℕ, ◌++◌, cond, map}
 use Rattle.sym_model.specs.Partition.{columns}
 use Rattle.skew_shapes.specs.Rows.{cells_right_of}

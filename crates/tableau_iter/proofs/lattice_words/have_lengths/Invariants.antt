@@ -1,4 +1,4 @@
--- The rows visited so far have the lengths of those of outer/inner.
+-- Loop invariant: the rows visited so far have the lengths of those rows of outer/inner.
 use Rattle.std.proofs.Common.{◌≡◌, ℕ, ◌-◌, ◌<◌, map, length, get_or}
 use Rattle.tableau_iter.proofs.lattice_words.have_lengths.Given as goal
 

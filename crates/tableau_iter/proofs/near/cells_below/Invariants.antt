@@ -1,4 +1,5 @@
--- Each cell of the places visited so far is below that of the place before.
+-- Loop invariant: for each index visited so far, the cell above that at this index is the cell at the index before it; `count` is the number of
+-- indices visited.
 use Rattle.std.proofs.Common.{◌≡◌, ◌+◌}
 use Rattle.tableau_iter.specs.Fits.{IsRun}
 use Rattle.tableau_iter.proofs.near.cells_below.Given as goal

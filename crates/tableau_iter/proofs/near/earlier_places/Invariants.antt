@@ -1,4 +1,4 @@
--- The list has the neighbours of the places visited so far.
+-- Loop invariant: the list has the neighbours (`IsNeighbour`) of the cells at the indices visited so far.
 use Rattle.std.proofs.Common.{◌≡◌, ℕ, ◌<◌, length, get_or}
 use Rattle.tableau_iter.specs.Fits.{IsNeighbour}
 use Rattle.tableau_iter.proofs.near.earlier_places.Given as goal

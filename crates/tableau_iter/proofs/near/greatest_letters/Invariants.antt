@@ -1,4 +1,4 @@
--- The list has the greatest letters for the places visited so far.
+-- Loop invariant: the list has the greatest letters (`IsGreatest`) for the indices visited so far.
 use Rattle.std.proofs.Common.{◌≡◌, ℕ, ◌<◌, length, get_or}
 use Rattle.tableau_iter.specs.Fits.{IsGreatest}
 use Rattle.tableau_iter.proofs.near.greatest_letters.Given as goal

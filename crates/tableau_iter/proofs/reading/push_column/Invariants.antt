@@ -1,4 +1,4 @@
--- The numbers of the column in the rows visited so far were appended.
+-- Loop invariant: the numbers of the cells of this column in the rows visited so far have been appended.
 use Rattle.std.proofs.Common.{◌≡◌, ℕ, ◌++◌, map}
 use Rattle.skew_shapes.specs.Rows.{cells_above}
 use Rattle.tableau_iter.specs.ReadRows.{letter_in_rows}

@@ -1,4 +1,4 @@
--- No letter tried so far is allowed.
+-- Loop invariant: the rule allows none of the letters tried so far.
 use Rattle.std.proofs.Common.{◌≡◌, ℕ, ◌-◌, ◌<◌, ◌≤◌, false}
 use Rattle.tableau_iter.specs.Fits.{allows}
 use Rattle.tableau_iter.proofs.rule.next_allowed.Given as goal

@@ -1,4 +1,5 @@
--- The letters before the place are unchanged, and no word that passes continues them with one of the letters tried so far.
+-- Loop invariant: the letters before `place` are unchanged; and no word that fits begins with these letters and then a letter that is greater than
+-- `least` and has been tried.
 use Rattle.std.proofs.Common.{◌≡◌, ◌+◌, ◌-◌, ◌*◌, length, take}
 use Rattle.tableau_iter.specs.Positions.{IsReady, IsSameUpTo, passes}
 use Rattle.tableau_iter.specs.Walks.{continued}

@@ -1,4 +1,4 @@
--- The letters before the current place were written, and fit.
+-- Loop invariant: the letters of the given word before the current index have been written, and they all fit.
 use Rattle.std.proofs.Common.{◌≡◌, take}
 use Rattle.tableau_iter.specs.Positions.{IsReady, IsSameUpTo}
 use Rattle.tableau_iter.proofs.walk.put_all.Given as goal

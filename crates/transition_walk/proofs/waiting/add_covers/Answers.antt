@@ -1,15 +1,14 @@
 use Rattle.std.proofs.Common.{◌≡◌, ℕ, ◌-◌, List, [], ◌++◌, take, sym, ap, ◌∙◌, subst}
-use Rattle.linear_combinations.proofs.Steps.{on_ok}
 use Rattle.transition_walk.specs.Waiting.{Joins, WaitingOverflows, each_waits}
 use Rattle.transition_walk.proofs.JoinedLists.{joins_none, each_popped}
 use Rattle.transition_walk.proofs.waiting.add_covers.Goals as goal
+use Rattle.std.proofs.lemmas.Result.{on_ok_weaker}
 
 pub returns-in-Some-clause-joins : goal.returns-in-Some-clause-joins
 returns-in-Some-clause-joins g c =
-    on_ok c.give_to_last.result c.give_to_last.ensures.joins
-    (subst (λ more. Joins c.args.todo.now.items more c.give_to_last.new.todo.items)
+    on_ok_weaker c.give_to_last.result (subst (λ more. Joins c.args.todo.now.items more c.give_to_last.new.todo.items)
     (each_popped c.args.list c.args.covers.items c.pop.new.self.items c.in-Some.last
-    c.in-Some.ensures.items))
+    c.in-Some.ensures.items)) c.give_to_last.ensures.joins
 
 pub returns-in-Some-clause-large : goal.returns-in-Some-clause-large
 returns-in-Some-clause-large g c err =

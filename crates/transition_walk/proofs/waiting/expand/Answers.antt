@@ -3,13 +3,13 @@ use Rattle.std.specs.Prelude.{Err}
 use Rattle.schubert_laws.proofs.Members.{short_transition, place_within}
 use Rattle.linear_combinations.specs.Gains.{replaced}
 use Rattle.transition_walk.specs.Transitions.{IsShort}
-use Rattle.linear_combinations.proofs.Steps.{on_ok}
 use Rattle.linear_combinations.proofs.Steps.{error_is}
 use Rattle.transition_walk.specs.Waiting.{Joins, WaitingOverflows, each_waits}
 use Rattle.transition_walk.proofs.JoinedLists.{joins_both, joins_swapped, overflows_both}
 use Rattle.transition_walk.proofs.JoinedLists.{overflows_more, overflows_swapped}
 use Rattle.transition_walk.proofs.Steps.{stepped_as}
 use Rattle.transition_walk.proofs.waiting.expand.Goals as goal
+use Rattle.std.proofs.lemmas.Result.{on_ok_weaker}
 
 pub times_swap-requires-clause-first : goal.times_swap-requires-clause-first
 times_swap-requires-clause-first g c = let p = place_within c.args.waiting.perm c.args.r c.args.s
@@ -55,8 +55,7 @@ add_waiting_by-requires g c t m =
 
 pub returns-clause-joins : goal.returns-clause-joins
 returns-clause-joins g c =
-    on_ok c.add_covers.result c.add_covers.ensures.joins
-    (λ more.
+    on_ok_weaker c.add_covers.result (λ more.
     subst (λ l. Joins c.args.todo.now.items l c.add_covers.new.todo.items)
     (stepped_as g.F.Rule.image (g.F.Factor.made c.args.r) c.args.r c.args.s c.args.waiting
     c.in_ok-covers.covers.items c.in_ok-lower.lower c.at-factor.result c.in_ok-lower.ensures
@@ -75,7 +74,7 @@ returns-clause-joins g c =
           c.args.waiting.factor;
     }) ∷ []) c.add_waiting_by.new.todo.items
     (each_waits c.args.waiting.factor c.in_ok-covers.covers.items) c.add_covers.new.todo.items
-    c.in_ok-add_waiting_by.ensures.joins more)))
+    c.in_ok-add_waiting_by.ensures.joins more))) c.add_covers.ensures.joins
 
 pub returns-clause-large : goal.returns-clause-large
 returns-clause-large g c err =

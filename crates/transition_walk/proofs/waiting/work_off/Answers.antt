@@ -2,13 +2,13 @@ use Rattle.std.proofs.Common.{◌≡◌, ℕ, List, [], ◌∷◌, refl, ap, ari
 use Rattle.std.proofs.lemmas.Int.{ints}
 use Rattle.linear_combinations.specs.Gains.{over}
 use Rattle.linear_combinations.proofs.Masses.{on_both}
-use Rattle.linear_combinations.proofs.Steps.{on_ok}
 use Rattle.transition_walk.proofs.Ranks.{weight_positive}
 use Rattle.transition_walk.proofs.Steps.{are_labels, step_value, step_growth, step_waiting}
 use Rattle.transition_walk.proofs.Steps.{step_short, step_load}
 use Rattle.linear_combinations.specs.Gains.{weighed}
 use Rattle.linear_combinations.proofs.Weighed.{gains_weighed, overflow_weighed}
 use Rattle.transition_walk.proofs.waiting.work_off.Goals as goal
+use Rattle.std.proofs.lemmas.Result.{on_ok_weaker}
 
 pub expand-requires-clause-few : goal.expand-requires-clause-few
 expand-requires-clause-few g c = let i = c.in-Some.ensures.fewer in c.requires.few (omega arith)
@@ -53,7 +53,7 @@ returns-in-Some-clause-step g c =
     })
 
 pub returns-in-Some-clause-table : goal.returns-in-Some-clause-table
-returns-in-Some-clause-table g c = on_ok c.expand.result c.expand.ensures.joins (λ _ was. was)
+returns-in-Some-clause-table g c = on_ok_weaker c.expand.result (λ _ was. was) c.expand.ensures.joins
 
 pub returns-in-Some-clause-large : goal.returns-in-Some-clause-large
 returns-in-Some-clause-large g c err n top is high =

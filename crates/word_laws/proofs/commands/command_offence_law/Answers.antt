@@ -1,4 +1,4 @@
--- The proof of the law about the first error of the words of a command.
+-- The proof of `command_offence_law`: the first error of a list of errors is one of them, and none of them is before it.
 use Rattle.word_laws.proofs.FirstOffences.{first-among, none-before, none-empty, first_none}
 use Rattle.word_laws.proofs.commands.command_offence_law.Goals as goal
 

@@ -1,4 +1,4 @@
--- The proof of the law that words spell at most one command.
+-- The proof of `one_command_law`: words spell at most one command and have at most one first error.
 use Rattle.expression_laws.proofs.PhraseRuns.{one_phrase}
 use Rattle.word_laws.proofs.EntryLists.{one_command, one_offence}
 use Rattle.word_laws.proofs.TargetLetters.{all_clear, line_clear}

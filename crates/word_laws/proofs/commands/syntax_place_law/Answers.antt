@@ -1,4 +1,4 @@
--- The proof of the law about the place where words first fail.
+-- The proof of `syntax_place_law`, on the place of the first error of syntax of words.
 use Rattle.word_laws.proofs.LongestPrefixes.{taken_longest}
 use Rattle.word_laws.proofs.EntryLists.{syntax_sound, command_sound, one_place}
 use Rattle.word_laws.proofs.ExpressionWords.{bytes_longest}

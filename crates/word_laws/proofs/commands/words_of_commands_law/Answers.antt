@@ -1,4 +1,4 @@
--- The proof of the law about the words that commands have.
+-- The proof of `words_of_commands_law`: for each command there are words of its form, and the expression of a command `expand` has a bounded degree.
 use Rattle.word_laws.proofs.CommandFacts.{has_words, expression_degree}
 use Rattle.word_laws.proofs.commands.words_of_commands_law.Goals as goal
 

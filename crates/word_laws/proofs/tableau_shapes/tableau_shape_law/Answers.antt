@@ -1,4 +1,4 @@
--- The proof of the law about tableaux of a given shape.
+-- The proof of `tableau_shape_law`, on the words of tableaux with rows of given lengths.
 use Rattle.word_laws.proofs.ShapedTableaux.{shape_none, shape_place, shape_rows}
 use Rattle.std.proofs.Common.{refl}
 use Rattle.word_laws.proofs.tableau_shapes.tableau_shape_law.Goals as goal

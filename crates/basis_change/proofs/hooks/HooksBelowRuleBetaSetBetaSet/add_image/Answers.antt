@@ -5,9 +5,9 @@ use Rattle.linear_combinations.proofs.Gains.{gains_none}
 use Rattle.linear_combinations.proofs.Steps.{error_is}
 use Rattle.basis_change.specs.RimHooks.{hook, hooks, hooks_below}
 use Rattle.beta_sets.proofs.BetaSets.{below_power}
-use Rattle.basis_change.proofs.HookEntries.{pow_next}
 use Rattle.basis_change.proofs.HookSums.{hooks-next, hooks-end, hooks_gain, hooks_overflow}
 use Rattle.basis_change.proofs.hooks.HooksBelowRuleBetaSetBetaSet.add_image.Goals as goal
+use Rattle.sym_model.proofs.Numbers.{pow_next}
 
 pub loop-init : goal.loop-init
 loop-init c =

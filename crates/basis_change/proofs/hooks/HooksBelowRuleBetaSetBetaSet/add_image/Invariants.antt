@@ -3,7 +3,7 @@ use Rattle.linear_combinations.specs.Gains.{WholeTermsOf, Gains, scaled}
 use Rattle.basis_change.specs.RimHooks.{hooks, hooks_below}
 use Rattle.basis_change.proofs.hooks.HooksBelowRuleBetaSetBetaSet.add_image.Given as goal
 
--- the rim hooks that begin in the rows visited so far have been added
+-- the terms added to `sum` so far are those of the rim hooks that begin in the rows visited so far
 abbrev pub invariant-loop : goal.invariant-loop
 invariant-loop l = (done : WholeTermsOf ℕ) × record {
   all : done ++ hooks l.self.cells (l.self.cells - l.counter) l.beta ≡ hooks_below l.self.cells l.label;

@@ -4,7 +4,7 @@ use Rattle.sym_model.specs.Partition.{size}
 use Rattle.sym_model.specs.WholeTerms.{WholeTerms}
 use Rattle.linear_combinations.specs.Gains.{Gains, Overflows, HaveLabels, scaled, each_with}
 use Rattle.linear_combinations.proofs.Gains.{gains_both, overflows_both, overflows_more}
-use Rattle.linear_combinations.proofs.Steps.{error_is, on_ok}
+use Rattle.linear_combinations.proofs.Steps.{error_is}
 use Rattle.sparse_polys.proofs.PartitionTerms.{IsWithinLimits-low}
 use Rattle.family_lists.specs.FactorLists.{list_at}
 use Rattle.family_lists.proofs.PlacedLists.{list_at-index}
@@ -14,6 +14,7 @@ use Rattle.basis_change.proofs.LastParts.{ended}
 use Rattle.basis_change.proofs.Conversions.{converted_terms}
 use Rattle.basis_change.proofs.Costs.{list_of}
 use Rattle.basis_change.proofs.rewriting.LastPartRulePairPair.add_image.Goals as goal
+use Rattle.std.proofs.lemmas.Result.{on_ok_weaker}
 
 pub overflow_sub-factor : goal.overflow_sub-factor
 overflow_sub-factor c =
@@ -149,8 +150,7 @@ returns-clause-gains c =
     ∙ c.if-rows-self.false) p
     ∙ ap (λ (l : MixedLabel). scaled c.args.c (conversion c.args.self.now.factors.now
     c.args.self.now.rows l)) c.label.view_is in
-    on_ok c.take_raised.result c.take_raised.ensures.gains
-    (λ more.
+    on_ok_weaker c.take_raised.result (λ more.
     subst (λ (l : Mixed). Gains c.args.sum.now l c.take_raised.new.sum) all
     (gains_both c.args.sum.now
     (scaled z (products (get_or c.args.self.now.factors.now (c.from.result - 1)
@@ -160,7 +160,7 @@ returns-clause-gains c =
     (scaled c.args.c (products (get_or c.args.self.now.factors.now (c.from.result - 1)
     c.index-self-from.result) l c.in-Some.rest.now)) c.add_mixed.new.sum)
     c.parts-2.ensures.value c.in_ok-add_mixed.ensures.gains)
-    more))
+    more)) c.take_raised.ensures.gains
 
 pub returns-clause-large : goal.returns-clause-large
 returns-clause-large c err =

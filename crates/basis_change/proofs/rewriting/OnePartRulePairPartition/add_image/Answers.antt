@@ -4,7 +4,6 @@ use Rattle.std.specs.Prelude.{Some, slice_get}
 use Rattle.sym_model.specs.Partition.{IsPartition, size}
 use Rattle.sym_model.specs.WholeTerms.{WholeTerms}
 use Rattle.linear_combinations.specs.Gains.{Gains, Overflows, scaled}
-use Rattle.linear_combinations.proofs.Steps.{on_ok}
 use Rattle.sparse_polys.specs.LabelSizes.{AreWithin}
 use Rattle.sparse_polys.specs.Tables.{equal}
 use Rattle.sparse_polys.proofs.Bounds.{greatest-within}
@@ -14,15 +13,15 @@ use Rattle.basis_change.specs.AugmentedProducts.{MixedLabel, IsReady, in_target}
 use Rattle.basis_change.proofs.Conversions.{target_terms}
 use Rattle.basis_change.proofs.Costs.{list_of}
 use Rattle.basis_change.proofs.rewriting.OnePartRulePairPartition.add_image.Goals as goal
+use Rattle.std.proofs.lemmas.Result.{on_ok_weaker}
 
--- if the first part of a list is a, the list is a followed by the other parts
 first_part : (parts : List ℕ) (a : ℕ) → Some a ≡ slice_get parts 0 →
     (rest : List ℕ) × (parts ≡ a ∷ rest)
 first_part [] a e = cc
 first_part (b ∷ parts) a e = (parts, ap (λ x. x ∷ parts) (let h : b ≡ a = cc in h))
 
--- if a label is ready and the first part of its augmented monomial is a, then a is positive, and a and the cells of the
--- other partition add up to at most d
+-- if a label satisfies `IsReady d 1` and its augmented monomial has the first part a, then a is positive, and a plus the size of the first partition
+-- of the label is at most d
 has-list : (d : ℕ) (label : MixedLabel) (a : ℕ) (rest : List ℕ) → IsReady d 1 label →
     label.1 ≡ a ∷ rest → (0 < a) × (size label.0 + a < d + 1)
 has-list d label a rest r e =
@@ -73,8 +72,7 @@ returns-clause-gains c =
     (get_or c.args.self.now.factors.now (c.from.result - 1) c.index-self-from.result)
     c.in-Some.part.now is f.0 c.args.c e ∙ ap (λ (l : MixedLabel). scaled c.args.c
     (in_target c.args.self.now.factors.now l)) c.label.view_is in
-    on_ok c.add_row.result c.add_row.ensures.gains
-    (λ more. subst (λ (l : WholeTerms). Gains c.args.sum.now l c.add_row.new.sum) all more)
+    on_ok_weaker c.add_row.result (λ more. subst (λ (l : WholeTerms). Gains c.args.sum.now l c.add_row.new.sum) all more) c.add_row.ensures.gains
 
 pub returns-clause-large : goal.returns-clause-large
 returns-clause-large c err =

@@ -5,7 +5,7 @@ use Rattle.beta_sets.proofs.beta_set.BetaSet.partition.Given as goal
 abbrev pub decreases-loop-number : goal.decreases-loop-number
 decreases-loop-number l = l.rows
 
--- the parts so far, followed by the partition of the other numbers, are the partition of the set
+-- the parts listed so far, followed by the parts that the numbers not yet visited give, are the partition of the set
 abbrev pub invariant-loop-number : goal.invariant-loop-number
 invariant-loop-number l = record {
   all : l.parts.items ++ shape l.rest ≡ shape l.fn.self;

@@ -5,7 +5,6 @@ use Rattle.sym_model.specs.Permutation.{covers_up, covers_down, letter}
 use Rattle.sym_model.specs.DividedDifference.{raised}
 use Rattle.schubert_laws.proofs.Ranks.{letter_counts}
 use Rattle.double_schubert_laws.proofs.DoubleFromOne.{letter_small}
-use Rattle.linear_combinations.proofs.Steps.{on_ok}
 use Rattle.linear_combinations.proofs.Steps.{error_is}
 use Rattle.linear_combinations.specs.Gains.{Gains, Overflows, scaled}
 use Rattle.coeff_rings.specs.Proved.Whole.{whole_fitted}
@@ -14,8 +13,9 @@ use Rattle.double_schubert.proofs.FactorGains.{added, factor_scaled, added_gains
 use Rattle.double_schubert.proofs.FactorGains.{overflow_second, overflow_third, overflow_last}
 use Rattle.double_schubert.proofs.FactorGains.{overflow_negative}
 use Rattle.double_schubert.proofs.factor.TimesFactorRuleShiftedShifted.add_image.Goals as goal
+use Rattle.std.proofs.lemmas.Result.{on_ok_weaker}
 
--- the four lists that are added are together k times the terms of the factor
+-- the four lists that are added are together k times the terms of the product of x_r - y_c and the term y^e·S_p with the label (p, e)
 parts : (k minus : ℤ) (r c letter_is : ℕ) (p e : List ℕ) (label : List ℕ × List ℕ)
     (up down : List (List ℕ)) (more less : List ℕ) → (p, e) ≡ label → minus ≡ neg_ℤ k → letter_is
     ≡ letter p r
@@ -61,8 +61,7 @@ pub returns-clause-gains : goal.returns-clause-gains
 returns-clause-gains c =
     let minus : c.in_ok-minus.minus ≡ neg_ℤ c.args.k = whole_fitted (neg_ℤ c.args.k)
     c.in_ok-minus.minus (sym c.neg.ensures.negation ∙ c.in_ok-minus.ensures.ok_part) in
-    on_ok c.add_one-2.result c.add_one-2.ensures.gains
-    (λ last.
+    on_ok_weaker c.add_one-2.result (λ last.
     subst (λ l. Gains c.args.sum.now l c.add_one-2.new.sum)
     (parts c.args.k c.in_ok-minus.minus c.args.self.now.r c.args.self.now.c c.letter-letter.result _
     _ c.args.label.now c.up.result.now c.down.result.now c.in_ok-more.more c.in_ok-less.less
@@ -73,7 +72,7 @@ returns-clause-gains c =
     c.in_ok-more.more c.in_ok-less.less c.args.sum.now c.add_beside.new.sum
     c.add_beside-2.new.sum c.add_one.new.sum c.add_one-2.new.sum
     c.in_ok-add_beside.ensures.gains c.in_ok-add_beside-2.ensures.gains
-    c.in_ok-add_one.ensures.gains last))
+    c.in_ok-add_one.ensures.gains last)) c.add_one-2.ensures.gains
 
 pub returns-in_err-minus-clause-large : goal.returns-in_err-minus-clause-large
 returns-in_err-minus-clause-large c err =

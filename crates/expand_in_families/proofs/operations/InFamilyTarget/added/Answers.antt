@@ -11,15 +11,15 @@ use Rattle.expand_in_families.proofs.NodeSums.{clears-sum, large-sum, large-fact
 use Rattle.expand_in_families.proofs.NodeSums.{large-sum_denominator}
 use Rattle.expand_in_families.proofs.operations.InFamilyTarget.added.Goals as goal
 
-pub returns-in_err-common : goal.returns-in_err-common
-returns-in_err-common c e f t h k =
+pub returns-in_err-common-clause-made : goal.returns-in_err-common-clause-made
+returns-in_err-common-clause-made c e f t h k =
     failed (ClearsTo (polynomial_of c.args.self.now.family)) IsHeavyInFamilies (sum e f) _ _
     c.from_residual.ensures.0 c.from_residual.ensures.1
     (λ _. large-sum_denominator (polynomial_of c.args.self.now.family) e f c.args.left
     c.args.right t.plain.0 t.plain.1 h k c.in_err-common.ensures.large)
 
-pub returns-in_err-p : goal.returns-in_err-p
-returns-in_err-p c e f t h k =
+pub returns-in_err-p-clause-made : goal.returns-in_err-p-clause-made
+returns-in_err-p-clause-made c e f t h k =
     let common = c.in_ok-common.ensures.ok in
     failed (ClearsTo (polynomial_of c.args.self.now.family)) IsHeavyInFamilies (sum e f) _ _
     c.from_residual-in_err-p.ensures.0 c.from_residual-in_err-p.ensures.1
@@ -35,8 +35,8 @@ returns-in_err-p c e f t h k =
     c.args.left.den c.args.right.den c.in_ok-common.common.den c.in_ok-common.common.from_left common.0
     common.1 common.3) c.in_err-p.ensures)))
 
-pub returns-in_err-q : goal.returns-in_err-q
-returns-in_err-q c e f t h k =
+pub returns-in_err-q-clause-made : goal.returns-in_err-q-clause-made
+returns-in_err-q-clause-made c e f t h k =
     let common = c.in_ok-common.ensures.ok in
     failed (ClearsTo (polynomial_of c.args.self.now.family)) IsHeavyInFamilies (sum e f) _ _
     c.from_residual-in_err-q.ensures.0 c.from_residual-in_err-q.ensures.1
@@ -52,8 +52,8 @@ returns-in_err-q c e f t h k =
     c.args.left.den c.args.right.den c.in_ok-common.common.den c.in_ok-common.common.from_right common.0
     common.1 common.4) c.in_err-q.ensures)))
 
-pub returns-in_err-terms : goal.returns-in_err-terms
-returns-in_err-terms c e f t h k =
+pub returns-in_err-terms-clause-made : goal.returns-in_err-terms-clause-made
+returns-in_err-terms-clause-made c e f t h k =
     let common = c.in_ok-common.ensures.ok in
     let left = to_z-of_z {w = w128} {z = c.get.result} (record { sfits = c.get.type_inv })
     ∙ c.get.ensures in
@@ -75,8 +75,8 @@ returns-in_err-terms c e f t h k =
     common.1 common.4 ∙ common.4))
     (c.in_err-terms.ensures.large (ap Err large)))
 
-pub returns : goal.returns
-returns c e f t h k =
+pub returns-clause-made : goal.returns-clause-made
+returns-clause-made c e f t h k =
     let common = c.in_ok-common.ensures.ok in
     let left = to_z-of_z {w = w128} {z = c.get.result} (record { sfits = c.get.type_inv })
     ∙ c.get.ensures in

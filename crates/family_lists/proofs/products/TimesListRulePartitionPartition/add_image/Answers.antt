@@ -2,11 +2,11 @@ use Rattle.std.proofs.Common.{◌≡◌, [], ◌∷◌, length, ap, sym, subst, 
 use Rattle.sym_model.specs.WholeTerms.{WholeTerms}
 use Rattle.linear_combinations.specs.Gains.{Gains, Overflows, scaled}
 use Rattle.linear_combinations.proofs.Gains.{gains_none}
-use Rattle.linear_combinations.proofs.Steps.{on_ok}
 use Rattle.sparse_polys.specs.Tables.{equal}
 use Rattle.basis_change_laws.specs.JoinedLists.{row}
 use Rattle.family_lists.proofs.RowSteps.{row-gained, large-row}
 use Rattle.family_lists.proofs.products.TimesListRulePartitionPartition.add_image.Goals as goal
+use Rattle.std.proofs.lemmas.Result.{on_ok_weaker}
 
 nothing : (old : WholeTerms) (k : List ℕ) (x c : ℤ) (V : WholeTerms) → length V ≡ 0 → Gains old
     (scaled x (row k c V)) old
@@ -24,17 +24,16 @@ returns-in_err-c-clause-large c err =
     c.len.ensures.combination
     (λ e. c.if-len-eq0.false (c.len.ensures.len ∙ e)) c.in_err-c.ensures
 
--- if z = x·c, then z times the products of k and the terms of V (`row k z V`) is x times those with c
+-- for a label k, and z = x·c: the product of the term z·k and the list V (`row k z V`) is x times the product of the term c·k and V
 image : (k : List ℕ) (x c z : ℤ) (V : WholeTerms) → z ≡ x *ℤ c → row k z V ≡ scaled x (row k c V)
 image k x c z V e = ap (λ y. row k y V) e ∙ row-gained k x c V
 
 pub returns-clause-gains : goal.returns-clause-gains
 returns-clause-gains c =
-    on_ok c.add_row.result c.add_row.ensures.gains
-    (λ more.
+    on_ok_weaker c.add_row.result (λ more.
     subst (λ (l : WholeTerms). Gains c.args.sum.now l c.add_row.new.sum)
     (image c.args.label.now c.args.x c.args.self.now.c c.in_ok-c.c c.args.self.now.list.now
-    c.in_ok-c.ensures) more)
+    c.in_ok-c.ensures) more) c.add_row.ensures.gains
 
 pub returns-clause-large : goal.returns-clause-large
 returns-clause-large c err =

@@ -3,8 +3,7 @@ use Rattle.std.specs.Map.Iter.{deref_pair}
 use Rattle.linear_combinations.specs.Entries.{coefficient, IsCombination, IsSumOf, IsRefused}
 use Rattle.linear_combinations.proofs.lin.Lin.add_all.Given as goal
 
--- the list is the sum of the map at the start and the pairs so far, and the ring refuses no sum of coefficients of
--- these two at one label
+-- the list is the sum of the map at the start and the pairs visited so far, and the checked addition of these two fails at no label
 abbrev pub invariant-loop-label : goal.invariant-loop-label
 invariant-loop-label g l = record {
   was : IsCombination g.L.PartialEq.eq g.L.Label.is_label g.R.Scalar.value l.fn.self;

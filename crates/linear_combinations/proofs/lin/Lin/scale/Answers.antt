@@ -14,10 +14,11 @@ use Rattle.linear_combinations.proofs.Tables.{lowest-coefficient}
 use Rattle.linear_combinations.proofs.Gains.{next_among}
 use Rattle.linear_combinations.proofs.Multiples.{held-Relates, zero_product, Relates, IsProduct}
 use Rattle.linear_combinations.proofs.Multiples.{Relates-push, keys-Relates, next_at, set_next}
-use Rattle.linear_combinations.proofs.Multiples.{length-both, place_within, rest_empty}
+use Rattle.linear_combinations.proofs.Multiples.{place_within, rest_empty}
 use Rattle.linear_combinations.proofs.Multiples.{IsMultipleOf-Relates, are_terms-Relates}
 use Rattle.linear_combinations.proofs.Multiples.{fits-Relates}
 use Rattle.linear_combinations.proofs.lin.Lin.scale.Goals as goal
+use Rattle.std.proofs.lemmas.List.{length-append}
 
 pub loop-at-init : goal.loop-at-init
 loop-at-init g c = (
@@ -134,7 +135,7 @@ loop-at-preserved g c =
                   product held,
               held,
             );
-        place = length-both done ((k, product) ∷ []) ∙ ap (λ (n : ℕ). n + 1) inv.place;
+        place = length-append done ((k, product) ∷ []) ∙ ap (λ (n : ℕ). n + 1) inv.place;
         ends = inv.ends;
       },
     )

@@ -1,13 +1,12 @@
-use Rattle.linear_combinations.proofs.Steps.{on_ok}
 use Rattle.linear_combinations.proofs.Gains.{gains_term, overflows_term}
 use Rattle.linear_combinations.proofs.whole.Lin+L+Int.add_at_label.Goals as goal
+use Rattle.std.proofs.lemmas.Result.{on_ok_weaker}
 
 pub returns-clause-gains : goal.returns-clause-gains
 returns-clause-gains g c =
-    on_ok c.add_copied.result c.add_copied.ensures.ok
-    (λ more. gains_term g.met.L.Eq.laws g.met.L.Label.same_label c.args.self.now c.add_copied.new.self
+    on_ok_weaker c.add_copied.result (λ more. gains_term g.met.L.Eq.laws g.met.L.Label.same_label c.args.self.now c.add_copied.new.self
     c.add_copied.ensures.tables.before.combination c.add_copied.ensures.tables.after.combination
-    c.args.label.now c.args.c more)
+    c.args.label.now c.args.c more) c.add_copied.ensures.ok
 
 pub returns-clause-large : goal.returns-clause-large
 returns-clause-large g c err =

@@ -1,12 +1,11 @@
-use Rattle.linear_combinations.proofs.Steps.{on_ok}
 use Rattle.linear_combinations.proofs.Gains.{gains_term, overflows_term}
 use Rattle.linear_combinations.proofs.whole.Lin+L+Int.add_owned.Goals as goal
+use Rattle.std.proofs.lemmas.Result.{on_ok_weaker}
 
 pub returns-clause-gains : goal.returns-clause-gains
 returns-clause-gains g c =
-    on_ok c.add_term.result c.add_term.ensures.ok
-    (λ more. gains_term g.met.L.Eq.laws g.met.L.Label.same_label c.args.self.now c.add_term.new.self
-    c.add_term.ensures.tables.before.combination c.add_term.ensures.tables.after.combination c.args.label c.args.c more)
+    on_ok_weaker c.add_term.result (λ more. gains_term g.met.L.Eq.laws g.met.L.Label.same_label c.args.self.now c.add_term.new.self
+    c.add_term.ensures.tables.before.combination c.add_term.ensures.tables.after.combination c.args.label c.args.c more) c.add_term.ensures.ok
 
 pub returns-clause-large : goal.returns-clause-large
 returns-clause-large g c err =

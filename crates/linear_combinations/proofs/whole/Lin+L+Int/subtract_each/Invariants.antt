@@ -3,6 +3,6 @@ use Rattle.std.specs.Prelude.{neg_ℤ}
 use Rattle.linear_combinations.specs.Gains.{Gains, each_with}
 use Rattle.linear_combinations.proofs.whole.Lin+L+Int.subtract_each.Given as goal
 
--- the table has gained -c at each of the labels so far
+-- the table is the one at the start minus c at each of the labels visited so far (`Gains`)
 abbrev pub invariant-loop-label : goal.invariant-loop-label
 invariant-loop-label g l = Gains l.fn.self (each_with (neg_ℤ l.c) (take l.label-index l.labels)) l.self

@@ -2,12 +2,12 @@ use Rattle.std.proofs.Common.{◌+◌, true, false, not, eqb-true, [], ◌∷◌
 use Rattle.std.specs.List.{swap}
 use Rattle.sym_model.specs.PlaceOrders.{inversions}
 use Rattle.sym_model.specs.Permutation.{kept}
-use Rattle.sym_model.proofs.Numbers.{nat_lt-false}
 use Rattle.perm_codes.proofs.InversionCounts.{few_inversions}
 use Rattle.perm_codes.proofs.OneSwap.{rising_test, falling_test}
 use Rattle.monk_product.proofs.ShortPerms.{short_of, swapped, cover_is}
 use Rattle.monk_product.proofs.short_perm.ShortPerm.cover.Goals as goal
 use Rattle.monk_product.proofs.short_perm.ShortPerm.cover.Goals.{else-low-high-via-then-low-high+else-not-has_between, else-low-high-via-else-low-high}
+use Rattle.std.proofs.lemmas.Bool.{le-ltb}
 
 pub overflow_add-result : goal.overflow_add-result
 overflow_add-result c =
@@ -51,6 +51,5 @@ returns-else-low-high c =
           c.args.second false c.self.view_is c.self.invariant c.requires.order c.requires.inside
           (sym (falling_test c.args.first c.args.second c.self.inside.letters c.requires.order
           (omega arith) c.self.invariant.one_line.once w.if-low-high.false)
-          ∙ nat_lt-false (get_or c.self.inside.letters c.args.first 0)
-          (get_or c.self.inside.letters c.args.second 0) w.if-low-high.false))
+          ∙ le-ltb (get_or c.self.inside.letters c.args.first 0) (get_or c.self.inside.letters c.args.second 0) w.if-low-high.false))
     ]

@@ -1,4 +1,4 @@
--- Removing the fixed letters at the end gives the same for the first `len` letters as for all letters.
+-- Removing the fixed letters at the end of the first `len` letters gives the same list as removing them at the end of all 32 letters.
 use Rattle.std.proofs.Common.{◌≡◌, ◌≤◌, take}
 use Rattle.sym_model.specs.Permutation.{kept}
 use Rattle.monk_product.proofs.short_perm.ShortPerm.len.Given as goal

@@ -1,4 +1,4 @@
--- The first `at` letters of the buffer are those of the permutation.
+-- The first `at` letters of the buffer are the first `at` letters of the permutation.
 use Rattle.std.proofs.Common.{◌≡◌, length, take}
 use Rattle.monk_product.proofs.short_perm.ShortPerm.perm.Given as goal
 

@@ -1,4 +1,4 @@
--- Each row of the inner partition before the current one is at most the same row of the outer partition.
+-- Each part of the inner partition before the current row is at most the part of the outer partition in the same row.
 use Rattle.std.proofs.Common.{ℕ, ◌<◌, ◌≤◌, slice_index}
 use Rattle.partitions.proofs.partition.Partition.contains.Given as goal
 

@@ -1,4 +1,4 @@
--- The entries so far, followed by the code of the letters from the current place on, are the code.
+-- The entries computed so far, followed by the code of the letters from the current place on, are the code of all letters.
 use Rattle.std.proofs.Common.{◌≡◌, ◌++◌, length, take, drop}
 use Rattle.sym_model.specs.Permutation.{code}
 use Rattle.perm_codes.proofs.perm.Perm.code.Given as goal

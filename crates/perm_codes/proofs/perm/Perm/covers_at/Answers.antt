@@ -9,8 +9,9 @@ use Rattle.perm_codes.proofs.CoverSteps.{covers_down_fixed, covers_up_fixed, sam
 use Rattle.perm_codes.proofs.InversionCounts.{few_inversions}
 use Rattle.perm_codes.proofs.WithinLimits.{length-with_fixed, short_fixed}
 use Rattle.perm_codes.proofs.perm.Perm.covers_at.Goals as goal
+use Rattle.sym_model.proofs.Numbers.{one_before}
 
--- `slice` is w with fixed letters added up to the first place after w and r
+-- `slice` is w with fixed letters added up to the place 1 + max(r, the number of letters of w)
 letters_are :
     (slice list letters w : List ℕ) (last greater len r : ℕ) → slice ≡ list → list ≡ with_fixed last
     letters → letters ≡ w
@@ -21,9 +22,6 @@ letters_are slice list letters w last greater len r a b d e f g =
 
 few : (len r : ℕ) → len ≤ 254 → r ≤ 254 → max len r + 1 ≤ 255
 few len r h l = omega arith
-
-place : (from r : ℕ) → from ≡ r → 1 ≤ r → from - 1 + 1 ≡ r
-place from r e h = omega arith
 
 pub of_letters-requires-clause-permutation : goal.of_letters-requires-clause-permutation
 of_letters-requires-clause-permutation c =
@@ -62,7 +60,7 @@ returns-clause-up c =
     let found : IfOk c.of_letters.result (λ covers. covers.up ≡ up_of c.as_slice.result.now
     (c.from-2.result - 1 + 1)) = search rules in
     let is : up_of c.as_slice.result.now (c.from-2.result - 1 + 1) ≡ covers_up c.args.r w =
-    ap₂ up_of letters (place _ _ c.from-2.ensures c.requires.place)
+    ap₂ up_of letters (one_before _ _ c.from-2.ensures c.requires.place)
     ∙ covers_up_fixed w c.args.r last (few (length w) c.args.r c.requires.letters c.requires.last)
     c.letters.ensures.limits c.requires.place refl in
     subst (λ list. IfOk c.of_letters.result (λ covers. covers.up ≡ list)) is found
@@ -77,7 +75,7 @@ returns-clause-down c =
     (c.from-2.result - 1)) = search rules in
     let is : down_of c.as_slice.result.now (c.from-2.result - 1) ≡ covers_down c.args.r w =
     ap₂ (λ k m. covers_among c.as_slice.result.now (map (λ i. times_swap i k c.as_slice.result.now)
-    (after 0 m))) (place _ _ c.from-2.ensures c.requires.place)
+    (after 0 m))) (one_before _ _ c.from-2.ensures c.requires.place)
     (ap (λ n. n - 1) c.from-2.ensures)
     ∙ ap (covers_down c.args.r) letters
     ∙ covers_down_fixed w c.args.r last (few (length w) c.args.r c.requires.letters c.requires.last)

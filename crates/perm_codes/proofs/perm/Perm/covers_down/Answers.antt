@@ -1,4 +1,4 @@
-use Rattle.std.proofs.Common.{◌≡◌, ◌+◌, ◌-◌, ◌≤◌, IfOk, List, ℕ, map, length, rules, sym, ap, ap₂}
+use Rattle.std.proofs.Common.{◌≡◌, ◌+◌, ◌-◌, IfOk, List, ℕ, map, length, rules, sym, ap, ap₂}
 use Rattle.std.proofs.Common.{◌∙◌, subst, arith}
 use Rattle.sym_model.specs.PlaceOrders.{inversions}
 use Rattle.sym_model.specs.Partition.{after}
@@ -8,15 +8,13 @@ use Rattle.perm_codes.proofs.CoverSteps.{covers_down_fixed, same_inversions}
 use Rattle.perm_codes.proofs.InversionCounts.{few_inversions}
 use Rattle.perm_codes.proofs.WithinLimits.{length-with_fixed, short_fixed}
 use Rattle.perm_codes.proofs.perm.Perm.covers_down.Goals as goal
+use Rattle.sym_model.proofs.Numbers.{one_before}
 
 -- `slice` is w with fixed letters added up to the place r
 letters_are : (slice list letters w : List ℕ) (last r : ℕ) → slice ≡ list → list ≡ with_fixed last
     letters → letters ≡ w
     → last ≡ r → slice ≡ with_fixed r w
 letters_are slice list letters w last r a b d e = a ∙ b ∙ ap₂ with_fixed e d
-
-place : (from r : ℕ) → from ≡ r → 1 ≤ r → from - 1 + 1 ≡ r
-place from r e h = omega arith
 
 abbrev letters_of : goal.After-from-2 → Type 0
 letters_of c = c.as_slice.result.now ≡ with_fixed c.args.r c.args.self.now
@@ -65,7 +63,7 @@ returns c =
     (c.from-2.result - 1)) = search rules in
     let is : down_of c.as_slice.result.now (c.from-2.result - 1) ≡ covers_down c.args.r w =
     ap₂ (λ k m. covers_among c.as_slice.result.now (map (λ i. times_swap i k c.as_slice.result.now)
-    (after 0 m))) (place _ _ c.from-2.ensures c.requires.place)
+    (after 0 m))) (one_before _ _ c.from-2.ensures c.requires.place)
     (ap (λ n. n - 1) c.from-2.ensures)
     ∙ ap (covers_down c.args.r) letters
     ∙ covers_down_fixed w c.args.r c.args.r c.requires.last c.letters.ensures.limits in

@@ -33,7 +33,7 @@ inversions_exchanged-count-requires-clause-inside c =
     let far = reach c.as_slice.result.now c.args.self.now c.args.j is in
     omega (arith, c.from-second.ensures, c.requires.first, c.requires.order)
 
--- with fixed letters added, w has the same number of inversions
+-- w with fixed letters added has the same number of inversions as w
 pub inversions_exchanged-count-requires-clause-count
     : goal.inversions_exchanged-count-requires-clause-count
 inversions_exchanged-count-requires-clause-count c =

@@ -1,7 +1,7 @@
 use Rattle.std.proofs.Common.{◌≡◌, [], ◌∷◌, sym, ◌∙◌, ap, subst, arith, ℤ, ◌*ℤ◌}
 use Rattle.std.specs.Prelude.{OnOk, nat_eq}
 use Rattle.std.specs.Cmp.Lexicographic.{pointwise}
-use Rattle.coeff_rings.proofs.Sizes.{answered_is, refused_size}
+use Rattle.coeff_rings.proofs.Sizes.{refused_size}
 use Rattle.sym_model.specs.WholeTerms.{WholeTerms}
 use Rattle.sparse_polys.proofs.Accumulating.{at_same}
 use Rattle.linear_combinations.specs.Gains.{Gains, Overflows, scaled}
@@ -12,6 +12,7 @@ use Rattle.rim_hooks.specs.SignLaws.{sign_told, signed_size}
 use Rattle.rim_hooks.proofs.ReducedProducts.{overflow_one}
 use Rattle.rim_hooks.proofs.SignCasts.{kept_narrow}
 use Rattle.rim_hooks.proofs.fusion_product.ReflectionsReductionPartition.add_reduced.Goals as goal
+use Rattle.coeff_rings.specs.Proved.Whole.{whole_fitted}
 
 pub add_signed-requires : goal.add_signed-requires
 add_signed-requires c =
@@ -40,8 +41,7 @@ returns-clause-gains c =
     let e = ap signed_partition (sym c.in-Some.is) ∙ c.in_ok-alcove.ensures.value in
     let is = sign_told c.args.self.now.k c.args.self.now.n c.args.grown.now alcove.shape alcove.sign
     e in
-    let product : c.in-Some-mul.product ≡ c.args.c *ℤ c.args.d = answered_is (c.args.c *ℤ c.args.d)
-    c.in-Some-mul.product c.in-Some-mul.ensures.product in
+    let product : c.in-Some-mul.product ≡ c.args.c *ℤ c.args.d = whole_fitted (c.args.c *ℤ c.args.d) c.in-Some-mul.product (sym c.in-Some-mul.ensures.product) in
     let with : ℤ → ℤ → WholeTerms = λ p z. scaled p ((alcove.shape, z) ∷ []) in
     let path = ap (with c.in-Some-mul.product) (kept_narrow alcove.sign is)
     ∙ ap (λ p. with p alcove.sign) product
@@ -55,8 +55,7 @@ returns-clause-large c err =
     let e = ap signed_partition (sym c.in-Some.is) ∙ c.in_ok-alcove.ensures.value in
     let is = sign_told c.args.self.now.k c.args.self.now.n c.args.grown.now alcove.shape alcove.sign
     e in
-    let product : c.in-Some-mul.product ≡ c.args.c *ℤ c.args.d = answered_is (c.args.c *ℤ c.args.d)
-    c.in-Some-mul.product c.in-Some-mul.ensures.product in
+    let product : c.in-Some-mul.product ≡ c.args.c *ℤ c.args.d = whole_fitted (c.args.c *ℤ c.args.d) c.in-Some-mul.product (sym c.in-Some-mul.ensures.product) in
     let with : ℤ → ℤ → WholeTerms = λ p z. scaled p ((alcove.shape, z) ∷ []) in
     let path = ap (with c.in-Some-mul.product) (kept_narrow alcove.sign is)
     ∙ ap (λ p. with p alcove.sign) product

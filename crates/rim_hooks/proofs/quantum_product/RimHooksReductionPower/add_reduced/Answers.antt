@@ -4,7 +4,7 @@ use Rattle.std.specs.Prelude.{OnOk}
 use Rattle.std.specs.Cmp.Lexicographic.{pointwise}
 use Rattle.std.proofs.Math.Nat.{mul-le-mul_left}
 use Rattle.sym_model.specs.RimHookReduction.{ReducesTo}
-use Rattle.coeff_rings.proofs.Sizes.{answered_is, refused_size}
+use Rattle.coeff_rings.proofs.Sizes.{refused_size}
 use Rattle.beta_list_laws.proofs.Ends.{goes_cells}
 use Rattle.linear_combinations.specs.Gains.{Gains, Overflows, scaled}
 use Rattle.rim_hooks.specs.Collected.{IsSign}
@@ -16,6 +16,7 @@ use Rattle.rim_hooks.proofs.ReducedProducts.{overflow_one}
 use Rattle.rim_hooks.proofs.SignCasts.{kept_narrow}
 use Rattle.product_laws.specs.FactorSteps.{PowerTerms}
 use Rattle.rim_hooks.proofs.quantum_product.RimHooksReductionPower.add_reduced.Goals as goal
+use Rattle.coeff_rings.specs.Proved.Whole.{whole_fitted}
 
 abbrev equal : ℕ × List ℕ → ℕ × List ℕ → Bool
 equal a b = nat_eq a.0 b.0 && pointwise nat_eq a.1 b.1
@@ -69,8 +70,7 @@ returns-clause-gains c =
     let e = ap reduction (sym c.in-Some.is) ∙ c.in_ok-core.ensures.remainders in
     let is = core_sign c.args.self.now.k c.args.self.now.n c.args.grown.now core.shape core.sign
     core.power e in
-    let product : c.in-Some-mul.product ≡ c.args.c *ℤ c.args.d = answered_is (c.args.c *ℤ c.args.d)
-    c.in-Some-mul.product c.in-Some-mul.ensures.product in
+    let product : c.in-Some-mul.product ≡ c.args.c *ℤ c.args.d = whole_fitted (c.args.c *ℤ c.args.d) c.in-Some-mul.product (sym c.in-Some-mul.ensures.product) in
     let with : ℕ → ℤ → ℤ → PowerTerms = λ x p z. scaled p (((x + core.power, core.shape), z) ∷ [])
     in
     let path = ap (with c.label.inside.power c.in-Some-mul.product) (kept_narrow core.sign is)
@@ -86,8 +86,7 @@ returns-clause-large c err =
     let e = ap reduction (sym c.in-Some.is) ∙ c.in_ok-core.ensures.remainders in
     let is = core_sign c.args.self.now.k c.args.self.now.n c.args.grown.now core.shape core.sign
     core.power e in
-    let product : c.in-Some-mul.product ≡ c.args.c *ℤ c.args.d = answered_is (c.args.c *ℤ c.args.d)
-    c.in-Some-mul.product c.in-Some-mul.ensures.product in
+    let product : c.in-Some-mul.product ≡ c.args.c *ℤ c.args.d = whole_fitted (c.args.c *ℤ c.args.d) c.in-Some-mul.product (sym c.in-Some-mul.ensures.product) in
     let with : ℕ → ℤ → ℤ → PowerTerms = λ x p z. scaled p (((x + core.power, core.shape), z) ∷ [])
     in
     let path = ap (with c.label.inside.power c.in-Some-mul.product) (kept_narrow core.sign is)

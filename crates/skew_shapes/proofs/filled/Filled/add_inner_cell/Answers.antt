@@ -11,7 +11,7 @@ use Rattle.skew_shapes.proofs.KeptRows.{IsSkew-inner_lowered, filling_in-added, 
 use Rattle.skew_shapes.proofs.KeptRows.{row_within}
 use Rattle.skew_shapes.proofs.filled.Filled.add_inner_cell.Goals as goal
 
--- if a row of the inner partition ends in a corner, that corner is a cell of the outer partition
+-- if the last cell of row `row` of the inner partition is a corner of the inner partition (`HasInnerCorner`), it is a cell of the outer partition
 corner_cell :
     (shape : List ℕ × List ℕ) (starts numbers : List ℕ) (row : ℕ) → IsKept shape starts numbers →
     HasInnerCorner row shape.1

@@ -1,4 +1,4 @@
--- All rows before the current one pass the test `row_passes`.
+-- Loop invariant: all rows before the current one pass the test `row_passes`.
 use Rattle.std.proofs.Common.{◌≡◌, true}
 use Rattle.sym_model.specs.Partition.{after}
 use Rattle.sym_model.specs.GoodTableau.{every}

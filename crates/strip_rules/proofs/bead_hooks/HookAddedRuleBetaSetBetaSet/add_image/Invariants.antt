@@ -7,7 +7,7 @@ use Rattle.strip_rules.proofs.bead_hooks.HookAddedRuleBetaSetBetaSet.add_image.G
 abbrev pub decreases-loop-place : goal.decreases-loop-place
 decreases-loop-place l = l.places
 
--- the sets with a bead moved from one of the places `passed` have been added, and the other places are to come
+-- the sets that result from moving the bead at one of the places `passed` have been added to the table; the other places are still to come
 abbrev pub invariant-loop-place : goal.invariant-loop-place
 invariant-loop-place l = (passed : List ℕ) × record {
   all : passed ++ numbers l.places ≡ free l.self.cells (numbers l.label);

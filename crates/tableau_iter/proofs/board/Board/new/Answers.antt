@@ -9,7 +9,6 @@ use Rattle.tableau_iter.proofs.FrontContents.{length-sums}
 use Rattle.tableau_iter.proofs.Orders.{length-reading}
 use Rattle.tableau_iter.proofs.board.Board.new.Goals as goal
 
--- if cells ≤ 4096, and n + cells ≤ 4096 for positive n, then n + cells ≤ 4096 for every n
 with_start : (n cells : ℕ) → cells ≤ 4096 → (0 < n → n + cells ≤ 4096) → n + cells ≤ 4096
 with_start zero cells l h = omega (arith, l)
 with_start (suc n) cells l h = h (omega arith)
