@@ -1,4 +1,5 @@
--- An alternant times a symmetric polynomial f: a_β·f is the sum of c·a_(β + α) over the terms c·x^α of f.
+-- An alternant times a symmetric polynomial f: a_β·f is the sum of c·a_(β + α) over the terms c·x^α of f. The pairing of f with a function φ is the
+-- sum of c·φ(α) over these terms.
 use Rattle.std.proofs.Common.{◌≡◌, ℕ, List, length, sym, ◌∙◌, ap, ℤ, ◌*ℤ◌}
 use Rattle.sym_model.specs.Sum.{total}
 use Rattle.sym_model.specs.Polynomial.{Poly, Term, Same, In, join, scale, times, pair}

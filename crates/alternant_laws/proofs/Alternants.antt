@@ -32,9 +32,6 @@ alternant_equal left middle right a =
     let β = left ++ (a ∷ (middle ++ (a ∷ right))) in
     same_from_pair (alternant β) nothing (λ φ. pair_alternant β φ ∙ opposite_is_zero (alternating β φ) (alternating_exchange left middle right a a φ))
 
--- ---- an alternant of n exponents is a polynomial in n variables, and is 0 if two exponents are equal
-
--- exchanging two neighbouring entries of a list of length n gives a list of length n
 length_kept : (n : ℕ) → KeptByExchanges (λ w. length w ≡ n)
 length_kept n [] a b r h = h
 length_kept n (c ∷ l) a b r h = omega (arith, length_kept (length (l ++ (a ∷ b ∷ r))) l a b r refl)

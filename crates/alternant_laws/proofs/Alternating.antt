@@ -13,8 +13,6 @@ abbrev pub alternating : List ℕ → (List ℕ → ℤ) → ℤ
 alternating [] φ = φ []
 alternating (x ∷ xs) φ = alternating xs (inserting x φ)
 
--- ---- alternating sums: of two functions with equal values, of a difference, of a negative, and over a list to whose entries a function is applied
-
 pub inserting_ext : (x : ℕ) (φ ψ : List ℕ → ℤ) → ((l : List ℕ) → φ l ≡ ψ l) → (l : List ℕ) → inserting x φ l ≡ inserting x ψ l
 inserting_ext x φ ψ e [] = e (x ∷ [])
 inserting_ext x φ ψ e (y ∷ ys) = ap₂ ◌-ℤ◌ (e (x ∷ y ∷ ys)) (inserting_ext x (λ l. φ (y ∷ l)) (λ l. ψ (y ∷ l)) (λ l. e (y ∷ l)) ys)
@@ -40,7 +38,6 @@ pub inserting_map : (f : ℕ → ℕ) (x : ℕ) (φ : List ℕ → ℤ) (l : Lis
 inserting_map f x φ [] = refl
 inserting_map f x φ (y ∷ ys) = ap (λ z. φ (f x ∷ f y ∷ map f ys) -ℤ z) (inserting_map f x (λ l. φ (f y ∷ l)) ys)
 
--- the alternating sum of φ over the list of the f(x) for x in xs is the alternating sum of φ(map f w) over xs
 pub alternating_map : (f : ℕ → ℕ) (xs : List ℕ) (φ : List ℕ → ℤ) → alternating (map f xs) φ ≡ alternating xs (λ w. φ (map f w))
 alternating_map f [] φ = refl
 alternating_map f (x ∷ xs) φ =

@@ -1,5 +1,6 @@
--- Let T be a tableau of outer/inner that is good for the partition `start` (`good_tableaux`). No letter of row i of T is greater than i plus the
--- number of rows of `start`. So start + content(T) has at most as many rows as `start` and outer have together.
+-- A tableau T of the skew shape outer/inner is good for the partition `start` if start plus the content of the last j columns of T is a partition for
+-- each j. No letter of row i of such a T is greater than i plus the number of rows of `start`. So start + content(T) has at most as many rows as
+-- `start` and outer have together.
 use Rattle.std.proofs.Common.{◌≡◌, ℕ, zero, suc, ◌+◌, ◌-◌, ◌<◌, ◌≤◌, ◌⊎◌, Bool, true, false, cond, ◌&&◌, List, [], ◌∷◌, ◌++◌, map, length, reverse, drop, get_or, nat_le, sym, ◌∙◌, ap, subst, refl, inl, inr, arith, ℤ, pos}
 use Rattle.std.proofs.lemmas.Bool.{cases_lt, cases_Bool, and_parts, leb-true}
 use Rattle.std.proofs.lemmas.List.{reverse-append, reverse-reverse, get_or_past}
@@ -21,7 +22,6 @@ use Rattle.alternant_laws.proofs.StraightShapes.{falls_places, EndsAt, at_conten
 
 -- ---- upper bounds for the letters of one column of a good tableau
 
--- `AreBounded d c`: the first letter of the column c is at most d + 1, the second at most d + 2, and so on
 AreBounded : ℕ → List ℕ → Type 0
 AreBounded d [] = Unit {0}
 AreBounded d (v ∷ w) = (v ≤ d + 1) × AreBounded (d + 1) w
@@ -97,9 +97,6 @@ next_ends_at n b ν right c ends l bound i g =
     none (inl h) = at_content n i c h ∙ bounded_none b (suc i) c bound (omega arith)
     none (inr h) = past_content n i c h
 
--- ---- upper bounds for the letters of all columns of a good tableau
-
--- `AreGrowing k m lines`: for the lengths a, b, .., z of the lines, which are listed from the rightmost line on, m ≤ a ≤ b ≤ .. ≤ z ≤ k
 AreGrowing : ℕ → ℕ → List (List Bool) → Type 0
 AreGrowing k m [] = m ≤ k
 AreGrowing k m (line ∷ back) = (m ≤ length line) × AreGrowing k (length line) back
@@ -128,7 +125,6 @@ over_bounded n b k g (line ∷ back) ν right z ends bound grow =
 
 -- ---- the lengths of the columns of a shape
 
--- no line has more than k places
 AreShort : ℕ → List (List Bool) → Type 0
 AreShort k [] = Unit {0}
 AreShort k (line ∷ lines) = (length line ≤ k) × AreShort k lines
@@ -174,9 +170,6 @@ over_shape n b g outer inner ν z ends =
     (long_anyway (reverse (reverse (column_lines outer inner))))
     (subst (λ (ls : List (List Bool)). AreShort (length outer) ls) (sym (reverse-reverse (column_lines outer inner)))
     (subst (λ i. AreShort i (column_lines outer inner)) (length_pattern outer inner) (short_transposed (pattern_of outer inner)))))
-
--- ---- a list that is 0 at all places from m on, counted from 0, has at most m entries once the zeros at its end are removed; for a good tableau T,
--- start + content(T) has at most as many rows as start and outer together
 
 rows_at : (m : ℕ) (s : List ℕ) → EndsAt m s → rows (without_last_zeros s) ≤ m
 rows_at m [] e = omega arith

@@ -15,7 +15,6 @@ use Rattle.sym_model.proofs.PartitionLists.{partitions_of-tells, Among-partition
 use Rattle.alternant_laws.proofs.Degrees.{OfDegree, coefficient-other_degree, times-of_degree, alternant-of_degree, schur_product-of_degree}
 use lib.IntN.{+ℤ_idl}
 
--- leaving out the terms with the coefficient 0 changes no coefficient of a list of terms
 coefficient-nonzero : (terms : WholeTerms) (α : List ℕ) → coefficient (nonzero terms) α ≡ coefficient terms α
 coefficient-nonzero [] α = refl
 coefficient-nonzero (t ∷ terms) α = by (ltb 0 (nat_abs t.1)) refl (coefficient-nonzero terms α)
@@ -42,7 +41,6 @@ candidates-once k factors =
     let d = size (map size factors) in
     Once-select (λ parts. leb (rows parts) k) (partitions_of d) (Once-FallsLexicographically _ (FallsLexicographically-partitions_within d d d))
 
--- if f is homogeneous of degree d, its Schur coefficient is 0 at each partition whose size is not d
 schur_coefficient-other : (k d : ℕ) (parts : List ℕ) (f : Poly) → OfDegree d f → (size parts ≡ d → ⊥) → schur_coefficient k parts f ≡ pos 0
 schur_coefficient-other k d parts f h other =
     coefficient-other_degree (size (staircase k) + d) (times (alternant (staircase k)) f) (join parts (staircase k))
@@ -76,7 +74,7 @@ classical_product-coefficient k factors parts p few =
         (λ shape m. cond-false (same shape parts) (c shape) (pos 0) (same_apart shape parts (differs shape m)))
         ∙ sym (schur_coefficient-other k d parts (schur_product factors k) (schur_product-of_degree factors k) other)
 
--- the label of the term t is a partition with at most k rows, and the coefficient of t is not 0
+-- the label `t.0` of the term t is a partition with at most k rows, and its coefficient `t.1` is not 0
 pub record IsClassicalTerm (k : ℕ) (t : List ℕ × ℤ) : Type 0 where
   pub partition : IsPartition t.0
   pub few : rows t.0 ≤ k
@@ -87,8 +85,6 @@ pub record IsClassicalTerm (k : ℕ) (t : List ℕ × ℤ) : Type 0 where
 abbrev term_of : ℕ → List (List ℕ) → List ℕ → List ℕ × ℤ
 term_of k factors shape = (shape, schur_coefficient k shape (schur_product factors k))
 
--- each term of the classical product is `term_of` one of the candidates, the partitions with at most k rows whose size is the sum of the sizes of the
--- factors
 member : (k : ℕ) (factors : List (List ℕ)) (t : List ℕ × ℤ) → Among t (classical_product k factors)
     → (shape : List ℕ) × Among shape (candidates k factors) × (t ≡ term_of k factors shape)
 member k factors t m =

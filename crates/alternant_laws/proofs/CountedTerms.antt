@@ -1,5 +1,6 @@
--- The Schur coefficients of products and of skew Schur polynomials are counts of good tableaux, in every number of variables; so a list of terms in s
--- that has these counts as its coefficients is equal to the product, or to the skew Schur polynomial, in every number of variables.
+-- The Schur coefficients of s_start·s_(outer/inner) count the good tableaux: the tableaux T of outer/inner such that start plus the content of the
+-- last j columns of T is a partition for each j. So a sum of Schur polynomials with these counts as coefficients is equal to s_start·s_(outer/inner)
+-- in every number of variables; the empty `start` gives the skew Schur polynomial.
 use Rattle.std.proofs.Common.{ℤ, ◌≡◌, ℕ, ◌+◌, ◌<◌, ◌≤◌, ◌⊎◌, Bool, true, false, cond, List, [], ◌∷◌, map, length, nat_le, sym, ◌∙◌, ap, subst, inl, inr, arith, pos, ◌*ℤ◌, Option, Some, None, filter, flat_map}
 use Rattle.std.proofs.lemmas.Int.{ints}
 use Rattle.std.proofs.lemmas.Bool.{cases_lt, cases_Bool, both_ways, lt-leb}
@@ -33,8 +34,6 @@ use Rattle.alternant_laws.proofs.GoodAlternants.{good_sums}
 use Rattle.alternant_laws.proofs.BoundedLetters.{too_many_rows}
 use Rattle.alternant_laws.proofs.SchurProducts.{bialternant, schur_few_variables, product-good_schurs, skew-good_schurs}
 
--- ---- products with 0, and the Schur coefficients of a Schur polynomial
-
 coefficient_times_nothing : (f : Poly) (α : List ℕ) → coefficient (times f nothing) α ≡ pos 0
 coefficient_times_nothing f α = coefficient_pair (times f nothing) α ∙ pair_times f nothing (at_only α) ∙ pair_zero f
 
@@ -52,9 +51,7 @@ schur_coefficient_of_schur k parts ν p q h = by (cases_lt k (rows parts))
         ∙ coefficient_at_partition k (resize k parts) ν (length-resize k parts) (falling-resize k parts p.falls) q h (falling-resize k ν q.falls)
         ∙ ap (λ κ. cond (same κ ν) (pos 1) (pos 0)) (without_last_zeros-resize k parts p.positive l)
 
--- ---- the list of the labels start + content(T) of the good tableaux T
-
--- for each good tableau T of outer/inner with entries up to n, the label start + content(T) with the coefficient 1
+-- a list of terms with the coefficient 1: for each good tableau T of outer/inner with entries up to n, the term with the label start + content(T)
 abbrev pub good_terms : ℕ → List ℕ → List ℕ → List ℕ → WholeTerms
 good_terms n start outer inner = map (λ (T : List (List ℕ)). (start_plus_content n start T, pos 1)) (good_tableaux n start outer inner)
 
@@ -64,7 +61,6 @@ good_is_partition n start outer inner T f m = IsPartition-without_last_zeros (jo
 coefficient_good_terms : (n : ℕ) (start outer inner ν : List ℕ) → coefficient (good_terms n start outer inner) ν ≡ total (λ (T : List (List ℕ)). cond (same (start_plus_content n start T) ν) (pos 1) (pos 0)) (good_tableaux n start outer inner)
 coefficient_good_terms n start outer inner ν = total_map (λ (t : Term). cond (same t.0 ν) t.1 (pos 0)) (λ (T : List (List ℕ)). (start_plus_content n start T, pos 1)) (good_tableaux n start outer inner)
 
--- if restricting h(x) to n variables gives g(x) for each x, restricting the sum of the h(x) to n variables gives the sum of the g(x)
 restrict_each : {A : Type 0} (n : ℕ) (h g : A → Poly) (xs : List A) → ((x : A) → Same (restrict n (h x)) (g x)) → Same (restrict n (flat_map h xs)) (flat_map g xs)
 restrict_each {A} n h g xs e =
     same_from_pair (restrict n (flat_map h xs)) (flat_map g xs) (λ φ.
@@ -128,7 +124,7 @@ no_long_labels m start outer inner ν p o i holds h l =
     ∙ good_sums m (λ κ. cond (same (without_last_zeros κ) ν) (pos 1) (pos 0)) start outer inner p h o.falls i.falls holds
     ∙ too_many_rows m start outer inner ν l
 
--- ---- `product_count` and `skew_count` at ν are the coefficients of ν in the list of the labels of the good tableaux (`good_terms`)
+-- ---- `product_count` and `skew_count` at ν are the coefficients of ν in the list of terms `good_terms`
 
 product_count-terms : (n : ℕ) (left right ν : List ℕ) → IsPartition right → pos (product_count n left right ν) ≡ coefficient (good_terms n left right []) ν
 product_count-terms n left right ν q =
@@ -147,7 +143,6 @@ pub product_coefficients : (n : ℕ) (left right ν : List ℕ) → IsPartition 
 product_coefficients n left right ν p q r l =
     coefficient_counts n n left right [] ν (omega arith) p q IsPartition-none r l ∙ sym (product_count-terms n left right ν q)
 
--- if ν has at most n rows, and n ≤ m, `product_count` at ν is the same for m letters and for n letters
 pub product_counts_stable : (n m : ℕ) (left right ν : List ℕ) → n ≤ m → IsPartition left → IsPartition right → IsPartition ν → rows ν ≤ n
     → product_count m left right ν ≡ product_count n left right ν
 product_counts_stable n m left right ν h p q r l =
@@ -160,8 +155,6 @@ nothing_times n outer inner o i =
     Same_trans (times (schur [] n) (skew_schur outer inner n)) (good_schurs n [] outer inner) (skew_schur outer inner n) (product-good_schurs n [] outer inner IsPartition-none o i)
     (Same_sym (skew_schur outer inner n) (good_schurs n [] outer inner) (skew-good_schurs n outer inner o i))
 
--- if κ has at most n rows, its coefficient in the list of the contents of the good tableaux of outer/inner with entries up to n is
--- `skew_count outer inner κ`
 skew_terms : (n : ℕ) (outer inner κ : List ℕ) → IsPartition outer → IsPartition inner → contains outer inner ≡ true → IsPartition κ → rows κ ≤ n
     → coefficient (good_terms n [] outer inner) κ ≡ pos (skew_count outer inner κ)
 skew_terms n outer inner κ o i holds p l =
@@ -185,15 +178,14 @@ skew_coefficients n outer inner κ o i holds p l =
 
 -- ---- lists of terms that have counts of good tableaux as their coefficients
 
--- if no term has the label ν, the coefficient of ν in the list of terms is 0
 pub no_label : (terms : Terms (List ℕ)) (ν : List ℕ) → ((t : List ℕ × Fraction) → Among t terms → t.0 ≡ ν → ⊥) → coefficient (numerators terms) ν ≡ pos 0
 no_label terms ν h =
     total_map (λ (t : Term). cond (same t.0 ν) t.1 (pos 0)) (λ (t : List ℕ × Fraction). (t.0, t.1.0)) terms
     ∙ total_none (λ (t : List ℕ × Fraction). cond (same t.0 ν) t.1.0 (pos 0)) terms (λ t m. ap (λ (b : Bool). cond b t.1.0 (pos 0)) (same_apart t.0 ν (h t m)))
 
--- let the labels of `terms` be partitions ν with at most k rows, each with the number of good tableaux T with start + content(T) = ν as its
--- coefficient. If no good tableau T has a label start + content(T) with more than k rows, `terms` has the same coefficients as the list of the labels
--- start + content(T) (`good_terms`)
+-- let the labels of `terms` be partitions with at most k rows, and let the coefficient of `terms` at each such partition ν be the number of good
+-- tableaux T with start + content(T) = ν. If start + content(T) has at most k rows for each good tableau T, then `terms` has the same coefficients as
+-- `good_terms`, the list of the terms of coefficient 1 with the labels start + content(T)
 pub terms_same : (k m : ℕ) (count : List ℕ → ℕ) (terms : Terms (List ℕ)) (start outer inner : List ℕ) → Falls outer → ListsCounts k count terms
     → ((ν : List ℕ) → IsPartition ν → rows ν ≤ k → coefficient (good_terms m start outer inner) ν ≡ pos (count ν))
     → ((ν : List ℕ) → IsPartition ν → k < rows ν → coefficient (good_terms m start outer inner) ν ≡ pos 0)
@@ -211,9 +203,6 @@ terms_same k m count terms start outer inner f c few many α = by (cases_Bool (i
         (λ T n. ap (λ (b : Bool). cond b (pos 1) (pos 0)) (same_apart (start_plus_content m start T) α
         (λ d. both_ways (is_partition α) e (is_partition-from α (subst IsPartition d (good_is_partition m start outer inner T f n)))))))
 
--- let k be the number of rows of start and outer together. If the labels of `terms` are partitions ν with at most k rows, and the coefficient at each
--- such ν is the number of good tableaux T with start + content(T) = ν, then the value of `terms` in s is s_start·s_(outer/inner), in every number n
--- of variables
 combined_always : (n : ℕ) (count : List ℕ → ℕ) (terms : Terms (List ℕ)) (start outer inner : List ℕ) → IsPartition start → IsPartition outer → IsPartition inner → contains outer inner ≡ true
     → ListsCounts (rows start + rows outer) count terms
     → ((ν : List ℕ) → IsPartition ν → rows ν ≤ rows start + rows outer → coefficient (good_terms (rows start + rows outer) start outer inner) ν ≡ pos (count ν))
@@ -227,7 +216,6 @@ combined_always n count terms start outer inner p o i holds c e =
     (λ ν q l. no_long_labels (n + k) start outer inner ν p o i holds (omega arith) l)))
     (combined_good_terms n (n + k) start outer inner (omega arith) p o i)
 
--- for each good tableau T with entries up to n, start + content(T) has at most n rows
 few_rows : (n : ℕ) (start outer inner : List ℕ) (T : List (List ℕ)) → Among T (good_tableaux n start outer inner) → rows (start_plus_content n start T) ≤ n
 few_rows n start outer inner T m = by (cases_lt n (rows start))
   where
@@ -243,8 +231,6 @@ few_rows n start outer inner T m = by (cases_lt n (rows start))
         let c = length_content n (letters_of T) in
         omega arith
 
--- if the labels of `terms` are partitions ν with at most n rows, and the coefficient at each such ν is the number of good tableaux T with start +
--- content(T) = ν, then the value of `terms` in s, in n variables, is s_start·s_(outer/inner)
 combined_once : (n : ℕ) (count : List ℕ → ℕ) (terms : Terms (List ℕ)) (start outer inner : List ℕ) → IsPartition start → IsPartition outer → IsPartition inner
     → ListsCounts n count terms → ((ν : List ℕ) → IsPartition ν → rows ν ≤ n → coefficient (good_terms n start outer inner) ν ≡ pos (count ν))
     → Same (combined (λ label. schur label n) (numerators terms)) (times (schur start n) (skew_schur outer inner n))
@@ -257,8 +243,8 @@ combined_once n count terms start outer inner p o i c e =
     (λ T m. ap (λ (b : Bool). cond b (pos 1) (pos 0)) (same_apart (start_plus_content n start T) ν (λ d. let r = few_rows n start outer inner T m in let g = ap length d in absurd (omega arith)))))))
     (combined_good_terms n n start outer inner (omega arith) p o i)
 
--- if the coefficients of a list are `product_count` (`skew_count`), the list is an expansion in Schur polynomials of the product s_left·s_right (of
--- the skew Schur polynomial), as the commands `mult` and `skew` require (`ExpandsInSchurs`)
+-- a list of terms with the coefficients `product_count` expands s_left·s_right in Schur polynomials, as the command `mult` requires
+-- (`ExpandsInSchurs`). A list with the coefficients `skew_count` expands the skew Schur polynomial, as the command `skew` requires
 
 pub mult_meets : (variables : Option ℕ) (left right : List ℕ) (terms : Terms (List ℕ)) → IsPartition left → IsPartition right
     → ListsCounts (variables_or variables (rows left + rows right)) (product_count (variables_or variables (rows left + rows right)) left right) terms

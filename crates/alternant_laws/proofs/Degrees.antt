@@ -20,13 +20,11 @@ use Rattle.sym_model.proofs.Parts.{size-zeros}
 abbrev pub OfDegree : ℕ → Poly → Type 0
 OfDegree d f = (t : Term) → Among t f → size t.0 ≡ d
 
--- if every term of f has degree d, and the sum of α is not d, the coefficient of x^α in f is 0
 pub coefficient-other_degree : (d : ℕ) (f : Poly) (α : List ℕ) → OfDegree d f → (size α ≡ d → ⊥) → coefficient f α ≡ pos 0
 coefficient-other_degree d f α h other =
     total_none (λ (t : Term). cond (same t.0 α) t.1 (pos 0)) f
     (λ t m. cond-false (same t.0 α) t.1 (pos 0) (same_apart t.0 α (λ e. other (ap size (sym e) ∙ h t m))))
 
--- if every term of f has degree d, and every term of g degree e, then every term of f·g has degree d + e
 pub times-of_degree : (d e : ℕ) (f g : Poly) → OfDegree d f → OfDegree e g → OfDegree (d + e) (times f g)
 times-of_degree d e f g h k t m =
     let s = Among_from_each (λ (s : Term). map (λ (t : Term). (join s.0 t.0, s.1 *ℤ t.1)) g) t f m in
@@ -40,9 +38,6 @@ one-of_degree : (n : ℕ) → OfDegree 0 (one n)
 one-of_degree n t (inl e) = ap (λ (v : Term). size v.0) e ∙ size-zeros n
 one-of_degree n t (inr m) = absurd m
 
--- ---- the degree of an alternant is the sum of its exponents
-
--- if w is the list `ys` with x inserted, the sum of the f(a) over the entries a of w is f(x) plus that over `ys`
 insertions-size : (f : ℕ → ℕ) (x : ℕ) (ys w : List ℕ) → Among w (insertions x ys) → size (map f w) ≡ f x + size (map f ys)
 insertions-size f x [] w (inl e) = ap (λ v. size (map f v)) e
 insertions-size f x [] w (inr m) = absurd m
@@ -53,7 +48,6 @@ insertions-size f x (y ∷ ys) w (inr m) =
     let first : size (map f w) ≡ f y + size (map f z.0) = ap (λ v. size (map f v)) z.2 in
     omega arith
 
--- if w is an order of the list `xs`, the sum of the f(a) over the entries a of w is that over `xs`
 orders-size : (f : ℕ → ℕ) (xs w : List ℕ) → Among w (orders xs) → size (map f w) ≡ size (map f xs)
 orders-size f [] w (inl e) = ap (λ v. size (map f v)) e
 orders-size f [] w (inr m) = absurd m
@@ -68,7 +62,7 @@ alternant-of_degree β t m =
     let w = Among_from_map (λ (w : List ℕ). (rearranged w β, sign w)) t (orders (places (length β))) m in
     ap (λ (v : Term). size v.0) w.2 ∙ (orders-size (part β) (places (length β)) w.0 w.1 ∙ ap size (rearranged_places (length β) β refl))
 
--- ---- words with letters from 1 to n, joined; the degree of a Schur polynomial is the size of its partition
+-- ---- the degree of a Schur polynomial is the size of its partition
 
 are_letters-append : (n : ℕ) (v w : List ℕ) → AreLetters n v → AreLetters n w → AreLetters n (v ++ w)
 are_letters-append n [] w h k = k

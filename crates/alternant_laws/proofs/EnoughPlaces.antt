@@ -1,5 +1,6 @@
--- Arrangements of λ in k + 1 places, compared with k places: if k is at least the size of λ, or at least the number of variables, the arrangements
--- with a part in the last place straighten to 0, or to a Schur polynomial that is 0.
+-- An arrangement of the partition λ in k places is a list of k exponents whose entries are the parts of λ and zeros. It straightens to 0 or, up to
+-- sign, to a Schur polynomial. Arrangements in k + 1 places are compared with those in k places: if k is at least the size of λ, or at least the
+-- number of variables, the arrangements with a part in the last place straighten to 0, or to a Schur polynomial that is 0.
 use Rattle.std.proofs.Common.{◌≡◌, ◌⊎◌, ℕ, zero, suc, ◌+◌, ◌-◌, ◌<◌, ◌≤◌, Bool, true, false, ◌||◌, ◌==◌, cond, nat_le, nat_lt, List, [], ◌∷◌, ◌++◌, map, length, refl, sym, ◌∙◌, ap, ap₂, inl, inr, arith, ℤ, pos, ◌+ℤ◌, ◌*ℤ◌}
 use Rattle.std.specs.Prelude.{Some, None}
 use Rattle.std.proofs.lemmas.Bool.{cases_lt}
@@ -118,13 +119,11 @@ straightened-pushed α =
 
 -- ---- a list of n exponents whose last one is positive straightens to 0, or to a partition with n rows
 
--- if 0 is not an entry of the list, all entries are positive
 positive_entries : (b : List ℕ) → has 0 b ≡ false → ArePositive b
 positive_entries [] h = tt
 positive_entries (zero ∷ b) h = absurd (cc)
 positive_entries (suc a ∷ b) h = (omega arith, positive_entries b (sym (ap (λ t. t || has 0 b) (positive-test (suc a) (omega arith))) ∙ h))
 
--- if a strictly decreasing list has n entries, all positive, subtracting ρ from it leaves n positive numbers
 full_rows : (b : List ℕ) → FallsStrictly b → ArePositive b → ArePositive (less_the_rest b)
 full_rows [] f p = tt
 full_rows (a ∷ b) f p = (let h = above a b f p in omega arith, full_rows b (strict_tail a b f) p.1)
@@ -136,7 +135,6 @@ full_rows (a ∷ b) f p = (let h = above a b f p in omega arith, full_rows b (st
 pub rows-full : (b : List ℕ) → FallsStrictly b → ArePositive b → rows (from_beta b) ≡ length b
 rows-full b f p = ap length (without_last_zeros-positive (less_the_rest b) (full_rows b f p)) ∙ length-less b
 
--- if the last entry of a list of exponents is positive, the list plus ρ has no entry 0
 no_zero : (α : List ℕ) (x : ℕ) → has 0 (shifted (α ++ suc x ∷ [])) ≡ false
 no_zero [] x = ap (λ b. b || false) (alone x)
   where
@@ -151,7 +149,8 @@ no_zero (a ∷ α) x = ap (λ b. b || has 0 (shifted (α ++ suc x ∷ []))) (fir
     first : (a k : ℕ) → 0 < k → (a + k == 0) ≡ false
     first a k h = grind (arith, nat_tests)
 
--- 0 if α straightens to 0; otherwise the pairing with φ of the Schur polynomial to which α straightens, in n variables, times its sign
+-- if α straightens to plus or minus a Schur polynomial, the sum of c·φ(β) over the terms c·x^β of this signed polynomial in n variables; if α
+-- straightens to 0, the number 0
 abbrev straight_value : ℕ → (List ℕ → ℤ) → List ℕ → ℤ
 straight_value n φ α = pair (combined (λ label. schur label n) (straightened_term (straightened α))) φ
 
@@ -187,8 +186,6 @@ last_part n k φ β e zero_free few = by (has_equal_entries (shifted β)) refl
             let u : length (sorted_falling (shifted β)) ≡ length β = length-sorted (shifted β) ∙ long ∙ sym e in
             let v = ap (λ j. size (staircase j)) u in
             omega arith)
-
--- ---- a sum over the arrangements in k + 1 places is the sum over the arrangements in k places, if the terms with a positive last entry are 0
 
 last_zero : (F : List ℕ → ℤ) (k s : ℕ) → ((α : List ℕ) (x : ℕ) → length α ≡ k → size (α ++ suc x ∷ []) ≡ s → F (α ++ suc x ∷ []) ≡ pos 0)
     → total F (exponent_lists (suc k) s) ≡ total (λ α. F (α ++ 0 ∷ [])) (exponent_lists k s)
@@ -226,8 +223,8 @@ arrangements-more parts k g h =
     by true e = e
     by false e = refl
 
--- ---- the pairing of a list of straightened terms as a sum over the exponent lists; the sum over the arrangements in k + 1 places is that in k
--- places, if k is at least the size of λ or the number of variables
+-- ---- the signed Schur polynomials of the arrangements of λ in k and in k + 1 places have the same sum, if k is at least the size of λ or the number
+-- of variables
 
 terms-value : (n : ℕ) (φ : List ℕ → ℤ) (lists : List (List ℕ)) → pair (combined (λ label. schur label n) (straightened_terms lists)) φ ≡ total (straight_value n φ) lists
 terms-value n φ lists =

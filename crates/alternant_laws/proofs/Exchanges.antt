@@ -16,7 +16,6 @@ exchanged zero (a ∷ []) = a ∷ []
 exchanged zero (a ∷ b ∷ α) = b ∷ a ∷ α
 exchanged (suc k) (a ∷ α) = a ∷ exchanged k α
 
--- α with the entries at the places k and k + 1 exchanged is β if and only if β with these entries exchanged is α
 pub same_exchanged : (k : ℕ) (α β : List ℕ) → same (exchanged k α) β ≡ same α (exchanged k β)
 same_exchanged k [] [] = refl
 same_exchanged zero [] (b ∷ []) = refl

@@ -1,5 +1,6 @@
--- A column c for which ν is weakly decreasing and ν + content(c) is not: for some place i, counted from 0, the entry of this sum at i + 1 is 1 more
--- than the entry at i, and the letter i + 1 is not in c. Then the sum of the alternants over all tableaux left of c is 0.
+-- Let ν be a weakly decreasing list and c a column such that ν + content(c) is not weakly decreasing. Then for some place i, counted from 0, the
+-- entry of ν + content(c) at i + 1 is 1 more than the entry at i, and c does not have the letter i + 1. It follows that the sum of the alternants
+-- a_(ν + content(c) + content(T) + ρ) over all tableaux T left of c is 0.
 use Rattle.std.proofs.Common.{◌≡◌, ℕ, zero, suc, ◌+◌, ◌-◌, ◌<◌, ◌≤◌, ◌⊎◌, ◌==◌, Bool, true, false, cond, List, [], ◌∷◌, map, length, get_or, nat_le, nat_lt, sym, ◌∙◌, ap, ap₂, subst, refl, inl, inr, arith, ℤ, pos, neg_ℤ}
 use Rattle.std.proofs.lemmas.Bool.{and_parts, and_cases, leb-true, leb-false, ltb-true, eq-eqb, ne_eqb, cases_eq}
 use Rattle.sym_model.specs.Sum.{total}
@@ -131,15 +132,13 @@ alternating_exchanged zero (a ∷ []) φ h = absurd (omega arith)
 alternating_exchanged zero (a ∷ b ∷ β) φ h = alternating_swap b a β φ
 alternating_exchanged (suc i) (a ∷ β) φ h = alternating_exchanged i β (inserting a φ) (omega arith)
 
--- the pairing of the alternant a_(ν + ρ) in n variables with φ
+-- `at_sum n φ ν`: the pairing of the alternant a_(ν + ρ) in n variables with φ, which is the sum of c·φ(α) over the terms c·x^α of the alternant
 abbrev pub at_sum : ℕ → (List ℕ → ℤ) → List ℕ → ℤ
 at_sum n φ ν = pair (alternant (join ν (staircase n))) φ
 
 pub join_right_comm : (α β γ : List ℕ) → join (join α β) γ ≡ join (join α γ) β
 join_right_comm α β γ = join_assoc α β γ ∙ ap (join α) (join_comm β γ) ∙ sym (join_assoc α γ β)
 
--- if the entry of ν at i + 1 is 1 more than the entry at i, exchanging the entries of κ at i and i + 1 changes the sign of the alternant a_(ν + κ +
--- ρ)
 turned : (n i : ℕ) (ν κ : List ℕ) (φ : List ℕ → ℤ) → length ν ≡ n → length κ ≡ n → suc i < n → get_or ν (suc i) 0 ≡ suc (get_or ν i 0)
     → at_sum n φ (join ν (exchanged i κ)) ≡ neg_ℤ (at_sum n φ (join ν κ))
 turned n i ν κ φ l m h r =
@@ -167,7 +166,7 @@ turned n i ν κ φ l m h r =
         ∙ ap (exchanged i) (join_right_comm ν (staircase n) κ)
 
 -- if the entry of ν at place i + 1 (counted from 0) is 1 more than the entry at i, and the column `right` does not have the letter i + 1, then the
--- sum of the alternants a_(ν + content + ρ) over all tableaux left of this column is 0
+-- sum of the alternants a_(ν + content(T) + ρ) over all tableaux T left of this column is 0
 pub vanishes : (n i : ℕ) (lines : List (List Bool)) (right ν : List ℕ) (φ : List ℕ → ℤ) → Falls (map length lines) → AreLong (length right) lines
     → length ν ≡ n → suc i < n → get_or ν (suc i) 0 ≡ suc (get_or ν i 0) → Lacks (suc i) right
     → over_all n lines (λ s c. at_sum n φ s) ν right ≡ pos 0

@@ -1,5 +1,5 @@
--- An alternant with strictly decreasing exponents β has the coefficient 0 at each strictly decreasing list other than β. And weakly decreasing lists
--- without the zeros at their ends, compared with partitions.
+-- An alternant with strictly decreasing exponents β has the coefficient 0 at each strictly decreasing list other than β. The file also compares
+-- weakly decreasing lists, without the zeros at their ends, with partitions.
 use Rattle.std.proofs.Common.{◌≡◌, ℕ, zero, suc, ◌+◌, ◌<◌, ◌≤◌, true, cond, List, [], ◌∷◌, length, nat_le, sym, ◌∙◌, ap, ap₂, subst, refl, inl, inr, arith, ℤ, pos, ◌-ℤ◌}
 use Rattle.std.proofs.lemmas.Int.{ints}
 use Rattle.std.proofs.lemmas.Bool.{and_parts, leb-true}
@@ -53,7 +53,7 @@ coefficient_descending α β d e =
     ∙ pair_alternant β (at_only α)
     ∙ alternating_descending β (at_only α) e (λ l n. ap (λ b. cond b (pos 1) (pos 0)) (same_apart l α (λ i. n (subst Descends (sym i) d))))
 
--- ---- no entry of a weakly decreasing list is greater than the first one; such a list plus the staircase is strictly decreasing
+-- ---- a weakly decreasing list plus the staircase is strictly decreasing
 
 up_to_first : (a : ℕ) (α : List ℕ) → is_falling (a ∷ α) ≡ true → AreAtMost a α
 up_to_first a [] e = tt
@@ -85,7 +85,6 @@ descends_sum zero (a ∷ α) l e = absurd (omega arith)
 descends_sum (suc n) [] l e = absurd (omega arith)
 descends_sum (suc n) (a ∷ α) l e = (below_sum a n α (omega arith) (up_to_first a α e), descends_sum n α (omega arith) (falling_rest a α e))
 
--- padding a partition with zeros to n entries does not change its sum with the staircase
 pub join_padded : (n : ℕ) (parts : List ℕ) → length parts ≤ n → join (resize n parts) (staircase n) ≡ join parts (staircase n)
 join_padded n [] h = ap (λ z. join z (staircase n)) (resize-nil n) ∙ join_zeros n (staircase n) (omega (arith, length-staircase n))
 join_padded zero (a ∷ parts) h = absurd (omega arith)
@@ -116,8 +115,6 @@ falls_from_test [] e = tt
 falls_from_test (a ∷ []) e = tt
 falls_from_test (a ∷ b ∷ α) e = let p = and_parts (nat_le b a) (is_falling (b ∷ α)) e in (leb-true b a p.0, falls_from_test (b ∷ α) p.1)
 
--- for a list α of n entries and a partition `parts` of at most n parts: α with the zeros at its end removed is `parts` if and only if α + ρ is
--- `parts` + ρ
 same_sums : (n : ℕ) (α parts : List ℕ) → length α ≡ n → IsPartition parts → length parts ≤ n
     → same (join α (staircase n)) (join parts (staircase n)) ≡ same (without_last_zeros α) parts
 same_sums n α parts l p h =

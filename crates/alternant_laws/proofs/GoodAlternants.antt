@@ -1,5 +1,6 @@
 -- Stembridge's identity: the alternant a_(start + ρ) times a skew Schur polynomial is the sum of the alternants a_(start + content(T) + ρ) over the
--- tableaux T of the skew shape that are good for start.
+-- tableaux T of the skew shape that are good for start: start plus the content of the last j columns of T is a partition for each j. The identity is
+-- proved for the pairings of both sides with a function φ; the pairing of f with φ is the sum of c·φ(α) over the terms c·x^α of f.
 use Rattle.std.proofs.Common.{◌≡◌, ℕ, suc, ◌<◌, ◌≤◌, ◌⊎◌, Bool, true, false, cond, ◌&&◌, List, [], ◌∷◌, ◌++◌, map, length, reverse, nat_le, sym, ◌∙◌, ap, subst, refl, inl, inr, arith, ℤ, pos, filter}
 use Rattle.std.proofs.lemmas.Bool.{le-leb, cases_Bool}
 use Rattle.std.proofs.lemmas.List.{reverse-append, reverse-reverse}
@@ -30,11 +31,9 @@ use Rattle.alternant_laws.proofs.AlternantProducts.{alternant_times, pair_altern
 use Rattle.alternant_laws.proofs.LeftColumns.{over_all, over_all-last, fit_left, total_fit_left, fit_left-nothing, AreLong, falls-transposed, falls_last}
 use Rattle.alternant_laws.proofs.FailingColumns.{join_right_comm, at_sum, column_fails, column_misses, vanishes}
 
--- dropping the condition that start plus the content of the columns chosen so far is weakly decreasing does not change the sum of the alternants
+-- the sum of the alternants a_(ν + content(T) + ρ) over all tableaux T left of a given column is equal to the sum in which, for each j, ν plus the
+-- content of the last j columns of T has to be weakly decreasing
 
--- the step for one more column c, left of `right`: if ν + content(c) is not weakly decreasing, the sum of the alternants over all ways to choose the
--- columns left of c (`over_all`) is 0; otherwise it is, by the last hypothesis, the sum over those ways in which ν plus the contents of the columns
--- chosen so far is always weakly decreasing (`over_columns`)
 one_column : (n : ℕ) (φ : List ℕ → ℤ) (lines : List (List Bool)) (line : List Bool) (ν right c : List ℕ) → length ν ≡ n → is_falling ν ≡ true
     → Falls (map length lines) → AreLong (length line) lines → length c ≡ length line
     → (is_falling (join ν (content n c)) ≡ true
@@ -95,8 +94,7 @@ all_tableaux n φ start outer inner h falls inner_falls holds =
     ∙ total_fit_left n [] (column_lines outer inner) (λ s d. at_sum n φ s) start
     ∙ ap (λ s. over_all n (column_lines outer inner) (λ s' d. at_sum n φ s') s []) (sum_at_start n start h)
 
--- the sum of g(start + content(T)) over the good tableaux T is the sum of g over the ways to choose the columns one by one from the right
--- (`over_columns`)
+-- the sum of g(start + content(T)) over the good tableaux T can be computed by choosing the columns of T one by one from the right (`over_columns`)
 pub good_sums : (n : ℕ) (g : List ℕ → ℤ) (start outer inner : List ℕ) → IsPartition start → rows start ≤ n → Falls outer → Falls inner → contains outer inner ≡ true
     → total (λ (T : List (List ℕ)). g (join start (content n (letters_of T)))) (good_tableaux n start outer inner) ≡ over_columns n (column_lines outer inner) (λ s d. g s) (resize n start) []
 good_sums n g start outer inner s h falls inner_falls holds =
@@ -131,7 +129,7 @@ good_enough n φ start outer inner s h falls inner_falls = by (cases_Bool (conta
     by (inl e) = all_tableaux n φ start outer inner h falls inner_falls e ∙ equal ∙ sym (good_sums n (at_sum n φ) start outer inner s h falls inner_falls e)
     by (inr e) = no_tableaux n start outer inner (at_filling n φ start) e
 
--- ---- skew Schur polynomials are in n variables; Stembridge's identity, as an equality of the pairings of both sides with a function φ
+-- ---- Stembridge's identity: for each function φ of exponents, the sums of c·φ(α) over the terms c·x^α of both sides are equal
 
 pub In-skew_schur : (n : ℕ) (outer inner : List ℕ) → In n (skew_schur outer inner n)
 In-skew_schur n outer inner =

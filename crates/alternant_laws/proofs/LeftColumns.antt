@@ -1,4 +1,6 @@
--- Sums over all ways to choose columns left of a given column, also if start plus their contents is not weakly decreasing: as sums over padded rows.
+-- Sums over all tableaux left of a given column, with no condition on their contents: a sum over the ways to choose the columns one after another is
+-- written as a sum over fillings given by their rows. The rows are padded with zeros at the cells of the inner shape. A *line* is a list of booleans
+-- that marks the cells of a column or of a row, and a *pattern* is a list of lines.
 use Rattle.std.proofs.Common.{◌≡◌, ℕ, ◌≤◌, Bool, true, cond, ◌&&◌, List, [], ◌∷◌, ◌++◌, map, length, nat_le, sym, ◌∙◌, ap, ap₂, subst, refl, arith, ℤ, pos}
 use Rattle.std.proofs.lemmas.Bool.{and_parts, and_from, leb-true, le-leb}
 use Rattle.sym_model.specs.Sum.{total, Among}
@@ -18,10 +20,8 @@ use Rattle.tableau_laws.proofs.Contents.{content-append, content-transposed}
 use Rattle.tableau_laws.proofs.ColumnSums.{total_under}
 use Rattle.alternant_laws.proofs.SymmetricSums.{is_left_of, stands_left, left_tableaux}
 
--- ---- the sums over the ways to choose columns left of `right` (`over_all`)
-
--- the sum of f(ν + content(c), c) over the columns c of a line that have strictly increasing letters, none greater than the letter of the column
--- `right` in the same row
+-- the sum of f(ν + content(c), c) over the columns c whose cells are marked by `line`, with strictly increasing letters, none greater than the letter
+-- of the column `right` in the same row
 abbrev pub next_all : ℕ → List Bool → (List ℕ → List ℕ → ℤ) → List ℕ → List ℕ → ℤ
 next_all n line f ν right =
     total (λ c. cond (is_chain may_stand_above c && pass_by_place nat_le c right) (f (join ν (content n c)) c) (pos 0)) (words_over n line)
@@ -42,7 +42,7 @@ abbrev pub leftmost : List ℕ → List (List ℕ) → List ℕ
 leftmost right [] = right
 leftmost right (c ∷ cs) = c
 
--- whether the columns are those of a tableau, and the last of them can be left of the column `right`
+-- whether the columns, listed from left to right, are those of a tableau, and the rightmost one can be left of the column `right`
 abbrev pub fit_left : List ℕ → List (List ℕ) → Bool
 fit_left right [] = true
 fit_left right (c ∷ cs) = is_chain may_stand_above c && (pass_by_place nat_le c (leftmost right cs) && fit_left right cs)
@@ -73,7 +73,6 @@ total_fit_left n right (line ∷ lines) f ν =
     (fillings_over n lines)
     ∙ total_fit_left n right lines (next_all n line f) ν
 
--- the columns fit left of the empty column if and only if they are the columns of a tableau
 pub fit_left-nothing : (cs : List (List ℕ)) → fit_left [] cs ≡ are_tableau_columns cs
 fit_left-nothing [] = refl
 fit_left-nothing (c ∷ cs) =
@@ -90,8 +89,6 @@ abbrev pub AreLong : {A : Type 0} → ℕ → List (List A) → Type 0
 AreLong m [] = Unit {0}
 AreLong m (l ∷ ls) = (m ≤ length l) × AreLong m ls
 
--- let d be at least as long as `right`: if no letter of c is greater than the letter of d in the same row, and no letter of d is greater than that of
--- `right`, then no letter of c is greater than that of `right`
 pass_trans : (c d right : List ℕ) → length right ≤ length d → pass_by_place nat_le c d ≡ true → pass_by_place nat_le d right ≡ true → pass_by_place nat_le c right ≡ true
 pass_trans [] d right l p q = refl
 pass_trans (a ∷ c) d [] l p q = refl
@@ -186,8 +183,6 @@ over_all-rows n lines right g ν f l =
         ∙ ap₂ (λ (a b : Bool). a && b) (grid-transposed may_stand_above nat_le cs (subst Falls (sym e) f)) (sym (left_of_transposed right cs)))
         (sym (content-transposed n cs))
 
--- ---- the lengths of the lines of a transposed pattern are weakly decreasing
-
 falls-put : {A : Type 0} (row : List A) (rows : List (List A)) → Falls (map length rows) → Falls (map length (put_row row rows))
 falls-put [] rows f = f
 falls-put (x ∷ []) [] f = tt
@@ -201,7 +196,6 @@ pub falls-transposed : {A : Type 0} (lines : List (List A)) → Falls (map lengt
 falls-transposed [] = tt
 falls-transposed (line ∷ lines) = falls-put line (transposed lines) (falls-transposed lines)
 
--- if the lines of a list have weakly decreasing lengths, so have the lines before the last one, and none of these is shorter than the last line
 pub falls_last : {A : Type 0} (lines : List (List A)) (line : List A) → Falls (map length (lines ++ (line ∷ []))) → Falls (map length lines) × AreLong (length line) lines
 falls_last [] line f = (tt, tt)
 falls_last (first ∷ []) line f = (tt, (f.0, tt))

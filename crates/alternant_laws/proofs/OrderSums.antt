@@ -1,7 +1,8 @@
--- Sums over all orders of the places, with signs.
---     orders_reach        a property of a list that exchanges of neighbours keep is a property of each order of the list
---     orders_sum          the sum of sign(w)·φ(w) over the orders w of an increasing list is the sum `alternating` of φ over the list
---     pair_alternant      the pairing of an alternant with a function, as a sum over orders and as an alternating sum
+-- Sums over all orders (permutations) of the places 1, .., n, with signs.
+--     orders_reach        if exchanges of neighbours keep a property, and a list has the property, each order of the list has it
+--     orders_sum          the sum of sign(w)·φ(w) over the orders w of an increasing list v is `alternating v φ`, which inserts the entries of v one
+--                         by one
+--     pair_alternant      the sum of c·φ(α) over the terms c·x^α of the alternant a_β is `alternating β φ`
 use Rattle.std.proofs.Common.{◌≡◌, ℕ, zero, suc, ◌+◌, ◌-◌, ◌<◌, ◌≤◌, cond, nat_lt, List, [], ◌∷◌, ◌++◌, map, length, get_or, sym, ◌∙◌, ap, ap₂, subst, refl, inl, inr, arith, ℤ, ◌+ℤ◌, ◌*ℤ◌, neg_ℤ, append_assoc}
 use Rattle.std.proofs.lemmas.Int.{ints}
 use Rattle.std.proofs.lemmas.Bool.Decides.{nat_tests}
@@ -41,8 +42,6 @@ orders_reach_after P k l (x ∷ xs) w p m =
 pub orders_reach : (P : List ℕ → Type 0) → KeptByExchanges P → (xs w : List ℕ) → P xs → Among w (orders xs) → P w
 orders_reach P k xs w p m = orders_reach_after P k [] xs w p m
 
--- ---- lists that are strictly increasing
-
 -- x is smaller than each entry of the list
 abbrev pub AreAbove : ℕ → List ℕ → Type 0
 AreAbove x [] = Unit {0}
@@ -68,8 +67,6 @@ pub after_rises : (a k : ℕ) → Rises (after a k)
 after_rises a zero = tt
 after_rises a (suc k) = (after_above (a + 1) (a + 1) k (omega arith), after_rises (a + 1) k)
 
--- ---- the sign of a list into which a number smaller than its entries is inserted
-
 smaller_above : (x : ℕ) (v : List ℕ) → AreAbove x v → smaller x v ≡ 0
 smaller_above x [] h = refl
 smaller_above x (y ∷ v) h = let a : x < y = h.0 in let e = smaller_above x v h.1 in grind (arith, nat_tests)
@@ -82,8 +79,6 @@ smaller_put x y (z ∷ v) w h (inr m) =
     let r = Among_from_map (λ (zs : List ℕ). z ∷ zs) w (insertions x v) m in
     let e = smaller_put x y v r.0 h r.1 in
     ap (smaller y) r.2 ∙ ap (λ n. cond (nat_lt z y) 1 0 + n) e ∙ omega arith
-
--- ---- the sum of sign(w)·φ(w) over the orders w of an increasing list is the sum `alternating` of φ over the list
 
 insertions_sum : (x : ℕ) (v : List ℕ) (φ : List ℕ → ℤ) → AreAbove x v → total (λ (w : List ℕ). sign w *ℤ φ w) (insertions x v) ≡ sign v *ℤ inserting x φ v
 insertions_sum x [] φ h = omega (arith, ints)
@@ -123,15 +118,12 @@ orders_sum (x ∷ xs) φ h =
     (λ v m. insertions_sum x v φ (orders_above x xs v h.0 m))
     ∙ orders_sum xs (inserting x φ) h.1
 
--- ---- a list rearranged by an order of its places
-
 rearranged_after : (γ β : List ℕ) (a : ℕ) → ((i : ℕ) → get_or γ (a + i) 0 ≡ get_or β i 0) → map (part γ) (after a (length β)) ≡ β
 rearranged_after γ [] a h = refl
 rearranged_after γ (b ∷ β) a h =
     let e : a + 1 - 1 ≡ a + 0 = omega arith in
     ap₂ ◌∷◌ (ap (λ k. get_or γ k 0) e ∙ h 0) (rearranged_after γ β (a + 1) (λ i. let d : a + 1 + i ≡ a + suc i = omega arith in ap (λ k. get_or γ k 0) d ∙ h (suc i)))
 
--- a list of n numbers, rearranged by the order 1, .., n of its places, is unchanged
 pub rearranged_places : (n : ℕ) (β : List ℕ) → length β ≡ n → rearranged (places n) β ≡ β
 rearranged_places n β e =
     ap (λ k. rearranged (places k) β) (sym e) ∙ rearranged_after β β 0 (λ i. let d : 0 + i ≡ i = omega arith in ap (λ k. get_or β k 0) d)
@@ -139,8 +131,6 @@ rearranged_places n β e =
 pub rearranged-join : (w α β : List ℕ) → rearranged w (join α β) ≡ join (rearranged w α) (rearranged w β)
 rearranged-join [] α β = refl
 rearranged-join (i ∷ w) α β = ap₂ ◌∷◌ (get_or-join α β (i - 1)) (rearranged-join w α β)
-
--- ---- the pairing of an alternant with a function, as a sum over the orders of the places with signs
 
 pub pair_orders : (n : ℕ) (β : List ℕ) (φ : List ℕ → ℤ) → length β ≡ n
     → pair (alternant β) φ ≡ total (λ (w : List ℕ). sign w *ℤ φ (rearranged w β)) (orders (places n))

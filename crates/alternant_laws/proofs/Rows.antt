@@ -1,5 +1,5 @@
--- One row in the Bender–Knuth involution: those of its letters k and k + 1 that are in the first s places become k, and those in later places become
--- k + 1.
+-- One row of a tableau in the Bender–Knuth involution. For a number s, the letters k and k + 1 of the row are replaced: those in the first s places
+-- of the row by k, and those in later places by k + 1.
 use Rattle.std.proofs.Common.{◌≡◌, ℕ, suc, ◌+◌, ◌-◌, ◌<◌, ◌≤◌, ◌⊎◌, ◌==◌, Bool, true, false, cond, List, [], ◌∷◌, length, nat_le, nat_lt, sym, ◌∙◌, ap, ap₂, refl, inl, inr, arith}
 use Rattle.std.proofs.lemmas.Bool.{cases_lt, and_parts, and_from, leb-true, le-leb, lt-ltb, le-ltb, eq-eqb, ne_eqb, cases_eq, cond_below}
 use Rattle.sym_model.specs.PlaceOrders.{smaller}
@@ -57,8 +57,6 @@ smaller_next j (a ∷ w) = let e = smaller_next j w in let o = by (cases_lt a j)
     by (inl h) (inr d) = omega (arith, sym (cond_below {X = ℕ} a (suc j) 1 0 (omega arith)), sym (cond_below {X = ℕ} a j 1 0 h), differs d)
     by (inr h) (inl e) = omega (arith, sym (cond_below {X = ℕ} a (suc j) 1 0 (omega arith)), counts-not_less a j h, equals e)
     by (inr h) (inr d) = omega (arith, counts-not_less a (suc j) (omega arith), counts-not_less a j h, differs d)
-
--- ---- one letter, in which k and k + 1 are replaced (`cut`)
 
 -- `cut k s a`: the letter a if it is neither k nor k + 1; otherwise k if s > 0, and k + 1 if s = 0
 abbrev pub cut : ℕ → ℕ → ℕ → ℕ
@@ -141,7 +139,6 @@ pub recut_rises : (k s : ℕ) (w : List ℕ) → RisesFrom 0 w → RisesFrom 0 (
 recut_rises k s [] r = tt
 recut_rises k s (a ∷ w) r = (omega arith, recut_from k s a w r.1)
 
--- if j is not k + 1, `cut k s a` is smaller than j if and only if a is
 smaller-cut : (j k s a : ℕ) → (j ≤ k) ⊎ (suc k < j) → is_smaller j (cut k s a) ≡ is_smaller j a
 smaller-cut j k s a h = by (cut k s a) (cases_cut k s a) h
   where
@@ -229,9 +226,6 @@ recut_twice k s lo (a ∷ w) r =
 
     by : (c : ℕ) → Cut k s a c → (d : ℕ) → Cut k (is_smaller (suc k) a + smaller (suc k) w) c d → d ≡ a
     by c x d y = twice (is_smaller (suc k) a + smaller (suc k) w) c d x y (places (cases_lt k a))
-
--- ---- for 0 < k < n, `recut` changes only letters k and k + 1 of a padded row: empty places stay empty, and letters from 1 to n become letters from
--- 1 to n
 
 letter_fits : (n k s : ℕ) (p : Bool) (a : ℕ) → 0 < k → k < n → MayStand n p a → MayStand n p (cut k s a)
 letter_fits n k s false a h g m = cut-low k s a (omega arith) ∙ m

@@ -1,5 +1,6 @@
 -- The Littlewood–Richardson rule: the product of a Schur polynomial and a skew Schur polynomial as a sum of Schur polynomials over good tableaux, and
--- its Schur coefficients as counts of good tableaux.
+-- its Schur coefficients as counts of good tableaux. A tableau T is good for the partition `start` if start plus the content of the last j columns of
+-- T is a partition for each j.
 use Rattle.std.proofs.Common.{◌≡◌, ℕ, ◌<◌, ◌≤◌, ◌⊎◌, Bool, true, false, cond, ◌&&◌, List, [], ◌∷◌, length, nat_le, sym, ◌∙◌, ap, inl, inr, arith, pos, filter, flat_map}
 use Rattle.std.proofs.lemmas.Bool.{cases_lt, and_left, lt-leb}
 use Rattle.sym_model.specs.Sum.{Among}
@@ -31,8 +32,6 @@ use Rattle.alternant_laws.proofs.FallingAlternants.{join_padded, resize-without_
 use Rattle.alternant_laws.proofs.StraightShapes.{OnlyCells, leftmost_line, straight_columns, too_few_letters, leftmost_line_cells, leftmost_line_length}
 use Rattle.alternant_laws.proofs.GoodAlternants.{at_filling, good_sums, In-skew_schur, stembridge}
 
--- ---- a_ρ·s_λ is a_(λ + ρ), if λ has at most n rows
-
 pub bialternant : (n : ℕ) (parts : List ℕ) → IsPartition parts → rows parts ≤ n → Same (times (alternant (staircase n)) (schur parts n)) (alternant (join parts (staircase n)))
 bialternant n parts p h =
     Same_trans (times (alternant (staircase n)) (schur parts n)) (good_alternants n [] parts []) (alternant (join parts (staircase n)))
@@ -42,8 +41,6 @@ bialternant n parts p h =
     ∙ good_sums n (at_sum n φ) [] parts [] IsPartition-none (omega arith) p.falls tt (contains_nothing parts)
     ∙ straight_columns n parts (at_sum n φ) p h
     ∙ ap (λ β. pair (alternant β) φ) (join_padded n parts h)))
-
--- ---- no tableau with letters from 1 to n has a leftmost column of more than n cells; so s_λ is 0 if λ has more rows than there are variables
 
 no_columns : (n : ℕ) (lines : List (List Bool)) (cs : List (List ℕ)) → OnlyCells (leftmost_line lines) → n < length (leftmost_line lines) → AllFit n lines cs → are_tableau_columns cs ≡ false
 no_columns n [] cs o h f = absurd (omega arith)
@@ -63,7 +60,7 @@ schur_few_variables n parts p h =
 
 -- ---- sums of Schur polynomials over good tableaux
 
--- start + content(T) is a weakly decreasing list of n numbers; without the zeros at its end it is a partition
+-- start + content(T) is a weakly decreasing list of n numbers; without the zeros at its end it is a partition with at most n rows
 record IsGoodSum (n : ℕ) (start : List ℕ) (T : List (List ℕ)) : Type 0 where
   falls : is_falling (join start (content n (letters_of T))) ≡ true
   length : length (join start (content n (letters_of T))) ≡ n
@@ -79,8 +76,6 @@ good_sum n start outer inner T h falls m =
     let s = length-without_last_zeros (join start (content n (letters_of T))) in
     record { falls = f; length = l; partition = IsPartition-without_last_zeros (join start (content n (letters_of T))) (falls_from_test (join start (content n (letters_of T))) f); few = omega arith }
 
--- if start has at most n rows, a_ρ times the sum of s_(start + content(T)) over the good tableaux T is the sum of a_(start + content(T) + ρ) over the
--- good tableaux T
 staircase_times_good : (n : ℕ) (start outer inner : List ℕ) → rows start ≤ n → Falls outer
     → Same (times (alternant (staircase n)) (good_schurs n start outer inner)) (good_alternants n start outer inner)
 staircase_times_good n start outer inner h falls =

@@ -19,8 +19,6 @@ use Rattle.alternant_laws.proofs.Alternants.{alternant_exchange, alternant_equal
 use Rattle.alternant_laws.proofs.FallingAlternants.{join_padded, resize-without_last_zeros}
 use Rattle.std.proofs.Math.Seq.{append_snoc}
 
--- ---- the place of an entry of a list; an alternant with two equal exponents is 0
-
 place_of : (a : ℕ) (b : List ℕ) → has a b ≡ true → (middle : List ℕ) × (right : List ℕ) × (b ≡ middle ++ (a ∷ right))
 place_of a [] h = absurd (cc)
 place_of a (c ∷ b) h = by (cases_eq c a) (λ g. place_of a b g)
@@ -42,8 +40,6 @@ alternant-equal_under left (a ∷ b) φ h = by (has a b) refl h (λ g. subst (λ
 
 pub alternant-equal : (β : List ℕ) (φ : List ℕ → ℤ) → has_equal_entries β ≡ true → pair (alternant β) φ ≡ pos 0
 alternant-equal β φ h = alternant-equal_under [] β φ h
-
--- ---- no later entry of a decreasing list is greater than the first; sorting the exponents multiplies an alternant by the sign of sorting
 
 no_greater : (a : ℕ) (l : List ℕ) → Falls (a ∷ l) → greater a l ≡ 0
 no_greater a [] f = refl
@@ -81,8 +77,6 @@ alternant-sorted β φ = sort_back P β kept sorted
             ∙ pair_negate (alternant (left ++ (a ∷ b ∷ right))) φ
             ∙ ap neg_ℤ (p (equal-exchange left a b right ∙ h) ∙ ap (λ s. s *ℤ pair (alternant (sorted_falling β)) φ) (sorting_sign-exchange left a b right n))
             ∙ double_negation-product (sorting_sign (left ++ (b ∷ a ∷ right))) (pair (alternant (sorted_falling β)) φ)
-
--- ---- the sorted list of different exponents is a partition plus ρ
 
 less-join : (b : List ℕ) → FallsStrictly b → join (less_the_rest b) (staircase (length b)) ≡ b
 less-join [] f = refl

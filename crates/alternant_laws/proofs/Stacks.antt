@@ -1,5 +1,6 @@
--- The Bender–Knuth involution on the padded rows of a tableau: if the neighbouring rows allow the number of letters smaller than k + 1 in a row to be
--- any number from a to b, the involution replaces this number x by a + b - x.
+-- The Bender–Knuth involution on the rows of a tableau, padded with zeros at the cells of the inner shape. Let x be the number of letters smaller
+-- than k + 1 in a row, and let a and b be the least and the greatest number of such letters that the neighbouring rows allow: the involution replaces
+-- x by a + b - x.
 use Rattle.std.proofs.Common.{◌≡◌, ℕ, suc, ◌+◌, ◌-◌, ◌<◌, ◌≤◌, ◌⊎◌, min, max, Bool, true, ◌&&◌, List, [], ◌∷◌, map, length, nat_le, nat_lt, sym, ◌∙◌, ap, ap₂, subst, refl, inl, inr, arith}
 use Rattle.std.proofs.lemmas.Bool.{cases_lt, cases_eq, and_parts, and_from, ltb-true, lt-ltb, cond_below}
 use Rattle.sym_model.specs.Partition.{Falls}
@@ -16,7 +17,7 @@ use Rattle.sym_model.proofs.Lists.{smaller-within}
 use Rattle.sym_model.proofs.Numbers.{counts-not_less}
 use Rattle.std.proofs.Math.Nat.{add-sub_cancel_left}
 
--- ---- two rows, of which the upper one can be directly above the lower one
+-- ---- two rows such that the upper one can be directly above the lower one
 
 -- for each j > 0, the number of letters less than j + 1 in the lower row is at most the number of letters less than j in the upper row; for weakly
 -- increasing rows this says that the columns are strictly increasing
@@ -74,9 +75,7 @@ stands_back lo lo' (a ∷ upper) (b ∷ lower) r s o =
         let z = none_smaller j a upper r.1 c in
         absurd (omega arith)
 
--- ---- lists of weakly increasing rows, each of which can be directly above the next one (`IsStack`)
-
--- each row is weakly increasing, and can be directly above the next row (`StandsOver`)
+-- the rows are a *stack*: each row is weakly increasing, and can be directly above the next row (`StandsOver`)
 abbrev pub IsStack : List (List ℕ) → Type 0
 IsStack [] = Unit {0}
 IsStack (w ∷ ws) = RisesFrom 0 w × (StandsOver w (first_line ws) × IsStack ws)
@@ -135,12 +134,9 @@ has_room k c d w p q =
     let r = room_of c d (smaller k w) (smaller (suc k) w) (smaller (suc (suc k)) w) p q (omega arith) (omega arith) in
     record { low = r.0; high = r.1; above = r.2; below = r.3; sum = r.4 }
 
--- if w is weakly increasing and `middle` is within its bounds (`HasRoom`), the row `recut k (middle k c w d) w` has `middle k c w d` letters smaller
--- than k + 1
 middle_smaller : (k c d : ℕ) (w : List ℕ) → RisesFrom 0 w → HasRoom k c d w → smaller (suc k) (recut k (middle k c w d) w) ≡ middle k c w d
 middle_smaller k c d w r h = smaller-recut_middle k (middle k c w d) 0 w r h.low h.high
 
--- if j is not k + 1, `toggled k c` does not change the number of letters of the first row that are smaller than j
 first_smaller : (j k c : ℕ) (ws : List (List ℕ)) → (j ≤ k) ⊎ (suc k < j) → smaller j (first_line (toggled k c ws)) ≡ smaller j (first_line ws)
 first_smaller j k c [] h = refl
 first_smaller j k c (w ∷ ws) h = smaller-recut j k (middle k c w (smaller (suc (suc k)) (first_line ws))) w h
@@ -153,7 +149,6 @@ row_room : (k c : ℕ) (w : List ℕ) (ws : List (List ℕ)) → StandsOver w (f
     → HasRoom k c (smaller (suc (suc k)) (first_line ws)) w
 row_room k c w ws o h = has_room k c (smaller (suc (suc k)) (first_line ws)) w h (o (suc k) (omega arith))
 
--- if the first row of a stack has at most c letters smaller than k + 1, so has the first row after `toggled k c`
 first_within : (k c : ℕ) (ws : List (List ℕ)) → IsStack ws → smaller (suc k) (first_line ws) ≤ c → smaller (suc k) (first_line (toggled k c ws)) ≤ c
 first_within k c [] s h = h
 first_within k c (w ∷ ws) s h =
@@ -199,7 +194,7 @@ toggled_stack k c (w ∷ ws) p s h = (
   (toggled_over k c w ws p s h, toggled_stack k (smaller k w) ws p s.1.1 (s.1.0 k p)),
 )
 
--- `toggled k c` is an involution on the stacks whose first row has at most c letters smaller than k + 1
+-- on the stacks (lists of rows with `IsStack`) whose first row has at most c letters smaller than k + 1, the map `toggled k c` is an involution
 pub toggled_twice : (k c : ℕ) (rows : List (List ℕ)) → 0 < k → IsStack rows → smaller (suc k) (first_line rows) ≤ c → toggled k c (toggled k c rows) ≡ rows
 toggled_twice k c [] p s h = refl
 toggled_twice k c (w ∷ ws) p s h =
@@ -305,7 +300,7 @@ toggle_others j k rows n m =
     next (inl l) = inl l
     next (inr l) = inr (omega arith)
 
--- if the rows fit a pattern, with letters from 1 to n, so do the rows after `toggled k c`
+-- `toggled k c` keeps the property that the rows fill the cells of a pattern with letters from 1 to n (`AllFit`)
 
 pub toggled_fits : (n k c : ℕ) (pattern : List (List Bool)) (rows : List (List ℕ)) → 0 < k → k < n → AllFit n pattern rows → AllFit n pattern (toggled k c rows)
 toggled_fits n k c [] [] p q f = tt
@@ -314,7 +309,7 @@ toggled_fits n k c (line ∷ pattern) [] p q f = absurd f
 toggled_fits n k c (line ∷ pattern) (w ∷ ws) p q f =
     (recut_fits n k (middle k c w (smaller (suc (suc k)) (first_line ws))) line w p q f.0, toggled_fits n k (smaller k w) pattern ws p q f.1)
 
--- for each i for which there is a row i and an i-th letter of the column, no letter of row i is greater than this letter
+-- no letter of row i is greater than the i-th letter of the column, for each i such that there is a row i and an i-th letter
 abbrev pub AreLeftOf : List ℕ → List (List ℕ) → Type 0
 AreLeftOf column [] = Unit {0}
 AreLeftOf [] (w ∷ ws) = Unit {0}

@@ -1,4 +1,4 @@
--- The leading coefficient of a_ρ is 1: each order of ρ other than ρ is lexicographically smaller. So a_ρ can be cancelled.
+-- The leading coefficient of a_ρ is 1: each rearrangement of ρ other than ρ itself is lexicographically smaller. So a_ρ can be cancelled.
 use Rattle.std.proofs.Common.{◌≡◌, ℕ, zero, suc, ◌<◌, cond, List, [], ◌∷◌, ◌∙◌, ap, ap₂, subst, refl, inl, inr, arith, ℤ, pos, ◌-ℤ◌}
 use Rattle.std.proofs.lemmas.Int.{ints}
 use Rattle.sym_model.specs.Polynomial.{Poly, Same, In, coefficient, times}
@@ -32,7 +32,7 @@ staircase_below : (n : ℕ) → AreBelow n (staircase n)
 staircase_below zero = tt
 staircase_below (suc n) = (omega arith, below_weaken n (staircase n) (staircase_below n))
 
--- ---- the alternating sum of the function 0 is 0; x^ρ is the leading term of a_ρ
+-- ---- x^ρ is the leading term of a_ρ
 
 inserting_zero : (x : ℕ) (φ : List ℕ → ℤ) → ((l : List ℕ) → φ l ≡ pos 0) → (l : List ℕ) → inserting x φ l ≡ pos 0
 inserting_zero x φ e [] = e (x ∷ [])

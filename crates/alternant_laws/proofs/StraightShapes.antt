@@ -1,5 +1,5 @@
--- A straight shape has only one good tableau for the empty start: each of its columns has the letters 1, 2, 3, and so on. So a_ρ times a Schur
--- polynomial is one alternant.
+-- A tableau is good for the empty partition if the content of its last j columns is a partition for each j. A straight shape has only one such
+-- tableau: each of its columns has the letters 1, 2, 3, and so on. So a_ρ times a Schur polynomial is one alternant.
 use Rattle.std.proofs.Common.{◌≡◌, ℕ, zero, suc, ◌+◌, ◌-◌, ◌<◌, ◌≤◌, ◌⊎◌, Bool, true, false, cond, ◌&&◌, List, [], ◌∷◌, ◌++◌, map, length, replicate, reverse, get_or, nat_le, nat_lt, sym, ◌∙◌, ap, ap₂, subst, refl, inl, inr, arith, ℤ, pos}
 use Rattle.std.proofs.lemmas.Bool.{cases_lt, cases_eq, cases_Bool, and_parts, and_from, leb-true, le-leb, ltb-true, lt-ltb, le-ltb, false_from_ne_true}
 use Rattle.std.proofs.lemmas.List.{reverse-append, reverse-reverse, get_or_past}
@@ -23,7 +23,7 @@ use Rattle.alternant_laws.proofs.Exchanges.{length_content}
 use Rattle.alternant_laws.proofs.LeftColumns.{AreLong, falls_last, falls-transposed}
 use Rattle.alternant_laws.proofs.FailingColumns.{at_letter}
 
--- ---- weakly decreasing lists, by their entries at neighbouring places (`Places`); lists compared place by place
+-- ---- weakly decreasing lists, in which each entry is at most the one before it (`Places`)
 
 abbrev pub Places : List ℕ → Type 0
 Places α = (i : ℕ) → get_or α (suc i) 0 ≤ get_or α i 0
@@ -41,21 +41,17 @@ places_fall [] h = refl
 places_fall (a ∷ []) h = refl
 places_fall (a ∷ b ∷ α) h = and_from (nat_le b a) (is_falling (b ∷ α)) (le-leb b a (h 0)) (places_fall (b ∷ α) (λ i. h (suc i)))
 
--- two lists of the same length that have the same entry at each place are equal
 pub same_places : (α β : List ℕ) → length α ≡ length β → ((i : ℕ) → i < length α → get_or α i 0 ≡ get_or β i 0) → α ≡ β
 same_places [] [] l e = refl
 same_places [] (b ∷ β) l e = absurd (omega arith)
 same_places (a ∷ α) [] l e = absurd (omega arith)
 same_places (a ∷ α) (b ∷ β) l e = ap₂ ◌∷◌ (e 0 (omega arith)) (same_places α β (omega arith) (λ i h. e (suc i) (omega arith)))
 
--- ---- columns with strictly increasing letters
-
--- the letters of the column are greater than a and strictly increasing
 Ascends : ℕ → List ℕ → Type 0
 Ascends a [] = Unit {0}
 Ascends a (v ∷ w) = (a < v) × Ascends v w
 
--- a line in which every place is a cell
+-- `OnlyCells line`: each entry of the line, which marks the cells of a column, is true; so the column has no empty places
 abbrev pub OnlyCells : List Bool → Type 0
 OnlyCells [] = Unit {0}
 OnlyCells (p ∷ line) = (p ≡ true) × OnlyCells line
@@ -126,10 +122,6 @@ after_past : (k a h : ℕ) → a + h < k → times_in k (after a h) ≡ 0
 after_past k a zero p = refl
 after_past k a (suc h) p = times_in-other k (a + 1) (after (a + 1) h) (λ e. absurd (omega arith)) ∙ after_past k (a + 1) h (omega arith)
 
--- ---- the column 1, .., h is the only one that can be added left of the column 1, .., m
-
--- let the letters of w be strictly increasing and greater than a; let none be greater than the letter at the same place of a + 1, .., a + m; and let
--- no letter k + 1 > a + m + 1 occur in w unless k does. Then w is a + 1, a + 2, ..
 only_column : (a m : ℕ) (w : List ℕ) → Ascends a w → pass_by_place nat_le w (after a m) ≡ true → ((k : ℕ) → a + m < k → times_in (suc k) w ≤ times_in k w) → w ≡ after a (length w)
 unfolding Ascends
 only_column a m [] s p o = refl
@@ -170,8 +162,6 @@ at_content n i w h = let e : 0 + suc i ≡ suc i = omega arith in at_letter (λ 
 pub past_content : (n i : ℕ) (w : List ℕ) → n ≤ i → get_or (content n w) i 0 ≡ 0
 past_content n i w h = get_or_past (content n w) i 0 (omega (arith, length_content n w))
 
--- if ν is 0 from place m on, a column c without empty places that can be added left of the column 1, .., m (`may_be_next`) has the letters 1, 2, 3,
--- and so on
 next_is : (n m : ℕ) (line : List Bool) (ν c : List ℕ) → OnlyCells line → Fits n line c → EndsAt m ν → may_be_next n ν (after 0 m) c ≡ true → c ≡ after 0 (length line)
 next_is n m line ν c o f ends e =
     let p = and_parts (is_chain may_stand_above c) (pass_by_place nat_le c (after 0 m) && is_falling (join ν (content n c))) e in
@@ -225,13 +215,10 @@ next_ends n m h ν ends l i g =
     none (inl b) = at_content n i (after 0 h) b ∙ after_past (suc i) 0 h (omega arith)
     none (inr b) = past_content n i (after 0 h) b
 
--- ν plus, for the length h of each line, the content of the column with the letters 1, .., h
 sum_along : ℕ → List ℕ → List (List Bool) → List ℕ
 sum_along n ν [] = ν
 sum_along n ν (line ∷ back) = sum_along n (join ν (content n (after 0 (length line)))) back
 
--- all places of the lines, which are listed from the rightmost one on, are cells; the lengths of the lines are weakly increasing, at least m and at
--- most n
 AreStraight : ℕ → ℕ → List (List Bool) → Type 0
 AreStraight n m [] = Unit {0}
 AreStraight n m (line ∷ back) = OnlyCells line × ((m ≤ length line) × ((length line ≤ n) × AreStraight n (length line) back))
@@ -261,9 +248,6 @@ over_straight n m g (line ∷ back) ν f e s =
     other c a d (inl t) = absurd (d (next_is n m line ν c s.0 (word_tells n line c a) e t))
     other c a d (inr t) = ap (λ (b : Bool). cond b (over_columns n (reverse back) (λ s' r. g s') (join ν (content n c)) c) (pos 0)) t
 
--- ---- for a straight shape, the contents of the columns with the letters 1, .., h, for h the length of each column, add up to the shape
-
--- the number of lines that have more than i places
 longer : ℕ → List (List Bool) → ℕ
 longer i [] = 0
 longer i (line ∷ lines) = cond (nat_lt i (length line)) 1 0 + longer i lines
@@ -302,7 +286,6 @@ length_sum_along n ν [] l = l
 length_sum_along n ν (line ∷ back) l =
     length_sum_along n (join ν (content n (after 0 (length line)))) back (length-join_same n ν (content n (after 0 (length line))) l (length_content n (after 0 (length line))))
 
--- a line of h + 1 cells has more than i + 1 places if and only if a line of h cells has more than i
 one_longer : (i h : ℕ) → cond {A = ℕ} (nat_lt (suc i) (suc h)) 1 0 ≡ cond {A = ℕ} (nat_lt i h) 1 0
 one_longer i h = by (cases_lt i h)
   where
@@ -343,7 +326,6 @@ longer_transposed (suc i) (line ∷ lines) f =
 
 -- ---- the lines of the columns of a straight shape
 
--- all places of the lines are cells, and no line has more than k places
 AllCells : ℕ → List (List Bool) → Type 0
 AllCells k [] = Unit {0}
 AllCells k (line ∷ lines) = (OnlyCells line × (length line ≤ k)) × AllCells k lines
@@ -460,7 +442,6 @@ abbrev pub leftmost_line : List (List Bool) → List Bool
 leftmost_line [] = []
 leftmost_line (line ∷ lines) = line
 
--- if a row that begins with a cell is added on top of the columns, the line of the leftmost column is one cell longer
 first_put : (row : List Bool) (lines : List (List Bool)) → leftmost_line (put_row (true ∷ row) lines) ≡ true ∷ leftmost_line lines
 first_put row [] = refl
 first_put row (c ∷ lines) = refl

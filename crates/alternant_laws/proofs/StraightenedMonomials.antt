@@ -1,4 +1,5 @@
--- Monomial symmetric polynomials as sums of Schur polynomials: each arrangement of λ is straightened.
+-- Monomial symmetric polynomials as sums of Schur polynomials. The arrangements α of λ in n places, whose entries are the parts of λ and zeros, are
+-- straightened: to 0 if two entries of α + ρ are equal, and otherwise to the Schur polynomial s_μ, with a sign, such that μ + ρ is α + ρ sorted.
 use Rattle.std.proofs.Common.{◌≡◌, ℕ, Bool, true, false, cond, eqb, List, [], ◌∷◌, ◌++◌, length, refl, sym, ◌∙◌, ap, ap₂, arith, ℤ, pos, ◌+ℤ◌, ◌*ℤ◌, flat_map}
 use Rattle.std.specs.Prelude.{Some, None}
 use Rattle.sym_model.specs.Sum.{total}
@@ -30,8 +31,6 @@ use Rattle.alternant_laws.specs.StraightenedTerms.{straightened_term, straighten
 use Rattle.alternant_laws.proofs.SortedAlternants.{alternant-equal, alternant-sorted, from_beta-join}
 use Rattle.std.proofs.Math.IntN.{+ℤ_idr}
 
--- ---- m_λ is symmetric: exchanging two exponents does not change the partition to which they sort
-
 pub sorted-exchange : (left : List ℕ) (a b : ℕ) (right : List ℕ) → sorted_parts (left ++ (a ∷ b ∷ right)) ≡ sorted_parts (left ++ (b ∷ a ∷ right))
 sorted-exchange [] a b right = insert_part_comm a b (sorted_parts right)
 sorted-exchange (c ∷ left) a b right = ap (insert_part c) (sorted-exchange left a b right)
@@ -41,8 +40,6 @@ symmetric-monomial parts n left a b right =
     coefficient-monomial parts n (left ++ (a ∷ b ∷ right))
     ∙ ap₂ (λ k (l : List ℕ). cond (eqb k n) (cond (same l parts) (pos 1) (pos 0)) (pos 0)) (length-exchange left a b right) (sorted-exchange left a b right)
     ∙ sym (coefficient-monomial parts n (left ++ (b ∷ a ∷ right)))
-
--- ---- the product of a polynomial and a combination of polynomials, as a sum over the terms of the combination
 
 pair-times_terms : {A : Type 0} (f : Poly) (g : List ℕ → Poly) (h : A → WholeTerms) (xs : List A) (φ : List ℕ → ℤ)
     → pair (times f (combined g (flat_map h xs))) φ ≡ total (λ (x : A). pair (times f (combined g (h x))) φ) xs
@@ -67,8 +64,6 @@ pair-times_single f g label c φ =
     (λ α. pair_of_combined g ((label, c) ∷ []) (λ β. φ (join α β)) ∙ +ℤ_idr (c *ℤ pair (g label) (λ β. φ (join α β))))
     ∙ pair_factor c f (λ α. pair (g label) (λ β. φ (join α β)))
     ∙ ap (λ z. c *ℤ z) (sym (pair_times f (g label) φ))
-
--- ---- a_(α + ρ) is a_ρ times the Schur polynomial, with its sign, to which α straightens; it is 0 if α straightens to 0
 
 straight : (n : ℕ) (α : List ℕ) (φ : List ℕ → ℤ) → length α ≡ n
     → pair (alternant (join (staircase n) α)) φ ≡ pair (times (alternant (staircase n)) (combined (λ label. schur label n) (straightened_term (straightened α)))) φ
@@ -95,9 +90,6 @@ straight n α φ e = ap (λ l. pair (alternant l) φ) is ∙ by (has_equal_entri
         (ap (λ m. pair (alternant m) φ) joined
         ∙ sym (pair_determined (times (alternant (staircase n)) (schur ν n)) (alternant (join ν (staircase n))) φ (bialternant n ν (from_beta_partition (sorted_falling (shifted α)) strict) (omega arith))))
         ∙ sym (pair-times_single (alternant (staircase n)) (λ label. schur label n) ν (sorting_sign (shifted α)) φ)
-
--- ---- combinations of Schur polynomials are in n variables; m_λ is the sum of the Schur polynomials, with signs, to which the arrangements of λ
--- straighten
 
 In-combined : (n : ℕ) (terms : WholeTerms) → In n (combined (λ label. schur label n) terms)
 In-combined n terms = In_each n (λ (t : List ℕ × ℤ). scale t.1 (schur t.0 n)) terms (λ t m. In_scale n t.1 (schur t.0 n) (In-schur t.0 n))

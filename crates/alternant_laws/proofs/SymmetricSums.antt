@@ -1,5 +1,5 @@
--- Sums over the semistandard tableaux that fit left of a given column: if the column does not have the letter k, exchanging the number of letters k
--- and the number of letters k + 1 changes no sum over their contents.
+-- Sums over the semistandard tableaux that fit left of a given column: if the column does not have the letter k, the sum of the values of a function
+-- at their contents does not change when the numbers of letters k and k + 1 in the contents are exchanged.
 use Rattle.std.proofs.Common.{◌≡◌, ℕ, suc, ◌<◌, Bool, true, ◌&&◌, List, [], ◌∷◌, map, length, nat_le, sym, ◌∙◌, ap, subst, refl, arith, ℤ, filter}
 use Rattle.std.proofs.lemmas.Bool.{and_parts, and_from, leb-true, le-leb}
 use Rattle.sym_model.specs.Sum.{total, Among}
@@ -14,7 +14,7 @@ use Rattle.alternant_laws.proofs.Exchanges.{exchanged, content_exchanged}
 use Rattle.alternant_laws.proofs.Stacks.{IsStack, stack_tells, stack_back, toggled_fits, AreLeftOf, toggled_left, toggle, toggle_stack, toggle_twice, toggle_lower, toggle_upper, toggle_others}
 use Rattle.sym_model.specs.Bounded.{AreAtMost, Lacks}
 
--- whether, for each i for which there is a row i and an i-th letter of the column, no letter of row i is greater than this letter
+-- whether no letter of row i is greater than the i-th letter of the column, for each i such that there is a row i and an i-th letter
 abbrev pub is_left_of : List ℕ → List (List ℕ) → Bool
 is_left_of column [] = true
 is_left_of [] (w ∷ ws) = true
@@ -43,7 +43,7 @@ left_back (x ∷ column) (w ∷ ws) l = and_from (every (λ a. nat_le a x) w) (i
 abbrev pub stands_left : List ℕ → List (List ℕ) → Bool
 stands_left column rows = is_padded_tableau rows && is_left_of column rows
 
--- the fillings of a pattern, given by their rows, that are semistandard tableaux and fit left of the given column
+-- the semistandard tableaux, given by their rows, that fill the cells marked by `pattern` and fit left of the given column
 abbrev pub left_tableaux : ℕ → List (List Bool) → List ℕ → List (List (List ℕ))
 left_tableaux n pattern column = filter (stands_left column) (fillings_over n pattern)
 

@@ -1,4 +1,5 @@
--- Symmetric polynomials by their pairings with functions: rearranging the exponents by an order of the places changes no pairing.
+-- Symmetric polynomials by their pairings with functions: the pairing of f with φ is the sum of c·φ(α) over the terms c·x^α of f. If f is symmetric,
+-- rearranging the exponents α by an order (a permutation) of the places changes no pairing.
 use Rattle.std.proofs.Common.{◌≡◌, ℕ, zero, suc, cond, List, [], ◌∷◌, ◌++◌, append_assoc, map, length, sym, ◌∙◌, ap, refl, ℤ, pos, ◌*ℤ◌}
 use Rattle.sym_model.specs.Sum.{Among}
 use Rattle.sym_model.specs.Polynomial.{Poly, Term, In, same, coefficient, pair}
@@ -20,7 +21,6 @@ symmetric_after f s left (suc k) (a ∷ α) =
     let p = symmetric_after f s (left ++ (a ∷ [])) k α in
     ap (coefficient f) (sym (append_assoc left (a ∷ []) (exchanged k α))) ∙ p ∙ ap (coefficient f) (append_assoc left (a ∷ []) α)
 
--- if f is symmetric, the pairings of f with φ(α) and with φ(α with two neighbouring exponents exchanged) are equal
 pub pair_exchanged : (k : ℕ) (f : Poly) (φ : List ℕ → ℤ) → Symmetric f → pair f (λ α. φ (exchanged k α)) ≡ pair f φ
 pair_exchanged k f φ s =
     let swap = λ (t : Term). let u : Term = (exchanged k t.0, t.1) in u in
@@ -38,7 +38,7 @@ map-exchanged : (g : ℕ → ℕ) (l : List ℕ) (a b : ℕ) (r : List ℕ) → 
 map-exchanged g [] a b r = refl
 map-exchanged g (c ∷ l) a b r = ap (λ β. g c ∷ β) (map-exchanged g l a b r)
 
--- for each φ, the pairings of f with φ(α) and with φ(α rearranged by w) are equal; w is an order of the places
+-- for each φ, the sums of c·φ(α) and of c·φ(α rearranged by w) over the terms c·x^α of f are equal; w is an order of the places
 abbrev ChangesNothing : Poly → List ℕ → Type 0
 ChangesNothing f w = (φ : List ℕ → ℤ) → pair f (λ α. φ (rearranged w α)) ≡ pair f φ
 

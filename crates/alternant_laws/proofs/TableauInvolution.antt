@@ -71,13 +71,13 @@ fillings_agree : (k c : ℕ) (inner : List ℕ) (rows : List (List ℕ)) → Fil
 fillings_agree k c inner [] = tt
 fillings_agree k c inner (w ∷ ws) = (drop_agree k (part inner 1) w _ (rows_agree k _ w), fillings_agree k (smaller k w) (drop 1 inner) ws)
 
--- ---- the Bender–Knuth involution `exchange` on the rows of a tableau, and the properties of a tableau and of its image
+-- ---- the Bender–Knuth involution `exchange` on the rows of a tableau, whose image is a tableau of the same shape
 
 abbrev pub exchange : ℕ → List ℕ → List (List ℕ) → List (List ℕ)
 exchange k inner T = unpadded inner (toggle k (padded inner T))
 
--- the padded rows of T are a stack (`IsStack`); `exchange k inner T` is in the list of the tableaux, and its padded rows are those of T after
--- `toggle k`
+-- the padded rows of T are a stack, that is, weakly increasing, and each can be directly above the next (`IsStack`); `exchange k inner T` is in the
+-- list of the tableaux, and its padded rows are those of T after `toggle k`
 record HasPartner (n k : ℕ) (outer inner : List ℕ) (T : List (List ℕ)) : Type 0 where
   stack : IsStack (padded inner T)
   listed : Among (exchange k inner T) (tableaux n outer inner)
@@ -125,7 +125,7 @@ bender_knuth n k outer inner p q o i =
       others = λ T m. subst (λ (U : List (List ℕ)). FillingsAgreeBut k U (exchange k inner T)) (unpadded-padded inner T) (fillings_agree k (length (first_line (padded inner T))) inner (padded inner T));
     }
 
--- ---- every filling is left of the empty column; skew Schur polynomials are symmetric
+-- ---- skew Schur polynomials are symmetric
 
 left_of_nothing : (rows : List (List ℕ)) → is_left_of [] rows ≡ true
 left_of_nothing [] = refl
@@ -150,7 +150,6 @@ coefficient_rows n outer inner α i e =
     (λ T m. ap (at_only α) (sym (content-padded n inner T)))
     ∙ total_left_of_nothing n (pattern_of outer inner) (λ (rows : List (List ℕ)). at_only α (content n (letters_of rows)))
 
--- if α has more than n entries, it is not the content, in the letters 1, .., n, of any rows
 too_long : (n : ℕ) (α : List ℕ) (rows : List (List ℕ)) → n < length α → at_only α (content n (letters_of rows)) ≡ pos 0
 too_long n α rows h =
     ap (λ (b : Bool). cond b (pos 1) (pos 0)) (same_apart (content n (letters_of rows)) α (λ e. let l = length_content n (letters_of rows) in let d = ap length e in omega arith))

@@ -1,7 +1,8 @@
 -- Lists of terms with integer coefficients, written with the coefficients as fractions over 1 (`as_fractions`).
 --     numerators-as_fractions   the list of the numerators of these fractions is the given list
 --     AreWhole-as_fractions     all denominators are 1
---     whole_counts              if the labels are partitions of at most k rows, with the coefficients `count ν`, the list satisfies `ListsCounts`
+--     whole_counts              if all labels are partitions with at most k rows, and each partition ν with at most k rows has the coefficient
+--                               count(ν), the list written with fractions satisfies `ListsCounts k count`, which is this condition for fractions
 use Rattle.std.proofs.Common.{◌≡◌, ℕ, ◌≤◌, ℤ, pos, List, [], ◌∷◌, refl, sym, ◌∙◌, ap, subst}
 use Rattle.sym_model.specs.Sum.{Among}
 use Rattle.sym_model.specs.Polynomial.{coefficient}

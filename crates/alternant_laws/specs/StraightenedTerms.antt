@@ -1,4 +1,5 @@
--- Lists of terms in Schur polynomials from straightened lists of exponents (Macdonald, I.3).
+-- Lists of terms in Schur polynomials from straightened lists of exponents (Macdonald, I.3). A list α of exponents straightens to 0 if two entries of
+-- α + ρ are equal, and otherwise to the sign of sorting α + ρ with the partition that is the sorted list less ρ.
 use Rattle.std.specs.Prelude.{ℕ, ℤ, List, [], ◌∷◌, Option, Some, None, flat_map}
 use Rattle.sym_model.specs.Straightening.{straightened}
 use Rattle.sym_model.specs.WholeTerms.{WholeTerms}

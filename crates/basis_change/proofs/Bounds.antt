@@ -1,4 +1,5 @@
--- Comparisons of the growths into different bases (`growth`), and bounds for the coefficients at the start and at the end of a change of basis.
+-- The growth into a basis at a degree d (`growth`) is 1 if d = 0, and otherwise d^d for m and s, and d!·(2d)^d for e, h and p. This file compares the
+-- growths into different bases, and bounds the coefficients at the start and at the end of a change of basis.
 use Rattle.std.proofs.Common.{◌≡◌, ◌⊎◌, ℕ, zero, suc, ◌*◌, ◌^◌, ◌≤◌, List, [], ◌∷◌, ◌++◌, refl, ap, inl, inr, arith}
 use Rattle.std.proofs.lemmas.Nat.{mul-le}
 use Rattle.sym_model.specs.Sum.{Among}
@@ -24,8 +25,6 @@ AreWithin-push g h done k v w l s t m = by (Among_from_append t done ((k, v) ∷
         here : Among t ((k, v) ∷ []) → size t.0 ≤ h
         here (inl e) = let x = ap (λ (u : List ℕ × Fraction). size u.0) e in omega arith
         here (inr n) = absurd n
-
--- ---- at each degree, the growths into e, h and p are equal
 
 pub same_growth : (family : Family) (d : ℕ) → growth (basis_in family) d ≡ growth Basis.completes d
 same_growth Elementary zero = refl
@@ -57,13 +56,9 @@ growth-rises completes d e h = grown-mono d e h
 growth-rises power_sums d e h = omega (arith, same_growth PowerSum d, same_growth PowerSum e, grown-mono d e h)
 growth-rises schurs d e h = omega (arith, same_schurs d, same_schurs e, growth-mono d e h)
 
--- ---- numbers of 2^127 or more that are at most N times a growth
-
--- if n ≤ N·g, g ≤ k and 1 ≤ D, then n ≤ N·D·k
 pub wide : (n N D g k : ℕ) → 1 ≤ D → n ≤ N * g → g ≤ k → n ≤ N * D * k
 wide n N D g k d h l = let m = mul-le N g (N * D) k (let t = mul-le N 1 N D (omega arith) d in omega arith) l in omega arith
 
--- if N·D·`growth`(target, d) is 2^127 or more and d ≤ e, then N·D·`growth`(target, e) is 2^127 or more
 pub large-higher : (target : Basis) (N D d e : ℕ) → d ≤ e → 2 ^ 127 ≤ N * D * growth target d → 2 ^ 127 ≤ N * D * growth target e
 large-higher target N D d e l h = let m = mul-le (N * D) (growth target d) (N * D) (growth target e) (omega arith) (growth-rises target d e l) in omega arith
 

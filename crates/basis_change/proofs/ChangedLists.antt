@@ -1,14 +1,14 @@
--- The result of changing a list with integer coefficients into another basis (`IsChanged`), and the clearing factor of the change.
-use Rattle.std.proofs.Common.{◌≡◌, ℕ, ◌*◌, ◌^◌, ◌≤◌, refl, sym, ◌∙◌, arith, pos, Ok, Err}
+-- The result of changing a list with integer coefficients and labels of at most d cells into another basis (`IsChanged`). If the target basis is e, h
+-- or p, the list is first multiplied by d!, so that the result has integer coefficients too; the clearing factor is d! for these bases, and 1 for m
+-- and s.
+use Rattle.std.proofs.Common.{◌≡◌, ℕ, ◌*◌, ◌^◌, ◌≤◌, refl, arith, Ok, Err, rules}
 use Rattle.std.specs.Prelude.{Result, IsErr, IsErrAnd}
 use Rattle.calc_base.specs.declared.faults.SumFault.{SumFault}
 use Rattle.calc_base.specs.declared.faults.SumFault.TheVariants.{Large}
-use Rattle.sym_model.specs.Polynomial.{coefficient}
 use Rattle.sym_model.specs.Expansion.{Basis, elementaries, completes, power_sums, schurs}
 use Rattle.sym_model.specs.Weight.{factorial, growth}
 use Rattle.sym_model.proofs.Polynomials.{coefficient_scale}
 use Rattle.sym_model.proofs.Ring.{one-product}
-use Rattle.monomial_laws.specs.ExpressionTerms.{in_monomials}
 use Rattle.std.proofs.lemmas.Nat.{mul-le}
 use Rattle.sym_model.specs.ExpressionOffence.{degree_limit}
 use Rattle.sym_model.specs.WholeTerms.{WholeTerms}
@@ -42,7 +42,6 @@ factor-positive completes d = factorial-positive d
 factor-positive power_sums d = factorial-positive d
 factor-positive schurs d = omega arith
 
--- the clearing factor of a target and a degree d is at most the growth into the target at d
 pub factor-within : (target : Basis) (d : ℕ) → clearing_factor target d ≤ growth target d
 factor-within Basis.monomials d = growth-positive d
 factor-within elementaries d = omega (arith, same_growth Elementary d, factorial-within d)
@@ -68,20 +67,8 @@ pub failed : (target : Basis) (size : ℕ) (list : WholeTerms) (r : Result Whole
     → (fault ≡ Large → (N : ℕ) → IsBoundedBy N list → 2 ^ 127 ≤ N * growth target size)
     → IsChanged target size list r
 failed target size list (Ok v) fault h k l = cc
-failed target size list (Err x) fault h k l = record {
-  value = tt;
-  few = tt;
-  within = tt;
-  table = tt;
-  large = λ i. l (let j : x ≡ fault = k in let m = i in cc);
-}
+failed target size list (Err x) fault h k l = search rules
 
--- a list in m with integer coefficients, unchanged, is a result of changing the list into the target m (`IsChanged`)
+-- a list in the monomial basis m with integer coefficients, unchanged, is a result of changing the list into the target basis m (`IsChanged`)
 pub unchanged : (size : ℕ) (list : WholeTerms) → IsWholeTable list → IsChanged Basis.monomials size list (Ok list)
-unchanged size list is = record {
-  value = λ n α. sym (coefficient_scale (pos 1) (in_monomials list n) α ∙ one-product (coefficient (in_monomials list n) α));
-  few = λ m. absurd m;
-  within = λ m. absurd m;
-  table = is;
-  large = λ e. cc;
-}
+unchanged size list is = search (rules, coefficient_scale, one-product)

@@ -1,7 +1,11 @@
--- Lists of fractions, and lists of integers that are multiples of them.
---     whole-bounded       if N and D bound a list (`IsBounded`), N bounds the list of integers that is D times it (`IsBoundedBy`)
---     cleared-answer      if the answer is W divided by m, m times the answer has integer coefficients, with the bounds of W
-use Rattle.std.proofs.Common.{length, ◌≡◌, ◌⊎◌, ℕ, ◌+◌, ◌/◌, ◌<◌, ◌≤◌, cond, List, [], ◌∷◌, map, sym, ◌∙◌, ap, ap₂, subst, refl, inl, inr, arith, pos, ◌*◌, ◌^◌, ◌*ℤ◌}
+-- Lists of terms c·m_λ whose coefficients are fractions, and lists with integer coefficients that are multiples of them. N and D bound a list of
+-- fractions (`IsBounded`) if D is a multiple of all denominators and |c|·D·Π λ_i! ≤ N·|λ|! for each term; N bounds a list of integers
+-- (`IsBoundedBy`) if |c|·Π λ_i! ≤ N·|λ|! for each term. The growth into the basis m at d is d^d.
+--     whole-bounded       if N and D bound a list of fractions, N bounds the list of integers that is D times the list
+--     cleared-answer      let a list of fractions be a list W of integers divided by q, with labels in W of at most d cells; then q is a multiple of
+--                         all denominators, the labels of the list have at most d cells, and the absolute values of the coefficients of q times the
+--                         list add up to at most those of W
+use Rattle.std.proofs.Common.{length, ◌≡◌, ◌⊎◌, ℕ, ◌+◌, ◌/◌, ◌<◌, ◌≤◌, List, [], ◌∷◌, map, sym, ◌∙◌, ap, ap₂, subst, refl, inl, inr, arith, pos, ◌*◌, ◌^◌, ◌*ℤ◌, rules}
 use Rattle.std.specs.Prelude.{nat_abs}
 use Rattle.std.specs.Int.{◌∣◌}
 use Rattle.std.proofs.lemmas.Int.{unsigned_abs-mul}
@@ -41,19 +45,14 @@ use Rattle.basis_change.specs.Clearing.{IsBoundedBy}
 use Rattle.basis_change.specs.ClearedAnswer.{IsClearedBy}
 use native.Mathlib.Nat.{mul-le-mul_left}
 
--- if the labels of W have at most d cells, each label of more than d cells has the coefficient 0 in W
 nothing_past : (d : ℕ) (W : WholeTerms) (label : List ℕ) → AreWithin d W → d < size label → coefficient W label ≡ pos 0
-nothing_past d W label w h =
-    total_none (λ (t : Term). cond (same t.0 label) t.1 (pos 0)) W
-    (λ t m. ap (λ b. cond b t.1 (pos 0)) (same_apart t.0 label (λ e. let l = w t m in let s = ap size e in omega arith)))
+nothing_past d W label w h = search (rules, total_none, same_apart)
 
 pub greatest_is : (d : ℕ) (terms : Terms (List ℕ)) → AreWithin d terms → ((e : ℕ) → AreWithin e terms → d ≤ e) → d ≡ greatest_size terms
 greatest_is d terms within least =
     let above = greatest-within d terms within in
     let below = least (greatest_size terms) (λ t m. greatest_size-among terms t m) in
     omega arith
-
--- ---- a list of fractions times a common denominator D
 
 -- let N and D bound a list (`IsBounded`) with labels of at most d cells: if D times some coefficient has an absolute value of 2^127 or more, then N
 -- times the growth into m at d is 2^127 or more
@@ -67,7 +66,7 @@ large-term N D d terms b w (t, m, h) =
     let y = mul-le-mul_left N (let z : factorial (size t.0) ≤ growth Basis.monomials d = omega arith in z) in
     omega arith
 
--- W is D times the list `terms`
+-- in this module, W is D times the list `terms`
 module _ (D : ℕ) (terms : Terms (List ℕ)) (W : WholeTerms) (is : IsFractionTable terms) (also : IsWholeTable W) (same : Same W (over D terms)) where
   pub whole-within : (d : ℕ) → AreWithin d terms → AreWithin d W
   whole-within d w =
@@ -88,14 +87,13 @@ module _ (D : ℕ) (terms : Terms (List ℕ)) (W : WholeTerms) (is : IsFractionT
           subst (λ l. nat_abs t.1 * factorials l ≤ N * factorial (size l)) e (subst (λ k. k * factorials u.0 ≤ N * factorial (size u.0)) (sym c) (b u n).1)
       by (inr none) = absurd (not_zero W also t m (number ∙ over-missing D terms t.0 none))
 
--- if a list in m expands the polynomials f(n), and N bounds each f(n) (`majorant.IsBounded`), then N bounds the list (`IsBoundedBy`)
+-- let a list in the monomial basis m expand the polynomials f(n), which are in n variables. If each f(n) has a majorant that is a sum of at most N
+-- powers of x_1 + .. + x_n (`majorant.IsBounded`), then |c|·Π λ_i! ≤ N·|λ|! for each term c·m_λ of the list (`IsBoundedBy`)
 pub bounded-terms : (N d : ℕ) (terms : WholeTerms) (f : ℕ → Poly) → IsWholeTable terms → IsList terms f → ((n : ℕ) → majorant.IsBounded N d n (f n)) → IsBoundedBy N terms
 bounded-terms N d terms f is h b t m =
     subst (λ z. nat_abs z * factorials t.0 ≤ N * factorial (size t.0))
     (sym (coefficient-list terms f h t.0 (label-partition terms is t m)) ∙ coefficient_of_term terms is.distinct t m)
     (coefficient_bound N d (length t.0) (f (length t.0)) (b (length t.0)) t.0 refl)
-
--- ---- the answer is the list W divided by m
 
 module _ (m d : ℕ) (W : WholeTerms) (answer : Terms (List ℕ)) (some : 0 < m) (is : IsFractionTable answer) (q : Quotients m answer W) where
   quotient : (t : List ℕ × Fraction) → Among t answer → t.1 ≡ lowest_terms (coefficient W t.0) m
@@ -125,11 +123,4 @@ module _ (m d : ℕ) (W : WholeTerms) (answer : Terms (List ℕ)) (some : 0 < m)
           omega arith)
 
   pub cleared-answer : (most : ℕ) → mass W ≤ most → AreWithin d W → IsClearedBy m most d answer
-  cleared-answer most h r = record {
-    whole = λ t n. mod-eq-zero_of_dvd t.1.1 (cleared-at t n).0;
-    few =
-        let e = sum-labels answer (λ t n. n) in
-        let f = labels_few W (labels_of answer) (Once-keys answer is) in
-        omega arith;
-    within = within-answer r;
-  }
+  cleared-answer most h r = search (rules, mod-eq-zero_of_dvd, cleared-at, sum-labels, labels_few, labels_of, Once-keys, within-answer)

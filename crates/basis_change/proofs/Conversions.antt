@@ -1,4 +1,6 @@
--- The conversion of a label: the terms that replace the label, computed from its augmented monomial.
+-- A label is a pair of partitions λ and μ. It denotes the basis polynomial of λ in the basis e, h or p times the augmented monomial of μ, which is
+-- m_μ times the factorials of the multiplicities of the parts of μ. The conversion of a label is the list of terms that replace the label; it removes
+-- the last part of μ.
 --     conversion-cases                  the label is converted at the last part of its augmented monomial, or it replaces itself
 --     converted_terms, target_terms     the terms that the program adds are those of the conversion
 use Rattle.std.proofs.Common.{◌≡◌, ◌⊎◌, ℕ, ◌-◌, ◌<◌, ◌≤◌, cond, List, [], ◌∷◌, ◌++◌, length, refl, sym, ap, ap₂, ◌∙◌, inl, inr, arith, ℤ, pos, negsuc, neg_ℤ}
@@ -16,9 +18,8 @@ use Rattle.family_lists.proofs.RowSteps.{row-gained}
 use Rattle.basis_change.specs.AugmentedProducts.{MixedLabel, Mixed, products, raised, conversion_of, conversion, in_target}
 use Rattle.basis_change.proofs.LastParts.{IsEnded, last_part, part-end, take-before}
 
--- let the augmented monomial of a label have the parts `rest` and then a. The terms that replace the label are: p_a times `converted`, with the
--- augmented monomial of `rest`; and, with the coefficient -1 and for each part of `rest`, `converted` with the augmented monomial of `rest` in which
--- this part is increased by a
+-- the terms that replace the label of `converted` and `rest` ++ [a]: the terms of p_a times `converted`, each with the second partition `rest`; and,
+-- for each part of `rest`, the label of `converted` and `rest` with this part increased by a, with the coefficient -1
 abbrev pub at_last : List WholeTerms → List ℕ → ℕ → List ℕ → Mixed
 at_last factors converted a rest = products (list_at factors (a - 1)) converted rest ++ each_with (negsuc 0) (raised converted a rest rest)
 
@@ -62,8 +63,6 @@ conversion-cases factors count label p = by (cases_eq (length label.1) count) (c
     by (inr n) k = inl (not_counted factors count label n)
     by (inl e) (inr k) = inl (nothing_left factors count label e (omega arith))
     by (inl e) (inl k) = let s = last_part label.1 p k in inr (record { a = s.0; rest = s.1; ended = s.2; is = converts factors count label s.0 s.1 e s.2 })
-
--- ---- the terms that are added to a table, as terms of the conversion
 
 module _ (factors : List WholeTerms) (label : MixedLabel) (factor : WholeTerms) (a : ℕ) (is : list_at factors (a - 1) ≡ factor) (rest : List ℕ) (c : ℤ) where
   pub converted_terms : (count : ℕ) → length label.1 ≡ count → IsEnded a rest label.1

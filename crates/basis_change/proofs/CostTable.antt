@@ -1,8 +1,9 @@
--- The cost of a list in m that N bounds (`IsBoundedBy`), with labels of at most 15 cells: the costs of all partitions of at most 15 cells are
--- computed and added up.
---     cost-within          the cost of d! times the list, in augmented monomials, is at most N times the growth into h at d
+-- The cost of a label bounds the sum of the absolute values of the coefficients in the list into which it is converted (specs/Costs). N bounds a
+-- list in m (`IsBoundedBy`) if |c|·Π λ_i! ≤ N·|λ|! for each term c·m_λ. The cost of such a list is bounded here, if its labels have at most 15 cells:
+-- the costs of all partitions of at most 15 cells are computed and added up.
+--     cost-within          the cost of d! times the list, in augmented monomials, is at most N times the growth into h at d, which is d!·(2d)^d
 --     has-factors          d! is at least the product of the factorials of the multiplicities of each label
-use Rattle.std.proofs.Common.{◌≡◌, ◌⊎◌, ℕ, zero, suc, ◌+◌, ◌*◌, ◌/◌, ◌<◌, ◌≤◌, Bool, true, List, [], ◌∷◌, length, refl, sym, ap, ◌∙◌, subst, inl, inr, arith, ℤ, pos, flat_map}
+use Rattle.std.proofs.Common.{◌≡◌, ◌⊎◌, ℕ, zero, suc, ◌+◌, ◌*◌, ◌/◌, ◌<◌, ◌≤◌, Bool, true, List, [], ◌∷◌, length, refl, sym, ap, ◌∙◌, subst, inl, inr, arith, ℤ, pos, flat_map, rules}
 use Rattle.std.specs.Prelude.{nat_abs, nat_le, ◌==◌, ◌&&◌}
 use Rattle.std.proofs.lemmas.Int.{unsigned_abs-mul}
 use Rattle.std.proofs.lemmas.Bool.{cases_lt, and_parts, eqb-true, leb-true}
@@ -93,14 +94,8 @@ divides-at d parts h p s =
     let q = and_parts ((factorial d / multiplicity_factorials parts) * multiplicity_factorials parts == factorial d) (multinomial parts * factorials parts == factorial (size parts)) t in
     record { multiplicities = eqb-true _ _ q.0; parts_are = eqb-true _ _ q.1 }
 
--- ---- the cost of a list that N bounds (`IsBoundedBy`)
-
 pub cancel-le : (a b c : ℕ) → 0 < c → a * c ≤ b * c → a ≤ b
-cancel-le a b c p h = by (cases_lt b a)
-  where
-    by : (b < a) ⊎ (a ≤ b) → a ≤ b
-    by (inl l) = absurd (let m : (b + 1) * c ≤ a * c = mul-le-mul_right c (let t : b + 1 ≤ a = omega arith in t) in let e : (b + 1) * c ≡ b * c + c = omega arith in omega arith)
-    by (inr l) = l
+cancel-le a b c p h = search rules
 
 module _ (N d : ℕ) (low : d ≤ 15) where
   term-cost : (t : List ℕ × ℤ) → IsPartition t.0 → size t.0 ≤ d → nat_abs t.1 * factorials t.0 ≤ N * factorial (size t.0)

@@ -1,9 +1,12 @@
--- Bounds for the coefficients while labels are converted. If the augmented monomial of a label has l parts and the size s, the cost of the label is
--- l!·(2^s - 1), or 1 if s = 0; converting a label does not increase the cost.
---     cost-conversion      the cost of the terms that replace a label
---     ready-conversion     the conditions on the terms that replace a label
---     mass-target, low-target    the absolute values and the sizes of the terms of the target at the end
-use Rattle.std.proofs.Common.{◌≡◌, ◌⊎◌, ℕ, zero, suc, ◌+◌, ◌-◌, ◌*◌, ◌^◌, ◌<◌, ◌≤◌, List, [], ◌∷◌, ◌++◌, length, refl, sym, ap, ap₂, ◌∙◌, subst, inl, inr, arith, ℤ, pos, negsuc}
+-- Bounds for the coefficients while labels are converted. A label is a pair of partitions; it denotes the basis polynomial of the first one times the
+-- augmented monomial of the second one. If the second one has l parts and the size s, the cost of the label is l!·(2^s - 1), or 1 if s = 0;
+-- converting a label does not increase the cost.
+--     cost-conversion      the sum of |c|·cost, over the terms with the coefficients c that replace a label, is at most the cost of the label
+--     ready-conversion     if the second partition has at most k + 1 parts, those of the labels that replace the label have at most k parts, and the
+--                          bound d for the sum of the sizes of the two partitions is kept
+--     mass-target, low-target    if the second partition has at most one part, the label is replaced by terms in the basis: the absolute values of
+--                                their coefficients add up to at most the cost of the label, and their labels have at most d cells
+use Rattle.std.proofs.Common.{◌≡◌, ◌⊎◌, ℕ, zero, suc, ◌+◌, ◌-◌, ◌*◌, ◌^◌, ◌<◌, ◌≤◌, List, [], ◌∷◌, ◌++◌, length, refl, sym, ap, ap₂, ◌∙◌, subst, inl, inr, arith, ℤ, pos, negsuc, rules}
 use Rattle.std.specs.Prelude.{nat_abs}
 use Rattle.std.proofs.lemmas.Bool.{cases_eq}
 use Rattle.std.proofs.lemmas.Nat.{pow-add}
@@ -54,33 +57,18 @@ doubled-times P a (suc s) h p =
     let g : (P + 1) * 2 ^ suc s ≡ P * 2 ^ suc s + 2 ^ suc s = omega arith in
     omega arith
 
--- ---- the cost of the terms that replace a label
-
 cost-products : (factor : WholeTerms) (converted rest : List ℕ) → weighed cost (products factor converted rest) ≡ mass factor * (factorial (length rest) * doubled (size rest))
 cost-products [] converted rest = omega arith
-cost-products (t ∷ factor) converted rest =
-    spread (nat_abs t.1) (mass factor) (factorial (length rest) * doubled (size rest)) (weighed cost (products factor converted rest)) (cost-products factor converted rest)
-  where
-    spread : (x y k w : ℕ) → w ≡ y * k → x * k + w ≡ (x + y) * k
-    spread x y k w e = let d : (x + y) * k ≡ x * k + y * k = omega arith in omega arith
+cost-products (t ∷ factor) converted rest = search (rules, (cost-products factor converted rest))
 
 cost-each : (converted : List ℕ) (a : ℕ) (rest numbers : List ℕ) (B : ℕ) → ((b : ℕ) → Among b numbers → cost (converted, raise a b rest) ≤ B)
     → weighed cost (each_with (negsuc 0) (raised converted a rest numbers)) ≤ length numbers * B
 cost-each converted a rest [] B h = omega arith
-cost-each converted a rest (b ∷ numbers) B h =
-    let r = cost-each converted a rest numbers B (λ d m. h d (inr m)) in
-    let m = h b (inl refl) in
-    let e : nat_abs (negsuc 0) * cost (converted, raise a b rest) ≡ cost (converted, raise a b rest) = one-mul (cost (converted, raise a b rest)) in
-    omega arith
+cost-each converted a rest (b ∷ numbers) B h = search (rules, one-mul, (cost-each converted a rest numbers B))
 
 rows-without : (b : ℕ) (l : List ℕ) → Among b l → length (without_one b l) + 1 ≡ length l
 rows-without b [] m = absurd m
-rows-without b (d ∷ l) m = by (cases_eq d b) m (rows-without b l)
-  where
-    by : (d ≡ b) ⊎ (d ≡ b → ⊥) → Among b (d ∷ l) → (Among b l → length (without_one b l) + 1 ≡ length l) → length (without_one b (d ∷ l)) + 1 ≡ length (d ∷ l)
-    by (inl e) k f = ap (λ (x : List ℕ). length x + 1) (without_one_here b d l e) ∙ omega arith
-    by (inr n) (inl e) f = absurd (n (sym e))
-    by (inr n) (inr k) f = ap (λ (x : List ℕ). length x + 1) (without_one_past b d l n) ∙ (let r = f k in omega arith)
+rows-without b (d ∷ l) m = search (rules, cases_eq, without_one_here, without_one_past, (rows-without b l))
 
 rows-raise : (a b : ℕ) (rest : List ℕ) → Among b rest → length (raise a b rest) ≤ length rest
 rows-raise a b rest m = let h = rows-insert_part (a + b) (without_one b rest) in let k = rows-without b rest m in omega arith
@@ -89,11 +77,7 @@ raise-size : (a b : ℕ) (rest : List ℕ) → IsPartition rest → Among b rest
 raise-size a b rest p m = size-raise a b rest p (has-zero_or b rest (inr (has-among b rest m)))
 
 cost-raised : (converted : List ℕ) (a b : ℕ) (rest : List ℕ) → IsPartition rest → Among b rest → cost (converted, raise a b rest) ≤ factorial (length rest) * doubled (a + size rest)
-cost-raised converted a b rest p m =
-    let f = factorial-mono (length (raise a b rest)) (length rest) (rows-raise a b rest m) in
-    let s = ap (λ k. factorial (length (raise a b rest)) * doubled k) (raise-size a b rest p m) in
-    let l : factorial (length (raise a b rest)) * doubled (a + size rest) ≤ factorial (length rest) * doubled (a + size rest) = mul-le-mul_right (doubled (a + size rest)) f in
-    omega arith
+cost-raised converted a b rest p m = search (rules, factorial-mono, rows-raise, raise-size, mul-le-mul_right)
 
 cost-last : (factor : WholeTerms) (converted : List ℕ) (a : ℕ) (rest parts : List ℕ) → IsSmall a factor → IsEnded a rest parts
     → weighed cost (products factor converted rest ++ each_with (negsuc 0) (raised converted a rest rest)) ≤ cost (converted, parts)
@@ -116,31 +100,11 @@ cost-last factor converted a rest parts is p =
         let n : suc r * F * D ≡ F * D + r * (F * D) = omega arith in
         omega arith
 
--- if all lists of `factors` are small (`AreSmall`), then for each a from 1 to the number of lists the entry a - 1 of `factors`, which is the list of
--- p_a, is small for a (`IsSmall a`)
 pub list_of : (factors : List WholeTerms) (a : ℕ) → AreSmall factors → 0 < a → a ≤ length factors → IsSmall a (list_at factors (a - 1))
-list_of factors a small p l =
-    let i : a - 1 < length factors = omega arith in
-    let j : a - 1 + 1 ≡ a = omega arith in
-    subst (λ k. IsSmall k (list_at factors (a - 1))) j (small (a - 1) i)
+list_of factors a small p l = search rules
 
 pub cost-conversion : (most count : ℕ) (factors : List WholeTerms) (l : MixedLabel) → AreSmall factors → IsReady (length factors) most l → weighed cost (conversion factors count l) ≤ cost l
-cost-conversion most count factors l small ready = by (conversion-cases factors count l ready.augmented)
-  where
-    by : Stays factors count l ⊎ Ends factors count l → weighed cost (conversion factors count l) ≤ cost l
-    by (inl s) =
-        subst (λ (x : Mixed). weighed cost x ≤ cost l) (sym s.is) (one (cost l))
-      where
-        one : (k : ℕ) → 1 * k + 0 ≤ k
-        one k = omega arith
-    by (inr e) =
-        let p = e.ended in
-        let size = p.cells in
-        let low = ready.low in
-        subst (λ (x : Mixed). weighed cost x ≤ cost l) (sym e.is)
-        (cost-last (list_at factors (e.a - 1)) l.0 e.a e.rest l.1 (list_of factors e.a small p.positive (omega arith)) p)
-
--- ---- the terms that replace a label satisfy the conditions on labels (`IsReady`)
+cost-conversion most count factors l small ready = search (rules, conversion-cases, cost-last, list_of)
 
 labels-products : (P : MixedLabel → Type 0) (factor : WholeTerms) (converted rest : List ℕ) → ((t : List ℕ × ℤ) → Among t factor → P (merged converted t.0, rest)) → HaveLabels P (products factor converted rest)
 labels-products P [] converted rest h t m = absurd m
@@ -190,8 +154,6 @@ ready-conversion most factors l small ready = by (conversion-cases factors (suc 
         let y = rows-raise e.a b e.rest m in
         record { converted = ready.converted; augmented = IsPartition-raise e.a b e.rest p.before; low = omega arith; few = omega arith }))))
 
--- ---- the terms of the target for a label whose augmented monomial has at most one part
-
 pub mass-target : (factors : List WholeTerms) (l : MixedLabel) → AreSmall factors → IsReady (length factors) 1 l → weighed (λ x. 1) (in_target factors l) ≤ cost l
 mass-target factors (converted, []) small ready = let p = cost-positive (converted, []) in (let one : 1 * 1 + 0 ≤ 1 = omega arith in omega arith)
 mass-target factors (converted, (a ∷ rest)) small ready =
@@ -215,10 +177,7 @@ mass-target factors (converted, (a ∷ rest)) small ready =
     mass-row (t ∷ V) = let r = mass-row V in let o = ap nat_abs (one-product t.1) in omega arith
 
 pub low-target : (d : ℕ) (factors : List WholeTerms) (l : MixedLabel) → AreSmall factors → length factors ≡ d → IsReady (length factors) 1 l → HaveLabels (λ label. size label ≤ d) (in_target factors l)
-low-target d factors (converted, []) small is ready t (inl e) =
-    let low = ready.low in
-    let s = ap (λ (x : List ℕ × ℤ). size x.0) e in
-    omega arith
+low-target d factors (converted, []) small is ready t (inl e) = search rules
 low-target d factors (converted, []) small is ready t (inr m) = absurd m
 low-target d factors (converted, (a ∷ rest)) small is ready t m =
     let low = ready.low in

@@ -1,6 +1,6 @@
--- A list in m and the answer of a change of basis expand the same polynomials.
+-- A list in the monomial basis m and the result of changing it into another basis expand the same polynomials.
 --     multiple-changed      a list in m with integer coefficients, changed into e, h or p
---     expansion-by          a list of fractions in m, changed into another basis
+--     expansion-by          a list in m with fractions as coefficients, changed into another basis
 use Rattle.std.proofs.Common.{◌≡◌, ℕ, ◌*◌, ◌/◌, ◌<◌, ◌≤◌, List, [], ◌∷◌, refl, sym, ap, ap₂, ◌∙◌, inl, inr, arith, ℤ, pos, ◌+ℤ◌, ◌*ℤ◌}
 use Rattle.std.proofs.lemmas.Int.{ints}
 use Rattle.sym_model.specs.Sum.{Among, total}
@@ -32,8 +32,6 @@ use Rattle.basis_change.proofs.CostTable.{divides-at}
 use Rattle.sym_model.proofs.Integers.{product_cancel}
 use native.Mathlib.Nat.{mul-pos}
 use lib.IntN.{*ℤ-zero}
-
--- ---- the value of a list in m that is written in augmented monomials
 
 start-term : (family : Family) (n q : ℕ) (φ : List ℕ → ℤ) (t : List ℕ × ℤ) → (q / multiplicity_factorials t.0) * multiplicity_factorials t.0 ≡ q
     → augmented_number q t.0 t.1 *ℤ product_value family n φ ([], t.0) ≡ pos q *ℤ (t.1 *ℤ pair (monomial t.0 n) φ)
@@ -72,12 +70,10 @@ multiple-changed family d terms end low is w same_value n α =
     ∙ ap (λ z. pos (factorial d) *ℤ z) (sym (pair_of_combined (λ label. monomial label n) terms (at_only α)) ∙ sym (coefficient_pair (in_monomials terms n) α))
     ∙ sym (coefficient_scale (pos (factorial d)) (in_monomials terms n) α)
 
--- ---- a list of fractions, and the list of integers that is D times it
-
 crossed : (q a b x y f : ℤ) → b *ℤ y ≡ a *ℤ x → q *ℤ x ≡ b *ℤ f → (q *ℤ y) *ℤ b ≡ (a *ℤ f) *ℤ b
 crossed q a b x y f h k = product_turned q y b ∙ ap (λ z. q *ℤ z) h ∙ product_left_comm q a x ∙ ap (λ z. a *ℤ z) k ∙ sym (product_turned a f b)
 
--- W is D times the list of fractions `terms`: then q·W is D·f if and only if `terms` represents f divided by q
+-- let W be D times the list of fractions `terms`: then q·W is D·f if and only if `terms` represents f divided by q
 module _ (polynomial : List ℕ → Poly) (D q : ℕ) (W : WholeTerms) (terms : Terms (List ℕ)) (f : Poly) (d : IsDivided D W terms) where
   pub clears : Represents polynomial terms f q → Same (scale (pos q) (combined polynomial W)) (scale (pos D) f)
   clears h α =
@@ -104,8 +100,8 @@ module _ (polynomial : List ℕ → Poly) (D q : ℕ) (W : WholeTerms) (terms : 
         ∙ sym (coefficient_scale (pos Q) f α);
   }
 
--- let W be D times the list of fractions `terms` in m, R the list q·W changed into another basis, and the answer R divided by D·q: then the answer
--- expands each polynomial that `terms` expands
+-- let W be D times the list of fractions `terms` in m, let R be the list q·W changed into another basis, and let `answer` be R divided by D·q. Then
+-- `answer` expands each polynomial that `terms` expands
 pub expansion-by : (basis : Basis) (N D q : ℕ) (terms answer : Terms (List ℕ)) (W R : WholeTerms) → 0 < D → 0 < q → IsFractionTable terms → IsBounded N D terms → Same W (over D terms)
     → IsMultipleIn basis q W R → IsFractionTable answer → Quotients (D * q) answer R
     → (n : ℕ) (f : Poly) (p : ℕ) → IsExpansionOf Basis.monomials terms n f p → IsExpansionOf basis answer n f p

@@ -1,10 +1,12 @@
--- The straightening of a beta list in two turns: first all entries but the last one, then the result with the last one.
+-- The beta list of a list α of n exponents has the entries α_i + n - i. Straightening sorts a beta list: if two entries are equal, the result is 0;
+-- otherwise it is the partition of the sorted list, with the sign of the sorting. Here this is done in two turns: first all entries but the last one,
+-- then the result with the last one. The value of a function g of partitions at a straightening is 0, or the sign times the value at the partition.
 --     value-sorted       an alternating function, by its value at the sorted list
 --     value-equal        the value of g at the straightening is 0 if two entries are equal
 --     value-strict       the value of g at the straightening of a strictly decreasing list
 --     value-front        all entries but the last one straightened first
 --     value-zero         the beta list in one more row, with the last entry 0, has the same value
-use Rattle.std.proofs.Common.{◌≡◌, ◌⊎◌, ℕ, suc, ◌-◌, Bool, true, false, ◌||◌, ◌==◌, cond, List, [], ◌∷◌, ◌++◌, map, length, refl, sym, ap, ap₂, ◌∙◌, inl, inr, arith, append_assoc, ℤ, pos, neg_ℤ, ◌*ℤ◌}
+use Rattle.std.proofs.Common.{◌≡◌, ◌⊎◌, ℕ, suc, ◌-◌, Bool, true, false, cond, List, [], ◌∷◌, ◌++◌, map, length, refl, sym, ap, ap₂, ◌∙◌, inl, inr, arith, append_assoc, ℤ, pos, neg_ℤ, ◌*ℤ◌, rules}
 use Rattle.std.proofs.lemmas.Int.{ints}
 use Rattle.std.proofs.lemmas.Bool.{cases_eq}
 use Rattle.std.proofs.lemmas.List.{map-append}
@@ -24,8 +26,6 @@ use Rattle.beta_list_laws.proofs.BetaLowerings.{strict_distinct}
 use Rattle.std.proofs.Math.Dec.{eqb-suc-suc}
 use Rattle.std.proofs.Math.Bool.{or-true}
 use Rattle.alternant_laws.proofs.EnoughPlaces.{less-raised}
-
--- ---- functions of lists that alternate
 
 -- exchanging two different neighbouring entries of a list negates the value of the function
 abbrev pub Alternates : (List ℕ → ℤ) → Type 0
@@ -50,8 +50,6 @@ value-sorted H t s h =
         turned (H (left ++ (a ∷ b ∷ right))) (H (left ++ (b ∷ a ∷ right))) (sorting_sign (left ++ (a ∷ b ∷ right))) (sorting_sign (left ++ (b ∷ a ∷ right))) (H (sorted_falling s))
         e (t left a b right n) (sorting_sign-exchange left a b right n)
 
--- ---- the value of g at the straightening of a beta list (`straight_value`), by cases
-
 pub value-equal : (g : List ℕ → ℤ) (s : List ℕ) → has_equal_entries s ≡ true → straight_value g s ≡ pos 0
 value-equal g s h = ap (λ t. cond t (pos 0) (sorting_sign s *ℤ g (from_beta (sorted_falling s)))) h
 
@@ -59,21 +57,10 @@ pub value-different : (g : List ℕ → ℤ) (s : List ℕ) → has_equal_entrie
 value-different g s h = ap (λ t. cond t (pos 0) (sorting_sign s *ℤ g (from_beta (sorted_falling s)))) h
 
 value-alternates : (g : List ℕ → ℤ) → Alternates (straight_value g)
-value-alternates g left a b right n =
-    ap₂ (λ (t : Bool) (z : ℤ). cond t (pos 0) z) (equal-exchange left a b right)
-    (ap₂ (λ (p : ℤ) (l : List ℕ). p *ℤ g (from_beta l)) (sorting_sign-exchange left a b right n) (sorted-exchange left a b right))
-    ∙ by (has_equal_entries (left ++ (b ∷ a ∷ right))) (sorting_sign (left ++ (b ∷ a ∷ right))) (g (from_beta (sorted_falling (left ++ (b ∷ a ∷ right)))))
-  where
-    by : (t : Bool) (p z : ℤ) → cond t (pos 0) (neg_ℤ p *ℤ z) ≡ neg_ℤ (cond t (pos 0) (p *ℤ z))
-    by true p z = refl
-    by false p z = simp ring
+value-alternates g left a b right n = search (rules, equal-exchange, sorting_sign-exchange, sorted-exchange, neg_ℤ, ring)
 
 pub value-strict : (g : List ℕ → ℤ) (s : List ℕ) → FallsStrictly s → straight_value g s ≡ g (from_beta s)
-value-strict g s f =
-    value-different g s (strict_distinct s f)
-    ∙ ap (λ k. minus_one_to k *ℤ g (from_beta (sorted_falling s))) (strict_pairs s f)
-    ∙ one-product (g (from_beta (sorted_falling s)))
-    ∙ ap (λ l. g (from_beta l)) (sorted-falling s (strict_falls s f))
+value-strict g s f = search (rules, value-different, strict_distinct, strict_pairs, one-product, sorted-falling, strict_falls)
 
 -- ---- a list s with one more entry a, straightened in two turns: s first, and then with a
 
@@ -85,29 +72,18 @@ above-exchange : (x : ℕ) (left : List ℕ) (a b : ℕ) (right : List ℕ) → 
 above-exchange x left a b right = ap (λ l. l ++ x ∷ []) (map-append suc left (a ∷ b ∷ right)) ∙ append_assoc (map suc left) (suc a ∷ suc b ∷ map suc right) (x ∷ [])
 
 above-alternates : (g : List ℕ → ℤ) (x : ℕ) → Alternates (λ s. straight_value g (above x s))
-above-alternates g x left a b right n =
-    ap (straight_value g) (above-exchange x left a b right)
-    ∙ value-alternates g (map suc left) (suc a) (suc b) (above x right) (λ e. n (omega arith))
-    ∙ ap (λ l. neg_ℤ (straight_value g l)) (sym (above-exchange x left b a right))
+above-alternates g x left a b right n = search (rules, above-exchange, value-alternates, neg_ℤ)
 
 has-above : (x a : ℕ) (s : List ℕ) → has a s ≡ true → has (suc a) (above x s) ≡ true
 has-above x a [] h = absurd (cc)
-has-above x a (b ∷ s) h = ap (λ t. t || has (suc a) (above x s)) (eqb-suc-suc b a) ∙ by (b == a) h (has-above x a s)
-  where
-    by : (t : Bool) → (t || has a s) ≡ true → (has a s ≡ true → has (suc a) (above x s) ≡ true) → (t || has (suc a) (above x s)) ≡ true
-    by true h r = refl
-    by false h r = r h
+has-above x a (b ∷ s) h = search (rules, eqb-suc-suc, (has-above x a s))
 
 equal-above : (x : ℕ) (s : List ℕ) → has_equal_entries s ≡ true → has_equal_entries (above x s) ≡ true
 equal-above x [] h = absurd (cc)
-equal-above x (a ∷ s) h = by (has a s) refl h (equal-above x s)
-  where
-    by : (t : Bool) → has a s ≡ t → (t || has_equal_entries s) ≡ true → (has_equal_entries s ≡ true → has_equal_entries (above x s) ≡ true) → (has (suc a) (above x s) || has_equal_entries (above x s)) ≡ true
-    by true e h r = ap (λ t. t || has_equal_entries (above x s)) (has-above x a s e)
-    by false e h r = ap (λ t. has (suc a) (above x s) || t) (r h) ∙ or-true (has (suc a) (above x s))
+equal-above x (a ∷ s) h = search (rules, has-above, or-true, (equal-above x s))
 
--- the value of g at the straightening of `above a s` is the value at the straightening of s of the function that maps ν to the value of g at the
--- straightening of `above a (beta (length s) ν)`
+-- straightening `above a s` in two turns: first s straightens to a partition ν with a sign, or to 0; then `above a (beta (length s) ν)` is
+-- straightened. The value of g at the result is the same
 pub value-front : (g : List ℕ → ℤ) (a : ℕ) (s : List ℕ) → straight_value g (above a s) ≡ straight_value (λ ν. straight_value g (above a (beta (length s) ν))) s
 value-front g a s = by (has_equal_entries s) refl
   where
@@ -117,8 +93,6 @@ value-front g a s = by (has_equal_entries s) refl
         value-sorted (λ l. straight_value g (above a l)) (above-alternates g a) s h
         ∙ ap (λ l. sorting_sign s *ℤ straight_value g (above a l)) (sym (ap (λ k. beta k (from_beta (sorted_falling s))) (sym (length-sorted s)) ∙ beta-from_beta (sorted_falling s) (sorted_strict s h)))
         ∙ sym (value-different (λ ν. straight_value g (above a (beta (length s) ν))) s h)
-
--- ---- `above 0 s`, the beta list in one more row, an empty one
 
 strict-above : (s : List ℕ) → FallsStrictly s → FallsStrictly (above 0 s)
 strict-above [] f = tt

@@ -1,6 +1,7 @@
--- The number a that a rim hook of a cells adds to a beta set, inserted among the beta numbers of the other rows.
-use Rattle.std.proofs.Common.{◌≡◌, ℕ, suc, ◌+◌, ◌-◌, ◌*◌, ◌^◌, ◌<◌, ◌≤◌, nat_le, Bool, true, false, cond, List, [], ◌∷◌, ◌++◌, map, length, refl, sym, ap, ap₂, ◌∙◌, subst, arith, ℤ, ◌*ℤ◌}
-use Rattle.std.specs.Prelude.{nat_lt, nat_abs, nat_eq}
+-- The beta numbers of a partition λ in k rows are the numbers λ_i + k - i; the set of these numbers is a beta set. To add a rim hook of a cells that
+-- begins in a new row below the others, each beta number is increased by 1, and then the number a is inserted.
+use Rattle.std.proofs.Common.{◌≡◌, ℕ, suc, ◌+◌, ◌-◌, ◌*◌, ◌^◌, ◌<◌, ◌≤◌, nat_le, Bool, true, false, cond, List, [], ◌∷◌, map, length, refl, sym, ap, ◌∙◌, subst, arith, ℤ, ◌*ℤ◌, rules}
+use Rattle.std.specs.Prelude.{nat_abs, nat_eq}
 use Rattle.std.specs.Cmp.{nat_eq_equiv}
 use Rattle.std.proofs.lemmas.Nat.{or_lt}
 use Rattle.std.proofs.Math.Nat.{pow-le-pow_right}
@@ -22,7 +23,6 @@ use Rattle.beta_sets.proofs.BetaSets.{digit-absent, or_digit}
 use Rattle.beta_sets.proofs.ShapeSums.{one_label}
 use Rattle.alternant_laws.proofs.EnoughPlaces.{rows-full}
 use lib.IntN.{+ℤ_idr}
-use Rattle.std.proofs.Math.IntN.{*ℤ_comm}
 use Rattle.sym_model.proofs.Numbers.{pow_next}
 
 -- ---- a strictly decreasing list without 0 is the beta list of a partition with a row for each number
@@ -43,25 +43,13 @@ rows-put : (ν : List ℕ) (k a : ℕ) → 0 < a → FallsStrictly (put_falling 
 rows-put ν k a h f =
     rows-full (put_falling a (map suc (beta k ν))) f (positive_put a (beta k ν) h)
 
--- ---- the beta set after a rim hook is added
-
 -- if the bits of the number `set` are at the beta numbers of ν for k rows, the bits of 2·set + 1 are at those for k + 1 rows (`IsBetaSet`)
 pub lengthened_is : (ν : List ℕ) (k set next m : ℕ) → IsBetaSet ν k set → set < 2 ^ 63 → next ≡ 2 * set + 1 → m ≡ k + 1 → IsBetaSet ν m next
-lengthened_is ν k set next m is low e s = record {
-  partition = is.partition;
-  enough = let r = is.enough in omega arith;
-  numbers =
-      ap numbers e ∙ places-odd 63 set ∙ ap (λ b. map suc b ++ 0 ∷ []) (sym (places-more 63 set low) ∙ is.numbers)
-      ∙ sym (beta-last ν k is.enough) ∙ ap (λ n. beta n ν) (sym s);
-}
+lengthened_is ν k set next m is low e s = search (rules, places-odd, places-more, beta-last)
 
 pub greater_within : (a : ℕ) (b : List ℕ) → greater a b ≤ length b
 greater_within a [] = omega arith
-greater_within a (x ∷ b) = by (nat_lt a x) (greater_within a b)
-  where
-    by : (t : Bool) → greater a b ≤ length b → cond {A = ℕ} t 1 0 + greater a b ≤ suc (length b)
-    by true r = omega arith
-    by false r = omega arith
+greater_within a (x ∷ b) = search (rules, (greater_within a b))
 
 pub hook-none : (a set : ℕ) → has a (numbers (2 * set)) ≡ true → hook a set ≡ []
 hook-none a set h = ap (λ t. cond t [] ((2 * set + 2 ^ a, minus_one_to (length (numbers (2 * set)) - greater a (numbers (2 * set)))) ∷ [])) h
@@ -73,15 +61,9 @@ module _ (a set others : ℕ) (c : ℤ) (twice : others ≡ 2 * set) (none : has
   here : has a (numbers (2 * set)) ≡ false
   here = ap (λ o. has a (numbers o)) (sym twice) ∙ none
 
-  -- if the set `others` = 2·set does not have the number a, and `passed` of its numbers are below a, then the term with the label `made` = `others` +
-  -- 2^a and the coefficient `number` = (-1)^`passed`·c is c times the term of `hook a set`. Sets of numbers are given as sums of powers of 2.
   pub hook-added : (made passed : ℕ) (number : ℤ) → made ≡ others + 2 ^ a → number ≡ minus_one_to passed *ℤ c → passed ≡ length (numbers others) - greater a (numbers others) → (made, number) ∷ [] ≡ scaled c (hook a set)
-  hook-added made passed number m n e =
-      ap₂ (λ (s : ℕ) (z : ℤ). (s, z) ∷ []) (m ∙ ap (λ o. o + 2 ^ a) twice)
-      (n ∙ *ℤ_comm (minus_one_to passed) c ∙ ap (λ k. c *ℤ minus_one_to k) (e ∙ ap (λ o. length (numbers o) - greater a (numbers o)) twice))
-      ∙ sym (ap (scaled c) (hook-one a set here))
+  hook-added made passed number m n e = search rules
 
-  -- if |c| is at least 2^127 and the set 2·set does not have the number a, adding c times the term of `hook a set` overflows
   pub hook-past : (old : WholeTermsOf ℕ) → 2 ^ 127 ≤ nat_abs c → Overflows nat_eq old (scaled c (hook a set))
   hook-past old large =
       let passed = length (numbers (2 * set)) - greater a (numbers (2 * set)) in
@@ -90,11 +72,7 @@ module _ (a set others : ℕ) (c : ℤ) (twice : others ≡ 2 * set) (none : has
       subst (Overflows nat_eq old) (sym (ap (scaled c) (hook-one a set here))) (overflows_alone nat_eq_equiv same_set old (2 * set + 2 ^ a) (c *ℤ minus_one_to passed) (omega arith))
 
 pub hook-mass : (a set : ℕ) → mass (hook a set) ≤ 1
-hook-mass a set = by (has a (numbers (2 * set)))
-  where
-    by : (t : Bool) → mass (cond t [] ((2 * set + 2 ^ a, minus_one_to (length (numbers (2 * set)) - greater a (numbers (2 * set)))) ∷ [])) ≤ 1
-    by true = omega arith
-    by false = let s = sign_size (length (numbers (2 * set)) - greater a (numbers (2 * set))) in omega arith
+hook-mass a set = search (rules, sign_size)
 
 module _ (ν : List ℕ) (k set a : ℕ) (is : IsBetaSet ν k set) (low : set < 2 ^ 63) where
   others_are : numbers (2 * set) ≡ map suc (beta k ν)
@@ -127,19 +105,10 @@ module _ (ν : List ℕ) (k set a : ℕ) (is : IsBetaSet ν k set) (low : set < 
     }
 
     value-made : (φ : List ℕ → ℤ) → over (λ s. φ (shape s)) ((2 * set + 2 ^ a, minus_one_to (length (numbers (2 * set)) - greater a (numbers (2 * set)))) ∷ []) ≡ straight_value φ (hooked ν (k + 1) a)
-    value-made φ =
-        +ℤ_idr _ ∙ ap (λ (m : List ℕ). minus_one_to (length (numbers (2 * set)) - greater a (numbers (2 * set))) *ℤ φ (from_beta m)) numbers_are
-        ∙ sym (value-put ν k a is.partition absent φ (length (numbers (2 * set)) - greater a (numbers (2 * set)))
-        (let w = greater_within a (numbers (2 * set)) in let g = ap (greater a) others_are in let n = ap length others_are in let m = length-others ν k in omega arith))
-
-  -- ---- the term of `hook a set`, if `set` is the beta set of ν for k rows
+    value-made φ = search (rules, +ℤ_idr, numbers_are, value-put, absent, greater_within, others_are, length-others)
 
   pub hook-over : a ≤ 20 → (φ : List ℕ → ℤ) → over (λ s. φ (shape s)) (hook a set) ≡ straight_value φ (hooked ν (k + 1) a)
-  hook-over few φ = by (has a (numbers (2 * set))) refl
-    where
-      by : (t : Bool) → has a (numbers (2 * set)) ≡ t → over (λ s. φ (shape s)) (hook a set) ≡ straight_value φ (hooked ν (k + 1) a)
-      by true h = ap (over (λ s. φ (shape s))) (hook-none a set h) ∙ sym (value-again φ ν k a (ap (has a) (sym others_are) ∙ h))
-      by false h = ap (over (λ s. φ (shape s))) (hook-one a set h) ∙ value-made few h φ
+  hook-over few φ = search (rules, hook-none, value-again, others_are, hook-one, value-made)
 
   pub hook-labels : a ≤ 20 → (d : ℕ) → 0 < a → size ν + a ≤ d → set < 2 ^ d → HaveLabels (IsShape d) (hook a set)
   hook-labels few d positive cells below = by (has a (numbers (2 * set))) refl

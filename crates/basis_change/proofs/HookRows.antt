@@ -1,8 +1,8 @@
 -- A rim hook that begins in row `count`, below the last row of a partition: the rows in which it can begin, and the rows of the result.
 --     value-rows       the result has `count` rows
 --     value-far        there is no result if the rim hook of a cells begins more than a rows after the last row
---     total_after-cut  a sum over the rows up to n, with one more row
-use Rattle.std.proofs.Common.{◌≡◌, ◌⊎◌, ℕ, zero, suc, ◌+◌, ◌-◌, ◌<◌, ◌≤◌, Bool, true, false, ◌||◌, ◌==◌, cond, nat_le, List, [], ◌∷◌, ◌++◌, map, length, refl, sym, ap, ◌∙◌, inl, inr, arith, length-append, ℤ, pos, ◌+ℤ◌, ◌*ℤ◌}
+--     total_after-cut  a sum over the rows up to n + 1 is the sum over the rows up to n plus the term of row n + 1, if n + 1 is one of the rows
+use Rattle.std.proofs.Common.{◌≡◌, ◌⊎◌, ℕ, zero, suc, ◌+◌, ◌-◌, ◌<◌, ◌≤◌, Bool, true, false, ◌||◌, ◌==◌, cond, nat_le, List, [], ◌∷◌, ◌++◌, map, length, refl, sym, ap, ◌∙◌, inl, inr, arith, length-append, ℤ, pos, ◌+ℤ◌, rules}
 use Rattle.std.proofs.lemmas.Int.{ints}
 use Rattle.std.proofs.lemmas.Bool.{cases_eq, cases_lt, eq-eqb, or_right, or_left}
 use Rattle.std.proofs.lemmas.Bool.Decides.{nat_tests}
@@ -10,7 +10,7 @@ use Rattle.std.proofs.lemmas.List.{length-map, get_or_past}
 use Rattle.sym_model.specs.Sum.{total}
 use Rattle.sym_model.specs.Partition.{ArePositive, rows, part, after}
 use Rattle.sym_model.specs.Bases.{has}
-use Rattle.sym_model.specs.BetaList.{beta, has_equal_entries, sorted_falling, sorting_sign, less_the_rest, from_beta}
+use Rattle.sym_model.specs.BetaList.{beta, has_equal_entries, sorted_falling, less_the_rest, from_beta}
 use Rattle.sym_model.proofs.Parts.{without_last_zeros-positive}
 use Rattle.beta_list_laws.specs.StrictFall.{FallsStrictly}
 use Rattle.beta_list_laws.proofs.NeighbourExchanges.{has-sorted, length-sorted}
@@ -18,7 +18,6 @@ use Rattle.beta_list_laws.proofs.SortedLists.{sorted_strict}
 use Rattle.beta_list_laws.proofs.BetaLists.{strict_tail, length-beta, length-less}
 use Rattle.basis_change.specs.SpecialRimHooks.{straight_value, hooked, within_rows}
 use Rattle.basis_change.proofs.FrontSorting.{above, value-equal, value-different}
-use lib.IntN.{+ℤ_idl}
 use Rattle.sym_model.proofs.Integers.{nothing_either, times_chosen}
 use Rattle.sym_model.proofs.Numbers.{positive-test}
 use Rattle.alternant_laws.proofs.StraightShapes.{single}
@@ -26,15 +25,10 @@ use Rattle.sym_model.proofs.SortedParts.{has_rest}
 
 -- ---- the number of rows of a partition after a rim hook is added
 
--- if a strictly decreasing list without 0 begins with a, fewer than a entries follow
 below_first : (a : ℕ) (b : List ℕ) → FallsStrictly (a ∷ b) → has 0 (a ∷ b) ≡ false → length b < a
 below_first zero [] f h = absurd (cc)
 below_first (suc a) [] f h = omega arith
-below_first a (c ∷ b) f h = let l = f.0 in let r = below_first c b f.1 (later (a == 0) h) in omega arith
-  where
-    later : (t : Bool) → (t || has 0 (c ∷ b)) ≡ false → has 0 (c ∷ b) ≡ false
-    later true h = absurd (cc)
-    later false h = h
+below_first a (c ∷ b) f h = search (rules, (below_first c b f.1))
 
 rows_all : (b : List ℕ) → FallsStrictly b → has 0 b ≡ false → ArePositive (less_the_rest b)
 rows_all [] f h = tt
@@ -45,37 +39,20 @@ rows_all (a ∷ b) f h = (let l = below_first a b f h in omega arith, rows_all b
     later false h = h
 
 rows-without_zero : (s : List ℕ) → has_equal_entries s ≡ false → has 0 s ≡ false → rows (from_beta (sorted_falling s)) ≡ length s
-rows-without_zero s e h =
-    ap length (without_last_zeros-positive (less_the_rest (sorted_falling s)) (rows_all (sorted_falling s) (sorted_strict s e) (has-sorted 0 s ∙ h)))
-    ∙ length-less (sorted_falling s)
-    ∙ length-sorted s
+rows-without_zero s e h = search (rules, without_last_zeros-positive, rows_all, sorted_strict, has-sorted, length-less, length-sorted)
 
 no_zero : (a : ℕ) (s : List ℕ) → 0 < a → has 0 (above a s) ≡ false
 no_zero a [] h = ap (λ t. t || false) (positive-test a h)
 no_zero a (b ∷ s) h = ap (λ t. t || has 0 (above a s)) (positive-test (suc b) (omega arith)) ∙ no_zero a s h
 
 pub length-hooked : (ν : List ℕ) (count a : ℕ) → 0 < count → length (hooked ν count a) ≡ count
-length-hooked ν count a h =
-    let e = length-append (map suc (beta (count - 1) ν)) (a ∷ []) in
-    let m = length-map (beta (count - 1) ν) suc in
-    let b = length-beta (count - 1) ν in
-    omega arith
+length-hooked ν count a h = search (rules, length-append, length-map, length-beta)
 
 pub rows-hooked : (ν : List ℕ) (count a : ℕ) → 0 < count → 0 < a → has_equal_entries (hooked ν count a) ≡ false → rows (from_beta (sorted_falling (hooked ν count a))) ≡ count
 rows-hooked ν count a h p e = rows-without_zero (hooked ν count a) e (no_zero a (beta (count - 1) ν) p) ∙ length-hooked ν count a h
 
 pub value-rows : (n : ℕ) (g : List ℕ → ℤ) (ν : List ℕ) (count a : ℕ) → 0 < count → 0 < a → straight_value (within_rows n g) (hooked ν count a) ≡ cond (nat_le count n) (straight_value g (hooked ν count a)) (pos 0)
-value-rows n g ν count a h p = by (has_equal_entries (hooked ν count a)) refl
-  where
-    by : (t : Bool) → has_equal_entries (hooked ν count a) ≡ t → straight_value (within_rows n g) (hooked ν count a) ≡ cond (nat_le count n) (straight_value g (hooked ν count a)) (pos 0)
-    by true e = value-equal (within_rows n g) (hooked ν count a) e ∙ sym (ap (λ z. cond (nat_le count n) z (pos 0)) (value-equal g (hooked ν count a) e) ∙ nothing_either (nat_le count n))
-    by false e =
-        value-different (within_rows n g) (hooked ν count a) e
-        ∙ ap (λ k. sorting_sign (hooked ν count a) *ℤ cond (nat_le k n) (g (from_beta (sorted_falling (hooked ν count a)))) (pos 0)) (rows-hooked ν count a h p e)
-        ∙ sym (times_chosen (nat_le count n) (sorting_sign (hooked ν count a)) (g (from_beta (sorted_falling (hooked ν count a)))))
-        ∙ ap (λ z. cond (nat_le count n) z (pos 0)) (sym (value-different g (hooked ν count a) e))
-
--- ---- a rim hook of a cells cannot begin more than a rows after the last row
+value-rows n g ν count a h p = search (rules, value-equal, nothing_either, value-different, rows-hooked, times_chosen)
 
 has-after : (f : ℕ → ℕ) (k b m i : ℕ) → b < i → i ≤ b + m → suc (f i) ≡ k → has k (map suc (map f (after b m))) ≡ true
 has-after f k b zero i l h e = absurd (omega arith)
@@ -106,16 +83,10 @@ value-far g ν count a p h =
     (has-after (λ i. part ν i + (count - 1 - i)) a 0 (count - 1) (count - a) (omega arith) (omega arith)
     (let e = get_or_past ν (count - a - 1) 0 (omega arith) in omega arith)))
 
--- ---- the sum over the rows up to n + 1 in which a rim hook of a cells can begin, computed from the sum over the rows up to n
-
 pub total_after-cut : (v : ℕ → ℤ) (start a n : ℕ) → ((count : ℕ) → start + a < count → v count ≡ pos 0)
     → total (λ (count : ℕ). cond (nat_le count (suc n)) (v count) (pos 0)) (after start a)
     ≡ total (λ (count : ℕ). cond (nat_le count n) (v count) (pos 0)) (after start a) +ℤ cond (nat_le start n) (v (suc n)) (pos 0)
-total_after-cut v start zero n h = sym (+ℤ_idl (cond (nat_le start n) (v (suc n)) (pos 0)) ∙ by (nat_le start n) refl)
-  where
-    by : (t : Bool) → nat_le start n ≡ t → cond t (v (suc n)) (pos 0) ≡ pos 0
-    by true e = h (suc n) (let l : start ≤ n = grind (arith, nat_tests) in omega arith)
-    by false e = refl
+total_after-cut v start zero n h = search rules
 total_after-cut v start (suc a) n h =
     let r = total_after-cut v (start + 1) a n (λ count l. h count (omega arith)) in
     let f = first in

@@ -1,8 +1,9 @@
--- Adding a rim hook of a cells that begins in an empty row: a is inserted among the decreasing entries of the other rows.
+-- Adding a rim hook of a cells that begins in an empty row: a is inserted among the decreasing entries of the other rows. Here g is any function of
+-- partitions, and its value at a straightening is 0, or the sign times the value at the partition.
 --     beta-last          the beta list in k + 1 rows is that in k rows with each entry increased by 1, followed by 0
 --     value-put          the value of g at the straightening of the result
 --     size-put           the size of the result
-use Rattle.std.proofs.Common.{◌≡◌, ℕ, suc, ◌+◌, ◌-◌, ◌≤◌, true, false, ◌||◌, ◌==◌, cond, nat_lt, List, [], ◌∷◌, ◌++◌, map, length, refl, sym, ap, ap₂, ◌∙◌, subst, arith, length-append, ℤ, pos, ◌*ℤ◌}
+use Rattle.std.proofs.Common.{◌≡◌, ℕ, suc, ◌+◌, ◌-◌, ◌≤◌, true, false, ◌||◌, ◌==◌, cond, nat_lt, List, [], ◌∷◌, ◌++◌, map, length, refl, sym, ap, ap₂, ◌∙◌, subst, arith, length-append, ℤ, pos, ◌*ℤ◌, rules}
 use Rattle.std.proofs.lemmas.Bool.{or_parts, ne_eqb, both_ways, eq-eqb}
 use Rattle.std.proofs.lemmas.List.{map-append, length-map, get_or_past}
 use Rattle.sym_model.specs.Partition.{Falls, IsPartition, size, rows, part, after}
@@ -23,8 +24,6 @@ use Rattle.basis_change.proofs.FrontSorting.{above, value-equal, value-different
 use Rattle.basis_change.proofs.HookRows.{equal-last}
 use Rattle.beta_list_laws.proofs.BetaLowerings.{strict_distinct}
 use Rattle.beta_list_laws.proofs.Lowest.{strict_falls}
-
--- ---- the beta list in k + 1 rows of a partition with at most k rows
 
 pub beta-last : (ν : List ℕ) (k : ℕ) → rows ν ≤ k → beta (k + 1) ν ≡ above 0 (beta k ν)
 beta-last ν k h =
@@ -84,12 +83,8 @@ passed (b ∷ front) a f h =
     let w = one_way b a (λ e. both_ways (b == a) q.0 (eq-eqb b a e)) in
     omega arith
 
--- ---- the value of g at the straightening of `hooked ν (k + 1) a`, the beta list after a rim hook of a cells is added that begins in row k + 1
-
 pub value-again : (g : List ℕ → ℤ) (ν : List ℕ) (k a : ℕ) → has a (map suc (beta k ν)) ≡ true → straight_value g (hooked ν (k + 1) a) ≡ pos 0
-value-again g ν k a h =
-    ap (λ j. straight_value g (map suc (beta j ν) ++ a ∷ [])) (let e : k + 1 - 1 ≡ k = omega arith in e)
-    ∙ value-equal g (map suc (beta k ν) ++ a ∷ []) (equal-last a (map suc (beta k ν)) h)
+value-again g ν k a h = search (rules, value-equal, equal-last)
 
 module _ (ν : List ℕ) (k a : ℕ) (p : IsPartition ν) (h : has a (map suc (beta k ν)) ≡ false) where
   different : has_equal_entries (map suc (beta k ν) ++ a ∷ []) ≡ false
@@ -100,14 +95,7 @@ module _ (ν : List ℕ) (k a : ℕ) (p : IsPartition ν) (h : has a (map suc (b
 
   pub value-put : (g : List ℕ → ℤ) (passes : ℕ) → passes + greater a (map suc (beta k ν)) ≡ k
       → straight_value g (hooked ν (k + 1) a) ≡ minus_one_to passes *ℤ g (from_beta (put_falling a (map suc (beta k ν))))
-  value-put g passes e =
-      let r = passed (map suc (beta k ν)) a (strict-others ν k p.falls) h in
-      let l = length-others ν k in
-      let same : rising_pairs (map suc (beta k ν) ++ a ∷ []) ≡ passes = omega arith in
-      let one : k + 1 - 1 ≡ k = omega arith in
-      ap (λ j. straight_value g (map suc (beta j ν) ++ a ∷ [])) one
-      ∙ value-different g (map suc (beta k ν) ++ a ∷ []) different
-      ∙ ap₂ (λ (m : ℕ) (l : List ℕ). minus_one_to m *ℤ g (from_beta l)) same sorts
+  value-put g passes e = search (rules, passed, strict-others, length-others, value-different, different, sorts)
 
   pub strict-put : FallsStrictly (put_falling a (map suc (beta k ν)))
   strict-put = subst FallsStrictly sorts (sorted_strict (map suc (beta k ν) ++ a ∷ []) different)

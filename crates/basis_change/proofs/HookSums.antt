@@ -1,7 +1,8 @@
--- Special rim hooks of a cells added to a table, for each row in which they can begin (specs/RimHooks).
---     hooks-next, hooks-end, hooks_gain, hooks_overflow     the rim hooks that begin in one more row
---     hooks-mass, hooks-over, hooks-labels                  the rim hooks that begin in the next rows
-use Rattle.std.proofs.Common.{◌≡◌, ℕ, zero, suc, ◌+◌, ◌*◌, ◌^◌, ◌<◌, ◌≤◌, List, ◌++◌, append-nil, refl, sym, ap, ap₂, ◌∙◌, subst, arith, ℤ, ◌+ℤ◌}
+-- Special rim hooks of a cells, added below the shape of a beta set in each row in which they can begin (specs/RimHooks).
+--     hooks-next, hooks-end, hooks_gain, hooks_overflow     the results are added to a table one row after another
+--     hooks-mass, hooks-over, hooks-labels                  the list of the results for all these rows: the absolute values of its coefficients, the
+--                                                           sums over its terms, and its labels
+use Rattle.std.proofs.Common.{◌≡◌, ℕ, zero, suc, ◌+◌, ◌*◌, ◌^◌, ◌<◌, ◌≤◌, List, ◌++◌, append-nil, refl, sym, ap, ap₂, ◌∙◌, subst, arith, ℤ, ◌+ℤ◌, rules}
 use Rattle.std.specs.Prelude.{nat_eq}
 use Rattle.sym_model.specs.Partition.{size, after}
 use Rattle.sym_model.specs.Sum.{total}
@@ -15,8 +16,6 @@ use Rattle.basis_change.specs.RimHooks.{hook, hooks}
 use Rattle.beta_sets.proofs.BetaSets.{below_power}
 use Rattle.basis_change.proofs.HookEntries.{hook-mass, hook-over, hook-labels, lengthened_is}
 use Rattle.sym_model.proofs.Numbers.{pow_next}
-
--- ---- the rim hooks that begin in the next row, and those that begin in a later row
 
 pub hooks-next : (a left more set longer : ℕ) → left ≡ suc more → longer ≡ 2 * set + 1 → hooks a left set ≡ hook a set ++ hooks a more longer
 hooks-next a left more set longer e l = ap (λ n. hooks a n set) e ∙ ap (λ s. hook a set ++ hooks a more s) (sym l)
@@ -33,18 +32,11 @@ module _ (c : ℤ) (done g old cur : WholeTermsOf ℕ) (so_far : Gains old (scal
       subst (Overflows nat_eq old) (ap (λ l. l ++ scaled c rest) (sym (scaled_append c done g)) ∙ sym (scaled_append c (done ++ g) rest) ∙ ap (scaled c) is)
       (overflows_more nat_eq old (scaled c done ++ scaled c g) (scaled c rest) (overflows_both nat_eq old (scaled c done) cur (scaled c g) so_far large))
 
--- ---- the sum over all rim hooks that begin in one of the next rows
-
 pub hooks-mass : (a many set : ℕ) → mass (hooks a many set) ≤ many
 hooks-mass a zero set = omega arith
-hooks-mass a (suc many) set =
-    let h = hook-mass a set in
-    let r = hooks-mass a many (2 * set + 1) in
-    let m = mass_append (hook a set) (hooks a many (2 * set + 1)) in
-    omega arith
+hooks-mass a (suc many) set = search (rules, hook-mass, mass_append, (hooks-mass a many (2 * set + 1)))
 
 module _ (ν : List ℕ) (a d : ℕ) (positive : 0 < a) (cells : size ν + a ≤ d) (few : d ≤ 20) where
-  -- if the bits of the number `set` are at the beta numbers of ν for k rows, the bits of 2·set + 1 are at those for k + 1 rows (`IsBetaSet`)
   next_is : (k set e : ℕ) → IsBetaSet ν k set → set < 2 ^ e → e ≤ d → IsBetaSet ν (k + 1) (2 * set + 1)
   next_is k set e is low l = lengthened_is ν k set (2 * set + 1) (k + 1) is (below_power set e 63 low (omega arith)) refl refl
 

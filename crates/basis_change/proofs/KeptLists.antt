@@ -1,7 +1,9 @@
--- Kept lists: a kept list of a partition is the list of terms to which its arrangements straighten (specs/KeptLists).
---     kept-empty, kept-step, not_large      the list for a partition has the property `IsKept`
---     listed-next .. hooked_lists-append    the different parts of a partition, one after another
-use Rattle.std.proofs.Common.{◌≡◌, ◌⊎◌, ℕ, zero, suc, ◌+◌, ◌-◌, ◌*◌, ◌^◌, ◌<◌, ◌≤◌, Bool, true, false, cond, List, [], ◌∷◌, ◌++◌, map, length, refl, sym, ap, ◌∙◌, subst, append_assoc, inl, inr, arith, ℤ, pos, ◌+ℤ◌, ◌*ℤ◌}
+-- Kept lists: the kept list of a partition is the list of terms to which its arrangements straighten, as beta sets (specs/KeptLists).
+--     kept-empty, kept-step                 the list of the empty partition, and the list computed from those for one part less (`IsKept`)
+--     not_large                             in this computation no sum of coefficients overflows, if the partition has at most 20 cells
+--     listed-next, listed-end, rests-next   the different parts of a partition, one after another, each with the list for the partition without it
+--     hooked_lists-append                   the results of adding rim hooks to the lists xs ++ ys are those for xs, followed by those for ys
+use Rattle.std.proofs.Common.{◌≡◌, ◌⊎◌, ℕ, zero, suc, ◌+◌, ◌-◌, ◌*◌, ◌^◌, ◌<◌, ◌≤◌, true, false, cond, List, [], ◌∷◌, ◌++◌, map, length, refl, sym, ap, ◌∙◌, subst, append_assoc, inl, inr, arith, ℤ, pos, ◌+ℤ◌, ◌*ℤ◌, rules}
 use Rattle.std.specs.Prelude.{drop, get_or, nat_eq}
 use Rattle.std.proofs.lemmas.List.{map-append, append-nil, drop_all, drop_more}
 use Rattle.std.proofs.lemmas.Grind.{flat_map-append}
@@ -34,8 +36,6 @@ use native.Mathlib.Nat.{mul-le-mul_left, mul-le-mul_right}
 use Rattle.linear_combinations.proofs.Weighed.{gains_mass}
 use lib.IntN.{+ℤ_idl}
 
--- ---- the property `IsKept` of the list for the empty partition, and bounds by factorials
-
 pub kept-empty : (old new : WholeTermsOf ℕ) (set : ℕ) (c : ℤ) → old ≡ [] → set ≡ 0 → c ≡ pos 1 → IsShapeTable new → Gains old ((set, c) ∷ []) new → IsKept [] new
 kept-empty old new set c o s n is gained = record {
   straightens = λ n g.
@@ -55,28 +55,18 @@ factorial_20 = refl
 
 size-distinct : (numbers : List ℕ) → size (distinct numbers) ≤ size numbers
 size-distinct [] = omega arith
-size-distinct (a ∷ numbers) = by (has a numbers) (size-distinct numbers)
-  where
-    by : (t : Bool) → size (distinct numbers) ≤ size numbers → size (cond t (distinct numbers) (a ∷ distinct numbers)) ≤ a + size numbers
-    by true h = omega arith
-    by false h = omega arith
+size-distinct (a ∷ numbers) = search (rules, (size-distinct numbers))
 
 -- the first components, which are numbers, of a list of pairs of a number and a table
 abbrev pub parts_of : List (ℕ × WholeTermsOf ℕ) → List ℕ
 parts_of lists = map (λ (x : ℕ × WholeTermsOf ℕ). x.0) lists
 
 within-factorial : (parts numbers : List ℕ) → 0 < size parts → numbers ≡ distinct parts → size numbers * factorial (size parts - 1) ≤ factorial (size parts)
-within-factorial parts numbers p e =
-    let s : size numbers ≤ size parts = let h = size-distinct parts in let k = ap size e in omega arith in
-    let m : size numbers * factorial (size parts - 1) ≤ size parts * factorial (size parts - 1) = mul-le-mul_right (factorial (size parts - 1)) s in
-    let f = factorial-step (size parts) p in
-    omega arith
+within-factorial parts numbers p e = search (rules, size-distinct, mul-le-mul_right, factorial-step)
 
 pub part-positive : (parts : List ℕ) (a : ℕ) → IsPartition parts → has a parts ≡ true → 0 < a
 part-positive parts zero p h = absurd (let z = has-zero parts p.positive in cc)
 part-positive parts (suc a) p h = omega arith
-
--- ---- rim hooks of a cells added below the shapes of the list for `parts` without one part a
 
 -- a pair of a number and a list, with the beta sets of the list replaced by their partitions
 abbrev with_shapes : ℕ × WholeTermsOf ℕ → ℕ × WholeTerms
@@ -88,15 +78,7 @@ module _ (parts : List ℕ) (p : IsPartition parts) (low : size parts ≤ 20) wh
     positive = part-positive parts x.0 p rest.part
 
     one-over : (φ : List ℕ → ℤ) → over (λ s. φ (shape s)) (replaced (hooks_below x.0) x.1) ≡ pair (shapes x.1) (hooks_value φ x.0)
-    one-over φ =
-        replaced_over (hooks_below x.0) (λ s. φ (shape s)) x.1
-        ∙ total_among (λ (t : ℕ × ℤ). t.1 *ℤ over (λ s. φ (shape s)) (hooks_below x.0 t.0)) (λ (t : ℕ × ℤ). t.1 *ℤ hooks_value φ x.0 (shape t.0)) x.1
-        (λ t m.
-        let is = rest.kept.within t m in
-        let s = size-without_one x.0 parts rest.part in
-        ap (λ z. t.1 *ℤ z)
-        (hooks-over (shape t.0) x.0 (size parts) positive (let k = is.cells in omega arith) low φ x.0 (rows (shape t.0)) t.0 (size (without_one x.0 parts) + 1) is.beta is.low (omega arith)))
-        ∙ sym (over-shapes (hooks_value φ x.0) x.1)
+    one-over φ = search (rules, replaced_over, total_among, size-without_one, hooks-over, positive, over-shapes)
 
     one-labels : AreShapes (size parts) (replaced (hooks_below x.0) x.1)
     one-labels =
@@ -117,10 +99,7 @@ module _ (parts : List ℕ) (p : IsPartition parts) (low : size parts ≤ 20) wh
         omega arith
 
   all-over : (φ : List ℕ → ℤ) (lists : List (ℕ × WholeTermsOf ℕ)) → ((x : ℕ × WholeTermsOf ℕ) → Among x lists → IsKeptRest parts x) → over (λ s. φ (shape s)) (hooked_lists lists) ≡ all_hooks φ (map with_shapes lists)
-  all-over φ lists rests =
-      total_each (λ (t : ℕ × ℤ). t.1 *ℤ φ (shape t.0)) (λ (x : ℕ × WholeTermsOf ℕ). replaced (hooks_below x.0) x.1) lists
-      ∙ total_among (λ (x : ℕ × WholeTermsOf ℕ). over (λ s. φ (shape s)) (replaced (hooks_below x.0) x.1)) (λ (x : ℕ × WholeTermsOf ℕ). pair (shapes x.1) (hooks_value φ x.0)) lists (λ x m. one-over x (rests x m) φ)
-      ∙ sym (total_map (λ (l : ℕ × WholeTerms). pair l.1 (hooks_value φ l.0)) with_shapes lists)
+  all-over φ lists rests = search (rules, total_each, total_among, one-over, total_map)
 
   all-labels : (lists : List (ℕ × WholeTermsOf ℕ)) → ((x : ℕ × WholeTermsOf ℕ) → Among x lists → IsKeptRest parts x) → AreShapes (size parts) (hooked_lists lists)
   all-labels [] rests = λ t m. absurd m
@@ -129,12 +108,7 @@ module _ (parts : List ℕ) (p : IsPartition parts) (low : size parts ≤ 20) wh
 
   all-mass : (lists : List (ℕ × WholeTermsOf ℕ)) → ((x : ℕ × WholeTermsOf ℕ) → Among x lists → IsKeptRest parts x) → mass (hooked_lists lists) ≤ size (parts_of lists) * factorial (size parts - 1)
   all-mass [] rests = omega arith
-  all-mass (x ∷ lists) rests =
-      let o = one-mass x (rests x (inl refl)) in
-      let r = all-mass lists (λ y m. rests y (inr m)) in
-      let a = mass_append (replaced (hooks_below x.0) x.1) (hooked_lists lists) in
-      let d : (x.0 + size (parts_of lists)) * factorial (size parts - 1) ≡ x.0 * factorial (size parts - 1) + size (parts_of lists) * factorial (size parts - 1) = omega arith in
-      omega arith
+  all-mass (x ∷ lists) rests = search (rules, one-mass, mass_append, (all-mass lists))
 
   pub kept-step : (lists : List (ℕ × WholeTermsOf ℕ)) (sum : WholeTermsOf ℕ) → 0 < length parts → parts_of lists ≡ distinct parts → ((x : ℕ × WholeTermsOf ℕ) → Among x lists → IsKeptRest parts x)
       → Gains [] (hooked_lists lists) sum → IsShapeTable sum → IsKept parts sum
@@ -157,8 +131,6 @@ module _ (parts : List ℕ) (p : IsPartition parts) (low : size parts ≤ 20) wh
     within = labels_gained nat_eq_equiv same_set [] (hooked_lists lists) sum is gains (IsShape (size parts)) (λ t m. absurd m) (all-labels lists rests);
   }
 
-  -- if `lists` has a list for each of the first different parts a of `parts` (`IsKeptRest`), adding up these lists with rim hooks of a cells added
-  -- below their shapes (`hooked_lists`) never overflows
   pub not_large : (lists : List (ℕ × WholeTermsOf ℕ)) (later : List ℕ) → 0 < length parts → parts_of lists ++ later ≡ distinct parts → ((x : ℕ × WholeTermsOf ℕ) → Among x lists → IsKeptRest parts x)
       → Overflows nat_eq [] (hooked_lists lists) → ⊥
   not_large lists later l listed rests large =
@@ -172,19 +144,13 @@ module _ (parts : List ℕ) (p : IsPartition parts) (low : size parts ≤ 20) wh
       let n : factorial 20 < 2 ^ 127 = omega (arith, factorial_20) in
       omega arith
 
--- ---- the different parts of a partition, listed one after another
-
 distinct-here : (parts : List ℕ) (at : ℕ) → at < length parts → has (get_or parts at 0) (drop (at + 1) parts) ≡ false → distinct (drop at parts) ≡ get_or parts at 0 ∷ distinct (drop (at + 1) parts)
 distinct-here parts at l h =
     ap distinct (drop_more parts at 0 l) ∙ ap (λ t. cond t (distinct (drop (at + 1) parts)) (get_or parts at 0 ∷ distinct (drop (at + 1) parts))) h
 
 pub listed-next : (parts : List ℕ) (at : ℕ) (done : List (ℕ × WholeTermsOf ℕ)) (list : WholeTermsOf ℕ) → at < length parts → has (get_or parts at 0) (drop (at + 1) parts) ≡ false
     → parts_of done ++ distinct (drop at parts) ≡ distinct parts → parts_of (done ++ (get_or parts at 0, list) ∷ []) ++ distinct (drop (at + 1) parts) ≡ distinct parts
-listed-next parts at done list l h e =
-    ap (λ (xs : List ℕ). xs ++ distinct (drop (at + 1) parts)) (map-append (λ (x : ℕ × WholeTermsOf ℕ). x.0) done ((get_or parts at 0, list) ∷ []))
-    ∙ append_assoc (parts_of done) (get_or parts at 0 ∷ []) (distinct (drop (at + 1) parts))
-    ∙ ap (λ (xs : List ℕ). parts_of done ++ xs) (sym (distinct-here parts at l h))
-    ∙ e
+listed-next parts at done list l h e = search (rules, map-append, append_assoc, distinct-here)
 
 pub listed-end : (parts : List ℕ) (at : ℕ) (numbers : List ℕ) → length parts ≤ at → numbers ++ distinct (drop at parts) ≡ distinct parts → numbers ≡ distinct parts
 listed-end parts at numbers l e = sym (append-nil numbers) ∙ ap (λ (xs : List ℕ). numbers ++ distinct xs) (sym (drop_all at parts l)) ∙ e

@@ -1,12 +1,13 @@
 -- A partition, split into its last part and the parts before it.
 --     insert_part-end      a number that is at most every part is inserted after all parts
 --     last_part            each nonempty partition is a partition followed by a positive number
-use Rattle.std.proofs.Common.{◌≡◌, ℕ, suc, ◌+◌, ◌-◌, ◌<◌, List, [], ◌∷◌, ◌++◌, length, take, refl, sym, ap, ◌∙◌, subst, arith}
+use Rattle.std.proofs.lemmas.Grind.{common_steps}
+use Rattle.std.proofs.Common.{◌≡◌, ℕ, suc, ◌+◌, ◌-◌, ◌<◌, List, [], ◌∷◌, ◌++◌, length, take, refl, ap, ◌∙◌, arith, rules}
 use Rattle.std.proofs.lemmas.List.{length-append}
-use Rattle.std.proofs.Math.Seq.{take-append_seam, get_or-append_seam}
+use Rattle.std.proofs.Math.Seq.{get_or-append_seam}
 use Rattle.sym_model.specs.Partition.{ArePositive, IsPartition, size, rows, part, insert_part}
 use Rattle.sym_model.proofs.Parts.{size-append, part-get_or, falls_front}
-use Rattle.sym_model.proofs.SortedParts.{insert_part-front, insert_part_comm, IsPartition_tail}
+use Rattle.sym_model.proofs.SortedParts.{insert_part-front, insert_part_comm}
 
 ArePositive-before : (front : List ℕ) (a : ℕ) → ArePositive (front ++ a ∷ []) → ArePositive front
 ArePositive-before [] a p = tt
@@ -21,11 +22,7 @@ IsPartition-before front a p = record { falls = falls_front front a p.falls; pos
 
 pub insert_part-end : (a : ℕ) (front : List ℕ) → IsPartition (front ++ a ∷ []) → insert_part a front ≡ front ++ a ∷ []
 insert_part-end a [] p = insert_part-front a [] p.positive.0 tt
-insert_part-end a (b ∷ front) p =
-    ap (insert_part a) (sym (insert_part-front b front p.positive.0 (IsPartition-before (b ∷ front) a p).falls))
-    ∙ insert_part_comm a b front
-    ∙ ap (insert_part b) (insert_part-end a front (IsPartition_tail b (front ++ a ∷ []) p))
-    ∙ insert_part-front b (front ++ a ∷ []) p.positive.0 p.falls
+insert_part-end a (b ∷ front) p = search (rules, insert_part-front, IsPartition-before, insert_part_comm, (insert_part-end a front))
 
 -- `parts` is the partition `rest` followed by the positive number a
 pub record IsEnded (a : ℕ) (rest parts : List ℕ) : Type 0 where
@@ -37,16 +34,7 @@ pub record IsEnded (a : ℕ) (rest parts : List ℕ) : Type 0 where
   pub put : insert_part a rest ≡ parts
 
 pub ended : (a : ℕ) (rest parts : List ℕ) → parts ≡ rest ++ a ∷ [] → IsPartition parts → IsEnded a rest parts
-ended a rest parts e p =
-    let q = subst IsPartition e p in
-    record {
-      is = e;
-      positive = positive-last rest a q.positive;
-      before = IsPartition-before rest a q;
-      cells = ap size e ∙ size-append rest (a ∷ []) ∙ (let s : size rest + (a + 0) ≡ a + size rest = omega arith in s);
-      count = ap length e ∙ length-append rest (a ∷ []) ∙ (let s : length rest + 1 ≡ suc (length rest) = omega arith in s);
-      put = insert_part-end a rest q ∙ sym e;
-    }
+ended a rest parts e p = search (rules, positive-last, IsPartition-before, size-append, length-append, insert_part-end)
 
 pub last_part : (parts : List ℕ) → IsPartition parts → 0 < length parts → (a : ℕ) × (rest : List ℕ) × IsEnded a rest parts
 last_part parts p h = let s = split parts h in (s.0, s.1, ended s.0 s.1 parts s.2 p)
@@ -56,13 +44,10 @@ last_part parts p h = let s = split parts h in (s.0, s.1, ended s.0 s.1 parts s.
     split (a ∷ []) h = (a, [], refl)
     split (a ∷ b ∷ parts) h = let s = split (b ∷ parts) (omega arith) in (s.0, a ∷ s.1, ap (λ l. a ∷ l) s.2)
 
--- if a list is `rest` followed by a, its last part is a, and the parts before it are `rest`
+-- the last part of the list `rest` followed by a is a
 pub part-end : (rest : List ℕ) (a : ℕ) → part (rest ++ a ∷ []) (rows (rest ++ a ∷ [])) ≡ a
 part-end rest a =
     ap (part (rest ++ a ∷ [])) (length-append rest (a ∷ [])) ∙ part-get_or (rest ++ a ∷ []) (length rest) ∙ get_or-append_seam rest a [] 0
 
 pub take-before : (rest : List ℕ) (a : ℕ) → take (rows (rest ++ a ∷ []) - 1) (rest ++ a ∷ []) ≡ rest
-take-before rest a =
-    ap (λ n. take (n - 1) (rest ++ a ∷ [])) (length-append rest (a ∷ []))
-    ∙ ap (λ n. take n (rest ++ a ∷ [])) (let s : length rest + 1 - 1 ≡ length rest = omega arith in s)
-    ∙ take-append_seam rest (a ∷ [])
+take-before rest a = grind (arith, common_steps)

@@ -1,9 +1,10 @@
--- Sums over the arrangements of a partition in n places, by the number in the last place.
+-- Sums over the arrangements of a partition in n places, by the number in the last place. An arrangement is a list of n numbers: the parts of the
+-- partition and zeros, in some order.
 --     arrangement           the properties of an arrangement
 --     arrangements-last     0 or one of the different parts is in the last place
 --     arrangements-few      there is no arrangement in fewer places than parts
 --     arrangements-none     the empty partition has only one arrangement
-use Rattle.std.proofs.Common.{◌≡◌, ◌⊎◌, ℕ, zero, suc, ◌+◌, ◌-◌, ◌<◌, ◌≤◌, Bool, true, false, ◌==◌, cond, eqb, nat_le, List, [], ◌∷◌, ◌++◌, map, length, replicate, refl, sym, ap, ◌∙◌, inl, inr, arith, ℤ, pos, ◌+ℤ◌}
+use Rattle.std.proofs.Common.{◌≡◌, ◌⊎◌, ℕ, zero, suc, ◌+◌, ◌-◌, ◌<◌, ◌≤◌, true, false, cond, eqb, nat_le, List, [], ◌∷◌, ◌++◌, map, length, replicate, refl, sym, ap, ◌∙◌, inl, inr, arith, ℤ, pos, ◌+ℤ◌, rules}
 use Rattle.std.proofs.lemmas.Bool.{cases_eq, le-leb, eq-eqb, ne_eqb}
 use Rattle.std.proofs.lemmas.Bool.Decides.{nat_tests}
 use Rattle.sym_model.specs.Sum.{total, Among}
@@ -34,19 +35,11 @@ arrangement parts n α m =
     record { long = e.0; sum = e.1; sorts = same_true (sorted_parts α) parts s.1 }
 
 pub arrangements-few : (F : List ℕ → ℤ) (parts : List ℕ) (n : ℕ) → n < length parts → total F (arrangements parts n) ≡ pos 0
-arrangements-few F parts n h =
-    total_none F (arrangements parts n)
-    (λ α m. let a = arrangement parts n α m in let r = rows-sorted_parts α in let e = ap length a.sorts in let l = a.long in absurd (omega arith))
+arrangements-few F parts n h = search (rules, total_none, arrangement, rows-sorted_parts)
 
 pub arrangements-none : (F : List ℕ → ℤ) (n : ℕ) → total F (arrangements [] n) ≡ F (replicate n 0)
-arrangements-none F n =
-    total_select F (λ α. same (sorted_parts α) []) (exponent_lists n 0)
-    ∙ total_exponent_lists-zero (λ α. cond (same (sorted_parts α) []) (F α) (pos 0)) n
-    ∙ ap (λ l. cond (same l []) (F (replicate n 0)) (pos 0)) (sorted_parts-zeros n)
+arrangements-none F n = search (rules, total_select, total_exponent_lists-zero, sorted_parts-zeros)
 
--- ---- sums over lists of exponents, by their last exponent
-
--- a sum of f over the numbers up to e is a sum over the numbers up to d ≥ e, with 0 in place of f for the numbers greater than e
 cut : (f : ℕ → ℤ) (b e d : ℕ) → d ≡ b + e → total f (down_from e) ≡ total (λ (a : ℕ). cond (nat_le a e) (f a) (pos 0)) (down_from d)
 cut f zero e d h =
     total_among f (λ (a : ℕ). cond (nat_le a e) (f a) (pos 0)) (down_from e)
@@ -79,14 +72,7 @@ triangle f d =
 
 exponent_lists-last : (F : List ℕ → ℤ) (n d : ℕ)
     → total F (exponent_lists (suc n) d) ≡ total (λ (a : ℕ). total (λ α. F (α ++ a ∷ [])) (exponent_lists n (d - a))) (down_from d)
-exponent_lists-last F zero d =
-    total_each F (λ a. map (λ α. a ∷ α) (exponent_lists 0 (d - a))) (down_from d)
-    ∙ total_ext (λ (a : ℕ). total F (map (λ (α : List ℕ). a ∷ α) (exponent_lists 0 (d - a)))) (λ (a : ℕ). total (λ α. F (α ++ a ∷ [])) (exponent_lists 0 (d - a)))
-    (λ a. one a (d - a == 0)) (down_from d)
-  where
-    one : (a : ℕ) (b : Bool) → total F (map (λ (α : List ℕ). a ∷ α) (cond b ([] ∷ []) [])) ≡ total (λ α. F (α ++ a ∷ [])) (cond b ([] ∷ []) [])
-    one a true = refl
-    one a false = refl
+exponent_lists-last F zero d = search (rules, total_each, total_ext)
 exponent_lists-last F (suc n) d =
     total_each F (λ a. map (λ α. a ∷ α) (exponent_lists (suc n) (d - a))) (down_from d)
     ∙ total_ext (λ (b : ℕ). total F (map (λ (α : List ℕ). b ∷ α) (exponent_lists (suc n) (d - b)))) (λ (b : ℕ). total (λ (a : ℕ). inner b a (d - b - a)) (down_from (d - b)))
@@ -109,7 +95,6 @@ sorted_parts-last : (α : List ℕ) (a : ℕ) → sorted_parts (α ++ a ∷ []) 
 sorted_parts-last [] a = refl
 sorted_parts-last (b ∷ α) a = ap (insert_part b) (sorted_parts-last α a) ∙ insert_part_comm b a (sorted_parts α)
 
--- if a is 0 or a part of λ, inserting a into σ gives λ if and only if σ is λ with one a removed
 put_test : (a : ℕ) (parts σ : List ℕ) → IsPartition parts → has a (0 ∷ parts) ≡ true → same (insert_part a σ) parts ≡ same σ (without_one a parts)
 put_test zero parts σ p h = ap (λ l. same σ l) (sym (without_one-zero parts p.positive))
 put_test (suc a) parts σ p h =
@@ -121,7 +106,6 @@ put_test (suc a) parts σ p h =
     there (inl e) = absurd (omega arith)
     there (inr e) = e
 
--- if a is not 0 and not a part of λ, inserting a into σ never gives λ
 no_test : (a : ℕ) (parts σ : List ℕ) → has a (0 ∷ parts) ≡ false → same (insert_part a σ) parts ≡ false
 no_test zero parts σ h = absurd (cc)
 no_test (suc a) parts σ h =
@@ -129,7 +113,7 @@ no_test (suc a) parts σ h =
     (λ e. let t : has (suc a) parts ≡ true = ap (has (suc a)) (sym e) ∙ has-insert_part (suc a) σ (omega arith) in
     let u = has-zero_or (suc a) parts (inr t) in absurd (cc))
 
--- the sum of F(α ++ [a]) over the arrangements α, in n places, of the parts without one a
+-- the sum of F(α ++ [a]) over the arrangements α, in n places, of `parts` without one a
 abbrev ending : (List ℕ → ℤ) → List ℕ → ℕ → ℕ → ℤ
 ending F parts n a = total (λ α. F (α ++ a ∷ [])) (arrangements (without_one a parts) n)
 
@@ -138,20 +122,8 @@ abbrev chosen : (List ℕ → ℤ) → List ℕ → ℕ → ℕ → ℤ
 chosen F parts n a = total (λ α. cond (same (sorted_parts (α ++ a ∷ [])) parts) (F (α ++ a ∷ [])) (pos 0)) (exponent_lists n (size parts - a))
 
 chosen-is : (F : List ℕ → ℤ) (parts : List ℕ) (n a : ℕ) → IsPartition parts → chosen F parts n a ≡ cond (has a (0 ∷ parts)) (ending F parts n a) (pos 0)
-chosen-is F parts n a p = by (has a (0 ∷ parts)) refl
-  where
-    by : (t : Bool) → has a (0 ∷ parts) ≡ t → chosen F parts n a ≡ cond t (ending F parts n a) (pos 0)
-    by true h =
-        let s : size parts - a ≡ size (without_one a parts) = let e = size-taken a parts p h in omega arith in
-        ap (λ k. total (λ α. cond (same (sorted_parts (α ++ a ∷ [])) parts) (F (α ++ a ∷ [])) (pos 0)) (exponent_lists n k)) s
-        ∙ total_ext (λ (α : List ℕ). cond (same (sorted_parts (α ++ a ∷ [])) parts) (F (α ++ a ∷ [])) (pos 0)) (λ (α : List ℕ). cond (same (sorted_parts α) (without_one a parts)) (F (α ++ a ∷ [])) (pos 0))
-        (λ α. ap (λ t. cond t (F (α ++ a ∷ [])) (pos 0)) (ap (λ l. same l parts) (sorted_parts-last α a) ∙ put_test a parts (sorted_parts α) p h)) (exponent_lists n (size (without_one a parts)))
-        ∙ sym (total_select (λ (α : List ℕ). F (α ++ a ∷ [])) (λ (α : List ℕ). same (sorted_parts α) (without_one a parts)) (exponent_lists n (size (without_one a parts))))
-    by false h =
-        total_none (λ (α : List ℕ). cond (same (sorted_parts (α ++ a ∷ [])) parts) (F (α ++ a ∷ [])) (pos 0)) (exponent_lists n (size parts - a))
-        (λ α m. ap (λ t. cond t (F (α ++ a ∷ [])) (pos 0)) (ap (λ l. same l parts) (sorted_parts-last α a) ∙ no_test a parts (sorted_parts α) h))
+chosen-is F parts n a p = search (rules, size-taken, total_ext, sorted_parts-last, put_test, total_select, total_none, no_test)
 
--- if b is a part of the partition, or 0, b is at most the size of the partition
 within_size : (b : ℕ) (parts : List ℕ) → IsPartition parts → has b (0 ∷ parts) ≡ true → b ≤ size parts
 within_size b parts p h = let e = size-taken b parts p h in omega arith
 

@@ -6,7 +6,6 @@ pub mod StraightenedArrangements
 pub mod MixedLabels
 pub mod PartLists
 pub mod LastParts
-pub mod Walks
 pub mod Conversions
 pub mod Values
 pub mod Costs

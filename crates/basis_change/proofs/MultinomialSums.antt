@@ -2,7 +2,7 @@
 --     total-mono             if f(x) ≤ g(x) for each x, the sum of f is at most the sum of g
 --     multinomial            the coefficient of x^α in the power of x_1 + .. + x_n with the exponent |α|
 --     multinomials-within    the coefficients of the arrangements of different partitions of s add up to at most n^s
---     arranged-within        if multinomial coefficients bound a number, a bound for its sum over all arrangements
+--     arranged-within        the sum of a number N over the arrangements of a partition, if N is at most C times the multinomial coefficient
 use Rattle.std.proofs.Common.{◌≡◌, ◌⊎◌, ℕ, zero, suc, ◌*◌, ◌^◌, ◌≤◌, Bool, true, false, cond, eqb, List, [], ◌∷◌, map, refl, sym, ap, ◌∙◌, subst, inl, inr, arith, pow-suc, ℤ, pos, ◌+ℤ◌, ◌*ℤ◌}
 use Rattle.std.specs.Prelude.{◌≤ℤ◌}
 use Rattle.std.proofs.Common.{negsuc}
@@ -29,13 +29,10 @@ use Rattle.basis_change.proofs.LastPlaces.{IsArrangement, arrangement}
 use Rattle.basis_change.proofs.CostTable.{cancel-le}
 use lib.IntN.{+ℤ_idl}
 
--- ---- sums that are compared term by term
-
 pub total-mono : {A : Type 0} (f g : A → ℤ) (xs : List A) → ((x : A) → Among x xs → f x ≤ℤ g x) → total f xs ≤ℤ total g xs
 total-mono f g [] h = omega (arith, ints)
 total-mono f g (x ∷ xs) h = let a = h x (inl refl) in let r = total-mono f g xs (λ y m. h y (inr m)) in omega (arith, ints)
 
--- if y ≥ 0, and each list occurs once in `lists`, the sum over `lists` of y for the list x and 0 for all other lists is at most y
 total-one : (x : List ℕ) (y : ℤ) (lists : List (List ℕ)) → pos 0 ≤ℤ y → Once lists → total (λ l. cond (same x l) y (pos 0)) lists ≤ℤ y
 total-one x y [] p o = p
 total-one x y (l ∷ lists) p o = by (same x l) refl (total-one x y lists p o.1)
@@ -88,8 +85,6 @@ all-within s n =
         ∙ total_exponent_lists-only (λ α. pos 1) β n s))
         (at_most (is_exponent_list n s β))
 
--- ---- sums of multinomial coefficients over the arrangements of partitions of s
-
 -- the sum of the multinomial coefficients of the arrangements of a partition in n places if it has the size s, otherwise 0
 abbrev pub arranged : ℕ → ℕ → List ℕ → ℤ
 arranged s n parts = cond (eqb (size parts) s) (total (multinomial s n) (arrangements parts n)) (pos 0)
@@ -119,9 +114,6 @@ multinomials-within s n lists o =
         let z = total_zero {A = List ℕ} (exponent_lists n s) in
         omega (arith, ints)
 
--- ---- a number x with x·Π λ_i! ≤ N·|λ|!
-
--- if x·Π λ_i! ≤ N·|λ|!, then x is at most N times the multinomial coefficient of each arrangement of λ
 bounded_at : (x N n : ℕ) (parts α : List ℕ) → IsArrangement parts n α → x * factorials parts ≤ N * factorial (size parts) → pos x ≤ℤ (pos N *ℤ multinomial (size parts) n α)
 bounded_at x N n parts α a h = by (multinomial (size parts) n α) (power-nonnegative (size parts) n α) whole
   where

@@ -4,8 +4,6 @@ use Rattle.std.proofs.lemmas.Bool.{eq-eqb, ne_eqb, cond-true, cond-false}
 use Rattle.std.proofs.Common.{◌==◌, remove}
 use Rattle.sym_model.specs.RaisedPart.{without_one}
 
--- ---- the list without the first part that equals a number
-
 -- if the part at the index `at` is the first that equals the number `part`, removing it gives `without_one part parts`
 pub part-taken : (parts : List ℕ) (at part : ℕ) → at < length parts → get_or parts at 0 ≡ part → ((i : ℕ) → i < at → get_or parts i 0 ≡ part → ⊥)
     → remove parts at ≡ without_one part parts

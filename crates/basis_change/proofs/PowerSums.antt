@@ -1,10 +1,10 @@
--- The lists of p_1, p_2 and so on in the basis of a family: the lists that `power_sums` returns, without the one at index 0.
-use Rattle.std.proofs.Common.{◌≡◌, ℕ, suc, ◌+◌, ◌-◌, ◌^◌, ◌<◌, List, [], ◌∷◌, length, ◌∙◌, ap, subst, arith}
+-- The lists of p_1, p_2 and so on in one of the bases e, h and p, which is given as a `Family`: the lists that `power_sums` returns, without the one
+-- at index 0.
+use Rattle.std.proofs.Common.{◌≡◌, ℕ, suc, ◌+◌, ◌-◌, ◌^◌, ◌<◌, List, [], ◌∷◌, length, ◌∙◌, ap, subst, arith, rules}
 use Rattle.std.specs.Prelude.{drop}
 use Rattle.sym_model.specs.Polynomial.{pair}
 use Rattle.sym_model.specs.Bases.{power_sum_of}
 use Rattle.sym_model.specs.WholeTerms.{WholeTerms}
-use Rattle.sym_model.proofs.Numbers.{power-positive}
 use Rattle.basis_change_laws.specs.JoinedLists.{Stands}
 use Rattle.sparse_polys.specs.declared.family.Family.{Family}
 use Rattle.sparse_polys.specs.Families.{polynomial_of}
@@ -14,10 +14,7 @@ use Rattle.basis_change.specs.Factors.{IsPowerSum, ArePowerSums}
 use Rattle.sym_model.proofs.Ring.{one-product}
 
 small : (family : Family) (k : ℕ) (terms : WholeTerms) → Stands (polynomial_of family) 1 (2 ^ k - 1) k (λ n. power_sum_of k n) terms → IsSmall k terms
-small family k terms s = record {
-  few = let f = s.few in let p = power-positive 2 k (omega arith) in omega arith;
-  low = s.labels;
-}
+small family k terms s = search rules
 
 value : (family : Family) (k : ℕ) (terms : WholeTerms) → Stands (polynomial_of family) 1 (2 ^ k - 1) k (λ n. power_sum_of k n) terms → IsPowerSum family k terms
 value family k terms s n φ = s.value n φ ∙ one-product (pair (power_sum_of k n) φ)

@@ -1,4 +1,5 @@
--- The table with which the change of a list in m into another basis starts: the list times d!, written in augmented monomials.
+-- The table with which the change of a list in the monomial basis m into e, h or p starts: d! times the list, written in augmented monomials. The
+-- labels of the list have at most d cells.
 use Rattle.std.proofs.Common.{ℕ, ◌*◌, ◌≤◌, List, [], ◌∷◌, refl, sym, ap, subst, inl, inr, arith, ℤ}
 use Rattle.sym_model.specs.Sum.{Among}
 use Rattle.sym_model.specs.Partition.{IsPartition}

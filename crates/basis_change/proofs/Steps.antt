@@ -1,8 +1,11 @@
--- Invariants of the conversion of augmented monomials: of one step, which converts the last part of each augmented monomial with the greatest number
--- of parts, and of the end.
---     step-value, step-cost, step-ready       a step changes no value, keeps the bound for the cost and the conditions on labels
---     end-value, end-mass, end-low            the value, the bound and the sizes of the terms of the target at the end
-use Rattle.std.proofs.Common.{◌≡◌, ℕ, suc, ◌^◌, ◌≤◌, List, [], length, refl, ◌∙◌, arith, ℤ}
+-- Invariants of the conversion of augmented monomials. One step converts the last part of each augmented monomial with the greatest number of parts;
+-- at the end, each augmented monomial has at most one part. The value of a table is the sum of c·φ(α) over the terms c·x^α of its polynomial, for a
+-- function φ; the cost of a table is the sum of |c|·cost(label) over its terms with the coefficients c.
+--     step-value, step-cost, step-ready       a step does not change the value, does not increase the cost, and removes one part from the longest
+--                                             augmented monomials
+--     end-value, end-mass, end-low            the list in the target basis at the end has the same value; the absolute values of its coefficients add
+--                                             up to at most the cost, and its labels have at most as many cells as there are lists of factors
+use Rattle.std.proofs.Common.{◌≡◌, ℕ, suc, ◌^◌, ◌≤◌, List, [], length, refl, ◌∙◌, arith, ℤ, rules}
 use Rattle.std.specs.Cmp.Lexicographic.{nat_list_eq_equiv}
 use Rattle.sym_model.specs.Partition.{size}
 use Rattle.sym_model.specs.WholeTerms.{WholeTerms}
@@ -29,12 +32,8 @@ pub convertible : (factors : List WholeTerms) (most : ℕ) (es : Mixed) → AreS
 convertible factors most es small few ready t m = record { small = small; lists = few; ready = ready t m }
 
 pub fewer : (d m n : ℕ) (es : Mixed) → m ≤ n → HaveLabels (IsReady d m) es → HaveLabels (IsReady d n) es
-fewer d m n es l h t k =
-    let r = h t k in
-    record { converted = r.converted; augmented = r.augmented; low = r.low; few = let f = r.few in omega arith }
+fewer d m n es l h t k = search rules
 
--- let each label l be replaced by the terms `image l`: if the sum of f over `image l` is g(l) for each label l, the sum of f over the new terms is
--- the sum of g over the old ones
 replaced-value : {L : Type 0} (image : MixedLabel → WholeTermsOf L) (f : L → ℤ) (g : MixedLabel → ℤ) (es : Mixed) (new : WholeTermsOf L) → Gains [] (replaced image es) new → HaveLabels (λ l. over f (image l) ≡ g l) es
     → over f new ≡ over g es
 replaced-value image f g es new a h =
@@ -64,14 +63,10 @@ module _ (factors : List WholeTerms) (es : Mixed) where
       (λ t m. absurd m)
       (labels_replaced (conversion factors (suc most)) (IsReady (length factors) most) es (λ t m. ready-conversion most factors t.0 small (ready t m)))
 
-  -- ---- the terms of the target after the last step
-
   module _ (ready : HaveLabels (IsReady (length factors) 1) es) where
     pub end-value : (family : Family) (n : ℕ) (φ : List ℕ → ℤ) (end : WholeTerms) → ArePowerSums family factors → Gains [] (replaced (in_target factors) es) end
         → over (target_value family n φ) end ≡ over (product_value family n φ) es
-    end-value family n φ end are a =
-        replaced-value (in_target factors) (target_value family n φ) (product_value family n φ) es end a
-        (λ t m. value-target family n φ factors t.0 are (ready t m))
+    end-value family n φ end are a = search (rules, replaced-value, value-target)
 
     end-gained : AreSmall factors → mass (replaced (in_target factors) es) ≤ weighed cost es
     end-gained small =

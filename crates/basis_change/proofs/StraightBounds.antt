@@ -1,8 +1,10 @@
--- Bounds for the sums of absolute values when a list in m is straightened, for each partition of the result separately.
---     list-within          if N bounds a list (`IsBoundedBy`), the bound for the terms to which the list straightens
---     large-straight       if a sum overflows, N times the growth into s is 2^127 or more
-use Rattle.std.proofs.Common.{◌≡◌, ◌⊎◌, ℕ, zero, suc, ◌+◌, ◌-◌, ◌*◌, ◌^◌, ◌<◌, ◌≤◌, Bool, true, false, cond, eqb, List, [], ◌∷◌, length, refl, sym, ap, ◌∙◌, subst, inl, inr, arith, pow-suc, ℤ, pos, ◌*ℤ◌, flat_map}
-use Rattle.std.specs.Prelude.{◌≤ℤ◌, nat_abs, Some, None}
+-- Bounds for the sums of the absolute values of coefficients when a list in m is straightened, for each partition of the result separately. N bounds
+-- a list (`IsBoundedBy`) if |c|·Π λ_i! ≤ N·|λ|! for each term c·m_λ.
+--     list-within          if N bounds a list, the bound for the terms to which the list straightens
+--     large-straight       if a sum overflows, N times the growth into s, which is n^n for labels of at most n cells, is 2^127 or more
+use Rattle.std.proofs.lemmas.Grind.{common_steps}
+use Rattle.std.proofs.Common.{◌≡◌, ◌⊎◌, ℕ, zero, suc, ◌+◌, ◌-◌, ◌*◌, ◌^◌, ◌<◌, ◌≤◌, false, cond, eqb, List, [], ◌∷◌, length, refl, sym, ap, ◌∙◌, subst, inl, inr, arith, pow-suc, ℤ, pos, ◌*ℤ◌, flat_map, rules}
+use Rattle.std.specs.Prelude.{◌≤ℤ◌, nat_abs}
 use Rattle.std.proofs.lemmas.Int.{ints, unsigned_abs-mul}
 use Rattle.std.proofs.lemmas.Bool.{cases_eq, cases_lt, eq-eqb, ne_eqb}
 use Rattle.std.proofs.Math.Nat.{pow-zero, one-mul}
@@ -10,7 +12,7 @@ use Rattle.sym_model.specs.Sum.{total}
 use Rattle.sym_model.specs.Partition.{size}
 use Rattle.sym_model.specs.Alternant.{staircase}
 use Rattle.sym_model.specs.Arrangement.{arrangements}
-use Rattle.sym_model.specs.BetaList.{has_equal_entries, sorted_falling, rising_pairs, sorting_sign, from_beta}
+use Rattle.sym_model.specs.BetaList.{has_equal_entries, sorted_falling, from_beta}
 use Rattle.sym_model.specs.Straightening.{shifted}
 use Rattle.sym_model.specs.PlaceOrders.{minus_one_to}
 use Rattle.sym_model.specs.Expansion.{Basis}
@@ -26,27 +28,22 @@ use Rattle.sparse_polys.specs.LabelSizes.{AreWithin}
 use Rattle.sparse_polys.proofs.WholeLists.{Once-labels}
 use Rattle.sym_model.specs.WholeTerms.{WholeTerms, labels}
 use Rattle.linear_combinations.specs.Gains.{mass_at, Overflows}
-use Rattle.linear_combinations.specs.Labels.{same_partition}
 use Rattle.linear_combinations.proofs.Gains.{over_only_within}
-use Rattle.basis_change.specs.Arranging.{times_straight, straight_term, straight_terms}
+use Rattle.basis_change.specs.Arranging.{straight_term, straight_terms}
 use Rattle.basis_change.specs.Clearing.{IsBoundedBy}
 use Rattle.basis_change.specs.Straightening.{straightened_list}
 use Rattle.basis_change.proofs.StraightTerms.{straight_term-some}
 use Rattle.basis_change.proofs.LastPlaces.{IsArrangement, arrangement}
 use Rattle.basis_change.proofs.MultinomialSums.{total-mono, multinomial, arranged, multinomials-within, arranged-within}
-use Rattle.sym_model.proofs.Ring.{distributes_right}
 use Rattle.sym_model.proofs.Sums.{total_among}
 use Rattle.sym_model.proofs.Parts.{length-staircase}
 use native.Mathlib.Nat.{mul-le-mul_left}
 use lib.IntN.{*ℤ-zero, zero-*ℤ}
 use Rattle.sym_model.proofs.Integers.{sign_size}
 
--- ---- the term to which one arrangement straightens, times a number
-
 pub sign-size : (k : ℕ) (z : ℤ) → nat_abs (minus_one_to k *ℤ z) ≡ nat_abs z
 sign-size k z = unsigned_abs-mul (minus_one_to k) z ∙ ap (λ n. n * nat_abs z) (sign_size k) ∙ one-mul (nat_abs z)
 
--- if the beta list of α has no two equal entries, the partition to which α straightens has the size of α
 straight-size : (α : List ℕ) → has_equal_entries (shifted α) ≡ false → size (from_beta (sorted_falling (shifted α))) ≡ size α
 straight-size α h =
     let strict = sorted_strict (shifted α) h in
@@ -57,45 +54,16 @@ straight-size α h =
     let s = ap (λ k. size (staircase k)) l in
     omega arith
 
--- let α be an arrangement of λ: z times the straightening of α has at the label ν a coefficient of absolute value at most |z|, and of 0 if ν and λ
--- differ in size
 one-within : (ν : List ℕ) (z : ℤ) (parts : List ℕ) (n : ℕ) (α : List ℕ) → IsArrangement parts n α
     → pos (mass_at equal ν (straight_term z (shifted α))) ≤ℤ cond (eqb (size parts) (size ν)) (pos (nat_abs z)) (pos 0)
-one-within ν z parts n α a = by (has_equal_entries (shifted α)) refl
-  where
-    not_negative : (b : Bool) → pos 0 ≤ℤ cond b (pos (nat_abs z)) (pos 0)
-    not_negative true = omega (arith, ints)
-    not_negative false = omega (arith, ints)
-
-    here : (b : Bool) → equal ν (from_beta (sorted_falling (shifted α))) ≡ b → has_equal_entries (shifted α) ≡ false
-        → pos (cond b (nat_abs (sorting_sign (shifted α) *ℤ z)) 0 + 0) ≤ℤ cond (eqb (size parts) (size ν)) (pos (nat_abs z)) (pos 0)
-    here true e h =
-        let s : size parts ≡ size ν = sym a.sum ∙ sym (straight-size α h) ∙ sym (ap size (same_partition ν (from_beta (sorted_falling (shifted α))) e)) in
-        subst (λ b. pos (nat_abs (sorting_sign (shifted α) *ℤ z) + 0) ≤ℤ cond b (pos (nat_abs z)) (pos 0)) (sym (eq-eqb (size parts) (size ν) s))
-        (let k = sign-size (rising_pairs (shifted α)) z in omega (arith, ints))
-    here false e h = let m = not_negative (eqb (size parts) (size ν)) in omega (arith, ints)
-
-    by : (t : Bool) → has_equal_entries (shifted α) ≡ t → pos (mass_at equal ν (straight_term z (shifted α))) ≤ℤ cond (eqb (size parts) (size ν)) (pos (nat_abs z)) (pos 0)
-    by true h =
-        let m = not_negative (eqb (size parts) (size ν)) in
-        let e : mass_at equal ν (straight_term z (shifted α)) ≡ 0 =
-        ap (λ t. mass_at equal ν (times_straight z (cond t None (Some (sorting_sign (shifted α), from_beta (sorted_falling (shifted α))))))) h in
-        omega (arith, ints)
-    by false h =
-        subst (λ (xs : WholeTerms). pos (mass_at equal ν xs) ≤ℤ cond (eqb (size parts) (size ν)) (pos (nat_abs z)) (pos 0)) (sym (straight_term-some z (shifted α) h))
-        (here (equal ν (from_beta (sorted_falling (shifted α)))) refl h)
-
--- ---- the terms to which the arrangements of one label straighten, times a number
+one-within ν z parts n α a = search (rules, ints, straight-size, eq-eqb, sign-size, straight_term-some)
 
 mass-total : (ν : List ℕ) (es : WholeTerms) → pos (mass_at equal ν es) ≡ total (λ (t : List ℕ × ℤ). pos (cond (equal ν t.0) (nat_abs t.1) 0)) es
 mass-total ν [] = refl
 mass-total ν (e ∷ es) = let r = mass-total ν es in omega (arith, ints)
 
 mass-each : {A : Type 0} (ν : List ℕ) (h : A → WholeTerms) (xs : List A) → pos (mass_at equal ν (flat_map h xs)) ≡ total (λ (x : A). pos (mass_at equal ν (h x))) xs
-mass-each {A} ν h xs =
-    mass-total ν (flat_map h xs)
-    ∙ total_each (λ (t : List ℕ × ℤ). pos (cond (equal ν t.0) (nat_abs t.1) 0)) h xs
-    ∙ total_ext (λ (x : A). total (λ (t : List ℕ × ℤ). pos (cond (equal ν t.0) (nat_abs t.1) 0)) (h x)) (λ (x : A). pos (mass_at equal ν (h x))) (λ x. sym (mass-total ν (h x))) xs
+mass-each {A} ν h xs = search (rules, mass-total, total_each, total_ext)
 
 label-within : (N n : ℕ) (ν : List ℕ) (z : ℤ) (parts : List ℕ) → nat_abs z * factorials parts ≤ N * factorial (size parts)
     → pos (mass_at equal ν (straight_terms z parts n)) ≤ℤ (pos N *ℤ arranged (size ν) n parts)
@@ -142,10 +110,7 @@ power-within (suc d) s h = let e : (suc d - s) + s ≡ suc d = omega arith in su
 
 scaled-le : (N : ℕ) (x : ℤ) (k : ℕ) → x ≤ℤ pos k → (pos N *ℤ x) ≤ℤ pos (N * k)
 scaled-le zero x k h = let e = zero-*ℤ x in omega (arith, ints)
-scaled-le (suc N) x k h =
-    let r = scaled-le N x k h in
-    let d = distributes_right (pos 1) (pos N) x in
-    omega (arith, ints)
+scaled-le (suc N) x k h = grind (arith, common_steps)
 
 pub list-within : (N n : ℕ) (terms : WholeTerms) → IsWholeTable terms → AreWithin n terms → IsBoundedBy N terms → (ν : List ℕ) → mass_at equal ν (straightened_list n terms) ≤ N * growth Basis.schurs n
 list-within N n terms is w b ν = by (cases_lt n (size ν))
@@ -169,7 +134,7 @@ list-within N n terms is w b ν = by (cases_lt n (size ν))
         let y = scaled-le N (sum_of (size ν) n terms) (n ^ size ν) v in
         omega (arith, ints)
 
--- if N bounds a list in m (`IsBoundedBy`) and its labels have at most n cells, and adding up the terms to which it straightens overflows, then N
--- times the growth into s at n is 2^127 or more
+-- if N bounds a list in the monomial basis m (`IsBoundedBy`) and its labels have at most n cells, and adding up the terms to which it straightens
+-- overflows, then N times the growth into s at n is 2^127 or more
 pub large-straight : (N n : ℕ) (terms : WholeTerms) → IsWholeTable terms → AreWithin n terms → IsBoundedBy N terms → Overflows equal [] (straightened_list n terms) → 2 ^ 127 ≤ N * growth Basis.schurs n
 large-straight N n terms is w b (ν, h) = let l = list-within N n terms is w b ν in let o = over_only_within equal ν [] in omega arith

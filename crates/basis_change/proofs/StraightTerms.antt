@@ -1,7 +1,7 @@
 -- The terms to which the arrangements of a partition straighten, as lists that are added to a table.
 --     straight_terms-over         a sum over the terms of all arrangements
 --     straightened_list-append    the terms to which a list xs ++ ys straightens
-use Rattle.std.proofs.Common.{◌≡◌, ℕ, Bool, true, false, cond, List, [], ◌∷◌, ◌++◌, refl, sym, ap, ◌∙◌, arith, ℤ, pos, ◌+ℤ◌, ◌*ℤ◌}
+use Rattle.std.proofs.Common.{◌≡◌, ℕ, true, false, cond, List, [], ◌∷◌, ◌++◌, ap, ◌∙◌, ℤ, ◌*ℤ◌, rules}
 use Rattle.std.specs.Prelude.{Some, None}
 use Rattle.std.proofs.lemmas.Grind.{flat_map-append}
 use Rattle.std.proofs.lemmas.Int.{ints}
@@ -19,8 +19,6 @@ use Rattle.basis_change.specs.Arranging.{times_straight, straight_term, straight
 use Rattle.basis_change.specs.Straightening.{straightened_list}
 use lib.IntN.{*ℤ-zero}
 
--- ---- sums over the terms to which all arrangements of a partition straighten
-
 pub total-straight_terms : (g : List ℕ × ℤ → ℤ) (c : ℤ) (parts : List ℕ) (n : ℕ) → total g (straight_terms c parts n) ≡ total (λ α. total g (straight_term c (shifted α))) (arrangements parts n)
 total-straight_terms g c parts n = total_each g (λ (α : List ℕ). straight_term c (shifted α)) (arrangements parts n)
 
@@ -32,25 +30,13 @@ pub straight_term-none : (c : ℤ) (entries : List ℕ) → has_equal_entries en
 straight_term-none c entries h = ap (λ t. times_straight c (cond t None (Some (sorting_sign entries, from_beta (sorted_falling entries))))) h
 
 straight_term-over : (φ : List ℕ → ℤ) (c : ℤ) (entries : List ℕ) → over φ (straight_term c entries) ≡ c *ℤ straight_value φ entries
-straight_term-over φ c entries = by (has_equal_entries entries) refl
-  where
-    turned : (a c x : ℤ) → (a *ℤ c) *ℤ x +ℤ pos 0 ≡ c *ℤ (a *ℤ x)
-    turned a c x = simp ring (omega (arith, ints))
-
-    by : (t : Bool) → has_equal_entries entries ≡ t → over φ (straight_term c entries) ≡ c *ℤ straight_value φ entries
-    by true h = ap (over φ) (straight_term-none c entries h) ∙ sym (ap (λ z. c *ℤ z) (value-equal φ entries h) ∙ *ℤ-zero c)
-    by false h =
-        ap (over φ) (straight_term-some c entries h)
-        ∙ turned (sorting_sign entries) c (φ (from_beta (sorted_falling entries)))
-        ∙ ap (λ z. c *ℤ z) (sym (value-different φ entries h))
+straight_term-over φ c entries = search (rules, ring, ints, straight_term-none, value-equal, *ℤ-zero, straight_term-some, value-different)
 
 pub straight_terms-over : (φ : List ℕ → ℤ) (c : ℤ) (parts : List ℕ) (n : ℕ) → over φ (straight_terms c parts n) ≡ c *ℤ arranged_value φ parts n
 straight_terms-over φ c parts n =
     total-straight_terms (λ (t : List ℕ × ℤ). t.1 *ℤ φ t.0) c parts n
     ∙ total_ext (λ (α : List ℕ). over φ (straight_term c (shifted α))) (λ (α : List ℕ). c *ℤ straight_value φ (shifted α)) (λ α. straight_term-over φ c (shifted α)) (arrangements parts n)
     ∙ total_scale c (λ (α : List ℕ). straight_value φ (shifted α)) (arrangements parts n)
-
--- ---- the terms to which a list xs ++ ys straightens
 
 pub straightened_list-append : (places : ℕ) (xs ys : WholeTerms) → straightened_list places (xs ++ ys) ≡ straightened_list places xs ++ straightened_list places ys
 straightened_list-append places xs ys = flat_map-append (λ (t : List ℕ × ℤ). straight_terms t.1 t.0 places) xs ys

@@ -1,12 +1,12 @@
--- The polynomial of the terms to which a list in m straightens (`straightened_list`).
+-- The polynomial of the terms to which a list in the monomial basis m straightens (`straightened_list`).
 --     multiple-straightened                    a list in m and its straightened terms, in Schur polynomials, are the same polynomial
 --     straightened-again, straightened-large   the straightened terms as a table of beta sets
-use Rattle.std.proofs.Common.{◌≡◌, ℕ, ◌≤◌, List, [], ◌∷◌, sym, ap, ◌∙◌, arith, ℤ, pos, ◌+ℤ◌, ◌*ℤ◌}
+use Rattle.std.proofs.Common.{◌≡◌, ℕ, ◌≤◌, List, [], ◌∷◌, sym, ap, ◌∙◌, arith, ℤ, pos, ◌+ℤ◌, ◌*ℤ◌, rules}
 use Rattle.std.specs.Prelude.{Option, Some, None, nat_abs}
 use Rattle.std.proofs.lemmas.Int.{ints}
 use Rattle.sym_model.specs.Sum.{total}
 use Rattle.sym_model.specs.Partition.{IsPartition, size}
-use Rattle.sym_model.specs.Polynomial.{coefficient, pair}
+use Rattle.sym_model.specs.Polynomial.{pair}
 use Rattle.sym_model.specs.Bases.{monomial}
 use Rattle.sym_model.specs.Schur.{schur}
 use Rattle.sym_model.specs.Arrangement.{arrangements}
@@ -40,8 +40,6 @@ schur_value n φ label = pair (schur label n) φ
 abbrev term_value : ℕ → (List ℕ → ℤ) → List ℕ × ℤ → ℤ
 term_value n φ t = t.1 *ℤ schur_value n φ t.0
 
--- for the straightening o of a list of exponents (a sign and a partition, or nothing): c·o as a list of terms in Schur polynomials has c times the
--- value of o
 one-value : (n : ℕ) (φ : List ℕ → ℤ) (c : ℤ) (o : Option (ℤ × List ℕ)) → total (term_value n φ) (times_straight c o) ≡ c *ℤ pair (combined (λ label. schur label n) (straightened_term o)) φ
 one-value n φ c None = sym (*ℤ-zero c)
 one-value n φ c (Some s) =
@@ -50,8 +48,6 @@ one-value n φ c (Some s) =
     turned : (a c x : ℤ) → (a *ℤ c) *ℤ x +ℤ pos 0 ≡ c *ℤ (a *ℤ x +ℤ pos 0)
     turned a c x = simp ring (omega (arith, ints))
 
--- if λ has at most d cells, the values of c times the straightenings of all arrangements of λ in d places add up to c times the value of m_λ in n
--- variables
 label-value : (n d : ℕ) (φ : List ℕ → ℤ) (c : ℤ) (parts : List ℕ) → IsPartition parts → size parts ≤ d
     → total (term_value n φ) (straight_terms c parts d) ≡ c *ℤ pair (monomial parts n) φ
 label-value n d φ c parts p h =
@@ -76,24 +72,13 @@ straightened-value n d φ terms is w =
 
 pub multiple-straightened : (d : ℕ) (terms end : WholeTerms) → IsWholeTable terms → AreWithin d terms → Gains [] (straightened_list d terms) end → IsMultipleIn schurs 1 terms end
 multiple-straightened d terms end is w a n α =
-    coefficient_pair (combined (λ label. schur label n) end) α
-    ∙ pair_of_combined (λ label. schur label n) end (at_only α)
-    ∙ a.sums (schur_value n (at_only α))
-    ∙ +ℤ_idl (sum_over (schur_value n (at_only α)) (straightened_list d terms))
-    ∙ straightened-value n d (at_only α) terms is w
-    ∙ sym (coefficient_pair (in_monomials terms n) α)
-    ∙ sym (one-product (coefficient (in_monomials terms n) α))
-    ∙ sym (coefficient_scale (pos 1) (in_monomials terms n) α)
-
--- ---- the straightened terms as a table of beta sets
+    search (rules, coefficient_pair, pair_of_combined, at_only, +ℤ_idl, straightened-value, one-product, coefficient_scale)
 
 pub straightened-again : (d : ℕ) (terms sum end : WholeTerms) → Gains [] (straightened_list d terms) sum → Gains [] sum end → Gains [] (straightened_list d terms) end
-straightened-again d terms sum end a b = record {
-  sums = λ φ. b.sums φ ∙ +ℤ_idl (sum_over φ sum) ∙ a.sums φ;
-}
+straightened-again d terms sum end a b = search rules
 
--- if `sum` is a table of beta sets in 20 rows whose partitions are the sum of the straightened terms, adding up these partitions overflows only if
--- adding up the straightened terms does
+-- let `sum` be a table of beta sets in 20 rows, and let the terms of the partitions of these sets (`shapes sum`) have the same sum as the
+-- straightened terms. If adding up the terms `shapes sum` overflows, then adding up the straightened terms overflows
 pub straightened-large : (d : ℕ) (terms : WholeTerms) (sum : WholeTermsOf ℕ) → IsShapeTable sum → HaveLabels (IsInRows 20 20) sum → Gains [] (straightened_list d terms) (shapes sum)
     → Overflows equal [] (shapes sum) → Overflows equal [] (straightened_list d terms)
 straightened-large d terms sum is w a (ν, l) =

@@ -1,14 +1,15 @@
--- The list to which the arrangements of a partition straighten, computed from the lists for the partition without one part.
---     last_part          the law of `last_part_law`
---     no_part            the list for no parts
-use Rattle.std.proofs.Common.{◌≡◌, ℕ, zero, suc, ◌+◌, ◌-◌, ◌<◌, true, cond, nat_le, List, [], ◌∷◌, ◌++◌, length, replicate, refl, sym, ap, ap₂, subst, ◌∙◌, arith, ℤ, pos, ◌+ℤ◌, ◌*ℤ◌}
+-- The list to which the arrangements of a partition straighten, computed from the lists for the partition without one part. An arrangement in n
+-- places is a list of n exponents: the parts of the partition and zeros, in some order.
+--     last_part          the list is the sum, over the different parts a, of the results of adding special rim hooks of a cells to the partitions in
+--                        the list for the partition without one a
+--     no_part            the list for the empty partition is the empty partition with the coefficient 1
+use Rattle.std.proofs.Common.{◌≡◌, ℕ, zero, suc, ◌+◌, ◌-◌, ◌<◌, cond, nat_le, List, [], ◌∷◌, ◌++◌, length, refl, sym, ap, ap₂, subst, ◌∙◌, arith, ℤ, pos, ◌+ℤ◌, ◌*ℤ◌, rules}
 use Rattle.std.proofs.lemmas.Bool.Decides.{nat_tests}
 use Rattle.sym_model.specs.Sum.{total, Among}
-use Rattle.sym_model.specs.Polynomial.{Term, join, pair}
+use Rattle.sym_model.specs.Polynomial.{pair}
 use Rattle.sym_model.specs.Partition.{IsPartition, ArePositive, rows, after}
 use Rattle.sym_model.specs.Alternant.{staircase}
 use Rattle.sym_model.specs.Arrangement.{arrangements}
-use Rattle.sym_model.specs.BetaList.{beta}
 use Rattle.sym_model.specs.RaisedPart.{without_one, distinct}
 use Rattle.sym_model.specs.Straightening.{shifted}
 use Rattle.sym_model.specs.WholeTerms.{WholeTerms}
@@ -41,26 +42,12 @@ shifted-last (b ∷ α) a = ap₂ (λ (k : ℕ) (l : List ℕ). k ∷ l) (let e 
     long [] = refl
     long (b ∷ α) = ap suc (long α)
 
--- if the arrangements of `parts` straighten to `terms`, the sum of g over the straightenings of all α ++ [a], for the arrangements α in n places, is
--- the sum over the terms with at most n rows, each with a rim hook of a cells added that begins in row n + 1
 ending_value : (g : List ℕ → ℤ) (parts : List ℕ) (terms : WholeTerms) (n a : ℕ) → IsStraightening parts terms
     → total (λ α. straight_value g (shifted (α ++ a ∷ []))) (arrangements parts n) ≡ pair terms (within_rows n (λ ν. straight_value g (hooked ν (suc n) a)))
-ending_value g parts terms n a s =
-    total_among (λ (α : List ℕ). straight_value g (shifted (α ++ a ∷ []))) (λ (α : List ℕ). straight_value (λ ν. straight_value g (hooked ν (suc n) a)) (shifted α)) (arrangements parts n)
-    (λ α m.
-    ap (straight_value g) (shifted-last α a)
-    ∙ value-front g a (shifted α)
-    ∙ ap (λ k. straight_value (λ ν. straight_value g (above a (beta k ν))) (shifted α))
-    (let l = length-shifted α in let i = (arrangement parts n α m).long in let e : length (shifted α) ≡ suc n - 1 = omega arith in e))
-    ∙ s n (λ ν. straight_value g (hooked ν (suc n) a))
+ending_value g parts terms n a s = search (rules, total_among, shifted-last, value-front, above, length-shifted, arrangement)
 
--- the sum of g over the straightenings of all α ++ [0], for the arrangements α in n places, is that over the straightenings of all α
 zero_value : (g : List ℕ → ℤ) (parts : List ℕ) (n : ℕ) → total (λ α. straight_value g (shifted (α ++ 0 ∷ []))) (arrangements parts n) ≡ arranged_value g parts n
-zero_value g parts n =
-    total_ext (λ (α : List ℕ). straight_value g (shifted (α ++ 0 ∷ []))) (λ (α : List ℕ). straight_value g (shifted α))
-    (λ α. ap (straight_value g) (shifted-last α 0) ∙ value-zero g (shifted α)) (arrangements parts n)
-
--- ---- rim hooks added to one term: the results with at most n rows, and those with at most n + 1 rows
+zero_value g parts n = search (rules, total_ext, shifted-last, value-zero)
 
 hooks_within : (n : ℕ) (g : List ℕ → ℤ) (a : ℕ) (ν : List ℕ) → 0 < a
     → hooks_value (within_rows n g) a ν ≡ total (λ (count : ℕ). cond (nat_le count n) (straight_value g (hooked ν count a)) (pos 0)) (after (rows ν) a)
@@ -85,12 +72,7 @@ hooks_more n g a ν p =
 
 part_more : (n : ℕ) (g : List ℕ → ℤ) (terms : WholeTerms) (a : ℕ) → 0 < a
     → pair terms (hooks_value (within_rows (suc n) g) a) ≡ pair terms (hooks_value (within_rows n g) a) +ℤ pair terms (within_rows n (λ ν. straight_value g (hooked ν (suc n) a)))
-part_more n g terms a p =
-    total_ext (λ (t : Term). t.1 *ℤ hooks_value (within_rows (suc n) g) a t.0) (λ (t : Term). t.1 *ℤ hooks_value (within_rows n g) a t.0 +ℤ t.1 *ℤ within_rows n (λ ν. straight_value g (hooked ν (suc n) a)) t.0)
-    (λ t.
-    ap (λ z. t.1 *ℤ z) (hooks_more n g a t.0 p)
-    ∙ distributes_left t.1 (hooks_value (within_rows n g) a t.0) (within_rows n (λ ν. straight_value g (hooked ν (suc n) a)) t.0)) terms
-    ∙ total_add (λ (t : Term). t.1 *ℤ hooks_value (within_rows n g) a t.0) (λ (t : Term). t.1 *ℤ within_rows n (λ ν. straight_value g (hooked ν (suc n) a)) t.0) terms
+part_more n g terms a p = search (rules, total_ext, hooks_more, distributes_left, total_add)
 
 pub distinct-positive : (parts : List ℕ) (a : ℕ) → ArePositive parts → Among a (distinct parts) → 0 < a
 distinct-positive parts zero p m = absurd (let h = has_from-distinct 0 parts m in let z = has-zero parts p in cc)
@@ -101,10 +83,7 @@ module _ (parts : List ℕ) (lists : List (ℕ × WholeTerms)) (p : IsPartition 
   positive x m = distinct-positive parts x.0 p.positive (subst (Among x.0) s.parts_are (Among-map (λ (l : ℕ × WholeTerms). l.0) x lists m))
 
   arranged-is : (n : ℕ) (g : List ℕ → ℤ) → arranged_value g parts n ≡ all_hooks (within_rows n g) lists
-  arranged-is zero g =
-      arrangements-few (λ α. straight_value g (shifted α)) parts 0 l
-      ∙ sym (total_none (λ (x : ℕ × WholeTerms). pair x.1 (hooks_value (within_rows 0 g) x.0)) lists
-      (λ x m. total_none (λ (t : Term). t.1 *ℤ hooks_value (within_rows 0 g) x.0 t.0) x.1 (λ t i. ap (λ z. t.1 *ℤ z) (hooks_none g x.0 t.0 (positive x m)) ∙ *ℤ-zero t.1)))
+  arranged-is zero g = search (rules, arrangements-few, total_none, hooks_none, positive, *ℤ-zero)
   arranged-is (suc n) g =
       arrangements-last (λ α. straight_value g (shifted α)) parts n p
       ∙ ap₂ ◌+ℤ◌
@@ -124,21 +103,9 @@ pub last_part : (parts : List ℕ) (lists : List (ℕ × WholeTerms)) (terms : W
     → AreStraightenings parts lists → ((g : List ℕ → ℤ) → pair terms g ≡ all_hooks g lists) → IsStraightening parts terms
 last_part parts lists terms p l s e n g = arranged-is parts lists p l s n g ∙ sym (e (within_rows n g))
 
--- ---- the arrangement of no parts: n zeros
-
 staircase_value : (g : List ℕ → ℤ) (n : ℕ) → straight_value g (staircase n) ≡ g []
 staircase_value g zero = one-product (g [])
 staircase_value g (suc n) = ap (straight_value g) (staircase-raised n) ∙ value-zero g (staircase n) ∙ staircase_value g n
 
 pub no_part : IsStraightening [] (([], pos 1) ∷ [])
-no_part n g =
-    arrangements-none (λ α. straight_value g (shifted α)) n
-    ∙ ap (λ l. straight_value g l)
-    (ap (λ k. join (replicate n 0) (staircase k)) (length-replicate {A = ℕ} n 0) ∙ join_zeros n (staircase n) (let e = length-staircase n in omega arith))
-    ∙ staircase_value g n
-    ∙ ap (λ b. cond b (g []) (pos 0)) (sym (from_zero n))
-    ∙ sym (one-product (within_rows n g []))
-    ∙ sym (+ℤ_idr (pos 1 *ℤ within_rows n g []))
-  where
-    from_zero : (n : ℕ) → nat_le 0 n ≡ true
-    from_zero n = grind (arith, nat_tests)
+no_part n g = search (rules, arrangements-none, length-replicate, join_zeros, length-staircase, staircase_value, one-product, +ℤ_idr, nat_tests)

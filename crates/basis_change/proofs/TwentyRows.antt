@@ -1,16 +1,16 @@
--- Lists of shapes as beta sets in 20 rows (`in_rows` of beta_sets).
---     wide-shape, wide-rows                the beta set in 20 rows of the partition of a set
---     mass-single                          in a table of beta sets, the terms of a partition do not cancel
---     wide-gains, wide-labels, wide-large  a multiple of a kept list replaces the terms of the arrangements
-use Rattle.std.proofs.Common.{◌≡◌, ◌⊎◌, ℕ, zero, suc, ◌+◌, ◌-◌, ◌*◌, ◌^◌, ◌<◌, ◌≤◌, Bool, true, false, cond, List, [], ◌∷◌, length, refl, sym, ap, ap₂, ◌∙◌, subst, inl, inr, arith, ℤ, pos, ◌+ℤ◌, ◌*ℤ◌}
+-- Lists of terms whose labels are beta sets in 20 rows (`in_rows` of beta_sets). The beta set of a partition λ in k rows is the set of the numbers
+-- λ_i + k - i.
+--     wide-shape, wide-rows                rewriting a beta set in 20 rows does not change its partition
+--     mass-single                          in a table of such beta sets, each partition belongs to at most one term
+--     wide-gains, wide-labels, wide-large  a multiple of the list to which the arrangements of a partition straighten is added to a table, in place
+--                                          of the terms of all arrangements
+use Rattle.std.proofs.Common.{◌≡◌, ◌⊎◌, ℕ, zero, suc, ◌+◌, ◌-◌, ◌*◌, ◌^◌, ◌<◌, ◌≤◌, Bool, true, false, cond, List, [], ◌∷◌, length, refl, sym, ap, ap₂, ◌∙◌, subst, inl, inr, arith, ℤ, pos, ◌+ℤ◌, ◌*ℤ◌, rules}
 use Rattle.std.specs.Prelude.{nat_abs, nat_eq}
 use Rattle.std.specs.Cmp.{IsEquivalence, nat_eq_equiv}
 use Rattle.std.specs.List.{IsDistinct}
 use Rattle.std.specs.Map.{keys_of}
-use Rattle.std.specs.Option.{unwrap_or}
-use Rattle.std.specs.Prelude.{Option}
 use Rattle.std.proofs.Math.Nat.{pow-le-pow_right}
-use Rattle.std.proofs.lemmas.Bool.{cases_lt, le-leb, eq-eqb}
+use Rattle.std.proofs.lemmas.Bool.{cases_lt, le-leb}
 use Rattle.std.proofs.lemmas.Int.{ints}
 use Rattle.std.proofs.lemmas.Map.{lookup-none}
 use Rattle.std.proofs.lemmas.Map.Keys.{IsDistinct-tail}
@@ -42,12 +42,8 @@ use lib.IntN.{+ℤ_idr, *ℤ-zero}
 use Rattle.sym_model.proofs.Numbers.{power-positive}
 use Rattle.linear_combinations.proofs.LabelTests.{equal_from}
 
--- ---- the beta set of the same partition in more rows
-
 more_rows : (ν : List ℕ) (k set j next : ℕ) → IsBetaSet ν k set → (set + 1) * 2 ^ j ≤ 2 ^ 63 → next + 1 ≡ (set + 1) * 2 ^ j → IsBetaSet ν (k + j) next
-more_rows ν k set zero next is l e =
-    let s : next ≡ set = let p : (set + 1) * 2 ^ 0 ≡ set + 1 = omega arith in omega arith in
-    subst (λ n. IsBetaSet ν n next) (let z : k ≡ k + 0 = omega arith in z) (subst (IsBetaSet ν k) (sym s) is)
+more_rows ν k set zero next is l e = search rules
 more_rows ν k set (suc j) next is l e =
     let p = power-positive 2 j (omega arith) in
     let d : 2 ^ suc j ≡ 2 * 2 ^ j = omega arith in
@@ -91,8 +87,6 @@ module _ (set : ℕ) (is : IsShape 20 set) where
     cells = let e = ap size wide-shape in let s = is.cells in omega arith;
   }
 
--- ---- beta sets in 20 rows, and beta sets without empty rows, are equal if they have the same partition
-
 pub shapes-apart : (a b : ℕ) → IsShape 20 a → IsShape 20 b → shape a ≡ shape b → a ≡ b
 shapes-apart a b r s e =
     sym (set_of-numbers a (below_power a 21 64 r.low (omega arith)))
@@ -106,31 +100,12 @@ rows-apart = same_shape 20 20
 mass_at-table : {L : Type 0} {eq : L → L → Bool} → IsEquivalence eq → ((x y : L) → eq x y ≡ true → x ≡ y) → (x : L) (terms : WholeTermsOf L) → IsDistinct eq (keys_of terms)
     → mass_at eq x terms ≡ nat_abs (over (only eq x) terms)
 mass_at-table laws same x [] distinct = refl
-mass_at-table {L} {eq} laws same x (t ∷ terms) distinct = by (eq x t.0) refl (mass_at-table laws same x terms (IsDistinct-tail eq t.0 (keys_of terms) distinct))
-  where
-    by : (b : Bool) → eq x t.0 ≡ b → mass_at eq x terms ≡ nat_abs (over (only eq x) terms)
-        → cond b (nat_abs t.1) 0 + mass_at eq x terms ≡ nat_abs (t.1 *ℤ cond b (pos 1) (pos 0) +ℤ over (only eq x) terms)
-    by false p r = let z = *ℤ-zero t.1 in let e : t.1 *ℤ pos 0 +ℤ over (only eq x) terms ≡ over (only eq x) terms = omega (arith, ints) in let f = ap nat_abs e in omega arith
-    by true p r =
-        let none = lookup-none (eq x) terms (none_past_head laws x t terms distinct p) in
-        let zero_sum : over (only eq x) terms ≡ pos 0 =
-        over_at laws same terms (IsDistinct-tail eq t.0 (keys_of terms) distinct) x ∙ ap (λ (o : Option ℤ). unwrap_or o (pos 0)) none in
-        let e : t.1 *ℤ pos 1 +ℤ over (only eq x) terms ≡ t.1 = let o = product-one t.1 in omega (arith, ints) in
-        let f = ap nat_abs e in
-        let g = ap nat_abs zero_sum in
-        let h : nat_abs (pos 0) ≡ 0 = refl in
-        omega arith
-
--- ---- tables of sets with the property P, as tables of partitions, if P and the partition determine the set
+mass_at-table {L} {eq} laws same x (t ∷ terms) distinct =
+    search (rules, IsDistinct-tail, *ℤ-zero, ints, lookup-none, none_past_head, over_at, product-one, (mass_at-table laws same x terms))
 
 module _ {P : ℕ → Type 0} (apart : (a b : ℕ) → P a → P b → shape a ≡ shape b → a ≡ b) where
   same-label : (x s : ℕ) → P x → P s → equal (shape x) (shape s) ≡ nat_eq x s
-  same-label x s p q = by (nat_eq x s) refl (equal (shape x) (shape s)) refl
-    where
-      by : (b : Bool) → nat_eq x s ≡ b → (d : Bool) → equal (shape x) (shape s) ≡ d → equal (shape x) (shape s) ≡ nat_eq x s
-      by true e d f = equal_from (shape x) (shape s) (ap shape (same_set x s e)) ∙ sym e
-      by false e false f = f ∙ sym e
-      by false e true f = absurd (let i = eq-eqb x s (apart x s p q (same_partition (shape x) (shape s) f)) in cc)
+  same-label x s p q = search rules
 
   pub over_shape : (x : ℕ) → P x → (terms : WholeTermsOf ℕ) → HaveLabels P terms → over (only equal (shape x)) (shapes terms) ≡ over (only nat_eq x) terms
   over_shape x p [] h = refl
@@ -161,7 +136,7 @@ module _ {P : ℕ → Type 0} (apart : (a b : ℕ) → P a → P b → shape a �
           subst (λ (μ : List ℕ). mass_at equal μ (shapes terms) ≡ nat_abs (over (only equal μ) (shapes terms))) r.2 (at r.0 r.1)
       by (inr l) = let w = over_only_within equal ν (shapes terms) in omega arith
 
--- ---- a multiple of a kept list, with its sets in 20 rows
+-- ---- a multiple of a list of beta sets, with the sets in 20 rows
 
 -- the beta set in 20 rows of the partition of `set`, with the coefficient c
 abbrev pub wide : ℤ → ℕ → WholeTermsOf ℕ
@@ -188,15 +163,7 @@ module _ (c : ℤ) (parts : List ℕ) (n : ℕ) (list : WholeTermsOf ℕ) (kept 
   are = within_more (size parts) 20 list low kept.within
 
   rows-within : (g : List ℕ → ℤ) → over (within_rows n g) (shapes list) ≡ over g (shapes list)
-  rows-within g =
-      over-shapes (within_rows n g) list
-      ∙ total_among (λ (t : ℕ × ℤ). t.1 *ℤ within_rows n g (shape t.0)) (λ (t : ℕ × ℤ). t.1 *ℤ g (shape t.0)) list
-      (λ t m.
-      let is = kept.within t m in
-      let r = rows_within_size (shape t.0) is.beta.partition.positive in
-      let s = is.cells in
-      ap (λ b. t.1 *ℤ cond b (g (shape t.0)) (pos 0)) (le-leb (rows (shape t.0)) n (omega arith)))
-      ∙ sym (over-shapes g list)
+  rows-within g = search (rules, over-shapes, total_among, rows_within_size, le-leb)
 
   list-over : (φ : List ℕ → ℤ) → c *ℤ over φ (shapes list) ≡ over φ (straight_terms c parts n)
   list-over φ = ap (λ z. c *ℤ z) (sym (kept.straightens n φ ∙ rows-within φ)) ∙ sym (straight_terms-over φ c parts n)
@@ -214,9 +181,7 @@ module _ (c : ℤ) (parts : List ℕ) (n : ℕ) (list : WholeTermsOf ℕ) (kept 
       turned x y z = ap (λ w. x *ℤ w) (+ℤ_idr (y *ℤ z)) ∙ product_left_comm x y z
 
   pub wide-gains : (old new : WholeTermsOf ℕ) → Gains old (replaced (wide c) list) new → Gains (shapes old) (straight_terms c parts n) (shapes new)
-  wide-gains old new a = record {
-    sums = λ φ. over-shapes φ new ∙ a.sums (λ s. φ (shape s)) ∙ ap₂ (λ x y. x +ℤ y) (sym (over-shapes φ old)) (wide-over φ);
-  }
+  wide-gains old new a = search (rules, over-shapes, wide-over)
 
   pub wide-labels : HaveLabels (IsInRows 20 20) (replaced (wide c) list)
   wide-labels = labels_replaced (wide c) (IsInRows 20 20) list (λ t m. one_label (IsInRows 20 20) (in_rows 20 t.0) c (wide-rows t.0 (are t m)))

@@ -1,8 +1,8 @@
--- The value of a label in a change of basis: the target's basis polynomial of its first partition times the augmented monomial of its second.
+-- The value of a label in a change of basis: the polynomial of its first partition in the target basis times the augmented monomial of its second.
 --     value-last             converting the last part changes no value
 --     value-conversion       replacing a label by the terms of its conversion changes no value
---     value-target           the terms of the target at the end have the same value
-use Rattle.std.proofs.Common.{◌≡◌, ◌⊎◌, ℕ, ◌+◌, ◌-◌, ◌<◌, List, [], ◌∷◌, ◌++◌, length, refl, sym, ap, ap₂, ◌∙◌, subst, inl, inr, arith, ℤ, pos, negsuc, ◌+ℤ◌, ◌*ℤ◌, flat_map}
+--     value-target           the terms in the target basis at the end have the same value
+use Rattle.std.proofs.Common.{◌≡◌, ◌⊎◌, ℕ, ◌+◌, ◌-◌, ◌<◌, List, [], ◌∷◌, ◌++◌, length, refl, sym, ap, ap₂, ◌∙◌, subst, inl, inr, arith, ℤ, pos, negsuc, ◌+ℤ◌, ◌*ℤ◌, flat_map, rules}
 use Rattle.std.proofs.lemmas.Int.{ints}
 use Rattle.sym_model.specs.Sum.{total}
 use Rattle.sym_model.specs.Polynomial.{Poly, Same, In, same, join, plus, pair, times, one, scale}
@@ -43,9 +43,7 @@ scale-one : (f : Poly) → Same (scale (pos 1) f) f
 scale-one f = same_from_pair (scale (pos 1) f) f (λ φ. pair_scale (pos 1) f φ ∙ one-product (pair f φ))
 
 augmented-none : (n : ℕ) → Same (augmented [] n) (one n)
-augmented-none n =
-    Same_trans (augmented [] n) (monomial [] n) (one n) (scale-one (monomial [] n))
-    (one-monomials (λ α. same (sorted_parts α) []) n (ap (λ l. same l []) (sorted_parts-zeros n)))
+augmented-none n = search (rules, scale-one, one-monomials, sorted_parts-zeros)
 
 times-augmented-none : (n : ℕ) (f : Poly) → In n f → Same (times f (augmented [] n)) f
 times-augmented-none n f i =
@@ -54,9 +52,7 @@ times-augmented-none n f i =
     (times-one n f i)
 
 target_value-is : (family : Family) (n : ℕ) (φ : List ℕ → ℤ) (label : List ℕ) → target_value family n φ label ≡ product_value family n φ (label, [])
-target_value-is family n φ label =
-    sym (pair_determined (times (product_over (polynomial_of family) label n) (augmented [] n)) (product_over (polynomial_of family) label n) φ
-    (times-augmented-none n (product_over (polynomial_of family) label n) (In-product_over (polynomial_of family) label n (In-family family n))))
+target_value-is family n φ label = search (rules, pair_determined, times-augmented-none, In-product_over, In-family)
 
 -- ---- p_a times the augmented monomial of the other parts
 
@@ -89,12 +85,8 @@ value-products family n φ a factor converted rest p is =
 
 value-raised : (f : MixedLabel → ℤ) (converted : List ℕ) (a : ℕ) (rest numbers : List ℕ)
     → over f (each_with (negsuc 0) (raised converted a rest numbers)) ≡ negsuc 0 *ℤ total (λ (b : ℕ). f (converted, raise a b rest)) numbers
-value-raised f converted a rest numbers =
-    each_over (negsuc 0) f (raised converted a rest numbers)
-    ∙ ap (λ z. negsuc 0 *ℤ z) (total_map f (λ (b : ℕ). (converted, raise a b rest)) numbers)
+value-raised f converted a rest numbers = search (rules, each_over, total_map)
 
--- the product of p_a, C and the augmented monomial of `rest` is C times the augmented monomial of `rest` with a part a inserted, plus C times each
--- augmented monomial of `rest` with one part increased by a
 value-power_sum : (n a : ℕ) (C : Poly) (rest : List ℕ) (φ : List ℕ → ℤ) → 0 < a → IsPartition rest
     → pair (times (power_sum_of a n) (times C (augmented rest n))) φ ≡ pair (times C (augmented (insert_part a rest) n)) φ +ℤ total (λ (b : ℕ). pair (times C (augmented (raise a b rest) n)) φ) rest
 value-power_sum n a C rest φ h p =
@@ -116,8 +108,6 @@ value-power_sum n a C rest φ h p =
         ∙ pair_total C (λ (b : ℕ) α. pair (augmented (raise a b rest) n) (λ β. φ (join α β))) rest
         ∙ total_ext (λ (b : ℕ). pair C (λ α. pair (augmented (raise a b rest) n) (λ β. φ (join α β)))) (λ (b : ℕ). pair (times C (augmented (raise a b rest) n)) φ)
         (λ b. sym (pair_times C (augmented (raise a b rest) n) φ)) rest
-
--- ---- converting the last part of a label changes no value
 
 value-last : (family : Family) (n : ℕ) (φ : List ℕ → ℤ) (factor : WholeTerms) (converted : List ℕ) (a : ℕ) (rest parts : List ℕ) → IsPartition converted → IsPowerSum family a factor → IsEnded a rest parts
     → over (product_value family n φ) (products factor converted rest ++ each_with (negsuc 0) (raised converted a rest rest)) ≡ product_value family n φ (converted, parts)
@@ -150,7 +140,7 @@ value-conversion family most count n φ factors l are ready = by (conversion-cas
         ap (over (product_value family n φ)) e.is
         ∙ value-last family n φ (list_at factors (e.a - 1)) l.0 e.a e.rest l.1 ready.converted (subst (λ k. IsPowerSum family k (list_at factors (e.a - 1))) j (are (e.a - 1) i)) p
 
--- if the augmented monomial of a label has at most one part, the terms of the target for this label (`in_target`) have the value of the label
+-- if the augmented monomial of a label has at most one part, the terms in the target basis for this label (`in_target`) have the value of the label
 pub value-target : (family : Family) (n : ℕ) (φ : List ℕ → ℤ) (factors : List WholeTerms) (l : MixedLabel) → ArePowerSums family factors → IsReady (length factors) 1 l
     → over (target_value family n φ) (in_target factors l) ≡ product_value family n φ l
 value-target family n φ factors (converted, []) are ready =

@@ -1,5 +1,5 @@
--- Sums in a change from m to e, h or p: each term is the product of a basis polynomial of the target and an augmented monomial, which is m_λ times
--- the factorials of the multiplicities of the parts of λ.
+-- Sums in a change from m to e, h or p: each term is the product of a basis polynomial of the target basis and an augmented monomial, which is m_λ
+-- times the factorials of the multiplicities of the parts of λ.
 use Rattle.std.specs.Prelude.{ℕ, ◌+◌, ◌-◌, ◌^◌, ◌<◌, ◌≤◌, nat_eq, Bool, ◌&&◌, cond}
 use Rattle.std.specs.Prelude.{pos, negsuc, ℤ, List, [], ◌∷◌, ◌++◌, map, length, take}
 use Rattle.std.specs.Cmp.Lexicographic.{pointwise}
@@ -13,12 +13,12 @@ use Rattle.linear_combinations.specs.Entries.{IsCombination}
 use Rattle.linear_combinations.specs.Gains.{WholeTermsOf, HaveLabels, each_with, mass}
 use Rattle.family_lists.specs.FactorLists.{list_at}
 
--- the label of a term that is the product of a basis polynomial of the target and an augmented monomial: the partition of the former and the
+-- the label of a term that is the product of a basis polynomial of the target basis and an augmented monomial: the partition of the former and the
 -- partition of the latter
 abbrev pub MixedLabel : Type 0
 MixedLabel = List ℕ × List ℕ
 
--- a list of terms with integer coefficients, each the product of a basis polynomial of the target and an augmented monomial (`MixedLabel`)
+-- a list of terms with integer coefficients, each the product of a basis polynomial of the target basis and an augmented monomial (`MixedLabel`)
 abbrev pub Mixed : Type 0
 Mixed = WholeTermsOf MixedLabel
 
@@ -42,11 +42,12 @@ pub record IsSmall (k : ℕ) (terms : WholeTerms) : Type 0 where
   pub few : mass terms + 1 ≤ 2 ^ k
   pub low : HaveLabels (IsLow k) terms
 
--- for each k from 1 to the number of lists, the list at the index k - 1, which is to be p_k in the target, satisfies `IsSmall` k
+-- for each k from 1 to the number of lists, the list at the index k - 1, which is to be p_k in the target basis, satisfies `IsSmall` k
 abbrev pub AreSmall : List WholeTerms → Type 0
 AreSmall lists = (i : ℕ) → i < length lists → IsSmall (i + 1) (list_at lists i)
 
--- `factor`, a list in the target, times the target's basis polynomial of `converted` times the augmented monomial of `augmented`, as a list of terms
+-- `factor`, a list in the target basis, times the polynomial of `converted` in that basis, times the augmented monomial of `augmented`, as a list of
+-- terms
 abbrev pub products : WholeTerms → List ℕ → List ℕ → Mixed
 products factor converted augmented =
     map (λ (t : List ℕ × ℤ). ((merged converted t.0, augmented), t.1)) factor
@@ -57,8 +58,8 @@ raised converted a augmented numbers = map (λ (b : ℕ). (converted, raise a b 
 
 -- The conversion of the augmented monomial of a partition at its last and smallest part a, with `rest` for the other parts: p_a times the augmented
 -- monomial of `rest`, minus the augmented monomials of the partitions that are obtained if one part of `rest` is increased by a. Every term is
--- multiplied by the target's polynomial of `converted`, and the list of `factors` at the index a - 1 is p_a in the target. An augmented monomial
--- without parts is not changed.
+-- multiplied by the target basis's polynomial of `converted`, and the list of `factors` at the index a - 1 is p_a in the target basis. An augmented
+-- monomial without parts is not changed.
 abbrev pub conversion_of : List WholeTerms → List ℕ → List ℕ → Mixed
 conversion_of factors converted [] = ((converted, []), pos 1) ∷ []
 conversion_of factors converted (b ∷ others) =
@@ -81,7 +82,7 @@ pub record IsConvertible (factors : List WholeTerms) (most : ℕ) (label : Mixed
   pub lists : length factors ≤ 15
   pub ready : IsReady (length factors) most label
 
--- a label whose augmented monomial has at most one part, as a list of terms in the target
+-- a label whose augmented monomial has at most one part, as a list of terms in the target basis
 abbrev pub in_target : List WholeTerms → MixedLabel → WholeTerms
 in_target factors (converted, []) = (converted, pos 1) ∷ []
 in_target factors (converted, (a ∷ rest)) = row converted (pos 1) (list_at factors (a - 1))

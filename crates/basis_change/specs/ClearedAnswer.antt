@@ -1,5 +1,7 @@
 -- The results of a change of basis: a list of terms with integer coefficients, and the list of fractions that is obtained if each of these
--- coefficients is divided by one number.
+-- coefficients is divided by one number. The growth into a basis at a degree d (`growth`) is 1 if d = 0, and otherwise d^d for m and s, and d!·(2d)^d
+-- for e, h and p. The clearing factor for d is d! for e, h and p, and 1 for m and s. `IsBoundedBy N list` says that |c|·Π λ_i! ≤ N·|λ|! for each term
+-- c·m_λ of the list.
 use Rattle.std.specs.Prelude.{◌≡◌, ℕ, ◌*◌, ◌%◌, ◌^◌, ◌≤◌, List, Result, IfOk, IsErrOf}
 use Rattle.calc_base.specs.declared.faults.SumFault.{SumFault}
 use Rattle.calc_base.specs.declared.faults.SumFault.TheVariants.{Large}
@@ -32,17 +34,17 @@ IsMultiplied completes = Unit {0}
 IsMultiplied power_sums = Unit {0}
 IsMultiplied schurs = ⊥
 
--- If the target is e, h or p, and d is the greatest size of a label of `list`: `den`·d! times each coefficient of the answer is an integer, the
+-- If the target basis is e, h or p, and d is the greatest size of a label of `list`: `den`·d! times each coefficient of the answer is an integer, the
 -- absolute values of these products add up to at most `num`·`growth`(target, d), and no label of the answer has more than d cells.
 abbrev pub MultipliesOut : Basis → ℕ → ℕ → Terms (List ℕ) → Terms (List ℕ) → Type 0
 MultipliesOut target num den list answer =
     let d = greatest_size list in
     IsMultiplied target → IsClearedBy (den * factorial d) (num * growth target d) d answer
 
--- The result of changing a list in m, with labels of at most `size` cells, into the target: the answer, read in the target, is the list times the
--- clearing factor. If the target is e, h or p, no label of the answer has more than `size` cells, and for each N with `IsBoundedBy N list` the
--- absolute values of its coefficients add up to at most N·`growth`(target, size). `Large` is returned only if N·`growth`(target, size) is 2^127 or
--- more for each such N.
+-- The result of changing a list in m, with labels of at most `size` cells, into the target basis: the answer, read in the target basis, is the list
+-- times the clearing factor. If the target basis is e, h or p, no label of the answer has more than `size` cells, and for each N with `IsBoundedBy N
+-- list` the absolute values of its coefficients add up to at most N·`growth`(target, size). `Large` is returned only if N·`growth`(target, size) is
+-- 2^127 or more for each such N.
 pub record IsChanged (target : Basis) (size : ℕ) (list : WholeTerms)
     (result : Result WholeTerms SumFault) : Type 0 where
   pub value : IfOk result (IsMultipleIn target (clearing_factor target size) list)
@@ -53,8 +55,8 @@ pub record IsChanged (target : Basis) (size : ℕ) (list : WholeTerms)
   pub large : IsErrOf result Large → (N : ℕ) → IsBoundedBy N list
       → 2 ^ 127 ≤ N * growth target size
 
--- The fractions that result from changing a list in m, with labels of at most `size` cells, into the target: the coefficients of the answer are those
--- of `whole` divided by `den`, and `whole` is the list times the clearing factor, in the target.
+-- The fractions that result from changing a list in m, with labels of at most `size` cells, into the target basis: the coefficients of the answer are
+-- those of `whole` divided by `den`, and `whole` is the list times the clearing factor, in the target basis.
 pub record IsQuotientOf (target : Basis) (size den : ℕ) (list : WholeTerms)
     (answer : Terms (List ℕ)) : Type 0 where
   pub whole : WholeTerms

@@ -1,5 +1,5 @@
--- Lists of terms in m with integer coefficients: a bound for the coefficients, a multiple of the list in another basis, and the list in augmented
--- monomials.
+-- Lists of terms in the monomial basis m with integer coefficients: a bound for the coefficients, the relation that a list in another basis is q
+-- times such a list, and a multiple of the list in augmented monomials (m_λ times the factorials of the multiplicities of its parts).
 use Rattle.std.specs.Prelude.{ℕ, ◌/◌, ◌*◌, ◌≤◌, ℤ, pos, nat_abs, ◌*ℤ◌, List, [], map}
 use Rattle.sym_model.specs.Sum.{Among}
 use Rattle.sym_model.specs.Partition.{size}
@@ -18,7 +18,8 @@ abbrev pub IsBoundedBy : ℕ → WholeTerms → Type 0
 IsBoundedBy N terms =
     (t : List ℕ × ℤ) → Among t terms → nat_abs t.1 * factorials t.0 ≤ N * factorial (size t.0)
 
--- the second list, read in the basis, is q times the first list in m, in every number of variables
+-- the polynomial of the second list, whose labels are read in the given basis, is q times that of the first list, which is in m, in every number of
+-- variables
 abbrev pub IsMultipleIn : Basis → ℕ → WholeTerms → WholeTerms → Type 0
 IsMultipleIn basis q terms answer =
     (n : ℕ) → Same (combined (λ label. basis_polynomial basis label n) answer)

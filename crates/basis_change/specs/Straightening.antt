@@ -1,4 +1,4 @@
--- The change of a list of terms in m with integer coefficients into Schur polynomials.
+-- The change of a list of terms in the monomial basis m with integer coefficients into Schur polynomials.
 use Rattle.std.specs.Prelude.{ℕ, ℤ, List, flat_map}
 use Rattle.sym_model.specs.WholeTerms.{WholeTerms}
 use Rattle.basis_change.specs.Arranging.{straight_terms}

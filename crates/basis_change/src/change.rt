@@ -1,4 +1,4 @@
-//! The change of expansions in the basis m into the basis m, e, h, p or s.
+//! The change of expansions in the monomial basis m into the basis m, e, h, p or s.
 ghost use Rattle.std.specs.Prelude.{◌≡◌, ℕ, ◌*◌, ◌^◌, ◌<◌, ◌≤◌, IfOk, IsErrOf};
 ghost use Rattle.sym_model.specs.ExpressionOffence.{degree_limit};
 ghost use Rattle.sym_model.specs.Expansion.{monomials, IsExpansionOf};
@@ -28,9 +28,9 @@ use std::alloc::Global;
 ///
 /// `bound` has two numbers of at least 1: `den`, a multiple of all denominators of the list, and
 /// `num`, with |c|·`den`·Π λ_i! ≤ `num`·|λ|! for each term c·m_λ of the list. The labels have at
-/// most 20 cells for the targets m and s, at most 15 for e, h and p. Let d be the greatest size of
-/// a label, and B the growth into the target at d: 1 if d = 0, and otherwise d^d for m and s,
-/// d!·(2d)^d for e, h and p. Returns `Large` only if `num`·`den`·B is 2^127 or more.
+/// most 20 cells for the target bases m and s, at most 15 for e, h and p. Let d be the greatest
+/// size of a label, and B the growth into the target basis at d: 1 if d = 0, and otherwise d^d for
+/// m and s, d!·(2d)^d for e, h and p. Returns `Large` only if `num`·`den`·B is 2^127 or more.
 ///
 /// Into e, h and p: `den`·d! times each coefficient of the answer is an integer, the absolute
 /// values of these products add up to at most `num`·B, and no label of the answer has more than d
@@ -58,8 +58,8 @@ pub fn to_basis(
     quotients_in(alloc, terms, size, target, den)
 }
 
-/// Changes the product of `list` and the clearing factor for `size` (`clearing_factor`) into the
-/// basis `target`, and divides each coefficient of the result by `den`. `list` is a list in m with
+/// Changes `list` into the basis `target`, after multiplying it by `size`! if the target basis is
+/// e, h or p, and divides each coefficient of the result by `den`. `list` is a list in m with
 /// integer coefficients and labels of at most `size` cells, and `den` is positive and below 2^127.
 /// Returns `Large` only if N·`growth`(target, size) is 2^127 or more for each N that bounds the
 /// list (`IsBoundedBy`).
@@ -105,7 +105,7 @@ pub fn clearing_factor(target: Basis, size: u16) -> u128
 /// basis `target`, in every number of variables.
 ///
 /// `list` is a list in m with integer coefficients and labels of at most `size` cells; `size` is at
-/// most 20 for the targets m and s, and at most 15 for e, h and p. Returns `Large` only if
+/// most 20 for the target bases m and s, and at most 15 for e, h and p. Returns `Large` only if
 /// N·`growth`(target, size) is 2^127 or more for each N with |c|·Π λ_i! ≤ N·|λ|! for all terms
 /// c·m_λ of the list.
 pub fn in_basis(alloc: Global, list: Whole, size: u16, target: Basis) -> Result<Whole, SumFault>

@@ -1,5 +1,5 @@
-//! Multiplies a list of terms in m by a common denominator, and writes a list in m with integer
-//! coefficients in augmented monomials.
+//! Multiplies a list of terms in the monomial basis m by a common denominator, and writes a list in
+//! m with integer coefficients in augmented monomials.
 ghost use Rattle.std.specs.Prelude.{◌≡◌, ℕ, ◌*◌, ◌/◌, ◌^◌, ◌<◌, ◌≤◌, List, [], ◌∷◌, pos, nat_abs};
 ghost use Rattle.std.specs.Prelude.{MatchOption, IfOk, OnOk, IsErrOf};
 ghost use Rattle.sym_model.specs.Sum.{Among};

@@ -1,4 +1,4 @@
-//! Changes of basis for symmetric functions: from m into m, e, h, p and s.
+//! Changes of basis for symmetric functions: from the monomial basis m into m, e, h, p and s.
 //!
 //! What is proved:
 //!
@@ -7,7 +7,7 @@
 //! into s the arrangements of each label are straightened, with special rim hooks. The list comes
 //! with two numbers: `den`, a multiple of all its denominators, and `num`, with |c|·`den`·Π λ_i! ≤
 //! `num`·|λ|! for each of its terms c·m_λ. Let d be the greatest size of a label, and B the growth
-//! into the target at d: 1 if d = 0, and otherwise d^d for m and s, d!·(2d)^d for e, h and p.
+//! into the target basis at d: 1 if d = 0, and otherwise d^d for m and s, d!·(2d)^d for e, h and p.
 //! `Large` is returned only if `num`·`den`·B is 2^127 or more.
 //!
 //! Into e, h and p, `den`·d! times each coefficient of the answer is an integer, the absolute

@@ -1,5 +1,5 @@
-//! Sums of terms that are each the product of a basis polynomial of the target e, h or p and an
-//! augmented monomial.
+//! Sums of terms that are each the product of a basis polynomial of the target basis e, h or p and
+//! an augmented monomial.
 ghost use Rattle.std.specs.Prelude.{◌+◌, ◌-◌, ◌<◌, ◌≤◌, ◌*ℤ◌, ◌∷◌, [], neg_ℤ, OnOk, IsErrOf};
 ghost use Rattle.sym_model.specs.Partition.{IsPartition, size};
 ghost use Rattle.sym_model.specs.RaisedPart.{raise};
@@ -17,12 +17,12 @@ use partitions::Partition;
 use sparse_polys::{Pair, Whole};
 use std::alloc::Global;
 
-/// A sum of terms, each the product of a basis polynomial of the target, given by the first
+/// A sum of terms, each the product of a basis polynomial of the target basis, given by the first
 /// partition of the label, and an augmented monomial, given by the second.
 pub(crate) type Mixed = Lin<Pair, Int>;
 
-/// Adds to `sum` c·`have` times the product of the target's basis polynomials of `label` and
-/// `converted` and the augmented monomial of `augmented`. The parts of `label` and `converted` are
+/// Adds to `sum` c·`have` times the product of the polynomials of `label` and `converted` in the
+/// target basis and the augmented monomial of `augmented`. The parts of `label` and `converted` are
 /// merged in the buffer `room`.
 fn add_mixed_term(
     alloc: Global,
@@ -51,8 +51,8 @@ fn add_mixed_term(
     sum.add_owned(label, product)
 }
 
-/// Adds to `sum` c times the product of the list `factor` in the target, the target's basis
-/// polynomial of `converted` and the augmented monomial of `augmented`.
+/// Adds to `sum` c times the product of the list `factor` in the target basis, the polynomial of
+/// `converted` in that basis and the augmented monomial of `augmented`.
 pub(crate) fn add_mixed(
     alloc: Global,
     sum: &mut Mixed,
@@ -76,9 +76,9 @@ pub(crate) fn add_mixed(
     Ok(())
 }
 
-/// Subtracts from `sum` c times the product of the target's basis polynomial of `converted` and the
-/// augmented monomial of the partition that is `augmented` with one part `part` increased by `by`.
-/// The parts of this partition are built in the buffer `room`.
+/// Subtracts from `sum` c times the product of the polynomial of `converted` in the target basis
+/// and the augmented monomial of the partition that is `augmented` with one part `part` increased
+/// by `by`. The parts of this partition are built in the buffer `room`.
 fn take_one(
     alloc: Global,
     sum: &mut Mixed,
@@ -106,9 +106,9 @@ fn take_one(
     sum.add_owned(label, minus)
 }
 
-/// Subtracts from `sum`, for each part of `augmented`, c times the product of the target's basis
-/// polynomial of `converted` and the augmented monomial of the partition that is `augmented` with
-/// this part increased by `by`.
+/// Subtracts from `sum`, for each part of `augmented`, c times the product of the polynomial of
+/// `converted` in the target basis and the augmented monomial of the partition that is `augmented`
+/// with this part increased by `by`.
 pub(crate) fn take_raised(
     alloc: Global,
     sum: &mut Mixed,

@@ -1,5 +1,5 @@
-//! The conversion of augmented monomials into the target e, h or p: their parts become power sums
-//! one after another, the smallest first.
+//! The conversion of augmented monomials into the target basis e, h or p: their parts become power
+//! sums one after another, the smallest first.
 ghost use Rattle.std.specs.Prelude.{◌≡◌, ℕ, ◌^◌, ◌≤◌, ℤ, List, [], length, IfOk, IsErrOf};
 ghost use Rattle.linear_combinations.specs.Gains.{Gains, Overflows, HaveLabels, mass, over};
 ghost use Rattle.linear_combinations.specs.Gains.{replaced};
@@ -23,8 +23,8 @@ use sparse_polys::{Pair, Whole};
 use std::alloc::Global;
 
 /// The rule that converts the last part a of each augmented monomial with `rows` parts; the list of
-/// p_a in the target is `factors[a - 1]`. The last part is a smallest one, so its power sum has the
-/// fewest terms.
+/// p_a in the target basis is `factors[a - 1]`. The last part is a smallest one, so its power sum
+/// has the fewest terms.
 #[derive(Drop)]
 struct LastPart<'a> {
     alloc: Global,
@@ -71,7 +71,7 @@ fn step(alloc: Global, table: &Mixed, factors: &[Whole], rows: u16) -> Result<Mi
     Ok(next)
 }
 
-/// The rule that converts augmented monomials of at most one part into terms of the target.
+/// The rule that converts augmented monomials of at most one part into terms of the target basis.
 #[derive(Drop)]
 struct OnePart<'a> {
     alloc: Global,
@@ -94,8 +94,8 @@ impl Rule<Pair, Partition> for OnePart<'_> {
     }
 }
 
-/// The sum of the terms of `table`, as a list in the target. Each augmented monomial of the table
-/// must have at most one part.
+/// The sum of the terms of `table`, as a list in the target basis. Each augmented monomial of the
+/// table must have at most one part.
 fn targets(alloc: Global, table: &Mixed, factors: &[Whole]) -> Result<Whole, SumFault>
     requires { HaveLabels (IsConvertible factors.now 1) table.now }
     ensures gains { IfOk result (Gains [] (replaced (in_target factors.now) table.now)) }
@@ -108,8 +108,9 @@ fn targets(alloc: Global, table: &Mixed, factors: &[Whole]) -> Result<Whole, Sum
     Ok(list)
 }
 
-/// The sum of the terms of `start`, as a list in the target. Each augmented monomial of `start`
-/// must have at most `most` parts; `factors` are the lists of p_1, p_2 and so on in the target.
+/// The sum of the terms of `start`, as a list in the target basis. Each augmented monomial of
+/// `start` must have at most `most` parts; `factors` are the lists of p_1, p_2 and so on in the
+/// target basis.
 pub(crate) fn converted(
     alloc: Global,
     start: Mixed,

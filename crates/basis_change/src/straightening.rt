@@ -1,4 +1,5 @@
-//! The change from m into Schur polynomials, by straightening the arrangements of each label.
+//! The change from the monomial basis m into Schur polynomials, by straightening the arrangements
+//! of each label.
 ghost use Rattle.std.specs.Prelude.{◌≤◌, ◌<◌, ◌^◌, [], ℕ, ◌*◌, IfOk, IsErrOf};
 ghost use Rattle.sym_model.specs.Expansion.{schurs};
 ghost use Rattle.sym_model.specs.Weight.{growth};

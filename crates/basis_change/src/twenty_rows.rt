@@ -4,7 +4,8 @@ use calc_base::SumFault;
 use coeff_rings::{Int, product_of};
 use linear_combinations::Rule;
 
-/// The number of rows, and of beta numbers, of each set.
+/// The number of beta numbers of each set that the rule makes: its partition has at most as many
+/// rows.
 const ROWS: u16 = 20;
 
 /// The rule that replaces each beta set by `times` times the beta set in 20 rows of the same

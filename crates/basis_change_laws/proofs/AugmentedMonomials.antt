@@ -1,5 +1,5 @@
 -- The product of a power sum and an augmented monomial symmetric polynomial (`augmented`).
-use Rattle.std.proofs.Common.{◌≡◌, ℕ, zero, suc, ◌+◌, ◌*◌, ◌<◌, ◌≤◌, ◌⊎◌, ◌==◌, Bool, true, false, cond, List, [], ◌∷◌, map, nat_le, sym, ◌∙◌, ap, ap₂, refl, inl, inr, arith, ℤ, pos, ◌+ℤ◌, ◌*ℤ◌, flat_map}
+use Rattle.std.proofs.Common.{◌≡◌, ℕ, zero, suc, ◌+◌, ◌*◌, ◌<◌, ◌≤◌, ◌⊎◌, ◌==◌, Bool, true, false, cond, List, [], ◌∷◌, map, nat_le, sym, ◌∙◌, ap, ap₂, refl, inl, inr, arith, ℤ, pos, ◌+ℤ◌, ◌*ℤ◌, flat_map, rules}
 use Rattle.std.proofs.lemmas.Int.{ints}
 use Rattle.std.proofs.lemmas.Bool.{cases_lt, cases_eq, cases_Bool, ne_eqb, leb-false, both_ways}
 use Rattle.std.proofs.Math.Nat.{mul_left_comm, mul_assoc, mul_comm, mul_right_comm}
@@ -27,41 +27,20 @@ use Rattle.monomial_laws.proofs.PowerSumLists.{has_from-distinct}
 use Rattle.sym_model.specs.ListWeight.{factorials}
 use Rattle.sym_model.proofs.Integers.{pos-cond}
 
--- ---- multiplicities in the list of the different numbers of l; the product of the factorials of the multiplicities of a list with one more number
+-- ---- the product of the factorials of the multiplicities of the numbers of a list
 
 times_in-distinct : (k : ℕ) (l : List ℕ) → times_in k (distinct l) ≡ cond (has k l) 1 0
 times_in-distinct k l = let e = sym (total_times_in k (distinct l)) ∙ total_distinct-only (λ b. pos 1) k l ∙ sym (pos-cond (has k l) 1) in omega (arith, ints)
 
--- if c is not in the list D, then the product over the numbers of D of the factorials of their multiplicities is the same for the list c ∷ l as for l
 factorials_without : (c : ℕ) (l D : List ℕ) → times_in c D ≡ 0 → factorials (map (λ b. times_in b (c ∷ l)) D) ≡ factorials (map (λ b. times_in b l) D)
 factorials_without c l [] z = refl
-factorials_without c l (b ∷ D) z = by (cases_eq b c) (factorials_without c l D)
-  where
-    by : (b ≡ c) ⊎ (b ≡ c → ⊥) → (times_in c D ≡ 0 → factorials (map (λ d. times_in d (c ∷ l)) D) ≡ factorials (map (λ d. times_in d l) D))
-        → factorial (times_in b (c ∷ l)) * factorials (map (λ d. times_in d (c ∷ l)) D) ≡ factorial (times_in b l) * factorials (map (λ d. times_in d l) D)
-    by (inl e) later = absurd (let t = times_in-here c b D e in omega arith)
-    by (inr n) later = ap₂ ◌*◌ (ap factorial (times_in-other b c l (λ e. n (sym e)))) (later (sym (times_in-other c b D n) ∙ z))
+factorials_without c l (b ∷ D) z = search (rules, cases_eq, times_in-here, times_in-other, (factorials_without c l D))
 
 factorials_with : (c : ℕ) (l D : List ℕ) → times_in c D ≡ 1 → factorials (map (λ b. times_in b (c ∷ l)) D) ≡ times_in c (c ∷ l) * factorials (map (λ b. times_in b l) D)
 factorials_with c l [] z = absurd (omega arith)
-factorials_with c l (b ∷ D) z = by (cases_eq b c) (factorials_with c l D)
-  where
-    here : (d : ℕ) → d ≡ c → factorial (times_in d (c ∷ l)) ≡ times_in c (c ∷ l) * factorial (times_in d l)
-    here d e =
-        let x = times_in-here d c l (sym e) in
-        let y = times_in-here c c l refl in
-        ap factorial x ∙ ap₂ ◌*◌ (ap (λ i. suc (times_in i l)) e ∙ sym y) refl
+factorials_with c l (b ∷ D) z =
+    search (rules, cases_eq, times_in-here, factorials_without, mul_assoc, times_in-other, mul_left_comm, (factorials_with c l D))
 
-    by : (b ≡ c) ⊎ (b ≡ c → ⊥) → (times_in c D ≡ 1 → factorials (map (λ d. times_in d (c ∷ l)) D) ≡ times_in c (c ∷ l) * factorials (map (λ d. times_in d l) D))
-        → factorial (times_in b (c ∷ l)) * factorials (map (λ d. times_in d (c ∷ l)) D) ≡ times_in c (c ∷ l) * (factorial (times_in b l) * factorials (map (λ d. times_in d l) D))
-    by (inl e) later =
-        let t = times_in-here c b D e in
-        ap₂ ◌*◌ (here b e) (factorials_without c l D (omega arith)) ∙ mul_assoc (times_in c (c ∷ l)) (factorial (times_in b l)) (factorials (map (λ d. times_in d l) D))
-    by (inr n) later =
-        ap₂ ◌*◌ (ap factorial (times_in-other b c l (λ e. n (sym e)))) (later (sym (times_in-other c b D n) ∙ z))
-        ∙ mul_left_comm (factorial (times_in b l)) (times_in c (c ∷ l)) (factorials (map (λ d. times_in d l) D))
-
--- `multiplicity_factorials` of c ∷ l is that of l times the multiplicity of c in c ∷ l
 pub multiplicity_factorials-cons : (c : ℕ) (l : List ℕ) → multiplicity_factorials (c ∷ l) ≡ times_in c (c ∷ l) * multiplicity_factorials l
 multiplicity_factorials-cons c l = by (cases_Bool (has c l))
   where
@@ -79,8 +58,6 @@ multiplicity_factorials-cons c l = by (cases_Bool (has c l))
         no_more : (0 < times_in c l) ⊎ (times_in c l ≤ 0) → times_in c l ≡ 0
         no_more (inl h) = absurd (both_ways (has c l) e (has_from-times_in c l h))
         no_more (inr h) = omega arith
-
--- ---- the product of the factorials of the multiplicities of a partition after a part is inserted or increased
 
 pub multiplicity_factorials-insert : (a : ℕ) (parts : List ℕ) → 0 < a → multiplicity_factorials (insert_part a parts) ≡ times_in a (insert_part a parts) * multiplicity_factorials parts
 multiplicity_factorials-insert zero parts h = absurd (omega arith)
@@ -102,8 +79,6 @@ multiplicity_factorials-insert (suc a) (b ∷ parts) h = by (nat_le b (suc a)) r
         ∙ mul_left_comm (times_in b (b ∷ parts)) (times_in (suc a) (insert_part (suc a) parts)) (multiplicity_factorials parts)
         ∙ ap₂ ◌*◌ (sym v) (sym y)
 
--- let m_i be the multiplicity of i. If a > 0, b is a part of the partition λ, which is `parts`, and μ is λ with one b replaced by a + b, then
--- m_b(λ)·Π m_i(μ)! = m_(a+b)(μ)·Π m_i(λ)!
 raise_factor : (a b : ℕ) (parts : List ℕ) → 0 < a → IsPartition parts → has b parts ≡ true
     → times_in b parts * multiplicity_factorials (raise a b parts) ≡ multiplicity_factorials parts * times_in (a + b) (raise a b parts)
 raise_factor a zero parts h p e = absurd (both_ways (has 0 parts) (has-zero parts p.positive) e)
@@ -116,13 +91,10 @@ raise_factor a (suc b) parts h p e =
     ∙ (sym (mul_assoc (times_in (suc b) parts) (times_in (a + suc b) (raise a (suc b) parts)) (multiplicity_factorials (without_one (suc b) parts))) ∙ mul_right_comm (times_in (suc b) parts) (times_in (a + suc b) (raise a (suc b) parts)) (multiplicity_factorials (without_one (suc b) parts)))
     ∙ ap (λ i. i * times_in (a + suc b) (raise a (suc b) parts)) (sym z)
 
--- ---- sums over the parts of a partition, and over its different parts with their multiplicities
-
 pull_factor : (t : Bool) (x : ℤ) → cond t (pos 1) (pos 0) *ℤ x ≡ cond t x (pos 0)
 pull_factor true x = omega (arith, ints)
 pull_factor false x = omega (arith, ints)
 
--- the sum of g(b) over all entries b of l is the sum, over the different entries b, of the multiplicity of b times g(b)
 total_parts : (g : ℕ → ℤ) (l : List ℕ) → total (λ (b : ℕ). pos (times_in b l) *ℤ g b) (distinct l) ≡ total g l
 total_parts g l =
     total_ext (λ (b : ℕ). pos (times_in b l) *ℤ g b) (λ (b : ℕ). total (λ (c : ℕ). cond (b == c) (g b) (pos 0)) l) spread (distinct l)
@@ -137,8 +109,6 @@ total_parts g l =
         ∙ sym (total_scale (g b) (λ (c : ℕ). cond (c == b) (pos 1) (pos 0)) l)
         ∙ total_ext (λ (c : ℕ). g b *ℤ cond (c == b) (pos 1) (pos 0)) (λ (c : ℕ). cond (b == c) (g b) (pos 0))
         (λ c. *ℤ_comm (g b) (cond (c == b) (pos 1) (pos 0)) ∙ pull_factor (c == b) (g b) ∙ ap (λ (t : Bool). cond t (g b) (pos 0)) (equal-sym c b)) l
-
--- ---- p_a times an augmented monomial symmetric polynomial
 
 pub power_sum_times_augmented : (a n : ℕ) (parts : List ℕ) → 0 < a → IsPartition parts
     → Same (times (power_sum_of a n) (augmented parts n)) (plus (augmented (insert_part a parts) n) (flat_map (λ b. augmented (raise a b parts) n) parts))

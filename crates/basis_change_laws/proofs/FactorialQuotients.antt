@@ -1,5 +1,5 @@
 -- Exact quotients of factorials: binomial coefficients, and d!/a! for a ≤ d.
-use Rattle.std.proofs.Common.{◌≡◌, ℕ, zero, suc, ◌+◌, ◌-◌, ◌*◌, ◌/◌, ◌^◌, ◌<◌, ◌≤◌, refl, sym, ap, ◌∙◌, subst, arith, lit<}
+use Rattle.std.proofs.Common.{◌≡◌, ℕ, zero, suc, ◌+◌, ◌-◌, ◌*◌, ◌/◌, ◌^◌, ◌<◌, ◌≤◌, refl, sym, ap, ◌∙◌, subst, arith, rules}
 use Rattle.std.specs.Int.{◌∣◌}
 use Rattle.sym_model.specs.Weight.{factorial}
 use Rattle.monomial_laws.proofs.Growths.{factorial-positive, factorial-mono}
@@ -54,17 +54,7 @@ factors-positive a b = mul-pos (factorial-positive a) (factorial-positive b)
 
 -- if x divides d! and d ≤ 20, then x < 2^127
 pub within-factorial : (x k d : ℕ) → x * k ≡ factorial d → 0 < k → d ≤ 20 → x < 2 ^ 127
-within-factorial x k d e p h =
-    let m = factorial-mono d 20 h in
-    let top : factorial 20 < 2 ^ 127 = lit< tt in
-    let n : x * 1 ≤ x * k = mul-le-mul_left x p in
-    omega arith
+within-factorial x k d e p h = search (rules, factorial-mono, mul-le-mul_left)
 
 pub quotient-small : (a b : ℕ) → a + b ≤ 20 → factorial a * factorial b < 2 ^ 128
-quotient-small a b h =
-    let p = factorial-mono a 20 (omega arith) in
-    let q = factorial-mono b 20 (omega arith) in
-    let r = mul-le-mul_left (factorial a) q in
-    let s = mul-le-mul_right (factorial 20) p in
-    let top : factorial 20 * factorial 20 < 2 ^ 128 = lit< tt in
-    omega arith
+quotient-small a b h = search (rules, factorial-mono, mul-le-mul_left, mul-le-mul_right)

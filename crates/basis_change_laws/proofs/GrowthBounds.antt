@@ -1,4 +1,5 @@
--- The growth into p, h and e at the degree d is d!·(2d)^d (specs/Weight): bounds for the product of the growths at a and b by the growth at a + b.
+-- The *growth* at the degree d is d!·(2d)^d, a bound for the factor by which a conversion into the basis p, h or e can increase the coefficients of a
+-- list of terms of degree d (specs/Weight). Here are bounds for the product of the growths at a and at b by the growth at a + b.
 use Rattle.std.proofs.Common.{◌≡◌, ℕ, zero, suc, ◌+◌, ◌*◌, ◌^◌, ◌<◌, ◌≤◌, refl, ap, ◌∙◌, arith, sym}
 use Rattle.std.proofs.Math.Nat.{pow-le-pow_right, mul_assoc, pow-le-pow_left}
 use Rattle.std.proofs.lemmas.Nat.{mul-le, pow-add}
@@ -10,7 +11,6 @@ use native.Mathlib.Nat.{mul-le-mul_left, pow-zero}
 abbrev pub grown : ℕ → ℕ
 grown d = growth Basis.completes d
 
--- the growth into p, h and e at the degree d is d!·(2d)^d, also for d = 0
 pub grown-is : (d : ℕ) → grown d ≡ factorial d * (2 * d) ^ d
 grown-is zero = refl
 grown-is (suc d) = refl

@@ -1,10 +1,11 @@
--- Lists of terms in a multiplicative basis, in which a label stands for the product of the polynomials of its parts: products, sums and multiples.
---     `stands-product`, `-plus`, `-scale`, `-raised`, `-weaken`      products, sums and multiples of lists of q·f (`Stands`)
-use Rattle.std.proofs.Common.{◌≡◌, ℕ, ◌+◌, ◌*◌, ◌≤◌, List, [], ◌∷◌, map, refl, sym, ap, ap₂, ◌∙◌, inl, inr, arith, ℤ, pos, ◌+ℤ◌, ◌*ℤ◌}
+-- Lists of terms in a multiplicative basis: the label of a term is a partition and denotes the product of polynomials P_a over its parts a.
+-- Here a *list of q·f* (`Stands`) is a list of terms whose sum is q·f(n) in every number n of variables.
+--     `stands-product`, `-plus`, `-scale`, `-raised`, `-weaken`      products, sums and multiples of lists of q·f
+use Rattle.std.proofs.Common.{◌≡◌, ℕ, ◌+◌, ◌*◌, ◌≤◌, List, [], ◌∷◌, map, refl, sym, ap, ap₂, ◌∙◌, inl, inr, arith, ℤ, pos, ◌+ℤ◌, ◌*ℤ◌, rules}
 use Rattle.std.specs.Prelude.{nat_abs}
 use Rattle.std.proofs.lemmas.Int.{ints, unsigned_abs-mul}
 use Rattle.std.proofs.lemmas.Nat.{mul-le}
-use Rattle.sym_model.specs.Sum.{total, Among}
+use Rattle.sym_model.specs.Sum.{Among}
 use Rattle.sym_model.specs.Polynomial.{Poly, Same, In, pair, join, times, plus, scale, one}
 use Rattle.sym_model.specs.Partition.{ArePositive}
 use Rattle.sym_model.specs.Bases.{product_over}
@@ -19,8 +20,6 @@ use Rattle.basis_change_laws.specs.JoinedLists.{merged, joined, IsLow, Stands}
 use Rattle.basis_change_laws.proofs.MergedParts.{IsPartition-merged, size-merged, product_over-merged}
 use Rattle.sym_model.proofs.WholeTerms.{absolute-append}
 use Rattle.std.proofs.Math.Nat.{mul_assoc}
-
--- ---- if the labels of two lists have at most a and at most b cells, the labels of the product of the lists have at most a + b cells
 
 low-joined : (a b : ℕ) (W V : WholeTerms) → HaveLabels (IsLow a) W → HaveLabels (IsLow b) V → HaveLabels (IsLow (a + b)) (joined W V)
 low-joined a b [] V h k t m = absurd m
@@ -37,8 +36,6 @@ low-joined a b (s ∷ W) V h k u n =
         let y = second.low in
         let z = size-merged s.0 t.0 in
         record { partition = IsPartition-merged s.0 t.0 second.partition; low = omega arith }
-
--- ---- the sum of the absolute values of the coefficients of a multiple and of a product of lists
 
 pub absolute-scale : (c : ℤ) (W : WholeTerms) → absolute_total (scale c W) ≡ nat_abs c * absolute_total W
 absolute-scale c [] = omega arith
@@ -59,19 +56,12 @@ absolute-joined (s ∷ W) V =
 -- ---- the polynomial of a product of two lists is the product of the polynomials of the lists
 
 pub pair-joined : (W V : WholeTerms) (ψ : List ℕ → ℤ) → pair (joined W V) ψ ≡ pair W (λ l. pair V (λ r. ψ (merged l r)))
-pair-joined W V ψ =
-    total_each (λ (t : List ℕ × ℤ). t.1 *ℤ ψ t.0) (λ (s : List ℕ × ℤ). map (λ (t : List ℕ × ℤ). (merged s.0 t.0, s.1 *ℤ t.1)) V) W
-    ∙ total_ext (λ (s : List ℕ × ℤ). total (λ (t : List ℕ × ℤ). t.1 *ℤ ψ t.0) (map (λ (t : List ℕ × ℤ). (merged s.0 t.0, s.1 *ℤ t.1)) V)) (λ (s : List ℕ × ℤ). s.1 *ℤ pair V (λ r. ψ (merged s.0 r)))
-    (λ s.
-    total_map (λ (t : List ℕ × ℤ). t.1 *ℤ ψ t.0) (λ (t : List ℕ × ℤ). (merged s.0 t.0, s.1 *ℤ t.1)) V
-    ∙ total_ext (λ (t : List ℕ × ℤ). (s.1 *ℤ t.1) *ℤ ψ (merged s.0 t.0)) (λ (t : List ℕ × ℤ). s.1 *ℤ (t.1 *ℤ ψ (merged s.0 t.0))) (λ t. product_assoc s.1 t.1 (ψ (merged s.0 t.0))) V
-    ∙ total_scale s.1 (λ (t : List ℕ × ℤ). t.1 *ℤ ψ (merged s.0 t.0)) V) W
+pair-joined W V ψ = search (rules, total_each, total_ext, total_map, product_assoc, total_scale)
 
 pair-among : (W : WholeTerms) (φ ψ : List ℕ → ℤ) → ((t : List ℕ × ℤ) → Among t W → φ t.0 ≡ ψ t.0) → pair W φ ≡ pair W ψ
 pair-among W φ ψ h = total_among (λ (t : List ℕ × ℤ). t.1 *ℤ φ t.0) (λ (t : List ℕ × ℤ). t.1 *ℤ ψ t.0) W (λ t m. ap (λ z. t.1 *ℤ z) (h t m))
 
 module _ (P : ℕ → ℕ → Poly) (places : (n k : ℕ) → In n (P k n)) where
-  -- if the parts of l are positive, the product over the parts of l and r merged is the product over l times that over r
   pub merged-value : (n : ℕ) (l r : List ℕ) → ArePositive l → Same (product_over P (merged l r) n) (times (product_over P l n) (product_over P r n))
   merged-value n l r p =
       let M = product_over P (merged l r) n in
@@ -159,11 +149,7 @@ stands-raised P q A M d r c f W h e m = record {
 }
 
 pub stands-weaken : (P : ℕ → ℕ → Poly) (q A M d e : ℕ) (f : ℕ → Poly) (W : WholeTerms) → Stands P q A d f W → A ≤ M → d ≤ e → Stands P q M e f W
-stands-weaken P q A M d e f W h m l = record {
-  value = h.value;
-  few = let x = h.few in omega arith;
-  labels = λ t i. let x = h.labels t i in let y = x.low in record { partition = x.partition; low = omega arith };
-}
+stands-weaken P q A M d e f W h m l = search rules
 
 pub stands-same : (P : ℕ → ℕ → Poly) (q A d : ℕ) (f g : ℕ → Poly) (W : WholeTerms) → ((n : ℕ) → Same (f n) (g n)) → Stands P q A d f W → Stands P q A d g W
 stands-same P q A d f g W e h = record { value = λ n φ. h.value n φ ∙ ap (λ z. pos q *ℤ z) (pair_determined (f n) (g n) φ (e n)); few = h.few; labels = h.labels }

@@ -17,8 +17,6 @@ pub size-merged : (more parts : List ℕ) → size (merged more parts) ≡ size 
 size-merged [] parts = omega arith
 size-merged (a ∷ more) parts = omega (arith, size-merged more (insert_part a parts), size-insert_part a parts)
 
--- ---- f·(g·h) = g·(f·h); the product over the parts of a partition with a part inserted, and of two partitions merged
-
 pub front : (f g h : Poly) → Same (times f (times g h)) (times g (times f h))
 front f g h =
     Same_trans (times f (times g h)) (times (times f g) h) (times g (times f h))

@@ -1,6 +1,6 @@
--- Newton's identities, coefficient by coefficient: for each i, i can be subtracted from the entries of α that are at least i, and the number of pairs
--- of such an i and such an entry is the sum of α.
-use Rattle.std.proofs.Common.{◌≡◌, ℕ, zero, suc, ◌+◌, ◌-◌, ◌<◌, ◌≤◌, ◌⊎◌, ◌==◌, Bool, true, false, cond, ◌&&◌, List, [], ◌∷◌, map, length, nat_le, sym, ◌∙◌, ap, ap₂, subst, refl, inl, inr, arith, ℤ, pos, neg_ℤ, ◌+ℤ◌, ◌*ℤ◌, flat_map}
+-- Newton's identities, proved for the coefficient of each monomial x^α. The proof counts the pairs of a number i ≥ 1 and an entry of α that is at
+-- least i, from which i can be subtracted: the number of these pairs is the sum of the entries of α.
+use Rattle.std.proofs.Common.{◌≡◌, ℕ, zero, suc, ◌+◌, ◌-◌, ◌<◌, ◌≤◌, ◌⊎◌, ◌==◌, Bool, true, false, cond, ◌&&◌, List, [], ◌∷◌, map, length, nat_le, sym, ◌∙◌, ap, ap₂, subst, refl, inl, inr, arith, ℤ, pos, neg_ℤ, ◌+ℤ◌, ◌*ℤ◌, flat_map, rules}
 use Rattle.std.proofs.lemmas.Int.{ints}
 use Rattle.std.proofs.lemmas.Bool.{cases_lt, le-leb, lt-leb, eq-eqb, eqb-true, ne_eqb, and_parts}
 use Rattle.sym_model.specs.Sum.{total, Among}
@@ -19,8 +19,6 @@ use Rattle.monomial_laws.proofs.PowerSums.{length-lowered, coefficient-power_sum
 use lib.IntN.{+ℤ_idr, *ℤ-zero}
 use Rattle.sym_model.proofs.Integers.{times_chosen}
 
--- ---- the lists obtained from α by subtracting i from one entry
-
 size-lowered : (i : ℕ) (α γ : List ℕ) → Among γ (lowered i α) → i + size γ ≡ size α
 size-lowered i [] γ m = absurd m
 size-lowered i (c ∷ α) γ m = by (cases_lt c i) (Among_from_append γ (cond (nat_le i c) (((c - i) ∷ α) ∷ []) []) (map (λ (δ : List ℕ). c ∷ δ) (lowered i α)) m) (size-lowered i α)
@@ -34,30 +32,13 @@ size-lowered i (c ∷ α) γ m = by (cases_lt c i) (Among_from_append γ (cond (
         here (inr v) = absurd v
     by h (inr u) r = let s = Among_from_map (λ (δ : List ℕ). c ∷ δ) γ (lowered i α) u in let d = ap size s.2 in let e = r s.0 s.1 in omega arith
 
--- the sum of g over the lists obtained from c ∷ α by subtracting i from one entry is the term for the entry c, if i ≤ c, plus the sum for the entries
--- of α
 total_lowered : (g : List ℕ → ℤ) (i c : ℕ) (α : List ℕ) → total g (lowered i (c ∷ α)) ≡ cond (nat_le i c) (g ((c - i) ∷ α)) (pos 0) +ℤ total (λ (γ : List ℕ). g (c ∷ γ)) (lowered i α)
-total_lowered g i c α =
-    total_append g (cond (nat_le i c) (((c - i) ∷ α) ∷ []) []) (map (λ (γ : List ℕ). c ∷ γ) (lowered i α))
-    ∙ ap₂ ◌+ℤ◌ (by (nat_le i c)) (total_map g (λ (γ : List ℕ). c ∷ γ) (lowered i α))
-  where
-    by : (b : Bool) → total g (cond b (((c - i) ∷ α) ∷ []) []) ≡ cond b (g ((c - i) ∷ α)) (pos 0)
-    by true = +ℤ_idr (g ((c - i) ∷ α))
-    by false = refl
-
--- ---- a sum over a + 1, .., a + k + 1 is the sum over a + 1, .., a + k plus the last summand
+total_lowered g i c α = search (rules, total_append, total_map, +ℤ_idr)
 
 total_last : (a k : ℕ) (g : ℕ → ℤ) → total g (after a (suc k)) ≡ total g (after a k) +ℤ g (a + suc k)
 total_last a zero g = omega (arith, ints)
-total_last a (suc k) g =
-    let e = total_last (a + 1) k g in
-    let d : a + 1 + suc k ≡ a + suc (suc k) = omega arith in
-    let f = ap g d in
-    omega (arith, ints)
+total_last a (suc k) g = search (rules, ints, (total_last (a + 1) k g))
 
--- Newton's identity for complete symmetric polynomials: k·h_k is the sum of p_i·h_(k-i) for i from 1 to k
-
--- if the sum of α is at most m, the number of pairs of an i from 1 to m and an entry of α that is at least i is the sum of α
 total_places : (m : ℕ) (α : List ℕ) → size α ≤ m → total (λ (i : ℕ). total (λ (γ : List ℕ). pos 1) (lowered i α)) (after 0 m) ≡ pos (size α)
 total_places m [] h = total_zero (after 0 m)
 total_places m (c ∷ α) h =
@@ -78,18 +59,9 @@ total_places m (c ∷ α) h =
 
 -- ---- the coefficients of p_i·h_(k-i) and p_i·e_(k-i)
 
--- for i ≤ k: if γ is α with i subtracted from one entry, γ has n places and the sum k - i if and only if α has n places and the sum k
 left_degree : (n k i : ℕ) (α γ : List ℕ) → i ≤ k → Among γ (lowered i α) → is_exponent_list n (k - i) γ ≡ is_exponent_list n k α
-left_degree n k i α γ h m =
-    let l = length-lowered i α γ m in
-    let s = size-lowered i α γ m in
-    ap₂ (λ (p q : Bool). p && q) (ap (λ j. j == n) l)
-    (tests_agree (size γ == k - i) (size α == k)
-    (λ e. let d = eqb-true (size γ) (k - i) e in eq-eqb (size α) k (omega arith))
-    (λ e. let d = eqb-true (size α) k e in eq-eqb (size γ) (k - i) (omega arith)))
+left_degree n k i α γ h m = search (rules, length-lowered, size-lowered, tests_agree, eqb-true, eq-eqb)
 
--- for 0 < i ≤ k: if α has n places and the sum k, the coefficient of x^α in p_i times the sum of the monomials of degree k - i that pass a test is
--- the number of lists obtained from α by subtracting i from one entry that pass the test; otherwise it is 0
 one_product : (test : List ℕ → Bool) (n k i : ℕ) (α : List ℕ) → 0 < i → i ≤ k
     → coefficient (times (power_sum_of i n) (monomials test n (k - i))) α ≡ cond (is_exponent_list n k α) (total (λ (γ : List ℕ). cond (test γ) (pos 1) (pos 0)) (lowered i α)) (pos 0)
 one_product test n k i α p h =
@@ -115,9 +87,9 @@ newton_complete k n α =
     by true s = let e = s refl in product-one (pos k) ∙ ap pos (sym e) ∙ sym (total_places k α (omega arith))
     by false s = *ℤ-zero (pos k)
 
--- Newton's identity for elementary symmetric polynomials: k·e_k is the sum of (-1)^(i-1)·p_i·e_(k-i) for i from 1 to k
+-- ---- Newton's identity for elementary symmetric polynomials: k·e_k is the sum of (-1)^(i-1)·p_i·e_(k-i) for i from 1 to k
 
--- `turn i`: the sign (-1)^(i-1)
+-- the sign (-1)^(i-1), for i ≥ 1
 abbrev turn : ℕ → ℤ
 turn i = minus_one_to (i - 1)
 
@@ -171,24 +143,17 @@ later_places : {A : Type 0} (b : Bool) (test : A → Bool) (xs : List A) (t : �
 later_places true test xs t = refl
 later_places false test xs t = ap (λ z. t *ℤ z) (total_zero xs) ∙ *ℤ-zero t
 
--- the step from α to c ∷ α in the proof of `elementary_places`; n is the sum of α, and b says whether no entry of α is above 1. With [P] for 1 if P
--- holds and 0 otherwise: [b and c = 1] + n·[c ≤ 1 and b] = (c + n)·[c ≤ 1 and b]
+-- with [P] for 1 if P holds and 0 otherwise: [b and c = 1] + n·[c ≤ 1 and b] = (c + n)·[c ≤ 1 and b]. In `elementary_places`, n is the sum of a
+-- list α, and b says whether no entry of α exceeds 1.
 with_first : (c n : ℕ) (b : Bool) → cond b (cond (c == 1) (pos 1) (pos 0)) (pos 0) +ℤ cond (nat_le c 1) (cond b (pos n) (pos 0)) (pos 0) ≡ cond (nat_le c 1 && b) (pos (c + n)) (pos 0)
 with_first zero n true = omega (arith, ints)
 with_first zero n false = refl
 with_first (suc zero) n true = omega (arith, ints)
 with_first (suc zero) n false = refl
-with_first (suc (suc c)) n b =
-    ap₂ (λ (p q : Bool). cond b (cond p (pos 1) (pos 0)) (pos 0) +ℤ cond q (cond b (pos n) (pos 0)) (pos 0)) (ne_eqb (suc (suc c)) 1 (λ e. absurd (omega arith))) (lt-leb (suc (suc c)) 1 (omega arith))
-    ∙ none b
-    ∙ sym (ap (λ (q : Bool). cond (q && b) (pos (suc (suc c) + n)) (pos 0)) (lt-leb (suc (suc c)) 1 (omega arith)))
-  where
-    none : (p : Bool) → cond p (pos 0) (pos 0) +ℤ pos 0 ≡ pos 0
-    none true = refl
-    none false = refl
+with_first (suc (suc c)) n b = search rules
 
--- if the sum of α is at most m, the sum over i from 1 to m of (-1)^(i-1) times the number of lists of 0s and 1s obtained from α by subtracting i from
--- one entry is the sum of α if α is a list of 0s and 1s, and 0 otherwise
+-- let m be at least the sum of α. Take the sum over i from 1 to m of (-1)^(i-1) times the number of lists of 0s and 1s obtained from α by subtracting
+-- i from one entry. This is the sum of α if α is a list of 0s and 1s, and 0 otherwise.
 elementary_places : (m : ℕ) (α : List ℕ) → size α ≤ m
     → total (λ (i : ℕ). turn i *ℤ total (λ (γ : List ℕ). cond (at_most_one γ) (pos 1) (pos 0)) (lowered i α)) (after 0 m) ≡ cond (at_most_one α) (pos (size α)) (pos 0)
 elementary_places m [] h = total_none (λ (i : ℕ). turn i *ℤ pos 0) (after 0 m) (λ i n. *ℤ-zero (turn i))

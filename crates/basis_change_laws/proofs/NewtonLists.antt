@@ -1,5 +1,5 @@
 -- The families h_k and e_k satisfy Newton's identities, with the signs 1 for h_k and (-1)^(i-1) for e_k.
-use Rattle.std.proofs.Common.{◌≡◌, ℕ, zero, suc, ◌-◌, ◌*◌, Bool, true, cond, List, [], ◌∷◌, replicate, refl, sym, ap, ap₂, ◌∙◌, ℤ, pos, ◌*ℤ◌, filter, flat_map}
+use Rattle.std.proofs.Common.{◌≡◌, ℕ, zero, suc, ◌-◌, ◌*◌, Bool, true, cond, List, [], ◌∷◌, replicate, refl, sym, ap, ap₂, ◌∙◌, ℤ, pos, ◌*ℤ◌, filter, flat_map, rules}
 use Rattle.std.specs.Prelude.{nat_abs}
 use Rattle.sym_model.specs.Polynomial.{Poly, Same, pair, times, scale, one}
 use Rattle.sym_model.specs.Partition.{after}
@@ -20,7 +20,7 @@ pub record IsNewton (G : ℕ → ℕ → Poly) (σ : ℕ → ℤ) : Type 0 where
   pub first : (n : ℕ) → Same (G 0 n) (one n)
   pub sums : (k n : ℕ) → Same (scale (pos k) (G k n)) (flat_map (λ i. scale (σ i) (times (power_sum_of i n) (G (k - i) n))) (after 0 k))
 
--- ---- exponents that are all 0, and h_0 = e_0 = 1; h_k and e_k satisfy Newton's identities
+-- ---- h_0 = e_0 = 1, and h_k and e_k satisfy Newton's identities
 
 pub zeros_low : (n : ℕ) → at_most_one (replicate n 0) ≡ true
 zeros_low zero = refl
@@ -35,11 +35,7 @@ one-monomials test n e = same_from_pair (monomials test n 0) (one n) (λ φ.
     ∙ sym (pair_one n φ))
 
 pub newton-elementary : IsNewton elementary_of (λ i. minus_one_to (i - 1))
-newton-elementary = record {
-  unit = λ i. sign_size (i - 1);
-  first = λ n. one-monomials at_most_one n (zeros_low n);
-  sums = newton_elementary;
-}
+newton-elementary = search (rules, sign_size, one-monomials, zeros_low, newton_elementary)
 
 pub newton-complete : IsNewton complete_of (λ i. pos 1)
 newton-complete = record {
@@ -54,8 +50,6 @@ newton-complete = record {
       (λ i. sym (pair_scale (pos 1) (times (power_sum_of i n) (complete_of (k - i) n)) φ ∙ one-product (pair (times (power_sum_of i n) (complete_of (k - i) n)) φ))) (after 0 k)
       ∙ sym (pair_each (λ (i : ℕ). scale (pos 1) (times (power_sum_of i n) (complete_of (k - i) n))) (after 0 k) φ)));
 }
-
--- ---- a multiple of a multiple of a list of terms
 
 pub scale-scale : (x y : ℤ) (W : WholeTerms) → scale x (scale y W) ≡ scale (x *ℤ y) W
 scale-scale x y [] = refl

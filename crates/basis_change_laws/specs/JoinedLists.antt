@@ -1,4 +1,4 @@
--- Lists of terms in a multiplicative basis: a label stands for the product of the polynomials of its parts.
+-- Lists of terms in a multiplicative basis: the label of a term is a partition and denotes the product of polynomials P_a over its parts a.
 use Rattle.std.specs.Prelude.{◌≡◌, ℕ, ◌≤◌, ℤ, pos, ◌*ℤ◌, List, [], ◌∷◌, map, flat_map}
 use Rattle.sym_model.specs.Polynomial.{Poly, pair}
 use Rattle.sym_model.specs.Partition.{IsPartition, size, insert_part}
@@ -24,8 +24,9 @@ pub record IsLow (d : ℕ) (label : List ℕ) : Type 0 where
   pub partition : IsPartition label
   pub low : size label ≤ d
 
--- W is a list of q·f: in every number n of variables, q·f(n) is the sum, over the terms c, λ of W, of c times the product of the P_a over the parts a
--- of λ. The absolute values of the coefficients of W add up to at most `most`, and its labels are partitions of at most d cells.
+-- W is a list of q·f: in every number n of variables, q·f(n) is the sum, over the terms of W with coefficient c and label λ, of c times the product
+-- of the P_a over the parts a of λ. The absolute values of the coefficients of W add up to at most `most`, and the labels of W are partitions of at
+-- most d cells.
 pub record Stands (P : ℕ → ℕ → Poly) (q most d : ℕ) (f : ℕ → Poly) (W : WholeTerms) : Type 0 where
   pub value : (n : ℕ) (φ : List ℕ → ℤ)
       → pair W (λ label. pair (product_over P label n) φ) ≡ pos q *ℤ pair (f n) φ

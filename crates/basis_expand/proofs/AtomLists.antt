@@ -1,9 +1,10 @@
--- Lists in m of the product of e_k, h_k or p_k over the parts k of a partition, one factor after another.
---     IsBounded-one, -product        bounds of one factor and of the product
---     list-more, -times              a list of the product with one more factor, given by its coefficients or as a polynomial
---     large-factor, -later           if a product of lists has too large a coefficient, the growth is 2^127 or more
---     have_room, few_cells           the labels with k more cells are within the limits
-use Rattle.std.proofs.Common.{◌≡◌, true, ℕ, ◌+◌, ◌^◌, ◌<◌, ◌≤◌, List, [], ◌∷◌, map, length, sym, ap, subst, refl, arith, pos, append-nil}
+-- Lists in m of the product of e_k, h_k or p_k over the parts k of a partition, one factor after another. A list of f in m is a list of terms c·m_λ
+-- with the sum f, in every number of variables. The growth into m at the degree d is d^d (0^0 is 1).
+--     IsBounded-one, -product        the coefficients of one factor, and of the product of all, are at most those of a power of x_1 + .. + x_n
+--     list-more, -times              a list of the product with one more factor: its coefficients are given, or its polynomial is given
+--     large-factor, -later           if a product of lists has a coefficient of 2^127 or more, the growth is 2^127 or more
+--     have_room, few_cells           with k more cells, the labels still have at most 512 cells
+use Rattle.std.proofs.Common.{◌≡◌, true, ℕ, ◌+◌, ◌^◌, ◌<◌, ◌≤◌, List, [], ◌∷◌, map, length, sym, ap, subst, refl, arith, pos, append-nil, rules}
 use Rattle.std.specs.Prelude.{◌≤ℤ◌, Result, IfOk}
 use Rattle.std.proofs.lemmas.Int.{ints}
 use Rattle.calc_base.specs.declared.faults.SumFault.{SumFault}
@@ -68,9 +69,6 @@ large-factor family k parts A B o p h i (ν, is, l) =
     (λ n. bounded_respects 1 (size parts) n (product_over (polynomial_of family) parts n) (in_monomials B n) (Same_sym (in_monomials B n) (product_over (polynomial_of family) parts n) (i n)) (IsBounded-product family parts n)) ν in
     omega (arith, ints)
 
--- let A be a list of e_k (h_k, p_k) and B one of the product of e_j (h_j, p_j) over the parts j, neither with a label twice: if the product |B|·|A|
--- of the lists with absolute values as coefficients has a coefficient of 2^127 or more (`ProductIsLarge`), the growth into m at the degree k + size
--- parts is 2^127 or more
 pub large-factor_right : (family : Family) (k : ℕ) (parts : List ℕ) (A B : WholeTerms) → Once (labels A) → Once (labels B)
     → IsList A (polynomial_of family k) → IsList B (product_over (polynomial_of family) parts) → ProductIsLarge B A → 2 ^ 127 ≤ growth Basis.monomials (k + size parts)
 large-factor_right family k parts A B o p h i (ν, is, l) =
@@ -89,7 +87,6 @@ pub no_parts : (parts : List ℕ) → length parts < 1 → [] ≡ parts
 no_parts [] h = refl
 no_parts (k ∷ rest) h = absurd (omega arith)
 
--- if `parts` is empty, a list that is equal to the one term 1 at the empty label is a list of the product over `parts`, which is 1
 pub list-none : (family : Family) (parts : List ℕ) (W : WholeTerms) → length parts < 1 → Same W (([], pos 1) ∷ []) → IsList W (product_over (polynomial_of family) parts)
 list-none family parts W h e =
     subst (λ p. IsList W (product_over (polynomial_of family) p)) (no_parts parts h)
@@ -115,26 +112,17 @@ list-times family k B r h parts i = if_answered r h (λ C f n.
     Same_trans (in_monomials C n) (times first (in_monomials B n)) (times first others) (f n)
     (times_respects first first (in_monomials B n) others (Same_refl first) (i n)))
 
--- if k plus the greatest size of a label is at most 512, each label has room for a column of k more cells (`HasRoomForColumn`)
+-- if k plus the greatest size of a label is at most 512, each label remains within the limits of labels if a column of k cells is added
+-- (`HasRoomForColumn`)
 pub have_room : (k : ℕ) (terms : WholeTerms) → IsWholeTable terms → k + greatest_size terms ≤ 512 → HaveLabels (HasRoomForColumn k) terms
-have_room k terms is h t m =
-    let p = label-partition terms is t m in
-    let s = greatest_size-among terms t m in
-    record {
-      partition = p;
-      cells = omega (arith, h, s);
-      rows_within = omega (arith, h, s, rows_within_size t.0 p.positive);
-    }
+have_room k terms is h t m = search (rules, label-partition, greatest_size-among, rows_within_size)
 
--- if k plus the greatest size of a label is at most 512, each label has at most 512 - k cells
 pub few_cells : (k : ℕ) (terms : WholeTerms) → k + greatest_size terms ≤ 512 → HaveLabels (λ μ. size μ + k ≤ 512) terms
 few_cells k terms h t m = let s = greatest_size-among terms t m in omega (arith, h)
 
--- no label occurs twice in the list `elementary_terms k` of e_k
 pub once-elementary : (k : ℕ) → Once (labels (elementary_terms k))
 once-elementary k = (λ m. m, tt)
 
--- no label occurs twice in the list `complete_terms k` of h_k
 pub once-complete : (k : ℕ) → Once (labels (complete_terms k))
 once-complete k = subst Once (labels_ones (partitions_of k)) (Once-FallsLexicographically (partitions_of k) (FallsLexicographically-partitions_within k k k))
   where
@@ -149,10 +137,8 @@ large-complete k B (ν, is, l) = (ν, is, subst (λ A. pos (2 ^ 127) ≤ℤ prod
     absolute_ones [] = refl
     absolute_ones (ν ∷ shapes) = ap (λ l. (ν, pos 1) ∷ l) (absolute_ones shapes)
 
--- if W and V have the same coefficient at each label, and V is a list of e_k, h_k or p_k, so is W
 pub list-family : (family : Family) (k : ℕ) (W V : WholeTerms) → Same W V → IsList V (polynomial_of family k) → IsList W (polynomial_of family k)
 list-family family k W V e h = list_respects V W (polynomial_of family k) (Same_sym W V e) h
 
--- the labels of a list of e_k, h_k or p_k have at most k cells
 pub factor-sizes : (family : Family) (k : ℕ) (A : WholeTerms) → IsWholeTable A → IsList A (polynomial_of family k) → greatest_size A ≤ k
 factor-sizes family k A is h = greatest-within k A (AreWithin-list 1 k A (polynomial_of family k) is h (IsBounded-one family k))

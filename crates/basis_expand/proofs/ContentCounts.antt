@@ -1,9 +1,12 @@
 -- If a shape is taken apart by removing horizontal strips one after another, the list of their numbers of cells is the content.
--- For a list in s, all contents that are partitions are found part by part, each with its number of ways.
---     counts-end, -missed, -step          the contents by their next part, if any
---     fresh-longer, limits-longer         properties of the chosen parts, with one more part
+-- For a list of terms c·s_λ, all contents that are partitions are found part by part. They have been *counted* (`CountsContents`) if each content κ
+-- has been added to the result with the coefficient Σ c·K(λ,κ) over the terms. The Kostka number K(λ,κ) is the number of ways to take λ apart with
+-- the content κ.
+--     counts-end                          after the chosen parts, the content without a further part has been counted
+--     counts-missed, -step                if the contents with a next part of at most p - 1 have been counted, those with the next part p come next
+--     fresh-longer, limits-longer         the conditions on the chosen parts hold too if one more part is chosen
 --     list-counted, lists-counted         if all contents are counted, the list in m is s_λ, or the given list in s
-use Rattle.std.proofs.Common.{◌≡◌, ◌⊎◌, ℕ, ◌-◌, ◌≤◌, ◌<◌, min, List, [], ◌∷◌, ◌++◌, length, sym, ◌∙◌, ap, ap₂, subst, inl, inr, arith, append_assoc, append-nil, cond, drop, length-append, ℤ, pos, ◌+ℤ◌, ◌*ℤ◌, Bool, true, false, refl}
+use Rattle.std.proofs.Common.{◌≡◌, ◌⊎◌, ℕ, ◌-◌, ◌≤◌, ◌<◌, min, List, [], ◌∷◌, ◌++◌, length, sym, ◌∙◌, ap, ap₂, subst, inl, inr, arith, append_assoc, append-nil, cond, drop, length-append, ℤ, pos, ◌+ℤ◌, ◌*ℤ◌, rules}
 use Rattle.std.proofs.Math.Nat.{eq-or-lt_of_le}
 use Rattle.std.proofs.lemmas.Bool.{cases_lt}
 use Rattle.sym_model.specs.Partition.{IsPartition, ArePositive, Falls, size}
@@ -29,28 +32,20 @@ use Rattle.sparse_polys.proofs.WholeLists.{label-partition}
 use Rattle.basis_expand.proofs.StripTables.{ways-alone, pair-strip_terms}
 use lib.IntN.{+ℤ_idl, +ℤ_idr, *ℤ-zero}
 
--- ---- contents are the partitions of at most a given size
-
 content-more : (largest more left : ℕ) (rest : List ℕ) → largest ≤ more → IsContent largest left rest → IsContent more left rest
 content-more largest more left [] h c = c
 content-more largest more left (a ∷ rest) h c = ((c.0.0, let l = c.0.1 in omega arith, c.0.2), c.1)
 
--- a content whose sum is at most `left` is a partition of at most `left` cells
 content-falls : (largest left : ℕ) (rest : List ℕ) → IsContent largest left rest → Falls rest × ArePositive rest × (size rest ≤ left)
 content-falls largest left [] c = (tt, tt, omega arith)
 content-falls largest left (a ∷ []) c = (tt, (c.0.0, tt), let l = c.0.2 in omega arith)
-content-falls largest left (a ∷ b ∷ rest) c =
-    let r = content-falls a (left - a) (b ∷ rest) c.1 in
-    ((c.1.0.1, r.0), (c.0.0, r.1), let l = c.0.2 in let e = r.2 in omega arith)
+content-falls largest left (a ∷ b ∷ rest) c = search (rules, (content-falls a (left - a) (b ∷ rest) c.1))
 
--- a partition of at most `left` cells, whose parts are at most `largest`, is a content within these bounds (`IsContent`)
 partition-content : (largest left : ℕ) (parts : List ℕ) → IsPartition parts → size parts ≤ left → Falls (largest ∷ parts) → IsContent largest left parts
 partition-content largest left [] p e f = tt
 partition-content largest left (a ∷ []) p e f = ((p.positive.0, f.0, omega arith), tt)
-partition-content largest left (a ∷ b ∷ parts) p e f = (
-  (p.positive.0, f.0, omega arith),
-  partition-content a (left - a) (b ∷ parts) (record { falls = p.falls.1; positive = p.positive.1 }) (omega arith) p.falls,
-)
+partition-content largest left (a ∷ b ∷ parts) p e f =
+    search (rules, (partition-content a (left - a) (b ∷ parts) (record { falls = p.falls.1; positive = p.positive.1 }) (omega arith) p.falls))
 
 first_few : (parts : List ℕ) (d : ℕ) → size parts ≤ d → Falls parts → Falls (d ∷ parts)
 first_few [] d e f = tt
@@ -58,9 +53,7 @@ first_few (a ∷ parts) d e f = (omega arith, f)
 
 -- a content whose sum is at most d is within the limits of partitions, if d ≤ 512
 pub limits-content : (largest d : ℕ) (rest : List ℕ) → d ≤ 512 → IsContent largest d rest → IsWithinLimits rest
-limits-content largest d rest h c =
-    let is = content-falls largest d rest c in
-    IsWithinLimits-low rest (record { falls = is.0; positive = is.1 }) (let e = is.2 in omega arith)
+limits-content largest d rest h c = search (rules, content-falls, IsWithinLimits-low)
 
 -- ---- contents that begin with the chosen parts and one more part
 
@@ -70,19 +63,13 @@ pub limits-longer : (chosen longer : List ℕ) (part largest left : ℕ) → lon
 limits-longer chosen longer part largest left e p h l limits rest c =
     subst IsWithinLimits (sym (append_assoc chosen (part ∷ []) rest) ∙ ap (λ xs. xs ++ rest) (sym e)) (limits (part ∷ rest) ((p, h, l), c))
 
--- if two lists that begin with `chosen` are equal, and a and b are their next parts, then a = b
 same_behind : (chosen : List ℕ) (a b : ℕ) (xs ys : List ℕ) → chosen ++ (a ∷ xs) ≡ chosen ++ (b ∷ ys) → a ≡ b
-same_behind [] a b xs ys e = ap (λ (l : List ℕ). first l) e
-  where
-    first : List ℕ → ℕ
-    first [] = 0
-    first (x ∷ xs) = x
+same_behind [] a b xs ys e = search rules
 same_behind (x ∷ chosen) a b xs ys e = same_behind chosen a b xs ys (ap (drop 1) e)
 
 not_nothing : (chosen : List ℕ) (b : ℕ) (ys : List ℕ) → chosen ++ [] ≡ chosen ++ (b ∷ ys) → ⊥
 not_nothing chosen b ys e = let h = ap length e in omega (arith, length-append chosen [], length-append chosen (b ∷ ys))
 
--- `chosen` followed by `part` and more parts is not `chosen` followed by a content whose parts are all less than `part`
 apart : (chosen rest behind : List ℕ) (part left : ℕ) → 1 ≤ part → IsContent (part - 1) left rest → chosen ++ (part ∷ behind) ≡ chosen ++ rest → ⊥
 apart chosen [] behind part left p c e = not_nothing chosen part behind (sym e)
 apart chosen (a ∷ rest) behind part left p c e = let h = same_behind chosen part a behind rest e in let l = c.0.1 in omega arith
@@ -97,8 +84,6 @@ pub fresh-longer : (terms : WholeTerms) (chosen longer : List ℕ) (part left : 
 fresh-longer terms chosen longer part left old list l p none so_far rest =
     ap (coefficient list) (ap (λ xs. xs ++ rest) l ∙ append_assoc chosen (part ∷ []) rest) ∙ none_here terms chosen part left old list p none so_far rest
 
--- if `next` has the shapes that remain of those of `terms` after a strip of `part` cells is removed, the sum of c·K(λ, rest) over the terms (λ, c) of
--- `next` is that of c·K(λ, part ∷ rest) over those of `terms`; K is the Kostka number
 ways : (part : ℕ) (terms next : WholeTerms) (rest : List ℕ) → Same next (strip_terms part terms)
     → pair next (λ shape. kostka shape rest) ≡ pair terms (λ shape. kostka shape (part ∷ rest))
 ways part terms next rest e = pair_determined next (strip_terms part terms) (λ shape. kostka shape rest) e ∙ pair-strip_terms part terms (λ shape. kostka shape rest)
@@ -156,15 +141,7 @@ counts-step terms next chosen longer part left old list new l p low e so_far mor
             ∙ so_far.counted (a ∷ rest) ((c.0.0, omega arith, c.0.2), c.1)
 
 pub nothing-more : (label : List ℕ) (number : ℤ) (list : WholeTerms) → number ≡ pos 0 → Same list (list ++ (label, number) ∷ [])
-nothing-more label number list z other =
-    sym (coefficient_plus list ((label, number) ∷ []) other
-    ∙ ap (λ n. coefficient list other +ℤ (cond (same label other) n (pos 0) +ℤ pos 0)) z
-    ∙ ap (λ n. coefficient list other +ℤ n) (none (same label other))
-    ∙ +ℤ_idr (coefficient list other))
-  where
-    none : (b : Bool) → cond b (pos 0) (pos 0) +ℤ pos 0 ≡ pos 0
-    none true = refl
-    none false = refl
+nothing-more label number list z other = search (rules, coefficient_plus, +ℤ_idr)
 
 -- if `new` is `old` with one term added, whose label is `chosen` and whose coefficient is that of the empty shape in `terms`, then all contents
 -- without a further part have been counted (`CountsContents`)
@@ -189,15 +166,12 @@ counts-end terms chosen nothing left number old new is n f none more = record {
         ∙ +ℤ_idl (number +ℤ pos 0) ∙ +ℤ_idr number
         ∙ f ∙ ap (found equal (pos 0) terms) n ∙ sym (coefficient_found terms is.distinct []) ∙ coefficient_pair terms []
 
--- if each label that begins with `chosen` has the coefficient 0 in the table `old`, looking up `chosen` in it gives 0
 pub fresh-found : (chosen label : List ℕ) (old : WholeTerms) → IsWholeTable old → label ≡ chosen → HasNoneBehind chosen old → found equal (pos 0) old label ≡ pos 0
 fresh-found chosen label old is l none =
     ap (found equal (pos 0) old) l ∙ sym (coefficient_found old is.distinct chosen) ∙ ap (coefficient old) (sym (append-nil chosen)) ∙ none []
 
--- ---- the result if all contents have been counted
-
--- if the contents with further parts of at most min(largest, left) have been counted, so have those with further parts of at most `largest`, as no
--- further part exceeds `left`
+-- no further part of a content exceeds `left`: so if the contents with further parts of at most min(largest, left) have been counted
+-- (`CountsContents`), then those with further parts of at most `largest` have been counted
 pub counts-all : (terms : WholeTerms) (chosen : List ℕ) (most largest left : ℕ) (old new : WholeTerms) → most ≡ min largest left → CountsContents terms chosen most left old new
     → CountsContents terms chosen largest left old new
 counts-all terms chosen most largest left old new e counts = record {
@@ -209,16 +183,12 @@ counts-all terms chosen most largest left old new e counts = record {
     less [] c = c
     less (a ∷ rest) c = ((c.0.0, let l = c.0.1 in let few = c.0.2 in omega arith, c.0.2), c.1)
 
--- if, from an empty list on, all contents of at most d cells have been counted for W (`CountsContents`), then the coefficient of a partition κ of at
--- most d cells is Σ c·K(λ,κ) over the terms c·s_λ of W, with K the Kostka number
 at_most : (d : ℕ) (W old list : WholeTerms) (κ : List ℕ) → old ≡ [] → CountsContents W [] d d old list → IsPartition κ → size κ ≤ d
     → coefficient list κ ≡ pair W (λ shape. kostka shape κ)
 at_most d W old list κ none counts is low = counts.counted κ (partition-content d d κ is low (first_few κ d low is.falls))
 
 past : (d : ℕ) (W old list : WholeTerms) (κ : List ℕ) → old ≡ [] → CountsContents W [] d d old list → d < size κ → coefficient list κ ≡ pos 0
-past d W old list κ none counts high =
-    counts.others κ (λ rest c eq. absurd (let few = (content-falls d d rest c).2 in let same_size = ap size eq in omega arith))
-    ∙ ap (λ (l : WholeTerms). coefficient l κ) none
+past d W old list κ none counts high = search (rules, content-falls)
 
 pub list-counted : (shape : List ℕ) (d : ℕ) (terms old list : WholeTerms) → IsPartition shape → d ≡ size shape → old ≡ [] → Same terms ((shape, pos 1) ∷ [])
     → CountsContents terms [] d d old list → IsList list (schur shape)
@@ -229,7 +199,7 @@ list-counted shape d terms old list p is_d none e counts = list-schur shape list
     at κ is (inl high) = past d terms old list κ none counts high ∙ sym (kostka-other_size shape κ p (λ same_size. omega arith))
 
 -- if the labels of `terms` have at most d cells, and, from an empty list on, all contents of at most d cells have been counted for `terms`
--- (`CountsContents`), then the resulting list in m is the sum of c·s_λ over the terms c·λ
+-- (`CountsContents`), then the resulting list of terms in the monomial basis m is the sum of c·s_λ over the terms c·λ
 pub lists-counted : (d : ℕ) (terms old list : WholeTerms) → IsWholeTable terms → AreWithin d terms → old ≡ [] → CountsContents terms [] d d old list
     → IsList list (λ n. combined (λ label. schur label n) terms)
 lists-counted d terms old list is within none counts =

@@ -1,7 +1,7 @@
--- The values in m of the nodes of an expression, each a list with integer coefficients and a denominator.
+-- The values in m of the nodes of an expression, which are its subexpressions. Each value is a list with integer coefficients and a denominator.
 --     converted-number .. -product    the list of a node is the node's expression times the node's denominator
 --     large-negation .. -product      if `Large` is returned for a node, its weight is 2^127 or more
-use Rattle.std.proofs.Common.{◌≡◌, ℕ, ◌*◌, ◌/◌, ◌^◌, ◌≤◌, max, List, [], ◌∷◌, sym, ◌∙◌, ap₂, subst, inl, inr, arith, ℤ, pos, negsuc}
+use Rattle.std.proofs.Common.{◌≡◌, ℕ, ◌*◌, ◌/◌, ◌^◌, ◌≤◌, max, List, [], ◌∷◌, sym, ◌∙◌, ap₂, subst, inl, inr, arith, ℤ, pos, negsuc, rules}
 use Rattle.std.specs.Prelude.{nat_abs}
 use Rattle.std.proofs.lemmas.Int.{ints}
 use Rattle.std.proofs.lemmas.Nat.{mul-le}
@@ -24,8 +24,6 @@ use Rattle.sparse_polys.specs.Large.{HasLarge, SumIsLarge, ProductIsLarge}
 use Rattle.sparse_polys.proofs.Bounds.{coefficient-within, past-weight}
 use Rattle.sym_model.proofs.Integers.{neg_one-product}
 use Rattle.std.proofs.Math.Nat.{le_trans}
-
--- ---- the list of a number, an atom, a negation, a sum and a product is the expression times its denominator
 
 pub converted-number : (a : ℕ) (c : Cleared) → c.den ≡ 1 → Same c.terms (([], pos a) ∷ []) → ClearsTo (number a) c
 converted-number a c d h = record {
@@ -51,8 +49,6 @@ converted-negation e c d i h k = record {
       (cleared-negation c.terms e k.value);
 }
 
--- let l be the least common multiple of the denominators of e and f, p = l/(denominator of e) and q = l/(denominator of f): then p times the list of
--- e plus q times the list of f is e + f times the denominator of e + f
 multiples : (e f : Tree) (c d : Cleared) (p q : ℤ) → p ≡ pos (lcm c.den d.den / c.den) → q ≡ pos (lcm c.den d.den / d.den) → ClearsTo e c → ClearsTo f d
     → IsCleared (plus (scale p c.terms) (scale q d.terms)) (sum e f)
 multiples e f c d p q i j h k =
@@ -75,12 +71,7 @@ converted-sum e f c d s p q i j m w h k = record {
 pub converted-product : (e f : Tree) (c d s : Cleared) → s.den ≡ c.den * d.den
     → ((ν : List ℕ) → IsPartition ν → coefficient s.terms ν ≡ product_coefficient c.terms d.terms ν)
     → ClearsTo e c → ClearsTo f d → ClearsTo (product e f) s
-converted-product e f c d s m w h k = record {
-  den_is = m ∙ ap₂ ◌*◌ h.den_is k.den_is;
-  value = cleared-product c.terms d.terms s.terms e f h.value k.value w;
-}
-
--- ---- if a number is too large at a negation, a sum or a product, the weight of this expression is 2^127 or more
+converted-product e f c d s m w h k = search (rules, cleared-product)
 
 pub large-negation : (e : Tree) (c : Cleared) → HasDenominators e → ClearsTo e c → HasLarge (scale (negsuc 0) c.terms) → 2 ^ 127 ≤ weight Basis.monomials (negation e)
 large-negation e c d h l =

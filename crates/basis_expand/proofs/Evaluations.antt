@@ -1,5 +1,5 @@
--- The nodes of an expression in postorder: the loop that finds them, and their evaluation on a stack of values.
-use Rattle.std.proofs.Common.{◌≡◌, ℕ, ◌<◌, List, [], ◌∷◌, ◌++◌, length, reverse, map, take, drop, suc, append_assoc, append-nil, sym, ◌∙◌, ap, ap₂, subst, refl, arith}
+-- The nodes of an expression, which are its subexpressions, in postorder: the loop that finds them, and their evaluation on a stack of values.
+use Rattle.std.proofs.Common.{◌≡◌, ℕ, ◌<◌, List, [], ◌∷◌, ◌++◌, length, reverse, map, take, drop, suc, append_assoc, append-nil, sym, ◌∙◌, ap, ap₂, subst, refl, arith, rules}
 use Rattle.std.specs.List.{All}
 use Rattle.std.specs.Prelude.{flat_map}
 use Rattle.std.proofs.lemmas.Grind.{flat_map-append}
@@ -12,41 +12,28 @@ use Rattle.basis_expand.specs.Postorder.{operands, postorder, AreValues, EndsWit
 two : (xs ys : List Expr) (e : Expr) → xs ++ (ys ++ e ∷ []) ≡ (xs ++ (ys ++ [])) ++ e ∷ []
 two xs ys e = sym (append_assoc xs (ys ++ []) (e ∷ []) ∙ ap (λ (zs : List Expr). xs ++ (zs ++ e ∷ [])) (append-nil ys))
 
--- the postorder of e is the postorders of its operands, from the left, followed by e
 postorder-operands : (e : Expr) → postorder e ≡ flat_map postorder (operands e) ++ e ∷ []
 postorder-operands (Number num) = refl
 postorder-operands (Fraction num den) = refl
 postorder-operands (Atom basis label) = refl
-postorder-operands (Negation' p inner) = one (postorder inner) (Negation' p inner)
-  where
-    one : (xs : List Expr) (e : Expr) → xs ++ e ∷ [] ≡ (xs ++ []) ++ e ∷ []
-    one xs e = ap (λ (ys : List Expr). ys ++ e ∷ []) (sym (append-nil xs))
+postorder-operands (Negation' p inner) = search rules
 postorder-operands (Sum' p left q right) = two (postorder left) (postorder right) (Sum' p left q right)
 postorder-operands (Difference' p left q right) = two (postorder left) (postorder right) (Difference' p left q right)
 postorder-operands (Product' p left q right) = two (postorder left) (postorder right) (Product' p left q right)
 
--- the postorders of the expressions `waits` and then of `node` are the postorders of `waits` and then of the operands of `node`, followed by `node`
 postorder-last : (waits : List Expr) (node : Expr) → flat_map postorder (waits ++ node ∷ []) ≡ flat_map postorder (waits ++ operands node) ++ node ∷ []
-postorder-last waits node =
-    flat_map-append postorder waits (node ∷ [])
-    ∙ ap (λ (xs : List Expr). flat_map postorder waits ++ xs) (append-nil (postorder node) ∙ postorder-operands node)
-    ∙ sym (append_assoc (flat_map postorder waits) (flat_map postorder (operands node)) (node ∷ []))
-    ∙ ap (λ (xs : List Expr). xs ++ node ∷ []) (sym (flat_map-append postorder waits (operands node)))
+postorder-last waits node = search (rules, flat_map-append, append-nil, postorder-operands, append_assoc)
 
--- the invariant of the loop of `postorder`: the nodes of the waiting expressions in postorder, followed by the visited
+-- the invariant of the loop of `postorder`: the nodes of the expressions that the loop still has to visit, in postorder, followed by the visited
 -- nodes, the last one first, are the nodes of the tree in postorder
 module _ {A : Type 0} (now : A → Expr) where
   pub nodes-first : (waiting nodes : List A) (tree : A) → waiting ≡ tree ∷ [] → nodes ≡ []
       → flat_map postorder (map now waiting) ++ map now (reverse nodes) ≡ postorder (now tree)
-  nodes-first waiting nodes tree e f =
-      ap₂ (λ (xs ys : List A). flat_map postorder (map now xs) ++ map now (reverse ys)) e f
-      ∙ append-nil (postorder (now tree) ++ []) ∙ append-nil (postorder (now tree))
+  nodes-first waiting nodes tree e f = search rules
 
   waiting-next : (waiting waits more : List A) (node : A) → waiting ≡ waits ++ node ∷ [] → map now more ≡ map now waits ++ operands (now node)
       → flat_map postorder (map now waiting) ≡ flat_map postorder (map now more) ++ now node ∷ []
-  waiting-next waiting waits more node e f =
-      ap (λ (xs : List A). flat_map postorder (map now xs)) e ∙ ap (flat_map postorder) (map-append now waits (node ∷ []))
-      ∙ postorder-last (map now waits) (now node) ∙ ap (λ (xs : List Expr). flat_map postorder xs ++ now node ∷ []) (sym f)
+  waiting-next waiting waits more node e f = search (rules, map-append, postorder-last)
 
   pub nodes-next : (waiting waits more met nodes : List A) (node : A) (all : List Expr)
       → waiting ≡ waits ++ node ∷ [] → map now more ≡ map now waits ++ operands (now node) → nodes ≡ met ++ node ∷ []
@@ -90,9 +77,6 @@ All-postorder P on (Product' p left q right) h =
     both P left right (Product' p left q right) (All-postorder P on left (All-head P left (right ∷ []) s)) (All-postorder P on right (All-head P right [] (All-tail P left (right ∷ []) s))) h
 
 module _ {V : Type 0} (R : Expr → V → Type 0) where
-  -- the lemma `evaluates-part` for a node with the operands `left` and `right`, from the lemma for these operands: if `nodes` can be evaluated on the
-  -- stack `below` with any value of `node` on top, then the nodes of `left`, those of `right`, `node` and `nodes`, one after another, can be
-  -- evaluated on the stack `below`
   evaluates-two : (goal left right node : Expr) (nodes : List Expr) (below : List V) → operands node ≡ left ∷ right ∷ []
       → ((xs : List Expr) (at : List V) → ((v : V) → R left v → Evaluates R goal xs (at ++ v ∷ [])) → Evaluates R goal (postorder left ++ xs) at)
       → ((xs : List Expr) (at : List V) → ((v : V) → R right v → Evaluates R goal xs (at ++ v ∷ [])) → Evaluates R goal (postorder right ++ xs) at)
@@ -105,16 +89,12 @@ module _ {V : Type 0} (R : Expr → V → Type 0) where
       on_right (node ∷ nodes) (below ++ v ∷ []) (λ w l.
       (below, (v ∷ w ∷ [], append_assoc below (v ∷ []) (w ∷ []), subst (λ (es : List Expr). AreValues R es (v ∷ w ∷ [])) (sym is) (k, (l, tt))), h))))
 
-  -- if `nodes` can be evaluated on the stack `below` with any value of e on top (`Evaluates`), then the nodes of e in postorder, followed by `nodes`,
-  -- can be evaluated on the stack `below`
   pub evaluates-part : (goal e : Expr) (nodes : List Expr) (below : List V) → ((v : V) → R e v → Evaluates R goal nodes (below ++ v ∷ []))
       → Evaluates R goal (postorder e ++ nodes) below
   evaluates-part goal (Number num) nodes below h = (below, ([], sym (append-nil below), tt), h)
   evaluates-part goal (Fraction num den) nodes below h = (below, ([], sym (append-nil below), tt), h)
   evaluates-part goal (Atom basis label) nodes below h = (below, ([], sym (append-nil below), tt), h)
-  evaluates-part goal (Negation' p inner) nodes below h =
-      subst (λ (xs : List Expr). Evaluates R goal xs below) (sym (append_assoc (postorder inner) (Negation' p inner ∷ []) nodes))
-      (evaluates-part goal inner (Negation' p inner ∷ nodes) below (λ v k. (below, (v ∷ [], refl, (k, tt)), h)))
+  evaluates-part goal (Negation' p inner) nodes below h = search (rules, append_assoc, (evaluates-part goal inner (Negation' p inner ∷ nodes) below))
   evaluates-part goal (Sum' p left q right) nodes below h =
       evaluates-two goal left right (Sum' p left q right) nodes below refl (evaluates-part goal left) (evaluates-part goal right) h
   evaluates-part goal (Difference' p left q right) nodes below h =
@@ -122,13 +102,9 @@ module _ {V : Type 0} (R : Expr → V → Type 0) where
   evaluates-part goal (Product' p left q right) nodes below h =
       evaluates-two goal left right (Product' p left q right) nodes below refl (evaluates-part goal left) (evaluates-part goal right) h
 
-  -- evaluating the nodes of e in postorder, from an empty stack of values, leaves only a value of e (`Evaluates`)
   pub evaluates-all : (e : Expr) → Evaluates R e (postorder e) []
   evaluates-all e = subst (λ (xs : List Expr). Evaluates R e xs []) (append-nil (postorder e)) (evaluates-part e e [] [] (λ v h. (v ∷ [], refl, (h, tt))))
 
-  -- ---- removing the values of the operands of a node from the stack
-
-  -- a list of values of expressions (`AreValues`) has the length of the list of the expressions
   length-values : (exprs : List Expr) (values : List V) → AreValues R exprs values → length values ≡ length exprs
   length-values [] [] h = refl
   length-values [] (v ∷ values) h = elim h [ ]
@@ -143,20 +119,15 @@ module _ {V : Type 0} (R : Expr → V → Type 0) where
         sym (drop-append_seam xs us) ∙ ap₂ (λ (i : ℕ) (zs : List V). drop i zs) k e ∙ drop-append_seam ys vs,
       )
 
-  -- if `values` is both a and b followed by values of the expressions `exprs` (`EndsWith`), then a = b
   same-below : (exprs : List Expr) (a b values : List V) → EndsWith R exprs a values → EndsWith R exprs b values → a ≡ b
   same-below exprs a b values (us, e, h) (vs, f, k) =
       (same_ends a b us vs (length-values exprs us h ∙ sym (length-values exprs vs k)) (sym e ∙ f)).0
 
-  -- let `values` be `after` followed by `taken`: if `values` ends with values of `exprs` (`EndsWith`), and `taken` has the length of `exprs`, then
-  -- `taken` are values of `exprs`
   pub values-taken : (exprs : List Expr) (below values after taken : List V) → length taken ≡ length exprs → EndsWith R exprs below values → values ≡ after ++ taken
       → AreValues R exprs taken
   values-taken exprs below values after taken n (given, is, are) e =
       subst (AreValues R exprs) (same_ends below after given taken (length-values exprs given are ∙ sym n) (sym is ∙ e)).1 are
 
-  -- let the stack `values` be `after` with values of the operands of `node` on top, and v a value of `node`: if `node` and then `nodes` can be
-  -- evaluated on `values` (`Evaluates`), then `nodes` can be evaluated on the stack `after` with v on top
   pub evaluates-next : (goal node : Expr) (nodes : List Expr) (values after more : List V) (v : V) → Evaluates R goal (node ∷ nodes) values
       → EndsWith R (operands node) after values → R node v → more ≡ after ++ v ∷ [] → Evaluates R goal nodes more
   evaluates-next goal node nodes values after more v (below, ends, on) took h e =

@@ -29,8 +29,6 @@ use Rattle.basis_expand.proofs.SchurTables.{common-sum, sum_at-sum, common-multi
 use Rattle.linear_combinations.specs.Cleared.{IsCommonDenominator}
 use Rattle.sym_model.proofs.Integers.{neg_one-product}
 
--- ---- the list in s of a negation
-
 pub negation-list : (e : Tree) (list turned : Terms (List ℕ)) → IsFractionTable list → IsFractionTable turned → IsMultipleOf (pointwise nat_eq) list (whole (negsuc 0)) turned → StandsFor e list → StandsFor (negation e) turned
 negation-list e list turned is it products h n =
     let D = denominators list in
@@ -54,8 +52,6 @@ negation-nothing e [] none h =
     negation-list e [] [] empty empty (λ ν. sym (product-zero (whole (negsuc 0)) (InLowestTerms-whole (negsuc 0)))) h
 negation-nothing e (t ∷ list) none h = absurd (omega arith)
 
--- ---- the list in s of a sum
-
 joined : (m d e l r q : ℕ) (X Y f g : ℤ) → l * d ≡ m → r * e ≡ m → pos d *ℤ X ≡ pos q *ℤ f → pos e *ℤ Y ≡ pos q *ℤ g → pos m *ℤ (X +ℤ Y) ≡ pos q *ℤ (pos l *ℤ f +ℤ pos r *ℤ g)
 joined m d e l r q X Y f g a b h k =
     distributes_left (pos m) X Y ∙ ap₂ ◌+ℤ◌ (part m d l q X f a h) (part m e r q Y g b k) ∙ sym (distributes_left (pos q) (pos l *ℤ f) (pos r *ℤ g))
@@ -64,7 +60,6 @@ joined m d e l r q X Y f g a b h k =
     part m d l q X f a h =
         ap (λ (k : ℕ). pos k *ℤ X) (sym a) ∙ product_assoc (pos l) (pos d) X ∙ ap (λ z. pos l *ℤ z) h ∙ product_left_comm (pos l) (pos q) f
 
--- the product of the denominators of two tables is a common denominator of both
 both_common : (left right : Terms (List ℕ)) → IsFractionTable left → IsFractionTable right → IsCommonDenominator (denominators left * denominators right) left × IsCommonDenominator (denominators left * denominators right) right
 both_common left right is also =
     let a = common-denominators left is in
@@ -89,8 +84,6 @@ sum-list e f left right both he hf is also it sums h k n =
     ∙ ap (λ z. pos (denominators left * denominators right) *ℤ z)
     (sym (pair_plus (scale (pos (m / denominator e)) (cleared_value e n)) (scale (pos (m / denominator f)) (cleared_value f n)) φ
     ∙ ap₂ ◌+ℤ◌ (pair_scale (pos (m / denominator e)) (cleared_value e n) φ) (pair_scale (pos (m / denominator f)) (cleared_value f n) φ))))
-
--- ---- the list of a product of an expression and an atom
 
 pub right_factor : (e : Tree) (basis : Basis) (parts : List ℕ) (list : Terms (List ℕ))
     → ((n : ℕ) → IsExpansionOf schurs list n (times (basis_polynomial basis parts n) (cleared_value e n)) (denominator e)) → StandsFor (product e (atom basis parts)) list

@@ -39,15 +39,11 @@ times-more_parts family k rest parts list split n f q e =
     (Same_sym (times (times (polynomial_of family k n) (product_over (polynomial_of family) rest n)) f) (times (polynomial_of family k n) (times (product_over (polynomial_of family) rest n) f))
     (times_assoc (polynomial_of family k n) (product_over (polynomial_of family) rest n) f)) e)
 
--- ---- room for strips of k cells in one more label (`HaveRoomForStrips`)
-
 pub room_next : (k : ℕ) (terms : Terms (List ℕ)) (label : List ℕ) (c : Fraction) → HaveRoomForStrips k terms → size label + k ≤ 4096 → rows label + k ≤ 512 → HaveRoomForStrips k (terms ++ (label, c) ∷ [])
 room_next k [] label c h a b t (inl e) = subst (λ (l : List ℕ). (size l + k ≤ 4096) × (rows l + k ≤ 512)) (ap (λ (u : List ℕ × Fraction). u.0) (sym e)) (a, b)
 room_next k [] label c h a b t (inr m) = absurd m
 room_next k (u ∷ terms) label c h a b t (inl e) = h t (inl e)
 room_next k (u ∷ terms) label c h a b t (inr m) = room_next k terms label c (λ v n. h v (inr n)) a b t m
-
--- ---- the product of an expression and an atom in e, h or p
 
 pub factor_times : (family : Family) (e : Tree) (parts label : List ℕ) (start list : Terms (List ℕ)) → parts ≡ label
     → ((n : ℕ) (f : Poly) (q : ℕ) → In n f → IsExpansionOf schurs start n f q → IsExpansionOf schurs list n (times (product_over (polynomial_of family) parts n) f) q)

@@ -1,7 +1,7 @@
--- A list in Schur polynomials, times a common denominator, and its change into m.
---     common-next            a common denominator of one more term
---     within-whole           the sizes of the labels of the list times the denominator
---     expansion-in_monomials the answer in m expands the same polynomials
+-- A list in Schur polynomials is multiplied by a common denominator of its coefficients and then changed into a list in m.
+--     common-next            the least common multiple of a common denominator and the denominator of one more term is a common denominator of all
+--     within-whole           if the labels of a list have at most d cells, so have the labels of the list times the denominator
+--     expansion-in_monomials the resulting list in m expands the same polynomials
 use Rattle.std.proofs.Common.{◌≡◌, ◌⊎◌, ℕ, ◌/◌, ◌<◌, ◌≤◌, List, [], ◌∷◌, ◌++◌, sym, ◌∙◌, ap, subst, inl, inr, arith, ℤ, pos, ◌*ℤ◌}
 use Rattle.std.specs.Int.{◌∣◌}
 use Rattle.std.proofs.lemmas.Nat.Gcd.{dvd_trans}
@@ -27,8 +27,6 @@ use Rattle.basis_expand.proofs.SchurExpansions.{expansion-tells, through}
 use Rattle.linear_combinations.specs.Cleared.{IsCommonDenominator}
 use native.Mathlib.Nat.{dvd-mul_left}
 
--- ---- a common denominator of the terms visited so far, one term after another
-
 pub common-none : (done : Terms (List ℕ)) → done ≡ [] → IsCommonDenominator 1 done
 common-none done e = record { positive = omega arith; multiple = λ t m. absurd (subst (λ (l : Terms (List ℕ)). Among t l) e m) }
 
@@ -49,16 +47,12 @@ common-next q r done k c some e is = record {
     by t (inr (inl i)) = subst (λ (u : List ℕ × Fraction). u.1.1 ∣ lcm q c.1) (sym i) right
     by t (inr (inr n)) = absurd n
 
--- ---- the sizes of the labels of q times a list
-
 pub within-whole : (d q : ℕ) (list : Terms (List ℕ)) (terms : WholeTerms) → IsWholeTable terms → AreWithin d list → Same terms (over q list) → AreWithin d terms
 within-whole d q list terms is within same =
     labels-same (λ (label : List ℕ). size label ≤ d) terms (over q list) is same
     (λ t m.
     let u = Among_from_map (λ (v : List ℕ × Fraction). (v.0, v.1.0 *ℤ pos (q / v.1.1))) t list m in
     subst (λ (v : List ℕ × ℤ). size v.0 ≤ d) (sym u.2) (within u.0 u.1))
-
--- ---- the polynomials that the answer in m expands
 
 pub expansion-in_monomials : (list answer : Terms (List ℕ)) (W A : WholeTerms) (q : ℕ) → IsCommonDenominator q list → Same W (over q list)
     → IsList A (λ n. combined (λ label. schur label n) W) → IsFractionTable answer → Quotients q answer A

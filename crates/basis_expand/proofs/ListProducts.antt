@@ -1,5 +1,5 @@
 -- Products of two lists of terms in Schur polynomials, one pair of terms after another.
-use Rattle.std.proofs.Common.{◌≡◌, ℕ, ◌*◌, ◌<◌, List, [], ◌∷◌, ◌++◌, length, sym, ◌∙◌, ap, subst, arith, ℤ, pos, ◌+ℤ◌, ◌*ℤ◌}
+use Rattle.std.proofs.Common.{◌≡◌, ℕ, ◌*◌, ◌<◌, List, [], ◌∷◌, ◌++◌, length, sym, ◌∙◌, ap, subst, arith, ℤ, pos, ◌+ℤ◌, ◌*ℤ◌, rules}
 use Rattle.std.proofs.lemmas.List.{nil_from_length}
 use Rattle.std.specs.Prelude.{nat_eq}
 use Rattle.std.specs.Int.{◌∣◌}
@@ -29,8 +29,6 @@ use Rattle.linear_combinations.specs.Cleared.{IsCommonDenominator, GainsCleared}
 use lib.IntN.{+ℤ_idl, +ℤ_idr}
 use native.Mathlib.Nat.{mul-pos, dvd-mul_left}
 
--- ---- q times a list (`over q`) that has one more term, and the sums over its products with another list
-
 pair_next : (q : ℕ) (terms : Terms (List ℕ)) (k : List ℕ) (c : Fraction) (w : List ℕ → ℤ) → pair (over q (terms ++ (k, c) ∷ [])) w ≡ pair (over q terms) w +ℤ scaled q c *ℤ w k
 pair_next q terms k c w =
     ap (λ (l : WholeTerms). pair l w) (over-append q terms ((k, c) ∷ []))
@@ -39,18 +37,11 @@ pair_next q terms k c w =
 
 pub row_next : (left : List ℕ) (e : ℕ) (done : Terms (List ℕ)) (k : List ℕ) (v : Fraction) (z : ℤ) (n : ℕ) (φ : List ℕ → ℤ)
     → z *ℤ row_at left e done n φ +ℤ (z *ℤ scaled e v) *ℤ product_at left k n φ ≡ z *ℤ row_at left e (done ++ (k, v) ∷ []) n φ
-row_next left e done k v z n φ =
-    distribute z (row_at left e done n φ) (scaled e v) (product_at left k n φ)
-    ∙ ap (λ x. z *ℤ x) (sym (pair_next e done k v (λ label. product_at left label n φ)))
-  where
-    distribute : (z x s w : ℤ) → z *ℤ x +ℤ (z *ℤ s) *ℤ w ≡ z *ℤ (x +ℤ s *ℤ w)
-    distribute z x s w = simp ring
+row_next left e done k v z n φ = search (rules, pair_next, ring)
 
 pub products_next : (d : ℕ) (done : Terms (List ℕ)) (k : List ℕ) (v : Fraction) (e : ℕ) (right : Terms (List ℕ)) (n : ℕ) (φ : List ℕ → ℤ)
     → products_at d done e right n φ +ℤ scaled d v *ℤ row_at k e right n φ ≡ products_at d (done ++ (k, v) ∷ []) e right n φ
 products_next d done k v e right n φ = sym (pair_next d done k v (λ label. row_at label e right n φ))
-
--- ---- the product of two Schur polynomials, as a list with integer coefficients
 
 pub listed_product : (terms : WholeTerms) (n : ℕ) (f : Poly)
     → IsExpansionOf schurs (terms_of whole terms) n f 1
@@ -72,19 +63,14 @@ module _ (D E : ℕ) (left right : Terms (List ℕ)) (n : ℕ) (φ : List ℕ �
       (λ r. pair_exchange (schur r n) (schur l n) (λ β α. φ (join α β)) ∙ sym (pair_times (schur l n) (schur r n) φ))
 
   pub pair_products : pair (times (cleared (λ label. schur label n) D left) (cleared (λ label. schur label n) E right)) φ ≡ products_at D left E right n φ
-  pair_products =
-      pair_times (cleared (λ label. schur label n) D left) (cleared (λ label. schur label n) E right) φ
-      ∙ pair_cleared D left n (λ α. pair (cleared (λ label. schur label n) E right) (λ β. φ (join α β)))
-      ∙ pair_ext (over D left) (λ l. pair (schur l n) (λ α. pair (cleared (λ label. schur label n) E right) (λ β. φ (join α β)))) (λ l. row_at l E right n φ) row-times
+  pair_products = search (rules, pair_times, pair_cleared, pair_ext, row-times)
 
--- Σ c·φ(α) over the terms c·x^α of (a·f)·(b·g) is a·b times Σ c·φ(α) over the terms c·x^α of f·g
 both_scaled : (a b : ℤ) (f g : Poly) (φ : List ℕ → ℤ) → pair (times (scale a f) (scale b g)) φ ≡ a *ℤ (b *ℤ pair (times f g) φ)
 both_scaled a b f g φ =
     sym (pair_determined (scale a (times f (scale b g))) (times (scale a f) (scale b g)) φ (scale-times a f (scale b g)))
     ∙ pair_scale a (times f (scale b g)) φ
     ∙ ap (λ z. a *ℤ z) (pair_determined (times f (scale b g)) (scale b (times f g)) φ (times-scale b f g) ∙ pair_scale b (times f g) φ)
 
--- if a list is an expansion in Schur polynomials, the product of its denominators is a common denominator of it
 common_of_expansion : (terms : Terms (List ℕ)) (n : ℕ) (f : Poly) (q : ℕ) → IsExpansionOf schurs terms n f q → IsCommonDenominator (denominators terms) terms
 common_of_expansion terms n f q h = record { positive = h.positive; multiple = divides-denominators terms }
 
@@ -117,8 +103,6 @@ product-list left right both sums n f g p q h k =
     ∙ both_scaled (pos D) (pos E) f g φ
     ∙ sym (product_assoc (pos D) (pos E) (pair (times f g) φ)))
 
--- ---- the product of a fraction c and an integer v, times a multiple q of the denominator of c
-
 pub counted : (q : ℕ) (c p : Fraction) (v : ℤ) → InLowestTerms c → p ≡ fraction_product c (whole v) → 0 < q → c.1 ∣ q → (p.1 ∣ q) × (scaled q p ≡ scaled q c *ℤ v)
 counted q c p v lc e some cd =
     let one : 1 ∣ 1 = dvd-mul_left 1 1 in
@@ -128,16 +112,8 @@ counted q c p v lc e some cd =
       ap (scaled q) e ∙ ap (λ m. scaled m (fraction_product c (whole v))) (sym k) ∙ u.1 ∙ ap (λ z. scaled q c *ℤ z) (product-one v),
     )
 
--- ---- the Schur polynomial of the empty partition is 1
-
 pub nothing_left : (left right : List ℕ) → length left ≡ 0 → (n : ℕ) (φ : List ℕ → ℤ) → pair (schur right n) φ ≡ product_at left right n φ
-nothing_left left right h n φ =
-    sym (pair_determined (times (one n) (schur right n)) (schur right n) φ (one-times n (schur right n) (In-schur right n)))
-    ∙ ap (λ f. pair (times f (schur right n)) φ) (sym (schur-nothing n))
-    ∙ ap (λ (l : List ℕ). pair (times (schur l n) (schur right n)) φ) (sym (nil_from_length left h))
+nothing_left left right h n φ = search (rules, pair_determined, one-times, In-schur, schur-nothing, nil_from_length)
 
 pub nothing_right : (left right : List ℕ) → length right ≡ 0 → (n : ℕ) (φ : List ℕ → ℤ) → pair (schur left n) φ ≡ product_at left right n φ
-nothing_right left right h n φ =
-    sym (pair_determined (times (schur left n) (one n)) (schur left n) φ (times-one n (schur left n) (In-schur left n)))
-    ∙ ap (λ f. pair (times (schur left n) f) φ) (sym (schur-nothing n))
-    ∙ ap (λ (l : List ℕ). pair (times (schur left n) (schur l n)) φ) (sym (nil_from_length right h))
+nothing_right left right h n φ = search (rules, pair_determined, times-one, In-schur, schur-nothing, nil_from_length)

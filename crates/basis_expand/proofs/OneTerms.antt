@@ -58,7 +58,6 @@ expansion_one_term label c list lc is n =
         quotient (suc zero) m h e = refl
         quotient (suc (suc k)) m h e = absurd (omega arith)
 
--- the list with the one term s_label expands s_label
 pub expansion_schur : (label : List ℕ) (list : Terms (List ℕ)) → IsOneTerm label (whole (pos 1)) list → (n : ℕ) → IsExpansionOf schurs list n (schur label n) 1
 expansion_schur label list is n =
     expansion_respects list n (scale (pos 1) (schur label n)) (schur label n) 1
@@ -78,8 +77,6 @@ pub quotient-list : (num : ℤ) (den : ℕ) (list : Terms (List ℕ)) → pos 0 
 quotient-list num den list sign some term n =
     let p : num ≡ pos (nat_abs num) = omega (arith, ints) in
     subst (λ z. IsExpansionOf schurs list n (scale z (one n)) den) p (expansion_number num den list some term n)
-
--- ---- the list in s of a monomial symmetric polynomial
 
 one_lowest : lowest_terms (pos 1) 1 ≡ whole (pos 1)
 one_lowest = Stands-same _ _ (pos 1) (pos 1) 1 1 (Stands-lowest_terms (pos 1) 1 (omega arith)) (Stands-whole (pos 1)) refl

@@ -1,5 +1,5 @@
 -- The numerator, the denominator and the degree of a subexpression are at most those of the expression.
-use Rattle.std.proofs.Common.{◌≡◌, ◌<◌, ◌≤◌, ◌/◌, ℕ, [], ◌∷◌, ℤ, pos, negsuc, arith, true}
+use Rattle.std.proofs.Common.{◌≡◌, ◌<◌, ◌≤◌, ◌/◌, ℕ, [], ◌∷◌, ℤ, pos, negsuc, arith, true, rules}
 use Rattle.std.specs.List.{All}
 use Rattle.std.specs.Prelude.{IsTrue, nat_abs}
 use lib.Signed.{le_z, lt_z}
@@ -19,7 +19,6 @@ positive_size : (z : ℤ) → lt_z (pos 0) z ≡ true → 0 < nat_abs z
 positive_size (pos n) h = ltb-true 0 n h
 positive_size (negsuc n) h = omega arith
 
--- if the numbers and numerators of an expression are at least 0 and its denominators positive (`has_no_signs`), it satisfies `HasDenominators`
 pub HasDenominators-plain : (t : Expr) → IsTrue (has_no_signs t) → HasDenominators (tree_of t)
 HasDenominators-plain (Number num) h = tt
 HasDenominators-plain (Fraction num den) h = positive_size den (and_parts (le_z (pos 0) num) (lt_z (pos 0) den) h).1
@@ -32,8 +31,6 @@ HasDenominators-plain (Difference' p left q right) h =
 HasDenominators-plain (Product' p left q right) h =
     let s = and_parts (has_no_signs left) (has_no_signs right) h in (HasDenominators-plain left s.0, HasDenominators-plain right s.1)
 
--- an expression whose numbers and numerators are at least 0 and whose denominators are positive (`has_no_signs`), of degree at most `limit`,
--- satisfies `IsTaken`
 pub taken-plain : (limit : ℕ) (t : Expr) → IsTrue (has_no_signs t) → degree (tree_of t) ≤ limit → IsTaken limit (tree_of t)
 taken-plain limit t h k = record { plain = HasDenominators-plain t h; low = k }
 
@@ -46,15 +43,11 @@ taken-right limit e f h = let l = h.low in record { plain = h.plain.1; low = ome
 pub taken-sum : (limit : ℕ) (e f : Tree) → IsTaken limit (difference e f) → IsTaken limit (sum e (negation f))
 taken-sum limit e f h = record { plain = (h.plain.0, h.plain.1); low = h.low }
 
--- ---- the numerator, the denominator and the degree of a subexpression are at most those of the expression
-
 pub within-itself : (e : Tree) → IsNoHeavier e e
 within-itself e = record { num = omega arith; den = omega arith; deg = omega arith }
 
 within_trans : (e f g : Tree) → IsNoHeavier e f → IsNoHeavier f g → IsNoHeavier e g
-within_trans e f g h k =
-    let a = h.num in let b = h.den in let c = h.deg in let x = k.num in let y = k.den in let z = k.deg in
-    record { num = omega arith; den = omega arith; deg = omega arith }
+within_trans e f g h k = search rules
 
 within_left : (e f : Tree) → HasDenominators e → HasDenominators f → IsNoHeavier e (sum e f)
 within_left e f h k =
@@ -72,7 +65,6 @@ within_right e f h k =
     let d = times-more (denominator f) r (complement_right e f h k) in
     record { num = omega arith; den = omega arith; deg = omega arith }
 
--- the numerator, denominator and degree of e + f are at most those of e - f
 pub within-difference : (e f : Tree) → IsNoHeavier (sum e f) (difference e f)
 within-difference e f = record { num = omega arith; den = omega arith; deg = omega arith }
 
@@ -80,19 +72,12 @@ pub within-subtracted : (e f : Tree) → HasDenominators e → HasDenominators f
 within-subtracted e f h k = let w = within_right e f h k in record { num = w.num; den = w.den; deg = w.deg }
 
 within_left_factor : (e f : Tree) → HasDenominators e → HasDenominators f → IsNoHeavier e (product e f)
-within_left_factor e f h k = record {
-  num = times-more (numerator e) (numerator f) (numerator-positive f k);
-  den = times-more (denominator e) (denominator f) (denominator-positive f k);
-  deg = omega arith;
-}
+within_left_factor e f h k = search (rules, times-more, numerator-positive, denominator-positive)
 
 within_right_factor : (e f : Tree) → HasDenominators e → HasDenominators f → IsNoHeavier f (product e f)
-within_right_factor e f h k =
-    let n = times-more (numerator f) (numerator e) (numerator-positive e h) in
-    let d = times-more (denominator f) (denominator e) (denominator-positive e h) in
-    record { num = omega arith; den = omega arith; deg = omega arith }
+within_right_factor e f h k = search (rules, times-more, numerator-positive, denominator-positive)
 
--- ---- if the numbers of the expression `goal` have no minus signs, this holds of its subexpressions e, and their weights are at most that of `goal`
+-- ---- `IsPart goal e`: the numbers of e have no minus signs, and the numerator, denominator and degree of e are at most those of `goal`
 
 pub record IsPart (goal e : Expr) : Type 0 where
   pub plain : IsTrue (has_no_signs e)
@@ -108,25 +93,9 @@ pub parts-operands : (goal e : Expr) → IsPart goal e → All (IsPart goal) (op
 parts-operands goal (Number num) h = All-nil (IsPart goal)
 parts-operands goal (Fraction num den) h = All-nil (IsPart goal)
 parts-operands goal (Atom basis label) h = All-nil (IsPart goal)
-parts-operands goal (Negation' p inner) h =
-    let l = h.light in
-    All-cons (IsPart goal) inner [] (record { plain = h.plain; light = record { num = l.num; den = l.den; deg = l.deg } }) (All-nil (IsPart goal))
-parts-operands goal (Sum' p left q right) h =
-    let s = and_parts (has_no_signs left) (has_no_signs right) h.plain in
-    let d = HasDenominators-plain (Sum' p left q right) h.plain in
-    two_parts goal left right
-    (part_of goal (Sum' p left q right) left h s.0 (within_left (tree_of left) (tree_of right) d.0 d.1))
-    (part_of goal (Sum' p left q right) right h s.1 (within_right (tree_of left) (tree_of right) d.0 d.1))
+parts-operands goal (Negation' p inner) h = search rules
+parts-operands goal (Sum' p left q right) h = search (rules, and_parts, HasDenominators-plain, two_parts, part_of, within_left, within_right)
 parts-operands goal (Difference' p left q right) h =
-    let s = and_parts (has_no_signs left) (has_no_signs right) h.plain in
-    let d = HasDenominators-plain (Difference' p left q right) h.plain in
-    let w = within-difference (tree_of left) (tree_of right) in
-    two_parts goal left right
-    (part_of goal (Difference' p left q right) left h s.0 (within_trans (tree_of left) (sum (tree_of left) (tree_of right)) (difference (tree_of left) (tree_of right)) (within_left (tree_of left) (tree_of right) d.0 d.1) w))
-    (part_of goal (Difference' p left q right) right h s.1 (within_trans (tree_of right) (sum (tree_of left) (tree_of right)) (difference (tree_of left) (tree_of right)) (within_right (tree_of left) (tree_of right) d.0 d.1) w))
+    search (rules, and_parts, HasDenominators-plain, within-difference, two_parts, part_of, within_trans, within_left, within_right)
 parts-operands goal (Product' p left q right) h =
-    let s = and_parts (has_no_signs left) (has_no_signs right) h.plain in
-    let d = HasDenominators-plain (Product' p left q right) h.plain in
-    two_parts goal left right
-    (part_of goal (Product' p left q right) left h s.0 (within_left_factor (tree_of left) (tree_of right) d.0 d.1))
-    (part_of goal (Product' p left q right) right h s.1 (within_right_factor (tree_of left) (tree_of right) d.0 d.1))
+    search (rules, and_parts, HasDenominators-plain, two_parts, part_of, within_left_factor, within_right_factor)

@@ -1,9 +1,10 @@
--- An expansion in Schur polynomials, and the sums Σ c·φ(α) over the terms c·x^α of q times the expansion, for any common denominator q.
---     pair_cleared          the sum over q times a list, as a sum over the terms of the list
---     expansion-tells       the sum over the terms of an expansion in s
---     expansion-from        a list with this sum is an expansion
---     expansion_times       a list that expands h times the value of a list
-use Rattle.std.proofs.Common.{◌≡◌, ℕ, ◌/◌, ◌<◌, List, [], ◌∷◌, sym, ◌∙◌, ap, ap₂, refl, inl, inr, ℤ, pos, ◌+ℤ◌, ◌*ℤ◌}
+-- Expansions in Schur polynomials, described by sums: for a function φ of exponents, the sum of a polynomial is Σ c·φ(α) over its terms c·x^α. A list
+-- with the common denominator q is described by the sum of the polynomial of q times the list.
+--     pair_cleared          this sum is computed term by term
+--     expansion-tells       if a list expands f/d, then d times the sum of q times the list is q times the sum of f
+--     expansion-from        if this equation holds for each φ, then the list expands f/d
+--     expansion_times       if a list expands h times the value of a second list, it expands h·f for each f that the second list expands
+use Rattle.std.proofs.Common.{◌≡◌, ℕ, ◌/◌, ◌<◌, List, [], ◌∷◌, sym, ◌∙◌, ap, refl, inl, inr, ℤ, pos, ◌+ℤ◌, ◌*ℤ◌, rules}
 use Rattle.std.specs.Int.{◌∣◌}
 use Rattle.std.proofs.Math.Nat.{div-mul_cancel}
 use Rattle.sym_model.specs.Sum.{Among}
@@ -23,20 +24,12 @@ use lib.IntN.{*ℤ_comm, *ℤ-zero}
 
 pub pair_cleared : (q : ℕ) (terms : Terms (List ℕ)) (n : ℕ) (φ : List ℕ → ℤ) → pair (cleared (λ label. schur label n) q terms) φ ≡ sum_at q terms n φ
 pair_cleared q [] n φ = refl
-pair_cleared q (t ∷ terms) n φ =
-    pair_plus (scale (t.1.0 *ℤ pos (q / t.1.1)) (schur t.0 n)) (cleared (λ label. schur label n) q terms) φ
-    ∙ ap₂ ◌+ℤ◌ (pair_scale (t.1.0 *ℤ pos (q / t.1.1)) (schur t.0 n) φ) (pair_cleared q terms n φ)
+pair_cleared q (t ∷ terms) n φ = search (rules, pair_plus, pair_scale, (pair_cleared q terms n φ))
 
--- ---- the sums over the terms of Q and of R times a list, for two common denominators Q and R
+-- ---- the sums over Q times a list and over R times this list, for two common denominators Q and R
 
 turned : (num Q R den w q r X Y : ℤ) → Q *ℤ den ≡ q → R *ℤ den ≡ r → r *ℤ X ≡ q *ℤ Y → r *ℤ (num *ℤ Q *ℤ w +ℤ X) ≡ q *ℤ (num *ℤ R *ℤ w +ℤ Y)
-turned num Q R den w q r X Y e f h =
-    let a : r *ℤ (num *ℤ Q *ℤ w) ≡ q *ℤ (num *ℤ R *ℤ w) =
-    ap (λ x. x *ℤ (num *ℤ Q *ℤ w)) (sym f) ∙ exchanged R den num Q w ∙ ap (λ x. x *ℤ (num *ℤ R *ℤ w)) e in
-    distributes_left r (num *ℤ Q *ℤ w) X ∙ ap₂ ◌+ℤ◌ a h ∙ sym (distributes_left q (num *ℤ R *ℤ w) Y)
-  where
-    exchanged : (R den num Q w : ℤ) → (R *ℤ den) *ℤ (num *ℤ Q *ℤ w) ≡ (Q *ℤ den) *ℤ (num *ℤ R *ℤ w)
-    exchanged R den num Q w = simp ring
+turned num Q R den w q r X Y e f h = search (rules, distributes_left, ring)
 
 two_denominators : (q r : ℕ) (terms : Terms (List ℕ)) (n : ℕ) (φ : List ℕ → ℤ)
     → ((t : List ℕ × Fraction) → Among t terms → t.1.1 ∣ q) → ((t : List ℕ × Fraction) → Among t terms → t.1.1 ∣ r)
@@ -47,17 +40,12 @@ two_denominators q r (t ∷ terms) n φ h k =
     (ap pos (div-mul_cancel t.1.1 (h t (inl refl)))) (ap pos (div-mul_cancel t.1.1 (k t (inl refl))))
     (two_denominators q r terms n φ (λ u m. h u (inr m)) (λ u m. k u (inr m)))
 
--- if D > 0, D·X = q·Y and d·Y = D·f, then d·X = q·f
 pub through : (D q d : ℕ) (X Y f : ℤ) → 0 < D → pos D *ℤ X ≡ pos q *ℤ Y → pos d *ℤ Y ≡ pos D *ℤ f → pos d *ℤ X ≡ pos q *ℤ f
 through D q d X Y f some e h =
     product_cancel (pos d *ℤ X) (pos q *ℤ f) D some
     (*ℤ_comm (pos d *ℤ X) (pos D) ∙ product_left_comm (pos D) (pos d) X ∙ ap (λ z. pos d *ℤ z) e ∙ product_left_comm (pos d) (pos q) Y
     ∙ ap (λ z. pos q *ℤ z) h ∙ product_left_comm (pos q) (pos D) f ∙ *ℤ_comm (pos D) (pos q *ℤ f))
 
--- ---- expansions and the sums over their terms
-
--- let D be the product of the denominators of a list that expands f divided by d: then d times the sum over D times the list (`sum_at`) is D times Σ
--- c·φ(α) over the terms c·x^α of f
 expansion-at : (terms : Terms (List ℕ)) (n : ℕ) (f : Poly) (d : ℕ) → IsExpansionOf schurs terms n f d
     → (φ : List ℕ → ℤ) → pos d *ℤ sum_at (denominators terms) terms n φ ≡ pos (denominators terms) *ℤ pair f φ
 expansion-at terms n f d h φ =

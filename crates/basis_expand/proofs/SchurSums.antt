@@ -1,12 +1,12 @@
--- Lists of Schur polynomials in m, by Kostka numbers.
+-- Schur polynomials as lists of terms c·m_κ, whose coefficients are Kostka numbers K(λ,κ).
 --     coefficient-schur_sorted   the coefficient of a Schur polynomial at exponents in any order
 --     list-schurs                a list in m whose coefficients are sums of c·K(λ,κ) is the sum of the c·s_λ
-use Rattle.std.proofs.Common.{◌≡◌, ◌⊎◌, ℕ, cond, List, map, length, sym, ◌∙◌, ap, refl, inl, inr, ℤ, pos, ◌*ℤ◌}
+use Rattle.std.proofs.Common.{◌≡◌, ℕ, List, map, length, sym, ◌∙◌, ap, ◌*ℤ◌, rules}
 use Rattle.std.proofs.lemmas.Bool.{cases_eq}
-use Rattle.sym_model.specs.Sum.{total, Among}
+use Rattle.sym_model.specs.Sum.{Among}
 use Rattle.sym_model.specs.Partition.{IsPartition, size, sorted_parts}
 use Rattle.sym_model.specs.PartitionList.{partitions_of}
-use Rattle.sym_model.specs.Polynomial.{Term, same, coefficient, pair, scale, In}
+use Rattle.sym_model.specs.Polynomial.{Term, coefficient, pair, scale, In}
 use Rattle.sym_model.specs.Schur.{schur}
 use Rattle.sym_model.specs.WholeTerms.{WholeTerms, combined}
 use Rattle.sym_model.proofs.Exponents.{same_from, same_apart}
@@ -28,23 +28,7 @@ kostka_terms shape = map (λ (κ : List ℕ). (κ, kostka shape κ)) (partitions
 
 coefficient-kostka_terms : (shape κ : List ℕ) → IsPartition shape → IsPartition κ → coefficient (kostka_terms shape) κ ≡ kostka shape κ
 coefficient-kostka_terms shape κ p is =
-    total_map (λ (t : Term). cond (same t.0 κ) t.1 (pos 0)) (λ (ν : List ℕ). (ν, kostka shape ν)) (partitions_of (size shape))
-    ∙ by (cases_eq (size κ) (size shape))
-  where
-    at : List ℕ → ℤ
-    at ν = cond (same ν κ) (kostka shape ν) (pos 0)
-
-    by : (size κ ≡ size shape) ⊎ (size κ ≡ size shape → ⊥) → total at (partitions_of (size shape)) ≡ kostka shape κ
-    by (inl e) =
-        let d = size shape in
-        total_only at κ (partitions_of (size shape)) (Once-FallsLexicographically (partitions_of (size shape)) (FallsLexicographically-partitions_within (size shape) (size shape) (size shape)))
-        (Among-partitions_of (size shape) κ is e)
-        (λ ν m n. ap (λ b. cond b (kostka shape ν) (pos 0)) (same_apart ν κ n))
-        ∙ ap (λ b. cond b (kostka shape κ) (pos 0)) (same_from κ κ refl)
-    by (inr n) =
-        total_none at (partitions_of (size shape))
-        (λ ν m. ap (λ b. cond b (kostka shape ν) (pos 0)) (same_apart ν κ (λ e. n (ap size (sym e) ∙ (partitions_of-tells (size shape) ν m).1))))
-        ∙ sym (kostka-other_size shape κ p n)
+    search (rules, total_map, cases_eq, total_only, Once-FallsLexicographically, FallsLexicographically-partitions_within, Among-partitions_of, same_apart, same_from, total_none, partitions_of-tells, kostka-other_size)
 
 pub coefficient-schur_sorted : (shape α : List ℕ) (n : ℕ) → IsPartition shape → length α ≡ n → coefficient (schur shape n) α ≡ kostka shape (sorted_parts α)
 coefficient-schur_sorted shape α n p long =

@@ -1,9 +1,10 @@
--- Tables of terms in Schur polynomials, described by the coefficients that look-ups return.
---     cleared_at            a common denominator clears the coefficient that a look-up returns
---     sum_at-found          the look-ups determine the sum over the terms
---     ComeTo-one, -multiple the sums over one Schur polynomial, and over a multiple of terms
---     ComeTo-both           the sums over two lists of terms, one after the other
---     sum_at-sum, -multiple the sum of two tables, and a multiple of one
+-- Tables of terms in Schur polynomials (a table has each label at most once), described by the coefficients that look-ups return. For a function φ of
+-- exponents, the φ-sum of a list is Σ c·φ(α) over the terms c·x^α of its polynomial.
+--     cleared_at            a common denominator of a table is a multiple of the denominator of each coefficient that a look-up returns
+--     sum_at-found          the look-ups determine the φ-sum of a table
+--     ComeTo-one, -multiple the φ-sums of a list with one term s_label, and of a multiple of a list
+--     ComeTo-both           the φ-sum of a list xs ++ ys is that of xs plus that of ys
+--     sum_at-sum, -multiple the φ-sum of the sum of two tables, and of a multiple of a table
 use Rattle.std.proofs.Common.{◌≡◌, ℕ, ◌*◌, ◌<◌, Bool, true, false, cond, List, [], ◌∷◌, ◌++◌, sym, ◌∙◌, ap, ap₂, subst, refl, inl, inr, arith, ℤ, pos, ◌+ℤ◌, ◌*ℤ◌}
 use Rattle.std.specs.Prelude.{nat_eq, Some}
 use Rattle.std.specs.Int.{◌∣◌}
@@ -51,8 +52,6 @@ pub sum_at-found : (q : ℕ) (terms : Terms (List ℕ)) (W : WholeTerms) → IsF
     → (n : ℕ) (φ : List ℕ → ℤ) → sum_at q terms n φ ≡ pair W (λ label. pair (schur label n) φ)
 sum_at-found q terms W is h n φ = pair_determined (over q terms) W (λ label. pair (schur label n) φ) (λ ν. coefficient-over q terms is ν ∙ h ν)
 
--- ---- lists whose terms have given sums Σ c·φ(α) in every number of variables (`ComeTo`)
-
 -- if a(n, φ) is Σ c·φ(α) over the terms c·x^α of s_label in n variables, then the list with the one term s_label has the sums a (`ComeTo`)
 pub ComeTo-one : (label : List ℕ) (a : ℕ → (List ℕ → ℤ) → ℤ)
     → ((n : ℕ) (φ : List ℕ → ℤ) → pair (schur label n) φ ≡ a n φ)
@@ -70,8 +69,6 @@ pub ComeTo-both : (first second : WholeTerms) (a b s : ℕ → (List ℕ → ℤ
     → ComeTo first a → ComeTo second b → ComeTo (first ++ second) s
 ComeTo-both first second a b s e h k n φ =
     pair_plus first second (λ label. pair (schur label n) φ) ∙ ap₂ ◌+ℤ◌ (h n φ) (k n φ) ∙ e n φ
-
--- ---- the sums over the terms of a sum of tables, and of a multiple of a table
 
 module _ (q : ℕ) (first second both : Terms (List ℕ)) (is : IsFractionTable first) (also : IsFractionTable second) (it : IsFractionTable both)
     (c : IsCommonDenominator q first) (d : IsCommonDenominator q second) (sums : IsSumOf (pointwise nat_eq) first second both) where

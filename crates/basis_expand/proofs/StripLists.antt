@@ -3,10 +3,9 @@
 --     limits-rows          the shape with given rows is within the limits
 --     rows-lower           the rows are still those of a shape if one of them is made shorter, but not shorter than the next row
 --     strips-none, -next   the strips by the number of their cells in the first row
-use Rattle.std.proofs.Common.{◌≡◌, ℕ, zero, suc, ◌+◌, ◌-◌, ◌≤◌, ◌<◌, min, cond, List, [], ◌∷◌, ◌++◌, map, length, length-append, take, refl, sym, ◌∙◌, ap, ap₂, subst, inl, inr, arith, append_assoc, append-nil, flat_map}
+use Rattle.std.proofs.Common.{◌≡◌, ℕ, zero, suc, ◌+◌, ◌-◌, ◌≤◌, ◌<◌, min, cond, List, [], ◌∷◌, ◌++◌, map, length, length-append, take, refl, sym, ◌∙◌, ap, ap₂, subst, inl, inr, arith, append_assoc, append-nil, flat_map, rules}
 use Rattle.std.proofs.lemmas.Bool.{ne_eqb}
 use Rattle.std.proofs.lemmas.List.{map-append}
-use Rattle.std.proofs.Math.Seq.{take-append_seam}
 use Rattle.sym_model.specs.Sum.{Among}
 use Rattle.sym_model.specs.Partition.{Falls, IsPartition, part, in_front, without_last_zeros}
 use Rattle.sym_model.proofs.Parts.{Falls-front, size-append, length-without_last_zeros, without_last_zeros-positive}
@@ -15,9 +14,7 @@ use Rattle.partitions.specs.Limits.{IsWithinLimits}
 use Rattle.schur_laws.specs.Kostka.{below, strips_off}
 use Rattle.schur_laws.proofs.KostkaNumbers.{partition_tail, below-tells, strips_off-tell}
 use Rattle.basis_expand.specs.Strips.{AreRows}
-use Rattle.std.proofs.lemmas.Grind.{flat_map-append}
-
--- ---- no strip has more cells than the first row
+use Rattle.std.proofs.lemmas.Grind.{flat_map-append, common_steps}
 
 each-all_none : {A B : Type 0} (f : A → List B) (xs : List A) → ((x : A) → Among x xs → f x ≡ []) → flat_map f xs ≡ []
 each-all_none f [] h = refl
@@ -35,14 +32,8 @@ none-off (a ∷ parts) k p h =
     (λ i m. ap (map (in_front (a - i)))
     (none-off parts (k - i) t.0 (let few = below-tells (suc (min k (a - part parts 1))) i m in let first = t.1 in omega arith)))
 
--- ---- rows that are those of a shape within the limits (`AreRows`)
-
 pub limits-rows : (numbers : List ℕ) → AreRows numbers → IsWithinLimits (without_last_zeros numbers)
-limits-rows numbers r = record {
-  partition = IsPartition-without_last_zeros numbers r.falls;
-  few = omega (arith, length-without_last_zeros numbers, r.few);
-  small = omega (arith, size-without_last_zeros numbers, r.small);
-}
+limits-rows numbers r = search (rules, IsPartition-without_last_zeros, length-without_last_zeros, size-without_last_zeros)
 
 falls-lower : (above rest : List ℕ) (a b : ℕ) → Falls (above ++ (a ∷ rest)) → b ≤ a → Falls (b ∷ rest) → Falls (above ++ (b ∷ rest))
 falls-lower [] rest a b f h g = g
@@ -50,13 +41,7 @@ falls-lower (x ∷ []) rest a b f h g = (let l = f.0 in omega arith, g)
 falls-lower (x ∷ y ∷ above) rest a b f h g = (f.0, falls-lower (y ∷ above) rest a b f.1 h g)
 
 pub rows-lower : (above rest : List ℕ) (a b : ℕ) → IsPartition (a ∷ rest) → AreRows (above ++ (a ∷ rest)) → b ≤ a → part rest 1 ≤ b → AreRows ((above ++ b ∷ []) ++ rest)
-rows-lower above rest a b p r h l =
-    subst AreRows (sym (append_assoc above (b ∷ []) rest))
-    (record {
-      falls = falls-lower above rest a b r.falls h (Falls-front b rest l (partition_tail a rest p).0.falls);
-      few = omega (arith, r.few, length-append above (a ∷ rest), length-append above (b ∷ rest));
-      small = omega (arith, r.small, size-append above (a ∷ rest), size-append above (b ∷ rest));
-    })
+rows-lower above rest a b p r h l = search (rules, append_assoc, falls-lower, Falls-front, partition_tail, length-append, size-append)
 
 -- ---- the list of the shapes, by the number of cells that are removed from the first row
 
@@ -78,54 +63,32 @@ under-row above b [] = refl
 under-row above b (rest ∷ shapes) =
     ap₂ ◌∷◌ (ap without_last_zeros (append_assoc above (b ∷ []) rest) ∙ row_between above b rest) (under-row above b shapes)
 
--- let `start` be k minus the length of the second row, or 0 if this is negative: no strip of k cells has fewer than `start` cells in the first row,
--- so no shape is listed before that number
+-- no strip of k cells has fewer than `start` cells in the first row, where `start` is k minus the length of the second row, or 0 if this is
+-- negative. So no shape is listed for the numbers below `start`
 pub strips-none : (k row next start : ℕ) (rest above : List ℕ) (shapes : List (List ℕ)) → next ≡ part rest 1 → start ≡ k - next → IsPartition rest
     → shapes ≡ shapes ++ under above (flat_map (with_cells k row rest) (below start))
-strips-none k row next start rest above shapes e s p =
-    sym (append-nil shapes)
-    ∙ ap (λ l. shapes ++ under above l)
-    (sym (each-all_none (with_cells k row rest) (below start)
-    (λ i m. ap (map (in_front (row - i))) (none-off rest (k - i) p (let few = below-tells start i m in omega arith)))))
+strips-none k row next start rest above shapes e s p = search (rules, append-nil, each-all_none, none-off, below-tells)
 
 -- if the shapes with fewer than i cells removed from the first row are listed, and then those with i cells removed are appended, the shapes with
 -- fewer than i + 1 cells removed are listed
 pub strips-next : (k row i : ℕ) (rest above longer : List ℕ) (given old new : List (List ℕ)) → longer ≡ above ++ (row - i) ∷ []
     → old ≡ given ++ under above (flat_map (with_cells k row rest) (below i)) → new ≡ old ++ under longer (strips_off (k - i) rest)
     → new ≡ given ++ under above (flat_map (with_cells k row rest) (below (i + 1)))
-strips-next k row i rest above longer given old new l h e =
-    let more : i + 1 ≡ suc i = omega arith in
-    let before : List (List ℕ) = flat_map (with_cells k row rest) (below i) in
-    e
-    ∙ ap (λ xs. xs ++ under longer (strips_off (k - i) rest)) h
-    ∙ ap (λ xs. (given ++ under above before) ++ xs) (ap (λ rows. under rows (strips_off (k - i) rest)) l ∙ under-row above (row - i) (strips_off (k - i) rest))
-    ∙ append_assoc given (under above before) (under above (with_cells k row rest i))
-    ∙ ap (λ xs. given ++ xs)
-    (sym (map-append (λ (r : List ℕ). without_last_zeros (above ++ r)) before (with_cells k row rest i))
-    ∙ ap (under above) (ap (λ xs. before ++ xs) (sym (append-nil (with_cells k row rest i)))
-    ∙ sym (ap (λ n. flat_map (with_cells k row rest) (below n)) more ∙ flat_map-append (with_cells k row rest) (below i) (i ∷ []))))
+strips-next k row i rest above longer given old new l h e = search (rules, under-row, append_assoc, map-append, append-nil, flat_map-append)
 
 -- if i is one more than the greatest number of cells that can be removed from the first row, and the shapes with fewer than i cells removed from it
 -- are listed, then all shapes are listed
 pub strips-all : (k row i : ℕ) (rest parts above : List ℕ) (given all : List (List ℕ)) → row ∷ rest ≡ parts → i ≡ suc (min k (row - part rest 1))
     → all ≡ given ++ under above (flat_map (with_cells k row rest) (below i)) → all ≡ given ++ under above (strips_off k parts)
-strips-all k row i rest parts above given all split last e =
-    e
-    ∙ ap (λ n. given ++ under above (flat_map (with_cells k row rest) (below n))) last
-    ∙ ap (λ l. given ++ under above (strips_off k l)) split
+strips-all k row i rest parts above given all split last e = search rules
 
--- if a row was appended to `above`, and the last row is then removed, the rows are `above` again
 pub row_off : (above longer left rows : List ℕ) (b n : ℕ) → longer ≡ above ++ b ∷ [] → left ≡ longer → n ≡ length left → rows ≡ take (n - 1) left → rows ≡ above
-row_off above longer left rows b n l s many r =
-    let long : n - 1 ≡ length above = omega (arith, many, ap length (s ∙ l), length-append above (b ∷ [])) in
-    r ∙ ap (λ (xs : List ℕ). take (n - 1) xs) (s ∙ l) ∙ ap (λ k. take k (above ++ b ∷ [])) long ∙ take-append_seam above (b ∷ [])
+row_off above longer left rows b n l s many r = grind (arith, common_steps)
 
--- if `rows` is empty, and `above ++ rows` are the rows of a shape within the limits (`AreRows`), so are the rows `above`
 pub rows-end : (above rows numbers : List ℕ) → length rows < 1 → numbers ≡ above → AreRows (above ++ rows) → AreRows numbers
 rows-end above [] numbers h e r = subst AreRows (append-nil above ∙ sym e) r
 rows-end above (a ∷ rows) numbers h e r = absurd (omega arith)
 
--- if `above` is empty, the shapes listed are those that remain after strips of k cells are removed (`strips_off`)
 pub under_none : (k : ℕ) (parts : List ℕ) (all : List (List ℕ)) → IsPartition parts → all ≡ [] ++ under [] (strips_off k parts) → all ≡ strips_off k parts
 under_none k parts all p e = e ∙ same (strips_off k parts) (λ rest m. (strips_off-tell k parts rest p m).partition)
   where

@@ -1,11 +1,11 @@
 -- Tables of the shapes that remain after horizontal strips are removed, and bounds for the sums of their coefficients times Kostka numbers.
-use Rattle.std.proofs.Common.{◌≡◌, ℕ, ◌+◌, ◌^◌, ◌≤◌, Bool, true, false, cond, List, [], ◌∷◌, ◌++◌, replicate, sym, ◌∙◌, ap, ap₂, subst, refl, inl, inr, arith, append_assoc, ℤ, pos, ◌+ℤ◌, ◌*ℤ◌}
+use Rattle.std.proofs.Common.{◌≡◌, ℕ, ◌+◌, ◌^◌, ◌≤◌, Bool, true, false, cond, List, [], ◌∷◌, ◌++◌, replicate, sym, ◌∙◌, ap, subst, refl, inl, inr, arith, append_assoc, ℤ, pos, ◌+ℤ◌, ◌*ℤ◌, rules}
 use Rattle.std.specs.Prelude.{◌≤ℤ◌, nat_abs}
 use Rattle.std.proofs.lemmas.Int.{ints}
 use Rattle.std.proofs.lemmas.List.{map-append}
 use Rattle.sym_model.specs.Sum.{total}
 use Rattle.sym_model.specs.Partition.{IsPartition, size}
-use Rattle.sym_model.specs.Polynomial.{Term, pair, Same}
+use Rattle.sym_model.specs.Polynomial.{pair, Same}
 use Rattle.sym_model.specs.Expansion.{Basis}
 use Rattle.sym_model.specs.Weight.{growth}
 use Rattle.sym_model.specs.WholeTerms.{WholeTerms}
@@ -33,17 +33,13 @@ ways-alone shape terms e rest =
     pair_determined terms ((shape, pos 1) ∷ []) (λ left. kostka left rest) e
     ∙ +ℤ_idr (pos 1 *ℤ kostka shape rest) ∙ one-product (kostka shape rest)
 
--- c times the list `strips k shape` is the list of the shapes `strips_off k shape`, each with the coefficient c
 pub scaled-strips : (c : ℤ) (k : ℕ) (shape : List ℕ) → scaled c (strips k shape) ≡ each_with c (strips_off k shape)
 scaled-strips c k shape = scaled_each c (pos 1) (strips_off k shape) ∙ ap (λ z. each_with z (strips_off k shape)) (product-one c)
 
 -- the sum of c·φ over the shapes that remain of the terms after one strip of k cells is the sum, over the terms (shape, c), of c times the sum of φ
 -- over the shapes that remain of `shape`
 pub pair-strip_terms : (k : ℕ) (terms : WholeTerms) (φ : List ℕ → ℤ) → pair (strip_terms k terms) φ ≡ pair terms (λ shape. total φ (strips_off k shape))
-pair-strip_terms k terms φ =
-    replaced_over (strips k) φ terms
-    ∙ total_ext (λ (t : Term). t.1 *ℤ pair (strips k t.0) φ) (λ (t : Term). t.1 *ℤ total φ (strips_off k t.0))
-    (λ t. ap (λ z. t.1 *ℤ z) (each_over (pos 1) φ (strips_off k t.0) ∙ one-product (total φ (strips_off k t.0)))) terms
+pair-strip_terms k terms φ = search (rules, replaced_over, total_ext, each_over, one-product)
 
 absolute-each : (c : ℤ) (shapes : List (List ℕ)) → absolute (each_with c shapes) ≡ each_with (pos (nat_abs c)) shapes
 absolute-each c [] = refl
@@ -51,14 +47,8 @@ absolute-each c (shape ∷ shapes) = ap (λ (W : WholeTerms). (shape, pos (nat_a
 
 absolute-strips : (k : ℕ) (W : WholeTerms) → absolute (strip_terms k W) ≡ strip_terms k (absolute W)
 absolute-strips k [] = refl
-absolute-strips k (t ∷ W) =
-    map-append (λ (u : Term). (u.0, pos (nat_abs u.1))) (scaled t.1 (strips k t.0)) (strip_terms k W)
-    ∙ ap₂ (λ (U V : WholeTerms). U ++ V)
-    (ap absolute (scaled-strips t.1 k t.0) ∙ absolute-each t.1 (strips_off k t.0) ∙ sym (scaled-strips (pos (nat_abs t.1)) k t.0))
-    (absolute-strips k W)
+absolute-strips k (t ∷ W) = search (rules, map-append, scaled-strips, absolute-each, (absolute-strips k W))
 
--- the sum of |c|·K(λ, rest) over the shapes λ that remain of the terms after a strip of k cells is the sum of |c|·K(λ, k ∷ rest) over the terms, with
--- K the Kostka number
 ways-stripped : (k : ℕ) (terms : WholeTerms) (rest : List ℕ)
     → pair (absolute (strip_terms k terms)) (λ left. kostka left rest) ≡ pair (absolute terms) (λ shape. kostka shape (k ∷ rest))
 ways-stripped k terms rest =
@@ -74,10 +64,6 @@ leads-next start content k old new h is e rest =
     (table-within new (strip_terms k old) (λ left. kostka left rest) is e (kostka-not_negative rest))) (subst (λ (l : List ℕ). pair (absolute old) (λ shape. kostka shape (k ∷ rest)) ≤ℤ pair (absolute start) (λ shape. kostka shape l))
     (sym (append_assoc content (k ∷ []) rest)) (h (k ∷ rest)))
 
--- ---- bounds for the coefficients, and for the numbers of ways to remove strips
-
--- the absolute values of the coefficients at the partition x add up to at most the sum, over the terms (λ, c) of W, of |c| times the number of ways
--- to remove λ cell by cell in |x| steps
 mass-ways : (W : WholeTerms) (x : List ℕ) → HaveLabels IsPartition W
     → pos (mass_at equal x W) ≤ℤ pair (absolute W) (λ shape. kostka shape (replicate (size x) 1))
 mass-ways [] x h = omega (arith, ints)
@@ -118,7 +104,7 @@ large-lead start content k terms partitions h (x, l) =
     past a b c h k l = omega (arith, ints)
 
 -- if a table has only the term 1 at `shape`, and the number of ways to remove this shape by the strips of some content is 2^127 or more
--- (`HasManyWays`), the growth into m at the size of `shape` is 2^127 or more
+-- (`HasManyWays`), then d^d, the growth into m at the size d of `shape`, is 2^127 or more
 pub many-alone : (shape : List ℕ) (terms : WholeTerms) → IsPartition shape → IsWholeTable terms → Same terms ((shape, pos 1) ∷ [])
     → HasManyWays terms → 2 ^ 127 ≤ growth Basis.monomials (size shape)
 many-alone shape terms p is e many =

@@ -1,15 +1,14 @@
--- The weight of an expression for the target m and for the target s.
+-- The weight of an expression for the target bases m and s.
 use Rattle.std.proofs.Common.{◌*◌, ◌^◌, ◌≤◌, ℕ, zero, suc, subst, arith}
 use Rattle.std.specs.Prelude.{◌≡◌}
 use Rattle.sym_model.specs.Expansion.{monomials, schurs}
 use Rattle.sym_model.specs.Expression.{Tree, degree, denominator}
 use Rattle.sym_model.specs.Weight.{growth, numerator, weight}
 
--- the growth into m and the growth into s are equal at each degree
 same_growth : (d : ℕ) → growth monomials d ≡ growth schurs d
 same_growth zero = omega arith
 same_growth (suc d) = omega arith
 
--- if the weight of e for the target m is at least 2^127, so is the weight of e for the target s
+-- if the weight of e for the target basis m is at least 2^127, so is the weight of e for the target basis s
 pub heavy_for_s : (e : Tree) → 2 ^ 127 ≤ weight monomials e → 2 ^ 127 ≤ weight schurs e
 heavy_for_s e h = subst (λ g. 2 ^ 127 ≤ numerator e * denominator e * g) (same_growth (degree e)) h

@@ -1,5 +1,5 @@
--- Laws of the values in m: each value that represents e + (-f) represents e - f, and the weight increases weakly with the numerator, the denominator
--- and the degree.
+-- Laws of the values of expressions in the monomial basis m: each value that represents e + (-f) represents e - f, and the weight increases weakly
+-- with the numerator, the denominator and the degree.
 use Rattle.sym_model.specs.Expansion.{Basis}
 use Rattle.sym_model.specs.Expression.{Tree, negation, sum, difference, cleared_value}
 use Rattle.sym_model.proofs.Polynomials.{Same_trans}

@@ -1,4 +1,5 @@
--- The values that are computed for expressions if the target is s: a value is an atom, or a list of terms in Schur polynomials.
+-- The values of expressions that are expanded in Schur polynomials: a value is an atom (a basis element such as e[2,1]), or a list of terms in Schur
+-- polynomials.
 use Rattle.std.specs.Prelude.{◌≡◌}
 use Rattle.sym_model.specs.Expression.{Tree, atom}
 use Rattle.expression_reading.specs.Trees.{basis_of}

@@ -1,4 +1,4 @@
--- The nodes of an expression in postorder, and their evaluation on a stack of values.
+-- The nodes of an expression, which are its subexpressions, in postorder, and their evaluation on a stack of values.
 use Rattle.std.specs.Prelude.{◌≡◌, List, [], ◌∷◌, ◌++◌}
 use Rattle.expression_reading.specs.declared.expr.Expr.{Expr, Number, Fraction, Atom, Negation'}
 use Rattle.expression_reading.specs.declared.expr.Expr.{Sum', Difference', Product'}

@@ -1,5 +1,5 @@
--- Lists of terms in Schur polynomials: the expressions whose expansions they are, and the sums Σ c·φ(α) over the terms c·x^α of a list or of a
--- product of two lists.
+-- Lists of terms in Schur polynomials: whether a list is the expansion of an expression; and, for a function φ of exponents, the sum Σ c·φ(α) over
+-- the terms c·x^α of the polynomial of a list, or of the product of the polynomials of two lists.
 use Rattle.std.specs.Prelude.{◌≡◌, ℕ, nat_eq, ℤ, List, []}
 use Rattle.std.specs.Cmp.Lexicographic.{pointwise}
 use Rattle.sym_model.specs.Polynomial.{pair, times}

@@ -30,8 +30,8 @@ difference-value e f n =
     (Same_refl (scale (pos q) (cleared_value e n)))
     (negated_multiple (pos r) (cleared_value f n))
 
--- if the growth into a target increases weakly with the degree, and the numerator, the denominator and the degree of e are at most those of f, then
--- the weight of e is at most that of f
+-- if `growth target d` increases weakly with the degree d, and the numerator, the denominator and the degree of e are at most those of f, then the
+-- weight of e is at most that of f
 pub weight-more : (target : Basis) → ((d e : ℕ) → d ≤ e → growth target d ≤ growth target e) → (e f : Tree) → IsNoHeavier e f → weight target e ≤ weight target f
 weight-more target mono e f h =
     mul-le (numerator e * denominator e) (growth target (degree e)) (numerator f * denominator f) (growth target (degree f))

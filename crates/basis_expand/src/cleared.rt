@@ -1,5 +1,6 @@
-//! Lists of terms in m with integer coefficients. Each list is the value of an expression times the
-//! denominator of the expression, so that no fractions occur in the computation.
+//! Lists of terms in the monomial basis m with integer coefficients. Each list is the value of an
+//! expression times the denominator of the expression, so that no fractions occur in the
+//! computation.
 ghost use Rattle.std.specs.Prelude.{◌<◌, ◌^◌};
 ghost use Rattle.std.proofs.Props.{props};
 ghost use Rattle.sparse_polys.specs.Tables.{IsWholeTable};

@@ -1,5 +1,5 @@
 //! The evaluation of an expression in a target, the basis of the result: its value, for example a
-//! list of terms, is computed node by node.
+//! list of terms, is computed node by node. The nodes of an expression are its subexpressions.
 ghost use Rattle.std.specs.Prelude.{◌≤◌, IsTrue, List};
 ghost use Rattle.sym_model.specs.Expression.{Tree, degree, sum, difference, negation};
 ghost use Rattle.expression_reading.specs.declared.expr.Expr.{Expr};
@@ -68,9 +68,9 @@ fn value_of<T: Target>(
     }
 }
 
-/// The value of the expression `tree` in the target. Its numbers and numerators must be at least 0,
-/// its denominators positive, and its degree at most the limit of the target. A tree may be deep:
-/// its nodes are evaluated one after another, on a stack of values.
+/// The value of the expression `tree` in the target basis. Its numbers and numerators must be at
+/// least 0, its denominators positive, and its degree at most the limit for this basis. A tree may
+/// be deep: its nodes are evaluated one after another, on a stack of values.
 pub fn evaluate<T: Target>(alloc: Global, target: &T, tree: &Expr) -> Result<T::Value, SumFault>
     requires plain { IsTrue (has_no_signs tree.now) }
     requires low { degree (tree_of tree.now) ≤ T.limit }

@@ -1,4 +1,4 @@
-//! The expansion in m of an expression.
+//! The expansion of an expression in the monomial basis m.
 ghost use Rattle.std.specs.Prelude.{ℕ, ◌^◌, ◌≤◌, IfOk, IsErrOf};
 ghost use Rattle.sym_model.specs.Expansion.{monomials, IsExpansionOf};
 ghost use Rattle.sym_model.specs.Expression.{cleared_value, degree, denominator};
@@ -18,11 +18,12 @@ use partitions::Partition;
 use sparse_polys::divided;
 use std::alloc::Global;
 
-/// The expansion of a formula in m, in every number of variables. The numbers N and D of
+/// The expansion of an expression in m, in every number of variables. The numbers N and D of
 /// `Formula::weight` bound its coefficients: D is a multiple of all denominators, and |c|·D·Π λ_i!
 /// ≤ N·|λ|! for each term c·m_λ.
 ///
-/// Returns `Large` only if N·D·d^d is 2^127 or more, with d the degree of the formula (0^0 is 1).
+/// Returns `Large` only if N·D·d^d is 2^127 or more, with d the degree of the expression (0^0 is
+/// 1).
 pub fn to_monomial(alloc: Global, formula: &Formula) -> Result<Lin<Partition, Frac>, SumFault>
     ensures value { let e = tree_of formula.now.tree in
         IfOk result (λ list. (n : ℕ)

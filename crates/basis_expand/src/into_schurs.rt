@@ -15,10 +15,10 @@ use linear_combinations::Lin;
 use partitions::Partition;
 use std::alloc::Global;
 
-/// The expansion of a formula in Schur polynomials, in every number of variables.
+/// The expansion of an expression in Schur polynomials, in every number of variables.
 ///
 /// Returns `Large` only if N·D·d^d is 2^127 or more, with N and D the two numbers of
-/// `Formula::weight`, and d the degree of the formula (0^0 is 1).
+/// `Formula::weight`, and d the degree of the expression (0^0 is 1).
 pub fn to_schur(alloc: Global, formula: &Formula) -> Result<Lin<Partition, Frac>, SumFault>
     ensures value { let e = tree_of formula.now.tree in
         IfOk result (λ list. (n : ℕ)
@@ -33,8 +33,8 @@ pub fn to_schur(alloc: Global, formula: &Formula) -> Result<Lin<Partition, Frac>
     }
 }
 
-/// The expansion of a formula in Schur polynomials, computed from the expansion of the formula in
-/// m.
+/// The expansion of an expression in Schur polynomials, computed from the expansion of the
+/// expression in m.
 fn through_monomials(alloc: Global, formula: &Formula) -> Result<Lin<Partition, Frac>, SumFault>
     ensures value { let e = tree_of formula.now.tree in
         IfOk result (λ list. (n : ℕ)

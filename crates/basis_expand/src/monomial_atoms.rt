@@ -1,4 +1,4 @@
-//! The basis polynomials m_λ, e_λ, h_λ, p_λ and s_λ as lists of terms in m.
+//! The basis polynomials m_λ, e_λ, h_λ, p_λ and s_λ as lists of terms in the monomial basis m.
 ghost use Rattle.std.specs.Prelude.{◌≡◌, ℕ, ◌+◌, ◌<◌, ◌≤◌, ◌^◌, List, ◌∷◌, IfOk, IsErrOf};
 ghost use Rattle.sym_model.specs.Bases.{product_over};
 ghost use Rattle.sym_model.specs.Expansion.{basis_polynomial, monomials};

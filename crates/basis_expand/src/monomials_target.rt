@@ -1,5 +1,6 @@
-//! The target m: the values of numbers, atoms, negations, sums and products, each a list in m with
-//! integer coefficients and a denominator.
+//! The operations by which an expression is expanded in the monomial basis m: the values of
+//! numbers, atoms (basis elements such as s[2,1]), negations, sums and products. Each value is a
+//! list of terms c·m_λ with integer coefficients, and a denominator.
 ghost use Rattle.std.specs.Prelude.{ℕ, ◌^◌, ◌≤◌, IsErrOf};
 ghost use Rattle.sym_model.specs.Expression.{lcm, sum};
 ghost use Rattle.basis_expand.specs.Clearing.{ClearsTo, IsHeavyInMonomials};
@@ -15,7 +16,7 @@ use partitions::Partition;
 use sparse_polys::{single, sum_of, times_whole_in_m};
 use std::alloc::Global;
 
-/// The target m, whose values are of the type `Cleared`.
+/// The target basis m; the value of an expression is of the type `Cleared`.
 #[derive(Clone, Copy)]
 pub(crate) struct Monomials;
 
@@ -44,8 +45,8 @@ impl Target for Monomials {
     }
 
     /// The value of the sum of two expressions with the values `left` and `right`; its denominator
-    /// is the least common multiple of their denominators. If this is 2^127 or more, `Large` is
-    /// returned before any memory is allocated.
+    /// is the least common multiple of their denominators. If this multiple is 2^127 or more,
+    /// `Large` is returned before any memory is allocated.
     fn added(&self, _: Global, left: Cleared, right: Cleared) -> Result<Cleared, SumFault>
         ensures made { IsMadeOf sum 20 ClearsTo IsHeavyInMonomials left right result }
         ensures past { 2 ^ 127 ≤ lcm left.den right.den → IsErrOf result SumFault.Large }

@@ -1,5 +1,5 @@
-//! The nodes of an expression in the order in which they are evaluated, so that a deep tree needs
-//! no deep recursion.
+//! The nodes of an expression, which are its subexpressions, in the order in which they are
+//! evaluated, so that a deep tree needs no deep recursion.
 ghost use Rattle.std.specs.Prelude.{◌≡◌, ◌<◌, ◌++◌, [], ◌∷◌, length, map, IfOk, OnOk};
 ghost use Rattle.basis_expand.specs.Postorder.{operands, postorder};
 
@@ -25,7 +25,7 @@ pub fn postorder(alloc: Global, tree: &Expr) -> Result<Vec<&Expr>, NoMemory>
     Ok(nodes)
 }
 
-/// Appends the operands of `node` to `waiting`.
+/// Appends the operands of `node` to `waiting`, the list of the nodes still to be visited.
 fn push_operands<'a>(waiting: &mut Vec<&'a Expr>, node: &'a Expr) -> Result<(), NoMemory>
     ensures { OnOk result (map (λ e. e.now) waiting.new.items
         ≡ map (λ e. e.now) waiting.old.items ++ operands node.now) }

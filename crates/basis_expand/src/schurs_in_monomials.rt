@@ -1,7 +1,7 @@
-//! Schur polynomials as lists of terms in m. The coefficient of a partition κ in s_λ is the number
-//! of ways to remove all cells of λ by horizontal strips, one after another, that have the parts of
-//! κ as their numbers of cells. All partitions κ are found part by part, in one search for all
-//! shapes λ of a list.
+//! Schur polynomials as lists of terms in the monomial basis m. The coefficient of a partition κ in
+//! s_λ is the number of ways to remove all cells of λ by horizontal strips, one after another, that
+//! have the parts of κ as their numbers of cells. All partitions κ are found part by part, for all
+//! shapes λ of a list at once.
 ghost use Rattle.std.specs.Prelude.{◌≡◌, ℕ, ◌≤◌, ◌^◌, [], ◌∷◌, ◌++◌, List, IfOk, OnOk, IsErrOf};
 ghost use Rattle.sym_model.specs.Expansion.{monomials};
 ghost use Rattle.sym_model.specs.Partition.{size};

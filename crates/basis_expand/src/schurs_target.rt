@@ -1,5 +1,6 @@
-//! The target s: the values of numbers, atoms, negations, sums and products, each an atom or a list
-//! of terms in Schur polynomials.
+//! The operations by which an expression is expanded in Schur polynomials: the values of numbers,
+//! atoms (basis elements such as e[2,1]), negations, sums and products. Each value is an atom, or a
+//! list of terms in Schur polynomials.
 ghost use Rattle.std.specs.Prelude.{ℕ, ◌≤◌, nat_eq, IsTrue, IfOk};
 ghost use Rattle.std.specs.Cmp.Lexicographic.{pointwise};
 ghost use Rattle.sym_model.specs.Expression.{Tree, degree, product};
@@ -23,8 +24,8 @@ use linear_combinations::Lin;
 use partitions::Partition;
 use std::alloc::Global;
 
-/// The target s, whose values are of the type `Operand`. Its operations return `Large` if an
-/// intermediate number is too large.
+/// The target basis s; the value of an expression is of the type `Operand`. The operations return
+/// `Large` if an intermediate number is too large.
 #[derive(Clone, Copy)]
 pub(crate) struct Schurs;
 

@@ -90,7 +90,8 @@ pub(crate) fn times_parts(
     times_part(alloc, family, others, *k)
 }
 
-/// The family of the basis e, h or p; None for the bases m and s.
+/// The family of polynomials, e_k, h_k or p_k, whose products are the basis e, h or p; None for the
+/// bases m and s.
 fn family_of(basis: Basis) -> Option<Family>
     ensures { IfSome result (λ family. basis_of basis ≡ basis_in family) }
 {
@@ -102,7 +103,7 @@ fn family_of(basis: Basis) -> Option<Family>
     }
 }
 
-/// The family and the partition of an operand that is an atom in e, h or p; None for other
+/// For an operand e_λ, h_λ or p_λ: its family (e_k, h_k or p_k) and the partition λ. None for other
 /// operands.
 pub(crate) fn factors_of(operand: &Operand) -> Option<(Family, &Partition)>
     ensures { IfSome result (λ factors. (e : Tree) → IsOperand e operand.now

@@ -1,4 +1,5 @@
-//! The trait of the targets: the bases in which an expression is evaluated, with their operations.
+//! The trait of the targets. A target is a basis in which expressions are expanded, with the
+//! operations that compute their values.
 ghost use Rattle.std.specs.Prelude.{◌≡◌, ℕ, ◌<◌, ◌≤◌, ◌^◌, ◌≤ℤ◌, pos, nat_abs};
 ghost use Rattle.sym_model.specs.Expression.{Tree, number, fraction, atom, negation, sum};
 ghost use Rattle.sym_model.specs.Expression.{difference, product};
@@ -18,7 +19,7 @@ pub trait Target {
     /// The type of the value of an expression.
     type Value: Drop;
 
-    /// The greatest degree of an expression that is evaluated in the target.
+    /// The greatest degree of an expression that is expanded in the target basis.
     ghost limit: { ℕ };
 
     /// The relation between an expression and a value that represents it.

@@ -1,4 +1,5 @@
-//! The expansion of an expression in m, by way of Schur polynomials if that is faster.
+//! The expansion of an expression in the monomial basis m, by way of Schur polynomials if that is
+//! faster.
 ghost use Rattle.std.specs.Prelude.{ℕ, ◌<◌, ◌^◌, ◌≤◌, IfOk, IsErrOf};
 ghost use Rattle.sym_model.specs.Expansion.{monomials, schurs, IsExpansionOf};
 ghost use Rattle.sym_model.specs.Expression.{cleared_value, denominator};
@@ -56,7 +57,7 @@ fn in_monomials(
     divided(alloc, &answer, den)
 }
 
-/// The expansion of a formula in m, computed from its expansion in Schur polynomials. Returns
+/// The expansion of an expression in m, computed from its expansion in Schur polynomials. Returns
 /// `Large` if an intermediate number is too large.
 fn by_schurs(alloc: Global, formula: &Formula) -> Result<Lin<Partition, Frac>, SumFault>
     ensures { let e = tree_of formula.now.tree in
@@ -67,10 +68,10 @@ fn by_schurs(alloc: Global, formula: &Formula) -> Result<Lin<Partition, Frac>, S
     in_monomials(alloc, &list)
 }
 
-/// Whether expanding an expression in Schur polynomials first, and then in m, is faster than
-/// expanding it in m directly; both methods give the same expansion. It is faster if each atom is
-/// in e, h or s, and either some atom is in s, or some atom is in h and a product occurs: a
-/// partition in e or h is expanded in m part by part, and products are faster in s.
+/// Whether it is faster to expand an expression in Schur polynomials first, and then in m, than in
+/// m directly; the result is the same. It is faster if each basis polynomial in the expression is
+/// e_λ, h_λ or s_λ, and either some s_λ occurs, or some h_λ and a product. (In m, e_λ and h_λ are
+/// expanded part by part, and products are slower.)
 fn goes_by_schurs(alloc: Global, tree: &Expr) -> Result<bool, NoMemory> {
     let mut schur = false;
     let mut complete = false;
@@ -88,11 +89,11 @@ fn goes_by_schurs(alloc: Global, tree: &Expr) -> Result<bool, NoMemory> {
     Ok(schur || complete && product)
 }
 
-/// The expansion of a formula in m, in every number of variables: by way of Schur polynomials if
-/// that is faster, otherwise by `to_monomial`.
+/// The expansion of an expression in m, in every number of variables: by way of Schur polynomials
+/// if that is faster, otherwise by `to_monomial`.
 ///
 /// Returns `Large` only if N·D·d^d is 2^127 or more, with N and D the two numbers of
-/// `Formula::weight`, and d the degree of the formula (0^0 is 1).
+/// `Formula::weight`, and d the degree of the expression (0^0 is 1).
 pub fn to_monomial_by_schurs(
     alloc: Global,
     formula: &Formula,

@@ -1,4 +1,5 @@
--- The lines of a text that begins with a given line, and the blocks of a batch whose lines are given in two parts.
+-- The lines of a text that begins with a given line. The block of a line is the text of its answer or refusal: if the lines of a batch are given as
+-- two lists, its blocks are those of the first list, followed by those of the second.
 use Rattle.std.proofs.Common.{◌≡◌, ℕ, ◌==◌, ◌<◌, Bool, true, false, ◌&&◌, cond, List, [], ◌∷◌, ◌++◌, append_assoc, length, refl, sym, ap, ◌∙◌, Some}
 use Rattle.std.specs.Prelude.{codes}
 use Rattle.std.proofs.lemmas.Bool.{lt-ltb, ne_eqb}
@@ -50,15 +51,11 @@ pub line_last : (text : List ℕ) → HasNoFeed text → 0 < length text → lin
 line_last text h l =
     lines_are text ∙ ap whole_lines (split_one text h) ∙ ap (λ t. cond t (text ∷ []) []) (lt-ltb 0 (length text) l)
 
--- ---- the bytes that were taken from a source that records its bytes
-
 pub told : (all rest taken : List ℕ) → Took (Some all) (Some rest) taken → all ≡ taken ++ rest
 told all rest taken h = h
 
 pub long_is : (text : List ℕ) → most_bytes < length text → batch_line text ≡ too_long
 long_is text h = ap (λ t. cond t too_long (line_of_words (words_of_line (without_return text)))) (lt-ltb most_bytes (length text) h)
-
--- ---- the blocks of two lists of lines, one after the other
 
 pub more_blocks : (entries : List Entry) (lines more : List BatchLine) (blocks others : List Block) → AreBlocks entries lines blocks → AreBlocks entries more others
     → AreBlocks entries (lines ++ more) (blocks ++ others)

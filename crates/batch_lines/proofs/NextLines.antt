@@ -14,16 +14,12 @@ use Rattle.batch_lines.specs.declared.heard.Heard.{Heard}
 use Rattle.batch_lines.specs.declared.next.Next.{Next}
 use Rattle.batch_lines.proofs.Parts.{no_feed_append}
 
--- ---- the bytes that were taken from the source
-
 pub took_nothing : (told : Option (List ℕ)) → Took told told []
 took_nothing None = tt
 took_nothing (Some rest) = refl
 
 pub took_more : (before between now : Option (List ℕ)) (first more : List ℕ) → Took before between first → Took between now more → Took before now (first ++ more)
 took_more before between now first more h k = Consumes-trans before between now first more h k
-
--- ---- the state after the first bytes `text` of a line were read; `pending` are the bytes that were taken and follow them
 
 pub record ReadsSo (before now : SourceSeen) (first pending kept : List ℕ) (is_long : Bool) : Type 0 where
   pub taken : List ℕ
@@ -34,8 +30,6 @@ pub record ReadsSo (before now : SourceSeen) (first pending kept : List ℕ) (is
   pub no_feed : HasNoFeed text
   pub bytes : first ++ taken ≡ text ++ pending
   pub heard : IsHeard text kept is_long
-
--- ---- the case that the line ends within the pending bytes
 
 ended_at_feed : (text line : List ℕ) (is_long : Bool) (all pending : List ℕ) (now : Option (List ℕ)) → IsHeard text line is_long → EndsAtFeed all text pending
     → IsNext (next_at_feed is_long) all text pending now line
@@ -61,7 +55,7 @@ ends {before = before} {now = now} {first = first} {pending = pending} {behind =
           (ended_at_feed (r.text ++ h.part) line heard.is_long (first ++ r.taken) behind now.left h.heard all);
     }
 
--- ---- the case that the line does not end within the pending bytes, so that more are taken from the source
+-- ---- a line that does not end within the bytes that were taken, so that more bytes are taken from the source
 
 pub goes_on : {before now later : SourceSeen} {first pending kept behind line piece : List ℕ} {is_long : Bool} (heard : Heard)
     → (r : ReadsSo before now first pending kept is_long) → Hears r.text pending behind line heard → heard.has_ended ≡ false
@@ -82,8 +76,6 @@ goes_on {before = before} {now = now} {later = later} {first = first} {pending =
       heard = h.heard;
     }
 
--- ---- the case that the source fails before the line ends
-
 pub cuts : {before now : SourceSeen} (later : Option (List ℕ)) {first pending kept behind line : List ℕ} {is_long : Bool} (heard : Heard)
     → (r : ReadsSo before now first pending kept is_long) → Hears r.text pending behind line heard → heard.has_ended ≡ false
     → Keeps now.left later → TookPart before.left later first
@@ -95,8 +87,6 @@ cuts {before = before} {now = now} later {first = first} {pending = pending} {be
       no_feed =
           subst HasNoFeed (sym (r.bytes ∙ ap (λ xs. r.text ++ xs) cut.0)) (no_feed_append r.text h.part r.no_feed h.no_feed);
     }
-
--- ---- the case that the source ends before a line feed
 
 told_end : (later : Option (List ℕ)) → IsAtEnd later → IfSome later (λ rest. rest ≡ [])
 told_end None h = tt

@@ -1,4 +1,4 @@
--- Bytes without a line feed, and bytes of which the first ones are dropped.
+-- Bytes without a line feed, and lists of bytes whose first bytes are dropped.
 use Rattle.std.proofs.Common.{◌≡◌, ℕ, zero, suc, ◌+◌, ◌-◌, ◌<◌, ◌≤◌, List, [], ◌∷◌, ◌++◌, length, take, drop, get_or, sym, ap, ◌∙◌, subst, arith}
 use Rattle.std.specs.Prelude.{Option, Some, None, true, is_some, slice_index, slice_range, MatchOption}
 use Rattle.std.proofs.lemmas.List.{take_more, length-take, drop-take, drop-drop}

@@ -1,4 +1,4 @@
--- The text of a line of `work`, written word by word.
+-- The text of a line that `work` generates, written word by word.
 use Rattle.std.proofs.Common.{◌≡◌, ◌≤◌, ◌<◌, ℕ, zero, suc, ◌+◌, ◌-◌, min, max, List, [], ◌∷◌, ◌++◌, append_assoc, append-nil, map, length, refl, sym, ap, ◌∙◌, arith, flat_map}
 use Rattle.std.specs.Prelude.{codes, decimal}
 use Rattle.std.proofs.lemmas.Fmt.{length-decimal-le}
@@ -11,7 +11,7 @@ use Rattle.batch_lines.specs.Parts.{behind_spaces, past}
 pub one_digit : (n : ℕ) → n < 10 → length (decimal n) ≤ 1
 one_digit n h = length-decimal-le 1 n (omega arith) h (omega (arith, h))
 
--- ---- a text of words with a space between two of them is the first word, followed by the others, each after a space
+-- ---- words separated by spaces: the first word, followed by the others, each after a space
 
 abbrev pub word : ℕ → List ℕ
 word n = codes " " ++ decimal n
@@ -29,8 +29,8 @@ each_numbers (n ∷ numbers) more =
     ap (λ t. (codes " " ++ decimal n) ++ t) (each_numbers numbers more)
     ∙ sym (append_assoc (codes " " ++ decimal n) (behind_spaces numbers) (flat_map (λ w. codes " " ++ w) more))
 
--- the text of a name, some numbers, a sign and further numbers, with a space between two of these words, is the name, followed by the numbers, the
--- sign and the further numbers, each after a space
+-- the text of a name, some numbers, a sign and further numbers, separated by spaces, is the name, followed by the numbers, the sign and the further
+-- numbers, each after a space
 pub between_text : (name sign : List ℕ) (first second : List ℕ)
     → separated (codes " ") (name ∷ (map decimal first ++ (sign ∷ map decimal second)))
     ≡ name ++ (behind_spaces first ++ ((codes " " ++ sign) ++ behind_spaces second))

@@ -1,4 +1,5 @@
--- The progress of a batch, the status at its end, and the call of `finish` on its sink.
+-- The progress of a batch, the status at its end, and the call of `finish` on its sink. A batch is a text with one command in each line; the block of
+-- a line is the text of its answer or refusal.
 use Rattle.std.specs.Prelude.{◌≡◌, ℕ, List, [], Bool, true, false, ◌&&◌, codes, cond}
 use Rattle.calc_base.specs.declared.status.Status.{Status}
 use Rattle.calc_base.specs.declared.status.Status.TheVariants as status

@@ -4,8 +4,8 @@ use Rattle.sym_model.specs.BatchLine.{most_bytes}
 use Rattle.batch_lines.specs.Feeds.{HasNoFeed}
 use Rattle.batch_lines.specs.declared.heard.Heard.{Heard}
 
--- The state of a line of which `text` has been read: `is_long` says whether `text` has more than 4,096 bytes. If it has not, `kept` is `text`; if it
--- has, at most 4,096 bytes are kept.
+-- The state after the first bytes `text` of a line have been read: `is_long` says whether `text` has more than 4,096 bytes. If it has not, `kept` is
+-- `text`; if it has, at most 4,096 bytes are kept.
 pub record IsHeard (text kept : List ℕ) (is_long : Bool) : Type 0 where
   pub long : is_long ≡ nat_lt most_bytes (length text)
   pub whole : is_long ≡ false → kept ≡ text

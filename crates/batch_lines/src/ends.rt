@@ -1,4 +1,5 @@
-//! The text between two blocks of a batch, and the call of `finish` at the end of a command.
+//! The text between two blocks of a batch, and the call of `finish` at the end of a command. The
+//! block of a line of a batch is the text of its answer or refusal.
 ghost use Rattle.std.specs.Prelude.{◌≡◌};
 ghost use Rattle.batch_lines.specs.Ends.{separator, status_where, Finishes};
 

@@ -60,7 +60,7 @@ impl LineBuf {
         self.len = end;
     }
 
-    /// Appends a digit, for which there must be room.
+    /// Appends a digit; the buffer must have fewer than 64 bytes before.
     pub(crate) fn put_digit(&mut self, digit: u8)
         requires room { length self.old < 64 }
         requires one { digit < 10 }
@@ -71,7 +71,7 @@ impl LineBuf {
         self.put(buffer.format(digit).as_bytes());
     }
 
-    /// Appends a space and a digit, for which there must be room.
+    /// Appends a space and a digit; the buffer must have at most 62 bytes before.
     pub(crate) fn put_word(&mut self, digit: u8)
         requires room { length self.old ≤ 62 }
         requires one { digit < 10 }

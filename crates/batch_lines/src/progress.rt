@@ -15,8 +15,8 @@ pub struct Progress {
 }
 
 impl Progress {
-    /// Updates the progress after one more block has been written, whose outcome has the status
-    /// `status`.
+    /// Updates the progress after one more block has been written; `status` is the status of the
+    /// outcome that the block shows.
     pub fn count(&mut self, status: Status)
         ensures { self.new ≡ progress_after self.old status }
     {

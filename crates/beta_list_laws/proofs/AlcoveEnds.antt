@@ -1,13 +1,13 @@
--- The list at which the reflections of a strictly decreasing list b end depends only on the remainders of b modulo n and on its sum.
+-- The reduction of a strictly decreasing list b into the alcove (`reflected_into_alcove n b`). A reflection subtracts n from the first entry, adds n
+-- to the last and sorts. The list at which the reflections of b end depends only on the remainders of b modulo n and on the sum of b.
 --     alcove_reduced      the result of `reflected_into_alcove n b` satisfies `Reduced n b`
 --     alcove_found        if the numbers of a window [t, t + n) with the remainders of b have the sum of b, the result is their sorted list
-use Rattle.std.proofs.Common.{◌↔◌, ◌≡◌, ℕ, zero, suc, ◌+◌, ◌-◌, ◌%◌, ◌<◌, ◌≤◌, ◌⊎◌, inl, inr, true, false, ◌==◌, ◌||◌, cond, List, [], ◌∷◌, ◌++◌, map, refl, sym, ◌∙◌, ap, ap₂, subst, arith, ℤ, ◌*ℤ◌, pos, Option, Some, None}
+use Rattle.std.proofs.Common.{◌↔◌, ◌≡◌, ℕ, zero, suc, ◌+◌, ◌-◌, ◌%◌, ◌<◌, ◌≤◌, ◌⊎◌, inl, inr, true, false, ◌==◌, ◌||◌, List, [], ◌∷◌, ◌++◌, map, refl, sym, ◌∙◌, ap, ap₂, subst, arith, ℤ, ◌*ℤ◌, pos, Option, Some, None, rules}
 use Rattle.std.proofs.lemmas.Bool.{cases_lt, cases_eq, cases_Bool, eq-eqb, eqb-true, or_cases, or_right as or_either, both_ways, ne_eqb}
 use Rattle.std.proofs.Math.Nat.{add-mod_right, mod-mod, mod-eq-sub-mod}
 use Rattle.std.proofs.Math.Bool.{or-true}
 use Rattle.sym_model.specs.Partition.{size}
 use Rattle.sym_model.specs.Bases.{has}
-use Rattle.sym_model.specs.PlaceOrders.{minus_one_to}
 use Rattle.sym_model.specs.BetaList.{has_equal_entries, sorted_falling, rising_pairs, sorting_sign}
 use Rattle.sym_model.specs.AlcoveReduction.{spread, squares, last_raised, reflected, with_sign, reflected_into_alcove}
 use Rattle.sym_model.proofs.Signs.{minus_one_to_add}
@@ -22,8 +22,6 @@ use Rattle.beta_list_laws.proofs.Remainders.{alike_same}
 use Rattle.beta_list_laws.proofs.Lowest.{strict_pairs, strict_second}
 use Rattle.beta_list_laws.proofs.Windows.{LieIn, up_low, up_high, up-remainder, up_is, sorted-map-sorted, spread_is, last_below, narrow_lie, alcove_only}
 use Rattle.std.proofs.lemmas.List.{map-append}
-
--- ---- equal entries of a list b and of the list of the f(x) for the entries x of b
 
 has_map : (f : ℕ → ℕ) (x : ℕ) (b : List ℕ) → has x b ≡ true → has (f x) (map f b) ≡ true
 has_map f x [] e = absurd (cc)
@@ -43,7 +41,7 @@ pub equal_inside : (left : List ℕ) (x y : ℕ) (right : List ℕ) → x ≡ y 
 equal_inside [] x y right e = ap (λ t. t || has_equal_entries (y ∷ right)) (has_here x y right (sym e))
 equal_inside (c ∷ left) x y right e = or_either (has c (left ++ (x ∷ y ∷ right))) (has_equal_entries (left ++ (x ∷ y ∷ right))) (equal_inside left x y right e)
 
--- ---- the least numbers ≥ t with the remainders of the entries of a list: they depend only on these remainders
+-- ---- the least number ≥ t with the remainder of x modulo n (`up n t x`) depends only on this remainder
 
 pub up_alike : (n t x y : ℕ) → 1 ≤ n → x % n ≡ y % n → up n t x ≡ up n t y
 up_alike n t x y h e = up_is n t x (up n t y) h (up_low n t y h) (up_high n t y h) (up-remainder n t y h ∙ sym e)
@@ -70,28 +68,17 @@ ups_differ n t b h e = elim (cases_Bool (has_equal_entries (map (up n t) b))) [
   | inl f ↦ absurd (both_ways (has_equal_entries (remainders n b)) e (ap has_equal_entries (sym (remainders_of_ups n t b h)) ∙ equal_map (λ x. x % n) (map (up n t) b) f))
 ]
 
--- if c lies in the window [t, t + n) and has an entry with the remainder of x modulo n, then `match_in n c x` is the least number ≥ t with this
--- remainder
 match_up : (n t x : ℕ) (c : List ℕ) → 1 ≤ n → LieIn n t c → has (x % n) (remainders n c) ≡ true → match_in n c x ≡ up n t x
 match_up n t x [] h w e = absurd (cc)
-match_up n t x (y ∷ c) h w e = by (cases_eq (y % n) (x % n)) (match_up n t x c h w.2)
-  where
-    by : (y % n ≡ x % n) ⊎ (y % n ≡ x % n → ⊥) → (has (x % n) (remainders n c) ≡ true → match_in n c x ≡ up n t x) → match_in n (y ∷ c) x ≡ up n t x
-    by (inl d) later = ap (λ t. cond t y (match_in n c x)) (eq-eqb (y % n) (x % n) d) ∙ sym (up_is n t x y h w.0 w.1 d)
-    by (inr d) later = ap (λ t. cond t y (match_in n c x)) (ne_eqb (y % n) (x % n) d) ∙ later (sym (has_past (x % n) (y % n) (remainders n c) d) ∙ e)
+match_up n t x (y ∷ c) h w e = search (rules, cases_eq, eq-eqb, up_is, ne_eqb, has_past, (match_up n t x c h w.2))
 
 pub matches_up : (n t : ℕ) (b c : List ℕ) → 1 ≤ n → LieIn n t c → ((r : ℕ) → has r (remainders n b) ≡ true → has r (remainders n c) ≡ true)
     → map (match_in n c) b ≡ map (up n t) b
 matches_up n t [] c h w m = refl
-matches_up n t (x ∷ b) c h w m =
-    ap₂ ◌∷◌
-    (match_up n t x c h w (m (x % n) (has_here (x % n) (x % n) (remainders n b) refl)))
-    (matches_up n t b c h w (λ r e. m r (or_either (x % n == r) (has r (remainders n b)) e)))
+matches_up n t (x ∷ b) c h w m = search (rules, match_up, has_here, or_either, (matches_up n t b c h w))
 
 pub same_remainders_has : (n : ℕ) (b c : List ℕ) → sorted_falling (remainders n c) ≡ sorted_falling (remainders n b) → (r : ℕ) → has r (remainders n b) ≡ true → has r (remainders n c) ≡ true
 same_remainders_has n b c e r h = sym (has-sorted r (remainders n c)) ∙ ap (has r) e ∙ has-sorted r (remainders n b) ∙ h
-
--- if x ∷ b is strictly decreasing and its entries lie in a window [t, t + n), no entry of b leaves the remainder of x modulo n
 
 absent_remainder : (n t x : ℕ) (b : List ℕ) → FallsStrictly (x ∷ b) → t ≤ x → x < t + n → LieIn n t b → has (x % n) (remainders n b) ≡ false
 absent_remainder n t x [] f a c w = refl
@@ -117,17 +104,12 @@ raised_size n a (c ∷ b) = let e = raised_size n c b in omega arith
 reflected_remainders : (n : ℕ) (b : List ℕ) → n < spread b → remainders n (reflected n b) ≡ remainders n b
 reflected_remainders n [] h = refl
 reflected_remainders n (a ∷ []) h = absurd (let e = spread_is a [] in omega arith)
-reflected_remainders n (a ∷ c ∷ b) h =
-    let e = spread_is a (c ∷ b) in
-    ap₂ ◌∷◌ (sym (mod-eq-sub-mod {n = a} {m = n} (omega arith))) (raised_remainders n c b)
+reflected_remainders n (a ∷ c ∷ b) h = search (rules, spread_is, mod-eq-sub-mod, raised_remainders)
 
 reflected_size : (n : ℕ) (b : List ℕ) → n < spread b → size (reflected n b) ≡ size b
 reflected_size n [] h = refl
 reflected_size n (a ∷ []) h = absurd (let e = spread_is a [] in omega arith)
-reflected_size n (a ∷ c ∷ b) h =
-    let e = spread_is a (c ∷ b) in
-    let r = raised_size n c b in
-    omega arith
+reflected_size n (a ∷ c ∷ b) h = search (rules, spread_is, raised_size)
 
 has_last : (n a : ℕ) (b : List ℕ) → has (last_of a b % n) (remainders n (a ∷ b)) ≡ true
 has_last n a [] = has_here (a % n) (a % n) [] refl
@@ -142,9 +124,6 @@ wall_equal n (a ∷ c ∷ b) h f e =
     let m : a ≡ last_of c b + n = omega arith in
     let r : last_of c b % n ≡ a % n = sym (add-mod_right (last_of c b) n) ∙ ap (λ x. x % n) (sym m) in
     ap (λ t. t || has_equal_entries (remainders n (c ∷ b))) (ap (λ x. has x (remainders n (c ∷ b))) (sym r) ∙ has_last n c b)
-
--- ---- the number of increasing pairs of a list l plus that of the list of the f(x) for x in l: exchanging neighbours of l and sorting l do not
--- change its parity
 
 keeps_turns : (f : ℕ → ℕ) (k : ℕ) → KeptByExchanges (λ l. (has_equal_entries (map f l) ≡ false) × ((rising_pairs (map f l) + rising_pairs l + k) % 2 ≡ 0))
 keeps_turns f k left a b right p =
@@ -183,11 +162,9 @@ equal_map_sorted f s =
     ∙ e)
     refl
 
--- ---- the result of the reduction into the alcove
-
--- `Reduced n b r`: if r = None, two entries of b leave the same remainder modulo n. If r is a list c with a sign, no two entries of b do; c is
--- strictly decreasing, has the sum and the remainders of b, and lies in some window [t, t + n); the sign is that of sorting the numbers of this
--- window with the remainders of b
+-- `Reduced n b r`: r is a correct result of the reduction of b. If r is None, two entries of b leave the same remainder modulo n. Otherwise all these
+-- remainders are different, and r is a list c with a sign: `IsAlcoveEnd n b c` holds, c lies in some window [t, t + n), and the sign is that of
+-- sorting the list `map (up n t) b`
 abbrev pub Reduced : ℕ → List ℕ → Option (List ℕ × ℤ) → Type 0
 Reduced n b None = has_equal_entries (remainders n b) ≡ true
 Reduced n b (Some answer) =
@@ -195,14 +172,7 @@ Reduced n b (Some answer) =
     × (t : ℕ) × LieIn n t answer.0 × (answer.1 ≡ sorting_sign (map (up n t) b))
 
 stays_in : (n t : ℕ) (b : List ℕ) → 1 ≤ n → FallsStrictly b → spread b < n → LieIn n t b → Reduced n b (Some (b, pos 1))
-stays_in n t b h f l w =
-    let z : 0 ≡ rising_pairs b = sym (strict_pairs b f) in (
-      distinct_narrow n t b f w,
-      record { strict = f; sum = refl; alike = refl; narrow = l },
-      t,
-      w,
-      ap minus_one_to z ∙ ap sorting_sign (sym (ups_stay n t b h w)),
-    )
+stays_in n t b h f l w = search (rules, strict_pairs, distinct_narrow, ups_stay)
 
 stays_reduced : (n : ℕ) (b : List ℕ) → 1 ≤ n → FallsStrictly b → spread b < n → Reduced n b (Some (b, pos 1))
 stays_reduced n [] h f l = stays_in n 0 [] h f l tt
@@ -257,8 +227,7 @@ reduced_within (suc fuel) n b q h f =
 pub alcove_reduced : (n : ℕ) (b : List ℕ) → 1 ≤ n → FallsStrictly b → Reduced n b (reflected_into_alcove n b)
 alcove_reduced n b h f = reduced_within (suc (squares b)) n b (omega arith) h f
 
--- ---- the clauses of `alcove_law`: when the reduction of b is 0 (two entries of b leave the same remainder), and otherwise the list at which it
--- ends, and its sign
+-- ---- the clauses of the law `alcove_law`
 
 pub alcove_zero : (n : ℕ) (b : List ℕ) → 1 ≤ n → FallsStrictly b → reflected_into_alcove n b ≡ None → has_equal_entries (remainders n b) ≡ true
 alcove_zero n b h f e = subst (Reduced n b) e (alcove_reduced n b h f)
@@ -278,8 +247,7 @@ alcove_sign n b c sign h f e =
     let r = subst (Reduced n b) e (alcove_reduced n b h f) in
     r.4 ∙ ap sorting_sign (sym (matches_up n r.2 b c h r.3 (same_remainders_has n b c r.1.alike)))
 
--- ---- exchanges of neighbours keep a list in its window [t, t + n); if the numbers of a window with the remainders of b have the sum of b, the
--- sorted list of them is the list at which the reflections of b end
+-- ---- if the numbers of a window [t, t + n) with the remainders of b have the sum of b, the reduction of b ends at the sorted list of these numbers
 
 lies_kept : (n t : ℕ) → KeptByExchanges (LieIn n t)
 lies_kept n t [] a b right w = (w.2.0, w.2.1, (w.0, w.1, w.2.2))

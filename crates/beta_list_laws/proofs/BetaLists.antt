@@ -1,8 +1,9 @@
--- From partitions to beta lists and back.
+-- From partitions to beta lists and back. The beta list of a partition λ with at most k parts is λ_1 + k - 1, λ_2 + k - 2, .., λ_k; the partition of
+-- a beta list is found by subtracting from each entry the number of entries after it.
 --     beta_strict            the beta list of a decreasing list is strictly decreasing
 --     from_beta-beta         the partition of the beta list of a partition is that partition
 --     beta-from_beta         the beta list of the partition of a strictly decreasing list is that list
-use Rattle.std.proofs.Common.{◌≡◌, ℕ, zero, suc, ◌+◌, ◌-◌, ◌<◌, ◌≤◌, List, [], ◌∷◌, ◌++◌, map, length, get_or, replicate, refl, ◌∙◌, ap, ap₂, arith}
+use Rattle.std.proofs.Common.{◌≡◌, ℕ, zero, suc, ◌+◌, ◌-◌, ◌<◌, ◌≤◌, List, [], ◌∷◌, ◌++◌, map, length, replicate, refl, ◌∙◌, ap, ap₂, arith, rules}
 use Rattle.std.proofs.lemmas.List.{length-map}
 use Rattle.sym_model.specs.Partition.{Falls, ArePositive, IsPartition, size, rows, part, after, in_front, without_last_zeros}
 use Rattle.sym_model.specs.Alternant.{staircase}
@@ -13,8 +14,6 @@ use Rattle.beta_list_laws.specs.StrictFall.{FallsStrictly}
 use Rattle.sym_model.proofs.AfterLists.{length_after}
 use Rattle.sym_model.proofs.Parts.{length-without_last_zeros, get_or-without_last_zeros, in_front-positive}
 
--- ---- the length of a beta list, and lists of the values of a function at the numbers a + 1, .., a + k
-
 pub length-beta : (k : ℕ) (parts : List ℕ) → length (beta k parts) ≡ k
 length-beta k parts = length-map (after 0 k) (λ i. part parts i + (k - i)) ∙ length_after 0 k
 
@@ -22,7 +21,6 @@ pub map_after_ext : (f g : ℕ → ℕ) (a k : ℕ) → ((i : ℕ) → a < i →
 map_after_ext f g a zero e = refl
 map_after_ext f g a (suc k) e = ap₂ ◌∷◌ (e (a + 1) (omega arith) (omega arith)) (map_after_ext f g (a + 1) k (λ i h l. e i (omega arith) (omega arith)))
 
--- the values of f at a + 2, .., a + k + 1 are the values of f(i + 1) for i = a + 1, .., a + k
 map_after_shift : (f : ℕ → ℕ) (a k : ℕ) → map f (after (a + 1) k) ≡ map (λ i. f (i + 1)) (after a k)
 map_after_shift f a zero = refl
 map_after_shift f a (suc k) = ap (λ l. f (a + 1 + 1) ∷ l) (map_after_shift f (a + 1) k)
@@ -39,20 +37,14 @@ beta_strict k parts f = strict_after (λ i. part parts i + (k - i)) 0 k (λ i h 
 
 less_after : (parts : List ℕ) (a m k : ℕ) → k ≡ a + m → less_the_rest (map (λ i. part parts i + (k - i)) (after a m)) ≡ map (part parts) (after a m)
 less_after parts a zero k e = refl
-less_after parts a (suc m) k e =
-    let l = length-map (after (a + 1) m) (λ i. part parts i + (k - i)) in
-    let n = length_after (a + 1) m in
-    ap₂ ◌∷◌ (omega arith) (less_after parts (a + 1) m k (omega arith))
+less_after parts a (suc m) k e = search (rules, length-map, length_after, (less_after parts (a + 1) m k (omega arith)))
 
 pub less-beta : (k : ℕ) (parts : List ℕ) → less_the_rest (beta k parts) ≡ map (part parts) (after 0 k)
 less-beta k parts = less_after parts 0 k k (omega arith)
 
 part_next : (x : ℕ) (parts : List ℕ) (i : ℕ) → 1 ≤ i → part (x ∷ parts) (i + 1) ≡ part parts i
 part_next x parts zero h = absurd (omega arith)
-part_next x parts (suc i) h =
-    let e : suc i + 1 - 1 ≡ suc i = omega arith in
-    let d : i ≡ suc i - 1 = omega arith in
-    ap (λ n. get_or (x ∷ parts) n 0) e ∙ ap (λ n. get_or parts n 0) d
+part_next x parts (suc i) h = search rules
 
 parts_none : (a k : ℕ) → map (part []) (after a k) ≡ replicate k 0
 parts_none a zero = refl
@@ -81,13 +73,12 @@ pub from_beta-beta : (k : ℕ) (parts : List ℕ) → IsPartition parts → rows
 from_beta-beta k parts p h =
     ap without_last_zeros (less-beta k parts ∙ parts_padded parts k h) ∙ padding_dropped parts (k - length parts) p.positive
 
--- ---- a strictly decreasing list without its first entry is strictly decreasing; each strictly decreasing list is the beta list of its partition
+-- ---- each strictly decreasing list is the beta list of its partition
 
 pub strict_tail : (a : ℕ) (b : List ℕ) → FallsStrictly (a ∷ b) → FallsStrictly b
 strict_tail a [] f = tt
 strict_tail a (c ∷ b) f = f.1
 
--- in a strictly decreasing list the first entry is at least the number of the other entries
 pub rest_within : (a : ℕ) (b : List ℕ) → FallsStrictly (a ∷ b) → length b ≤ a
 rest_within a [] f = omega arith
 rest_within a (c ∷ b) f = let h = rest_within c b f.1 in let l = f.0 in omega arith
@@ -126,23 +117,14 @@ beta_less (a ∷ b) (suc k) f e =
     first h = omega arith
 
 pub beta-from_beta : (b : List ℕ) → FallsStrictly b → beta (length b) (from_beta b) ≡ b
-beta-from_beta b f =
-    map_after_ext (λ i. part (from_beta b) i + (length b - i)) (λ i. part (less_the_rest b) i + (length b - i)) 0 (length b) (λ i l m. ap (λ p. p + (length b - i)) (part-from_beta b i))
-    ∙ beta_less b (length b) f refl
-
--- ---- the sum of a beta list is the size of its partition plus that of the staircase k - 1, .., 1, 0
+beta-from_beta b f = search (rules, map_after_ext, part-from_beta, beta_less)
 
 size-less : (b : List ℕ) → FallsStrictly b → size b ≡ size (less_the_rest b) + size (staircase (length b))
 size-less [] f = refl
-size-less (a ∷ b) f =
-    let e = size-less b (strict_tail a b f) in
-    let h = rest_within a b f in
-    omega arith
+size-less (a ∷ b) f = search (rules, strict_tail, rest_within, (size-less b (strict_tail a b f)))
 
 pub size-from_beta : (b : List ℕ) → FallsStrictly b → size b ≡ size (from_beta b) + size (staircase (length b))
 size-from_beta b f = let e = size-less b f in let d = size-without_last_zeros (less_the_rest b) in omega arith
 
 pub size-beta : (k : ℕ) (parts : List ℕ) → IsPartition parts → rows parts ≤ k → size (beta k parts) ≡ size parts + size (staircase k)
-size-beta k parts p h =
-    size-from_beta (beta k parts) (beta_strict k parts p.falls)
-    ∙ ap₂ (λ l n. size l + size (staircase n)) (from_beta-beta k parts p h) (length-beta k parts)
+size-beta k parts p h = search (rules, size-from_beta, beta_strict, from_beta-beta, length-beta)

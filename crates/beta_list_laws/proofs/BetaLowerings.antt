@@ -2,7 +2,7 @@
 --     removal_lowers      a removal lowers one entry of the beta list and moves it after h - 1 entries, if h is the height of the rim hook
 --     lowers_or_full      a strictly decreasing list has an entry that can be lowered, or is full
 --     full_none           no entry of a full strictly decreasing list can be lowered
-use Rattle.std.proofs.Common.{◌≡◌, ℕ, zero, suc, ◌+◌, ◌-◌, ◌<◌, ◌≤◌, ◌⊎◌, inl, inr, true, false, List, [], ◌∷◌, ◌++◌, map, length, refl, sym, ◌∙◌, ap, ap₂, subst, arith, Bool, ◌||◌}
+use Rattle.std.proofs.Common.{◌≡◌, ℕ, zero, suc, ◌+◌, ◌-◌, ◌<◌, ◌≤◌, ◌⊎◌, inl, inr, true, false, List, [], ◌∷◌, ◌++◌, map, length, refl, sym, ◌∙◌, ap, ap₂, subst, arith, Bool, ◌||◌, rules}
 use Rattle.std.proofs.lemmas.Bool.{cases_lt, cases_eq, cases_Bool}
 use Rattle.sym_model.specs.Partition.{IsPartition, rows, part, after}
 use Rattle.sym_model.specs.Bases.{has}
@@ -21,8 +21,8 @@ use Rattle.beta_list_laws.proofs.BetaLists.{beta_strict, from_beta-beta, strict_
 use Rattle.beta_list_laws.proofs.BetaRemovals.{before, lowered, shown_removal, above_lowered}
 use Rattle.std.proofs.Math.Nat.{zero-add, add_right_comm}
 
--- b has an entry y + n, followed by the entries `middle`, of which there are `passed`; c is b with this entry replaced by y and moved to the end of
--- `middle`
+-- `Lowers n b c passed`: the list b has an entry y + n (y is `entry`), and c is b with this entry replaced by y and moved to the right by `passed`
+-- places, over the entries of `middle`
 pub record Lowers (n : ℕ) (b c : List ℕ) (passed : ℕ) : Type 0 where
   pub front : List ℕ
   pub entry : ℕ
@@ -38,18 +38,9 @@ map_after_next : (f g : ℕ → ℕ) (a k : ℕ) → ((i : ℕ) → a < i → i 
 map_after_next f g a zero e = refl
 map_after_next f g a (suc k) e = ap₂ ◌∷◌ (e (a + 1) (omega arith) (omega arith)) (map_after_next f g (a + 1) k (λ i h l. e i (omega arith) (omega arith)))
 
--- the values of f at 1, .., k are those at 1, .., a, the value at a + 1, and those at the next d and the last c places, if k = a + 1 + d + c
 split_at : (f : ℕ → ℕ) (k a d c : ℕ) → k ≡ a + suc (d + c) → map f (after 0 k) ≡ map f (after 0 a) ++ (f (a + 1) ∷ (map f (after (a + 1) d) ++ map f (after (a + 1 + d) c)))
-split_at f k a d c e =
-    ap (λ m. map f (after 0 m)) e
-    ∙ ap (map f) (after-append 0 a (suc (d + c)))
-    ∙ map-append f (after 0 a) (after (0 + a) (suc (d + c)))
-    ∙ ap (λ z. map f (after 0 a) ++ map f (after z (suc (d + c)))) (zero-add a)
-    ∙ ap (λ l. map f (after 0 a) ++ (f (a + 1) ∷ map f l)) (after-append (a + 1) d c)
-    ∙ ap (λ l. map f (after 0 a) ++ (f (a + 1) ∷ l)) (map-append f (after (a + 1) d) (after (a + 1 + d) c))
+split_at f k a d c e = search (rules, after-append, map-append, zero-add)
 
--- the values of f at 1, .., k are those at 1, .., a, those at the next d places, the value at a + d + 1, and those at the last c places, if k = a + 1
--- + d + c
 split_later : (f : ℕ → ℕ) (k a d c : ℕ) → k ≡ a + suc (d + c) → map f (after 0 k) ≡ map f (after 0 a) ++ (map f (after a d) ++ (f (a + d + 1) ∷ map f (after (a + 1 + d) c)))
 split_later f k a d c e =
     ap (λ m. map f (after 0 m)) length_is
@@ -63,8 +54,6 @@ split_later f k a d c e =
     length_is : k ≡ a + (d + suc c)
     length_is = omega (arith, e)
 
--- if f(a + 1) = y + n, g(a + d + 1) = y, f(i + 1) = g(i) for a < i ≤ a + d, and f(i) = g(i) at all other places up to k, then the list of the values
--- g(1), .., g(k) is that of f(1), .., f(k) with an entry lowered by n and moved after d entries
 lowered_values : (f g : ℕ → ℕ) (n y k a d c : ℕ) → k ≡ a + suc (d + c) → f (a + 1) ≡ y + n → g (a + d + 1) ≡ y
     → ((i : ℕ) → 0 < i → i ≤ a → f i ≡ g i) → ((i : ℕ) → a < i → i ≤ a + d → f (i + 1) ≡ g i) → ((i : ℕ) → a + 1 + d < i → i ≤ a + 1 + d + c → f i ≡ g i)
     → Lowers n (map f (after 0 k)) (map g (after 0 k)) d
@@ -109,7 +98,8 @@ rows_lower k n shape left first last l r h =
     (λ i u v. let e = h.chained i (omega arith) (omega arith) in omega arith)
     (λ i u v. ap (λ m. m + (k - i)) (h.below i (omega arith)))
 
--- a removal of n cells lowers an entry of the beta list by n and moves it after `passed` entries; the rim hook has passed + 1 rows
+-- the removal of a rim hook of n cells lowers an entry of the beta list by n and moves it to the right by `passed` places; the height of the rim hook
+-- is `passed` + 1
 pub removal_lowers : (k n : ℕ) (shape left : List ℕ) → IsPartition shape → rows shape ≤ k → IsRemoval n shape left
     → (passed : ℕ) × Lowers n (beta k shape) (beta k left) passed × (height shape left ≡ passed + 1)
 removal_lowers k n shape left p l r =
@@ -122,8 +112,7 @@ removal_lowers k n shape left p l r =
         let o = h.ordered in
         (last - first, rows_lower k n shape left first last l r h, omega arith)
 
--- ---- a number that is not an entry of a strictly decreasing list can be inserted into it; the list is full (`IsFull`), or one of its entries can be
--- lowered by n
+-- ---- a strictly decreasing list is full (`IsFull`), or one of its entries can be lowered by n
 
 place_for : (y : ℕ) (b : List ℕ) → FallsStrictly b → has y b ≡ false → (middle : List ℕ) × (back : List ℕ) × (b ≡ middle ++ back) × FallsStrictly (middle ++ (y ∷ back))
 place_for y [] f h = ([], [], refl, tt)
@@ -154,7 +143,6 @@ pub record CanLower (n : ℕ) (b : List ℕ) : Type 0 where
   pub from : b ≡ before n entry front middle back
   pub strict : FallsStrictly (lowered entry front middle back)
 
--- if x ∷ b is strictly decreasing, an entry of b that can be lowered by n can also be lowered in x ∷ b
 under_first : (n x : ℕ) (b : List ℕ) (l : CanLower n b) → FallsStrictly (x ∷ b) → CanLower n (x ∷ b)
 under_first n x b l f = record {
   front = x ∷ l.front;
@@ -193,7 +181,6 @@ lowers_or_full n (x ∷ b) f = by (lowers_or_full n b (strict_tail x b f)) (case
     by (inr g) (inr l) (inl e) = inr (λ h. e, g)
     by (inr g) (inr l) (inr e) = inl (here l e)
 
--- if y ∷ b is strictly decreasing and y ≤ z, then z is not an entry of b
 pub not_below : (y z : ℕ) (b : List ℕ) → FallsStrictly (y ∷ b) → y ≤ z → has z b ≡ false
 not_below y z [] f l = refl
 not_below y z (x ∷ b) f l = let h = f.0 in has_past z x b (λ e. omega (arith, e, h, l)) ∙ not_below x z b f.1 (omega (arith, h, l))
@@ -204,11 +191,7 @@ absent y (x ∷ middle) back f =
     has_past y x (middle ++ back) (λ e. let l = above_lowered y x middle back f in omega (arith, e, l)) ∙ absent y middle back (strict_tail x (middle ++ (y ∷ back)) f)
 
 pub full_none : (n y : ℕ) (front middle back : List ℕ) → IsFull n (before n y front middle back) → FallsStrictly (lowered y front middle back) → ⊥
-full_none n y [] middle back g f =
-    let e : y + n - n ≡ y = omega arith in
-    let t = ap (λ z. has z (middle ++ back)) (sym e) ∙ g.0 (omega arith) in
-    let u = sym t ∙ absent y middle back f in
-    cc
+full_none n y [] middle back g f = search (rules, absent)
 full_none n y (x ∷ front) middle back g f = full_none n y front middle back g.1 (strict_tail x (lowered y front middle back) f)
 
 -- if no entry of the beta list can be lowered by n, no rim hook of n cells can be removed from the shape
@@ -232,9 +215,6 @@ stays_full k n shape h p r none = elim (lowers_or_full n (beta k shape) (beta_st
   | inr g ↦ g
 ]
 
--- ---- each removal of a rim hook of n cells replaces an entry y + n of the beta list by y, moved after the entries `middle`; the height of the rim
--- hook is the length of `middle` plus 1
-
 pub removal_as_lowered : (k n : ℕ) (shape left : List ℕ) → IsPartition shape → rows shape ≤ k → IsRemoval n shape left
     → (y : ℕ) × (front : List ℕ) × (middle : List ℕ) × (back : List ℕ) × (beta k shape ≡ before n y front middle back) × (beta k left ≡ lowered y front middle back) × (height shape left ≡ length middle + 1)
 removal_as_lowered k n shape left p l r =
@@ -242,7 +222,6 @@ removal_as_lowered k n shape left p l r =
     let w = h.1 in
     (w.entry, w.front, w.middle, w.back, w.from, w.to, h.2 ∙ ap (λ m. m + 1) w.passes)
 
--- a strictly decreasing list has no equal entries
 pub strict_distinct : (b : List ℕ) → FallsStrictly b → has_equal_entries b ≡ false
 strict_distinct [] f = refl
 strict_distinct (a ∷ b) f = ap₂ (λ (s t : Bool). s || t) (not_below a a b f (omega arith)) (strict_distinct b (strict_tail a b f))

@@ -1,6 +1,7 @@
--- The removal of a rim hook of n cells by beta lists: if an entry y + n is replaced by y and moved after the entries `middle`, and the lists before
--- and after are strictly decreasing, then the partition of the second list is obtained from that of the first by removing a rim hook.
-use Rattle.std.proofs.Common.{◌≡◌, ℕ, zero, suc, ◌+◌, ◌-◌, ◌<◌, ◌≤◌, List, [], ◌∷◌, ◌++◌, length, get_or, refl, sym, ◌∙◌, ap, arith, length-append}
+-- The removal of a rim hook of n cells by beta lists. Let an entry y + n of a strictly decreasing list be replaced by y and moved to the right, so
+-- that the list is again strictly decreasing. Then the partition of the new list is that of the old list without a rim hook of n cells. The parts of
+-- a list (`less_the_rest`) are its entries, each minus the number of the entries after it.
+use Rattle.std.proofs.Common.{◌≡◌, ℕ, zero, suc, ◌+◌, ◌-◌, ◌<◌, ◌≤◌, List, [], ◌∷◌, ◌++◌, length, get_or, refl, sym, ◌∙◌, ap, arith, length-append, rules}
 use Rattle.sym_model.specs.Partition.{size, part}
 use Rattle.sym_model.specs.Alternant.{staircase}
 use Rattle.sym_model.specs.BetaList.{less_the_rest, from_beta}
@@ -12,7 +13,8 @@ use Rattle.strip_laws.proofs.RimHooks.{hook_from_rows, height_of_rows}
 use Rattle.beta_list_laws.specs.StrictFall.{FallsStrictly}
 use Rattle.beta_list_laws.proofs.BetaLists.{strict_tail, rest_within, from_beta_partition, part-from_beta, size-from_beta}
 
--- the list with the entry y + n between `left` and `middle`; in `lowered`, this entry is y, and is between `middle` and `right`
+-- `before n y left middle right`: the lists `left`, `middle` and `right` joined, with the entry y + n between `left` and `middle`. The list `lowered`
+-- has instead the entry y between `middle` and `right`
 abbrev pub before : ℕ → ℕ → List ℕ → List ℕ → List ℕ → List ℕ
 before n y left middle right = left ++ ((y + n) ∷ (middle ++ right))
 
@@ -25,7 +27,6 @@ strict_drop (a ∷ left) c f = strict_drop left c (strict_tail a (left ++ c) f)
 
 -- ---- the parts of a beta list (`less_the_rest`): each entry minus the number of the entries after it
 
--- the first parts (`less_the_rest`) of left ++ c, one for each entry of `left`, depend on the length of c, and not on its entries
 same_front : (left c d : List ℕ) (i : ℕ) → length c ≡ length d → i < length left → get_or (less_the_rest (left ++ c)) i 0 ≡ get_or (less_the_rest (left ++ d)) i 0
 same_front [] c d i e h = absurd (omega arith)
 same_front (a ∷ left) c d zero e h = let p = length-append left c in let q = length-append left d in ap (λ n. a - n) (omega arith)
@@ -33,23 +34,14 @@ same_front (a ∷ left) c d (suc i) e h = same_front left c d i e (omega arith)
 
 past_front : (left c : List ℕ) (i : ℕ) → get_or (less_the_rest (left ++ c)) (length left + i) 0 ≡ get_or (less_the_rest c) i 0
 past_front [] c i = let e : 0 + i ≡ i = omega arith in ap (λ n. get_or (less_the_rest c) n 0) e
-past_front (a ∷ left) c i =
-    let e : suc (length left) + i ≡ suc (length left + i) = omega arith in
-    ap (λ n. get_or (less_the_rest ((a ∷ left) ++ c)) n 0) e ∙ past_front left c i
+past_front (a ∷ left) c i = search (rules, (past_front left c i))
 
--- if the list x, `middle`, `right` becomes the strictly decreasing list `middle`, y, `right`, each entry of `middle` moves one place to the left, and
--- its part (`less_the_rest`) decreases by 1
 chained_middle : (x y : ℕ) (middle right : List ℕ) (i : ℕ) → FallsStrictly (middle ++ (y ∷ right)) → i < length middle
     → get_or (less_the_rest (x ∷ (middle ++ right))) (suc i) 0 ≡ get_or (less_the_rest (middle ++ (y ∷ right))) i 0 + 1
 chained_middle x y [] right i f h = absurd (omega arith)
-chained_middle x y (p ∷ middle) right zero f h =
-    let a = length-append middle right in
-    let b = length-append middle (y ∷ right) in
-    let w = rest_within p (middle ++ (y ∷ right)) f in
-    omega arith
+chained_middle x y (p ∷ middle) right zero f h = search (rules, length-append, rest_within)
 chained_middle x y (p ∷ middle) right (suc i) f h = chained_middle p y middle right i (strict_tail p (middle ++ (y ∷ right)) f) (omega arith)
 
--- if the list x, `middle`, `right` becomes `middle`, y, `right`, the parts (`less_the_rest`) of the entries of `right` do not change
 same_back : (x y : ℕ) (middle right : List ℕ) (i : ℕ) → length middle < i → get_or (less_the_rest (x ∷ (middle ++ right))) i 0 ≡ get_or (less_the_rest (middle ++ (y ∷ right))) i 0
 same_back x y middle right zero h = absurd (omega arith)
 same_back x y [] right (suc i) h = refl
@@ -59,8 +51,6 @@ pub above_lowered : (y z : ℕ) (middle back : List ℕ) → FallsStrictly (z �
 above_lowered y z [] back f = f.0
 above_lowered y z (m ∷ middle) back f = let p = f.0 in let q = above_lowered y m middle back f.1 in omega arith
 
--- if y < x, and the list x, `middle`, `right` becomes the strictly decreasing list `middle`, y, `right`, the part (`less_the_rest`) at the place that
--- y then has becomes smaller
 below_last : (x y : ℕ) (middle right : List ℕ) → y < x → FallsStrictly (middle ++ (y ∷ right))
     → get_or (less_the_rest (middle ++ (y ∷ right))) (length middle) 0 < get_or (less_the_rest (x ∷ (middle ++ right))) (length middle) 0
 below_last x y [] right h f = let w = rest_within y right f in omega arith
@@ -78,16 +68,10 @@ same_length : (x y : ℕ) (middle right : List ℕ) → length (x ∷ (middle ++
 same_length x y middle right = let a = length-append middle right in let b = length-append middle (y ∷ right) in omega arith
 
 outer_at : (n y : ℕ) (left middle right : List ℕ) (i j : ℕ) → i - 1 ≡ length left + j → part (outer_of n y left middle right) i ≡ get_or (less_the_rest ((y + n) ∷ (middle ++ right))) j 0
-outer_at n y left middle right i j e =
-    part-from_beta (before n y left middle right) i
-    ∙ ap (λ m. get_or (less_the_rest (before n y left middle right)) m 0) e
-    ∙ past_front left ((y + n) ∷ (middle ++ right)) j
+outer_at n y left middle right i j e = search (rules, part-from_beta, past_front)
 
 inner_at : (y : ℕ) (left middle right : List ℕ) (i j : ℕ) → i - 1 ≡ length left + j → part (inner_of y left middle right) i ≡ get_or (less_the_rest (middle ++ (y ∷ right))) j 0
-inner_at y left middle right i j e =
-    part-from_beta (lowered y left middle right) i
-    ∙ ap (λ m. get_or (less_the_rest (lowered y left middle right)) m 0) e
-    ∙ past_front left (middle ++ (y ∷ right)) j
+inner_at y left middle right i j e = search (rules, part-from_beta, past_front)
 
 shown_rows : (n y : ℕ) (left middle right : List ℕ) → 1 ≤ n → FallsStrictly (lowered y left middle right)
     → IsHookRows (outer_of n y left middle right) (inner_of y left middle right) (length left + 1) (length left + 1 + length middle)
@@ -112,8 +96,6 @@ shown_rows n y left middle right h f = record {
       let l = below_last (y + n) y middle right (omega arith) (strict_drop left (middle ++ (y ∷ right)) f) in
       omega arith;
 }
-
--- ---- the partition of `lowered` is that of `before` without a rim hook of n cells, whose height is the length of `middle` plus 1
 
 pub shown_removal : (n y : ℕ) (left middle right : List ℕ) → 1 ≤ n → FallsStrictly (before n y left middle right) → FallsStrictly (lowered y left middle right)
     → IsRemoval n (from_beta (before n y left middle right)) (from_beta (lowered y left middle right))

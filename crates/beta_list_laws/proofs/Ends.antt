@@ -1,13 +1,14 @@
--- If rim hooks of n cells are removed from a partition λ until no more can be removed, the beta list of the partition that remains is the sorted
--- lowest list (`lowest`) of the beta list of λ.
---     goes_ends       the partition that remains, the product of the signs of the removals, and the number of cells
-use Rattle.std.proofs.Common.{◌≡◌, ℕ, zero, suc, ◌+◌, ◌-◌, ◌*◌, ◌/◌, ◌<◌, ◌≤◌, ◌⊎◌, inl, inr, List, ◌∷◌, ◌++◌, length, refl, sym, ◌∙◌, ap, ap₂, subst, arith, length-append, ℤ, ◌*ℤ◌, pos, Bool, true, false, nat_le, cond, Option, Some, None}
+-- Rim hooks of n cells are removed from a partition λ until no more can be removed: the beta list of the partition that remains is the lowest list
+-- (`lowest`) of the beta list of λ, sorted. The lowest list has, in place of each entry x, the number x % n + n·m; here m is the number of later
+-- entries that leave the remainder of x modulo n.
+--     goes_ends       the partition that remains, the product of the signs of the removals, and the number of removed cells
+use Rattle.std.proofs.Common.{◌≡◌, ℕ, zero, suc, ◌+◌, ◌-◌, ◌*◌, ◌<◌, ◌≤◌, ◌⊎◌, inl, inr, List, ◌∷◌, ◌++◌, length, refl, sym, ◌∙◌, ap, ap₂, subst, arith, length-append, ℤ, ◌*ℤ◌, pos, Bool, true, false, nat_le, cond, Option, Some, None, rules}
 use Rattle.std.proofs.Math.Nat.{mul-div_cancel_left}
 use Rattle.std.proofs.lemmas.Bool.{leb-true}
 use Rattle.std.proofs.lemmas.Bool.Decides.{nat_tests}
 use Rattle.sym_model.specs.Partition.{IsPartition, size, rows, columns}
 use Rattle.sym_model.specs.PlaceOrders.{minus_one_to}
-use Rattle.sym_model.specs.BetaList.{beta, from_beta, sorted_falling, rising_pairs}
+use Rattle.sym_model.specs.BetaList.{beta, from_beta, rising_pairs}
 use Rattle.sym_model.specs.Strip.{height}
 use Rattle.sym_model.specs.RimHookReduction.{IsRemoval, HasNoRemoval, GoesTo, ReducesTo}
 use Rattle.sym_model.proofs.Signs.{minus_one_to_add}
@@ -21,13 +22,8 @@ use Rattle.beta_list_laws.specs.LowestList.{lowest, end_of, power_of, end_sign, 
 use Rattle.beta_list_laws.proofs.Lowest.{lowest_moves, full_lowest, strict_falls, strict_pairs}
 use Rattle.strip_laws.proofs.RimHooks.{fewer_rows}
 
--- ---- if no rim hook of n cells can be removed from a partition, lowering (`lowest`) does not change its beta list
-
 stays_lowest : (k n : ℕ) (shape : List ℕ) → 1 ≤ n → IsPartition shape → rows shape ≤ k → HasNoRemoval n shape → lowest n (beta k shape) ≡ beta k shape
 stays_lowest k n shape h p r none = full_lowest n (beta k shape) (beta_strict k shape p.falls) (stays_full k n shape h p r none)
-
--- ---- one removal does not change the sorted lowest list; the numbers of increasing pairs of the lowest lists before and after it differ by the
--- height minus 1, modulo 2
 
 removal_resorts : (k n : ℕ) (shape left : List ℕ) → IsPartition shape → rows shape ≤ k → IsRemoval n shape left
     → (passed : ℕ) × Resorts passed (lowest n (beta k shape)) (lowest n (beta k left)) × (height shape left ≡ passed + 1) × (passed + 1 ≤ k)
@@ -50,7 +46,7 @@ removal_resorts k n shape left p l r =
         let y = length-append w.middle w.back in
         (passed, subst (λ q. Resorts q (lowest n (beta k shape)) (lowest n (beta k left))) (sym d) c, e, omega arith)
 
--- ---- the partition `end` that remains after the removals, the product of their signs, and their number (power)
+-- ---- the partition `end` that remains after all removals, the product `sign` of the signs of the removed rim hooks, and their number `power`
 
 pub record Ends (k n : ℕ) (shape end : List ℕ) (sign : ℤ) (power : ℕ) : Type 0 where
   pub end_is : end ≡ end_of k n shape
@@ -59,18 +55,7 @@ pub record Ends (k n : ℕ) (shape end : List ℕ) (sign : ℤ) (power : ℕ) : 
   pub partition : IsPartition end
 
 stays_ends : (k n : ℕ) (shape end : List ℕ) (sign : ℤ) → 1 ≤ n → IsPartition shape → rows shape ≤ k → HasNoRemoval n shape → shape ≡ end → sign ≡ pos 1 → Ends k n shape end sign zero
-stays_ends k n shape end sign h p r none e s =
-    let same = stays_lowest k n shape h p r none in
-    let strict = beta_strict k shape p.falls in
-    let q = strict_pairs (beta k shape) strict in
-    let t = ap rising_pairs same in
-    let z : 0 ≡ zero * (k + 1) + rising_pairs (lowest n (beta k shape)) = omega arith in
-    record {
-      end_is = sym e ∙ sym (ap (λ b. from_beta (sorted_falling b)) same ∙ ap from_beta (sorted-falling (beta k shape) (strict_falls (beta k shape) strict)) ∙ from_beta-beta k shape p r);
-      sign_is = s ∙ ap minus_one_to z;
-      cells = ap size e ∙ omega arith;
-      partition = subst IsPartition e p;
-    }
+stays_ends k n shape end sign h p r none e s = search (rules, stays_lowest, beta_strict, strict_pairs, sorted-falling, strict_falls, from_beta-beta)
 
 step_ends : (k n : ℕ) (shape left end : List ℕ) (t sign : ℤ) (power : ℕ) → IsPartition shape → rows shape ≤ k → IsRemoval n shape left → Ends k n left end t power
     → sign ≡ minus_one_to (k - height shape left) *ℤ t → Ends k n shape end sign (suc power)
@@ -101,8 +86,6 @@ goes_ends k n shape end sign zero h p (r, none, e, s) = stays_ends k n shape end
 goes_ends k n shape end sign (suc power) h p (r, left, t, m, g, s) =
     step_ends k n shape left end t sign power p r m (goes_ends k n left end t power h m.partition g) s
 
--- ---- from each partition rim hooks of n cells can be removed until no more can be removed
-
 abbrev HasEnd : ℕ → ℕ → List ℕ → Type 0
 HasEnd k n shape = (end : List ℕ) × (sign : ℤ) × (power : ℕ) × GoesTo k n shape end sign power
 
@@ -119,23 +102,16 @@ goes_within (suc fuel) k n shape f h p r =
         let e = later left m in
         (e.0, minus_one_to (k - height shape left) *ℤ e.1, suc e.2, (r, left, e.1, m, e.3, refl))
 
--- ---- the clauses of `removals_end_law`: the end, the number of removals (power), the sign, and that the end is reached
+-- ---- the clauses of the law `removals_end_law`
 
 pub goes_end : (k n : ℕ) (shape end : List ℕ) (sign : ℤ) (power : ℕ) → 1 ≤ n → IsPartition shape → GoesTo k n shape end sign power → end ≡ end_of k n shape
 goes_end k n shape end sign power h p g = (goes_ends k n shape end sign power h p g).end_is
 
 pub goes_power : (k n : ℕ) (shape end : List ℕ) (sign : ℤ) (power : ℕ) → 1 ≤ n → IsPartition shape → GoesTo k n shape end sign power → power ≡ power_of k n shape
-goes_power k n shape end sign power h p g =
-    let w = goes_ends k n shape end sign power h p g in
-    let c = w.cells in
-    let e = ap size w.end_is in
-    let d : n * power ≡ size shape - size (end_of k n shape) = omega arith in
-    sym (mul-div_cancel_left power h) ∙ ap (λ m. m / n) d
+goes_power k n shape end sign power h p g = search (rules, goes_ends, mul-div_cancel_left)
 
 pub goes_sign : (k n : ℕ) (shape end : List ℕ) (sign : ℤ) (power : ℕ) → 1 ≤ n → IsPartition shape → GoesTo k n shape end sign power → sign ≡ end_sign k n shape
-goes_sign k n shape end sign power h p g =
-    (goes_ends k n shape end sign power h p g).sign_is
-    ∙ ap (λ m. minus_one_to (m * (k + 1) + rising_pairs (lowest n (beta k shape)))) (goes_power k n shape end sign power h p g)
+goes_sign k n shape end sign power h p g = search (rules, goes_ends, goes_power)
 
 pub goes_to_end : (k n : ℕ) (shape : List ℕ) → 1 ≤ n → IsPartition shape → rows shape ≤ k → GoesTo k n shape (end_of k n shape) (end_sign k n shape) (power_of k n shape)
 goes_to_end k n shape h p r =
@@ -165,30 +141,19 @@ by_columns k n shape h p r false e =
     let l : n < k + columns (end_of k n shape) = grind (arith, nat_tests) in
     (end_of k n shape, end_sign k n shape, power_of k n shape, goes_to_end k n shape h p r, l)
 
--- a partition of at most k rows reduces, in the sense of `ReducesTo`, to its `reduction_by_remainders`
+-- each partition with at most k rows can be reduced by rim hooks (`ReducesTo`), with the result that is computed from the remainders of its beta list
+-- modulo n (`reduction_by_remainders`)
 pub reduces_by_remainders : (k n : ℕ) (shape : List ℕ) → 1 ≤ n → IsPartition shape → rows shape ≤ k → ReducesTo k n shape (reduction_by_remainders k n shape)
 reduces_by_remainders k n shape h p r = by_columns k n shape h p r (nat_le (k + columns (end_of k n shape)) n) refl
 
 pub wide : (k n : ℕ) (shape : List ℕ) → n < k + columns (end_of k n shape) → reduction_by_remainders k n shape ≡ None
-wide k n shape l =
-    let t : nat_le (k + columns (end_of k n shape)) n ≡ false = grind (arith, nat_tests) in
-    ap (λ v. cond {A = Option (List ℕ × ℤ × ℕ)} v (Some (end_of k n shape, end_sign k n shape, power_of k n shape)) None) t
+wide k n shape l = search rules
 
 pub narrow : (k n : ℕ) (shape : List ℕ) → k + columns (end_of k n shape) ≤ n → reduction_by_remainders k n shape ≡ Some (end_of k n shape, end_sign k n shape, power_of k n shape)
-narrow k n shape l =
-    let t : nat_le (k + columns (end_of k n shape)) n ≡ true = grind (arith, nat_tests) in
-    ap (λ v. cond {A = Option (List ℕ × ℤ × ℕ)} v (Some (end_of k n shape, end_sign k n shape, power_of k n shape)) None) t
+narrow k n shape l = search rules
 
--- if a partition reduces to `answer`, in the sense of `ReducesTo`, then `answer` is its `reduction_by_remainders`
+-- the result is unique: if reducing the partition by rim hooks (`ReducesTo`) gives `answer`, then `answer` is the result that is computed from the
+-- remainders of its beta list modulo n (`reduction_by_remainders`)
 pub reduces_only : (k n : ℕ) (shape : List ℕ) (answer : Option (List ℕ × ℤ × ℕ)) → 1 ≤ n → IsPartition shape → ReducesTo k n shape answer → answer ≡ reduction_by_remainders k n shape
-reduces_only k n shape None h p (end, sign, power, g, l) =
-    let e = ap columns (goes_end k n shape end sign power h p g) in
-    sym (wide k n shape (omega arith))
-reduces_only k n shape (Some a) h p (g, l) =
-    let f : List ℕ → ℤ → ℕ → Option (List ℕ × ℤ × ℕ) = λ x y z. Some (x, y, z) in
-    let first = goes_end k n shape a.0 a.1 a.2 h p g in
-    let e = ap columns first in
-    ap (λ x. f x a.1 a.2) first
-    ∙ ap (λ y. f (end_of k n shape) y a.2) (goes_sign k n shape a.0 a.1 a.2 h p g)
-    ∙ ap (λ z. f (end_of k n shape) (end_sign k n shape) z) (goes_power k n shape a.0 a.1 a.2 h p g)
-    ∙ sym (narrow k n shape (omega arith))
+reduces_only k n shape None h p (end, sign, power, g, l) = search (rules, goes_end, wide)
+reduces_only k n shape (Some a) h p (g, l) = search (rules, goes_end, goes_sign, goes_power, narrow)

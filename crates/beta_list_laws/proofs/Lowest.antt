@@ -1,8 +1,9 @@
--- The lowest list (`lowest` of specs/LowestList): lowering an entry of a list moves one entry of its lowest list, and a full list is its own lowest
--- list.
---     lowest_moves      if an entry y + n becomes y and moves after `middle`, one entry of the lowest list moves back by the length of `middle`
+-- The lowest list (`lowest` of specs/LowestList) has, in place of each entry x of a list, the number x % n + n·m; here m is the number of later
+-- entries that leave the remainder of x modulo n. A strictly decreasing list is full (`IsFull`) if no entry x can be lowered to x - n.
+--     lowest_moves      if an entry y + n becomes y and moves to the right over `middle`, the sorted lowest list does not change; the number of
+--                       increasing pairs of the lowest list changes, modulo 2, by the length of `middle`
 --     full_lowest       the lowest list of a full list is that list
-use Rattle.std.proofs.Common.{◌≡◌, ℕ, suc, ◌+◌, ◌-◌, ◌*◌, ◌%◌, ◌<◌, ◌≤◌, ◌⊎◌, inl, inr, true, List, [], ◌∷◌, ◌++◌, length, refl, sym, ◌∙◌, ap, ap₂, subst, arith}
+use Rattle.std.proofs.Common.{◌≡◌, ℕ, suc, ◌+◌, ◌-◌, ◌*◌, ◌%◌, ◌<◌, ◌≤◌, ◌⊎◌, inl, inr, true, List, [], ◌∷◌, ◌++◌, length, refl, sym, ◌∙◌, ap, ap₂, subst, arith, rules}
 use Rattle.std.proofs.lemmas.Bool.{cases_lt, cases_eq}
 use Rattle.std.proofs.Math.Nat.{add-mod_right, mod-eq_of_lt, mod-le}
 use Rattle.sym_model.specs.Partition.{Falls}
@@ -19,40 +20,21 @@ use Rattle.beta_list_laws.specs.LowestList.{alike, lowest}
 use Rattle.beta_list_laws.proofs.Remainders.{alike_far, between_unlike, alike-here, alike-past, alike-remainder, alike-append, lowered_remainder}
 use Rattle.beta_list_laws.proofs.BetaLowerings.{not_below}
 
--- ---- a strictly decreasing list without its second entry; the lowest list after an entry y + n is lowered to y and moved after the entries of
--- `middle`
+-- ---- the lowest list after an entry y + n is lowered to y and moved to the right
 
 pub strict_second : (a b : ℕ) (c : List ℕ) → FallsStrictly (a ∷ b ∷ c) → FallsStrictly (a ∷ c)
 strict_second a b [] f = tt
 strict_second a b (d ∷ c) f = let p = f.0 in let q = f.1.0 in (omega arith, f.1.1)
 
--- the number of entries with the remainder of x modulo n does not change if y + n is replaced by y and moved after `middle`
 same_counts : (n x y : ℕ) (middle back : List ℕ) → alike n x ((y + n) ∷ (middle ++ back)) ≡ alike n x (middle ++ (y ∷ back))
-same_counts n x y middle back =
-    let a = alike-append n x middle back in
-    let b = alike-append n x middle (y ∷ back) in
-    let t : alike n x ((y + n) ∷ []) ≡ alike n x (y ∷ []) = single (y + n) y (add-mod_right y n) in
-    omega arith
-  where
-    single : (u v : ℕ) → u % n ≡ v % n → alike n x (u ∷ []) ≡ alike n x (v ∷ [])
-    single u v e = elim (cases_eq (v % n) (x % n)) [
-      | inl h ↦ alike-here n x u [] (e ∙ h) ∙ sym (alike-here n x v [] h)
-      | inr d ↦ alike-past n x u [] (λ g. d (sym e ∙ g)) ∙ sym (alike-past n x v [] d)
-    ]
+same_counts n x y middle back = search (rules, alike-append, add-mod_right, cases_eq, alike-here, alike-past)
 
--- if y and m leave different remainders modulo n, the number of entries with the remainder of m is the same with y in the list and without it
 unseen : (n y m : ℕ) (middle back : List ℕ) → (y % n ≡ m % n → ⊥) → alike n m (middle ++ back) ≡ alike n m (middle ++ (y ∷ back))
-unseen n y m middle back d =
-    let a = alike-append n m middle back in
-    let b = alike-append n m middle (y ∷ back) in
-    let c = alike-past n m y back d in
-    omega arith
+unseen n y m middle back d = search (rules, alike-append, alike-past)
 
 move_behind : (n y : ℕ) (middle back : List ℕ) → FallsStrictly ((y + n) ∷ (middle ++ back)) → FallsStrictly (middle ++ (y ∷ back))
     → Resorts (length middle) (lowest n ((y + n) ∷ (middle ++ back))) (lowest n (middle ++ (y ∷ back)))
-move_behind n y [] back f g =
-    let e = ap₂ (λ r a. r + a * n) (add-mod_right y n) (alike-remainder n (y + n) y back (add-mod_right y n)) in
-    subst (λ c. Resorts 0 (c ∷ lowest n back) (lowest n (y ∷ back))) (sym e) (resorts_itself (lowest n (y ∷ back)))
+move_behind n y [] back f g = search (rules, add-mod_right, alike-remainder, resorts_itself)
 move_behind n y (m ∷ middle) back f g =
     let top = (y + n) % n + alike n (y + n) (middle ++ back) * n in
     let top_now = (y + n) % n + alike n (y + n) (m ∷ (middle ++ back)) * n in
@@ -92,10 +74,7 @@ lowest_moves n y (x ∷ front) middle back f g =
 -- ---- the lowest list of a full list (`IsFull`) is that list
 
 count_full : (n x : ℕ) (b : List ℕ) → FallsStrictly (x ∷ b) → IsFull n (x ∷ b) → x % n + alike n x b * n ≡ x
-count_full n x [] f g = elim (cases_lt x n) [
-  | inl l ↦ (let e = mod-eq_of_lt l in omega arith)
-  | inr l ↦ (let t = g.0 l in absurd (cc))
-]
+count_full n x [] f g = search (rules, cases_lt, mod-eq_of_lt)
 count_full n x (w ∷ b) f g =
     by (cases_lt x n) (cases_eq w (x - n)) (count_full n w b (strict_tail x (w ∷ b) f) g.1) (λ h. count_full n x b (strict_second x w b f) (h, g.1.1))
   where
@@ -129,8 +108,6 @@ pub full_lowest : (n : ℕ) (b : List ℕ) → FallsStrictly b → IsFull n b �
 full_lowest n [] f g = refl
 full_lowest n (x ∷ b) f g = ap₂ ◌∷◌ (count_full n x b f g) (full_lowest n b (strict_tail x b f) g.1)
 
--- ---- a strictly decreasing list is weakly decreasing, and has no increasing pair
-
 pub strict_falls : (b : List ℕ) → FallsStrictly b → Falls b
 strict_falls [] f = tt
 strict_falls (a ∷ []) f = tt
@@ -143,8 +120,6 @@ none_greater x a (c ∷ b) f h = let l = f.0 in let e = counts-not_less x c (ome
 pub strict_pairs : (b : List ℕ) → FallsStrictly b → rising_pairs b ≡ 0
 strict_pairs [] f = refl
 strict_pairs (a ∷ b) f = let e = none_greater a a b f (omega arith) in let g = strict_pairs b (strict_tail a b f) in omega arith
-
--- ---- each entry of the lowest list is at most the entry of the given list from which it is computed
 
 pub lowered_below : (n x : ℕ) (b : List ℕ) → FallsStrictly (x ∷ b) → x % n + alike n x b * n ≤ x
 lowered_below n x [] f = let e = mod-le x n in omega arith

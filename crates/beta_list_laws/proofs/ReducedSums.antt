@@ -1,8 +1,10 @@
--- The terms of a list reduced by rim hooks or into the alcove: the coefficients of the result depend only on the coefficients of the list.
---     reduced_sum         the coefficient at a label of a list of terms reduced by rim hooks
---     reflected_sum       the coefficient at a label of a list of terms reflected into the alcove
---     absolute_within     the sum of the absolute values of a list with each label once is at most that of any list with the same coefficients
-use Rattle.std.proofs.Common.{◌≡◌, ℕ, ◌≤◌, cond, List, [], ◌∷◌, refl, sym, ◌∙◌, ap, ap₂, subst, inl, inr, arith, ℤ, pos, negsuc, ◌+ℤ◌, ◌*ℤ◌, ◌≤ℤ◌, Option, Some, None}
+-- The partitions that label the terms of a list are reduced by rim hooks, or reflected into the alcove: the coefficients of the resulting list of
+-- terms depend only on the coefficients of the given list.
+--     reduced_sum         the labels are reduced by rim hooks: the coefficient of a label in the resulting list
+--     reflected_sum       the labels are reflected into the alcove: the coefficient of a label in the resulting list
+--     absolute_within     let no label occur twice in a list: the sum of the absolute values of its coefficients is at most that of any list with
+--                         the same coefficients
+use Rattle.std.proofs.Common.{◌≡◌, ℕ, ◌≤◌, cond, List, [], ◌∷◌, refl, sym, ◌∙◌, ap, ap₂, subst, inl, inr, arith, ℤ, pos, negsuc, ◌+ℤ◌, ◌*ℤ◌, ◌≤ℤ◌, Option, Some, None, rules}
 use Rattle.std.specs.Prelude.{nat_abs}
 use Rattle.std.proofs.lemmas.Int.{ints}
 use Rattle.std.proofs.Math.IntN.{*ℤ-zero, +ℤ_idl, +ℤ_idr}
@@ -59,10 +61,7 @@ one_reflected label c None = sym (*ℤ-zero c)
 one_reflected label c (Some a) = +ℤ_idr (cond (same a.0 label) (c *ℤ a.1) (pos 0)) ∙ times_chosen (same a.0 label) c a.1
 
 pub reflected_sum : (k n : ℕ) (terms : WholeTerms) (label : List ℕ) → coefficient (reflected_terms k n terms) label ≡ total (λ (t : Term). t.1 *ℤ alcove_share k n label t.0) terms
-reflected_sum k n terms label =
-    total_each (λ (t : Term). cond (same t.0 label) t.1 (pos 0)) (λ (t : Term). reflected_term t.1 (alcove_reduction k n t.0)) terms
-    ∙ total_ext (λ (t : Term). coefficient (reflected_term t.1 (alcove_reduction k n t.0)) label) (λ (t : Term). t.1 *ℤ alcove_share k n label t.0)
-    (λ (t : Term). one_reflected label t.1 (alcove_reduction k n t.0)) terms
+reflected_sum k n terms label = search (rules, total_each, total_ext, one_reflected)
 
 -- ---- sums of the absolute values of the coefficients of a list of terms
 
@@ -78,9 +77,7 @@ sgn_bounds (negsuc n) (negsuc m) = omega (arith, ints)
 
 coefficient_absent : (xs : WholeTerms) (label : List ℕ) → (Among label (labels xs) → ⊥) → coefficient xs label ≡ pos 0
 coefficient_absent [] label n = refl
-coefficient_absent (x ∷ xs) label n =
-    let t = same_apart x.0 label (λ e. n (inl (sym e))) in
-    ap (λ b. cond b x.1 (pos 0) +ℤ coefficient xs label) t ∙ +ℤ_idl (coefficient xs label) ∙ coefficient_absent xs label (λ m. n (inr m))
+coefficient_absent (x ∷ xs) label n = search (rules, same_apart, +ℤ_idl, (coefficient_absent xs label))
 
 label_among : (t : Term) (xs : WholeTerms) → Among t xs → Among t.0 (labels xs)
 label_among t (x ∷ xs) (inl e) = inl (ap (λ (u : Term). u.0) e)
@@ -89,12 +86,7 @@ label_among t [] m = absurd m
 
 coefficient_once : (xs : WholeTerms) → Once (labels xs) → (t : Term) → Among t xs → coefficient xs t.0 ≡ t.1
 coefficient_once [] o t m = absurd m
-coefficient_once (x ∷ xs) o t (inl e) =
-    ap (λ (u : Term). coefficient (x ∷ xs) u.0) e
-    ∙ ap (λ b. cond b x.1 (pos 0) +ℤ coefficient xs x.0) (same_refl x.0)
-    ∙ ap (λ z. x.1 +ℤ z) (coefficient_absent xs x.0 o.0)
-    ∙ +ℤ_idr x.1
-    ∙ sym (ap (λ (u : Term). u.1) e)
+coefficient_once (x ∷ xs) o t (inl e) = search (rules, same_refl, coefficient_absent, +ℤ_idr)
 coefficient_once (x ∷ xs) o t (inr m) =
     let apart : (x.0 ≡ t.0 → ⊥) = λ e. o.0 (subst (λ l. Among l (labels xs)) (sym e) (label_among t xs m)) in
     ap (λ b. cond b x.1 (pos 0) +ℤ coefficient xs t.0) (same_apart x.0 t.0 apart) ∙ +ℤ_idl (coefficient xs t.0) ∙ coefficient_once xs o.1 t m

@@ -1,8 +1,8 @@
 -- Numbers and lists in a window of n numbers, t, .., t + n - 1.
 --     up_low, up_high, up-remainder     `up n t x`, the least number ≥ t with the remainder of x, is in the window and has this remainder
 --     up_is                             each number of the window [t, t + n) with the remainder of x is `up n t x`
---     alcove_only                       a strictly decreasing list with a spread (first minus last) below n is given by its sum and remainders
-use Rattle.std.proofs.Common.{◌≡◌, ℕ, zero, suc, ◌+◌, ◌-◌, ◌*◌, ◌/◌, ◌%◌, true, false, ◌<◌, ◌≤◌, ◌⊎◌, inl, inr, cond, List, [], ◌∷◌, ◌++◌, map, length, get_or, refl, sym, ◌∙◌, ap, ap₂, arith}
+--     alcove_only                       a strictly decreasing list with a spread (first minus last) below n is determined by its sum and remainders
+use Rattle.std.proofs.Common.{◌≡◌, ℕ, zero, suc, ◌+◌, ◌-◌, ◌*◌, ◌/◌, ◌%◌, true, false, ◌<◌, ◌≤◌, ◌⊎◌, inl, inr, cond, List, [], ◌∷◌, ◌++◌, map, length, get_or, refl, sym, ◌∙◌, ap, ap₂, arith, rules}
 use Rattle.std.proofs.lemmas.Bool.{cases_lt, cases_eq, eq-eqb, or_parts, ne_eqb}
 use Rattle.std.proofs.lemmas.List.{length-map, map-append}
 use Rattle.std.proofs.Math.Nat.{add-mod_right, add-mul-mod_self_left, mod-add-div', mod-lt, mod-mod}
@@ -34,18 +34,7 @@ past-other n t u d = ap (λ v. cond v (t + n) u) (ne_eqb u t d)
 
 up_window : (n t x : ℕ) → 1 ≤ n → InWindow n t x (up n t x)
 up_window n zero x h = record { low = omega arith; high = let l = mod-lt x h in omega arith; remainder = mod-mod x n }
-up_window n (suc t) x h = by (up n t x) (up_window n t x h) (cases_eq (up n t x) t)
-  where
-    by : (u : ℕ) → InWindow n t x u → (u ≡ t) ⊎ (u ≡ t → ⊥) → InWindow n (suc t) x (past n t u)
-    by u w (inl e) =
-        let p = past-here n t u e in
-        let r = w.remainder in
-        record { low = omega arith; high = omega arith; remainder = ap (λ v. v % n) p ∙ add-mod_right t n ∙ ap (λ v. v % n) (sym e) ∙ r }
-    by u w (inr d) =
-        let p = past-other n t u d in
-        let a = w.low in
-        let b = w.high in
-        record { low = omega arith; high = omega arith; remainder = ap (λ v. v % n) p ∙ w.remainder }
+up_window n (suc t) x h = search (rules, cases_eq, past-here, add-mod_right, past-other, (up_window n t x h))
 
 pub up_low : (n t x : ℕ) → 1 ≤ n → t ≤ up n t x
 up_low n t x h = (up_window n t x h).low
@@ -56,7 +45,6 @@ up_high n t x h = (up_window n t x h).high
 pub up-remainder : (n t x : ℕ) → 1 ≤ n → up n t x % n ≡ x % n
 up-remainder n t x h = (up_window n t x h).remainder
 
--- if u is in the window [t, t + n) and leaves the remainder of x modulo n, it is the least number ≥ t with this remainder
 pub up_is : (n t x u : ℕ) → 1 ≤ n → t ≤ u → u < t + n → u % n ≡ x % n → up n t x ≡ u
 up_is n t x u h a b e = alike_same n t (up n t x) u (up-remainder n t x h ∙ sym e) (up_low n t x h) (up_high n t x h) a b
 
@@ -72,7 +60,7 @@ up_rises n t (suc d) x =
     let b = past_above n (t + d) (up n (t + d) x) in
     omega arith
 
--- ---- the list of the least numbers ≥ t with the remainders of the entries of a list: its sum does not decrease if t increases
+-- ---- if t increases, the sum of the least numbers ≥ t with the remainders of the entries of a list does not decrease
 
 pub map_up_same : (n t : ℕ) (s : List ℕ) (d : ℕ) → size (map (up n t) s) ≤ size (map (up n (t + d)) s)
 map_up_same n t [] d = omega arith
@@ -85,12 +73,8 @@ same_where_sums n t (x ∷ s) d e =
     let b = map_up_same n t s d in
     ap₂ ◌∷◌ (omega arith) (same_where_sums n t s d (omega arith))
 
--- exchanging two neighbouring entries of a list does not change the sorted list of the f(x) for the entries x
 pub sorted-map-exchange : (f : ℕ → ℕ) (left : List ℕ) (a b : ℕ) (right : List ℕ) → sorted_falling (map f (left ++ (a ∷ b ∷ right))) ≡ sorted_falling (map f (left ++ (b ∷ a ∷ right)))
-sorted-map-exchange f left a b right =
-    ap sorted_falling (map-append f left (a ∷ b ∷ right))
-    ∙ sorted-exchange (map f left) (f a) (f b) (map f right)
-    ∙ ap sorted_falling (sym (map-append f left (b ∷ a ∷ right)))
+sorted-map-exchange f left a b right = search (rules, map-append, sorted-exchange)
 
 pub sorted-map-sorted : (f : ℕ → ℕ) (s : List ℕ) → sorted_falling (map f (sorted_falling s)) ≡ sorted_falling (map f s)
 sorted-map-sorted f s = sort_reach (λ l. sorted_falling (map f l) ≡ sorted_falling (map f s)) s (λ left a b right e. sym (sorted-map-exchange f left a b right) ∙ e) refl
@@ -120,12 +104,10 @@ strict_lie n t a (c ∷ b) f e l =
 pub narrow_lie : (n a : ℕ) (b : List ℕ) → FallsStrictly (a ∷ b) → spread (a ∷ b) < n → LieIn n (last_of a b) (a ∷ b)
 narrow_lie n a b f l = let e = spread_is a b in let h = last_below a b f in strict_lie n (last_of a b) a b f refl (omega arith)
 
--- if the entries of b lie in the window [t, t + n), each is the least number ≥ t with its remainder modulo n
 pub window_back : (n t : ℕ) (b : List ℕ) → 1 ≤ n → LieIn n t b → map (up n t) (remainders n b) ≡ b
 window_back n t [] h w = refl
 window_back n t (x ∷ b) h w = ap₂ ◌∷◌ (up_is n t (x % n) x h w.0 w.1 (sym (mod-mod x n))) (window_back n t b h w.2)
 
--- a strictly decreasing list whose first entry exceeds its last by less than n is determined by its last entry and its remainders modulo n
 narrow_shown : (n a : ℕ) (b : List ℕ) → 1 ≤ n → FallsStrictly (a ∷ b) → spread (a ∷ b) < n
     → a ∷ b ≡ sorted_falling (map (up n (last_of a b)) (sorted_falling (remainders n (a ∷ b))))
 narrow_shown n a b h f l =
@@ -140,13 +122,7 @@ shown_same n t d s c e p q z =
     p ∙ ap sorted_falling (same_where_sums n t s d (omega arith)) ∙ sym q
 
 same_remainders_length : (n : ℕ) (c d : List ℕ) → sorted_falling (remainders n c) ≡ sorted_falling (remainders n d) → length c ≡ length d
-same_remainders_length n c d e =
-    let a = length-sorted (remainders n c) in
-    let b = length-sorted (remainders n d) in
-    let p = length-map c (λ x. x % n) in
-    let q = length-map d (λ x. x % n) in
-    let r = ap length e in
-    omega arith
+same_remainders_length n c d e = search (rules, length-sorted, length-map)
 
 pub length-end : (n : ℕ) (b c : List ℕ) → IsAlcoveEnd n b c → length c ≡ length b
 length-end n b c w = same_remainders_length n c b w.alike
@@ -174,9 +150,6 @@ alcove_only n b (x ∷ c) (y ∷ d) h w v =
         let m : last_of y d ≡ last_of x c + k = omega arith in
         shown_same n (last_of x c) k (sorted_falling (remainders n b)) (x ∷ c) (y ∷ d) p (q ∙ ap (λ t. sorted_falling (map (up n t) (sorted_falling (remainders n b)))) m) e
 
--- ---- the sum of the least numbers ≥ t with the remainders of a list, if t increases by 1
-
--- the least number ≥ n·q with the remainder of x modulo n is x % n + n·q
 up-multiple : (n q x : ℕ) → 1 ≤ n → up n (n * q) x ≡ x % n + n * q
 up-multiple n q x h =
     let l = mod-lt x h in
@@ -189,19 +162,7 @@ size-multiple n q (x ∷ b) h = let e = up-multiple n q x h in let r = size-mult
 -- if t increases by 1, the sum of the least numbers ≥ t with the remainders of b increases by n for each entry of b with the remainder of t
 pub size-next : (n t : ℕ) (b : List ℕ) → 1 ≤ n → size (map (up n (suc t)) b) ≡ size (map (up n t) b) + n * alike n t b
 size-next n t [] h = omega arith
-size-next n t (x ∷ b) h = by (cases_eq (x % n) (t % n)) (size-next n t b h)
-  where
-    by : (x % n ≡ t % n) ⊎ (x % n ≡ t % n → ⊥) → size (map (up n (suc t)) b) ≡ size (map (up n t) b) + n * alike n t b
-        → size (map (up n (suc t)) (x ∷ b)) ≡ size (map (up n t) (x ∷ b)) + n * alike n t (x ∷ b)
-    by (inl e) r =
-        let u : up n t x ≡ t = up_is n t x t h (omega arith) (omega arith) (sym e) in
-        let p : up n (suc t) x ≡ t + n = past-here n t (up n t x) u in
-        let a = ap (λ m. n * m) (alike-here n t x b e) in
-        omega arith
-    by (inr d) r =
-        let p : up n (suc t) x ≡ up n t x = past-other n t (up n t x) (λ e. d (sym (up-remainder n t x h) ∙ ap (λ v. v % n) e)) in
-        let a = ap (λ m. n * m) (alike-past n t x b d) in
-        omega arith
+size-next n t (x ∷ b) h = search (rules, cases_eq, up_is, past-here, alike-here, past-other, up-remainder, alike-past, (size-next n t b h))
 
 pub size_above : (n t : ℕ) (b : List ℕ) → 1 ≤ n → t * length b ≤ size (map (up n t) b)
 size_above n t [] h = omega arith
@@ -210,32 +171,14 @@ size_above n t (x ∷ b) h = let l = up_low n t x h in let r = size_above n t b 
 pub size_remainders : (n x turns : ℕ) (b : List ℕ) → size b ≡ size (remainders n b) + turns * n → size (x ∷ b) ≡ size (remainders n (x ∷ b)) + (turns + x / n) * n
 size_remainders n x turns b e = let d = mod-add-div' x n in omega arith
 
--- ---- the number of entries with the remainder of x: it is positive if the remainder occurs, and at most 1 if all remainders are different
-
 pub has_alike : (n x : ℕ) (b : List ℕ) → 1 ≤ alike n x b → has (x % n) (remainders n b) ≡ true
 has_alike n x [] h = absurd (omega arith)
-has_alike n x (y ∷ b) h = by (cases_eq (y % n) (x % n)) (has_alike n x b)
-  where
-    by : (y % n ≡ x % n) ⊎ (y % n ≡ x % n → ⊥) → (1 ≤ alike n x b → has (x % n) (remainders n b) ≡ true) → has (x % n) (remainders n (y ∷ b)) ≡ true
-    by (inl e) later = has_here (x % n) (y % n) (remainders n b) e
-    by (inr d) later = let a = alike-past n x y b d in has_past (x % n) (y % n) (remainders n b) d ∙ later (omega arith)
+has_alike n x (y ∷ b) h = search (rules, cases_eq, has_here, alike-past, has_past, (has_alike n x b))
 
 pub lacks_alike : (n x : ℕ) (b : List ℕ) → alike n x b ≡ 0 → has (x % n) (remainders n b) ≡ false
 lacks_alike n x [] h = refl
-lacks_alike n x (y ∷ b) h = by (cases_eq (y % n) (x % n)) (lacks_alike n x b)
-  where
-    by : (y % n ≡ x % n) ⊎ (y % n ≡ x % n → ⊥) → (alike n x b ≡ 0 → has (x % n) (remainders n b) ≡ false) → has (x % n) (remainders n (y ∷ b)) ≡ false
-    by (inl e) later = let a = alike-here n x y b e in absurd (omega arith)
-    by (inr d) later = let a = alike-past n x y b d in has_past (x % n) (y % n) (remainders n b) d ∙ later (omega arith)
+lacks_alike n x (y ∷ b) h = search (rules, cases_eq, alike-here, alike-past, has_past, (lacks_alike n x b))
 
 pub alike_once : (n x : ℕ) (b : List ℕ) → has_equal_entries (remainders n b) ≡ false → alike n x b ≤ 1
 alike_once n x [] d = omega arith
-alike_once n x (y ∷ b) d = by (cases_eq (y % n) (x % n)) (or_parts (has (y % n) (remainders n b)) (has_equal_entries (remainders n b)) d) (alike_once n x b)
-  where
-    none : (c : ℕ) → y % n ≡ x % n → has (y % n) (remainders n b) ≡ false → alike n x b ≡ c → c ≡ 0
-    none zero e f g = refl
-    none (suc c) e f g = let t = sym (has_alike n x b (omega arith)) ∙ ap (λ v. has v (remainders n b)) (sym e) ∙ f in absurd (cc)
-
-    by : (y % n ≡ x % n) ⊎ (y % n ≡ x % n → ⊥) → (has (y % n) (remainders n b) ≡ false) × (has_equal_entries (remainders n b) ≡ false) → (has_equal_entries (remainders n b) ≡ false → alike n x b ≤ 1) → alike n x (y ∷ b) ≤ 1
-    by (inl e) p later = let a = alike-here n x y b e in let z = none (alike n x b) e p.0 refl in omega arith
-    by (inr c) p later = let a = alike-past n x y b c in let r = later p.1 in omega arith
+alike_once n x (y ∷ b) d = search (rules, cases_eq, or_parts, has_alike, alike-here, alike-past, (alike_once n x b))

@@ -1,5 +1,6 @@
--- The list at which the reflections of a strictly decreasing list end: it has the same sum and the same remainders modulo n, and its first entry
--- exceeds its last by less than n (Kac and Walton).
+-- Reflections into the alcove (Kac and Walton): while the first entry of a strictly decreasing list exceeds the last by more than n, n is subtracted
+-- from the first and added to the last, and the list is sorted. If the reduction is not 0, the list at which the reflections end has the sum of the
+-- given list and the same remainders modulo n, and its first entry exceeds its last by less than n.
 use Rattle.std.specs.Prelude.{◌≡◌, ℕ, zero, suc, ◌+◌, ◌%◌, ◌<◌, ◌==◌, cond, List, [], ◌∷◌, map}
 use Rattle.sym_model.specs.Partition.{size}
 use Rattle.sym_model.specs.BetaList.{sorted_falling}
@@ -23,8 +24,8 @@ pub record IsAlcoveEnd (n : ℕ) (b c : List ℕ) : Type 0 where
   pub alike : sorted_falling (remainders n c) ≡ sorted_falling (remainders n b)
   pub narrow : spread c < n
 
--- `past n t u` is t + n if u = t, and u otherwise. If u is the least number ≥ t with some remainder modulo n, this is the least number > t with that
--- remainder
+-- `past n t u` is t + n if u = t, and u otherwise. If u is the least number ≥ t with some remainder modulo n, `past n t u` is the least number > t
+-- with this remainder
 abbrev pub past : ℕ → ℕ → ℕ → ℕ
 past n t u = cond (u == t) (t + n) u
 

@@ -29,8 +29,8 @@ abbrev pub end_sign : ℕ → ℕ → List ℕ → ℤ
 end_sign k n shape =
     minus_one_to (power_of k n shape * (k + 1) + rising_pairs (lowest n (beta k shape)))
 
--- the reduction of a partition with at most k rows: its n-core, with the product of the signs and the number of the
--- removals; None if the n-core has more than n - k columns
+-- the reduction of a partition with at most k rows by rim hooks of n cells: its n-core (what is left when no more can be removed), with the product
+-- of the signs and the number of the removals; None if the n-core has more than n - k columns
 abbrev pub reduction_by_remainders : ℕ → ℕ → List ℕ → Option (List ℕ × ℤ × ℕ)
 reduction_by_remainders k n shape =
     cond (nat_le (k + columns (end_of k n shape)) n)

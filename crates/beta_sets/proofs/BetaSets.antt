@@ -15,7 +15,6 @@ use Rattle.beta_sets.proofs.BinaryPlaces.{lowest, places-suc, has-places, places
 pub below_power : (x n m : ℕ) → x < 2 ^ n → n ≤ m → x < 2 ^ m
 below_power x n m h l = let p : 2 ^ n ≤ 2 ^ m = pow-le-pow_right {n = 2} (omega arith) l in omega arith
 
--- if a < 64 is not in the set, the binary digit of the set at place a is 0
 pub digit-absent : (set a : ℕ) → a < 64 → has a (numbers set) ≡ false → bit_at set a ≡ 0
 digit-absent set a l h = by (bit_at set a) (bit_at-lt set a) (sym (has-places 64 a set l) ∙ h)
   where
@@ -33,7 +32,7 @@ or_digit set a l h = or_disjoint set (2 ^ a) (and_pow set a ∙ ap (λ d. d * 2 
 pub with_digit : (set a : ℕ) → a < 64 → has a (numbers set) ≡ false → bit_or set (1 * 2 ^ a % 2 ^ 64) ≡ set + 2 ^ a
 with_digit set a l h = ap (bit_or set) (one_shl a 64 l) ∙ or_digit set a l h
 
--- ---- the empty set; and if the partitions of sets have at most d cells, and d ≤ e, they have at most e cells
+-- ---- the empty set, and the sets of beta numbers of partitions with at most a given number of cells
 
 places-zero : (k : ℕ) → places k 0 ≡ []
 places-zero zero = places-none 0

@@ -49,8 +49,6 @@ places-odd k n =
     let r : (2 * n + 1) % 2 ≡ 1 = omega arith in
     places-suc k (2 * n + 1) ∙ ap₂ (λ m r. map suc (places k m) ++ lowest (nat_eq r 1)) h r
 
--- ---- the places after one more digit 1 is set
-
 put-zero : (xs : List ℕ) → put_falling 0 (map suc xs) ≡ map suc xs ++ 0 ∷ []
 put-zero [] = refl
 put-zero (x ∷ xs) = let e : nat_le (suc x) 0 ≡ false = grind (arith, nat_tests) in ap (λ b. cond b (0 ∷ suc x ∷ map suc xs) (suc x ∷ put_falling 0 (map suc xs))) e ∙ ap (λ l. suc x ∷ l) (put-zero xs)
@@ -148,8 +146,6 @@ greater-places (suc k) zero n h =
 greater-places (suc k) (suc a) n h =
     ap (greater (suc a)) (places-suc k n) ∙ greater-suc a (places k (n / 2)) (nat_eq (n % 2) 1) ∙ greater-places k a (n / 2) (omega arith)
     ∙ ap (λ m. count_ones (m / 2)) (shr-shr n 1 a ∙ ap (λ j. n / 2 ^ j) (let e : 1 + a ≡ suc a = omega arith in e))
-
--- ---- the places of the digits 1, listed from the highest one on
 
 pub places-top : (k n : ℕ) → places (suc k) n ≡ cond (nat_eq (bit_at n k) 1) (k ∷ []) [] ++ places k n
 places-top zero n =

@@ -11,7 +11,6 @@ use Rattle.beta_sets.specs.BetaSets.{numbers, places, IsSplit}
 use Rattle.beta_sets.proofs.BinaryPlaces.{lowest, places-suc, places-none, places-more, has-places}
 use Rattle.beta_sets.proofs.BetaSets.{below_power}
 
--- if n is less than 2^k, the places of its digits 1 among the d + k lowest digits are those among the k lowest digits
 pub places-enough : (d k n : ℕ) → n < 2 ^ k → places (d + k) n ≡ places k n
 places-enough zero k n h = ap (λ m. places m n) (let e : 0 + k ≡ k = omega arith in e)
 places-enough (suc d) k n h =
@@ -59,8 +58,6 @@ split_at set k l low high =
 pub numbers-none : numbers 0 ≡ []
 numbers-none = ap (λ n. places n 0) (let e : 64 ≡ 64 + 0 = omega arith in e) ∙ places-enough 64 0 0 (omega arith) ∙ places-none 0
 
--- ---- the places of the digits 1 are strictly decreasing
-
 raised_strict : (xs : List ℕ) (b : Bool) → FallsStrictly xs → FallsStrictly (map suc xs ++ lowest b)
 raised_strict [] true f = tt
 raised_strict [] false f = tt
@@ -72,8 +69,6 @@ pub places_strict : (k n : ℕ) → FallsStrictly (places k n)
 places_strict zero n = subst FallsStrictly (sym (places-none n)) tt
 places_strict (suc k) n =
     subst FallsStrictly (sym (places-suc k n)) (raised_strict (places k (n / 2)) (nat_eq (n % 2) 1) (places_strict k (n / 2)))
-
--- ---- 2^a is at most the number that stores a set, if a is in the set
 
 pub digit_low : (set a : ℕ) → a < 64 → has a (numbers set) ≡ true → 2 ^ a ≤ set
 digit_low set a l h = by (cases_lt set (2 ^ a))

@@ -1,4 +1,4 @@
--- A set from the list of its numbers, subsets, and the first row of its partition (specs/BetaSets).
+-- Sets of beta numbers, stored as binary digits (specs/BetaSets): a set from the list of its numbers, subsets, and the first row of its partition.
 --     set_of-numbers                          the set of the numbers in a set is this set
 --     places-free, places-from, places-below  those numbers in a set that have a given property
 --     first_row, no_row                       the first row of the partition of a set
@@ -68,7 +68,6 @@ places-selected (suc k) P n m h =
         head false e = sym (ap (λ t. cond t (k ∷ filter P (places k n)) (filter P (places k n))) e)
     either false b e = refl
 
--- for binary digits p and q, min(p, q) is 1 if and only if p and q are both 1
 digit_and : (p q : ℕ) (t : Bool) → p < 2 → q < 2 → nat_eq q 1 ≡ t → nat_eq (min p q) 1 ≡ (nat_eq p 1 && t)
 digit_and zero q t l h e = let m : min zero q ≡ zero = omega arith in ap (λ d. nat_eq d 1) m
 digit_and (suc zero) zero t l h e = e
@@ -81,14 +80,11 @@ digit_not zero l = refl
 digit_not (suc zero) l = refl
 digit_not (suc (suc q)) l = absurd (omega arith)
 
--- if, for each a < 64, the binary digit of m at place a is 1 if and only if a passes the test P, then the numbers in the set n & m are those numbers
--- in n that pass P
 and_selects : (P : ℕ → Bool) (n m : ℕ) → ((a : ℕ) → a < 64 → nat_eq (bit_at m a) 1 ≡ P a) → numbers (bit_and n m) ≡ filter P (numbers n)
 and_selects P n m h =
     places-selected 64 P n (bit_and n m)
     (λ a l. ap (λ d. nat_eq d 1) (bit_at_and n m a) ∙ digit_and (bit_at n a) (bit_at m a) (P a) (bit_at-lt n a) (bit_at-lt m a) (h a l))
 
--- the binary digits of a number below 2^64 are 0 from place 64 on
 digit_above : (n a : ℕ) → n < 2 ^ 64 → 64 ≤ a → nat_eq (bit_at n a) 1 ≡ false
 digit_above n a h l = ap (λ d. nat_eq d 1) (bit_at_above n 64 a h l)
 
@@ -107,7 +103,6 @@ has_at set a h = by (cases_lt a 64)
     by (inl l) = has-places 64 a set l
     by (inr l) = absent_above set a 64 l ∙ sym (digit_above set a h l)
 
--- the binary digit of n / 2^k (rounded down) at place a is the digit of n at place a + k
 digit_shifted : (n k a : ℕ) → bit_at (n / 2 ^ k) a ≡ bit_at n (a + k)
 digit_shifted n k a =
     sym (shr_and_one (n / 2 ^ k) a)
@@ -124,7 +119,6 @@ places-free k n h = and_selects (λ b. not (has (b + k) (numbers n))) n (bit_not
         ∙ ap (λ d. not (nat_eq d 1)) (digit_shifted n k a)
         ∙ ap not (sym (has_at n (a + k) h))
 
--- the binary digit of 2^place - 1 at place a is 1 if and only if a < place
 digit_ones : (place a : ℕ) → nat_eq (bit_at (2 ^ place - 1) a) 1 ≡ nat_lt a place
 digit_ones place a = by (cases_lt a place)
   where
@@ -183,9 +177,7 @@ no_row set b others s z =
     no_part (shape set) (from_beta_partition (numbers set) (places_strict 64 set))
     (part-from_beta (numbers set) 1 ∙ ap (λ l. part (less_the_rest l) 1) s.numbers ∙ (let f : b - length (numbers others) ≡ 0 = omega arith in f))
 
--- ---- sets of the same number n of numbers, with the same partition
-
--- the set of n numbers is the beta set of its partition with n rows
+-- the numbers in a set of n numbers are the beta list, with n entries, of the partition of this set
 pub beads_of : (n set : ℕ) → length (numbers set) ≡ n → beta n (shape set) ≡ numbers set
 beads_of n set e = ap (λ j. beta j (shape set)) (sym e) ∙ beta-from_beta (numbers set) (places_strict 64 set)
 

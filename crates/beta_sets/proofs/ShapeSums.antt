@@ -1,7 +1,7 @@
 -- Tables of beta sets as lists of partitions (specs/BetaSets).
 --     over-shapes     the sum of φ over a list of beta sets, each replaced by its partition
 --     written_out     the image of a list under the linear map that takes each set to its partition
---     one_label       a property of the label of a list of one term
+--     one_label       if a label has a property, then each label of the list of only one term, with this label, has the property
 use Rattle.std.proofs.Common.{◌≡◌, ℕ, List, [], ◌∷◌, refl, sym, ap₂, inl, inr, subst, ℤ, pos, ◌*ℤ◌}
 use Rattle.sym_model.specs.WholeTerms.{WholeTermsOf}
 use Rattle.sym_model.proofs.Ring.{product-one}

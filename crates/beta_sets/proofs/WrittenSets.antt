@@ -1,6 +1,7 @@
--- The terms of a table of beta sets are written one after another; the label of each is the partition of its set.
+-- A table of beta sets as a list of terms: the label of each term is the partition of its set.
 --     coefficient-before     the partition of a term's set is not among those of the terms before it
---     same_quotients         for tables with the same coefficients, the coefficients divided by d are the same
+--     same_quotients         if two tables have the same coefficients, and a list has the coefficients of one table divided by d, then it has those
+--                            of the other table divided by d
 use Rattle.std.proofs.Common.{◌≡◌, ℕ, true, cond, List, ◌∷◌, ◌++◌, refl, sym, ap, ap₂, ◌∙◌, subst, inl, ℤ, pos}
 use Rattle.std.specs.Prelude.{nat_eq, Option, Some}
 use Rattle.std.specs.Option.{unwrap_or}
@@ -25,7 +26,6 @@ use Rattle.beta_sets.proofs.ShapeSums.{over-shapes}
 use Rattle.beta_sets.proofs.SetNumbers.{same_shape}
 use Rattle.sparse_polys.proofs.PartitionTerms.{once_before}
 
--- two terms of a table that have the same label are equal
 same_term : (terms : WholeTermsOf ℕ) → IsDistinct nat_eq (keys_of terms) → (t u : ℕ × ℤ) → Among t terms → Among u terms → t.0 ≡ u.0 → t ≡ u
 same_term terms d t u m n e =
     let f = found-among nat_eq_equiv same_set terms d t m in
@@ -57,7 +57,6 @@ pub same_quotients : (d : ℕ) (first second : WholeTermsOf ℕ) (answer : Terms
     → HasSameCoefficients nat_eq (pos 0) first second → Quotients d answer (shapes second) → Quotients d answer (shapes first)
 same_quotients d first second answer is also equal q label = q label ∙ ap (λ z. lowest_terms z d) (same_sums first second is also equal label)
 
--- if P holds for the labels of the table `first`, it holds for those of any table `second` with the same coefficients
 pub same_labels : (P : ℕ → Type 0) (first second : WholeTermsOf ℕ) → IsCombination nat_eq (λ s. true) whole first → IsCombination nat_eq (λ s. true) whole second
     → HasSameCoefficients nat_eq (pos 0) first second → HaveLabels P first → HaveLabels P second
 same_labels P first second is also equal held t m =

@@ -194,8 +194,8 @@ impl BetaSet {
         }
     }
 
-    /// The greatest of the numbers of the set, of which there are `rows`; `None` if the partition
-    /// of the set is empty.
+    /// The greatest number of this set of `rows` numbers; `None` if the partition of the set is
+    /// empty.
     fn first_bead(self, rows: u16) -> Option<u16>
         requires { rows ≡ length (numbers self) }
         ensures { MatchOption result (shape self ≡ []) (λ b. IsSplit self b (self - 2 ^ b)

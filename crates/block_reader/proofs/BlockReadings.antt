@@ -1,4 +1,4 @@
--- The results of reading a text as the block of an answer.
+-- The results of reading a text as the *block* of an answer, that is, as a printed list of terms with one line for each term.
 use Rattle.std.proofs.Common.{◌≡◌, ◌≢◌, ℕ, arith, ℤ, pos, List, [], ◌∷◌, ◌++◌, ◌&&◌, ◌==◌, Bool, true, false, cond, Option, Some, None, FitsSigned, refl, sym, ◌∙◌, ap, subst, append-nil, nat_lt, nat_abs}
 use Rattle.std.specs.Prelude.{Err}
 use Rattle.std.specs.Int.{w128}
@@ -47,7 +47,7 @@ canonical-fit {L} rules (t ∷ terms) h k =
     (and_from (fits rules.has_fractions t.1) (rules.is_within_limits t.0) (and_from (is_coefficient rules.has_fractions t.1) (fits_128_bits t.1.0 && fits_128_bits (pos t.1.1)) r.0 q.0) r.1)
     (canonical-fit rules terms p.1 q.1)
 
--- if the terms that the lines of the text spell are not in order, or a block cannot have them all (`all_fit`), the text is not a block (`read_by` is
+-- if the terms that the lines of the text spell are not in order, or do not all fit into a block (`all_fit`), the text is not a block (`read_by` is
 -- `None`)
 refused-none : {L : Type 0} (rules : LabelRules L) (text : List ℕ)
     → (is_ordered rules.order (terms_of rules text) && all_fit rules.has_fractions rules.is_within_limits (terms_of rules text)) ≡ false → read_by rules text ≡ None
@@ -109,8 +109,6 @@ none_else (Some x) h = absurd (h x refl)
 
 pub number-refused : (text : List ℕ) → (FitsSigned w128 (signed_value (cut_at 10 text).0) → ⊥) → read_by (label_rules kinds.number) text ≡ None
 number-refused text large = none_else (read_by (label_rules kinds.number) text) (λ terms e. large (number-line text terms e).fits)
-
--- ---- the text, compared with the block of the answer that was read
 
 -- if only the answer a can have `text` as its block, and the block of a is another text, then `text` is not a block (`read_by` is `None`)
 pub not_printed : (kind : Kind) (text : List ℕ) (a : PlainAnswer)

@@ -1,4 +1,5 @@
--- A one-line form is rewritten as the block of its terms.
+-- A *one-line form*, an expression such as 2*s[2,1] for a list of terms, is rewritten as the *block* of the terms, which has one line for each term:
+-- its coefficient, two spaces, and the numbers of its label in parentheses. An *atom* is a basis letter with numbers in brackets, such as s[2,1].
 use Rattle.std.proofs.Common.{◌≡◌, ℕ, suc, ◌^◌, ◌<◌, Bool, true, false, ◌&&◌, ◌||◌, List, [], ◌∷◌, ◌++◌, length, cond, eqb, leb, pos, negsuc, nat_abs, refl, sym, ap, ap₂, ◌∙◌, append_assoc, decimal, arith}
 use Rattle.std.specs.Fmt.{digits}
 use Rattle.std.proofs.lemmas.Bool.{ne_eqb, le-leb, lt-leb, and_from, and_parts, cond-true, cond-false, eqb-true}
@@ -49,9 +50,8 @@ some-digits-stay bare (byte ∷ bytes) rest some h = digit-stays bare byte (byte
 number-stays : (bare : Bool) (n : ℕ) (rest : List ℕ) → n < 10 ^ 64 → block_from bare (decimal n ++ rest) ≡ decimal n ++ block_from false rest
 number-stays bare n rest h = some-digits-stay bare (decimal n) rest (decimal-nonempty n h) (decimal-digits n h)
 
--- ---- the atoms of a one-line form become labels
+-- ---- the basis elements of a one-line form, such as s[2,1], become labels
 
--- the numbers of an atom, each below 10^64, are kept, and the `]` after them becomes `)` and a line feed
 numbers-rewritten : (bare : Bool) (numbers rest : List ℕ) → AreShort numbers
     → block_from bare (numbers_text numbers ++ (93 ∷ rest)) ≡ numbers_text numbers ++ (41 ∷ 10 ∷ block_from true rest)
 numbers-rewritten true [] rest h = refl
@@ -67,7 +67,6 @@ numbers-rewritten bare (a ∷ b ∷ numbers) rest h =
 abbrev label_end : List ℕ → List ℕ → List ℕ
 label_end numbers rest = 32 ∷ 32 ∷ 40 ∷ (numbers_text numbers ++ (41 ∷ 10 ∷ rest))
 
--- an atom with numbers below 10^64, after a coefficient, becomes two spaces, its label and a line feed
 atom-rewritten : (basis : Basis) (numbers rest : List ℕ) → AreShort numbers → block_from false (atom_text basis numbers ++ rest) ≡ label_end numbers (block_from true rest)
 atom-rewritten basis numbers rest h = by basis
   where
@@ -82,7 +81,6 @@ atom-rewritten basis numbers rest h = by basis
     by power_sums = inner
     by schurs = inner
 
--- an atom with numbers below 10^64, without a coefficient, becomes a line with the coefficient 1 and its label
 bare_atom-rewritten : (basis : Basis) (numbers rest : List ℕ) → AreShort numbers → block_from true (atom_text basis numbers ++ rest) ≡ 49 ∷ label_end numbers (block_from true rest)
 bare_atom-rewritten basis numbers rest h = by basis
   where
@@ -99,7 +97,6 @@ bare_atom-rewritten basis numbers rest h = by basis
 
 -- ---- the terms of a one-line form become the lines of a block
 
--- a coefficient with numerator and denominator below 10^64 is kept, and the `*` after it is dropped
 coefficient-rewritten : (num den : ℕ) (rest : List ℕ) → num < 10 ^ 64 → den < 10 ^ 64
     → block_from true ((fraction_text (pos num, den) ++ (42 ∷ [])) ++ rest) ≡ fraction_text (pos num, den) ++ block_from false rest
 coefficient-rewritten num den rest h k =
@@ -119,7 +116,6 @@ unit-text c h =
     let p = and_parts (eqb (nat_abs c.0) 1) (eqb c.1 1) h in
     ap₂ (λ (n d : ℕ). fraction_text (pos n, d)) (eqb-true (nat_abs c.0) 1 p.0) (eqb-true c.1 1 p.1)
 
--- a term with numbers below 10^64 (`IsReadable`), written without its sign, becomes its line in the block, without the sign
 unsigned-rewritten : (basis : Basis) (t : List ℕ × Fraction) (rest : List ℕ) → IsReadable t
     → block_from true (unsigned_text basis t ++ rest) ≡ fraction_text (without_sign t.1) ++ label_end t.0 (block_from true rest)
 unsigned-rewritten basis t rest h = by (is_unit t.1) refl
@@ -141,7 +137,6 @@ negative-text n den = by (eqb den 1)
     by false = refl
 
 module _ (has_fractions : Bool) (basis : Basis) where
-  -- the coefficient of a term t, followed by two spaces, its label, a line feed and `rest` (`label_end`), is the line of t, followed by `rest`
   line-front : (t : List ℕ × Fraction) (rest : List ℕ) → fraction_text t.1 ++ label_end t.0 rest ≡ (fraction_text t.1 ++ (list_text t.0 ++ (10 ∷ []))) ++ rest
   line-front t rest =
       sym (append_assoc (fraction_text t.1) (list_text t.0 ++ (10 ∷ [])) rest
@@ -150,7 +145,6 @@ module _ (has_fractions : Bool) (basis : Basis) where
   abbrev lines : Terms (List ℕ) → List ℕ
   lines terms = lines_by (list_rules printed_order is_label has_fractions) terms
 
-  -- the terms after the first, with numbers below 10^64, become their lines in the block
   later-rewritten : (terms : Terms (List ℕ)) → AreReadable terms → block_from true (later_text basis terms ++ (10 ∷ [])) ≡ lines terms
   later-rewritten [] h = refl
   later-rewritten ((label, (pos n, den)) ∷ terms) h =
@@ -165,7 +159,6 @@ module _ (has_fractions : Bool) (basis : Basis) where
       ∙ ap (λ s. s ++ label_end label (lines terms)) (sym (negative-text n den))
       ∙ line-front (label, (negsuc n, den)) (lines terms)
 
-  -- the one-line form of a list of terms with numbers below 10^64 is rewritten as the block of this list
   pub line-rewritten : (terms : Terms (List ℕ)) → AreReadable terms → block_from true (one_line basis terms) ≡ block_by (list_rules printed_order is_label has_fractions) terms
   line-rewritten [] h = refl
   line-rewritten ((label, (pos n, den)) ∷ terms) h =

@@ -26,7 +26,6 @@ abbrev pub pieces_after : ℕ → List ℕ → List (List ℕ)
 pieces_after s [] = []
 pieces_after s (b ∷ text) = split_at s text
 
--- the pieces of a text are the text before the first separator and the pieces after that separator
 pub split-cut : (s : ℕ) (text : List ℕ) → split_at s text ≡ (cut_at s text).0 ∷ pieces_after s (cut_at s text).1
 split-cut s [] = refl
 split-cut s (b ∷ text) = by (b == s) (split-cut s text)
@@ -47,8 +46,6 @@ after_one-cut s (b ∷ text) some = by (b == s) (after_one-cut s text) some
         → length (after_one (cond e ([], b ∷ text) (before_cut b (cut_at s text))).1) < suc (length text)
     by true ih some = omega arith
     by false ih some = let h = ih some in omega arith
-
--- ---- a text without its last byte, and a text without its first and its last byte, as slices
 
 without_last-taken : (text : List ℕ) → 1 ≤ length text → take (length text - 1) text ≡ without_last text
 without_last-taken [] some = absurd (omega arith)

@@ -4,7 +4,6 @@ use Rattle.std.proofs.lemmas.List.{take-append-drop}
 use Rattle.sym_model.specs.NumberText.{value_from, decimal_value}
 use Rattle.printing_laws.proofs.Decimals.{value_from-append, value_from-ge, decimal_value_more}
 
--- the value of the first k digits is at most the value of all digits
 pub value-front : (xs : List ℕ) (k : ℕ) → decimal_value (take k xs) ≤ decimal_value xs
 value-front xs k =
     let e : value_from 0 (take k xs ++ drop k xs) ≡ value_from (decimal_value (take k xs)) (drop k xs) = value_from-append 0 (take k xs) (drop k xs) in

@@ -1,4 +1,5 @@
--- The terms that a block can have, and the terms of a line from its parts.
+-- A *block* is a printed list of terms, with one line for each term. The coefficients and labels that a block can have, and the terms of a line,
+-- given by the parts of the line: one term, or no term if the coefficient is 0.
 use Rattle.std.proofs.Common.{◌≡◌, ◌≢◌, ℕ, zero, suc, arith, ℤ, pos, negsuc, List, [], ◌∷◌, ◌++◌, ◌&&◌, Bool, true, false, FitsSigned, refl, sym, ◌∙◌, ap, ap₂}
 use Rattle.std.specs.Prelude.{nat_lt, nat_abs}
 use Rattle.std.specs.Int.{w128}
@@ -22,7 +23,7 @@ fraction_of-cut text = ap fraction_of_pieces (split-cut 47 text) ∙ behind (cut
     behind num [] = refl
     behind num (slash ∷ tail) = ap (λ ps. fraction_of_pieces (num ∷ ps)) (split-cut 47 tail)
 
--- the terms of a line are those of the numerator, the denominator and the label that are cut out of the line (`term_with`)
+-- the terms of a line are the list that `term_with` makes from the numerator, the denominator and the label that are cut out of the line
 pub line-told : {L : Type 0} (rules : LabelRules L) (line coefficient name num den : List ℕ) → coefficient ≡ (cut_at 32 line).0 → name ≡ (cut_at 32 line).1
     → num ≡ (cut_at 47 coefficient).0 → den ≡ (cut_at 47 coefficient).1
     → term_of_line rules (cut_at 32 line) ≡ term_with (signed_value num) den (rules.spelled name)
@@ -37,8 +38,6 @@ counts (pos (suc n)) other = lt-ltb 0 (suc n) (omega arith)
 counts (negsuc n) other = lt-ltb 0 (suc n) (omega arith)
 
 module _ {L : Type 0} (has_fractions : Bool) (is_label : L → Bool) where
-  -- if the numerator z is not 0, the line has one term (`term_with`): `label` with the coefficient that has the numerator z and the denominator in
-  -- `den`
   pub term-counts : (z : ℤ) (den : List ℕ) (label : L) → z ≢ pos 0 → term_with z den label ≡ (label, (z, denominator_after den)) ∷ []
   term-counts z den label other = cond-true (nat_lt 0 (nat_abs z)) ((label, (z, denominator_after den)) ∷ []) [] (counts z other)
 
@@ -48,15 +47,11 @@ module _ {L : Type 0} (has_fractions : Bool) (is_label : L → Bool) where
   alone : (label : L) (c : Fraction) → (fits has_fractions c && is_label label) ≡ false → all_fit has_fractions is_label ((label, c) ∷ []) ≡ false
   alone label c h = ap (λ b. b && true) h
 
-  -- if the numerator z is not 0, and a block cannot have the coefficient with the numerator z and the denominator in `den`, then the term of z, `den`
-  -- and `label` (`term_with`) does not fit (`all_fit`)
   pub term-unfit : (z : ℤ) (den : List ℕ) (label : L) → z ≢ pos 0 → fits has_fractions (z, denominator_after den) ≡ false
       → all_fit has_fractions is_label (term_with z den label) ≡ false
   term-unfit z den label other h =
       ap (all_fit has_fractions is_label) (term-counts z den label other) ∙ alone label (z, denominator_after den) (ap (λ b. b && is_label label) h)
 
-  -- if the numerator z is not 0, and `label` does not pass the test `is_label`, then the term of z, `den` and `label` (`term_with`) does not fit
-  -- (`all_fit`)
   pub term-unlabelled : (z : ℤ) (den : List ℕ) (label : L) → z ≢ pos 0 → is_label label ≡ false
       → all_fit has_fractions is_label (term_with z den label) ≡ false
   term-unlabelled z den label other h =
@@ -64,14 +59,12 @@ module _ {L : Type 0} (has_fractions : Bool) (is_label : L → Bool) where
       ∙ alone label (z, denominator_after den) (false_from_ne_true (fits has_fractions (z, denominator_after den) && is_label label)
       (λ k. let clash : true ≡ false = sym (and_parts (fits has_fractions (z, denominator_after den)) (is_label label) k).1 ∙ h in cc))
 
-  -- if the numerator z is not a signed number of 128 bits, then the term of z, `den` and `label` (`term_with`) does not fit (`all_fit`)
   pub term-large : (z : ℤ) (den : List ℕ) (label : L) → (FitsSigned w128 z → ⊥) → all_fit has_fractions is_label (term_with z den label) ≡ false
   term-large z den label large =
       term-unfit z den label (λ e. large (fits_from_test z (ap fits_128_bits e)))
       (false_from_ne_true (fits has_fractions (z, denominator_after den)) (λ k.
       large (fits_from_test z (and_parts (fits_128_bits z) (fits_128_bits (pos (denominator_after den))) (and_parts (is_coefficient has_fractions (z, denominator_after den)) _ k).1).0)))
 
-  -- if the terms ys do not all fit (`all_fit`), the terms xs ++ ys do not all fit
   pub unfit-behind : (xs ys : Terms L) → all_fit has_fractions is_label ys ≡ false → all_fit has_fractions is_label (xs ++ ys) ≡ false
   unfit-behind [] ys h = h
   unfit-behind (x ∷ xs) ys h = false_from_ne_true (all_fit has_fractions is_label (x ∷ xs ++ ys))

@@ -1,4 +1,5 @@
--- The reasons why a list of numbers is not a label.
+-- The reasons why a list of numbers is not the label of a term, that is, not a partition, the exponents of a monomial or the letters of a
+-- permutation, within the limits.
 use Rattle.std.proofs.Common.{◌≡◌, ℕ, zero, suc, ◌+◌, ◌-◌, ◌^◌, ◌≤◌, ◌<◌, length, arith, List, [], ◌∷◌, ◌++◌, append-nil, length-append, ◌&&◌, ◌==◌, true, false, Option, Some, None, sym, ◌∙◌, ap, subst, take, inl, inr}
 use Rattle.std.specs.Prelude.{slice_index, MatchOption, not, nat_lt, nat_le}
 use Rattle.std.proofs.lemmas.Bool.{and_parts, leb-true, ltb-true, eq-eqb, false_from_ne_true, not-true, or_parts}
@@ -19,12 +20,11 @@ use Rattle.partitions.specs.Limits.{RisesFirstAt}
 use Rattle.perm_codes.specs.Limits.{OffendsFirstAt}
 use Rattle.block_reader.specs.Parts.{AreSmall}
 
--- if `MatchOption o P Q` holds and the option o is `None`, then P holds
 pub at_none : {A : Type 0} (P : Type 0) (Q : A → Type 0) (o : Option A) → o ≡ None → MatchOption o P Q → P
 at_none P Q None e h = h
 at_none P Q (Some x) e h = cc
 
--- ---- lists of numbers that are no label of a partition
+-- ---- lists of numbers that are not a partition within the limits
 
 falls-at : (parts : List ℕ) (k : ℕ) → Falls parts → slice_index parts (suc k) ≤ slice_index parts k
 falls-at [] k f = omega arith
@@ -69,7 +69,7 @@ small-from_size (a ∷ numbers) h = (omega arith, small-from_size numbers (omega
 pub not_label-numbers : (parts : List ℕ) → (AreSmall parts → ⊥) → is_label parts ≡ false
 not_label-numbers parts large = false_from_ne_true (is_label parts) (λ h. let small = (is_label-tells parts h).size in large (small-from_size parts (omega arith)))
 
--- ---- lists of numbers that are no label of a monomial
+-- ---- lists of numbers that are not the exponents of a monomial within the limits
 
 record IsMonomial (e : List ℕ) : Type 0 where
   whole : without_last_zeros e ≡ e
@@ -102,7 +102,7 @@ not_monomial-big e big = false_from_ne_true (is_monomial_label e) (λ h.
 pub not_monomial-numbers : (e : List ℕ) → (AreSmall e → ⊥) → is_monomial_label e ≡ false
 not_monomial-numbers e large = false_from_ne_true (is_monomial_label e) (λ h. let small = (monomial-tells e h).small in large (small-from_size e (omega arith)))
 
--- ---- lists of numbers that are no label of a permutation
+-- ---- lists of numbers that are not the letters of a permutation within the limits
 
 record IsKeptLetters (w : List ℕ) : Type 0 where
   letters : are_letters (length w) w ≡ true
@@ -164,7 +164,6 @@ pub not_permutation-numbers : (w : List ℕ) → (AreSmall w → ⊥) → is_per
 not_permutation-numbers w large = false_from_ne_true (is_permutation_label w) (λ h.
     let p = permutation-tells w h in large (letters-small (length w) w p.few p.letters))
 
--- if `kept w`, which is w without the fixed letters at its end, has the length of w, then it equals w
 pub kept-long : (w : List ℕ) → length (kept w) ≡ length w → kept w ≡ w
 kept-long w long =
     let t = kept_whole w in

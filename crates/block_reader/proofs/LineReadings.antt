@@ -1,4 +1,5 @@
--- A one-line form is read by way of the block that it is rewritten as.
+-- A *one-line form* of an answer, an expression such as 2*s[2,1] for a list of terms, is read in two steps: it is rewritten as the *block* of the
+-- answer, which has one line for each term, and the block is read.
 use Rattle.std.proofs.Common.{◌≡◌, ◌≢◌, ℕ, List, Some, None, Result, Ok, Err, IfOk, true, false, refl, sym, ap, ◌∙◌, subst}
 use Rattle.std.proofs.lemmas.Bool.{and_parts}
 use Rattle.std.proofs.lemmas.Option.{same_Some}
@@ -19,7 +20,7 @@ use Rattle.block_reader.specs.Lines.{HasAtoms, IsLineOfExpression, block_from}
 use Rattle.block_reader.proofs.Blocks.{line-rewritten}
 use Rattle.block_reader.proofs.BlockReadings.{none_else}
 
--- the kind of an answer, given as the definitions describe it (`PlainAnswer`)
+-- the kind of an answer, for an answer of the type `PlainAnswer`
 abbrev pub plain_kind : PlainAnswer → Kind
 plain_kind (answer kind terms) = kind
 
@@ -33,7 +34,6 @@ plain_kind-is (Permutations terms) = refl
 plain_kind-is (Polynomial terms) = refl
 plain_kind-is (Shifts terms) = refl
 
--- if a text is the one-line form of a list of terms, the block that the text is rewritten as is read as this list
 reads-block : (basis : Basis) (kind : Kind) → HasAtoms kind → (text : List ℕ) (terms : Terms (Label kind))
     → read_in (as_line basis) kind text ≡ Some terms → read_by (label_rules kind) (block_from true text) ≡ Some terms
 reads-block basis expansion atoms text terms h =
@@ -48,14 +48,13 @@ reads-block basis product atoms text terms h =
     (ap (read_by (label_rules product)) (line-rewritten false basis terms readable) ∙ read_by-block (label_rules product) (legible product) terms r.canonical r.printable)
 reads-block basis _ atoms text terms h = absurd atoms
 
--- if the block that a text is rewritten as is not the block of a list, the text is not a one-line form
+-- let a text be rewritten as the text `block`: if `block` is not the block of a list of terms, the first text is not a one-line form
 pub refused_line : (basis : Basis) (kind : Kind) → HasAtoms kind → (text block : List ℕ) → block ≡ block_from true text → read_by (label_rules kind) block ≡ None
     → read_in (as_line basis) kind text ≡ None
 refused_line basis kind atoms text block is none =
     none_else (read_in (as_line basis) kind text) (λ terms h.
     let clash : None ≡ Some terms = sym none ∙ ap (read_by (label_rules kind)) is ∙ reads-block basis kind atoms text terms h in cc)
 
--- if `text` is a one-line form, and the list `found` has the block that `text` is rewritten as, then `text` is the one-line form of `found`
 same_line : (basis : Basis) (kind : Kind) → HasAtoms kind → (text : List ℕ) (terms : Terms (Label kind)) → read_in (as_line basis) kind text ≡ Some terms
     → (found : Terms (Label kind)) → IsPrintable (answer kind found) → block_by (label_rules kind) found ≡ block_from true text → text_in (as_line basis) kind found ≡ text
 same_line basis kind atoms text terms h found printable same =
@@ -64,15 +63,13 @@ same_line basis kind atoms text terms h found printable same =
     ∙ ap (read_by (label_rules kind)) same ∙ reads-block basis kind atoms text terms h in
     ap (text_in (as_line basis) kind) (same_Some found terms e) ∙ (read_in-tells (as_line basis) kind text terms h).text_is
 
--- if the answer a has the block that `text` is rewritten as, and the one-line form of a is another text, then `text` is not a one-line form
+-- let `text` be rewritten as the block of the answer a: if the one-line form of a is not `text`, then `text` is not a one-line form
 pub not_line : (basis : Basis) (kind : Kind) → HasAtoms kind → (text : List ℕ) (a : PlainAnswer) → plain_kind a ≡ kind → IsPrintable a → answer_text a ≡ block_from true text
     → answer_text_in (as_line basis) a ≢ text → read_in (as_line basis) kind text ≡ None
 not_line basis kind atoms text (answer k found) e printable same other =
     none_else (read_in (as_line basis) kind text) (λ terms h.
     other (subst (λ j. (ts : Terms (Label j)) → IsPrintable (answer j ts) → block_by (label_rules j) ts ≡ block_from true text → text_in (as_line basis) j ts ≡ text) (sym e)
     (same_line basis kind atoms text terms h) found printable same))
-
--- ---- a one-line form is an expression
 
 line_expression : (basis : Basis) (a : PlainAnswer) → HasAtoms (plain_kind a) → IsPrintable a → IsLineOfExpression basis a
 line_expression basis (answer expansion terms) atoms p = is_expression true basis terms p.0 p.1

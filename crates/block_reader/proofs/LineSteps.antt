@@ -11,7 +11,6 @@ use Rattle.block_reader.proofs.FittingTerms.{unfit-front, unfit-behind}
 
 module _ {L : Type 0} (rules : LabelRules L) (has_fractions : Bool) (is_label : L → Bool) (text rest line tail : List ℕ) (done : Terms L)
     (so_far : terms_of rules text ≡ done ++ terms_of rules rest) (front : line ≡ (cut_at 10 rest).0) (back : tail ≡ (cut_at 10 rest).1) where
-  -- if the term of the next line does not fit (`all_fit`), the terms of the text do not all fit
   pub lines-refused : all_fit has_fractions is_label (term_of_line rules (cut_at 32 line)) ≡ false → all_fit has_fractions is_label (terms_of rules text) ≡ false
   lines-refused h =
       let others = terms_of_lines rules (pieces_after 10 (cut_at 10 rest).1) in
@@ -20,14 +19,12 @@ module _ {L : Type 0} (rules : LabelRules L) (has_fractions : Bool) (is_label : 
       ∙ unfit-behind has_fractions is_label done (first ++ others)
       (unfit-front has_fractions is_label first others (ap (λ l. all_fit has_fractions is_label (term_of_line rules (cut_at 32 l))) (sym front) ∙ h))
 
-  -- if the line is the last one, the terms before it and its own term, if it has one, are the terms of the text
   pub lines-last : (found new : Terms L) → length tail ≡ 0 → found ≡ term_of_line rules (cut_at 32 line) → new ≡ done ++ found → new ≡ terms_of rules text
   lines-last found new none told e =
       let last : length (cut_at 10 rest).1 ≡ 0 = ap length (sym back) ∙ none in
       e ∙ ap (λ ts. done ++ ts) (told ∙ ap (λ l. term_of_line rules (cut_at 32 l)) front ∙ sym (append-nil (term_of_line rules (cut_at 32 (cut_at 10 rest).0))))
       ∙ ap (λ ps. done ++ terms_of_lines rules ps) (sym (pieces-last 10 rest last)) ∙ sym so_far
 
-  -- if another line follows, the terms of the text are those before the line, its own term, if it has one, and those of the later lines
   pub lines-more : (found new : Terms L) (others : List ℕ) → 0 < length tail → others ≡ after_one tail → found ≡ term_of_line rules (cut_at 32 line) → new ≡ done ++ found
       → terms_of rules text ≡ new ++ terms_of rules others
   lines-more found new others some after told e =

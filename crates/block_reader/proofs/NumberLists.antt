@@ -32,13 +32,11 @@ module _ (text : List ℕ) (some : 0 < length text) (numbers : List ℕ) (rest :
   all_numbers : (n : ℕ) (others : List ℕ) → map decimal_value (split_at 44 rest) ≡ n ∷ others → numbers ++ n ∷ others ≡ numbers_of text
   all_numbers n others e = ap (λ ns. numbers ++ ns) (sym e) ∙ so_far ∙ sym (numbers_of-nonempty text some)
 
-  -- if the value of the next piece is not below 2^16, the numbers of the text are not all below 2^16
   pub numbers-past : (piece : List ℕ) → piece ≡ (cut_at 44 rest).0 → (decimal_value piece < 2 ^ 16 → ⊥) → AreSmall (numbers_of text) → ⊥
   numbers-past piece is past small =
       let e = all_numbers (decimal_value (cut_at 44 rest).0) (map decimal_value (pieces_after 44 (cut_at 44 rest).1)) (ap (map decimal_value) (split-cut 44 rest)) in
       past (subst (λ p. decimal_value p < 2 ^ 16) (sym is) (small-behind numbers _ (subst AreSmall (sym e) small)).0)
 
-  -- if another number follows n, the numbers before n, followed by n and by the numbers of the rest of the text, are the numbers of the text
   pub numbers-more : (piece tail others : List ℕ) (n : ℕ) → piece ≡ (cut_at 44 rest).0 → tail ≡ (cut_at 44 rest).1 → others ≡ after_one tail
       → n ≡ decimal_value piece → 0 < length tail
       → (numbers ++ n ∷ []) ++ map decimal_value (split_at 44 others) ≡ map decimal_value (split_at 44 text)
@@ -49,7 +47,6 @@ module _ (text : List ℕ) (some : 0 < length text) (numbers : List ℕ) (rest :
       ∙ ap (λ t. numbers ++ decimal_value (cut_at 44 rest).0 ∷ map decimal_value (split_at 44 t)) (front ∙ ap after_one back)
       ∙ ap (λ ps. numbers ++ map decimal_value ps) (sym (pieces-more 44 rest more)) ∙ so_far
 
-  -- if n is the last number, the numbers before n, followed by n, are the numbers of the text
   pub numbers-last : (piece tail : List ℕ) (n : ℕ) → piece ≡ (cut_at 44 rest).0 → tail ≡ (cut_at 44 rest).1 → n ≡ decimal_value piece → length tail ≡ 0
       → numbers ++ n ∷ [] ≡ numbers_of text
   numbers-last piece tail n is back value none =

@@ -1,4 +1,5 @@
--- The coefficients and terms that a block can have, and the terms of a line.
+-- A *block* is a printed list of terms, with one line for each term. The coefficients and terms that a block can have, and the terms of a line: one
+-- term, or no term if the coefficient is 0.
 use Rattle.std.specs.Prelude.{ℤ, pos, ℕ, nat_lt, nat_abs, Bool, ◌&&◌, List, [], ◌∷◌, cond, Option}
 use Rattle.std.specs.Prelude.{Some, None}
 use Rattle.sym_model.specs.Expansion.{Fraction, Terms}

@@ -1,4 +1,5 @@
--- The one-line form of an answer, rewritten byte by byte as the block of this answer.
+-- The one-line form of an answer, rewritten byte by byte as the block of this answer. A one-line form is an expression with *atoms*: an atom is a
+-- basis letter with numbers in brackets, such as s[2,1]. A block has one line for each term.
 use Rattle.std.specs.Prelude.{ℕ, ◌==◌, nat_le, Bool, true, false, ◌&&◌, ◌||◌, List, [], ◌∷◌, ◌++◌}
 use Rattle.std.specs.Prelude.{codes, cond}
 use Rattle.sym_model.specs.Answer.{Answer, answer}
@@ -6,7 +7,7 @@ use Rattle.sym_model.specs.Expansion.{Basis}
 use Rattle.sym_model.specs.Kind.{Kind, expansion, product}
 use Rattle.printing_laws.specs.LineExpression.{IsExpression}
 
--- the labels of an answer of this kind are single partitions, which the one-line form writes as atoms
+-- the labels of an answer of this kind are single partitions, which the one-line form writes as atoms (basis elements such as s[2,1])
 abbrev pub HasAtoms : Kind → Type 0
 HasAtoms expansion = Unit {0}
 HasAtoms product = Unit {0}
@@ -36,7 +37,7 @@ abbrev pub is_bare_after : Bool → ℕ → Bool
 is_bare_after bare byte =
     cond (byte == 93) true (cond (nat_le 48 byte && nat_le byte 57) false bare)
 
--- the text of the block for the rest of a one-line form; `bare` says whether no digit was read since the last atom
+-- the text of the block for the rest of a one-line form; `bare` says whether no digit was read since the last atom, such as s[2,1]
 abbrev pub block_from : Bool → List ℕ → List ℕ
 block_from bare [] = []
 block_from bare (byte ∷ text) = emitted bare byte ++ block_from (is_bare_after bare byte) text

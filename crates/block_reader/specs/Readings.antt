@@ -1,4 +1,4 @@
--- Correct results of reading a text as the block of an answer.
+-- Correct results of reading a text as the block of an answer, which has one line for each term.
 use Rattle.std.specs.Prelude.{◌≡◌, ℕ, List, Result, Ok, Err, Some, None}
 use Rattle.sym_model.specs.Answer.{answer}
 use Rattle.sym_model.specs.Expansion.{Terms}
@@ -9,8 +9,8 @@ use Rattle.expansion_printer.specs.Answers.{kind_of_answer, plain_answer}
 use Rattle.block_reader.specs.declared.fault.ReadBackFault.{ReadBackFault}
 use Rattle.block_reader.specs.declared.fault.ReadBackFault.TheVariants.{NotPrinted, NoMemory}
 
--- The result is correct: an answer of this kind that is the only one that can have the text as its block; or `NotPrinted`, if no answer of this kind
--- has this block. Nothing is required if memory runs out.
+-- If the result is an answer, its kind is `kind`, and each answer of the kind `kind` that has the block `text` is equal to it. If the result is
+-- `NotPrinted`, no answer of the kind `kind` has the block `text`. Nothing is required if memory runs out.
 abbrev pub IsReading : Kind → List ℕ → Result Answer ReadBackFault → Type 0
 IsReading kind text (Ok a) = (kind_of_answer a ≡ kind)
     × ((terms : Terms (Label kind)) → read_by (label_rules kind) text ≡ Some terms

@@ -1,4 +1,5 @@
-//! Coefficients, read back from their numerators and denominators.
+//! Coefficients of the terms of a printed block, which has one line for each term, read back from
+//! their numerators and denominators.
 ghost use Rattle.std.specs.Prelude.{◌≡◌, Bool, true, false, MatchOption};
 ghost use Rattle.block_reader.specs.Fitting.{fits};
 

@@ -9,7 +9,8 @@ use thiserror::Error;
 /// The reason why a text is not read back as an answer.
 #[derive(Clone, Copy, Debug, PartialEq, Eq, Hash, Error)]
 pub enum ReadBackFault {
-    /// The text is not the block, or not the one-line form, of an answer of this kind.
+    /// The text is not a printed answer of the kind that is to be read: not its block, which has
+    /// one line for each term, or not its one-line form, such as 2*s[2,1].
     #[error("no printed block of this kind")]
     NotPrinted,
     /// Memory ran out.

@@ -1,4 +1,5 @@
-//! Labels, read back from their texts.
+//! Labels of the terms of a printed block, which has one line for each term, read back from their
+//! texts. A label is, for example, a partition, a permutation or a monomial.
 ghost use Rattle.std.specs.Prelude.{◌≡◌, ◌^◌, ◌<◌, ℕ, List, false, IfOk, MatchOption, SomeIff};
 ghost use Rattle.sym_model.specs.Kind.{LabelRules, label_rules, expansion, pairs, powers};
 ghost use Rattle.sym_model.specs.Kind.{permutations, polynomial, shifts};

@@ -1,4 +1,4 @@
-//! The terms of the lines of a block, read back.
+//! The terms of the lines of a printed block, which has one line for each term, read back.
 ghost use Rattle.std.specs.Prelude.{◌≡◌, ◌++◌, ◌&&◌, false, IfOk, IsErrOf, OnOk, MatchOption};
 ghost use Rattle.sparse_polys.specs.Combination.{terms_of};
 ghost use Rattle.sym_model.specs.Canonical.{is_ordered};

@@ -1,4 +1,5 @@
-//! One-line forms, read back as answers.
+//! One-line forms of answers, which are expressions with atoms such as `s[2,1]`, read back as
+//! answers.
 ghost use Rattle.std.specs.Prelude.{◌≡◌, ◌≢◌, None, IfOk, IsErrOf, MatchBool, OnErr, length};
 ghost use Rattle.sym_model.specs.Answer.{IsPrintable};
 ghost use Rattle.sym_model.specs.PrintedForm.{as_line, answer_text_in, read_in};
@@ -12,10 +13,10 @@ use calc_base::{Basis, CountSink, MemSink, NoMemory};
 use expansion_printer::{Answer, Kind, print_one_line};
 use std::alloc::Global;
 
-/// The answer of this kind, an expansion or a product, whose one-line form with the atoms of the
-/// basis is this text.
+/// The answer of the kind `kind`, an expansion or a product, whose one-line form with elements of
+/// the basis `basis`, such as `s[2,1]`, is `text`.
 ///
-/// Fails with `NotPrinted` if the text is not such a form, and with `NoMemory` only if memory runs
+/// Fails with `NotPrinted` if `text` is not such a form, and with `NoMemory` only if memory runs
 /// out.
 pub fn read_one_line(
     alloc: Global,
@@ -40,8 +41,7 @@ pub fn read_one_line(
     checked(alloc, answer, basis, text)
 }
 
-/// The answer, if the text is its one-line form with the atoms of the basis; otherwise
-/// `NotPrinted`.
+/// The answer, if the text is its one-line form in the basis; otherwise `NotPrinted`.
 fn checked(
     alloc: Global,
     answer: Answer,
@@ -67,7 +67,7 @@ fn checked(
     }
 }
 
-/// Whether the text is the one-line form of the answer with the atoms of the basis.
+/// Whether the text is the one-line form of the answer in the basis.
 fn is_line(alloc: Global, answer: &Answer, basis: Basis, text: &[u8]) -> Result<bool, NoMemory>
     ensures compares { IfOk result (λ same. MatchBool same
         (answer_text_in (as_line (basis_of basis)) (plain_answer answer.now) ≡ text.now)
@@ -89,8 +89,7 @@ fn is_line(alloc: Global, answer: &Answer, basis: Basis, text: &[u8]) -> Result<
     Ok(sink.bytes() == text)
 }
 
-/// Whether the one-line form of the answer, with the atoms of the basis, has the length of the
-/// text.
+/// Whether the one-line form of the answer in the basis has the length of the text.
 fn has_length(answer: &Answer, basis: Basis, text: &[u8]) -> bool
     ensures length { let line = answer_text_in (as_line (basis_of basis)) (plain_answer answer.now) in
         MatchBool result (length line ≡ length text.now) (length line ≢ length text.now) }

@@ -1,4 +1,4 @@
-//! Printed blocks, read back as answers.
+//! Printed blocks, which have one line for each term of an answer, read back as answers.
 ghost use Rattle.std.specs.Prelude.{◌≡◌, ◌≢◌, None, IfOk, IsErrOf, MatchBool, OnErr, length};
 ghost use Rattle.sym_model.specs.Answer.{answer_text, IsPrintable};
 ghost use Rattle.sym_model.specs.Kind.{label_rules, number, expansion, product, pairs, powers};
@@ -16,10 +16,10 @@ use coeff_rings::Int;
 use expansion_printer::{Answer, Kind, print};
 use std::alloc::Global;
 
-/// The answer of this kind whose printed block is this text.
+/// The answer of the kind `kind` whose printed block is `text`.
 ///
-/// Fails with `NotPrinted` if the text is not a block of this kind, and with `NoMemory` only if
-/// memory runs out.
+/// Fails with `NotPrinted` if `text` is not the block of an answer of this kind, and with
+/// `NoMemory` only if memory runs out.
 pub fn read_back(alloc: Global, text: &[u8], kind: Kind) -> Result<Answer, ReadBackFault>
     ensures kind { IfOk result (λ answer. kind_of_answer answer ≡ kind_of kind) }
     ensures prints { IfOk result (λ answer. answer_text (plain_answer answer) ≡ text.now) }
@@ -31,7 +31,7 @@ pub fn read_back(alloc: Global, text: &[u8], kind: Kind) -> Result<Answer, ReadB
     checked(alloc, answer, text)
 }
 
-/// The answer, if the text is its block; otherwise `NotPrinted`.
+/// The answer, if the text is its block; otherwise `NotPrinted`, or `NoMemory` if memory runs out.
 fn checked(alloc: Global, answer: Answer, text: &[u8]) -> Result<Answer, ReadBackFault>
     ensures same { IfOk result (λ same. same ≡ answer) }
     ensures prints { IfOk result (λ same. answer_text (plain_answer same) ≡ text.now) }
@@ -82,8 +82,8 @@ fn has_length(answer: &Answer, text: &[u8]) -> bool
     count.count() == text.len() as u128
 }
 
-/// The only answer of this kind that can have the text as its block, or `NotPrinted` if there is no
-/// such answer.
+/// The only answer of the kind `kind` that can have the block `text`. Fails with `NotPrinted` only
+/// if no answer of this kind has this block.
 fn candidate(alloc: Global, text: &[u8], kind: Kind) -> Result<Answer, ReadBackFault>
     ensures { IsReading (kind_of kind) text.now result }
 {

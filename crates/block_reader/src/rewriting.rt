@@ -1,4 +1,5 @@
-//! Rewriting a one-line form as a block.
+//! Rewriting a one-line form, which is an expression with atoms such as `s[2,1]`, as a block, which
+//! has one line for each term.
 ghost use Rattle.std.specs.Prelude.{◌≡◌, ◌++◌, true, cond, codes, IfOk, OnOk};
 ghost use Rattle.block_reader.specs.Lines.{block_from, emitted, is_dropped, is_bare_after};
 
@@ -45,8 +46,8 @@ fn put_text(block: &mut Vec<u8>, text: &[u8]) -> Result<(), NoMemory>
     Ok(())
 }
 
-/// The text in front of a label: two spaces and `(`, after the coefficient 1 if `bare` is true,
-/// that is, if no coefficient was read.
+/// The text in front of the numbers of a term, such as `2,1`: two spaces and `(`, after the
+/// coefficient 1 if `bare` is true, that is, if no coefficient was read.
 fn opening(bare: bool) -> &'static [u8]
     ensures { result.now ≡ cond bare (codes "1  (") (codes "  (") }
 {

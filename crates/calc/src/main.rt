@@ -4,10 +4,10 @@
 //! What is proved:
 //!
 //! The program is proved safe; its example run is `expand m p[2,1]`. `code_of_run`: the exit code
-//! of the program is the code of a status that the words after the program's name may have, by
-//! `AnswersWords`. `code_for`: the exit code is 7 or 8 if the system refuses the words. `run_over`:
-//! all clauses of `run`, over any reader and any writer with a buffer in front of it; the clauses
-//! `headline` and `lines` hold also for the bytes that the writer has received from the buffer.
+//! of the program is the code of a status that `AnswersWords` allows for the words after the
+//! program's name. `code_for`: the exit code is 7 or 8 if the system refuses the words. `run_over`:
+//! all clauses of the contract of `calc_app::run`, over any reader and any writer with a buffer in
+//! front of it; `headline` and `lines` hold also for the bytes that the writer has received.
 #![tactic(auto)]
 
 ghost use Rattle.std.specs.Prelude.{◌≡◌, ◌≢◌, ℕ, List, Some, drop, map, string_bytes};
@@ -74,10 +74,10 @@ fn code_for(refusal: ErrorKind) -> u8
     }
 }
 
-/// Runs the command that the words spell over standard input and standard output. The text is
-/// written in large pieces. After a block of a batch, `run` flushes the output if no further
-/// complete line has been read, so that a caller who sends a line and waits for its block receives
-/// it.
+/// Runs the command that the words spell over standard input and standard output. The output is
+/// written in large pieces. The command `batch` runs each line of the input as a command; after the
+/// output for a line, `run` flushes it if no further complete line has been read, so that a caller
+/// who sends a line and waits for its output receives it.
 fn status_of(rt: &HostRuntime, words: &[String]) -> Status
     // The status is one that the words may have (`AnswersWords`). The contract says nothing of the
     // bytes that are read from standard input and written to standard output.

@@ -1,5 +1,5 @@
--- A batch: its lines are read one after another, and the block of output for each is written before the next line is read; and the ways in which a
--- batch ends.
+-- A batch. Its lines are read one after another. The *block* of a line is the text of its answer or refusal, with an *ending*: `done` for an answer,
+-- or the kind of the refusal. The block is written before the next line is read. The last part of the file is on the ways in which a batch ends.
 use Rattle.std.proofs.Common.{◌≡◌, ◌⊎◌, ℕ, ◌+◌, ◌≤◌, ◌<◌, Bool, true, false, ◌&&◌, cond, List, [], ◌∷◌, ◌++◌, append_assoc, append-nil, map, length, length-append, refl, sym, ap, ◌∙◌, subst, arith, Option, Some, None, inl, inr}
 use Rattle.std.specs.Prelude.{Ok}
 use Rattle.std.proofs.lemmas.List.{map-append}
@@ -50,7 +50,7 @@ line_reply too_long command outcome read reply = absurd read
 line_reply passed_over command outcome read reply = absurd read
 line_reply (spoken words) command outcome read reply = computes_reply batch_entries words (command_of command) (Ok outcome) read.0 reply
 
--- the line has a block, which consists of this text and an ending whose status is `answer`
+-- the line has the block that consists of `text` and of an ending with the status `answer`
 pub record HasBlockOf (line : BatchLine) (text : List ℕ) (answer : Status) : Type 0 where
   pub ending : Ending
   pub are : AreBlocks batch_entries (line ∷ []) ((text, ending) ∷ [])
@@ -292,7 +292,6 @@ runs_block {first = first} {sink = sink} {next_sink = next_sink} {source = sourc
 
 -- ---- the ways in which a batch ends
 
--- `SinkFault`, `NoMemory` and `SourceFault` are not statuses of a batch that was read to its end
 is_cut : IsThrough status.SinkFault → ⊥
 is_cut (inl e) = cc
 is_cut (inr e) = cc
@@ -308,7 +307,6 @@ is_source_fault (inr e) = cc
 no_end : {answer : Status} {Read : Type 0} → (IsThrough answer → ⊥) → IsThrough answer → Read
 no_end none through = absurd (none through)
 
--- if `blocks` are the blocks of the lines of an input, their text and their ending are an outcome of a batch over this input
 runs_input : (input : List ℕ) (lines : List (List ℕ)) (blocks : List Block) → AreBlocks batch_entries (map batch_line lines) blocks → lines_of input ≡ lines
     → RunsInput batch_entries input (batch_text blocks) (batch_ending blocks)
 runs_input input lines blocks are same = record {
@@ -318,8 +316,6 @@ runs_input input lines blocks are same = record {
   ends = refl;
 }
 
--- if the blocks of `lines` were written whole, followed by a prefix of the separator and the block of a further line, `CutsBlock` holds for these
--- lines and the further line
 cuts_block : (first sink next_sink : SinkSeen) (lines : List (List ℕ)) (line : List ℕ) (blocks : List Block) (b : Block) → AreBlocks batch_entries (map batch_line lines) blocks → AreBlocks batch_entries (batch_line line ∷ []) (b ∷ [])
     → Appends first sink (batch_text blocks) → AppendsPrefix sink next_sink (separator (is_none blocks) ++ b.0)
     → CutsBlock first next_sink (map batch_line (lines ++ line ∷ []))
@@ -411,15 +407,12 @@ no_front : (front rest : List ℕ) → front ++ rest ≡ [] → front ≡ []
 no_front [] rest h = refl
 no_front (b ∷ front) rest h = cc
 
--- appending a prefix of the empty text changes nothing
 put_nothing : (first sink next_sink : SinkSeen) (text : List ℕ)
     → Appends first sink text → AppendsPrefix sink next_sink [] → Appends first next_sink text
 put_nothing first sink next_sink text appended cut =
     subst (Appends first next_sink)
     (ap (λ xs. text ++ xs) (no_front cut.front cut.is_prefix.rest cut.is_prefix.joined) ∙ append-nil text) (Appends-then appended cut.appends)
 
--- if `finish` of the sink fails after the blocks of the lines read so far were written, and no further line feed was read, the batch ends with
--- `SinkFault`
 finish_cut : {first sink next_sink : SinkSeen} {source now : SourceSeen} (Untouched : Type 0) {lines : List (List ℕ)} {piece : List ℕ} (blocks : List Block)
     → AreBlocks batch_entries (map batch_line lines) blocks → Appends first sink (batch_text blocks) → sink.faults ≡ first.faults
     → Puts true sink false next_sink [] → Cut source.left now.left lines piece → HasNoFeed piece → source.faults ≤ now.faults
@@ -479,7 +472,6 @@ ends_held {source = source} {now = now} Untouched {pending = pending} {had = had
     (read_cut source.left now.left now.left [] pending r.spelled r.lines had r.read r.is_spelled r.is_whole (took_nothing now.left))
     (subst HasNoFeed (sym (append-nil pending)) none) (let s = r.source_still in omega (arith, s))
 
--- if `is_done` says whether all blocks have the ending `done`, the status at the end of the batch is that of the ending of its blocks
 end_same : (progress : Progress) (blocks : List Block) → progress.is_done ≡ are_done blocks → end_status progress ≡ status_of (batch_ending blocks)
 end_same progress blocks same = ap (λ x. cond x status.Done status.SomeRefused) same ∙ by (are_done blocks)
   where
@@ -487,7 +479,8 @@ end_same progress blocks same = ap (λ x. cond x status.Done status.SomeRefused)
     by true = refl
     by false = refl
 
--- if the source was read to its end without a further line, the batch ends with the status of its blocks, or with `SinkFault` if `finish` failed
+-- if the source was read to its end without a further line, the batch ends with `Done` or, if a line was refused, `SomeRefused` (`end_status`);
+-- or it ends with `SinkFault` if `finish` failed
 pub ends_last : {first sink next_sink : SinkSeen} {source before now : SourceSeen} (Untouched : Type 0) {pending behind : List ℕ} {had : Bool}
     {progress : Progress} {answer result : Status} → Runs first sink source before pending had progress
     → TookEnd before now pending behind → now.faults ≡ before.faults → answer ≡ end_status progress

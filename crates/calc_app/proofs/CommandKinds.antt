@@ -1,5 +1,6 @@
 -- The three kinds of commands: those that ask for an expansion (a number or a list of terms), those that print other lines
--- (tableaux, words, grids), and those that run other commands.
+-- (tableaux, words, grids), and those that run other commands. An outcome of a command is a text with an *ending*, which is
+-- `done` or says which kind of refusal occurred.
 use Rattle.std.proofs.Common.{ℕ, List, Option, inl, inr, ◌⊎◌, refl}
 use Rattle.std.specs.Prelude.{ℤ}
 use Rattle.sym_model.specs.Answer.{Answer as PlainAnswer}
@@ -18,8 +19,7 @@ use Rattle.calc_replies.specs.Computed.{Tells}
 use Rattle.calc_app.specs.Top.{IsInput, Says, SaysOver}
 use Rattle.sym_model.specs.Partition.{ArePartitions}
 
--- the command asks for an expansion: a text and an ending are an outcome of it (`Answers`) if and only if they are an outcome of an expansion
--- (`Expands`)
+-- the command asks for an expansion: its outcomes (`Answers`), each a text and an ending, are the outcomes of an expansion (`Expands`)
 pub record NamesExpansion (command : Command) : Type 0 where
   pub answers : (text : List ℕ) (ending : Ending) → Expands command text ending → Answers command text ending
   pub expands : (text : List ℕ) (ending : Ending) → Answers command text ending → Expands command text ending
@@ -48,13 +48,11 @@ pub record RunsOthers (command : Command) : Type 0 where
   pub says_over : (left : Option (List ℕ)) (input text : List ℕ) → IsInput left input
       → AnswersWith batch_entries input command text done → SaysOver left command text
 
--- a command for which no coefficient (`IsDefinedCoefficient`) and no weight is defined cannot be refused as too large
 not_large : (command : Command) → ((c : ℤ) → IsDefinedCoefficient command c → ⊥) → ((weight : ℕ) → HasWeight command weight → ⊥)
     → MayBeLarge command → ⊥
 not_large command h k (inl large) = h large.0 large.1
 not_large command h k (inr heavy) = k heavy.0 heavy.1
 
--- if each factor satisfies `IsWritten`, the limits of a written partition, then all factors are partitions
 are_partitions : (factors : List (List ℕ)) → EachOf IsWritten factors → ArePartitions factors
 are_partitions factors written parts among = (each_in IsWritten parts factors written among).partition
 

@@ -1,4 +1,5 @@
--- The clauses of the call `run`, after an outcome was written, and after lines were run.
+-- The clauses of the contract of `run`, after an outcome was written, and after the lines of a batch were run. An outcome is a text with an *ending*,
+-- which is `done` or says which kind of refusal occurred.
 use Rattle.std.proofs.Common.{◌≡◌, ◌⊎◌, ℕ, List, [], ◌∷◌, ◌++◌, Bool, true, false, cond, map, Some, refl, sym, ◌∙◌, ap, subst, inl, inr, arith}
 use Rattle.std.specs.Prelude.{Ok}
 use Rattle.calc_base.specs.declared.status.Status.{Status}
@@ -45,7 +46,7 @@ pub task_is : {words : List (List ℕ)} {found task : Task} → found ≡ task �
 task_is {words = words} is computes accepts refuses goes_wrong =
     subst (HasTask words) is (record { computes = computes; accepts = accepts; refuses = refuses; goes_wrong = goes_wrong })
 
--- the clauses of the call `run`, except the one that the source is unchanged
+-- the clauses of the contract of `run`, except the clause that the source is unchanged
 pub record Ran (words : List (List ℕ)) (old new : SinkSeen) (source now : SourceSeen) (Untouched : Type 0) (result : Status) : Type 0 where
   pub headline : result ≡ status.Done → (before : List ℕ) → old.written ≡ Some before → PrintsAnswerTo words before source.left new.written
   pub lines : RunsLines words → IsThrough result → (before : List ℕ) → old.written ≡ Some before → PrintsLines before source.left new.written
@@ -111,7 +112,6 @@ put_ran words old new source Untouched outcome result task p =
 
 -- ---- the clauses of `run` after lines were run
 
--- if the words are the command that runs the lines of its input, a text and an ending that these lines may give are an outcome of the words
 runs_outcome : (words : List (List ℕ)) (input text : List ℕ) (ending : Ending) → RunsLines words → RunsInput batch_entries input text ending
     → IsOutcome words input text ending
 runs_outcome words input text ending spelled runs = inr (inr (batch, spelled, runs))

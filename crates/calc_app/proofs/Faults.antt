@@ -8,7 +8,7 @@ use Rattle.calc_base.specs.Source.{SourceSeen}
 use Rattle.sym_model.specs.Ending.{Ending, done, some_refused, syntax, range, past}
 use Rattle.calc_app.specs.Top.{status_of, HidesNoFault}
 
--- if neither count of faults changed, and the status is not that of a fault of the sink or the source, no fault is hidden
+-- if the counts of faults of the sink and of the source are unchanged, and the status is neither `SinkFault` nor `SourceFault`, it hides no fault
 pub no_faults : {old new : SinkSeen} {source now : SourceSeen} {answer : Status} → (answer ≡ status.SinkFault → ⊥) × (answer ≡ status.SourceFault → ⊥)
     → new.faults ≡ old.faults → now.faults ≡ source.faults → HidesNoFault old new source now answer
 no_faults others still source_still = record {
@@ -20,7 +20,7 @@ no_faults others still source_still = record {
   source_later = omega (arith, source_still);
 }
 
--- if the sink counted one more fault, and no count decreased, the status `SinkFault` hides no fault
+-- if the sink counted one more fault (`Rose`: the count stops at 2^64 - 1), and no count decreased, the status `SinkFault` hides no fault
 pub sink_failed : {old new : SinkSeen} {source now : SourceSeen} → Rose old.faults new.faults → old.faults ≤ new.faults → source.faults ≤ now.faults
     → HidesNoFault old new source now status.SinkFault
 sink_failed rose later source_later = record {
@@ -32,7 +32,7 @@ sink_failed rose later source_later = record {
   source_later = source_later;
 }
 
--- if the source counted one more fault, its count did not decrease and that of the sink did not change, `SourceFault` hides no fault
+-- if the count of faults of the source rose (`Rose`), and the count of the sink is unchanged, the status `SourceFault` hides no fault
 pub source_failed : {old new : SinkSeen} {source now : SourceSeen} → new.faults ≡ old.faults → Rose source.faults now.faults → source.faults ≤ now.faults
     → HidesNoFault old new source now status.SourceFault
 source_failed still rose later = record {
@@ -44,7 +44,6 @@ source_failed still rose later = record {
   source_later = later;
 }
 
--- the status of an ending is neither `SinkFault` nor `SourceFault`
 pub ends_well : (ending : Ending) → (status_of ending ≡ status.SinkFault → ⊥) × (status_of ending ≡ status.SourceFault → ⊥)
 ends_well done = ((λ e. cc), (λ e. cc))
 ends_well some_refused = ((λ e. cc), (λ e. cc))
@@ -52,6 +51,5 @@ ends_well syntax = ((λ e. cc), (λ e. cc))
 ends_well range = ((λ e. cc), (λ e. cc))
 ends_well past = ((λ e. cc), (λ e. cc))
 
--- the status `NoMemory` is neither `SinkFault` nor `SourceFault`
 pub is_full : (status.NoMemory ≡ status.SinkFault → ⊥) × (status.NoMemory ≡ status.SourceFault → ⊥)
 is_full = ((λ e. cc), (λ e. cc))

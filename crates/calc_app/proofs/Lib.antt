@@ -1,4 +1,5 @@
--- Lemmas about the call `run`: the blocks of a batch, the sums of a workload, the bytes in a sink at the end, and faults.
+-- Lemmas about the call `run`: the blocks of a batch, the sums that the command `work` writes over the lines that it generates, the bytes in a sink
+-- at the end, and faults.
 pub mod CommandKinds
 pub mod Faults
 pub mod Outcomes

@@ -1,4 +1,4 @@
--- A command that is read from a line of a batch is sound (`IsSound`), and does not run other commands.
+-- A command that is read from a line of a batch does not run other commands. If it is `unrsk`, its two tableaux are a pair (`IsSound`).
 use Rattle.std.proofs.Common.{ℕ, List, [], ◌∷◌, sym, subst, inl, inr}
 use Rattle.std.specs.Prelude.{Ok, Some}
 use Rattle.calc_words.specs.Commands.{command_of, IsSound}

@@ -1,4 +1,5 @@
--- The lines of a source that have been read so far, if the source records its bytes.
+-- The lines of a source that have been read so far, if the source records its bytes. Pending bytes are bytes that were taken from the source and not
+-- yet read.
 use Rattle.std.proofs.Common.{◌≡◌, ℕ, Bool, true, false, ◌+◌, ◌<◌, ◌≤◌, List, [], ◌∷◌, ◌++◌, append_assoc, append-nil, length, length-append, refl, sym, ap, ◌∙◌, arith, Option, Some, None, ◌⊎◌, inl, inr}
 use Rattle.batch_lines.proofs.Lines.{line_first, line_last, told}
 use Rattle.batch_lines.specs.Feeds.{HasNoFeed}
@@ -10,8 +11,8 @@ use Rattle.calc_app.specs.Top.{IsInput, IsFrontOf, IsWholeLines}
 abbrev pub IsEnded : List ℕ → List (List ℕ) → Type 0
 IsEnded front lines = (text : List ℕ) → lines_of (front ++ text) ≡ lines ++ lines_of text
 
--- either (`false`) the text `front` has the lines `lines` and ends at a line feed, or (`true`) the source was found at its end and the lines of
--- `front` are all its lines
+-- the text `front` has the lines `lines`; if the truth value (whether the source was found at its end) is false, `front` is empty or ends with a line
+-- feed; if it is true, nothing follows `front` in the source
 abbrev Stands : Bool → (front behind : List ℕ) → List (List ℕ) → Type 0
 Stands false front behind lines = IsEnded front lines × IsWholeLines front
 Stands true front behind lines = (behind ≡ []) × (lines_of front ≡ lines)
@@ -116,7 +117,7 @@ read_more (Some input) None now taken pending text behind lines had has r took n
 read_more None before now taken pending text behind lines had false r took n e = tt
 read_more None before now taken pending text behind lines had true r took n e = e.0.none_left
 
--- after a line was read, fewer bytes are left to be read: pending ones and those that the source may still give
+-- after a line was read, fewer bytes are left to be read; the bytes that are left are the pending ones and those that the source may still give
 pub fewer_left : (allowance less : ℕ) (taken pending text behind : List ℕ) (now : Option (List ℕ)) (has : Bool) → less + length taken ≤ allowance
     → EndsLine has (pending ++ taken) text behind now → less + length behind < allowance + length pending
 fewer_left allowance less taken pending text behind now false spent e =

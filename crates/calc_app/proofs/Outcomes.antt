@@ -1,5 +1,5 @@
--- If the program computes an outcome for a command, the text that it prints and the way in which it ends are among those that the specification
--- allows for the words of the command (`IsOutcome`).
+-- If the program computes an outcome for a command, the text that it prints and its *ending* (`done`, or which kind of refusal occurred) are among
+-- the outcomes that the specification allows for the words of the command (`IsOutcome`).
 use Rattle.std.proofs.Common.{◌≡◌, ℕ, List, ◌++◌, true, Option, Some, refl, sym, ◌∙◌, ap, subst, inl, inr, ◌⊎◌}
 use Rattle.std.specs.Prelude.{codes, None, Ok, []}
 use Rattle.calc_base.specs.declared.status.Status.{Status}
@@ -40,7 +40,6 @@ use Rattle.calc_app.specs.Top.{IsOutcome, IsInput, IsFrontOf, RunsLines, Says, S
 
 -- ---- the text of the answer to a command
 
--- the text of an answer to a command, in the form that the command asks for, satisfies `PrintsAnswer`
 prints : (command : Command) (answer : Answer) (form : Form) → Meets command (plain_answer answer) → plain_form form ≡ printed_form command
     → IsPrintable (plain_answer answer) → PrintsAnswer command (answer_text_in (plain_form form) (plain_answer answer))
 prints command answer form meets asked printable = record {
@@ -130,7 +129,6 @@ has_outcome entries words (Told lines) computes block = record {
   same = refl;
 }
 
--- if the text and the ending are an outcome of a command by `Answers`, they are an outcome of the command over every input
 answers_alone : (input : List ℕ) (command : Command) (text : List ℕ) (ending : Ending) → Answers command text ending
     → AnswersWith batch_entries input command text ending
 answers_alone input command text ending answers = by (kind command)
@@ -158,8 +156,8 @@ no_some_refused (Refused fault.NoMemory) is = cc
 no_some_refused Large is = cc
 no_some_refused (Told lines) is = cc
 
--- if the whole text of an outcome over the input was written, `finish` succeeded, and the status is not `SomeRefused` unless lines are run, then the
--- clause `Leaves` holds with the status of the ending
+-- if the whole text of an outcome over the input was written and `finish` succeeded, the clause `Leaves` holds with the status of the ending; if this
+-- status is `SomeRefused`, it is also required that lines are run
 pub leaves_ending : (old new : SinkSeen) (source now : SourceSeen) (Untouched Runs : Type 0) (Defined : List ℕ → List ℕ → Ending → Type 0)
     (input text : List ℕ) (ending : Ending) → IsInput source.left input → Defined input text ending → (status_of ending ≡ status.SomeRefused → Runs)
     → Appends old new text → new.settled ≡ true → Leaves old new source now Untouched Runs Defined (status_of ending)
@@ -181,7 +179,7 @@ pub told_input : (left : Option (List ℕ)) → (input : List ℕ) × IsInput le
 told_input None = ([], tt)
 told_input (Some bytes) = (bytes, refl)
 
--- the empty text consists of the first lines of every input, namely of none of them
+-- the empty text consists of the first 0 lines of every input
 pub no_front : (left : Option (List ℕ)) → IsFrontOf left []
 no_front None = tt
 no_front (Some bytes) = (lines_of bytes, refl)
@@ -273,7 +271,7 @@ headline old new source now Untouched words answer leaves ended before told =
       says = answers_with_say source.left input comes.0 text is_input (kept_by_all words comes.0 comes.1) comes.2;
     }
 
--- ---- the clause `answers`: the refusal of words is the line of their first error
+-- ---- the clause `answers`: the words are accepted, or the line that is written names their first error
 
 pub accepted : (command : Command) (outcome : Outcome) → Accepts command (Ok outcome) → IsAccepted command (status_for outcome)
 accepted command (Answered answer form) accepts = inl refl
@@ -281,7 +279,6 @@ accepted command (Refused reason) accepts = absurd accepts
 accepted command Large accepts = inr (inl (refl, accepts))
 accepted command (Told lines) accepts = inl refl
 
--- if the reason of a refusal names the error `offence`, the refusal has the status and the line of this error
 names : (offence : Offence) (reason : WordsFault) → IsFaultOf offence reason
     → (refusal_status reason ≡ status_of (ending_of offence.2)) × (refusal_text reason ≡ offence_line offence)
 names offence (fault.Syntax at) is = absurd is
@@ -309,7 +306,6 @@ refuses_place IsPut word byte (Refused reason) wrong put =
 refuses_place IsPut word byte Large wrong put = absurd wrong
 refuses_place IsPut word byte (Told lines) wrong put = absurd wrong
 
--- the statuses `NoMemory` and `SinkFault` are not the status of any ending
 no_ending : (ending : Ending) (answer : Status) → WasCutOff answer → answer ≡ status_of ending → ⊥
 no_ending done answer (inl cut) ended = let clash : status.NoMemory ≡ status.Done = sym cut ∙ ended in cc
 no_ending done answer (inr cut) ended = let clash : status.SinkFault ≡ status.Done = sym cut ∙ ended in cc

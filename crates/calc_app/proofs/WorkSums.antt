@@ -1,4 +1,5 @@
--- The generated lines of `work` are run one after another: the sums over the blocks of these lines, and the ways in which `work` ends.
+-- The lines that `work` generates are run one after another. The *block* of a line is the text of its answer or refusal. Lemmas on the sums (the
+-- numbers of blocks, terms and bytes) over the blocks of these lines, and on the ways in which `work` ends.
 use Rattle.std.proofs.Common.{◌≡◌, ℕ, zero, suc, ◌+◌, ◌<◌, ◌≤◌, Bool, true, false, cond, List, [], ◌∷◌, ◌++◌, append_assoc, append-nil, map, length, refl, sym, ap, ◌∙◌, subst, arith, Some, None, inl, inr}
 use Rattle.std.specs.Prelude.{Result, Ok, Err, IfOk}
 use Rattle.std.proofs.lemmas.List.{map-append}
@@ -30,8 +31,6 @@ use Rattle.calc_app.proofs.Batches.{comes_block, comes_nothing}
 use Rattle.calc_app.proofs.Ends.{HasTask, Ran}
 use Rattle.calc_app.proofs.Faults.{no_faults, sink_failed, ends_well, is_full}
 use Rattle.calc_app.proofs.Outcomes.{headline, told_input, no_front}
-
--- ---- the sums after one more line was run
 
 pub add_some : (line : BatchLine) (outcome : Outcome) (result : Result (Unit {0}) NoMemory) (old new : Sums) → ComesOfLine line (Some outcome)
     → IfOk result (λ _. new ≡ sums_with old (text_of outcome)) → IfOk result (λ _. AreSmall new) → IfOk result (λ _. HasBlock outcome)

@@ -1,4 +1,5 @@
--- A batch: its lines are run one after another, and each line that is not skipped has an outcome; and the state at the end of the batch.
+-- A batch: its lines are run one after another, and each line that is not skipped has an outcome; and the state at the end of the batch. *Pending*
+-- bytes are bytes that were taken from the source and not yet read as part of a line.
 use Rattle.std.specs.Prelude.{◌≡◌, ℕ, List, Bool, false, Option, Some, None, Result, Ok, Err}
 use Rattle.batch_lines.specs.declared.next.LineFault.{LineFault}
 use Rattle.batch_lines.specs.declared.next.LineFault.TheVariants as line_fault

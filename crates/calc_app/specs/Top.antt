@@ -1,4 +1,6 @@
--- The contract of the call `run`, which runs a command, by cases on the status that it returns.
+-- The contract of the call `run`, which runs a command, by cases on the status that it returns. An *outcome* of the words of a command is a text with
+-- an *ending*, which is `done` or says which kind of refusal occurred. The *block* of a line of a batch is the text of its answer or refusal, with
+-- its ending.
 use Rattle.std.specs.Prelude.{◌≡◌, ◌≢◌, ◌⊎◌, ◌+◌, ◌≤◌, ℕ, List, [], ◌∷◌, ◌++◌, length, Bool, true}
 use Rattle.std.specs.Prelude.{codes, map, Option, Some, IfSome}
 use Rattle.calc_base.specs.declared.status.Status.{Status}
@@ -69,7 +71,8 @@ status_of past = Past
 -- ---- the bytes left in the sink; `Defined input text ending` says that the text and the ending are an outcome over
 -- the input
 
--- for the whole input that the source had left: the whole text of an outcome with this ending was appended, and `finish` succeeded after it
+-- the whole text of an outcome with this ending, over the whole input that the source had left, was appended to the sink, and `finish` succeeded
+-- after it
 pub record PutsWhole (old new : SinkSeen) (source : SourceSeen)
     (Defined : List ℕ → List ℕ → Ending → Type 0) (ending : Ending) : Type 0 where
   pub input : List ℕ
@@ -152,9 +155,10 @@ pub record HidesNoFault (old new : SinkSeen) (source now : SourceSeen)
 
 -- ---- the clause `headline`: the text that was written is the answer
 
--- The meaning of the text of a command that runs no lines. For `tab`, `rsk`, `unrsk`, `rect` and `growth` it is the
--- text of the answer (`Answers`). For any other command the text reads back as a canonical list of terms, which is
--- the answer to the command; for `quantum` and `fusion` that list is also the result of reducing after each factor.
+-- The meaning of the text of a command that runs no lines. For `tab`, `rsk`, `unrsk`, `rect` and `growth` it is the text of the answer (`Answers`).
+-- For any other command the text reads back as a canonical list of terms (labels in the printed order, coefficients in lowest terms and not 0), which
+-- is the answer to the command; for `quantum` and `fusion` this list also results if the product is reduced (by rim hooks, or into the alcove) after
+-- each factor.
 abbrev pub Says : Command → List ℕ → Type 0
 Says (quantum rows columns factors) text =
     ReadsBack (quantum rows columns factors) text
@@ -180,11 +184,10 @@ SaysOver left batch text =
 SaysOver left (work lines seed) text = RunsWorkload batch_entries lines seed text
 SaysOver left command text = Says command text
 
--- The clause `headline`: the words spell a command without an error, and the text that was appended to the bytes
--- written before is the answer to it: read back, a canonical list of terms; for `tab`, `rsk`, `unrsk`, `rect` and
--- `growth` the text of the answer; for `batch` the blocks of its lines, and for `work` the sums over them. For
--- `expand m` and an expression, for example, the list, read in the monomial basis, is the expression in every number
--- of variables.
+-- The clause `headline`: the words spell a command without an error, and the text that was appended to the bytes written before is the answer to this
+-- command. For `tab`, `rsk`, `unrsk`, `rect` and `growth` it is the text of the answer, for `batch` the blocks of its lines, and for `work` the sums
+-- over these blocks; for any other command it reads back as a canonical list of terms (labels in order, coefficients in lowest terms and not 0). For
+-- `expand m` and an expression, for example, this list, read in the monomial basis, is the expression in every number of variables.
 pub record PrintsAnswerTo (words : List (List ℕ)) (before : List ℕ)
     (left now : Option (List ℕ)) : Type 0 where
   pub text : List ℕ
@@ -221,8 +224,8 @@ pub record PrintsLines (before : List ℕ) (left now : Option (List ℕ)) : Type
 
 -- ---- the clause `cut`: a batch whose sink failed
 
--- the blocks of all lines but the last were appended whole, and after them a prefix of the last block; if there are earlier blocks, the prefix is one
--- of the line `--` followed by the last block
+-- the blocks of all lines but the last were appended whole, and then a prefix of a text T: T is the block of the last line, with the line `--` before
+-- it if there are earlier blocks
 pub record CutsBlock (old new : SinkSeen) (lines : List BatchLine) : Type 0 where
   pub earlier : List BatchLine
   pub line : BatchLine
@@ -264,9 +267,9 @@ WasCutOff status = (status ≡ NoMemory) ⊎ (status ≡ SinkFault)
 abbrev pub IsThrough : Status → Type 0
 IsThrough status = (status ≡ Done) ⊎ (status ≡ SomeRefused)
 
--- The status of a command without an error: it is answered, unless memory runs out or the sink fails. It is refused
--- only if a coefficient that is defined for it (`IsDefinedCoefficient`) exceeds 2^127 - 1, or its weight is 2^127 or
--- more. In a batch some lines can be refused, and the source can fail.
+-- The status of a command without an error. It is `Done`, unless memory runs out, the sink fails or the command is refused. The command is refused
+-- only if a coefficient that its answer has by definition (`IsDefinedCoefficient`) exceeds 2^127 - 1, or a weight of the command, which bounds all
+-- numbers of its computation, is 2^127 or more. In a batch some lines can be refused, and the source can fail.
 abbrev pub IsAccepted : Command → Status → Type 0
 IsAccepted command status =
     (status ≡ Done) ⊎ ((status ≡ Past) × MayBeLarge command) ⊎ WasCutOff status
@@ -278,9 +281,9 @@ pub record IsRefused (ending : Ending) (IsPut : Type 0) (status : Status) : Type
   pub ends : (status ≡ status_of ending) ⊎ WasCutOff status
   pub puts : status ≡ status_of ending → IsPut
 
--- The clause `answers`; `IsPut line` says that the line was written. Words that spell a command without an error are
--- answered (`IsAccepted`). Words that spell a command with an error are refused by the line of their first error, and
--- words that are no command by the line `! Syntax` with the place at which they first fail.
+-- The clause `answers`; `IsPut line` says that the line was written. If the words spell a command without an error, it is answered (`IsAccepted`).
+-- If they spell a command with an error, the line that names the first error is written (`IsRefused`). If they are no command, the line `! Syntax`
+-- is written, with the first place that is wrong.
 pub record AnswersWords (words : List (List ℕ)) (IsPut : List ℕ → Type 0)
     (status : Status) : Type 0 where
   pub accepted : (command : Command) → SpellsWithoutOffence command_entries words command

@@ -24,32 +24,34 @@ use std::alloc::Global;
 ///
 /// First the words are read. They are refused by one line if they are no command (`Syntax`), exceed
 /// a limit or have a wrong shape (`Range`), or have a number that is too large (`Past`). Then the
-/// whole answer is computed. It is refused by the line `! Large` (`Past`) only if a coefficient of
-/// its definition exceeds 2^127 - 1, or a weight of the command, which bounds the numbers of its
-/// computation, is 2^127 or more. The tableaux of `tab` are not stored: each is written when it is
-/// found. Last, `finish` is called, also after a refusal.
+/// whole answer is computed. It is refused by the line `! Large` (`Past`) only if a coefficient
+/// that it has by definition exceeds 2^127 - 1, or a weight of the command, which bounds the
+/// numbers of its computation, is 2^127 or more. The tableaux of `tab` are not stored: each is
+/// written when it is found. Last, `finish` is called, also after a refusal.
 ///
 /// Returns `SinkFault` if and only if a call of the sink failed; the sink is not called after that.
 /// If memory runs out it returns `NoMemory` and writes nothing, except that a batch has written the
 /// earlier answers.
 ///
-/// `batch` runs each line of the source as a command, and writes its block (or its refusal) as soon
-/// as the line is read, with the line `--` between two blocks; after a block, `finish` is called if
-/// the input read so far has no further complete line. It ends with `SomeRefused` if a line was
-/// refused. If a read fails, it ends with `SourceFault` after the lines read completely. Other
-/// commands do not touch the source. `work` runs generated lines in this way, but writes only the
-/// numbers of their blocks, terms and bytes.
+/// `batch` runs each line of the source as a command, and writes its block, the text of its answer
+/// or refusal, as soon as the line is read, with the line `--` between two blocks; after a block,
+/// `finish` is called if the input read so far has no further complete line. It ends with
+/// `SomeRefused` if a line was refused. If a read fails, it ends with `SourceFault` after the lines
+/// read completely. Other commands do not touch the source. `work` runs generated lines in this
+/// way, but writes only the numbers of their blocks, terms and bytes.
 pub fn run<S: Source, K: Sink>(
     alloc: Global,
     words: &[String],
     source: &mut S,
     sink: &mut K,
 ) -> Status
-    // If the status is `Done`, the text can be read back as a canonical list of terms, and that
-    // list is the answer to the command, as it is defined by polynomials; for `quantum` and
-    // `fusion` it is also the result of reducing after each factor. For `tab`, `rsk`, `unrsk`,
-    // `rect` and `growth` the text is that of the answer. For `batch` and `work` it is what
-    // `SaysOver` says.
+    // If the status is `Done`, the text can be read back as a list of terms in the printed order
+    // (labels strictly increasing; coefficients in lowest terms, not 0). That list is the answer to
+    // the command, as it is defined by polynomials.
+    //
+    // For `quantum` and `fusion` the list also results if the product is reduced (by rim hooks, or
+    // into the alcove) after each factor. For `tab`, `rsk`, `unrsk`, `rect` and `growth` the text
+    // is the text of the answer. For `batch` and `work` the text is as in `SaysOver`.
     ensures headline { result ≡ Status.Done → (before : List ℕ)
         → (K.seen sink.old).written ≡ Some before
         → PrintsAnswerTo (map string_bytes words.now) before (S.seen source.old).left
@@ -69,18 +71,18 @@ pub fn run<S: Source, K: Sink>(
 
     // The text that was written, by the status. It is the whole text of an outcome of the words
     // (`IsOutcome`), and `finish` succeeded after it. After a fault of the sink it is a prefix of
-    // the text of an outcome; after a fault of the source it is the text of the lines read
-    // completely, and `finish` succeeded after it; if memory ran out, it is empty or, in a batch,
-    // the text of its first lines.
+    // the text of an outcome. After a fault of the source it consists of the blocks of the lines
+    // read completely, and `finish` succeeded after it. If memory ran out, it is empty or, in a
+    // batch, consists of the blocks of the first lines.
     ensures leaves { Leaves (K.seen sink.old) (K.seen sink.new) (S.seen source.old)
         (S.seen source.new) (sink.new ≡ sink.old)
         (RunsLines (map string_bytes words.now)) (IsOutcome (map string_bytes words.now)) result }
 
-    // Words that spell a command without an error are answered, and refused only if a coefficient
-    // of the answer's definition exceeds 2^127 - 1, or a weight of the command, which bounds the
-    // numbers of its computation, is 2^127 or more. Words that spell a command with an error are
-    // refused by the line of their first error, and words that are no command by the line
-    // `! Syntax` with the place at which they first fail.
+    // If the words spell a command without an error, the command is answered; it is refused only
+    // if a coefficient that its answer has by definition exceeds 2^127 - 1, or a weight of the
+    // command, which bounds the numbers of its computation, is 2^127 or more. If the words spell a
+    // command with an error, the line that names the first error is written. If they are no
+    // command, the line `! Syntax` is written, with the first place that is wrong.
     ensures answers { AnswersWords (map string_bytes words.now)
         (Appends (K.seen sink.old) (K.seen sink.new)) result }
 

@@ -1,5 +1,6 @@
--- Texts written to a sink one after another: `Puts-then` for two, `Puts-as` for an equal text, `Puts-nothing` for the
--- empty text, `Puts-finished` at a finish, `Puts-stopped` after a fault, and `Puts-prints` at the end of a printer.
+-- Lemmas on `Puts`, the statement that a text was written to a sink, or a prefix of it if a call failed: `Puts-then` for
+-- two texts, `Puts-as` for an equal text, `Puts-nothing` for the empty text, `Puts-finished` for a text and a call of
+-- `finish` after it, `Puts-stopped` after a failed call, and `Puts-prints` for the result of a printer.
 use Rattle.std.proofs.Common.{◌≡◌, ℕ, ◌+◌, min, max, List, [], ◌++◌, length, Option, Some, None, Bool, true, false, refl, sym, ◌∙◌, ap, subst, arith, append_assoc, append-nil, length-append}
 use Rattle.std.specs.Prelude.{Result, Ok, Err, is_ok}
 use Rattle.std.specs.Io.KnownBytes.{Appends as Grows}
@@ -8,8 +9,6 @@ use Rattle.calc_base.specs.Fault.{counted_up, Rose}
 use Rattle.calc_base.specs.Sink.{SinkSeen, greatest_length, IsLonger, Appends, AppendsPrefix}
 use Rattle.calc_base.specs.Puts.{Puts, Prints}
 
--- let the recorded number n of bytes be increased by the length of each text, but not beyond the limit: texts of a and then b bytes give the same
--- number as one text of c = a + b bytes
 number-number : (n a b c limit : ℕ) → c ≡ a + b
     → max (max n (min (n + a) limit)) (min (max n (min (n + a) limit) + b) limit) ≡ max n (min (n + c) limit)
 number-number n a b c limit e = omega arith
@@ -50,7 +49,6 @@ Appends-told {old = old} {new = new} {text = text} before h told = by old.writte
     by (Some x) None e g = absurd g
     by (Some x) (Some y) e g = let same : x ≡ before = cc in ap Some (g ∙ ap (λ t. t ++ text) same)
 
--- if a prefix of a was appended, it is also a prefix of a ++ b
 pub AppendsPrefix-more : {old new : SinkSeen} {a : List ℕ} (b : List ℕ)
     → AppendsPrefix old new a → AppendsPrefix old new (a ++ b)
 AppendsPrefix-more b cut = record {
@@ -114,13 +112,11 @@ Puts-then {before = before} {mid = mid} {now = now}
     by_rose false went began ended =
         ap (λ (s : SinkSeen). s.faults) (second.untouched went) ∙ first.rose began went
 
--- if `Puts` holds for the text a, it holds for any text b that is equal to a
 pub Puts-as : {before now : Bool} {old new : SinkSeen} {a b : List ℕ} → a ≡ b
     → Puts before old now new a → Puts before old now new b
 Puts-as {before = before} {now = now} {old = old} {new = new} same goes =
     let P : List ℕ → Type 0 = λ t. Puts before old now new t in subst P same goes
 
--- `Puts` holds for an unchanged sink and the empty text
 pub Puts-nothing : (before : Bool) (s : SinkSeen)
     → Puts before s before s []
 Puts-nothing before s = record {
@@ -133,8 +129,8 @@ Puts-nothing before s = record {
   ill = λ ill. ill;
 }
 
--- if `Puts` holds for a text from `true` (no fault so far) to `now`, a result that is `Ok` if and only if `now` is true satisfies `Prints` for the
--- text
+-- let `Puts` hold for a text, with no failed call before the text is written. If a result is `Ok` if and only if `now` is true, that is, no call has
+-- failed, then the result satisfies `Prints` for the text
 pub Puts-prints : {E : Type 0} {now : Bool} {old new : SinkSeen} {text : List ℕ} (result : Result (Unit {0}) E)
     → Puts true old now new text → is_ok result ≡ now
     → Prints old new text result

@@ -1,5 +1,6 @@
--- Writing the items of a lister to a sink: `PutsUpTo`, the invariant of a printer's loop over the lister, at its start and after one more item, and
--- what follows from it when no item is left or a call has failed.
+-- Writing the items of a lister, which gives a list item by item, to a sink. `Puts` says that a text was written, or a prefix of it if a call failed;
+-- `PutsUpTo` is the invariant of a printer's loop over the items. Lemmas for its start, for one more item, for the end of the list, and for a failed
+-- call.
 use Rattle.std.proofs.Common.{◌≡◌, ℕ, List, [], ◌++◌, Option, Some, Bool, false, refl, sym, ◌∙◌, ap, subst, append_assoc, append-nil}
 use Rattle.std.specs.List.{flat_map}
 use Rattle.std.specs.Option.{option_to_list}

@@ -3,7 +3,6 @@ use Rattle.std.proofs.Common.{◌≡◌, ℕ, ◌+◌, ◌-◌, List, ◌++◌, 
 use Rattle.std.proofs.Math.Seq.{take-add, take-length}
 use Rattle.std.specs.Io.KnownBytes.{Appends}
 
--- if a was appended and then b, then a followed by b was appended
 Appends-append : (before between after : Option (List ℕ)) (a b : List ℕ)
     → Appends before between a → Appends between after b → Appends before after (a ++ b)
 Appends-append None between after a b first second = tt

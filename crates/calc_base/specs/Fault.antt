@@ -13,8 +13,8 @@ Rose before now = now ≡ counted_up before
 abbrev pub faults_after : ℕ → Bool → ℕ
 faults_after before fails = cond fails (counted_up before) before
 
--- A call that succeeds leaves the count of faults unchanged, and one that fails increases it by 1, up to 2^64 - 1.
--- The count never decreases.
+-- A call that succeeds leaves the count of faults unchanged, and one that fails increases it by 1, but not beyond 2^64 - 1. The count never
+-- decreases.
 pub record CountsFaults {T E : Type 0} (before now : ℕ) (result : Result T E) : Type 0 where
   pub still : OnOk result (now ≡ before)
   pub rose : OnErr result (Rose before now)

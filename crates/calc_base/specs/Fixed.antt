@@ -3,7 +3,7 @@ use Rattle.std.specs.Prelude.{ℕ, ◌-◌, List, ◌++◌, length, take, Some, 
 use Rattle.calc_base.specs.Fault.{faults_after}
 use Rattle.calc_base.specs.Sink.{SinkSeen, seen_bytes}
 
--- the bytes so far, the number of bytes for which there is room in all, the number of calls that failed, and whether the last call was a `finish`
+-- the bytes so far, the greatest number of bytes that fit into the buffer, the number of calls that failed, and whether the last call was a `finish`
 pub record Fixed : Type 0 where
   pub bytes : List ℕ
   pub room : ℕ

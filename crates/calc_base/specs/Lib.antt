@@ -1,4 +1,5 @@
--- The states of sources, sinks and listers, in terms of which contracts are stated, and the rules of writing a text to a sink.
+-- The states, in terms of which contracts are stated, of sources, sinks and listers (a lister gives a list item by item), and the rules of writing a
+-- text to a sink.
 pub mod Fault
 pub mod Source
 pub mod Sink

@@ -5,8 +5,8 @@ use Rattle.std.specs.Prelude.{IfSome, Some, None, refl}
 use Rattle.std.specs.Option.{option_map}
 use Rattle.std.specs.Io.KnownBytes.{Appends as Grows}
 
--- The visible state of a sink: the bytes so far, if they are recorded; the number of these bytes, up to `greatest_length`, which is recorded whenever
--- the bytes are; the number of calls that failed; and whether the last call was a finish that succeeded, so that no byte waits in a buffer.
+-- The visible state of a sink: the bytes so far, if they are recorded; the number of these bytes, capped at `greatest_length`, which is recorded
+-- whenever the bytes are; the number of calls that failed; and whether the last call was a finish that succeeded, so that no byte waits in a buffer.
 pub record SinkSeen : Type 0 where
   pub written : Option (List ℕ)
   pub length : Option ℕ
@@ -17,23 +17,23 @@ pub record SinkSeen : Type 0 where
 abbrev pub greatest_length : ℕ
 greatest_length = 2 ^ 128 - 1
 
--- if the number `before` of bytes is recorded, the recorded number `now` is `before` increased by the length of the text, up to `greatest_length`;
--- because of `max`, the empty text changes no recorded number
+-- if the number `before` of bytes is recorded, the recorded number `now` is `before` increased by the length of the text, and capped at
+-- `greatest_length`; because of `max`, the empty text changes no recorded number
 abbrev pub IsLonger : (before now : Option ℕ) → List ℕ → Type 0
 IsLonger None now text = Unit {0}
 IsLonger (Some n) now text = now ≡ Some (max n (min (n + length text) greatest_length))
 
--- the number of the recorded bytes, up to `greatest_length`, if bytes are recorded
+-- the number of the recorded bytes, capped at `greatest_length`; None if no bytes are recorded
 abbrev pub number_told : Option (List ℕ) → Option ℕ
 number_told told = option_map (λ bytes. min (length bytes) greatest_length) told
 
--- the visible state of a sink with these bytes, if they are known, and their number, up to `greatest_length`
+-- the visible state of a sink with the bytes `told`, if they are recorded. Their number is also recorded then; it is capped at `greatest_length`.
 abbrev pub seen_bytes : Option (List ℕ) → (faults : ℕ) → (settled : Bool) → SinkSeen
 seen_bytes told faults settled =
     record { written = told; length = number_told told; faults = faults; settled = settled }
 
 -- a call appended the text: the bytes, if recorded, are now followed by the text, and their number, if recorded, is increased by the length of the
--- text, up to `greatest_length`
+-- text, and capped at `greatest_length`
 pub record Appends (old new : SinkSeen) (text : List ℕ) : Type 0 where
   pub bytes : Grows old.written new.written text
   pub number : IsLonger old.length new.length text

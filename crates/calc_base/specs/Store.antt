@@ -19,7 +19,7 @@ pub record Store : Type 0 where
 abbrev pub store_seen : Store → SinkSeen
 store_seen s = seen_bytes (Some s.bytes) s.failed s.finished
 
--- whether the next call is one of the chosen ones that fail
+-- whether the next call is one of those that fail, that is, whether its number is in `fails`
 abbrev pub fails_now : Store → Bool
 fails_now s = is_listed s.fails s.calls
 
@@ -27,11 +27,11 @@ fails_now s = is_listed s.fails s.calls
 abbrev pub room_left : Store → ℕ
 room_left s = s.room - length s.bytes
 
--- whether a call of `put` with this piece fails: the call is one of the chosen ones, or the piece is longer than the room left
+-- whether a call of `put` with this piece fails: the number of the call is in `fails`, or the piece is longer than the room left
 abbrev pub put_fails : Store → List ℕ → Bool
 put_fails s piece = fails_now s || nat_lt (room_left s) (length piece)
 
--- the bytes that a call of `put` with this piece appends: none if the call is one of the chosen ones that fail, otherwise those that fit
+-- the bytes that a call of `put` with this piece appends: none if the number of the call is in `fails`, otherwise those that fit
 abbrev pub fitting_front : Store → List ℕ → List ℕ
 fitting_front s piece = cond (fails_now s) [] (take (room_left s) piece)
 

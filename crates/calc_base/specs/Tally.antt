@@ -2,7 +2,7 @@
 use Rattle.std.specs.Prelude.{ℕ, ◌+◌, List, length, min, None, Some, Bool, false}
 use Rattle.calc_base.specs.Sink.{SinkSeen, greatest_length}
 
--- the number of bytes written, up to 2^128 - 1, and whether the last call was a `finish`
+-- the number of bytes written (or 2^128 - 1 if it is greater), and whether the last call was a `finish`
 pub record Tally : Type 0 where
   pub count : ℕ
   pub finished : Bool

@@ -30,8 +30,8 @@ impl Calls {
         })
     }
 
-    /// Increases the number of calls by 1, up to 2^64 - 1, and returns whether this call is one of
-    /// those that fail.
+    /// Increases the number of calls by 1, but not beyond 2^64 - 1, and returns whether this call
+    /// is one of those that fail.
     pub(crate) fn begin(&mut self) -> bool
         ensures listed { result ≡ is_listed self.old.fails.items self.old.made }
         ensures fails { self.new.fails.items ≡ self.old.fails.items }
@@ -43,7 +43,7 @@ impl Calls {
         listed
     }
 
-    /// Increases the number of faults by 1, up to 2^64 - 1.
+    /// Increases the number of faults by 1, but not beyond 2^64 - 1.
     pub(crate) fn fault(&mut self)
         ensures fails { self.new.fails.items ≡ self.old.fails.items }
         ensures made { self.new.made ≡ self.old.made }

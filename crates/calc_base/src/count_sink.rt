@@ -7,7 +7,7 @@ ghost use Rattle.calc_base.specs.Tally.{Tally, tally_seen, tally_after_put};
 use crate::{Sink, SinkFault};
 use std::marker::Model;
 
-/// A sink that counts the bytes, up to 2^128 - 1, and keeps none. No call fails.
+/// A sink that counts the bytes and keeps none; the count is capped at 2^128 - 1. No call fails.
 #[derive(Drop)]
 pub struct CountSink {
     count: u128,

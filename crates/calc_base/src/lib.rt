@@ -1,14 +1,14 @@
 //! The base of the calculator: sources and sinks of bytes, listers, which give a list item by item,
-//! and the small types that its crates share.
+//! and the small types that the crates of the calculator share.
 //!
 //! What is proved:
 //!
-//! The contracts of the traits `Source`, `Sink` and `Lister`; the state of each source and sink in
-//! memory after a call, and whether the call fails, are those that the functions of specs/ give;
-//! `StdIn` and `StdOut` satisfy the contracts of their traits, and if `StdOut` is settled, its
-//! buffer is empty; a call that succeeds leaves the count of faults unchanged, and one that fails
-//! adds 1; `put_if` writes a text whole, or a prefix of it; `mixed` is the number with the given
-//! digits to a fixed base, modulo 2^64.
+//! The contracts of the traits `Source`, `Sink` and `Lister`. For the sources and sinks in memory,
+//! functions in specs/ define which calls fail and the state after each call. `StdIn` and `StdOut`
+//! satisfy the contracts of their traits, and if a call of `finish` succeeds, the buffer of
+//! `StdOut` is empty. A call that succeeds leaves the count of faults unchanged, and one that fails
+//! adds 1, but not beyond 2^64 - 1. `put_if` writes a text whole, or a prefix of it. `mixed` is the
+//! number with the given digits to a fixed base, modulo 2^64.
 #![tactic(auto)]
 
 mod calls;

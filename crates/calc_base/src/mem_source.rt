@@ -60,7 +60,7 @@ impl MemSource {
         })
     }
 
-    /// The number of calls that failed, up to 2^64 - 1.
+    /// The number of calls that failed; it is capped at 2^64 - 1.
     pub fn faults(&self) -> u64
         ensures { result ≡ self.now.failed }
     {

@@ -9,10 +9,10 @@ use crate::SinkFault;
 /// extends this record. If a sink records nothing, the contracts say nothing of its bytes, as the
 /// standard library says nothing of a writer whose bytes are not known.
 pub trait Sink {
-    /// The visible state of the sink: the bytes so far (`written`) and their number, up to 2^128 -
-    /// 1 (`length`), each if it is recorded; the number of failed calls, up to 2^64 - 1 (`faults`);
-    /// and whether the last call was a `finish` that returned `Ok`, so that no byte waits in a
-    /// buffer (`settled`).
+    /// The visible state of the sink: the bytes so far (`written`) and their number, capped at
+    /// 2^128 - 1 (`length`), each if it is recorded; the number of failed calls, capped at 2^64 - 1
+    /// (`faults`); and whether the last call was a `finish` that returned `Ok`, so that no byte
+    /// waits in a buffer (`settled`).
     ghost seen: { Self → SinkSeen };
 
     /// Appends the bytes. After an `Err` a prefix of them was appended, and the count of faults is

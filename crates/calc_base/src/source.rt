@@ -11,7 +11,7 @@ use crate::SourceFault;
 pub trait Source {
     /// The visible state of the source: the bytes that are left, if it records them (`left`); a
     /// number that decreases by at least the number of bytes read, so that a loop in which each
-    /// call reads some bytes ends (`allowance`); and the number of failed calls, up to 2^64 - 1
+    /// call reads some bytes ends (`allowance`); and the number of failed calls, capped at 2^64 - 1
     /// (`faults`).
     ghost seen: { Self → SourceSeen };
 

@@ -1,7 +1,8 @@
 //! The status of a command at its end.
 ghost use Rattle.std.specs.Prelude.{◌≡◌};
 
-/// The status of a command at its end; `code` is the exit code of the program.
+/// The status of a command at its end; `code` is the exit code of the program. A refusal is the
+/// line for a command that has an error or an answer that is too large.
 #[derive(Clone, Copy, Debug, PartialEq, Eq, Hash)]
 pub enum Status {
     /// The whole text of the command was written and flushed, and no line of it is a refusal.
@@ -12,7 +13,7 @@ pub enum Status {
     Syntax,
     /// A number in the words exceeds a limit, or a list in them is not of the required kind.
     Range,
-    /// A number in the words exceeds 2^127 - 1, or numbers of the answer or of its computation may
+    /// A number in the words exceeds 2^127 - 1, or numbers of the result or of its computation may
     /// exceed it.
     Past,
     /// A write to the sink, or its flush, failed.

@@ -50,7 +50,9 @@ impl<W: Write + Drop> StdOut<W> {
 }
 
 impl<W: Write + Drop> Sink for StdOut<W> {
-    /// The visible state of the sink. If the sink is settled, the buffer is empty.
+    /// The visible state of the sink (`SinkSeen`). Its bytes are those that the writer has
+    /// received, if they are known, followed by those in the buffer of the `BufWriter`. Its flag
+    /// `settled` is true if the last call was a `finish` that succeeded and this buffer is empty.
     ghost seen = { outlet_seen W.contents };
 
     /// Writes until all bytes are written. It fails if a write fails or writes nothing.

@@ -80,10 +80,11 @@ pub enum Basis {
 
 /// Bounds of the coefficients of a list of terms: `den` is a multiple of the denominator of each
 /// coefficient, and for each coefficient c, |c|·`den` is at most `num` times a number that depends
-/// only on the label.
+/// only on the partition that labels the term of c.
 #[derive(Clone, Copy, Debug, PartialEq, Eq, Hash)]
 pub struct Weight {
-    /// The bound for the coefficients times `den`, up to a factor that depends on the label.
+    /// The bound for the coefficients times `den`, up to a factor that depends only on the
+    /// partition that labels the term.
     pub num: u128,
     /// A multiple of the denominator of each coefficient.
     pub den: u128,

@@ -1,4 +1,5 @@
--- The clauses of `run`, carried over to the bytes in the caller's buffer.
+-- The program writes its text to a sink, and the C library copies the bytes of the sink to the caller's buffer if they fit. Here the clauses of the
+-- contract of `run`, which are stated for the sink, are carried over to the bytes in the buffer.
 use Rattle.std.proofs.Common.{◌≡◌, ◌≤◌, Option, [], Some, ℕ, List, length, take, subst, sym, ◌∙◌, ap, inl, inr, refl, arith}
 use Rattle.calc_app.proofs.Outcomes.{answers_as}
 use Rattle.calc_app.specs.Top.{PrintsLines, PutsWhole, Leaves, IsOutcome, RunsLines, AnswersWords, IsThrough}
@@ -19,15 +20,14 @@ lines_carried rest input before now text is_input is_empty is_text prints =
     (subst (λ (it : List ℕ). PrintsLines it (Some input) (Some now)) is_empty
     (subst (λ (it : List ℕ). PrintsLines before (Some it) (Some now)) is_input prints))
 
--- if the sink was empty and `text` was appended to it, its bytes are `text`
 appended_bytes : (old new : Growing) (text : List ℕ) → old.bytes ≡ [] → Appends (growing_seen old) (growing_seen new) text → new.bytes ≡ text
 appended_bytes old new text empty a = some_is (Appends-told {old = growing_seen old} {new = growing_seen new} [] a (ap Some empty))
   where
     some_is : ◌≡◌ {A = Option (List ℕ)} (Some new.bytes) (Some text) → new.bytes ≡ text
     some_is h = cc
 
--- let the sink be empty before the call, and let its bytes then be copied to the front of the buffer if they fit: if the clause `AnswersWords` holds
--- for the sink, it holds for the buffer, which begins with the line of a refusal if there is room for it
+-- let the sink be empty before the call, and let its bytes then be copied to the front of the buffer if they fit. If the clause `AnswersWords`
+-- holds for the sink, it holds for the buffer: the line of a refusal, if there is one and it fits, is at the front of the buffer
 pub answers_carried : (words : List (List ℕ)) (old new : Growing) (out : List ℕ) (needed : ℕ) (status : Status) → old.bytes ≡ []
     → (needed ≤ length out → take needed out ≡ new.bytes) → AnswersWords words (Appends (growing_seen old) (growing_seen new)) status
     → AnswersWords words (StandsIn needed out) status
@@ -65,7 +65,6 @@ left_text words input old new now Untouched statuses.NoMemory empty none ends (i
       (record { front = l.1.front; is_front = l.1.is_front; ending = l.1.ending; outcome = l.1.outcome }),
 )
 
--- a status with a code of at most 1 is `Done` or `SomeRefused`
 pub went_through : (status : Status) → code_of status ≤ code_of statuses.SomeRefused → IsThrough status
 went_through statuses.Done h = inl refl
 went_through statuses.SomeRefused h = inr refl

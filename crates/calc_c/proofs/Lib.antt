@@ -1,2 +1,2 @@
--- Lemmas that carry the clauses of a run over to the bytes in the caller's buffer.
+-- Lemmas that carry the clauses of the contract of `run` over to the bytes in the caller's buffer.
 mod Carried

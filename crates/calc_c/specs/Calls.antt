@@ -9,7 +9,8 @@ use Rattle.calc_base.specs.declared.status.Status.TheVariants.{Past, SinkFault, 
 use Rattle.calc_base.specs.declared.status.Status.TheVariants.{NoMemory}
 use Rattle.sym_model.specs.Ending.{Ending, done, some_refused, syntax, range, past}
 
--- the state of a source over borrowed bytes, of which `rest` is left: the bytes are known, and no call has failed
+-- the visible state of a source of bytes that has the bytes `rest` left: these bytes are known, and no call has failed. The allowance, a number that
+-- decreases by at least the number of bytes read, is the length of `rest`.
 abbrev pub slice_seen : List ℕ → SourceSeen
 slice_seen rest = record { left = Some rest; allowance = length rest; faults = 0 }
 
@@ -21,8 +22,8 @@ pub record IsTextOfFirst (words : List (List ℕ)) (input text : List ℕ) : Typ
   pub outcome : IsOutcome words front text ending
 
 -- The text that a call leaves, by its status. `SinkFault`, if memory ran out while the text was stored: a prefix of the text of an outcome over the
--- first lines of the input. `NoMemory`, if memory ran out for the answer: no text or, in a batch, the text of an outcome over the first lines of the
--- input. `SourceFault`: impossible. Any other status: the whole text of an outcome of the words over the input.
+-- first lines of the input. `NoMemory`, if memory ran out in the computation: no text or, in a batch, the text of an outcome over the first lines
+-- of the input. `SourceFault`: impossible. Any other status: the whole text of an outcome of the words over the input.
 abbrev pub IsLeft : (words : List (List ℕ)) → (input text : List ℕ) → Status → Type 0
 IsLeft words input text Done = IsOutcome words input text done
 IsLeft words input text SomeRefused = RunsLines words × IsOutcome words input text some_refused

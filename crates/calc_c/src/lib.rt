@@ -4,12 +4,13 @@
 //! What is proved:
 //!
 //! `calc_run`, the call of the C library, runs the words of a line and writes to the caller's
-//! buffer. `leaves`: with codes 0 to 4 the text is the whole text of an outcome of the words
-//! (`IsOutcome`); with 5 it is a prefix of the text of one; with 7 it is empty or, in a batch, the
-//! text of its first lines. `needed` is the length of the text. If the buffer has room, it begins
-//! with the text and is otherwise unchanged; if not, it is unchanged. `headline`, `lines` and
-//! `answers`: the clauses of `run` with these names, for the bytes in the buffer. The code is that
-//! of a status, and never that of a source that failed (`ends`).
+//! buffer. `leaves`: with the codes 0 to 4 the text is the whole text of an outcome of the words
+//! (`IsOutcome`); with the code 5 the text is a prefix of the text of an outcome; with the code 7
+//! the text is empty or, in a batch, the text of an outcome over the first lines of the input.
+//! `needed` is the length of the text. If the buffer has room for the text, the buffer begins with
+//! the text, and its other bytes are unchanged; if not, all its bytes are unchanged. `headline`,
+//! `lines` and `answers`: the clauses of `run` with these names, for the bytes in the buffer.
+//! `ends`: the code is the code of a status, and never the code of a source that failed.
 #![tactic(auto)]
 
 ghost use Rattle.std.specs.Prelude.{◌≡◌, ◌≢◌, ◌++◌, ◌<◌, ◌≤◌, [], Some, drop, length, take, map};
@@ -29,15 +30,15 @@ use calc_words::line_words;
 use slice_source::SliceSource;
 use std::alloc::Global;
 
-/// Runs the command that the words of the line spell (over the input if it is `batch`), and returns
-/// the code of its status, which is the exit status of the program.
+/// Runs the command that the words of the line spell (a command `batch` reads the input), and
+/// returns the code of its status, which is the exit status of the program.
 ///
 /// The words are separated by spaces and tabs. `needed` is set to the length of the text. If the
 /// buffer has room for the text, the text is at its front, and the bytes after it are unchanged. If
 /// not, the buffer is unchanged, and the call can be made again with more room. Code 5 says that
-/// memory ran out for the text, of which a prefix is left; 7 that memory ran out for the answer:
-/// then no text is left or, in a batch, that of its first lines. The other codes are those of the
-/// outcome of the words; 6 is never returned.
+/// memory ran out for the text; then a prefix of the text is left. Code 7 says that memory ran out
+/// in the computation; then no text is left or, in a batch, the text for the first lines of the
+/// input. The other codes are those of the outcome of the words; 6 is never returned.
 #[unsafe(no_mangle)]
 pub extern "C" fn calc_run(
     alloc: Global,
@@ -55,22 +56,23 @@ pub extern "C" fn calc_run(
         → needed.new ≤ length out.new
         → PrintsLines [] (Some input.now) (Some (take needed.new out.new)) }
 
-    // By cases on the status: the whole text of an outcome of the words (`IsOutcome`); if memory
-    // ran out for the text, a prefix of the text of one; if memory ran out for the answer, nothing
-    // or, in a batch, the text of its first lines. `needed` is the length of the text that is left.
-    // If the buffer has room, it begins with this text, and its other bytes are unchanged.
+    // By cases on the status, the text that is left is: the whole text of an outcome of the words
+    // (`IsOutcome`); if memory ran out for the text, a prefix of the text of an outcome; if memory
+    // ran out in the computation, no text or, in a batch, the text of an outcome over the first
+    // lines of the input. `needed` is the length of the text. If the buffer has room for the text,
+    // it begins with the text, and its other bytes are unchanged.
     ensures leaves { IsCodeOf (LeavesText
         (map seen (words_of_line line.now)) input.now needed.new out.old out.new) result }
 
-    // Words that spell a command without an error are answered, and refused only if a coefficient
-    // that the command defines (`IsDefinedCoefficient`) exceeds 2^127 - 1, or its weight, which
-    // bounds the numbers of the computation, is 2^127 or more. Words that spell a command with an
-    // error are refused by the line of their first error, and words that are no command by the line
-    // `! Syntax` with the place at which they first fail.
+    // If the words spell a command without an error, the command is refused as too large only if a
+    // coefficient that its answer has by definition (`IsDefinedCoefficient`) exceeds 2^127 - 1, or
+    // a weight of the command, which bounds all numbers of its computation, is 2^127 or more. If
+    // the words spell a command with an error, the line that names the first error is written. If
+    // they spell no command, the line `! Syntax` is written, with the place of the syntax error.
     ensures answers { IsCodeOf (AnswersWords (map seen (words_of_line line.now))
         (StandsIn needed.new out.new)) result }
 
-    // The code is that of a status, and never that of a source that failed.
+    // The code is the code of a status other than `SourceFault`.
     ensures ends { IsCodeOf (λ status. status ≢ Status.SourceFault) result }
 
     ensures untouched { length out.new < needed.new → out.new ≡ out.old }

@@ -1,4 +1,4 @@
-//! A source over the caller's bytes.
+//! A source of bytes (`Source`) that reads the bytes of the caller's input.
 ghost use Rattle.std.specs.Prelude.{◌≡◌, ◌<◌, Some, length, min, IfOk, OnErr};
 ghost use Rattle.std.specs.Io.KnownBytes.{Keeps};
 ghost use Rattle.calc_base.specs.Fault.{CountsFaults};

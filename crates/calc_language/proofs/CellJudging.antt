@@ -1,5 +1,6 @@
--- The errors of the numbers of a row, tested one after another by the rule of cells (`cell_rule`).
-use Rattle.std.proofs.Common.{◌≡◌, ℕ, suc, ◌+◌, ◌-◌, ◌<◌, ◌≤◌, nat_le, Bool, true, false, ◌||◌, List, [], ◌∷◌, ◌++◌, map, length, take, drop, reverse, get_or, drop-cons, refl, sym, ap, ap₂, ◌∙◌, subst, arith, Option, Some, None, Ok, Err, inl, inr}
+-- The errors of the numbers in a row of a tableau. The numbers are tested one after another: a rule (`cell_rule`) finds the error of a number from
+-- the numbers before it in the row.
+use Rattle.std.proofs.Common.{◌≡◌, ℕ, suc, ◌+◌, ◌-◌, ◌<◌, ◌≤◌, nat_le, Bool, true, false, ◌||◌, List, [], ◌∷◌, ◌++◌, map, length, take, drop, reverse, get_or, drop-cons, refl, sym, ap, ap₂, ◌∙◌, subst, arith, Option, Some, None, Ok, Err, inl, inr, rules}
 use Rattle.std.specs.Prelude.{slice_get, slice_set}
 use Rattle.std.proofs.lemmas.List.{take_more, take_all, length-take-le, reverse-append, length-reverse}
 use Rattle.sym_model.specs.Sum.{Among}
@@ -97,13 +98,9 @@ left_last (a ∷ ns) =
 -- last entry of `row`, or not greater than the entry above a, if and only if `is_disordered` is true
 pub disordered_read : (c : ℕ) (upper : List ℕ) (d : ℕ) (row : List ℕ) (a : ℕ)
     → (falls (slice_get row (length row - 1)) a || stays (entry_above upper c (d + length row)) a) ≡ is_disordered c upper d (reverse row) a
-disordered_read c upper d row a =
-    ap (λ o. falls o a || stays (entry_above upper c (d + length row)) a) (sym (left_last row))
-    ∙ ap (λ n. falls (left_of (reverse row)) a || stays (entry_above upper c (d + n)) a) (sym (length-reverse row))
+disordered_read c upper d row a = search (rules, left_last, length-reverse)
 
--- ---- the first error of the numbers of a row from index i on
-
--- the first error that the rule finds in the numbers from index i on, given the numbers before index i; number 0 is word `at`
+-- the first error that the rule finds in the numbers from index i on, given the numbers before index i; the number at index 0 is word `at`
 abbrev pub from_place : Rule → ℕ → List ℕ → ℕ → Option Offence
 from_place rule at ns i = first_offence (offences_after rule (before_of ns i) (at + i) (drop i ns))
 
@@ -126,14 +123,14 @@ next_place count most test at ns i kind h e =
     ∙ ap (λ n. first_offence (offences_after rule (before_of ns (i + 1)) n (drop (suc i) ns))) (let z : at + i + 1 ≡ at + (i + 1) = omega arith in z)
     ∙ ap (λ n. first_offence (offences_after rule (before_of ns (i + 1)) (at + (i + 1)) (drop n ns))) (let z : suc i ≡ i + 1 = omega arith in z))
 
--- if the first error is at byte 0 of word k and of the kind `kind`, the fault of this kind at word k is this error
+-- if the first error is at byte 0 of word k and has the kind `kind`, then the fault of this kind at word k reports the first error (`IsFirst`)
 pub kind_refused : (first : Option Offence) (k : ℕ) (kind : Kind) (fault : WordsFault) → first ≡ Some (k, 0, kind_in kind) → fault ≡ fault_of k kind
     → IsFirst first fault
 kind_refused first k Literal fault e h = subst (IsFirst first) (sym h) e
 kind_refused first k Range fault e h = subst (IsFirst first) (sym h) e
 kind_refused first k Shape fault e h = subst (IsFirst first) (sym h) e
 
--- ---- the state after the first i entries of a row have been read
+-- ---- reading a row, one number after another (`ReadTo`)
 
 entry_err : (a : ℕ) (k : Option Kind) (kind : Kind) → Err kind ≡ entry_or a k → Some kind ≡ k
 entry_err a None kind e = cc
@@ -143,14 +140,15 @@ entry_ok : (a : ℕ) (k : Option Kind) (v : ℕ) → Ok v ≡ entry_or a k → (
 entry_ok a None v e = (refl, cc)
 entry_ok a (Some k) v e = cc
 
--- the first i numbers of a row have no error; `row` lists them, and `taken` are the flags `flags` with those of these numbers set
+-- the first i numbers of a row have no error; `row` is the list of these numbers, and `taken` is the list `flags`, with the flag at index a set for
+-- each of these numbers a
 pub record ReadTo (count most : Option ℕ) (c : ℕ) (upper : List ℕ) (d : ℕ) (flags : List Bool) (at : ℕ) (ns : List ℕ) (i : ℕ) (row : List ℕ) (taken : List Bool) : Type 0 where
   pub first_is : first_offence (offences_by (cell_rule count most (is_no_entry c upper d flags)) at ns)
       ≡ from_place (cell_rule count most (is_no_entry c upper d flags)) at ns i
   pub row_is : row ≡ take i ns
   pub taken_is : taken ≡ marked (reverse row) flags
 
--- the kind of the error of the next number a after the entries `row`, if it has one
+-- the kind of the error of the number a that follows the entries `row`, if a has an error
 abbrev pub next_kind : Option ℕ → Option ℕ → ℕ → List ℕ → ℕ → List ℕ → List Bool → ℕ → Option Kind
 next_kind count most c upper d row taken a =
     kind_by (is_wide a) (is_outside greatest_letter a || is_too_much count (length row))
@@ -161,15 +159,7 @@ next_read : (count most : Option ℕ) (c : ℕ) (upper : List ℕ) (d : ℕ) (fl
     → kind ≡ next_kind count most c upper d row taken (get_or ns i 0)
     → first_offence (offences_by (cell_rule count most (is_no_entry c upper d flags)) at ns)
     ≡ found_or (at + i) kind (from_place (cell_rule count most (is_no_entry c upper d flags)) at ns (i + 1))
-next_read count most c upper d flags at ns i row taken kind r h e =
-    let a = get_or ns i 0 in
-    r.first_is
-    ∙ next_place count most (is_no_entry c upper d flags) at ns i kind h
-    (e
-    ∙ ap (λ t. next_kind count most c upper d row t a) r.taken_is
-    ∙ ap (λ xs. next_kind count most c upper d xs (marked (reverse xs) flags) a) r.row_is
-    ∙ ap (λ n. kind_by (is_wide a) (is_outside greatest_letter a || is_too_much count n) (is_too_long most n || is_no_entry c upper d flags (before_of ns i) a))
-    (length-take-le i ns (omega (arith, h))))
+next_read count most c upper d flags at ns i row taken kind r h e = search (rules, next_place, length-take-le)
 
 pub row_refused : (count most : Option ℕ) (c : ℕ) (upper : List ℕ) (d : ℕ) (flags : List Bool) (at : ℕ) (ns : List ℕ) (i : ℕ) (row : List ℕ) (taken : List Bool)
     (a : ℕ) (kind : Kind) (fault : WordsFault) → ReadTo count most c upper d flags at ns i row taken → i < length ns → get_or ns i 0 ≡ a

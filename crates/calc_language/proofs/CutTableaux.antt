@@ -1,5 +1,5 @@
 -- Words of a command that are divided into parts: the tableaux in them, and the rows of these tableaux.
-use Rattle.std.proofs.Common.{◌≡◌, ℕ, ◌<◌, List, [], ◌∷◌, ◌++◌, append_assoc, length, refl, sym, ap, ◌∙◌, subst, arith, inl, inr, flat_map}
+use Rattle.std.proofs.Common.{◌≡◌, ℕ, ◌<◌, List, [], ◌∷◌, ◌++◌, append_assoc, length, refl, sym, ap, ◌∙◌, subst, arith, inl, inr, flat_map, rules}
 use Rattle.std.specs.Prelude.{codes}
 use Rattle.std.proofs.lemmas.List.{append-nil}
 use Rattle.sym_model.specs.Form.{Written, EachOf, May, words_of, sequence, is_number_word}
@@ -26,9 +26,7 @@ row_spelled (inr x) = ap (λ ws. x.0 ∷ ws) (singles x.1)
 
 further_spelled : (xs : List (Written (sequence (the (codes "/")) row_words))) → flat_map (words_of (sequence (the (codes "/")) row_words)) xs ≡ further_text (later_rows xs)
 further_spelled [] = refl
-further_spelled (x ∷ xs) =
-    ap (λ ws. codes "/" ∷ (ws ++ flat_map (words_of (sequence (the (codes "/")) row_words)) xs)) (row_spelled x.1)
-    ∙ ap (λ ws. codes "/" ∷ (row_text (written_row x.1) ++ ws)) (further_spelled xs)
+further_spelled (x ∷ xs) = search (rules, row_spelled, (further_spelled xs))
 
 pub rows_spelled : (x : Written tableau_words) → words_of tableau_words x ≡ rows_text (written_rows x)
 rows_spelled x =
@@ -150,7 +148,7 @@ pub number_row : (row words ns rest : Words) (rows : List Words) → EachOf IsNu
 number_row [] words ns rest rows n e d f m b = absurd (subst (BeginsOtherwise (λ t. t ≡ codes ".")) e d refl)
 number_row (t ∷ row) words ns rest rows n e d f m b = one_run IsNumber ns (t ∷ row) rest (further_text rows) m n b (no_number rows) (sym f ∙ e)
 
--- `all` are the rows `rows`, followed by later rows of numbers; the words of the later rows, each row after a `/`, are `rest`
+-- `all` is `rows`, followed by later rows of numbers; `rest` has the words of the later rows, with a `/` before each of these rows
 pub record FurtherLeft (rows : List Words) (rest : Words) (all : List Words) : Type 0 where
   pub later : List Words
   pub all_are : all ≡ rows ++ later
@@ -165,13 +163,7 @@ FirstRow words first rest =
     (row : Words) (rows : List Words) → EachOf IsNumber row → words ≡ row_text row ++ further_text rows → (first ≡ row) × (rest ≡ further_text rows)
 
 pub first_read : (words first rest : Words) → FirstRow words first rest → RowsRead (first ∷ []) rest words
-first_read words first rest h = record { left = by }
-  where
-    by : (all : List Words) → 0 < length all → EachOf (EachOf IsNumber) all → words ≡ rows_text all → FurtherLeft (first ∷ []) rest all
-    by [] l n e = absurd (omega (arith, l))
-    by (row ∷ rows) l n e =
-        let k = h row rows n.0 e in
-        record { later = rows; all_are = ap (λ r. r ∷ rows) (sym k.0); numbers = n.1; rest_is = k.1 }
+first_read words first rest h = search rules
 
 pub next_read : (rows : List Words) (words rest more row later : Words) → RowsRead rows rest words → rest ≡ codes "/" ∷ more → FirstRow more row later
     → RowsRead (rows ++ row ∷ []) later words

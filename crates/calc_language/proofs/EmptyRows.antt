@@ -1,13 +1,11 @@
 -- The errors of rows without numbers, in a tableau that has other rows.
-use Rattle.std.proofs.Common.{◌≡◌, ℕ, ◌+◌, ◌<◌, ◌≤◌, ◌==◌, false, cond, List, [], ◌∷◌, ◌++◌, length, refl, ap, subst, arith, Some, inl, inr, flat_map}
+use Rattle.std.proofs.Common.{◌≡◌, ℕ, ◌+◌, ◌<◌, ◌≤◌, ◌==◌, cond, List, [], ◌∷◌, length, refl, ap, subst, arith, Some, inl, inr, flat_map, rules}
 use Rattle.sym_model.specs.Sum.{Among}
 use Rattle.sym_model.specs.ExpressionOffence.{shape}
 use Rattle.sym_model.specs.CommandOffence.{Offence, PlacedRow, first_offence, empty_row_offences}
-use Rattle.sym_model.specs.WordForms.{numbers}
 use Rattle.word_laws.specs.Words.{Words}
 use Rattle.word_laws.specs.WrittenRows.{row_text, rows_at}
 use Rattle.calc_words.proofs.FirstOffences.{first-head, no_later_word}
-use Rattle.sym_model.proofs.Numbers.{positive-test}
 
 abbrev pub empties : List PlacedRow → List Offence
 empties rows = flat_map (λ (r : PlacedRow). cond (length r.1 == 0) ((r.0, 0, shape) ∷ []) []) rows
@@ -24,9 +22,7 @@ one_row k (w ∷ v ∷ ws) h = absurd (omega (arith, h))
 
 pub empty_later : (k : ℕ) (w : Words) (ws : List Words) → 0 < length w → empties (rows_at k (w ∷ ws)) ≡ empties (rows_at (k + length (row_text w) + 1) ws)
 empty_later k [] ws h = absurd (omega (arith, h))
-empty_later k (t ∷ w) ws h =
-    let z : (length (numbers (t ∷ w)) == 0) ≡ false = positive-test (length (numbers (t ∷ w))) (omega arith) in
-    ap (λ b. cond b ((k, 0, shape) ∷ []) [] ++ empties (rows_at (k + length (row_text (t ∷ w)) + 1) ws)) z
+empty_later k (t ∷ w) ws h = search rules
 
 empties_from : (k : ℕ) (ws : List Words) (q : Offence) → Among q (empties (rows_at k ws)) → k ≤ q.0
 empties_from k [] q m = absurd m

@@ -1,5 +1,6 @@
--- The entries that `entry_named` finds for a name, and words whose first word is the name of no command.
-use Rattle.std.proofs.Common.{◌≡◌, ℕ, ◌<◌, Bool, true, false, cond, List, [], ◌∷◌, ◌++◌, length, refl, sym, ap, ◌∙◌, subst, arith, inl, inr, ◌⊎◌, Option, Some, None, Result, Ok, Err}
+-- Each command has an entry with its name and the form of its words. This file is on the entry that `entry_named` finds for a name, and on words
+-- whose first word is the name of no command.
+use Rattle.std.proofs.Common.{◌≡◌, ℕ, ◌<◌, Bool, true, false, cond, List, [], ◌∷◌, length, refl, sym, ap, ◌∙◌, subst, inl, inr, ◌⊎◌, Option, Some, None, Result, Ok, Err, rules}
 use Rattle.std.specs.Prelude.{IfOk, codes}
 use Rattle.sym_model.specs.Sum.{Among}
 use Rattle.sym_model.specs.Polynomial.{same}
@@ -26,22 +27,13 @@ use Rattle.calc_language.specs.Reading.{command_of, entry_named, IsReadAs, IsRea
 use Rattle.calc_language.proofs.NamedEntries.{IsLed, are_named_apart, each_among, one_named, led_named, unnamed}
 use Rattle.std.proofs.lemmas.Bool.{both_ways}
 
--- ---- the entry that is found for a name
-
 some_same : (e f : Entry) → Some f ≡ Some e → f ≡ e
 some_same e f h = cc
 
--- if the entry e is found for the word w, then e is in the list, and w is the name of e
 found : (w : List ℕ) (entries : List Entry) (e : Entry) → entry_named w entries ≡ Some e → Among e entries × (w ≡ e.name)
 found w [] e h = cc
-found w (f ∷ entries) e h = by (same w f.name) refl h (found w entries e)
-  where
-    by : (b : Bool) → same w f.name ≡ b → cond b (Some f) (entry_named w entries) ≡ Some e
-        → (entry_named w entries ≡ Some e → Among e entries × (w ≡ e.name)) → Among e (f ∷ entries) × (w ≡ e.name)
-    by true s k later = let q = some_same e f k in (inl (sym q), same_true w f.name s ∙ ap (λ (x : Entry). x.name) q)
-    by false s k later = let r = later k in (inr r.0, r.1)
+found w (f ∷ entries) e h = search (rules, some_same, same_true, (found w entries e))
 
--- if no entry is found for the word w, no entry of the list has the name w
 none_found : (w : List ℕ) (entries : List Entry) → entry_named w entries ≡ None → (e : Entry) → Among e entries → w ≡ e.name → ⊥
 none_found w [] h e m n = absurd m
 none_found w (f ∷ entries) h e m n = by (same w f.name) refl h m (λ k a. none_found w entries k e a n)
@@ -52,14 +44,12 @@ none_found w (f ∷ entries) h e m n = by (same w f.name) refl h m (λ k a. none
     by false s k (inl q) later = absurd (both_ways (same w f.name) s (same_from w f.name (n ∙ ap (λ (x : Entry). x.name) q)))
     by false s k (inr m) later = later k m
 
--- if no entry of the list has the name w, no entry is found for w
 pub none_named : (w : List ℕ) (entries : List Entry) → EachOf (λ (e : Entry). w ≡ e.name → ⊥) entries → entry_named w entries ≡ None
 none_named w [] h = refl
 none_named w (e ∷ entries) h = ap (λ b. cond b (Some e) (entry_named w entries)) (same_apart w e.name h.0) ∙ none_named w entries h.1
 
--- ---- commands that differ in their names
-
--- the form of each command of the list begins with its name, and some words have this form; the names are different, and the list is not empty
+-- the commands of the list can be told apart: the form of each command begins with its name, some words have this form, the names are different, and
+-- the list is not empty
 pub record AreTold (entries : List Entry) : Type 0 where
   pub led : EachOf IsLed entries
   pub can : CanBe (forms_of entries)
@@ -71,8 +61,7 @@ wrong_first : (entries : List Entry) (words : Words) (r : Result Command WordsFa
 wrong_first entries words r p h = subst (λ x. IsReadBy entries words x) (sym h) p
 
 -- let `entries` be commands of `all` with different names (`AreTold`), among them each command of `all` with the name w, and let words begin with w.
--- If r is a correct result of reading the words as those of the command of `all` with the name w (`IsReadAs`), then r is a correct result of reading
--- them for `entries`
+-- Then a correct result of reading the words as the command of `all` with the name w (`IsReadAs`) is a correct result of reading them for `entries`
 pub named_among : (all entries : List Entry) → AreTold entries → (w : List ℕ) (words rest : Words) (r : Result Command WordsFault) → words ≡ w ∷ rest
     → ((e : Entry) → Among e all → w ≡ e.name → Among e entries) → ((e : Entry) → Among e entries → Among e all)
     → IsReadAs (entry_named w all) words r → IsReadBy entries words r
@@ -93,30 +82,10 @@ named_among all entries t w words rest r is here there h = by (entry_named w all
 -- ---- the commands of the command line, and those of a line of a batch, have different names
 
 pub commands_told : AreTold command_entries
-commands_told = record {
-  led = search (inl, inr) parts 64;
-  can = search parts 64;
-  some = omega arith;
-  apart = refl;
-}
-
-each_front : (P : Entry → Type 0) (xs ys : List Entry) → EachOf P (xs ++ ys) → EachOf P xs
-each_front P [] ys h = tt
-each_front P (x ∷ xs) ys h = (h.0, each_front P xs ys h.1)
-
-can_front : (xs ys : List Entry) → CanBe (forms_of (xs ++ ys)) → CanBe (forms_of xs)
-can_front [] ys h = tt
-can_front (x ∷ xs) ys h = (h.0, can_front xs ys h.1)
+commands_told = search rules
 
 pub lines_told : AreTold batch_entries
-lines_told =
-    let more : List Entry = batch_entry ∷ work_entry ∷ [] in
-    record {
-      led = each_front IsLed batch_entries more commands_told.led;
-      can = can_front batch_entries more commands_told.can;
-      some = omega arith;
-      apart = refl;
-    }
+lines_told = search rules
 
 pub read_named : (w : List ℕ) (words rest : Words) (r : Result Command WordsFault) → words ≡ w ∷ rest
     → IsReadAs (entry_named w command_entries) words r → IsRead words r
@@ -155,8 +124,8 @@ pub within : (words : Words) (result : Result Command WordsFault) → IsRead wor
 within words (Ok command) h = kept_by_all words (command_of command) h.0
 within words (Err fault) h = tt
 
--- if the first word is the name of no command of a line, the refusal with an error of syntax at byte 0 of word 0 is a correct result of reading the
--- words as a command of a line
+-- if the first word is the name of no command of a line of a batch, then the refusal with an error of syntax at byte 0 of word 0 is a correct result
+-- of reading the words as such a command
 pub elsewhere : (w : List ℕ) (words rest : Words) (r : Result Command WordsFault) → words ≡ w ∷ rest
     → EachOf (λ (e : Entry). w ≡ e.name → ⊥) batch_entries → r ≡ Err (Syntax (record { word = 0; byte = 0 })) → IsReadBy batch_entries words r
 elsewhere w words rest r is apart h =
@@ -165,26 +134,14 @@ elsewhere w words rest r is apart h =
     (unnamed batch_entries lines_told.led lines_told.can lines_told.some (w ∷ rest)
     (λ e m b. none_found w batch_entries (none_named w batch_entries apart) e m (first_text w e.name rest b.0 b.1)))) h
 
-not_it : (w a b : List ℕ) → w ≡ a → same a b ≡ false → w ≡ b → ⊥
-not_it w a b h s q = absurd (both_ways (same a b) s (same_from a b (sym h ∙ q)))
-
 of_no_line : (w a : List ℕ) → w ≡ a → EachOf (λ (e : Entry). same a e.name ≡ false) batch_entries → EachOf (λ (e : Entry). w ≡ e.name → ⊥) batch_entries
-of_no_line w a h k = all batch_entries k
-  where
-    all : (entries : List Entry) → EachOf (λ (e : Entry). same a e.name ≡ false) entries → EachOf (λ (e : Entry). w ≡ e.name → ⊥) entries
-    all [] k = tt
-    all (e ∷ entries) k = (not_it w a e.name h k.0, all entries k.1)
+of_no_line w a h k = search rules
 
 none_same : (a : List ℕ) (entries : List Entry) → entry_named a entries ≡ None → EachOf (λ (e : Entry). same a e.name ≡ false) entries
 none_same a [] h = tt
-none_same a (e ∷ entries) h = by (same a e.name) refl h (none_same a entries)
-  where
-    by : (b : Bool) → same a e.name ≡ b → cond b (Some e) (entry_named a entries) ≡ None
-        → (entry_named a entries ≡ None → EachOf (λ (x : Entry). same a x.name ≡ false) entries) → EachOf (λ (x : Entry). same a x.name ≡ false) (e ∷ entries)
-    by true s k later = cc
-    by false s k later = (s, later k)
+none_same a (e ∷ entries) h = search (rules, (none_same a entries))
 
--- the words `batch` and `work` are names of no command of a line
+-- `batch` and `work` are not names of commands of a line of a batch
 pub runs_others : (w : List ℕ) → (w ≡ codes "batch") ⊎ (w ≡ codes "work") → EachOf (λ (e : Entry). w ≡ e.name → ⊥) batch_entries
 runs_others w (inl h) = of_no_line w (codes "batch") h (none_same (codes "batch") batch_entries refl)
 runs_others w (inr h) = of_no_line w (codes "work") h (none_same (codes "work") batch_entries refl)

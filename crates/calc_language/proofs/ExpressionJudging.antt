@@ -51,13 +51,13 @@ pub first-placed : (k : ℕ) (os : List WordOffence) → first_offence (map (at_
 first-placed k [] = refl
 first-placed k (o ∷ os) = ap (earlier_of (at_word k o)) (first-placed k os) ∙ earlier-placed k o (first_of os)
 
--- if the word w spells the expressions f and g, the first error of f is that of g, both as errors of word k of the command
 placed_as : (k : ℕ) (offends : Phrase → List WordOffence) (w : List ℕ) (f g : Phrase) (first : Option WordOffence) → SpellsPhrase w f → SpellsPhrase w g
     → first_of (offends g) ≡ first → first_offence (offences_in_word k (offends f)) ≡ option_map (at_word k) first
 placed_as k offends w f g first s r h =
     first-placed k (offends f) ∙ ap (option_map (at_word k)) (ap (λ p. first_of (offends p)) (one_phrase w f g s r) ∙ h)
 
--- if the word w spells the expression f and is correctly refused with the fault e, then e at word k is the first error of f, as word k of the command
+-- let the word w, which is word k of the command, spell the expression f and be correctly refused with the fault e: then e, with the place in word k,
+-- reports the first error of w
 pub placed_first : (k : ℕ) (offends : Phrase → List WordOffence) (w : List ℕ) (f : Phrase) (e : ExpressionFault) → SpellsPhrase w f → IsReadBy offends w (Err e)
     → IsFirst (first_offence (offences_in_word k (offends f))) (placed k e)
 placed_first k offends w f (Wrong byte) s h = h.0 f s
@@ -66,7 +66,7 @@ placed_first k offends w f (Past byte) s h = placed_as k offends w f h.0 _ s h.1
 placed_first k offends w f (Misshapen byte) s h = placed_as k offends w f h.0 _ s h.1 h.2
 placed_first k offends w f Full s h = tt
 
--- if the word w spells the expression f and is correctly read as a formula, f has no error
+-- if the word w spells the expression f and is correctly read as a `Formula`, f has no error
 pub none_placed : (k : ℕ) (offends : Phrase → List WordOffence) (w : List ℕ) (f : Phrase) (x : Formula) → SpellsPhrase w f → IsReadBy offends w (Ok x)
     → first_offence (offences_in_word k (offends f)) ≡ None
 none_placed k offends w f x s h = placed_as k offends w f h.0 None s h.1 h.2
@@ -103,7 +103,7 @@ expand_fine words places k b m x h i read =
       none_placed (2 + n) (offences k.parts.3.0) (spelling f) f x spells (subst (λ t. IsReadAs t (spelling f) (Ok x)) h read),
     )
 
--- let words be divided into parts, of which the last may not have been tested (`AreCutUnread`); if the last part is the word v and v spells an
+-- let the words be the name and the parts of a command, or let the last part, the word v, not have been tested (`AreCutUnread`). If v spells an
 -- expression, the words are the name and the parts (`AreCut`)
 pub cut_of : (name : List ℕ) (ps : List Part) (places : List ℕ) (words : Words) (v : List ℕ) → AreCutUnread name ps places words
     → ((u : IsUnread name ps places words) → v ≡ u.text) → (f : Phrase) → SpellsPhrase v f → AreCut name ps places words

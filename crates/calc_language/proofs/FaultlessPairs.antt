@@ -1,6 +1,6 @@
 -- If the two tableaux of `unrsk` have no error, the first is straight, the second is standard, and they have the same shape.
-use Rattle.std.proofs.Common.{◌≡◌, ℕ, zero, suc, ◌+◌, ◌<◌, ◌≤◌, ◌==◌, nat_le, nat_lt, Bool, true, false, ◌||◌, cond, List, [], ◌∷◌, ◌++◌, map, length, replicate, refl, sym, ap, ◌∙◌, subst, arith, Option, Some, None}
-use Rattle.std.proofs.lemmas.Bool.{le-leb, leb-false, ltb-false, ltb-true, eqb-true, eqb-false, or_parts}
+use Rattle.std.proofs.Common.{◌≡◌, ℕ, zero, suc, ◌+◌, ◌<◌, ◌≤◌, ◌==◌, nat_le, nat_lt, Bool, true, false, ◌||◌, cond, List, [], ◌∷◌, ◌++◌, map, length, replicate, refl, sym, ap, ◌∙◌, subst, arith, Option, Some, None, rules}
+use Rattle.std.proofs.lemmas.Bool.{ltb-false, eqb-true, eqb-false, or_parts}
 use Rattle.std.proofs.lemmas.List.{length-map}
 use Rattle.sym_model.specs.Partition.{part, size, after, Falls, ArePositive}
 use Rattle.sym_model.specs.Schur.{letters_of, times_in, content}
@@ -32,10 +32,7 @@ use Rattle.sym_model.proofs.Lists.{none_chosen}
 row_short : (l : ℕ) (before : List ℕ) (k : ℕ) (ns : List ℕ) → 0 < length ns
     → offences_after (λ before a. when (nat_le l (length before)) shape) before k ns ≡ [] → length before + length ns ≤ l
 row_short l before k [] s h = absurd (omega (arith, s))
-row_short l before k (a ∷ []) s h =
-    let n = none_next (λ before a. when (nat_le l (length before)) shape) before k a [] h in
-    let z = leb-false l (length before) (none_chosen (nat_le l (length before)) shape n.0) in
-    omega (arith, z)
+row_short l before k (a ∷ []) s h = search rules
 row_short l before k (a ∷ b ∷ ns) s h =
     let n = none_next (λ before a. when (nat_le l (length before)) shape) before k a (b ∷ ns) h in
     let r = row_short l (a ∷ before) (k + 1) (b ∷ ns) (omega arith) n.1 in
@@ -58,37 +55,14 @@ all_some k (w ∷ ws) h =
     let z = eqb-false (length (numbers w)) 0 (none_chosen (length (numbers w) == 0) (k, 0, shape) n.0) in
     (omega (arith, z), all_some (k + length (row_text w) + 1) ws n.1)
 
-empty_tableau : IsStraightTableau []
-empty_tableau = record {
-  outside = record { falls = tt; positive = tt };
-  inside = record { falls = tt; positive = tt };
-  holds = refl;
-  cells = refl;
-  letters = refl;
-  order = refl;
-}
-
 straight : (k : ℕ) (ws : List Words) → Falls (map length (map numbers ws)) → ArePositive (map length (map numbers ws))
     → row_offences entry_rule (rows_at k ws) ≡ [] → order_offences 0 [] [] (rows_at k ws) ≡ [] → IsStraightTableau (map numbers ws)
-straight k ws f p e d = record {
-  outside = record { falls = f; positive = p };
-  inside = record { falls = tt; positive = tt };
-  holds = refl;
-  cells = sym (row_lengths-none (map length (map numbers ws)));
-  letters = faultless_letters k ws e;
-  order = faultless_order 0 [] [] k ws tt d;
-}
+straight k ws f p e d = search (rules, inside, row_lengths-none, faultless_letters, faultless_order)
 
--- let `count` entries of earlier rows and the entries `before`, at most 256 in all, precede the numbers ns: if no number of ns is refused as the
--- 257th entry, there are at most 256 entries with ns
 row_few : (count : ℕ) (before : List ℕ) (k : ℕ) (ns : List ℕ) → count + length before ≤ 256
     → offences_after (λ before a. when (count + length before == most_letters) range) before k ns ≡ [] → count + length before + length ns ≤ 256
 row_few count before k [] l h = omega (arith, l)
-row_few count before k (a ∷ ns) l h =
-    let n = none_next (λ before a. when (count + length before == most_letters) range) before k a ns h in
-    let z = eqb-false (count + length before) 256 (none_chosen (count + length before == most_letters) range n.0) in
-    let r = row_few count (a ∷ before) (k + 1) ns (omega (arith, l, z)) n.1 in
-    omega (arith, r)
+row_few count before k (a ∷ ns) l h = search (rules, none_next, eqb-false, none_chosen, (row_few count (a ∷ before) (k + 1) ns))
 
 all_few : (count k : ℕ) (ws : List Words) → count ≤ 256 → count_offences count (rows_at k ws) ≡ [] → count + size (map length (map numbers ws)) ≤ 256
 all_few count k [] l h = omega (arith, l)
@@ -99,15 +73,9 @@ all_few count k (w ∷ ws) l h =
     let m = all_few (count + length (numbers w)) (k + length (row_text w) + 1) ws (omega (arith, r)) n.1 in
     omega (arith, m)
 
--- ---- the rows and the columns of the second tableau are increasing
-
 stays_falls : (left : Option ℕ) (a : ℕ) → stays left a ≡ false → falls left a ≡ false
 stays_falls None a h = refl
-stays_falls (Some b) a h = by (nat_lt a b) refl
-  where
-    by : (c : Bool) → nat_lt a b ≡ c → c ≡ false
-    by true e = let z = le-leb a b (let l = ltb-true a b e in omega (arith, l)) in cc
-    by false e = refl
+stays_falls (Some b) a h = search rules
 
 no_disorder : (cells : ℕ) (earlier upper before : List ℕ) (k : ℕ) (ns : List ℕ)
     → offences_after (λ before a. when (nat_lt cells a || stays (left_of before) a || stays (entry_above upper 0 (length before)) a || stands_in a before || stands_in a earlier) shape) before k ns ≡ []
@@ -219,18 +187,9 @@ all_in cells earlier upper k (w ∷ ws) e h =
     in_append cells (numbers w) (letters_of (map numbers ws)) (row_in cells earlier upper [] [] k k (numbers w) f.0 n.0)
     (all_in cells (numbers w ++ earlier) (numbers w) m ws f.1 n.1)
 
--- a number b ≤ a is not one of a + 1, .., a + n
 place_none : (a n b : ℕ) → b ≤ a → size (map (λ k. cond (b == k) 1 0) (after a n)) ≡ 0
 place_none a zero b h = refl
-place_none a (suc n) b h =
-    let z : (b == a + 1) ≡ false = by (b == a + 1) refl in
-    let y : one_if (b == a + 1) ≡ 0 = ap one_if z in
-    let r = place_none (a + 1) n b (omega (arith, h)) in
-    omega (arith, y, r)
-  where
-    by : (t : Bool) → (b == a + 1) ≡ t → t ≡ false
-    by true e = absurd (let w = eqb-true b (a + 1) e in omega (arith, w, h))
-    by false e = refl
+place_none a (suc n) b h = search (rules, one_if, eqb-true, (place_none (a + 1) n b))
 
 place_once : (a n b : ℕ) → a < b → b ≤ a + n → size (map (λ k. cond (b == k) 1 0) (after a n)) ≡ 1
 place_once a zero b h l = absurd (omega (arith, h, l))
@@ -267,10 +226,7 @@ once_size (x ∷ xs) a = let r = once_size xs a.1 in omega (arith, a.0, r)
 
 all_ones : (xs : List ℕ) → AtMostOnce xs → size xs ≡ length xs → xs ≡ replicate (length xs) 1
 all_ones [] a h = refl
-all_ones (x ∷ xs) a h =
-    let r = once_size xs a.1 in
-    let z : x ≡ 1 = omega (arith, a.0, r, h) in
-    ap (λ y. y ∷ xs) z ∙ ap (λ ys. 1 ∷ ys) (all_ones xs a.1 (omega (arith, h, z)))
+all_ones (x ∷ xs) a h = search (rules, once_size, (all_ones xs a.1))
 
 at_most : (f : ℕ → ℕ) → ((x : ℕ) → f x ≤ 1) → (xs : List ℕ) → AtMostOnce (map f xs)
 at_most f h [] = tt
@@ -282,27 +238,15 @@ each_once n ls l a o =
     let s = content_size n ls a in
     all_ones (content n ls) (at_most (λ k. times_in k ls) o (after 0 n)) (omega (arith, m, s, l)) ∙ ap (λ c. replicate c 1) m
 
--- ---- two tableaux without an error are a straight tableau and a standard one of the same shape
-
 insertion_parts : (k : ℕ) (w : Words) (ws : List Words) → insertion_offences (rows_at k (w ∷ ws)) ≡ []
     → (row_offences entry_rule (rows_at k (w ∷ ws)) ≡ []) × (count_offences 0 (rows_at k (w ∷ ws)) ≡ [])
     × (length_offences (numbers w) (rows_at (k + length (row_text w) + 1) ws) ≡ []) × (empty_row_offences (rows_at k (w ∷ ws)) ≡ [])
     × (order_offences 0 [] [] (rows_at k (w ∷ ws)) ≡ [])
-insertion_parts k w ws h =
-    let rows = rows_at (k + length (row_text w) + 1) ws in
-    let all = rows_at k (w ∷ ws) in
-    let a = none_append (((filled_offences all ++ length_offences (numbers w) rows) ++ empty_row_offences all)) (order_offences 0 [] [] all) h in
-    let b = none_append (filled_offences all ++ length_offences (numbers w) rows) (empty_row_offences all) a.0 in
-    let c = none_append (filled_offences all) (length_offences (numbers w) rows) b.0 in
-    let d = none_append (row_offences entry_rule all) (count_offences 0 all) c.0 in
-    (d.0, d.1, c.1, b.1, a.1)
+insertion_parts k w ws h = search (rules, none_append)
 
 first_positive : (k : ℕ) (w : Words) (ws : List Words) → rows_in [] (map numbers (w ∷ ws)) ≡ map numbers (w ∷ ws) → empty_row_offences (rows_at k (w ∷ ws)) ≡ []
     → ArePositive (map length (map numbers (w ∷ ws)))
-first_positive k [] [] e h = absurd (none e)
-  where
-    none : ◌≡◌ {A = List (List ℕ)} [] ([] ∷ []) → ⊥
-    none e = cc
+first_positive k [] [] e h = search rules
 first_positive k (t ∷ w) [] e h = (omega arith, tt)
 first_positive k w (v ∷ ws) e h = all_some k (w ∷ v ∷ ws) h
 
@@ -339,12 +283,7 @@ both_fine k w ws second n h r l m e f =
     twice a ls g = (omega arith, g)
 
 no_pair : IsWrittenPair [] []
-no_pair = record {
-  straight = empty_tableau;
-  standard = record { tableau = empty_tableau; once = refl };
-  one_shape = refl;
-  few = omega arith;
-}
+no_pair = search rules
 
 two_or_none : (n : ℕ) (ns : List ℕ) → ◌≡◌ {A = List ℕ} (n ∷ ns) (0 ∷ []) → (n ≡ 0) × (ns ≡ [])
 two_or_none n ns h = (cc, cc)

@@ -19,8 +19,6 @@ use Rattle.word_laws.proofs.NoOffences.{none_append, none_next}
 use Rattle.sym_model.proofs.Tableaux.{columns_rise-nothing}
 use Rattle.sym_model.proofs.Lists.{none_chosen}
 
--- ---- the letters of rows without an error are positive
-
 every_append : (test : ℕ → Bool) (xs ys : List ℕ) → every test xs ≡ true → every test ys ≡ true → every test (xs ++ ys) ≡ true
 every_append test [] ys h k = k
 every_append test (x ∷ xs) ys h k =
@@ -63,8 +61,6 @@ row_fine c upper d k [] h = refl
 row_fine c upper d k (a ∷ ns) h =
     let n = none_next (λ before a. when (is_disordered c upper d before a) shape) [] k a ns h in rises_after c upper d a [] (k + 1) ns n.1
 
--- let b be the entry at index j of the row `upper`, and let `stays` be false for this entry and a; then b < a, and `rest`, which is true by
--- assumption, holds
 below_one : (upper : List ℕ) (j a : ℕ) (rest : Bool) → stays (slice_get upper j) a ≡ false
     → (j < length upper → rest ≡ true) → (b : ℕ) → b ≡ get_or upper j 0 → j < length upper → (nat_lt b a && rest) ≡ true
 below_one [] j a rest h r b e l = absurd (omega (arith, l))
@@ -159,8 +155,6 @@ faultless_order c upper inner k (w ∷ v ∷ ws) f h =
     all true true false h k l = cc
     all true false c h k l = cc
     all false b c h k l = cc
-
--- ---- rows without an error of shape have the required lengths
 
 pub faultless_lengths : (k : ℕ) (lengths : List ℕ) (ws : List Words) → 0 < length lengths → 0 < length ws → left_at k lengths ws ≡ [] → map length ws ≡ lengths
 faultless_lengths k [] ws l s h = absurd (omega (arith, l))

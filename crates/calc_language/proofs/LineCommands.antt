@@ -1,54 +1,26 @@
 -- The kind of a line of a batch, from its words with `?` for each byte outside ASCII, and consequences of reading the line.
-use Rattle.std.proofs.Common.{◌≡◌, ℕ, ◌==◌, nat_lt, Bool, true, false, cond, List, [], ◌∷◌, ◌++◌, map, length, refl, sym, ap, ◌∙◌, subst, arith, Option, Some, None, Result, Ok, Err, inl, inr}
+use Rattle.std.proofs.Common.{◌≡◌, ℕ, nat_lt, false, List, [], ◌∷◌, ◌++◌, map, length, refl, sym, subst, Option, Some, None, Result, Ok, Err, inl, inr, rules}
 use Rattle.std.specs.Prelude.{IfOk}
-use Rattle.std.proofs.lemmas.Bool.Decides.{nat_tests}
-use Rattle.sym_model.specs.BatchLine.{BatchLine, too_long, passed_over, spoken, most_bytes, line_of_words, words_of_line, without_return, batch_line}
+use Rattle.sym_model.specs.BatchLine.{BatchLine, too_long, passed_over, spoken, most_bytes, words_of_line, without_return, batch_line}
 use Rattle.sym_model.specs.Command.{Command as PlainCommand}
 use Rattle.sym_model.specs.CommandOffence.{Offence}
-use Rattle.sym_model.specs.Entry.{Entry, SpellsFreely, SpellsWithoutOffence, HasFirstOffence}
+use Rattle.sym_model.specs.Entry.{Entry, SpellsWithoutOffence, HasFirstOffence}
 use Rattle.sym_model.specs.Form.{SomeOf}
-use Rattle.sym_model.specs.Grammar.{batch_entry, work_entry}
 use Rattle.sym_model.specs.SyntaxPlace.{IsSyntaxPlace}
 use Rattle.word_laws.specs.Words.{Words}
 use Rattle.calc_base.specs.declared.words.WordsFault.{WordsFault}
-use Rattle.calc_words.specs.LineBytes.{seen, seen_byte, is_passed_over}
+use Rattle.calc_words.specs.LineBytes.{seen, is_passed_over}
 use Rattle.calc_words.specs.Reading.{IsRead, Refuses, GoesWrong}
 use Rattle.calc_words.proofs.ForeignBytes.{seen_read}
 use Rattle.calc_words.proofs.ReadingFacts.{accepts, refuses, goes_wrong}
 use Rattle.calc_language.specs.BuiltCommands.{command_entries, batch_entries}
 use Rattle.calc_language.specs.Lines.{IsLineRead, KeepsItsLimits, AcceptsInLine}
-use Rattle.calc_language.specs.Reading.{command_of}
 use Rattle.calc_words.specs.declared.command.Command.{Command}
 use Rattle.calc_language.proofs.Entries.{kept_by_all}
 
--- ---- the kind of a line: too long, skipped, or with words
-
-hash_seen : (b : ℕ) → (seen_byte b == 35) ≡ (b == 35)
-hash_seen b = by (nat_lt b 128) refl
-  where
-    high : (n : ℕ) → nat_lt n 128 ≡ false → false ≡ (n == 35)
-    high n h = grind (arith, nat_tests)
-
-    by : (t : Bool) → nat_lt b 128 ≡ t → (seen_byte b == 35) ≡ (b == 35)
-    by true e = ap (λ x. cond x b 63 == 35) e
-    by false e = ap (λ x. cond x b 63 == 35) e ∙ high b e
-
-some_words : (words : Words) → is_passed_over (map seen words) ≡ false → line_of_words words ≡ spoken words
-some_words [] h = cc
-some_words ([] ∷ words) h = refl
-some_words ((b ∷ text) ∷ words) h = ap (λ t. cond t passed_over (spoken ((b ∷ text) ∷ words))) (sym (hash_seen b) ∙ h)
-
-line_is : (line : List ℕ) (kind : BatchLine) → nat_lt most_bytes (length line) ≡ false → line_of_words (words_of_line (without_return line)) ≡ kind
-    → batch_line line ≡ kind
-line_is line kind n h = ap (λ t. cond t too_long (line_of_words (words_of_line (without_return line)))) n ∙ h
-
 pub spoken_line : (line : List ℕ) (kept : Words) → nat_lt most_bytes (length line) ≡ false → kept ≡ map seen (words_of_line (without_return line))
     → is_passed_over kept ≡ false → batch_line line ≡ spoken (words_of_line (without_return line))
-spoken_line line kept n k h =
-    let words = words_of_line (without_return line) in
-    line_is line (spoken words) n (some_words words (sym (ap is_passed_over k) ∙ h))
-
--- ---- correct results of reading the words of a line
+spoken_line line kept n k h = search rules
 
 abbrev whole : Result Command WordsFault → Result (Option Command) WordsFault
 whole (Ok command) = Ok (Some command)
@@ -74,18 +46,14 @@ some_append P (x ∷ xs) ys (inl h) = inl h
 some_append P (x ∷ xs) ys (inr h) = inr (some_append P xs ys h)
 
 line_of_all : (words : Words) (c : PlainCommand) → SpellsWithoutOffence batch_entries words c → SpellsWithoutOffence command_entries words c
-line_of_all words c h =
-    let P : Entry → Type 0 = λ e. SpellsFreely e words c in
-    some_append P batch_entries (batch_entry ∷ work_entry ∷ []) h
+line_of_all words c h = search (rules, some_append)
 
 pub within : (line : BatchLine) (r : Result (Option Command) WordsFault) → IsLineRead line r → IfOk r KeepsItsLimits
 within line (Err fault) h = tt
 within line (Ok None) h = tt
 within too_long (Ok (Some command)) h = absurd h
 within passed_over (Ok (Some command)) h = absurd h
-within (spoken words) (Ok (Some command)) h =
-    let c = command_of command in
-    kept_by_all words c (line_of_all words c h.0)
+within (spoken words) (Ok (Some command)) h = search (rules, kept_by_all, line_of_all)
 
 spoken_accepts : (words : Words) (r : Result (Option Command) WordsFault) → IsLineRead (spoken words) r → (c : PlainCommand)
     → SpellsWithoutOffence batch_entries words c → AcceptsInLine c r

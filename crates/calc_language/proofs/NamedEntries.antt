@@ -1,11 +1,11 @@
 -- Lists of commands with different names, if the words of each command begin with its name: the name determines the command, and words that begin
 -- with the name of no command have their first error of syntax at the first word.
-use Rattle.std.proofs.Common.{◌≡◌, ℕ, zero, suc, take, ◌≤◌, ◌<◌, Bool, true, false, not, ◌&&◌, List, [], ◌∷◌, ◌++◌, map, length, refl, sym, ap, ◌∙◌, subst, arith, ◌⊎◌, inl, inr}
+use Rattle.std.proofs.Common.{◌≡◌, ℕ, zero, suc, take, ◌≤◌, ◌<◌, Bool, true, false, not, ◌&&◌, List, [], ◌∷◌, ◌++◌, map, length, refl, sym, ap, ◌∙◌, subst, arith, ◌⊎◌, inl, inr, rules}
 use Rattle.sym_model.specs.Sum.{Among}
 use Rattle.sym_model.specs.GoodTableau.{is_among}
 use Rattle.sym_model.specs.Polynomial.{same}
 use Rattle.sym_model.proofs.Exponents.{same_from}
-use Rattle.sym_model.specs.Form.{Form, sequence, EachOf, Has, Begins, Awaits}
+use Rattle.sym_model.specs.Form.{Form, sequence, EachOf, Begins, Awaits}
 use Rattle.sym_model.specs.Entry.{Entry, SpellsBy, BeginsCommand}
 use Rattle.sym_model.specs.SyntaxPlace.{IsSyntaxPlace}
 use Rattle.sym_model.specs.WordForms.{the}
@@ -13,7 +13,6 @@ use Rattle.word_laws.specs.Words.{Words}
 use Rattle.word_laws.specs.Reading.{forms_of}
 use Rattle.word_laws.proofs.LongestPrefixes.{CanBe, some_words, some_out}
 use Rattle.calc_words.specs.Joined.{Named}
-use Rattle.calc_words.proofs.Joining.{first_spells, first_awaits}
 use Rattle.std.proofs.lemmas.Bool.{or_left, or_right, both_ways}
 
 -- the form g, if the given form is f followed by g; otherwise the given form
@@ -24,8 +23,6 @@ behind f = f
 -- the form of the command e is the name of e, followed by another form or by nothing
 abbrev pub IsLed : Entry → Type 0
 IsLed e = (e.form ≡ sequence (the e.name) (behind e.form)) ⊎ (e.form ≡ the e.name)
-
--- ---- a property of each entry of a list
 
 pub each_among : (P : Entry → Type 0) (entries : List Entry) → EachOf P entries → (e : Entry) → Among e entries → P e
 each_among P [] h e m = absurd m
@@ -63,30 +60,12 @@ one_named (x ∷ entries) h e f (inr m) (inl n) s =
 one_named (x ∷ entries) h e f (inr m) (inr n) s =
     one_named entries (not_both (is_among x.name (names_of entries)) (are_named_apart entries) h).1 e f m n s
 
--- ---- the words of a command begin with its name
-
 abbrev BeginsAs : List ℕ → Words → Type 0
 BeginsAs name words = (rest : Words) × (words ≡ name ∷ rest)
 
 pub led_named : (e : Entry) → IsLed e → Named e
-led_named e (inl s) = record {
-  spells =
-      let P : Form → Type 0 = λ f. (words : Words) → Has f words → BeginsAs e.name words in
-      subst P (sym s) (first_spells e.name (behind e.form));
-  awaits =
-      let P : Form → Type 0 = λ f. (words : Words) → Awaits f words → BeginsAs e.name words in
-      subst P (sym s) (first_awaits e.name (behind e.form));
-}
-led_named e (inr s) = record {
-  spells =
-      let P : Form → Type 0 = λ f. (words : Words) → Has f words → BeginsAs e.name words in
-      subst P (sym s) (λ words h. ([], h.spelled));
-  awaits =
-      let P : Form → Type 0 = λ f. (words : Words) → Awaits f words → BeginsAs e.name words in
-      subst P (sym s) (λ words h. absurd h);
-}
-
--- ---- words that begin with the name of no command
+led_named e (inl s) = search rules
+led_named e (inr s) = search rules
 
 pub unnamed : (entries : List Entry) → EachOf IsLed entries → CanBe (forms_of entries) → 0 < length entries → (words : Words)
     → ((e : Entry) → Among e entries → BeginsAs e.name words → ⊥) → IsSyntaxPlace entries words 0 0

@@ -1,5 +1,5 @@
 -- The first error of the two tableaux of `unrsk`, an insertion tableau and a recording tableau.
-use Rattle.std.proofs.Common.{◌≡◌, ℕ, ◌+◌, ◌<◌, ◌≤◌, ◌==◌, Bool, true, false, cond, List, [], ◌∷◌, ◌++◌, map, length, refl, sym, ap, ◌∙◌, subst, arith, Option, Some, None, Result, ◌⊎◌, inl, inr}
+use Rattle.std.proofs.Common.{◌≡◌, ℕ, ◌+◌, ◌<◌, ◌≤◌, ◌==◌, Bool, true, false, cond, List, [], ◌∷◌, ◌++◌, map, length, refl, sym, ap, ◌∙◌, subst, arith, Option, Some, None, Result, ◌⊎◌, inl, inr, rules}
 use Rattle.std.proofs.lemmas.List.{length-map, append-nil}
 use Rattle.sym_model.specs.Sum.{Among}
 use Rattle.sym_model.proofs.Sums.{Among_from_append}
@@ -120,8 +120,6 @@ first_before k ws o h =
     (inserted_before 0 None [] k ws) (empty_rows_before k ws) o
     (first-among (inserted 0 None [] (rows_at k ws) ++ empty_row_offences (rows_at k ws)) o (sym (inserted_first (rows_at k ws)) ∙ h))
 
--- ---- the first error of the two tableaux of `unrsk`
-
 pub earlier_word : (o : Offence) (rest : Option Offence) → ((q : Offence) → rest ≡ Some q → o.0 < q.0) → earlier (Some o) rest ≡ Some o
 earlier_word o None h = refl
 earlier_word o (Some q) h = ap (λ b. cond b (Some o) (Some q)) (no_later_word o q (h q refl))
@@ -147,8 +145,6 @@ first_of_pair (w ∷ ws) second o s h =
     ∙ ap (λ x. earlier x (first_offence fills)) h
     ∙ earlier_word o (first_offence fills) (λ q e. let z = filled_after k second q (first-among fills q e) in omega (arith, before, z))
 
--- let there be a row in `first`: the errors of `words` against the row lengths of `first` do not change if a single row without numbers is counted as
--- no row (`rows_in`)
 shape_same : (k : ℕ) (first : List Words) (words : Words) → 0 < length first
     → shape_offences k (map length (rows_in [] (map numbers first))) words ≡ shape_offences k (map length (map numbers first)) words
 shape_same k [] words h = absurd (omega (arith, h))
@@ -177,23 +173,10 @@ pub second_of_pair : (first second : List Words) (k : ℕ) (lengths : List ℕ) 
     → first_offence (filled_offences (rows_at k second) ++ (left_at k lengths second ++ standard_offences (size lengths) [] [] (rows_at k second)))
     ≡ first_offence (pair_offences first second)
 second_of_pair first second k lengths s t e p q h =
-    let m = 2 + length (rows_text first) in
-    let inserts = insertion_offences (rows_at 1 first) in
-    let ls = map length (rows_in [] (map numbers first)) in
-    let asked = map length (map numbers first) in
-    let rest = λ (j : ℕ) (ns : List ℕ). first_offence (filled_offences (rows_at j second) ++ (left_at j ns second ++ standard_offences (size ns) [] [] (rows_at j second))) in
-    ap (λ j. rest j lengths) p
-    ∙ ap (rest m) (q ∙ sym (number_lengths first))
-    ∙ ap (λ os. first_offence (filled_offences (rows_at m second) ++ (os ++ standard_offences (size asked) [] [] (rows_at m second))))
-    (sym (shape_same m first (rows_text second) s ∙ left_shape_of m asked second (let z = length-map (map numbers first) (length {A = ℕ}) in let y = length-map first numbers in omega (arith, z, y, s)) t e))
-    ∙ ap (λ n. first_offence (filled_offences (rows_at m second) ++ (shape_offences m ls (rows_text second) ++ standard_offences n [] [] (rows_at m second)))) (sym (size_same first s))
-    ∙ ap (λ os. first_offence (filled_offences (rows_at m second) ++ os))
-    (sym (none_judged inserts (shape_offences m ls (rows_text second) ++ standard_offences (size ls) [] [] (rows_at m second)) h))
-    ∙ ap (λ os. first_offence ((os ++ filled_offences (rows_at m second)) ++ judged_against inserts (shape_offences m ls (rows_text second) ++ standard_offences (size ls) [] [] (rows_at m second))))
-    (sym (first_none inserts h))
+    search (rules, number_lengths, shape_same, left_shape_of, length-map, size_same, none_judged, first_none)
 
--- for the rows of a recording tableau: the first of the errors of their numbers, of the errors `lefts`, and of those of standardness, is the earlier
--- of the first error found row by row (`recorded`) and the first of `lefts`
+-- let `rows` be the rows of a recording tableau, and `lefts` any list of errors. The first of the errors of single numbers, the errors in `lefts`
+-- and the errors of standardness is the earlier of two errors: the first one found row by row (`recorded`), and the first one in `lefts`
 pub recording_first : (cells : ℕ) (rows : List PlacedRow) (lefts : List Offence)
     → first_offence (filled_offences rows ++ (lefts ++ standard_offences cells [] [] rows)) ≡ earlier (first_offence (recorded cells 0 [] [] rows)) (first_offence lefts)
 recording_first cells rows lefts =
@@ -226,8 +209,6 @@ pub read_lengths : {A B : Type 0} (g : A → List ℕ) (f : B → Words) (xs : L
     → map (λ x. length (g x)) xs ≡ map length (map f rows)
 read_lengths g f xs rows h =
     each_length g xs ∙ ap (map length) (h ∙ sym (map-map numbers f rows)) ∙ number_lengths (map f rows)
-
--- ---- a correct result for the two tableaux is a correct result of reading the words of `unrsk`
 
 abbrev offends_so : List PlacedRow → List (List ℕ) → Words → Words → (ℕ → List PlacedRow) → List Offence
 offends_so first nss words more second = offences_of_pair first nss (2 + length words) more (second (2 + length words))

@@ -1,17 +1,16 @@
 -- The first error of the two expressions of a `plethysm`.
-use Rattle.std.proofs.Common.{◌≡◌, ℕ, ◌*◌, ◌≤◌, ◌<◌, nat_lt, Bool, true, false, cond, List, [], ◌∷◌, ◌++◌, append_assoc, length, refl, sym, ap, ◌∙◌, subst, arith, Option, Some, None, option_map, Result, Ok, Err, inl, inr, ◌⊎◌}
+use Rattle.std.proofs.Common.{◌≡◌, ℕ, ◌*◌, ◌≤◌, ◌<◌, nat_lt, Bool, true, false, cond, List, [], ◌∷◌, ◌++◌, append_assoc, length, refl, sym, ap, ◌∙◌, subst, arith, Some, None, option_map, Result, Ok, Err, inl, inr, ◌⊎◌, rules}
 use Rattle.std.specs.Prelude.{codes}
 use Rattle.sym_model.specs.Sum.{Among}
 use Rattle.sym_model.proofs.Sums.{Among_from_append}
 use Rattle.sym_model.specs.Expansion.{Basis}
 use Rattle.sym_model.specs.Expression.{degree}
 use Rattle.sym_model.specs.Phrase.{Phrase, expression, Is, SpellsPhrase, spelling, tree}
-use Rattle.sym_model.specs.ExpressionOffence.{WordOffence, range, first_of, offences_within, inner_offences, plethysm_degree_limit}
+use Rattle.sym_model.specs.ExpressionOffence.{WordOffence, range, offences_within, inner_offences, plethysm_degree_limit}
 use Rattle.sym_model.specs.CommandOffence.{Offence, first_offence, earlier_of, is_no_later, judged_against, offences_in_word, plethysm_offences}
 use Rattle.sym_model.specs.Command.{plethysm}
 use Rattle.sym_model.specs.Grammar.{all_bases, plethysm_entry}
 use Rattle.word_laws.specs.Words.{Words}
-use Rattle.word_laws.specs.JudgedRows.{earlier}
 use Rattle.word_laws.proofs.EarlierOffences.{first_of_both}
 use Rattle.word_laws.proofs.FirstOffences.{first_none}
 use Rattle.calc_base.specs.declared.words.WordsFault.{WordsFault}
@@ -50,7 +49,6 @@ too_high past g = cond past (end_of g ∷ []) []
 abbrev is_past : Phrase → Phrase → Bool
 is_past f g = nat_lt plethysm_degree_limit (degree (tree f) * degree (tree g))
 
--- each error of an expression, as an error of word k, is at word k
 in_word : (k : ℕ) (os : List WordOffence) (p : Offence) → Among p (offences_in_word k os) → p.0 ≡ k
 in_word k [] p m = absurd m
 in_word k (o ∷ os) p (inl h) = ap (λ (x : Offence). x.0) h
@@ -62,7 +60,6 @@ in_judged [] true g p (inr m) = absurd m
 in_judged [] false g p m = absurd m
 in_judged (x ∷ xs) past g p m = absurd m
 
--- each error of the outer expression f is at an earlier word than the errors of the inner expression g and the error of the product of the degrees
 behind_outer : (f g : Phrase) → AllBefore (outer_found f) (inner_found g ++ judged_against (outer_found f) (too_high (is_past f g) g))
 behind_outer f g p q m n =
     let a = in_word 2 (offences_within plethysm_degree_limit f) p m in
@@ -81,31 +78,18 @@ outer_faulty w f g e s h =
     (judged_err (outer_found f) (inner_found g ++ last) (placed 2 e) (behind_outer f g)
     (placed_first 2 (offences_within plethysm_degree_limit) w f e s h))
 
--- if the outer expression f has no error, the first error is the first one of the errors of the inner expression g and the error of the product of
--- the degrees
 rest_only : (f g : Phrase) → first_offence (outer_found f) ≡ None
     → first_offence (plethysm_offences 2 f g) ≡ first_offence (inner_found g ++ too_high (is_past f g) g)
 rest_only f g n =
     ap (λ (os : List Offence). first_offence ((os ++ inner_found g) ++ judged_against os (too_high (is_past f g) g))) (first_none (outer_found f) n)
 
--- if the error o is no later than the end of the expression g, then o is the earlier one of o and the error of the product of the degrees, an error
--- at the end of g that exists if and only if `past` is true
 stays : (past : Bool) (g : Phrase) (o : Offence) → is_no_later o (end_of g) ≡ true → earlier_of o (first_offence (too_high past g)) ≡ Some o
 stays true g o h = ap (λ b. cond b (Some o) (Some (end_of g))) h
 stays false g o h = refl
 
 inner_first : (past : Bool) (g : Phrase) → Is expression g → (o : Offence) → first_offence (inner_found g) ≡ Some o
     → first_offence (inner_found g ++ too_high past g) ≡ Some o
-inner_first past g a o h = by (first_of (inner_offences g)) refl (sym (first-placed 3 (inner_offences g)) ∙ h)
-  where
-    by : (found : Option WordOffence) → first_of (inner_offences g) ≡ found → option_map (at_word 3) found ≡ Some o
-        → first_offence (inner_found g ++ too_high past g) ≡ Some o
-    by None e k = cc
-    by (Some q) e k =
-        let same : at_word 3 q ≡ o = cc in
-        let first : is_no_later (at_word 3 q) (end_of g) ≡ true = same_order 3 q (length (spelling g), range) ∙ inner-ends_last g q a e in
-        first_of_both (inner_found g) (too_high past g) ∙ ap (λ x. earlier x (first_offence (too_high past g))) h
-        ∙ stays past g o (subst (λ x. is_no_later x (end_of g) ≡ true) same first)
+inner_first past g a o h = search (rules, first-placed, option_map, at_word, same_order, inner-ends_last, first_of_both, stays)
 
 pub inner_faulty : (v w : List ℕ) (f g : Phrase) (x : Formula) (e : ExpressionFault) → SpellsPhrase v f → IsReadBy (offences_within plethysm_degree_limit) v (Ok x)
     → SpellsPhrase w g → IsReadBy inner_offences w (Err e) → IsFirst (first_offence (plethysm_offences 2 f g)) (placed 3 e)
@@ -114,8 +98,6 @@ inner_faulty v w f g x e r k s h =
     (judged_on (first_offence (inner_found g)) (first_offence (inner_found g ++ too_high (is_past f g) g)) (placed 3 e)
     (inner_first (is_past f g) g s.allowed) (placed_first 3 inner_offences w g e s h))
 
--- let the words v and w spell the expressions f and g of a plethysm, and let both be correctly read as formulas: the first error is that of the
--- product of the degrees, if there is one
 both_judged : (v w : List ℕ) (f g : Phrase) (x y : Formula) → SpellsPhrase v f → IsReadBy (offences_within plethysm_degree_limit) v (Ok x)
     → SpellsPhrase w g → IsReadBy inner_offences w (Ok y) → first_offence (plethysm_offences 2 f g) ≡ first_offence (too_high (is_past f g) g)
 both_judged v w f g x y r k s h =
@@ -147,11 +129,7 @@ both_fine v w f g x y r k s h few =
 
 pub trees_said : (v w : List ℕ) (f g : Phrase) (x y : Formula) (t : Basis) → SpellsPhrase v f → IsReadBy (offences_within plethysm_degree_limit) v (Ok x)
     → SpellsPhrase w g → IsReadBy inner_offences w (Ok y) → plethysm t (tree_of x.tree) (tree_of y.tree) ≡ plethysm t (tree f) (tree g)
-trees_said v w f g x y t r k s h =
-    ap (λ e. plethysm t e (tree_of y.tree)) (tree_read (offences_within plethysm_degree_limit) v f x r k)
-    ∙ ap (plethysm t (tree f)) (tree_read inner_offences w g y s h)
-
--- ---- the words of `plethysm`, divided into parts
+trees_said v w f g x y t r k s h = search (rules, tree_read)
 
 abbrev pub plethysm_parts : List Part
 plethysm_parts = Target ∷ Expression ∷ Expression ∷ []

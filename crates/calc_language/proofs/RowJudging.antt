@@ -1,7 +1,8 @@
 -- The first error of the rows of a tableau, read one row after another.
-use Rattle.std.proofs.Common.{◌≡◌, ℕ, zero, suc, ◌+◌, ◌-◌, ◌^◌, ◌<◌, ◌≤◌, ◌==◌, min, Bool, true, false, not, cond, List, [], ◌∷◌, ◌++◌, map, length, length-append, length-drop, take, drop, reverse, get_or, drop-cons, refl, sym, ap, ap₂, ◌∙◌, subst, arith, Option, Some, None, ◌⊎◌, inl, inr}
-use Rattle.std.proofs.lemmas.Bool.{eq-eqb, eqb-true}
-use Rattle.std.proofs.lemmas.List.{length-map, drop-drop, take_more, take_all}
+use Rattle.std.proofs.lemmas.Grind.{common_steps}
+use Rattle.std.proofs.Common.{◌≡◌, ℕ, zero, suc, ◌+◌, ◌-◌, ◌^◌, ◌<◌, ◌≤◌, min, Bool, true, false, not, cond, List, [], ◌∷◌, ◌++◌, map, length, length-append, length-drop, take, drop, reverse, get_or, drop-cons, refl, sym, ap, ap₂, ◌∙◌, subst, arith, Option, Some, None, ◌⊎◌, inl, inr, rules}
+use Rattle.std.proofs.lemmas.Bool.{eq-eqb}
+use Rattle.std.proofs.lemmas.List.{length-map, drop-drop, take_more}
 use Rattle.std.specs.Bool.{then_some}
 use Rattle.std.specs.Prelude.{IfSome}
 use Rattle.std.proofs.Math.ListN.{drop_of_length-le}
@@ -22,7 +23,6 @@ use Rattle.calc_language.specs.declared.cells.Bounds.{Bounds}
 use Rattle.calc_words.proofs.Commands.{judged_on}
 use Rattle.calc_words.proofs.FirstOffences.{within, first-append, none-append}
 
--- if x is element i of xs, the rows f y, for y in xs from index i on, are f x and the rows from index i + 1 on
 pub rows_next : {A : Type 0} (f : A → Words) (xs : List A) (i : ℕ) (x : A) → i < length xs → x ≡ get_or xs i x
     → drop i (map f xs) ≡ f x ∷ drop (i + 1) (map f xs)
 rows_next f [] i x h e = absurd (omega (arith, h))
@@ -42,7 +42,6 @@ pub numbers_fit : (w : Words) → length (numbers w) ≤ length (row_text w)
 numbers_fit [] = omega arith
 numbers_fit (t ∷ w) = let e = length-map w decimal_value in omega (arith, e)
 
--- each error of the rows of a tableau that begins at word k is at word k or later
 judged_from : (straight : Bool) (count most : Option ℕ) (c : ℕ) (upper inner : List ℕ) (flags : List Bool) (k : ℕ) (ws : List Words) (q : Offence)
     → Among q (judged straight count most c upper inner flags (rows_at k ws)) → k ≤ q.0
 judged_from straight count most c upper inner flags k [] q m = absurd m
@@ -63,7 +62,7 @@ judged_from straight count most c upper inner flags k (w ∷ ws) q m =
     by (inl a) again = (within rule [] k ns q a).0
     by (inr a) again = let z = again a in omega (arith, z)
 
--- a fault that is the first error of the numbers of the row w is the first error of w and the rows ws after it
+-- if a fault reports the first error of the numbers of the row w, then it reports the first error of w and the rows ws after it
 pub row_fails : (straight : Bool) (count most : Option ℕ) (c : ℕ) (upper inner : List ℕ) (flags : List Bool) (k : ℕ) (w : Words) (ws : List Words) (fault : WordsFault)
     → IsFirst (first_offence (offences_by (cell_rule count most (is_no_entry c upper (part inner 1) flags)) k (numbers w))) fault
     → IsFirst (first_offence (judged straight count most c upper inner flags (rows_at k (w ∷ ws)))) fault
@@ -84,12 +83,8 @@ pub row_passes : (straight : Bool) (count most : Option ℕ) (c : ℕ) (upper in
     → first_offence (judged straight count most c upper inner flags (rows_at k (w ∷ ws)))
     ≡ first_offence (judged straight (counted_on count (numbers w)) (cond straight (Some (length (numbers w))) None) (part inner 1) (numbers w) (drop 1 inner)
     (marked (reverse (numbers w)) flags) (rows_at (k + length (row_text w) + 1) ws))
-row_passes straight count most c upper inner flags k w ws e =
-    none-append (offences_by (cell_rule count most (is_no_entry c upper (part inner 1) flags)) k (numbers w))
-    (judged straight (counted_on count (numbers w)) (cond straight (Some (length (numbers w))) None) (part inner 1) (numbers w) (drop 1 inner)
-    (marked (reverse (numbers w)) flags) (rows_at (k + length (row_text w) + 1) ws)) e
+row_passes straight count most c upper inner flags k w ws e = search (rules, none-append)
 
--- the number of words of the rows w ∷ ws, each after a `/`, is that of w, plus that of the rows ws, each after a `/`, plus 1
 pub further_length : (w : Words) (ws : List Words) → length (further_text (w ∷ ws)) ≡ length (row_text w) + length (further_text ws) + 1
 further_length w ws = let e = length-append (row_text w) (further_text ws) in omega (arith, e)
 
@@ -108,14 +103,11 @@ part_there xs i h = sym (ap (λ ys. part ys 1) (drop-cons xs i 0 h))
 pub part_past : (xs : List ℕ) (i : ℕ) → length xs ≤ i → 0 ≡ part (drop i xs) 1
 part_past xs i h = sym (ap (λ ys. part ys 1) (drop_of_length-le xs h))
 
--- ---- the state after the first i rows of a tableau have been read
+-- ---- reading a tableau, one row after another (`RowsTo`)
 
 last_appended : (rows : List (List ℕ)) (row : List ℕ) → last_row (rows ++ row ∷ []) ≡ row
 last_appended [] row = refl
-last_appended (r ∷ rows) row =
-    let l = length-append rows (row ∷ []) in
-    (let z : length (r ∷ (rows ++ row ∷ [])) - 1 ≡ suc (length (rows ++ row ∷ []) - 1) = omega (arith, l) in ap (λ n. get_or (r ∷ (rows ++ row ∷ [])) n []) z)
-    ∙ last_appended rows row
+last_appended (r ∷ rows) row = grind (arith, common_steps)
 
 few_next : (count : Option ℕ) (ns : List ℕ) (place next : ℕ) → IfSome count (λ n. n ≤ place) → place + length ns ≤ next
     → IfSome (counted_on count ns) (λ n. n ≤ next)
@@ -127,8 +119,8 @@ pub few_fit : (count : Option ℕ) (ns : List ℕ) (place : ℕ) → IfSome coun
 few_fit None ns place h l = h
 few_fit (Some n) ns place h l = omega (arith, h, l)
 
--- the first i rows have been read and have no error; the next row begins at the word `place`, the row above it begins at column c, and `taken` are
--- the flags
+-- the first i of the rows `rows` have been read into `read` and have no error. The next row begins at the word `place`, and the row above it begins
+-- at column c; `taken` has a flag for each number, set if the number has occurred as an entry
 pub record RowsTo {A : Type 0} (f : A → Words) (first : Option Offence) (inner : List ℕ) (rows : List A) (i : ℕ) (read : List (List ℕ)) (place : ℕ) (bounds : Bounds) (c : ℕ) (taken : List Bool) : Type 0 where
   pub first_is : first ≡ first_offence (judged bounds.is_straight bounds.counted bounds.most c (last_row read) (drop i inner) taken (rows_at place (drop i (map f rows))))
   pub read_is : read ≡ take i (map (λ r. numbers (f r)) rows)
@@ -191,24 +183,13 @@ rows_go_on f first inner rows i read place bounds c taken x upper d v next r h e
 
 pub rows_end : {A : Type 0} (f : A → Words) (first : Option Offence) (inner : List ℕ) (rows : List A) (i : ℕ) (read : List (List ℕ)) (place : ℕ) (bounds : Bounds) (c : ℕ) (taken : List Bool)
     → RowsTo f first inner rows i read place bounds c taken → length rows ≤ i → (read ≡ map (λ r. numbers (f r)) rows) × (first ≡ None)
-rows_end f first inner rows i read place bounds c taken r h = (
-  r.read_is ∙ take_all i (map (λ y. numbers (f y)) rows) (let l = length-map rows (λ y. numbers (f y)) in omega (arith, l, h)),
-  r.first_is ∙ ap (λ ds. first_offence (judged bounds.is_straight bounds.counted bounds.most c (last_row read) (drop i inner) taken (rows_at place ds))) (no_rows f rows i h),
-)
+rows_end f first inner rows i read place bounds c taken r h = grind (arith, common_steps)
 
 -- ---- the first word at which the lengths of rows differ from given lengths
 
 pub left_misses : (k n : ℕ) (ls : List ℕ) (w : Words) (ws : List Words) → (length w ≡ n → ⊥)
     → first_offence (left_at k (n ∷ ls) (w ∷ ws)) ≡ Some (k + min n (length w), 0, shape)
-left_misses k n ls w ws h =
-    ap (λ b. first_offence (cond b (left_behind (k + length (row_text w)) ls ws (left_at (k + length (row_text w) + 1) ls ws)) ((k + min n (length w), 0, shape) ∷ []))) (apart (length w) n h)
-  where
-    apart : (l n : ℕ) → (l ≡ n → ⊥) → (l == n) ≡ false
-    apart l n h = by (l == n) refl
-      where
-        by : (b : Bool) → (l == n) ≡ b → b ≡ false
-        by true e = absurd (h (eqb-true l n e))
-        by false e = refl
+left_misses k n ls w ws h = search rules
 
 left_fits : (k n : ℕ) (ls : List ℕ) (w : Words) (ws : List Words) → length w ≡ n
     → left_at k (n ∷ ls) (w ∷ ws) ≡ left_behind (k + length (row_text w)) ls ws (left_at (k + length (row_text w) + 1) ls ws)

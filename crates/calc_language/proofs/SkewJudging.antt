@@ -1,15 +1,14 @@
 -- The first error of the words of `rect`: two partitions and a tableau.
-use Rattle.std.proofs.Common.{◌≡◌, ℕ, zero, suc, ◌+◌, ◌-◌, ◌<◌, ◌||◌, nat_lt, ◌⊎◌, inl, inr, List, [], ◌∷◌, ◌++◌, map, length, drop, refl, sym, ap, ◌∙◌, subst, arith, Some, None, Result}
+use Rattle.std.proofs.Common.{◌≡◌, ℕ, zero, suc, ◌+◌, ◌-◌, ◌<◌, ◌⊎◌, inl, inr, List, [], ◌∷◌, ◌++◌, map, length, drop, refl, sym, ap, ◌∙◌, subst, arith, Some, None, Result, rules}
 use Rattle.std.proofs.lemmas.List.{length-map, append-nil}
 use Rattle.sym_model.specs.Sum.{Among}
 use Rattle.sym_model.proofs.Sums.{Among_from_append}
 use Rattle.sym_model.specs.Partition.{part, in_front, without_last_zeros}
 use Rattle.sym_model.specs.PrintedBlock.{decimal_value}
 use Rattle.sym_model.specs.Schur.{row_lengths}
-use Rattle.sym_model.specs.ExpressionOffence.{shape}
 use Rattle.sym_model.specs.Form.{EachOf}
 use Rattle.sym_model.specs.Command.{rect}
-use Rattle.sym_model.specs.CommandOffence.{Offence, PlacedRow, first_offence, offences_by, offences_after, part_offences, part_rule, inside_rule, judged_against, entry_rule, row_offences, order_offences, when, falls, stays, left_of, entry_above, rows_in}
+use Rattle.sym_model.specs.CommandOffence.{Offence, PlacedRow, first_offence, offences_by, offences_after, part_offences, part_rule, inside_rule, judged_against, entry_rule, row_offences, order_offences, rows_in}
 use Rattle.sym_model.specs.Grammar.{rect_entry, rect_offends, inner_offences}
 use Rattle.sym_model.specs.WordForms.{numbers, partition, placed_rows, shape_offences}
 use Rattle.sym_model.proofs.Parts.{get_or-without_last_zeros, part-in_front}
@@ -74,23 +73,14 @@ other_parts (suc a) xs = refl
 order_same : (c : ℕ) (upper xs : List ℕ) (rows : List PlacedRow) → order_offences c upper (without_last_zeros xs) rows ≡ order_offences c upper xs rows
 order_same c upper xs [] = refl
 order_same c upper [] (row ∷ rows) = refl
-order_same c upper (a ∷ xs) (row ∷ rows) =
-    let more = λ (p : ℕ) (ys : List ℕ).
-    offences_by (λ before b. when (falls (left_of before) b || stays (entry_above upper c (p + length before)) b) shape) row.0 row.1
-    ++ order_offences p row.1 ys rows in
-    ap (λ p. more p (drop 1 (in_front a (without_last_zeros xs)))) (part-in_front a (without_last_zeros xs))
-    ∙ ap (more a) (other_parts a (without_last_zeros xs))
-    ∙ ap (λ os. offences_by (λ before b. when (falls (left_of before) b || stays (entry_above upper c (a + length before)) b) shape) row.0 row.1 ++ os)
-    (order_same a row.1 xs rows)
+order_same c upper (a ∷ xs) (row ∷ rows) = search (rules, part-in_front, other_parts, (order_same a row.1 xs rows))
 
 part_same : (xs : List ℕ) (j : ℕ) → part (without_last_zeros xs) (j + 1) ≡ part xs (j + 1)
 part_same xs j = get_or-without_last_zeros xs (j + 1 - 1)
 
 inside_same : (xs before : List ℕ) (k : ℕ) (ns : List ℕ) → offences_after (inside_rule (without_last_zeros xs)) before k ns ≡ offences_after (inside_rule xs) before k ns
 inside_same xs before k [] = refl
-inside_same xs before k (a ∷ ns) =
-    ap (λ p. map (λ kind. (k, 0, kind)) (when (nat_lt p a) shape) ++ offences_after (inside_rule (without_last_zeros xs)) (a ∷ before) (k + 1) ns) (part_same xs (length before))
-    ∙ ap (λ os. map (λ kind. (k, 0, kind)) (when (nat_lt (part xs (length before + 1)) a) shape) ++ os) (inside_same xs (a ∷ before) (k + 1) ns)
+inside_same xs before k (a ∷ ns) = search (rules, part_same, (inside_same xs (a ∷ before) (k + 1) ns))
 
 -- ---- the errors of the partitions come before those of the tableau
 
@@ -120,11 +110,7 @@ inner_alone k parts inner = part_offences k (numbers inner) ++ offences_by (insi
 
 inner_is : (k : ℕ) (parts : List ℕ) (outer inner : Words) → parts ≡ partition outer → first_offence (part_offences 1 (numbers outer)) ≡ None
     → inner_alone k parts inner ≡ inner_offences k (part_offences 1 (numbers outer)) (numbers outer) (numbers inner)
-inner_is k parts outer inner e h =
-    ap (λ xs. inner_alone k xs inner) e
-    ∙ ap (λ os. part_offences k (numbers inner) ++ os) (inside_same (numbers outer) [] k (numbers inner))
-    ∙ ap (λ os. part_offences k (numbers inner) ++ os)
-    (sym (none_judged (part_offences 1 (numbers outer)) (offences_by (inside_rule (numbers outer)) k (numbers inner)) h))
+inner_is k parts outer inner e h = search (rules, inside_same, none_judged)
 
 pub outer_first : (outer inner : Words) (rows : List Words) (o : Offence) → first_offence (part_offences 1 (numbers outer)) ≡ Some o
     → first_offence (all_skew_offences outer inner rows) ≡ Some o
@@ -164,21 +150,7 @@ inner_first outer inner rows parts o e n h =
 pub neither_first : (outer inner : Words) (rows : List Words) (parts : List ℕ) → parts ≡ partition outer → first_offence (part_offences 1 (numbers outer)) ≡ None
     → first_offence (inner_alone (2 + length outer) parts inner) ≡ None
     → first_offence (skew_offences (3 + length outer + length inner) (partition outer) (partition inner) rows) ≡ first_offence (all_skew_offences outer inner rows)
-neither_first outer inner rows parts e n h =
-    let k = 3 + length outer + length inner in
-    let m = 2 + length outer in
-    let outers = part_offences 1 (numbers outer) in
-    let inners = inner_offences m outers (numbers outer) (numbers inner) in
-    let fills = row_offences entry_rule (rows_at k rows) in
-    let shapes = shape_offences k (row_lengths (partition outer) (partition inner)) (rows_text rows) in
-    let later = shapes ++ order_offences 0 [] (numbers inner) (rows_at k rows) in
-    let none : first_offence (outers ++ inners) ≡ None =
-    first_of_both outers inners ∙ ap (λ x. earlier x (first_offence inners)) n ∙ ap first_offence (sym (inner_is m parts outer inner e n)) ∙ h in
-    ap (λ os. first_offence (fills ++ (shapes ++ os))) (order_same 0 [] (numbers inner) (rows_at k rows))
-    ∙ ap (λ os. first_offence (fills ++ os)) (sym (none_judged (outers ++ inners) later none))
-    ∙ ap (λ os. first_offence ((os ++ fills) ++ judged_against (outers ++ inners) later)) (sym (first_none (outers ++ inners) none))
-
--- ---- a correct result for the two partitions and the tableau is a correct result of reading the words of `rect`
+neither_first outer inner rows parts e n h = search (rules, first_of_both, inner_is, order_same, none_judged, first_none)
 
 pub skew_read : (words outer inner : Words) (rows : List Words) (r : Result Read WordsFault) → AreSkewWords outer inner rows words
     → IsJudged (StandsFor (rect (partition outer) (partition inner) (rows_in (partition outer) (map numbers rows)))) (first_offence (all_skew_offences outer inner rows)) r
@@ -203,7 +175,4 @@ skew_read words outer inner rows r t j =
 pub skew_read_rows : {A : Type 0} (f : A → Words) (words outer inner : Words) (xs : List A) (r : Result Read WordsFault) → AreSkewWords outer inner (map f xs) words
     → IsJudged (StandsFor (rect (partition outer) (partition inner) (rows_in (partition outer) (map (λ r. numbers (f r)) xs)))) (first_offence (all_skew_offences outer inner (map f xs))) r
     → IsRead (rect_entry ∷ []) words r
-skew_read_rows f words outer inner xs r t j =
-    skew_read words outer inner (map f xs) r t
-    (subst (λ ns. IsJudged (StandsFor (rect (partition outer) (partition inner) (rows_in (partition outer) ns))) (first_offence (all_skew_offences outer inner (map f xs))) r)
-    (sym (map-map numbers f xs)) j)
+skew_read_rows f words outer inner xs r t j = search (rules, skew_read, map-map)

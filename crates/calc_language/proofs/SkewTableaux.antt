@@ -1,10 +1,8 @@
 -- If rows have no error for a skew shape, they are a tableau of this shape.
-use Rattle.std.proofs.Common.{◌≡◌, ℕ, zero, suc, ◌+◌, ◌-◌, ◌<◌, ◌≤◌, nat_lt, true, List, [], ◌∷◌, ◌++◌, map, length, get_or, refl, sym, ap, ◌∙◌, subst, arith, None}
-use Rattle.std.proofs.lemmas.Bool.{ltb-false}
-use Rattle.sym_model.specs.Partition.{part, IsPartition, without_last_zeros}
+use Rattle.std.proofs.Common.{◌≡◌, ℕ, zero, suc, ◌+◌, ◌-◌, ◌<◌, ◌≤◌, true, List, [], ◌∷◌, ◌++◌, map, length, get_or, refl, sym, ap, ◌∙◌, arith, None, rules}
+use Rattle.sym_model.specs.Partition.{IsPartition, without_last_zeros}
 use Rattle.sym_model.specs.Schur.{row_lengths, contains}
 use Rattle.sym_model.specs.Tableau.{IsTableau}
-use Rattle.sym_model.specs.ExpressionOffence.{shape}
 use Rattle.sym_model.specs.Form.{EachOf}
 use Rattle.sym_model.specs.CommandOffence.{first_offence, offences_by, offences_after, inside_rule, entry_rule, row_offences, order_offences, rows_in}
 use Rattle.sym_model.specs.WordForms.{numbers, shape_offences}
@@ -20,18 +18,11 @@ use Rattle.calc_language.proofs.PairJudging.{left_shape_of, number_lengths}
 use Rattle.calc_language.proofs.SkewJudging.{asked_shape, asked_some}
 use Rattle.word_laws.proofs.NoOffences.{none_append, none_next}
 use Rattle.strip_laws.proofs.Containment.{contains_from_places}
-use Rattle.sym_model.proofs.Lists.{none_chosen}
-
--- ---- an inner partition whose numbers do not exceed the outer parts
 
 none_inside : (outer before : List ℕ) (k : ℕ) (ns : List ℕ) → offences_after (inside_rule outer) before k ns ≡ []
     → (j : ℕ) → get_or ns j 0 ≤ get_or outer (length before + j) 0
 none_inside outer before k [] h j = omega arith
-none_inside outer before k (a ∷ ns) h zero =
-    let n = none_next (inside_rule outer) before k a ns h in
-    let l = ltb-false (part outer (length before + 1)) a (none_chosen (nat_lt (part outer (length before + 1)) a) shape n.0) in
-    let z : get_or outer (length before + 1 - 1) 0 ≡ get_or outer (length before + 0) 0 = (let y : length before + 1 - 1 ≡ length before + 0 = omega arith in ap (λ i. get_or outer i 0) y) in
-    omega (arith, l, z)
+none_inside outer before k (a ∷ ns) h zero = search rules
 none_inside outer before k (a ∷ ns) h (suc j) =
     let n = none_next (inside_rule outer) before k a ns h in
     let r = none_inside outer (a ∷ before) (k + 1) ns n.1 j in
@@ -49,8 +40,6 @@ inside_contains outer k ns h =
     let z : get_or outer (0 + j) 0 ≡ get_or outer j 0 = (let x : 0 + j ≡ j = omega arith in ap (λ i. get_or outer i 0) x) in
     omega (arith, e, y, z))
 
--- ---- rows without an error are a tableau of the skew shape
-
 one_empty : (ws : List Words) → map length ws ≡ 0 ∷ [] → rows_in [] (map numbers ws) ≡ []
 one_empty [] h = refl
 one_empty ([] ∷ []) h = refl
@@ -60,18 +49,8 @@ one_empty ((t ∷ w) ∷ ws) h = let z = ap (λ xs. get_or xs 0 0) h in absurd (
 tableau_in : (outer inner : List ℕ) (k : ℕ) (ws : List Words) → IsPartition outer → IsPartition inner → contains outer inner ≡ true
     → row_offences entry_rule (rows_at k ws) ≡ [] → map length ws ≡ asked_lengths outer inner → order_offences 0 [] inner (rows_at k ws) ≡ []
     → IsTableau outer inner (rows_in outer (map numbers ws))
-tableau_in [] inner k ws o i c e l d =
-    subst (IsTableau [] inner) (sym (one_empty ws l))
-    (record { outside = o; inside = i; holds = c; cells = refl; letters = refl; order = refl })
-tableau_in (a ∷ outer) inner k ws o i c e l d =
-    record {
-      outside = o;
-      inside = i;
-      holds = c;
-      cells = number_lengths ws ∙ l;
-      letters = faultless_letters k ws e;
-      order = faultless_order 0 [] inner k ws i.falls d;
-    }
+tableau_in [] inner k ws o i c e l d = search (rules, one_empty)
+tableau_in (a ∷ outer) inner k ws o i c e l d = search (rules, number_lengths, faultless_letters, faultless_order)
 
 pub skew_tableau : (k : ℕ) (outer inner : List ℕ) (ws : List Words) → IsPartition outer → IsPartition inner → contains outer inner ≡ true
     → 0 < length ws → EachOf (EachOf IsNumber) ws → first_offence (skew_offences k outer inner ws) ≡ None

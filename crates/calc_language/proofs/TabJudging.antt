@@ -1,6 +1,5 @@
 -- The first error of the words of `tab`: two partitions and, if it is given, a tableau after `-from`.
-use Rattle.std.proofs.Common.{◌≡◌, ℕ, ◌+◌, ◌<◌, ◌≤◌, nat_lt, ◌==◌, min, Bool, true, false, cond, ◌⊎◌, inl, inr, List, [], ◌∷◌, ◌++◌, map, length, refl, sym, ap, ap₂, ◌∙◌, subst, arith, append_assoc, Option, Some, None, Result, Ok}
-use Rattle.std.proofs.lemmas.Bool.Decides.{nat_tests}
+use Rattle.std.proofs.Common.{◌≡◌, ℕ, ◌+◌, ◌<◌, ◌≤◌, Bool, true, false, cond, ◌⊎◌, inl, inr, List, [], ◌∷◌, ◌++◌, map, length, refl, sym, ap, ap₂, ◌∙◌, subst, arith, append_assoc, Option, Some, None, Result, Ok, rules}
 use Rattle.std.proofs.lemmas.List.{length-map}
 use Rattle.sym_model.specs.Sum.{Among}
 use Rattle.sym_model.proofs.Sums.{Among_from_append}
@@ -8,15 +7,15 @@ use Rattle.sym_model.proofs.Exponents.{tests_agree}
 use Rattle.sym_model.specs.GoodTableau.{column_reading}
 use Rattle.sym_model.specs.Partition.{Falls}
 use Rattle.sym_model.specs.PrintedBlock.{decimal_value}
-use Rattle.sym_model.specs.ExpressionOffence.{shape, is_wide}
+use Rattle.sym_model.specs.ExpressionOffence.{shape}
 use Rattle.sym_model.specs.Form.{Written}
 use Rattle.sym_model.specs.Command.{tab}
-use Rattle.sym_model.specs.CommandOffence.{Offence, first_offence, offences_after, part_offences, part_rule, judged_against, entry_rule, greatest_letter, row_offences, rows_in}
+use Rattle.sym_model.specs.CommandOffence.{Offence, first_offence, offences_after, part_offences, part_rule, judged_against, entry_rule, row_offences, rows_in}
 use Rattle.sym_model.specs.TableauList.{is_lattice_tableau}
 use Rattle.sym_model.specs.Grammar.{tab_entry, tab_offends, two_partitions, last_reading}
-use Rattle.sym_model.specs.WordForms.{optional, from_words, numbers, partition, placed_rows}
+use Rattle.sym_model.specs.WordForms.{optional, from_words, numbers, partition}
 use Rattle.word_laws.specs.Words.{Words}
-use Rattle.word_laws.specs.WrittenRows.{row_text, written_rows, rows_at}
+use Rattle.word_laws.specs.WrittenRows.{row_text, rows_at}
 use Rattle.tableau_iter.proofs.EntryLimits.{RowsWithin, rows_within}
 use Rattle.calc_base.specs.declared.words.WordsFault.{WordsFault}
 use Rattle.expression_reading.specs.declared.offence.Kind.TheVariants.{Shape as Misshapen}
@@ -33,14 +32,8 @@ use Rattle.calc_language.proofs.WrittenTableaux.{rows_placed, rows_entered}
 use Rattle.sym_model.specs.Bounded.{AreLetters as AreWithin}
 use Rattle.std.proofs.lemmas.Simd.{map-map}
 
--- ---- a number from 1 to n, for n ≤ 512, has no error as an entry
-
 entry_none : (n : ℕ) (before : List ℕ) (a : ℕ) → n ≤ 512 → 1 ≤ a → a ≤ n → entry_rule before a ≡ []
-entry_none n before a f l h =
-    let w : is_wide a ≡ false = grind (arith, nat_tests) in
-    let z : (a == 0) ≡ false = grind (arith, nat_tests) in
-    let o : nat_lt greatest_letter a ≡ false = grind (arith, nat_tests) in
-    cc
+entry_none n before a f l h = search rules
 
 row_none : (n : ℕ) (before : List ℕ) (k : ℕ) (ns : List ℕ) → n ≤ 512 → AreWithin n ns → offences_after entry_rule before k ns ≡ []
 row_none n before k [] f h = refl
@@ -59,9 +52,7 @@ capped rows = map (map at_most_entry) rows
 
 row_same : (n : ℕ) (ns : List ℕ) → n ≤ 512 → AreWithin n ns → map at_most_entry ns ≡ ns
 row_same n [] f h = refl
-row_same n (a ∷ ns) f h =
-    let z : min a greatest_letter ≡ a = (let y = h.0.1 in omega (arith, y, f)) in
-    ap₂ ◌∷◌ z (row_same n ns f h.1)
+row_same n (a ∷ ns) f h = search (rules, (row_same n ns f h.1))
 
 rows_same : (n : ℕ) (rows : List (List ℕ)) → n ≤ 512 → RowsWithin n rows → capped rows ≡ rows
 rows_same n [] f h = refl
@@ -69,9 +60,7 @@ rows_same n (row ∷ rows) f h = ap₂ ◌∷◌ (row_same n row f h.0) (rows_sa
 
 row_kept : (n : ℕ) (ns : List ℕ) → n ≤ 512 → AreWithin n (map at_most_entry ns) → map at_most_entry ns ≡ ns
 row_kept n [] f h = refl
-row_kept n (a ∷ ns) f h =
-    let z : min a greatest_letter ≡ a = (let y = h.0.1 in omega (arith, y, f)) in
-    ap₂ ◌∷◌ z (row_kept n ns f h.1)
+row_kept n (a ∷ ns) f h = search (rules, (row_kept n ns f h.1))
 
 rows_kept : (n : ℕ) (rows : List (List ℕ)) → n ≤ 512 → RowsWithin n (capped rows) → capped rows ≡ rows
 rows_kept n [] f h = refl
@@ -84,8 +73,6 @@ rows_in_capped [] ([] ∷ []) = refl
 rows_in_capped [] ([] ∷ row ∷ rows) = refl
 rows_in_capped [] ((a ∷ row) ∷ rows) = refl
 
--- let outer be weakly decreasing, with at most 512 parts: the rows with each entry over 65,535 replaced by 65,535 are a lattice tableau of
--- outer/inner if and only if the rows unchanged are one
 capped_listed : (outer inner : List ℕ) (rows : List (List ℕ)) → Falls outer → length outer ≤ 512
     → is_lattice_tableau outer inner (capped rows) ≡ is_lattice_tableau outer inner rows
 capped_listed outer inner rows f n =
@@ -102,10 +89,7 @@ capped_each f (x ∷ xs) = ap (λ rs. map at_most_entry (numbers (f x)) ∷ rs) 
 pub read_listed : {A : Type 0} (f : A → Words) (outer inner : List ℕ) (xs : List A) (read : List (List ℕ)) → Falls outer → length outer ≤ 512
     → read ≡ rows_in outer (map (λ r. map at_most_entry (numbers (f r))) xs)
     → is_lattice_tableau outer inner read ≡ is_lattice_tableau outer inner (rows_in outer (map (λ r. numbers (f r)) xs))
-read_listed f outer inner xs read h n e =
-    ap (is_lattice_tableau outer inner)
-    (e ∙ ap (rows_in outer) (capped_each f xs) ∙ rows_in_capped outer (map (λ r. numbers (f r)) xs))
-    ∙ capped_listed outer inner (rows_in outer (map (λ r. numbers (f r)) xs)) h n
+read_listed f outer inner xs read h n e = search (rules, capped_each, rows_in_capped, capped_listed)
 
 pub read_same : {A : Type 0} (f : A → Words) (outer inner : List ℕ) (xs : List A) (read : List (List ℕ)) → Falls outer → length outer ≤ 512
     → read ≡ rows_in outer (map (λ r. map at_most_entry (numbers (f r))) xs) → is_lattice_tableau outer inner read ≡ true
@@ -116,8 +100,6 @@ read_same f outer inner xs read h n e l =
     is
     ∙ rows_kept (length outer) (rows_in outer (map (λ r. numbers (f r)) xs)) n
     (rows_within outer inner (capped (rows_in outer (map (λ r. numbers (f r)) xs))) h (ap (is_lattice_tableau outer inner) (sym is) ∙ l))
-
--- ---- the test whether the rows after `-from` are a lattice tableau
 
 -- c is the command `tab` of outer/inner, which lists all lattice tableaux, or those after the one with the column reading `after`
 abbrev pub IsTab : List ℕ → List ℕ → Option (List ℕ) → Read → Type 0
@@ -162,8 +144,6 @@ listed_last f k outer inner (x ∷ xs) s l h n t a = (a, first)
         (rows_none (length outer) (k + 1) (map f (x ∷ xs)) n
         (whole outer (map f (x ∷ xs)) (rows_within outer inner (rows_in outer (map numbers (map f (x ∷ xs)))) h all)))
 
--- ---- the errors of the partitions come before that of the tableau
-
 after_shapes : (outer inner : Words) (rows : List Words)
     → AllBefore (two_partitions 1 outer inner)
     (judged_against (two_partitions 1 outer inner) (unlisted (2 + length outer + length inner) (partition outer) (partition inner) (map numbers rows))
@@ -203,7 +183,7 @@ after_shapes outer inner rows p q m n =
     later (inl a) = from_judged (two_partitions 1 outer inner) a
     later (inr a) = let z = entries_after (2 + length outer + length inner + 1) rows q a in omega (arith, z)
 
--- if the two partitions have an error, a fault that is their first error is the first error of all words
+-- if a fault reports the first error of the two partitions, then it reports the first error of all words
 pub shapes_faulty : (outer inner : Words) (rows : List Words) (fault : WordsFault)
     → IsFirst (first_offence (two_partitions 1 outer inner)) fault → IsFirst (first_offence (all_tab_offences outer inner rows)) fault
 shapes_faulty outer inner rows fault h =
@@ -221,21 +201,13 @@ IsTabJudged outer inner rows r =
     IsJudged (IsTab (partition outer) (partition inner) (last_of (partition outer) (partition inner) (map numbers rows)))
     (first_offence (all_tab_offences outer inner rows)) r
 
--- the column reading of the tableau after `-from` is that of its rows of number words
 tab_said : (P Q : List ℕ) (x : Written (optional from_words)) → last_reading P Q x ≡ last_of P Q (map numbers (from_rows x))
 tab_said P Q (inl x) = refl
 tab_said P Q (inr x) = ap (λ ns. Some (column_reading P Q (rows_in P ns))) (rows_entered x.1)
 
 tab_offended : (outer inner : Words) (x : Written (optional from_words)) → tab_offends (tt, (outer, (tt, (inner, x)))) ≡ all_tab_offences outer inner (from_rows x)
 tab_offended outer inner (inl x) = refl
-tab_offended outer inner (inr x) =
-    let k = 2 + length outer + length inner in
-    let lists = two_partitions 1 outer inner in
-    let P = partition outer in
-    let Q = partition inner in
-    ap (λ ns. (lists ++ judged_against lists (cond (is_lattice_tableau P Q (rows_in P ns)) [] ((k, 0, shape) ∷ []))) ++ row_offences entry_rule (placed_rows (k + 1) x.1))
-    (rows_entered x.1)
-    ∙ ap (λ p. (lists ++ judged_against lists (unlisted k P Q (map numbers (written_rows x.1)))) ++ row_offences entry_rule p) (rows_placed (k + 1) x.1)
+tab_offended outer inner (inr x) = search (rules, rows_entered, rows_placed)
 
 tab_read : (words outer inner : Words) (rows : List Words) (r : Result Read WordsFault) → AreTabWords outer inner rows words
     → IsTabJudged outer inner rows r → IsRead (tab_entry ∷ []) words r

@@ -24,18 +24,19 @@ abbrev pub entry_or : ℕ → Option Kind → Result ℕ Kind
 entry_or a None = Ok a
 entry_or a (Some kind) = Err kind
 
--- the flags, with the flag at the index a set for each number a of the list
+-- the flags, after the flag at the index a has been set for each number a of the list
 abbrev pub marked : List ℕ → List Bool → List Bool
 marked [] flags = flags
 marked (a ∷ ns) flags = slice_set (marked ns flags) a true
 
--- whether there are flags, and the flag at index a is missing or set
+-- whether the list of flags is not empty, and the flag at index a is set or missing
 abbrev pub is_taken : List Bool → ℕ → Bool
 is_taken [] a = false
 is_taken (f ∷ flags) a = slice_index_or (f ∷ flags) a true
 
--- A row of a tableau begins at column d with the entries `before`, below the row `upper`, which begins at column c. Whether the number a cannot be
--- its next entry: a is out of order (`is_disordered`), or there are flags and, once the flags of `before` are set, the flag of a is set or missing.
+-- Whether the number a cannot be the next entry of a row that begins at column d with the entries `before`, below the row `upper`, which begins at
+-- column c. It cannot if it is out of order (`is_disordered`). If `flags` is not empty, it has one flag for each number, which is set if the number
+-- has occurred in the tableau; then a number that has occurred, is in `before` or has no flag cannot be an entry either.
 abbrev pub is_no_entry : ℕ → List ℕ → ℕ → List Bool → List ℕ → ℕ → Bool
 is_no_entry c upper d flags before a =
     is_disordered c upper d before a || is_taken (marked before flags) a
@@ -51,7 +52,8 @@ counted_on (Some count) ns = Some (count + length ns)
 
 -- The errors of the rows of a tableau that follow its row `upper`; that row begins at column c, and these rows begin at the columns `inner`. If
 -- `count` is given, entries are counted, and `count` precede these rows; if `most` is given, the first of these rows has at most `most` numbers; if
--- `straight`, no later row is longer than the one above it; and if there are flags, no entry may have its flag set or missing.
+-- `straight`, no later row is longer than the one above it; and if there are flags, one for each number that may be an entry, a number whose flag is
+-- set or missing is an error.
 abbrev pub judged : Bool → Option ℕ → Option ℕ → ℕ → List ℕ → List ℕ → List Bool → List PlacedRow → List Offence
 judged straight count most c upper inner flags [] = []
 judged straight count most c upper inner flags (row ∷ rows) =

@@ -37,7 +37,7 @@ IsPassedOver (Ok None) = Unit {0}
 IsPassedOver (Ok (Some command)) = ⊥
 IsPassedOver (Err fault) = fault ≡ NoMemory
 
--- the result is a command that stands for c, unless memory runs out
+-- unless memory runs out, the result is a command that `command_of` maps to c
 abbrev pub AcceptsInLine : PlainCommand → Result (Option Command) WordsFault → Type 0
 AcceptsInLine c (Ok None) = ⊥
 AcceptsInLine c (Ok (Some command)) = command_of command ≡ c

@@ -1,4 +1,4 @@
--- The errors of the two tableaux of `unrsk`, from their rows.
+-- The errors of the two tableaux of `unrsk`, from their rows. A *number word* is a word of decimal digits.
 use Rattle.std.specs.Prelude.{ℕ, ◌+◌, List, [], ◌++◌, map, length}
 use Rattle.sym_model.specs.Partition.{size}
 use Rattle.sym_model.specs.CommandOffence.{Offence, PlacedRow, judged_against, standard_offences}

@@ -33,8 +33,8 @@ IsReadAs (Some e) words result = IsReadBy (e ∷ []) words result
 abbrev pub IsWithinItsLimits : Command → Type 0
 IsWithinItsLimits command = KeepsLimits (command_of command)
 
--- the result of reading the words as a command of the command line is correct: a sound command (`IsSound`) that they spell without an error, their
--- first error, or the place of their first error of syntax; nothing is required if memory runs out
+-- the result of reading the words as a command of the command line is correct: a command that they spell without an error and that is sound (the
+-- tableaux of `unrsk` are a pair, `IsSound`), their first error, or the place of their first error of syntax; nothing is required if memory runs out
 abbrev pub IsRead : List (List ℕ) → Result Command WordsFault → Type 0
 IsRead words result = IsReadBy command_entries words result
 

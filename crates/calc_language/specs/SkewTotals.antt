@@ -1,4 +1,4 @@
--- The errors of the words of `rect`: two partitions and a tableau.
+-- The errors of the words of `rect`: two partitions and a tableau. A *number word* is a word of decimal digits.
 use Rattle.std.specs.Prelude.{ℕ, ◌+◌, List, [], ◌++◌, length}
 use Rattle.sym_model.specs.Schur.{row_lengths}
 use Rattle.sym_model.specs.CommandOffence.{Offence, PlacedRow, part_offences, judged_against}

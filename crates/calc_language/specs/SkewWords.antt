@@ -1,4 +1,4 @@
--- The words of `rect`: two partitions and a tableau.
+-- The words of `rect`: two partitions and a tableau. A *number word* is a word of decimal digits.
 use Rattle.std.specs.Prelude.{◌≡◌, ℕ, ◌<◌, List, [], ◌∷◌, ◌++◌, length, codes}
 use Rattle.sym_model.specs.CommandOffence.{Offence, row_offences, entry_rule, order_offences}
 use Rattle.sym_model.specs.Form.{EachOf, Has}

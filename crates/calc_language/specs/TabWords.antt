@@ -1,4 +1,4 @@
--- The words of `tab`: two partitions and, if it is given, a tableau after `-from`.
+-- The words of `tab`: two partitions and, if it is given, a tableau after `-from`. A *number word* is a word of decimal digits.
 use Rattle.std.specs.Prelude.{◌≡◌, ℕ, ◌+◌, cond, List, [], ◌∷◌, ◌++◌, map, length, codes, Option}
 use Rattle.std.specs.Prelude.{Some, None}
 use Rattle.sym_model.specs.CommandOffence.{Offence, judged_against, row_offences, entry_rule}
@@ -45,7 +45,7 @@ unlisted k outer inner [] = []
 unlisted k outer inner (row ∷ rows) =
     cond (is_lattice_tableau outer inner (rows_in outer (row ∷ rows))) [] ((k, 0, shape) ∷ [])
 
--- the errors of these rows of number words, after the word `-from`, which is word k, as a lattice tableau of outer/inner
+-- the errors of these rows of number words as a lattice tableau of outer/inner; the rows come after the word `-from`, which is word k
 abbrev pub from_offences : ℕ → List ℕ → List ℕ → List (List (List ℕ)) → List Offence
 from_offences k outer inner rows =
     unlisted k outer inner (map numbers rows) ++ row_offences entry_rule (rows_at (k + 1) rows)

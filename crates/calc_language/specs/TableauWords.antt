@@ -1,4 +1,4 @@
--- The words of `unrsk`: two tableaux.
+-- The words of `unrsk`: two tableaux. A *number word* is a word of decimal digits.
 use Rattle.std.specs.Prelude.{◌≡◌, ℕ, ◌<◌, List, ◌∷◌, ◌++◌, length, codes}
 use Rattle.sym_model.specs.Form.{EachOf, Has}
 use Rattle.sym_model.specs.Grammar.{unrsk_words}

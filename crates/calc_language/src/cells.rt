@@ -98,8 +98,9 @@ fn is_out_of_order(row: &[u16], above: &[u16], columns: Columns, value: u128) ->
     is_smaller(row, value) || is_not_below(above, columns.above, columns.here + row.len(), value)
 }
 
-/// Whether the entry `value` is taken: the flag at index `value` is set or missing. A flag is set
-/// if the entry with its index has occurred. If there are no flags at all, no entry is taken.
+/// Whether the entry `value` is taken. There is one flag for each possible entry, and it is set if
+/// the entry has occurred. An entry with no flag is too great, and also taken. If the list of flags
+/// is empty, no entry is taken.
 fn is_taken(taken: &[bool], value: u128) -> bool
     requires { value < 2 ^ 64 }
     ensures { result ≡ is_taken_of taken.now value }
@@ -123,8 +124,8 @@ fn take(taken: &mut [bool], entry: u16)
 }
 
 /// The entry with the value `number`, after the entries `row` and below the row `above`; or the
-/// kind of its error. `number` is `None` if the value is over 2^127 - 1. If there are flags, an
-/// entry whose flag is set or missing is an error.
+/// kind of its error. `number` is `None` if the value is over 2^127 - 1. An entry that is taken
+/// (`is_taken`) is an error.
 fn entry_of(
     number: Option<u128>,
     row: &[u16],
@@ -155,9 +156,9 @@ fn entry_of(
     Ok(value as u16)
 }
 
-/// The entries of a row that begins at the word `at`, below the row `above`, or the first error. If
-/// there are flags, an entry is an error if its flag is set or missing, and its flag is set after
-/// it is read.
+/// The entries of a row that begins at the word `at`, below the row `above`, or the first error. An
+/// entry that is taken (`is_taken`) is an error. After an entry has been read, it is taken,
+/// provided that there are flags.
 pub(crate) fn read_row(
     alloc: Global,
     at: u64,

@@ -5,10 +5,11 @@
 //! What is proved:
 //!
 //! Unless memory runs out, `read_words` returns a command if and only if the words spell this
-//! command of the grammar without an error; the command is sound and within its limits. If the
-//! words spell a command with an error, `read_words` returns the first error; if they spell no
-//! command, it returns the place of the first error of syntax, that is, a word and a byte.
-//! `read_line` does the same for a line of a batch.
+//! command of the grammar without an error; the command is within its limits, and the tableaux of
+//! `unrsk` have the same shape, the second one standard (`IsSound`). If the words spell a command
+//! with an error, `read_words` returns the first error; if they spell no command, it returns the
+//! place of the first error of syntax, that is, a word and a byte. `read_line` does the same for a
+//! line of a batch.
 //!
 //! This is proved also for the words of `unrsk`, `rect` and `tab`, with the rows of tableaux. In
 //! `unrsk` and `rect`, an entry that is out of order is refused at its word; in `tab`, a tableau

@@ -45,8 +45,8 @@ pub fn read_line(alloc: Global, line: &[u8]) -> Result<Option<Command>, WordsFau
     read(alloc, line)
 }
 
-/// Reads a line of a batch. `read_line` does the same, and its contract also states what this
-/// implies for each kind of line.
+/// Reads a line of a batch. `read_line` calls this function; the contract of `read_line` also
+/// states the consequences for each kind of line.
 fn read(alloc: Global, line: &[u8]) -> Result<Option<Command>, WordsFault>
     ensures { IsLineRead (batch_line line.now) result }
 {

@@ -1,4 +1,4 @@
-//! Reading of the words of `unrsk`.
+//! Reading of the words of `unrsk`. A number word is a word of decimal digits.
 ghost use Rattle.std.specs.Prelude.{◌≡◌, ◌≤◌, ◌<◌, ◌+◌, ◌++◌, ◌^◌, IfOk, IfErr, [], ◌∷◌, Some};
 ghost use Rattle.std.specs.Prelude.{length, map, string_bytes};
 ghost use Rattle.sym_model.specs.Command.{unrsk};

@@ -1,4 +1,4 @@
-//! The numbers of the rows of a tableau, each replaced by 65,535 if it is greater.
+//! The numbers in the rows of a tableau; each number over 65,535 is replaced by 65,535.
 ghost use Rattle.std.specs.Prelude.{◌≡◌, map, string_bytes, IfOk};
 ghost use Rattle.sym_model.specs.PrintedBlock.{decimal_value};
 ghost use Rattle.sym_model.specs.WordForms.{numbers as numbers_of};
@@ -11,7 +11,7 @@ use std::alloc::Global;
 /// The greatest entry of a tableau.
 const GREATEST_ENTRY: u128 = 65_535;
 
-/// The value of the number word, or 65,535 if the value is greater.
+/// The number that a word of decimal digits spells, or 65,535 if the number is greater.
 fn entry(word: &String) -> u16
     ensures { result ≡ at_most_entry (decimal_value (string_bytes word.now)) }
 {

@@ -87,8 +87,8 @@ fn last_of(rows: &[Vec<u16>]) -> &[u16]
 }
 
 /// The rows of a tableau, the first of which begins at the word `at`, or the first error of a
-/// number. If there are flags, an entry is an error if its flag is set or missing, and its flag is
-/// set after it is read.
+/// number. There may be a list of flags, one for each entry: an entry whose flag is set or missing
+/// is an error, and the flag of each entry is set after it is read.
 fn numbers_of_rows(
     alloc: Global,
     at: u64,
@@ -154,11 +154,10 @@ pub(crate) fn read_rows(
 }
 
 /// The word at which the rows depart from the given lengths, if they do; the first row begins at
-/// word `at`. If a row does not have the length that is given for it, then for the first such row
-/// it is the word of the first extra number or, if the row is too short, the word after its last
-/// number (the word `.` for a row without numbers). Otherwise, if rows are missing, it is the word
-/// after the last row, and if there are more rows than lengths, the word after the last row for
-/// which a length is given.
+/// word `at`. If some row does not have the length given for it, then, for the first such row, the
+/// result is its first extra number or, if it is too short, the word after its last number (the
+/// word `.` if it has no numbers). Otherwise, the result is the word after the last row if rows are
+/// missing, and the word after the last row with a given length if there are too many rows.
 pub(crate) fn left_shape(at: u64, lengths: &[usize], rows: &[&[String]]) -> Option<u64>
     requires some { 0 < length lengths.now }
     requires room { at + length (further_text (map (λ r. map string_bytes r.now) rows.now))

@@ -1,4 +1,5 @@
-//! The rows of a tableau, taken from the words of a command.
+//! The rows of a tableau, taken from the words of a command. A tableau is typed as its entries,
+//! with the word `/` between two rows, and the word `.` for a row without entries.
 ghost use Rattle.std.specs.Prelude.{◌≡◌, ◌++◌, ◌<◌, ◌≤◌, List, ℕ, map, length, string_bytes, IfOk};
 ghost use Rattle.sym_model.specs.Form.{EachOf};
 ghost use Rattle.word_laws.specs.WrittenRows.{row_text, further_text, rows_text};
@@ -8,7 +9,8 @@ use calc_base::NoMemory;
 use calc_words::{behind, numbers_first as numbers};
 use std::alloc::Global;
 
-/// The number words of the row at the front of the words, and the words after that row.
+/// The entries of the row at the front of the words, as words of digits, and the words after that
+/// row.
 fn row_first(words: &[String]) -> (&[String], &[String])
     ensures is { (row : List (List ℕ)) (rows : List (List (List ℕ))) → EachOf IsNumber row
         → map string_bytes words.now ≡ row_text row ++ further_text rows
@@ -22,7 +24,7 @@ fn row_first(words: &[String]) -> (&[String], &[String])
     }
 }
 
-/// The number words of each row of the tableau that these words write.
+/// For each row of the tableau that `words` spells, the entries of the row, as words of digits.
 pub(crate) fn rows_of_words(alloc: Global, words: &[String]) -> Result<Vec<&[String]>, NoMemory>
     ensures { (rows : List (List (List ℕ))) → 0 < length rows → EachOf (EachOf IsNumber) rows
         → map string_bytes words.now ≡ rows_text rows

@@ -1,4 +1,4 @@
-//! Reading of the words of `rect`.
+//! Reading of the words of `rect`. A number word is a word of decimal digits.
 ghost use Rattle.std.specs.Prelude.{◌≡◌, ◌<◌, ◌+◌, ◌^◌, IfOk, IfErr, true, [], ◌∷◌, Some, length};
 ghost use Rattle.std.specs.Prelude.{map, string_bytes};
 ghost use Rattle.sym_model.specs.Schur.{contains};

@@ -1,4 +1,4 @@
-//! Reading of the words of `tab`.
+//! Reading of the words of `tab`. A number word is a word of decimal digits.
 ghost use Rattle.std.specs.Prelude.{◌≡◌, ◌<◌, ◌+◌, ◌^◌, [], ◌∷◌, Some, IfOk, IfErr, length, map};
 ghost use Rattle.std.specs.Prelude.{string_bytes};
 ghost use Rattle.sym_model.specs.CommandOffence.{first_offence};

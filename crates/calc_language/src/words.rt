@@ -39,8 +39,8 @@ pub fn read_words(alloc: Global, words: &[String]) -> Result<Command, WordsFault
     read(alloc, words)
 }
 
-/// Reads the words of a command. `read_words` does the same, and its contract also states what this
-/// implies for each command and error.
+/// Reads the words of a command. `read_words` calls this function; the contract of `read_words`
+/// also states the consequences for each command and error.
 fn read(alloc: Global, words: &[String]) -> Result<Command, WordsFault>
     ensures { IsRead (map string_bytes words.now) result }
 {

@@ -1,4 +1,6 @@
--- Lower bounds for the weight of a plethysm.
+-- Lower bounds for the weight of a plethysm. The *weight* of an expression for a basis bounds every number in the conversion of the expression into
+-- this basis. The *denominator* D of an expression is a common denominator of its coefficients, and its *numerator* bounds D times the sum of their
+-- absolute values. The weight of a plethysm is computed from the numerators and degrees of both expressions and the denominator of the outer one.
 use Rattle.std.proofs.Common.{◌≡◌, ℕ, ◌+◌, ◌*◌, ◌^◌, ◌≤◌, arith, subst, sym, refl}
 use Rattle.std.proofs.lemmas.Nat.{mul-le}
 use Rattle.std.proofs.Math.Nat.{mul-le-mul_left, pow-zero, pow-suc}
@@ -12,8 +14,8 @@ use Rattle.plethysm_laws.proofs.NonnegativeTerms.{denominator-one}
 use Rattle.expression_reading.proofs.WeightFacts.{Positive}
 use Rattle.plethysm_laws.proofs.PathWeights.{weight-outer, weight-product}
 
--- let the numerator N and the denominator D of the outer expression e, and K, be at least 1; the weight of e for the basis m is at most the weight of
--- the plethysm of e and an inner expression with the numerator K and the degree b
+-- if the numerator and the denominator of the outer expression e are at least 1, and K ≥ 1, then the weight of e for the basis m is at most the
+-- weight of the plethysm of e and an inner expression with the numerator K and the degree b
 pub outer-weight : (e : Tree) (K b : ℕ) → 1 ≤ numerator e → 1 ≤ denominator e → 1 ≤ K
     → weight monomials e ≤ plethysm_weight (numerator e) (denominator e) (degree e) K b
 outer-weight e K b n d k =
@@ -23,8 +25,8 @@ outer-weight e K b n d k =
       weight-outer (numerator e) (denominator e) (degree e) K b n d k,
     )
 
--- let the outer expression have a numerator N, a denominator D and a degree a of at least 1, and the inner one e a numerator of at least 1 and the
--- denominator 1; the weight of e for the basis m is at most the weight of the plethysm
+-- if N, D and a are at least 1, and the inner expression e has a numerator of at least 1 and the denominator 1, then the weight of e for the basis m
+-- is at most the weight of the plethysm of e and an outer expression with the numerator N, the denominator D and the degree a
 pub inner-weight : (N D a : ℕ) (e : Tree) → 1 ≤ N → 1 ≤ D → 1 ≤ a → 1 ≤ numerator e → denominator e ≡ 1
     → weight monomials e ≤ plethysm_weight N D a (numerator e) (degree e)
 inner-weight N D a e n d h k one =

@@ -1,5 +1,5 @@
--- Texts that are written to a sink one after another (`Puts`; its truth values say whether no call of the sink has failed, before and after the
--- text), and the results of printers as such texts.
+-- Texts that are written to a sink (`Puts`, with two truth values that say whether no call of the sink has failed before the text, and after it): a
+-- text written by one call of a printer, and two texts written one after the other.
 use Rattle.std.proofs.Common.{◌≡◌, ℕ, List, ◌++◌, Bool, true, false, sym, ◌∙◌, subst}
 use Rattle.std.specs.Prelude.{Result, Ok, Err, is_ok}
 use Rattle.calc_base.proofs.PutsLaws.{Puts-then}

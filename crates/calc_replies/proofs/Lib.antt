@@ -1,4 +1,5 @@
--- Lemmas about replies: weights of plethysms and expansions, listed tableaux, growth grids, and the outcome of words.
+-- Lemmas about the outcomes of commands: weights of plethysms and expansions, the tableaux that `tab` lists, growth grids, and the outcome of the
+-- words of a command.
 pub mod Replies
 pub mod Delivered
 pub mod Compositions

@@ -42,8 +42,8 @@ pub none_after : (outer inner : List ℕ) (after : Option (List ℕ)) → contai
 none_after outer inner None h = none_outside outer inner h
 none_after outer inner (Some last) h = ap (later_than last) (none_outside outer inner h)
 
--- let `start` be empty, and k the number of rows of the outer shape: the good readings with letters up to k are the readings of the lattice tableaux
--- of outer/inner
+-- if `start` is empty and k is the number of rows of the outer shape, the list `good_readings k start outer inner` is the list of the column readings
+-- of the lattice tableaux of outer/inner
 pub all_listed : (outer inner start : List ℕ) (k : ℕ) (rest : List (List ℕ)) → k ≡ rows outer → start ≡ [] → rest ≡ good_readings k start outer inner
     → rest ≡ lattice_readings outer inner
 all_listed outer inner start k rest l e is = is ∙ ap (λ j. good_readings j start outer inner) l ∙ ap (λ s. good_readings (rows outer) s outer inner) e
@@ -53,8 +53,6 @@ pub later_listed : (outer inner start last w : List ℕ) (k : ℕ) (rest : List 
 later_listed outer inner start last w k rest l e s is =
     is ∙ ap (later_than last) (all_listed outer inner start k (good_readings k start outer inner) l e refl) ∙ ap (λ v. later_than v (lattice_readings outer inner)) s
 
--- if `shape` is (outer, inner), and `rest` are its lattice readings after the reading `after`, then the text of the tableaux of `shape` with the
--- readings `rest` is the text of the tableaux of outer/inner with these readings
 pub listed-lines : (outer inner : List ℕ) (shape : List ℕ × List ℕ) (after : Option (List ℕ)) (rest : List (List ℕ))
     → shape ≡ (outer, inner) → rest ≡ readings_after shape.0 shape.1 after
     → readings_text shape.0 shape.1 rest ≡ readings_text outer inner (readings_after outer inner after)

@@ -1,4 +1,5 @@
--- If words spell a command, an outcome of the command is an outcome of the words; and a refusal of words names their first error.
+-- If words spell a command, an outcome of the command (its answer, or `Large`) is an outcome of the words; and a refusal of words that spell no
+-- command names their first error.
 use Rattle.std.proofs.Common.{◌≡◌, ◌⊎◌, ◌≢◌, ℕ, List, sym, ◌∙◌, subst, inl, inr}
 use Rattle.std.specs.Prelude.{Result, Ok, Err}
 use Rattle.calc_base.specs.declared.faults.NoMemory.{NoMemory}
@@ -32,7 +33,7 @@ accepts_reply command (Ok Large) other reply same = subst MayBeLarge same reply
 accepts_reply command (Ok (Told lines)) other reply same = tt
 accepts_reply command (Err e) other reply same = tt
 
--- if the words spell the command without an error, a task of the command is a task for the words
+-- if the words spell the command without an error, a task of the command (to write its outcome, or to run lines) is a task for the words
 pub task_reply : (words : List (List ℕ)) (command : Command) (result : Result Task NoMemory)
     → SpellsWithoutOffence command_entries words command → IsTaskOf command result → IsTaskFor words result
 task_reply words command (Ok Lines) spelled task = subst (SpellsWithoutOffence command_entries words) task spelled
@@ -40,7 +41,6 @@ task_reply words command (Ok (Workload lines seed)) spelled task = subst (Spells
 task_reply words command (Ok (Put outcome)) spelled task = computes_reply command_entries words command (Ok outcome) spelled task
 task_reply words command (Err e) spelled task = tt
 
--- `batch`, which runs lines, has no outcome of its own
 no_reply : (outcome : Outcome) → IsReplyTo batch (Ok outcome) → ⊥
 no_reply (Answered answer form) reply = reply.1
 no_reply (Refused reason) reply = reply
@@ -56,7 +56,6 @@ accepts_task command (Ok (Put outcome)) other task same =
     (accepts_reply command (Ok outcome) other task same, λ is. no_reply outcome (subst (λ c. IsReplyTo c (Ok outcome)) (same ∙ is) task))
 accepts_task command (Err e) other task same = tt
 
--- a refusal that names the error `offence` or is out of memory names this error, if it is not out of memory
 pub refused_by : (offence : Offence) (reason : WordsFault) → reason ≢ fault.NoMemory
     → IsFaultOf offence reason ⊎ (reason ≡ fault.NoMemory) → IsFaultOf offence reason
 refused_by offence reason memory (inl is) = is

@@ -23,8 +23,8 @@ use partitions::Partition;
 use sparse_polys::Family;
 use std::alloc::Global;
 
-/// The outcome of `expand`: the expansion of a formula in the basis `target`, or `Large` if it is
-/// too large.
+/// The outcome of `expand`: the expansion of an expression in the basis `target`, or `Large` if it
+/// is too large.
 pub(crate) fn expanded(
     alloc: Global,
     target: Basis,
@@ -44,7 +44,7 @@ pub(crate) fn expanded(
     }
 }
 
-/// The expansion of a formula in the basis `target`, as a list of terms in the printed order.
+/// The expansion of an expression in the basis `target`, as a list of terms in the printed order.
 fn expansion(
     alloc: Global,
     target: Basis,
@@ -61,7 +61,7 @@ fn expansion(
     Ok(terms)
 }
 
-/// The expansion of a formula in the basis `target`, as an unordered list of terms.
+/// The expansion of an expression in the basis `target`, as an unordered list of terms.
 fn in_target(
     alloc: Global,
     target: Basis,
@@ -82,9 +82,9 @@ fn in_target(
     }
 }
 
-/// The expansion of a formula in e, h or p, as an unordered list of terms. Each subexpression is
-/// expanded in this basis; if a number is then too large, the formula is expanded in m, and the
-/// result is converted to the basis.
+/// The expansion of an expression in e, h or p, as an unordered list of terms. Each subexpression
+/// is expanded in this basis; if a number is then too large, the expression is expanded in m, and
+/// the result is converted to the basis.
 fn by_family(
     alloc: Global,
     target: Basis,
@@ -105,8 +105,8 @@ fn by_family(
     }
 }
 
-/// The expansion of a formula in the basis `target`, as an unordered list of terms: the formula is
-/// expanded in m, and the result is converted to the basis.
+/// The expansion of an expression in the basis `target`, as an unordered list of terms: the
+/// expression is expanded in m, and the result is converted to the basis.
 fn by_monomials(
     alloc: Global,
     target: Basis,

@@ -15,12 +15,12 @@ use expansion_printer::{Answer, print_after, print_one_line_after};
 pub enum Form {
     /// A block, with a line for each term.
     Block,
-    /// One line, an expression with the atoms of a basis, such as `s[2,1]`.
+    /// One line: an expression whose terms have basis elements such as `s[2,1]`.
     Line { basis: Basis },
 }
 
-/// The printed form that a command asks for: one line with the atoms of the basis if `one_line` is
-/// true, and otherwise the block.
+/// The printed form that a command asks for: if `one_line` is true, one line with elements of the
+/// basis, such as `s[2,1]`; otherwise the block, with a line for each term.
 pub(crate) fn asked_form(one_line: bool, basis: Basis) -> Form
     ensures { result ≡ form_asked one_line basis }
 {

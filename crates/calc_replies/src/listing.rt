@@ -28,8 +28,9 @@ pub struct Listing {
     pub lattice: Lattice,
 }
 
-/// The lister (`Lattice`) of the column readings of the lattice tableaux of a shape: of all of
-/// them, or of those after the tableau with the column reading `after`, which must be in the list.
+/// The list (of the type `Lattice`, which gives its items one at a time) of the column readings of
+/// the lattice tableaux of a shape: of all of them, or of those after the tableau with the column
+/// reading `after`, which must be in the list.
 fn listed(alloc: Global, shape: &Skew, after: &Option<Word>) -> Result<Lattice, NoMemory>
     requires small { size shape.now.0 ≤ 512 }
     requires listed { IsInList shape.now.0 shape.now.1 after.now }

@@ -46,7 +46,7 @@ impl Drop for Outcome {
     }
 }
 
-/// The task that the words of a command set: to run lines, or to write an outcome.
+/// The task to be done for the words of a command: to run lines, or to write an outcome.
 #[derive(Drop)]
 pub enum Task {
     /// The lines of the input are to be run (`batch`).

@@ -11,8 +11,8 @@ use lr_product::mult_all;
 use partitions::{Factors, Partition};
 use std::alloc::Global;
 
-/// The outcome of `mult`: the product of Schur functions, or `Large` if it is too large. If a
-/// number of rows is given, the product is in `rows` variables.
+/// The outcome of `mult`: the product of Schur functions, or `Large` if it is too large. If `rows`
+/// is given, the product is taken in `rows` variables.
 pub(crate) fn mult(
     alloc: Global,
     rows: Option<u16>,
@@ -29,7 +29,7 @@ pub(crate) fn mult(
 }
 
 /// The outcome of `skew`: a skew Schur function as a sum of Schur functions, or `Large` if it is
-/// too large. If a number of rows is given, it is in `rows` variables.
+/// too large. If `rows` is given, the skew Schur function is taken in `rows` variables.
 pub(crate) fn skew(
     alloc: Global,
     rows: Option<u16>,

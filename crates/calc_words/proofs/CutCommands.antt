@@ -1,12 +1,12 @@
 -- Words that are divided into the parts of a command (`AreCut`): the command that they spell, and its errors.
-use Rattle.std.proofs.Common.{◌≡◌, ℕ, true, ◌+◌, List, [], ◌∷◌, ◌++◌, append_assoc, drop, length, refl, sym, ap, ◌∙◌, subst, arith, Ok, flat_map}
+use Rattle.std.proofs.Common.{◌≡◌, ℕ, true, ◌+◌, List, [], ◌∷◌, ◌++◌, drop, length, refl, sym, ap, ◌∙◌, subst, arith, Ok, flat_map, rules}
 use Rattle.std.proofs.lemmas.List.{append-nil, length-map}
 use Rattle.sym_model.specs.Command.{Command}
-use Rattle.sym_model.specs.CommandOffence.{Offence, first_offence, part_offences, permutation_offences_within, factor_offences, offences_by, rows_rule}
+use Rattle.sym_model.specs.CommandOffence.{Offence, first_offence, part_offences, permutation_offences_within}
 use Rattle.sym_model.specs.Form.{Written, May, Has, words_of}
 use Rattle.sym_model.specs.Grammar.{mult_offends, skew_offends, coef_offends, reduction_offends, schubmult_offends, dschubmult_offends}
 use Rattle.sym_model.specs.PrintedBlock.{decimal_value}
-use Rattle.sym_model.specs.WordForms.{optional, rows_words, form_words, permutation_words, factors_words, numbers, letters, row_limit_offences, factor_numbers}
+use Rattle.sym_model.specs.WordForms.{optional, rows_words, form_words, permutation_words, factors_words, numbers, letters, row_limit_offences}
 use Rattle.word_laws.specs.Words.{Words}
 use Rattle.word_laws.proofs.CutParts.{singles}
 use Rattle.calc_base.specs.declared.words.WordsFault.{WordsFault}
@@ -21,7 +21,7 @@ use Rattle.calc_words.proofs.Commands.{first_refused, read_judged}
 use Rattle.calc_words.proofs.PartOffences.{parts_faulty, parts_fine}
 use Rattle.std.proofs.Math.Nat.{add_assoc}
 
--- the values of the words of a command, from the values x of its parts
+-- the value that the words of a command denote, from the value x that the words of its parts denote
 abbrev pub said_of : (name : List ℕ) (ps : List Part) → Written (form_of ps) → Written (command_form name ps)
 said_of name [] x = tt
 said_of name (p ∷ ps) x = (tt, x)
@@ -39,15 +39,8 @@ may_be_said name (p ∷ ps) x m = (tt, m)
 pub cut_spelled : (ps : List Part) (i k : ℕ) (places : List ℕ) (words : Words) (h : IsCut ps i k places words)
     → drop k words ≡ words_of (form_of ps) (written_of ps i k places words h)
 cut_spelled [] i k places words h = h
-cut_spelled (p ∷ []) i k places words h =
-    h.2.4
-    ∙ ap (λ us. words_of (form_of_part p) h.0 ++ us) (sym (dropped words (words_of (form_of_part p) h.0) h.2.3 k (length (words_of (form_of_part p) h.0)) h.2.4 refl) ∙ h.3)
-    ∙ append-nil (words_of (form_of_part p) h.0)
-cut_spelled (p ∷ q ∷ ps) i k places words h =
-    h.2.4
-    ∙ ap (λ us. words_of (form_of_part p) h.0 ++ us)
-    (sym (dropped words (words_of (form_of_part p) h.0) h.2.3 k (length (words_of (form_of_part p) h.0)) h.2.4 refl)
-    ∙ cut_spelled (q ∷ ps) (i + 1) (k + length (words_of (form_of_part p) h.0)) places words h.3)
+cut_spelled (p ∷ []) i k places words h = search (rules, dropped, append-nil)
+cut_spelled (p ∷ q ∷ ps) i k places words h = search (rules, dropped, (cut_spelled (q ∷ ps) (i + 1)))
 
 pub said_spelled : (name : List ℕ) (ps : List Part) (x : Written (form_of ps)) → name ∷ words_of (form_of ps) x ≡ words_of (command_form name ps) (said_of name ps x)
 said_spelled name [] x = refl
@@ -63,8 +56,8 @@ has_of name ps places words k = record {
       ∙ said_spelled name ps (written_of ps 0 1 places words k.parts);
 }
 
--- let words be divided into the parts of a command whose errors are those of its parts, and let no part but the last be a list of factors; then a
--- fault that is the first error of the first part with an error is a correct refusal of the words
+-- let words be divided into the parts of a command. Suppose that the errors of the command are those of its parts, and that no part but the last is a
+-- list of factors. Then a fault that reports the first error of the first part with an error is a correct refusal of the words.
 pub faulty : (name : List ℕ) (ps : List Part) (places : List ℕ) (words : Words) (k : AreCut name ps places words)
     (says : Written (command_form name ps) → Command) (offends : Written (command_form name ps) → List Offence) (fault : WordsFault)
     → offends (said_of name ps (written_of ps 0 1 places words k.parts)) ≡ parts_offend ps 1 (written_of ps 0 1 places words k.parts)
@@ -74,8 +67,8 @@ faulty name ps places words k says offends fault o b h =
     first_refused (record { name = name; form = command_form name ps; says = says; offends = offends }) words (has_of name ps places words k) fault
     (subst (λ os. IsFirst (first_offence os) fault) (sym o) (parts_faulty ps 1 (written_of ps 0 1 places words k.parts) fault b h))
 
--- let words be divided into the parts of a command whose errors are those of its parts, and let no part have an error; then a sound command d that
--- the parts spell is a correct result of reading the words
+-- let words be divided into the parts of a command. Suppose that the errors of the command are those of its parts, and that no part has an error.
+-- Then the command d that the parts spell, if it satisfies `IsSound`, is a correct result of reading the words.
 pub fine : (name : List ℕ) (ps : List Part) (places : List ℕ) (words : Words) (k : AreCut name ps places words)
     (says : Written (command_form name ps) → Command) (offends : Written (command_form name ps) → List Offence) (c d : Read)
     → offends (said_of name ps (written_of ps 0 1 places words k.parts)) ≡ parts_offend ps 1 (written_of ps 0 1 places words k.parts)
@@ -89,9 +82,7 @@ fine name ps places words k says offends c d o h e s i =
 
 pub mult_parts : (limit : Written (optional rows_words)) (form : Written (optional form_words)) (x : Written factors_words)
     → mult_offends (tt, (limit, (form, x))) ≡ parts_offend (MaybeRows ∷ MaybeForm ∷ Factors ∷ []) 1 (limit, (form, x))
-mult_parts limit form x =
-    ap (λ k. row_limit_offences 1 limit ++ factor_offences 0 k (factor_numbers x))
-    (sym (add_assoc 1 (length (words_of (optional rows_words) limit)) (length (words_of (optional form_words) form))))
+mult_parts limit form x = search rules
 
 behind_list : (k : ℕ) (list : Words) → k + length list + 1 ≡ k + length (flat_map (λ t. t ∷ []) list) + 1
 behind_list k list = ap (λ ws. k + length ws + 1) (sym (singles list))
@@ -116,12 +107,8 @@ coef_parts outer left right =
 
 pub reduction_parts : (name rows bound : List ℕ) (x : Written factors_words)
     → reduction_offends name (tt, (rows, (bound, x))) ≡ parts_offend (Bound ∷ Bound ∷ Factors ∷ []) 1 (rows, (bound, x))
-reduction_parts name rows bound x =
-    append_assoc (offences_by rows_rule 1 (decimal_value rows ∷ [])) (offences_by rows_rule 2 (decimal_value bound ∷ []))
-    (factor_offences 0 3 (factor_numbers x))
+reduction_parts name rows bound x = search rules
 
--- the errors of two permutations with a word between them are the same, whether the letters or the words of the left one are counted to find the
--- first word of the right one
 two_permutations : (most : ℕ) (left right : Written permutation_words)
     → permutation_offences_within most 1 (letters left) ++ permutation_offences_within most (2 + length (letters left)) (letters right)
     ≡ permutation_offences_within most 1 (letters left)

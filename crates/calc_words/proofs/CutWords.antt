@@ -1,4 +1,5 @@
 -- Words that are divided into the parts of a command, one part after another.
+use Rattle.std.proofs.lemmas.Grind.{common_steps}
 use Rattle.std.proofs.Common.{◌≡◌, ℕ, ◌+◌, ◌-◌, ◌<◌, ◌≤◌, true, List, [], ◌∷◌, ◌++◌, map, take, drop, length, length-append, refl, sym, ap, ◌∙◌, subst, arith, inr}
 use Rattle.std.specs.Prelude.{slice_index_or}
 use Rattle.std.proofs.lemmas.Bool.{and_parts, and_from}
@@ -26,7 +27,6 @@ use Rattle.calc_words.specs.Reading.{IsRefusal}
 use Rattle.calc_words.specs.declared.word_parts.Part.{Part}
 use Rattle.calc_words.specs.declared.word_parts.Part.TheVariants.{Expression}
 
--- if `StopsIn` holds with the number of the texts f w, for w in `words`, it holds with the number of `words`, which is the same
 pub counted : {A : Type 0} (f : A → List ℕ) (g : Form) (words : List A) → StopsIn g (map f words) (length (map f words)) → StopsIn g (map f words) (length words)
 counted f g words w = subst (StopsIn g (map f words)) (length-map words f) w
 
@@ -37,7 +37,6 @@ empty_map f (x ∷ xs) h = absurd (omega (arith, h))
 pub first_text : (t u : List ℕ) (ts us : Words) → t ∷ ts ≡ u ∷ us → t ≡ u
 first_text t u ts us e = cc
 
--- for each part there are words that have its form
 can_be_part : (p : Part) → can_be (form_of_part p) ≡ true
 can_be_part Expression = refl
 can_be_part p = refl
@@ -47,8 +46,6 @@ can_be_parts [] = refl
 can_be_parts (p ∷ []) = can_be_part p
 can_be_parts (p ∷ q ∷ ps) = and_from (can_be (form_of_part p)) (can_be (form_of (q ∷ ps))) (can_be_part p) (can_be_parts (q ∷ ps))
 
--- if `piece` are all the words of the part p at the front of a list (`IsTaken`), then in the form of p no expression can follow `piece`, nor `piece`
--- followed by any words
 settled : (p : Part) (piece rest words : Words) → IsTaken (form_of_part p) piece rest words → IsSettled (form_of_part p) piece
 settled Expression piece rest words t us a = let k = sym (ap (λ ws. ws ++ us) t.piece_is) ∙ a in cc
 settled p piece rest words t us a = none_awaited (form_of_part p) (piece ++ us) refl a
@@ -154,8 +151,6 @@ pub cut_done : (parts : List Part) (i at : ℕ) (places : List ℕ) (words : Wor
 cut_done parts i at places words s l e =
     s.cut places (λ j k. refl) (subst (λ ps. IsCut ps i at places words) (sym (drop_of_length-le parts l)) (drop_of_length-le words e))
 
--- ---- the division of words into the name of a command and its parts
-
 refused : (e : Entry) (name : List ℕ) (ps : List Part) (words : Words) (left byte place : ℕ) (fault : WordsFault) → e.form ≡ command_form name ps
     → IsWrongAt (command_form name ps) words left byte → place ≡ length words - left → fault ≡ Syntax (record { word = place; byte = byte })
     → IsRefusal (e ∷ []) words fault
@@ -255,19 +250,11 @@ unread name ps at places words s all five n one = record { at = at; text = t; pi
         (subst (λ us. IsWrongAt (word formula) us 1 byte) (sym last.1) (stops.0, here))))
         (omega (arith, one)) refl
 
--- if the texts after the first one do not have the form g, the number `left` of texts from the first wrong one to the end is at most the number of
--- all words
 pub left_within : {A : Type 0} (f : A → List ℕ) (g : Form) (words : List A) (left byte : ℕ) → IsWrongAt g (drop 1 (map f words)) left byte → left ≤ length words
-left_within f g words left byte (w, b) =
-    let a = ap length w.words_are in
-    let b = length-append w.before w.after in
-    let c = length-drop 1 (map f words) in
-    let d = length-map words f in
-    let e = w.left_is in
-    omega (arith, a, b, c, d, e)
+left_within f g words left byte (w, b) = grind (arith, common_steps)
 
--- let `us` be part i of the texts f w, for w in `words`, and let `at` and `end` be the entries i and i + 1 of `places`: then `us` are the texts of
--- the words from index `at` on and before index `end`
+-- let `us` be part i of the texts of `words` (f gives the text of a word), and let `at` and `end` be the entries i and i + 1 of `places`. Then `us`
+-- are the texts of the words from index `at` on and before index `end`
 pub piece_is : {A : Type 0} (f : A → List ℕ) (words : List A) (places : List ℕ) (i k at end : ℕ) (us : Words) → IsPiece places (map f words) i k us
     → slice_index_or places i 0 ≡ at → slice_index_or places (i + 1) 0 ≡ end
     → (at ≤ end) × (end ≤ length words) × (at ≡ k) × (map f (take (end - at) (drop at words)) ≡ us)

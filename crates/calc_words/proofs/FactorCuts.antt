@@ -1,5 +1,5 @@
 -- The words of factors, divided at each `-`.
-use Rattle.std.proofs.Common.{◌≡◌, ℕ, true, false, List, [], ◌∷◌, ◌++◌, map, refl, sym, ap, ◌∙◌, subst, inl, inr, flat_map}
+use Rattle.std.proofs.Common.{◌≡◌, ℕ, true, false, List, [], ◌∷◌, ◌++◌, map, refl, sym, ap, ◌∙◌, subst, inl, inr, flat_map, rules}
 use Rattle.std.specs.Prelude.{codes}
 use Rattle.std.proofs.lemmas.Bool.{and_parts}
 use Rattle.sym_model.specs.Partition.{without_last_zeros}
@@ -67,12 +67,10 @@ pub one_run : (P : List ℕ → Type 0) (ps qs us vs : Words) → EachOf P ps �
 one_run P [] [] us vs m n b d e = (refl, e)
 one_run P [] (q ∷ qs) us vs m n b d e = absurd (subst (BeginsOtherwise P) e b n.0)
 one_run P (p ∷ ps) [] us vs m n b d e = absurd (subst (BeginsOtherwise P) (sym e) d m.0)
-one_run P (p ∷ ps) (q ∷ qs) us vs m n b d e =
-    let r = one_run P ps qs us vs m.1 n.1 b d (ap behind_first e) in
-    (ap (λ t. t ∷ ps) (ap (first_of []) e) ∙ ap (λ ws. q ∷ ws) r.0, r.1)
+one_run P (p ∷ ps) (q ∷ qs) us vs m n b d e = search (rules, (one_run P ps qs us vs m.1 n.1 b d (ap behind_first e)))
 
--- if words are the numbers `second` followed by the lists `others`, each after a `-`, then `second` is the longest run at their front of words that
--- begin with a digit
+-- let words be the numbers `second` followed by the lists `others`, each after a `-`. Then `second` is the longest prefix of the words in which each
+-- word begins with a digit
 pub run_cut : (words second list rest : Words) (others : List Words) → words ≡ second ++ next_text others → EachOf IsNumber second
     → words ≡ list ++ rest → EachOf BeginsWithDigit list → BeginsOtherwise BeginsWithDigit rest → (second ≡ list) × (rest ≡ next_text others)
 run_cut words second list rest others e n f m b =
@@ -97,7 +95,7 @@ pub nothing_behind : (words : Words) (others : List Words) → words ≡ next_te
 nothing_behind words [] e b = refl
 nothing_behind words (l ∷ others) e b = absurd (subst (BeginsOtherwise (λ t. t ≡ codes "-")) e b refl)
 
--- for each of these lists of number words, the value of the words `-` and the list (`next_words`)
+-- for each of the given lists of number words (words of digits), the value of the form `next_words`, which consists of the word `-` and the list
 abbrev as_next : List Words → List (Written next_words)
 as_next [] = []
 as_next (list ∷ others) = (tt, list) ∷ as_next others
@@ -108,9 +106,7 @@ next_allowed (list ∷ others) e = ((tt, may_be list e.0), next_allowed others e
 
 next_spelled : (others : List Words) → flat_map (words_of next_words) (as_next others) ≡ next_text others
 next_spelled [] = refl
-next_spelled (list ∷ others) =
-    ap (λ ws. codes "-" ∷ (ws ++ flat_map (words_of next_words) (as_next others))) (singles list)
-    ∙ ap (λ ws. codes "-" ∷ (list ++ ws)) (next_spelled others)
+next_spelled (list ∷ others) = search (rules, singles, (next_spelled others))
 
 pub all_partitions : (others : List Words) → map without_last_zeros (map numbers others) ≡ map partition others
 all_partitions [] = refl

@@ -1,5 +1,5 @@
 -- The first error of a list of factors, read one factor after another.
-use Rattle.std.proofs.Common.{◌≡◌, ℕ, ◌+◌, ◌-◌, ◌<◌, ◌≤◌, ◌==◌, Bool, true, false, cond, List, [], ◌∷◌, ◌++◌, append_assoc, map, length, length-append, sym, ap, ◌∙◌, subst, arith, ◌⊎◌, inl, inr, Result, Some, None}
+use Rattle.std.proofs.Common.{◌≡◌, ℕ, ◌+◌, ◌-◌, ◌<◌, ◌≤◌, ◌==◌, Bool, true, false, cond, List, [], ◌∷◌, ◌++◌, append_assoc, map, length, length-append, ap, ◌∙◌, arith, ◌⊎◌, inl, inr, Result, Some, None, rules}
 use Rattle.std.proofs.lemmas.List.{length-map}
 use Rattle.sym_model.specs.Sum.{Among}
 use Rattle.sym_model.proofs.Sums.{Among_from_append}
@@ -23,7 +23,6 @@ the_ninth false o p m = absurd m
 ninth_word : (count word : ℕ) (p : Offence) → Among p (ninth_offences count word) → p.0 ≡ word
 ninth_word count word p m = ap (λ (q : Offence). q.0) (the_ninth (count == most_factors) (word, 0, range) p m)
 
--- if the first of the factors begins at word k, each error of the factors is at word k - 1 or later
 factor_within : (count k : ℕ) (ns : List (List ℕ)) (p : Offence) → Among p (factor_offences count k ns) → k ≤ p.0 + 1
 factor_within count k [] p m = absurd m
 factor_within count k (n ∷ ns) p m =
@@ -47,8 +46,8 @@ factors_from k n ns p m = by (Among_from_append p (part_offences k n) (factor_of
     by (inl a) = (within part_rule [] k n p a).0
     by (inr a) = let w = factor_within 1 (k + length n + 1) ns p a in omega (arith, w)
 
--- the errors of the factor with the number words `list`, which follows `count` other factors: the error of a ninth factor, at the word `at` in front
--- of `list`, and the errors of the numbers
+-- the errors of the factor with the number words (words of digits) `list`, which follows `count` other factors: the error of a ninth factor, at the
+-- word `at` in front of `list`, and the errors of the numbers
 abbrev next_offences : ℕ → ℕ → Words → List Offence
 next_offences count at list = ninth_offences count at ++ part_offences (at + 1) (numbers list)
 
@@ -56,20 +55,11 @@ abbrev rest_offences : ℕ → ℕ → Words → List Words → List Offence
 rest_offences count at list more = factor_offences (count + 1) (at + 1 + length (numbers list) + 1) (map numbers more)
 
 next_before : (count at : ℕ) (list : Words) (more : List Words) → AllBefore (next_offences count at list) (rest_offences count at list more)
-next_before count at list more p q m n =
-    let w = factor_within (count + 1) (at + 1 + length (numbers list) + 1) (map numbers more) q n in
-    let l = by (Among_from_append p (ninth_offences count at) (part_offences (at + 1) (numbers list)) m) in
-    omega (arith, w, l)
-  where
-    by : Among p (ninth_offences count at) ⊎ Among p (part_offences (at + 1) (numbers list)) → p.0 < at + 1 + length (numbers list)
-    by (inl a) = let e = ninth_word count at p a in omega (arith, e)
-    by (inr a) = (within part_rule [] (at + 1) (numbers list) p a).1
+next_before count at list more p q m n = search (rules, factor_within, ninth_word, within)
 
 next_is : (count at : ℕ) (list : Words) (more : List Words)
     → factor_offences count (at + 1) (map numbers (list ∷ more)) ≡ next_offences count at list ++ rest_offences count at list more
-next_is count at list more =
-    let e : at + 1 - 1 ≡ at = omega arith in
-    ap (λ w. (ninth_offences count w ++ part_offences (at + 1) (numbers list)) ++ rest_offences count at list more) e
+next_is count at list more = search rules
 
 -- if `count`, the number of earlier factors, is 8, the first error of the factor `list` is that of a ninth factor, at the word `at` in front of
 -- `list`
@@ -79,46 +69,26 @@ ninth_first count at list h =
     ∙ first-head (at, 0, range) (part_offences (at + 1) (numbers list))
     (λ p m. no_later_word (at, 0, range) p (let w = within part_rule [] (at + 1) (numbers list) p m in let l = w.0 in omega (arith, l)))
 
--- if the next factor, `list`, has an error, a fault that is its first error is the first error of this factor and the factors `more` after it
+-- if the next factor, `list`, has an error, a fault that reports its first error reports the first error of this factor and the factors `more` after
+-- it
 pub next_faulty : (count at : ℕ) (list : Words) (more : List Words) (fault : WordsFault)
     → IsFirst (first_offence (next_offences count at list)) fault
     → IsFirst (first_offence (factor_offences count (at + 1) (map numbers (list ∷ more)))) fault
-next_faulty count at list more fault h =
-    subst (λ os. IsFirst (first_offence os) fault) (sym (next_is count at list more))
-    (judged_err (next_offences count at list) (rest_offences count at list more) fault (next_before count at list more) h)
+next_faulty count at list more fault h = search (rules, next_is, judged_err, next_before)
 
 -- if the next factor, `list`, has no error, a correct result of reading the factors `more` after it is a correct result of reading `list` and `more`
 pub next_fine : (factors next : List (List ℕ)) (at after : ℕ) (list : Words) (more : List Words) (r : Result (List (List ℕ)) WordsFault)
     → next ≡ factors ++ partition list ∷ [] → after ≡ at + 1 + length list → first_offence (next_offences (length factors) at list) ≡ None
     → IsJudged (λ f. f ≡ next ++ map partition more) (first_offence (factor_offences (length next) (after + 1) (map numbers more))) r
     → IsJudged (λ f. f ≡ factors ++ map partition (list ∷ more)) (first_offence (factor_offences (length factors) (at + 1) (map numbers (list ∷ more)))) r
-next_fine factors next at after list more r e f n h =
-    let Q = λ (g : List (List ℕ)). g ≡ factors ++ map partition (list ∷ more) in
-    let l = length-map list decimal_value in
-    let k : after + 1 ≡ at + 1 + length (numbers list) + 1 = omega (arith, f, l) in
-    let c : length next ≡ length factors + 1 = ap length e ∙ length-append factors (partition list ∷ []) in
-    let whole : next ++ map partition more ≡ factors ++ map partition (list ∷ more) =
-    ap (λ fs. fs ++ map partition more) e ∙ append_assoc factors (partition list ∷ []) (map partition more) in
-    subst (λ os. IsJudged Q (first_offence os) r) (sym (next_is (length factors) at list more))
-    (judged_next Q (next_offences (length factors) at list) (rest_offences (length factors) at list more) r n
-    (subst (λ w. IsJudged Q (first_offence (factor_offences (length factors + 1) w (map numbers more))) r) k
-    (subst (λ m. IsJudged Q (first_offence (factor_offences m (after + 1) (map numbers more))) r) c
-    (subst (λ (fs : List (List ℕ)). IsJudged (λ (g : List (List ℕ)). g ≡ fs) (first_offence (factor_offences (length next) (after + 1) (map numbers more))) r) whole h))))
+next_fine factors next at after list more r e f n h = search (rules, length-map, length-append, append_assoc, next_is, judged_next)
 
--- the errors of two factors and the factors `others` after them are the errors of two partitions, followed by those of `others` after two factors
+-- the errors of the factors `first`, `second` and `others` are the errors of the two partitions `first` and `second`, followed by the errors of
+-- `others` as factors that follow two factors
 pub two_are : (at : ℕ) (first second : Words) (others : List Words)
     → factor_offences 0 at (numbers first ∷ numbers second ∷ map numbers others)
     ≡ two_partitions at first second ++ factor_offences 2 (at + length first + 1 + length second + 1) (map numbers others)
-two_are at first second others =
-    let ns = map numbers others in
-    let l = length-map first decimal_value in
-    let m = length-map second decimal_value in
-    ap (λ a. part_offences at (numbers first)
-    ++ (part_offences (at + a + 1) (numbers second) ++ factor_offences 2 (at + a + 1 + length (numbers second) + 1) ns)) l
-    ∙ ap (λ b. part_offences at (numbers first)
-    ++ (part_offences (at + length first + 1) (numbers second) ++ factor_offences 2 (at + length first + 1 + b + 1) ns)) m
-    ∙ sym (append_assoc (part_offences at (numbers first)) (part_offences (at + length first + 1) (numbers second))
-    (factor_offences 2 (at + length first + 1 + length second + 1) ns))
+two_are at first second others = search (rules, length-map, append_assoc)
 
 two_end : (at : ℕ) (first second : Words) (p : Offence) → Among p (two_partitions at first second) → p.0 < at + length first + 1 + length second
 two_end at first second p m =
@@ -139,24 +109,15 @@ two_end at first second p m =
 
 two_before : (at : ℕ) (first second : Words) (others : List Words)
     → AllBefore (two_partitions at first second) (factor_offences 2 (at + length first + 1 + length second + 1) (map numbers others))
-two_before at first second others p q m n =
-    let l = two_end at first second p m in
-    let w = factor_within 2 (at + length first + 1 + length second + 1) (map numbers others) q n in
-    omega (arith, l, w)
+two_before at first second others p q m n = search (rules, two_end, factor_within)
 
 pub two_faulty : (at : ℕ) (first second : Words) (others : List Words) (fault : WordsFault)
     → IsFirst (first_offence (two_partitions at first second)) fault
     → IsFirst (first_offence (factor_offences 0 at (numbers first ∷ numbers second ∷ map numbers others))) fault
-two_faulty at first second others fault h =
-    subst (λ os. IsFirst (first_offence os) fault) (sym (two_are at first second others))
-    (judged_err (two_partitions at first second) (factor_offences 2 (at + length first + 1 + length second + 1) (map numbers others)) fault
-    (two_before at first second others) h)
+two_faulty at first second others fault h = search (rules, two_are, judged_err, two_before)
 
 pub two_fine : {B : Type 0} (Q : B → Type 0) (at after : ℕ) (first second : Words) (others : List Words) (r : Result B WordsFault)
     → after ≡ at + length first + 1 + length second → first_offence (two_partitions at first second) ≡ None
     → IsJudged Q (first_offence (factor_offences 2 (after + 1) (map numbers others))) r
     → IsJudged Q (first_offence (factor_offences 0 at (numbers first ∷ numbers second ∷ map numbers others))) r
-two_fine Q at after first second others r e n h =
-    subst (λ os. IsJudged Q (first_offence os) r) (sym (two_are at first second others))
-    (judged_next Q (two_partitions at first second) (factor_offences 2 (at + length first + 1 + length second + 1) (map numbers others)) r n
-    (subst (λ w. IsJudged Q (first_offence (factor_offences 2 (w + 1) (map numbers others))) r) e h))
+two_fine Q at after first second others r e n h = search (rules, two_are, judged_next)

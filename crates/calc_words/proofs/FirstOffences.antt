@@ -1,5 +1,5 @@
 -- The first error of a list of numbers, and of two lists of errors, the second of which is at later words.
-use Rattle.std.proofs.Common.{◌≡◌, ℕ, ◌+◌, ◌<◌, ◌≤◌, ◌==◌, nat_le, nat_lt, Bool, true, false, ◌&&◌, ◌||◌, cond, List, [], ◌∷◌, ◌++◌, append_assoc, map, length, refl, sym, ap, ◌∙◌, subst, arith, Option, Some, None, ◌⊎◌, inl, inr, eq-eqb}
+use Rattle.std.proofs.Common.{◌≡◌, ℕ, ◌+◌, ◌<◌, ◌≤◌, ◌==◌, nat_le, nat_lt, Bool, true, false, ◌&&◌, ◌||◌, cond, List, [], ◌∷◌, ◌++◌, append_assoc, map, length, refl, sym, ap, ◌∙◌, subst, arith, Option, Some, None, ◌⊎◌, inl, inr, rules}
 use Rattle.std.proofs.lemmas.Bool.{lt-ltb}
 use Rattle.sym_model.specs.Sum.{Among}
 use Rattle.sym_model.proofs.Sums.{Among_from_append, Among_from_map}
@@ -7,24 +7,16 @@ use Rattle.sym_model.specs.ExpressionOffence.{OffenceKind, literal, range, shape
 use Rattle.sym_model.specs.CommandOffence.{Offence, is_no_later, earlier_of, first_offence, when, Rule, offences_after}
 use Rattle.word_laws.proofs.FirstOffences.{first-among, first_none}
 use Rattle.word_laws.proofs.JudgedRows.{of_kind}
-use Rattle.std.proofs.Math.Bool.{or-true}
 
--- if o is no later than each error of os, the first error of o and os is o
+-- if the error o is no later than each error of the list os, the first error of o ∷ os is o
 pub first-head : (o : Offence) (os : List Offence) → ((p : Offence) → Among p os → is_no_later o p ≡ true) → first_offence (o ∷ os) ≡ Some o
-first-head o os h = by (first_offence os) refl
-  where
-    by : (rest : Option Offence) → first_offence os ≡ rest → first_offence (o ∷ os) ≡ Some o
-    by None e = ap (earlier_of o) e
-    by (Some p) e = ap (earlier_of o) e ∙ ap (λ b. cond b (Some o) (Some p)) (h p (first-among os p e))
+first-head o os h = search (rules, first-among)
 
 pub no_later_word : (o p : Offence) → o.0 < p.0 → is_no_later o p ≡ true
 no_later_word o p h = ap (λ x. x || ((o.0 == p.0) && (nat_lt o.1 p.1 || ((o.1 == p.1) && nat_le (rank o.2) (rank p.2))))) (lt-ltb o.0 p.0 h)
 
 no_later_kind : (k : ℕ) (a b : OffenceKind) → nat_le (rank a) (rank b) ≡ true → is_no_later (k, 0, a) (k, 0, b) ≡ true
-no_later_kind k a b h =
-    ap (λ x. nat_lt k k || (x && nat_le (rank a) (rank b))) (eq-eqb k k refl)
-    ∙ ap (λ x. nat_lt k k || x) h
-    ∙ or-true (nat_lt k k)
+no_later_kind k a b h = search rules
 
 -- each error of the list is at a word after word k
 abbrev pub Behind : ℕ → List Offence → Type 0
@@ -66,9 +58,7 @@ three_kinds k false false false rest l = refl
 
 pub three_kinds_left : (k : ℕ) (x y z : Bool) (rest : List Offence) → Behind k rest
     → first_offence (map (of_kind k) ((when x literal ++ when y range) ++ when z shape) ++ rest) ≡ first_of_three k x y z (first_offence rest)
-three_kinds_left k x y z rest l =
-    ap (λ kinds. first_offence (map (of_kind k) kinds ++ rest)) (append_assoc (when x literal) (when y range) (when z shape))
-    ∙ three_kinds k x y z rest l
+three_kinds_left k x y z rest l = search (rules, of_kind, append_assoc, three_kinds)
 
 -- if the first number of a list is word k, each error that a rule finds in the list is at the word of one of its numbers
 pub within : (rule : Rule) (before : List ℕ) (k : ℕ) (ns : List ℕ) (p : Offence) → Among p (offences_after rule before k ns)

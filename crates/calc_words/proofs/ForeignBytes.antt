@@ -1,10 +1,11 @@
 -- A result of reading words in which each byte outside ASCII is replaced by `?` is a result of reading the words unchanged.
-use Rattle.std.proofs.Common.{◌≡◌, ℕ, zero, suc, ◌<◌, ◌≤◌, ◌==◌, nat_lt, Bool, true, false, not, ◌&&◌, cond, List, [], ◌∷◌, ◌++◌, map, length, length-append, take, refl, sym, ap, ◌∙◌, subst, arith, ◌⊎◌, inl, inr, Result, Ok, Err}
+use Rattle.std.proofs.lemmas.Grind.{common_steps}
+use Rattle.std.proofs.Common.{◌≡◌, ℕ, zero, suc, ◌<◌, ◌≤◌, ◌==◌, nat_lt, Bool, true, false, not, ◌&&◌, cond, List, [], ◌∷◌, ◌++◌, map, length, length-append, take, refl, sym, ap, ◌∙◌, subst, arith, ◌⊎◌, inl, inr, Result, Ok, Err, rules}
 use Rattle.std.specs.Prelude.{slice_index_or}
 use Rattle.std.proofs.lemmas.Bool.{ltb-true, ltb-false}
 use Rattle.std.proofs.lemmas.List.{take-append-le, get_or_append_left, map-append}
 use Rattle.std.proofs.Math.Seq.{get_or-append_seam}
-use Rattle.sym_model.specs.Entry.{Entry, BeginsCommand, AwaitsExpression}
+use Rattle.sym_model.specs.Entry.{Entry, BeginsCommand}
 use Rattle.sym_model.specs.LongestPrefix.{IsLongestPrefix}
 use Rattle.sym_model.specs.Phrase.{BeginsExpression}
 use Rattle.sym_model.specs.SyntaxPlace.{IsExpressionWord, IsSyntaxByte, IsSyntaxPlace}
@@ -13,12 +14,11 @@ use Rattle.calc_base.specs.declared.words.WordsFault.{WordsFault}
 use Rattle.calc_base.specs.declared.words.WordsFault.TheVariants.{Syntax, Literal, Range, Shape, NoMemory}
 use Rattle.calc_words.specs.Commands.{command_of}
 use Rattle.calc_words.specs.declared.command.Command.{Command as Read}
-use Rattle.calc_words.specs.LineBytes.{seen_byte, seen}
+use Rattle.calc_words.specs.LineBytes.{seen}
 use Rattle.calc_words.specs.Reading.{IsRead}
 use Rattle.calc_words.proofs.PlainBytes.{is_plain, are_plain, all_plain, entries_plain, not_plain, not_all_plain, expression_plain, begins_plain, spells_plain, freely_plain, first_plain}
 
--- ---- lists pre ++ x ∷ xs and pre ++ y ∷ ys: if no list that begins with pre ++ [x] or with pre ++ [y] has the property P, their longest prefixes
--- with P are the same
+-- ---- the longest prefix with a property, in two lists that agree up to a certain element
 
 abbrev Stops : {A : Type 0} → (List A → Type 0) → List A → A → Type 0
 Stops {A} P pre x = (ys : List A) → P (pre ++ x ∷ ys) → ⊥
@@ -64,17 +64,10 @@ stops_bytes u b n ys h = not_plain u ys b n (expression_plain (u ++ b ∷ ys) h)
 
 moved_word : (entries : List Entry) (before : Words) (w v : List ℕ) (rest more : Words) (k : ℕ) → k ≤ length before
     → IsExpressionWord entries (before ++ w ∷ rest) k → IsExpressionWord entries (before ++ v ∷ more) k
-moved_word entries before w v rest more k h e = record {
-  is_there = let l = length-append before (v ∷ more) in omega (arith, h, l);
-  awaited = subst (AwaitsExpression entries) (same_front before (w ∷ rest) (v ∷ more) k h) e.awaited;
-}
+moved_word entries before w v rest more k h e = grind (arith, common_steps)
 
 at_most : (n m : ℕ) → n ≤ m → (n < m) ⊎ (n ≡ m)
-at_most n m h = by (nat_lt n m) refl
-  where
-    by : (b : Bool) → nat_lt n m ≡ b → (n < m) ⊎ (n ≡ m)
-    by true e = inl (ltb-true n m e)
-    by false e = inr (let k = ltb-false n m e in omega (arith, h, k))
+at_most n m h = search rules
 
 moved_byte : (before : Words) (u v x : List ℕ) (b c : ℕ) (rest more : Words) (k byte : ℕ) → is_plain b ≡ false → is_plain c ≡ false → k ≤ length before
     → IsLongestPrefix BeginsExpression (slice_index_or (before ++ (u ++ b ∷ v) ∷ rest) k []) byte
@@ -93,8 +86,6 @@ moved_byte before u v x b c rest more k byte n m h l = by (at_most k (length bef
         subst (λ t. IsLongestPrefix BeginsExpression t byte) (sym new)
         (longest_same BeginsExpression u b c v x byte (stops_bytes u b n) (stops_bytes u c m) (subst (λ t. IsLongestPrefix BeginsExpression t byte) old l))
 
--- if the fixed words of all commands are plain (ASCII without `?`), and two lists of words agree up to a byte that is plain in neither, then they
--- have the same place of the first error of syntax
 moved_place : (entries : List Entry) → entries_plain entries ≡ true → (before : Words) (u v x : List ℕ) (b c : ℕ) (rest more : Words) (k byte : ℕ)
     → is_plain b ≡ false → is_plain c ≡ false → IsSyntaxPlace entries (before ++ (u ++ b ∷ v) ∷ rest) k byte
     → IsSyntaxPlace entries (before ++ (u ++ c ∷ x) ∷ more) k byte
@@ -166,18 +157,10 @@ told_words (w ∷ words) = by (told_word w) (told_words words)
         })
 
 seen_word : (w : List ℕ) (f : Foreign w) → seen w ≡ f.front ++ 63 ∷ seen f.behind
-seen_word w f =
-    ap seen f.is
-    ∙ map-append seen_byte f.front (f.byte ∷ f.behind)
-    ∙ ap (λ u. u ++ seen (f.byte ∷ f.behind)) f.kept
-    ∙ ap (λ b. f.front ++ cond b f.byte 63 ∷ seen f.behind) f.foreign
+seen_word w f = search (rules, map-append)
 
 seen_words : (words : Words) (f : ForeignWord words) → map seen words ≡ f.before ++ (f.has.front ++ 63 ∷ seen f.has.behind) ∷ map seen f.rest
-seen_words words f =
-    ap (map seen) f.is
-    ∙ map-append seen f.before (f.foreign ∷ f.rest)
-    ∙ ap (λ ws. ws ++ seen f.foreign ∷ map seen f.rest) f.kept
-    ∙ ap (λ w. f.before ++ w ∷ map seen f.rest) (seen_word f.foreign f.has)
+seen_words words f = search (rules, map-append, seen_word)
 
 not_ascii : (b : ℕ) → nat_lt b 128 ≡ false → is_plain b ≡ false
 not_ascii b h = ap (λ t. t && not (b == 63)) h

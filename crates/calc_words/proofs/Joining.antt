@@ -1,13 +1,12 @@
 -- A command in a list of commands with different names: for words that begin with its name, a result of reading them for this command is a result for
 -- the list.
-use Rattle.std.proofs.Common.{◌≡◌, ℕ, zero, suc, ◌≤◌, List, [], ◌∷◌, ◌++◌, length, take, ap, ◌∙◌, subst, arith, Option, Some, Result, Ok, Err, inl, inr}
+use Rattle.std.proofs.Common.{◌≡◌, ℕ, zero, suc, ◌≤◌, List, [], ◌∷◌, ◌++◌, length, take, ap, arith, Option, Some, Result, Ok, Err, inl, inr, rules}
 use Rattle.sym_model.specs.Sum.{Among}
-use Rattle.sym_model.specs.Form.{Form, sequence, SomeOf, Has, Begins, Awaits, words_of}
+use Rattle.sym_model.specs.Form.{SomeOf, Begins, Awaits}
 use Rattle.sym_model.specs.Command.{Command}
 use Rattle.sym_model.specs.CommandOffence.{Offence}
 use Rattle.sym_model.specs.Entry.{Entry, SpellsBy, OffendsBy, SpellsFreely, SpellsCommand, HasFirstOffence, SpellsWithoutOffence, BeginsCommand, AwaitsExpression}
 use Rattle.sym_model.specs.SyntaxPlace.{IsExpressionWord, IsSyntaxByte, IsSyntaxPlace}
-use Rattle.sym_model.specs.WordForms.{the}
 use Rattle.word_laws.proofs.LongestPrefixes.{some_in, some_out}
 use Rattle.sym_model.specs.ExpressionOffence.{literal, range, shape}
 use Rattle.word_laws.specs.Words.{Words}
@@ -18,25 +17,12 @@ use Rattle.calc_words.specs.declared.command.Command.{Command as Read}
 use Rattle.calc_words.specs.Joined.{Joined}
 use Rattle.calc_words.specs.Reading.{IsRead}
 
--- words that have the form of the word `text` followed by g are `text` and further words
-pub first_spells : (text : List ℕ) (g : Form) (words : Words) → Has (sequence (the text) g) words → (rest : Words) × (words ≡ text ∷ rest)
-first_spells text g words h = (words_of g h.written.1, h.spelled)
-
-pub first_awaits : (text : List ℕ) (g : Form) (words : Words) → Awaits (sequence (the text) g) words → (rest : Words) × (words ≡ text ∷ rest)
-first_awaits text g words (inl h) = absurd h
-first_awaits text g words (inr h) = (h.1, h.2 ∙ ap (λ ws. ws ++ h.1) h.3.spelled)
-
 same_first : (a b : List ℕ) (xs ys words : Words) → words ≡ a ∷ xs → words ≡ b ∷ ys → b ≡ a
 same_first a b xs ys words h k = cc
 
--- let e be in a list of commands with different names (`Joined`), and let words begin with the name of e. If some command of the list has the
--- property P, and the words begin with the name of each command of the list that has P, then e has P
 own : (e : Entry) (entries : List Entry) → Joined e entries → (P : Entry → Type 0) (words rest : Words) → words ≡ e.name ∷ rest
     → ((f : Entry) → Among f entries → P f → (more : Words) × (words ≡ f.name ∷ more)) → SomeOf P entries → P e
-own e entries j P words rest w n s =
-    let f = some_out P entries s in
-    let m = n f.0 f.1 f.2 in
-    subst P (j.alone f.0 f.1 (same_first e.name f.0.name rest m.0 words w m.1)) f.2
+own e entries j P words rest w n s = search (rules, some_out, same_first)
 
 one_of : (e : Entry) (entries : List Entry) → Joined e entries → (P : Entry → Type 0) → SomeOf P (e ∷ []) → SomeOf P entries
 one_of e entries j P (inl h) = some_in P e entries j.among h
@@ -71,13 +57,7 @@ own_awaits e entries j words rest w s =
     inl (own e entries j (λ f. Awaits f.form words) words rest w (λ f m h. (j.named f m).awaits words h) s)
 
 none_awaited : (e : Entry) (entries : List Entry) → Joined e entries → AwaitsExpression entries [] → ⊥
-none_awaited e entries j s =
-    let f = some_out (λ (f : Entry). Awaits f.form []) entries s in
-    let x = (j.named f.0 f.1).awaits [] f.2 in
-    empty_is (f.0).name x.0 x.1
-  where
-    empty_is : (a : List ℕ) (ws : Words) → ◌≡◌ {A = Words} [] (a ∷ ws) → ⊥
-    empty_is a ws h = cc
+none_awaited e entries j s = search (rules, some_out)
 
 own_word : (e : Entry) (entries : List Entry) → Joined e entries → (words rest : Words) (word : ℕ) → words ≡ e.name ∷ rest
     → IsExpressionWord entries words word → IsExpressionWord (e ∷ []) words word
@@ -89,10 +69,7 @@ own_word e entries j words rest (suc n) w x = record {
 
 word_of_all : (e : Entry) (entries : List Entry) → Joined e entries → (words : Words) (word : ℕ)
     → IsExpressionWord (e ∷ []) words word → IsExpressionWord entries words word
-word_of_all e entries j words word x = record {
-  is_there = x.is_there;
-  awaited = one_of e entries j (λ f. Awaits f.form (take word words)) x.awaited;
-}
+word_of_all e entries j words word x = search (rules, one_of)
 
 joined_byte : (e : Entry) (entries : List Entry) → Joined e entries → (words rest : Words) (word byte : ℕ) → words ≡ e.name ∷ rest
     → IsSyntaxByte (e ∷ []) words word byte → IsSyntaxByte entries words word byte
@@ -106,8 +83,8 @@ longest_of_all e entries j words rest word w l zero k b = omega arith
 longest_of_all e entries j words rest word w l (suc n) k b =
     l (suc n) k (own_begins e entries j (take (suc n) words) (take n rest) (ap (take (suc n)) w) b)
 
--- let e be in a list of commands with different names (`Joined`), and let words begin with the name of e: the place of their first error of syntax
--- for the list that has only e is also that for the whole list
+-- let e be in a list of commands with different names (`Joined`), and let words begin with the name of e. The place of the first error of syntax in
+-- the words, for the list that has only e, is also the place of this error for the whole list
 pub joined_syntax : (e : Entry) (entries : List Entry) → Joined e entries → (words rest : Words) (word byte : ℕ) → words ≡ e.name ∷ rest
     → IsSyntaxPlace (e ∷ []) words word byte → IsSyntaxPlace entries words word byte
 joined_syntax e entries j words rest word byte w p = record {

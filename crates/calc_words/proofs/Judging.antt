@@ -1,8 +1,9 @@
 -- The test of the numbers of a partition, one number after another.
-use Rattle.std.proofs.Common.{◌≡◌, ℕ, zero, suc, ◌+◌, ◌<◌, ◌≤◌, ◌==◌, nat_le, nat_lt, Bool, true, false, ◌&&◌, ◌||◌, cond, List, [], ◌∷◌, ◌++◌, map, length, take, drop, get_or, drop-cons, refl, sym, ap, ◌∙◌, subst, arith, Option, Some, None}
-use Rattle.std.proofs.lemmas.Bool.{le-leb, ltb-false, eqb-false, or_parts}
+use Rattle.std.proofs.lemmas.Grind.{common_steps}
+use Rattle.std.proofs.Common.{◌≡◌, ℕ, zero, suc, ◌+◌, ◌<◌, ◌≤◌, ◌==◌, nat_le, nat_lt, Bool, true, false, ◌&&◌, ◌||◌, List, [], ◌∷◌, ◌++◌, map, length, take, drop, get_or, drop-cons, refl, sym, ap, ◌∙◌, subst, arith, Option, Some, None, rules}
+use Rattle.std.proofs.lemmas.Bool.{le-leb, eqb-false}
 use Rattle.std.proofs.Math.ListN.{drop_of_length-le, set, length-set}
-use Rattle.std.proofs.lemmas.List.{take_all, take_more, take_more_set}
+use Rattle.std.proofs.lemmas.List.{take_more, take_more_set}
 use Rattle.sym_model.specs.Partition.{size}
 use Rattle.sym_model.specs.ExpressionOffence.{is_wide, rises, literal, range, shape}
 use Rattle.sym_model.specs.CommandOffence.{Offence, first_offence, part_offences, part_rule, offences_after, left_of, when, most_parts, most_cells}
@@ -29,15 +30,12 @@ pub record Judging (at : ℕ) (ns : List ℕ) (i cells : ℕ) (last : Option ℕ
   pub parts_are : take i parts ≡ take i ns
   pub room : length parts ≡ 64
 
--- if x is element i of ws, counted from 0, then element i of the list of g (f w), for w in ws, is g (f x)
 pub number_at : {A : Type 0} (f : A → List ℕ) (g : List ℕ → ℕ) (ws : List A) (i : ℕ) (x : A) → i < length ws → x ≡ get_or ws i x
     → get_or (map g (map f ws)) i 0 ≡ g (f x)
 number_at f g [] i x h e = absurd (omega (arith, h))
 number_at f g (w ∷ ws) zero x h e = ap (λ y. g (f y)) (sym e)
 number_at f g (w ∷ ws) (suc i) x h e = number_at f g ws i x (omega arith) e
 
--- if the first i numbers have no error, the first error of the list is that of the next number a, by the tests of `first_of_three`; if a has no
--- error, it is the first error of the numbers after a
 three : (at : ℕ) (ns : List ℕ) (i cells a : ℕ) (last : Option ℕ) (parts : List ℕ) (j : Judging at ns i cells last parts) → i < length ns → get_or ns i 0 ≡ a
     → first_offence (part_offences at ns)
     ≡ first_of_three (at + i) (is_wide a)
@@ -54,8 +52,8 @@ three at ns i cells a last parts j h e =
     (offences_after part_rule (a ∷ j.heard) (at + i + 1) (drop (suc i) ns))
     (λ p m. let w = within part_rule (a ∷ j.heard) (at + i + 1) (drop (suc i) ns) p m in omega arith)
 
--- if the first i numbers have no error, the first error of the list is that of the next number a, by the tests of `first_of_three` with the count i,
--- the sum and the last of the first i numbers; if a has no error, it is the first error of the numbers after a
+-- let the first i numbers have no error. Then `first_of_three` finds the error of the next number a, from the count i, the sum and the last of these
+-- numbers, and this is the first error of the list; if a has no error, the first error of the list is that of the numbers after a.
 pub judged : (at : ℕ) (ns : List ℕ) (i cells a : ℕ) (last : Option ℕ) (parts : List ℕ) (j : Judging at ns i cells last parts) → i < length ns → get_or ns i 0 ≡ a
     → first_offence (part_offences at ns)
     ≡ first_of_three (at + i) (is_wide a) ((i == most_parts) || nat_lt most_cells (cells + a)) (rises last a)
@@ -69,13 +67,9 @@ judged at ns i cells a last parts j h e =
     ∙ ap (λ b. first_of_three (at + i) (is_wide a) ((i == most_parts) || (b && nat_lt most_cells (cells + a))) (rises last a) rest) (le-leb cells most_cells j.low)
 
 pub narrow_none : (a : ℕ) → narrow a ≡ None → is_wide a ≡ true
-narrow_none a h = by (is_wide a) refl
-  where
-    by : (b : Bool) → is_wide a ≡ b → b ≡ true
-    by true e = refl
-    by false e = let k : None ≡ Some a = sym h ∙ ap (λ b. cond b None (Some a)) e in cc
+narrow_none a h = search rules
 
--- if the first i numbers have no error and the next number a exceeds 2^127 - 1, the fault `Literal` at the word of a is the first error
+-- if the first i numbers have no error and the next number a exceeds 2^127 - 1, the fault `Literal` at the word of a reports the first error
 pub wide_first : (at : ℕ) (ns : List ℕ) (i cells a : ℕ) (last : Option ℕ) (parts : List ℕ) → Judging at ns i cells last parts → i < length ns → get_or ns i 0 ≡ a
     → narrow a ≡ None → (fault : WordsFault) → fault ≡ fault_of (at + i) Literal
     → IsFirst (first_offence (part_offences at ns)) fault
@@ -87,14 +81,10 @@ wide_first at ns i cells a last parts j h e w fault f =
 
 -- if `narrow a` is `Some v`, then a is at most 2^127 - 1, and v = a
 pub narrow_some : (a v : ℕ) → Some v ≡ narrow a → (is_wide a ≡ false) × (v ≡ a)
-narrow_some a v h = by (is_wide a) refl
-  where
-    by : (b : Bool) → is_wide a ≡ b → (is_wide a ≡ false) × (v ≡ a)
-    by true e = let k : Some v ≡ None = h ∙ ap (λ b. cond b None (Some a)) e in cc
-    by false e = let k : Some v ≡ Some a = h ∙ ap (λ b. cond b None (Some a)) e in (e, cc)
+narrow_some a v h = search rules
 
--- let the number at word k be at most 2^127 - 1: if its tests y and z give an error of the kind `kind` (`range_or_shape`), the fault of this kind at
--- word k is the first error
+-- let the number at word k be at most 2^127 - 1. If its tests y and z give an error of some kind (`range_or_shape`), the fault of this kind at word k
+-- reports the first error.
 pub kind_judged : (k : ℕ) (y z : Bool) (rest first : Option Offence) (kind : Kind) → first ≡ first_of_three k false y z rest
     → Some kind ≡ range_or_shape y z → IsFirst first (fault_of k kind)
 kind_judged k true z rest first kind h e = subst (λ x. IsFirst first (fault_of k x)) (sym (let g : kind ≡ Range = cc in g)) h
@@ -113,7 +103,6 @@ kind_first at ns i cells a v last parts j h e w kind k fault f =
     ∙ ap (λ b. first_of_three (at + i) b ((i == most_parts) || nat_lt most_cells (cells + a)) (rises last a) rest) n.0)
     (k ∙ ap (part_kind i cells last) n.1))
 
--- if the tests y and z of a number give no error, both are false
 pub none_kinds : (y z : Bool) → range_or_shape y z ≡ None → (y ≡ false) × (z ≡ false)
 none_kinds true z h = cc
 none_kinds false true h = cc
@@ -124,9 +113,7 @@ range_none : (count cells : ℕ) (last : Option ℕ) (v : ℕ) → part_kind cou
 range_none count cells last v h = none_kinds ((count == most_parts) || nat_lt most_cells (cells + v)) (rises last v) h
 
 fits_in : (count cells : ℕ) (last : Option ℕ) (v : ℕ) → part_kind count cells last v ≡ None → (cells + v ≤ 512) × ((count == 64) ≡ false)
-fits_in count cells last v h =
-    let o = or_parts (count == most_parts) (nat_lt most_cells (cells + v)) (range_none count cells last v h).0 in
-    (ltb-false most_cells (cells + v) o.1, o.0)
+fits_in count cells last v h = search rules
 
 pub no_kinds : (x y z : Bool) → x ≡ false → y ≡ false → z ≡ false → (when x literal ++ when y range) ++ when z shape ≡ []
 no_kinds x y z a b c = cc
@@ -176,11 +163,8 @@ ends at ns i cells last parts j h = ap first_offence (j.rest_is ∙ ap (offences
 
 pub all_parts : (at : ℕ) (ns : List ℕ) (i cells : ℕ) (last : Option ℕ) (parts : List ℕ) → Judging at ns i cells last parts → length ns ≤ i → i ≤ length ns
     → take (length ns) parts ≡ ns
-all_parts at ns i cells last parts j h k =
-    let same : length ns ≡ i = omega arith in
-    ap (λ n. take n parts) same ∙ j.parts_are ∙ take_all i ns h
+all_parts at ns i cells last parts j h k = grind (arith, common_steps)
 
--- the list of the values g (f w), for w in ws, has the length of ws
 pub counted : {A : Type 0} (f : A → List ℕ) (g : List ℕ → ℕ) (ws : List A) → length (map g (map f ws)) ≡ length ws
 counted f g [] = refl
 counted f g (w ∷ ws) = ap (λ n. suc n) (counted f g ws)

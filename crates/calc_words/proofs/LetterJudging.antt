@@ -1,8 +1,9 @@
 -- The test of the letters of a permutation, one letter after another.
+use Rattle.std.proofs.lemmas.Grind.{common_steps}
 use Rattle.std.proofs.Common.{◌≡◌, ℕ, suc, ◌+◌, ◌<◌, ◌≤◌, ◌==◌, nat_lt, false, ◌||◌, List, [], ◌∷◌, ◌++◌, map, length, length-append, take, drop, get_or, drop-cons, refl, sym, ap, ◌∙◌, subst, arith, Some, None}
 use Rattle.std.proofs.lemmas.Bool.{eqb-false, or_parts}
 use Rattle.std.proofs.Math.ListN.{drop_of_length-le, set, length-set}
-use Rattle.std.proofs.lemmas.List.{take_all, take_more, take_more_set}
+use Rattle.std.proofs.lemmas.List.{take_more, take_more_set}
 use Rattle.sym_model.specs.ExpressionOffence.{is_wide}
 use Rattle.sym_model.specs.CommandOffence.{first_offence, permutation_offences_within, permutation_rule_within, offences_after, is_outside, stands_in}
 use Rattle.calc_base.specs.declared.words.WordsFault.{WordsFault}
@@ -28,8 +29,6 @@ pub record Hearing (most at : ℕ) (ns : List ℕ) (i : ℕ) (letters : List ℕ
   pub length_is : length (take i letters) ≡ i
   pub room : length letters ≡ 16
 
--- if the first i letters have no error, the first error of the list is that of the next letter a, by the tests of `first_of_three`; if a has no
--- error, it is the first error of the letters after a
 judged : (most at : ℕ) (ns : List ℕ) (i a : ℕ) (letters : List ℕ) (j : Hearing most at ns i letters) → i < length ns → get_or ns i 0 ≡ a
     → first_offence (permutation_offences_within most at ns)
     ≡ first_of_three (at + i) (is_wide a) (nat_lt most a || (length (take i letters) == most))
@@ -46,7 +45,7 @@ judged most at ns i a letters j h e =
     ∙ ap (λ b. first_of_three (at + i) (is_wide a) (nat_lt most a || (length (take i letters) == most)) (is_outside (length ns) a || b) (first_offence more))
     (j.heard_are a)
 
--- if the first i letters have no error and the next letter a exceeds 2^127 - 1, the fault `Literal` at the word of a is the first error
+-- if the first i letters have no error and the next letter a exceeds 2^127 - 1, the fault `Literal` at the word of a reports the first error
 pub wide_letter : (most at : ℕ) (ns : List ℕ) (i a : ℕ) (letters : List ℕ) → Hearing most at ns i letters → i < length ns → get_or ns i 0 ≡ a
     → narrow a ≡ None → (fault : WordsFault) → fault ≡ fault_of (at + i) Literal
     → IsFirst (first_offence (permutation_offences_within most at ns)) fault
@@ -56,8 +55,8 @@ wide_letter most at ns i a letters j h e w fault f =
     ∙ ap (λ b. first_of_three (at + i) b (nat_lt most a || (length (take i letters) == most)) (is_outside (length ns) a || stands_in a (take i letters))
     (first_offence (offences_after (permutation_rule_within most (length ns)) (a ∷ j.heard) (at + i + 1) (drop (suc i) ns)))) (narrow_none a w))
 
--- if the first i letters have no error, and the next letter is at most 2^127 - 1 and has an error of a kind, the fault of this kind at its word is
--- the first error
+-- let the first i letters have no error, and let the next letter be at most 2^127 - 1. If this letter has an error of some kind, the fault of this
+-- kind at its word reports the first error.
 pub letter_first : (most at : ℕ) (ns : List ℕ) (i a v : ℕ) (letters : List ℕ) → Hearing most at ns i letters → i < length ns → get_or ns i 0 ≡ a
     → Some v ≡ narrow a → (kind : Kind) → Some kind ≡ letter_kind most (length ns) (take i letters) v → (fault : WordsFault) → fault ≡ fault_of (at + i) kind
     → IsFirst (first_offence (permutation_offences_within most at ns)) fault
@@ -117,6 +116,4 @@ letters_end most at ns i letters j h =
 
 pub all_letters : (most at : ℕ) (ns : List ℕ) (i : ℕ) (letters : List ℕ) → Hearing most at ns i letters → length ns ≤ i → i ≤ length ns
     → take (length ns) letters ≡ ns
-all_letters most at ns i letters j h k =
-    let same : length ns ≡ i = omega arith in
-    ap (λ n. take n letters) same ∙ j.letters_are ∙ take_all i ns h
+all_letters most at ns i letters j h k = grind (arith, common_steps)

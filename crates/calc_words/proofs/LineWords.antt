@@ -1,6 +1,5 @@
 -- The words of a line, read one byte after another.
-use Rattle.std.proofs.Common.{◌≡◌, ℕ, zero, suc, ◌+◌, ◌<◌, ◌≤◌, ◌==◌, nat_lt, Bool, true, false, ◌||◌, cond, List, [], ◌∷◌, ◌++◌, append_assoc, map, length, drop, get_or, drop-cons, refl, sym, ap, ◌∙◌, arith, filter, flat_map}
-use Rattle.std.proofs.lemmas.Bool.Decides.{nat_tests}
+use Rattle.std.proofs.Common.{◌≡◌, ℕ, zero, suc, ◌+◌, ◌<◌, ◌≤◌, ◌==◌, nat_lt, Bool, true, false, ◌||◌, cond, List, [], ◌∷◌, ◌++◌, append_assoc, map, length, drop, get_or, drop-cons, refl, sym, ap, ◌∙◌, arith, filter, flat_map, rules}
 use Rattle.std.proofs.lemmas.List.{append-nil, length-map, map-append}
 use Rattle.std.proofs.Math.ListN.{drop_of_length-le}
 use Rattle.sym_model.specs.BatchLine.{is_some_text, words_of_line, without_return}
@@ -31,14 +30,12 @@ split_some s (b ∷ line) = by (b == s) refl (split_some s line)
     by false e r =
         (b ∷ r.0, r.1, ap (λ x. cond x ([] ∷ split_at s line) (before_first b (split_at s line))) e ∙ ap (before_first b) r.2)
 
--- the list of the pieces of a line, between spaces and tabs, is not empty
 some_pieces : (line : List ℕ) → (p : List ℕ) × (ps : Words) × (pieces_of line ≡ p ∷ ps)
 some_pieces line =
     let r = split_some 32 line in
     let q = split_some 9 r.0 in
     (q.0, q.1 ++ flat_map (split_at 9) r.1, ap (flat_map (split_at 9)) r.2 ∙ ap (λ ps. ps ++ flat_map (split_at 9) r.1) q.2)
 
--- a space or tab in front of a line adds an empty piece
 space_pieces : (b : ℕ) (line : List ℕ) → is_space b ≡ true → pieces_of (b ∷ line) ≡ [] ∷ pieces_of line
 space_pieces b line h = by (b == 32) (b == 9) refl refl h
   where
@@ -77,20 +74,13 @@ other_pieces b line h = by (b == 32) (b == 9) refl refl h
         ap (λ t. flat_map (split_at 9) (cond t ([] ∷ split_at 32 line) (before_first b (split_at 32 line)))) e ∙ inner (split_at 32 line) r.0 r.1 f r.2
 
 continued_front : (w : List ℕ) (b : ℕ) (ps : Words) (p : List ℕ) (qs : Words) → ps ≡ p ∷ qs → continued w (before_first b ps) ≡ continued (w ++ b ∷ []) ps
-continued_front w b ps p qs s =
-    ap (λ x. continued w (before_first b x)) s
-    ∙ ap (λ y. y ∷ qs) (sym (append_assoc w (b ∷ []) p))
-    ∙ sym (ap (continued (w ++ b ∷ [])) s)
+continued_front w b ps p qs s = search (rules, append_assoc)
 
 continued_nothing : (ps : Words) (p : List ℕ) (qs : Words) → ps ≡ p ∷ qs → ps ≡ continued [] ps
 continued_nothing ps p qs s = s ∙ sym (ap (continued []) s)
 
 select_front : (w : List ℕ) (ws : Words) → filter is_some_text (w ∷ ws) ≡ word_with_bytes w ++ filter is_some_text ws
-select_front w ws = by (is_some_text w)
-  where
-    by : (t : Bool) → cond t (w ∷ filter is_some_text ws) (filter is_some_text ws) ≡ cond t (w ∷ []) [] ++ filter is_some_text ws
-    by true = refl
-    by false = refl
+select_front w ws = search rules
 
 words_continued : (w line : List ℕ) → filter is_some_text (continued w (pieces_of line)) ≡ words_from w line
 words_continued w [] = ap (λ x. filter is_some_text (x ∷ [])) (append-nil w) ∙ select_front w [] ∙ append-nil (word_with_bytes w)
@@ -124,21 +114,10 @@ some_seen : (w : List ℕ) → is_some_text (seen w) ≡ is_some_text w
 some_seen w = ap (λ n. nat_lt 0 n) (length-map w seen_byte)
 
 with_bytes_seen : (w : List ℕ) → word_with_bytes (seen w) ≡ map seen (word_with_bytes w)
-with_bytes_seen w = ap (λ t. cond t (seen w ∷ []) []) (some_seen w) ∙ by (is_some_text w)
-  where
-    by : (t : Bool) → cond t (seen w ∷ []) [] ≡ map seen (cond t (w ∷ []) [])
-    by true = refl
-    by false = refl
+with_bytes_seen w = search (rules, some_seen)
 
 space_seen : (b : ℕ) → is_space (seen_byte b) ≡ is_space b
-space_seen b = by (nat_lt b 128) refl
-  where
-    high : (n : ℕ) → nat_lt n 128 ≡ false → false ≡ ((n == 32) || (n == 9))
-    high n h = grind (arith, nat_tests)
-
-    by : (t : Bool) → nat_lt b 128 ≡ t → is_space (seen_byte b) ≡ is_space b
-    by true e = ap (λ x. is_space (cond x b 63)) e
-    by false e = ap (λ x. is_space (cond x b 63)) e ∙ high b e
+space_seen b = search rules
 
 words_seen : (w line : List ℕ) → words_from (seen w) (seen line) ≡ map seen (words_from w line)
 words_seen w [] = with_bytes_seen w
@@ -158,7 +137,7 @@ words_seen w (b ∷ line) = ap (λ t. cond t (word_with_bytes (seen w) ++ words_
 pub kept_words : (line : List ℕ) → words_from [] (seen line) ≡ map seen (words_of_line line)
 kept_words line = words_seen [] line ∙ ap (map seen) (sym (words_read line))
 
--- ---- the words of a line of which the bytes before a place have been read
+-- ---- the words of a line that is read up to a certain byte
 
 get_seen : (line : List ℕ) (i : ℕ) → i < length line → get_or (seen line) i 0 ≡ seen_byte (get_or line i 0)
 get_seen [] i h = absurd (omega (arith, h))
@@ -171,41 +150,22 @@ byte_at line i h =
     ∙ ap (λ b. b ∷ drop (suc i) (seen line)) (get_seen line i h)
     ∙ ap (λ j. seen_byte (get_or line i 0) ∷ drop j (seen line)) (let e : suc i ≡ i + 1 = omega arith in e)
 
--- for the line with `?` in place of each byte outside ASCII: `words` are its words that end before place i, and `word` are the bytes before place i
--- of the word that may go on at place i
+-- the line is read up to place i, with `?` in place of each byte outside ASCII: `words` are the words that have ended before place i, and `word` has
+-- the bytes before place i of the word that may go on at place i
 abbrev pub AreWordsSo : List ℕ → ℕ → Words → List ℕ → Type 0
 AreWordsSo line i words word = words_from [] (seen line) ≡ words ++ words_from word (drop i (seen line))
 
 pub space_read : (line : List ℕ) (i : ℕ) (words more : Words) (word : List ℕ) → i < length line → is_space (get_or line i 0) ≡ true
     → more ≡ words ++ word_with_bytes word → AreWordsSo line i words word → AreWordsSo line (i + 1) more []
-space_read line i words more word h s m a =
-    let b = seen_byte (get_or line i 0) in
-    let rest = drop (i + 1) (seen line) in
-    a
-    ∙ ap (λ xs. words ++ words_from word xs) (byte_at line i h)
-    ∙ ap (λ t. words ++ cond t (word_with_bytes word ++ words_from [] rest) (words_from (word ++ b ∷ []) rest)) (space_seen (get_or line i 0) ∙ s)
-    ∙ sym (append_assoc words (word_with_bytes word) (words_from [] rest))
-    ∙ ap (λ ws. ws ++ words_from [] rest) (sym m)
+space_read line i words more word h s m a = search (rules, byte_at, space_seen, append_assoc)
 
 pub byte_read : (line : List ℕ) (i : ℕ) (words : Words) (word longer : List ℕ) → i < length line → is_space (get_or line i 0) ≡ false
     → longer ≡ word ++ seen_byte (get_or line i 0) ∷ [] → AreWordsSo line i words word → AreWordsSo line (i + 1) words longer
-byte_read line i words word longer h s m a =
-    let b = seen_byte (get_or line i 0) in
-    let rest = drop (i + 1) (seen line) in
-    a
-    ∙ ap (λ xs. words ++ words_from word xs) (byte_at line i h)
-    ∙ ap (λ t. words ++ cond t (word_with_bytes word ++ words_from [] rest) (words_from (word ++ b ∷ []) rest)) (space_seen (get_or line i 0) ∙ s)
-    ∙ ap (λ w. words ++ words_from w rest) (sym m)
+byte_read line i words word longer h s m a = search (rules, byte_at, space_seen)
 
 pub all_read : (line : List ℕ) (i : ℕ) (words more : Words) (word : List ℕ) → length line ≤ i → more ≡ words ++ word_with_bytes word
     → AreWordsSo line i words word → more ≡ map seen (words_of_line line)
-all_read line i words more word h m a =
-    m
-    ∙ ap (λ xs. words ++ words_from word xs) (sym (drop_of_length-le (seen line) (let l = length-map line seen_byte in omega (arith, h, l))))
-    ∙ sym a
-    ∙ kept_words line
-
--- ---- the line without a carriage return at its end
+all_read line i words more word h m a = search (rules, drop_of_length-le, length-map, kept_words)
 
 pub return_dropped : (front : List ℕ) (last : ℕ) → (last == 13) ≡ true → without_return (front ++ last ∷ []) ≡ front
 return_dropped [] last h = ap (λ t. cond t [] (last ∷ [])) h

@@ -1,5 +1,5 @@
--- The first error of the words of parts: that of the first part that has one.
-use Rattle.std.proofs.Common.{◌≡◌, ℕ, true, ◌+◌, ◌<◌, ◌≤◌, List, [], ◌∷◌, map, length, refl, sym, ap, ◌∙◌, arith, None, ◌⊎◌, inl, inr, flat_map}
+-- The words of a command are divided into parts. The first error of the words is the first error of the first part that has an error.
+use Rattle.std.proofs.Common.{◌≡◌, ℕ, true, ◌+◌, ◌<◌, ◌≤◌, List, [], ◌∷◌, map, length, refl, sym, ap, ◌∙◌, arith, None, ◌⊎◌, inl, inr, flat_map, rules}
 use Rattle.std.proofs.lemmas.Bool.{and_parts}
 use Rattle.std.proofs.lemmas.List.{length-map}
 use Rattle.sym_model.specs.Sum.{Among}
@@ -21,7 +21,6 @@ use Rattle.calc_words.proofs.Commands.{singles, judged_err, judged_later}
 number_count : (ns : Words) → length (numbers ns) ≡ length (flat_map (λ t. t ∷ []) ns)
 number_count ns = length-map ns decimal_value ∙ ap length (sym (singles ns))
 
--- each error of a part whose first word is word k is at word k or later
 part_from : (p : Part) (k : ℕ) (x : Written (form_of_part p)) (o : Offence) → Among o (part_offends p k x) → k ≤ o.0
 part_from Rows k x o m = let w = (within rows_rule [] (k + 1) (decimal_value x.1 ∷ []) o m).0 in omega (arith, w)
 part_from MaybeRows k (inl x) o m = absurd m
@@ -74,8 +73,8 @@ parts_from (p ∷ q ∷ ps) k x o m =
     by (inl a) r = part_from p k x.0 o a
     by (inr a) r = let w = r a in omega (arith, w)
 
--- if no part but the last is a list of factors (`are_bounded`), a fault that is the first error of the first part with an error is the first error of
--- all parts
+-- let no part but the last be a list of factors (`are_bounded`). Then a fault that reports the first error of the first part with an error reports
+-- the first error of all parts.
 pub parts_faulty : (ps : List Part) (k : ℕ) (x : Written (form_of ps)) (fault : WordsFault) → are_bounded ps ≡ true → IsFirstOf ps k x fault
     → IsFirst (first_offence (parts_offend ps k x)) fault
 parts_faulty [] k x fault b h = absurd h
@@ -88,14 +87,9 @@ parts_faulty (p ∷ q ∷ ps) k x fault b (inl h) =
     let v = parts_from (q ∷ ps) (k + length (words_of (form_of_part p) x.0)) x.1 r n in
     omega (arith, u, v))
     h
-parts_faulty (p ∷ q ∷ ps) k x fault b (inr h) =
-    let c = and_parts (is_bounded p) (are_bounded (q ∷ ps)) b in
-    judged_later (part_offends p k x.0) (parts_offend (q ∷ ps) (k + length (words_of (form_of_part p) x.0)) x.1) fault h.0
-    (parts_faulty (q ∷ ps) (k + length (words_of (form_of_part p) x.0)) x.1 fault c.1 h.1)
+parts_faulty (p ∷ q ∷ ps) k x fault b (inr h) = search (rules, and_parts, judged_later, (parts_faulty (q ∷ ps)))
 
 pub parts_fine : (ps : List Part) (k : ℕ) (x : Written (form_of ps)) → AreFine ps k x → first_offence (parts_offend ps k x) ≡ None
 parts_fine [] k x h = refl
 parts_fine (p ∷ []) k x h = h
-parts_fine (p ∷ q ∷ ps) k x h =
-    none-append (part_offends p k x.0) (parts_offend (q ∷ ps) (k + length (words_of (form_of_part p) x.0)) x.1) h.0
-    ∙ parts_fine (q ∷ ps) (k + length (words_of (form_of_part p) x.0)) x.1 h.1
+parts_fine (p ∷ q ∷ ps) k x h = search (rules, none-append, (parts_fine (q ∷ ps)))

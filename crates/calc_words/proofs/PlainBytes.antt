@@ -1,5 +1,5 @@
 -- The words of commands have only plain bytes: ASCII without `?`.
-use Rattle.std.proofs.Common.{◌≡◌, ℕ, ◌≤◌, ◌==◌, nat_lt, Bool, true, false, not, ◌&&◌, List, [], ◌∷◌, ◌++◌, refl, ap, ◌∙◌, arith, inl, inr, flat_map}
+use Rattle.std.proofs.Common.{◌≡◌, ℕ, ◌≤◌, ◌==◌, nat_lt, Bool, true, false, not, ◌&&◌, List, [], ◌∷◌, ◌++◌, refl, ap, ◌∙◌, arith, inl, inr, flat_map, rules}
 use Rattle.std.specs.Prelude.{codes}
 use Rattle.std.specs.List.{join_with_byte}
 use Rattle.std.proofs.lemmas.Bool.Decides.{nat_tests}
@@ -45,7 +45,6 @@ all_front [] ys h = refl
 all_front (x ∷ xs) ys h =
     let p = and_parts (are_plain x) (all_plain (xs ++ ys)) h in and_from (are_plain x) (all_plain xs) p.0 (all_front xs ys p.1)
 
--- a text of plain bytes (ASCII other than `?`) has no byte that is not plain
 pub not_plain : (xs ys : List ℕ) (b : ℕ) → is_plain b ≡ false → are_plain (xs ++ b ∷ ys) ≡ true → ⊥
 not_plain [] ys b h k = let p = and_parts (is_plain b) (are_plain ys) k in cc
 not_plain (x ∷ xs) ys b h k = not_plain xs ys b h (and_parts (is_plain x) (are_plain (xs ++ b ∷ ys)) k).1
@@ -53,8 +52,6 @@ not_plain (x ∷ xs) ys b h k = not_plain xs ys b h (and_parts (is_plain x) (are
 pub not_all_plain : (xs ys : Words) (w : List ℕ) → (are_plain w ≡ true → ⊥) → all_plain (xs ++ w ∷ ys) ≡ true → ⊥
 not_all_plain [] ys w h k = h (and_parts (are_plain w) (all_plain ys) k).0
 not_all_plain (x ∷ xs) ys w h k = not_all_plain xs ys w h (and_parts (are_plain x) (all_plain (xs ++ w ∷ ys)) k).1
-
--- ---- numbers and expressions have only plain bytes
 
 digit_plain : (b : ℕ) → 48 ≤ b → b ≤ 57 → is_plain b ≡ true
 digit_plain b h k = grind (arith, nat_tests)
@@ -85,14 +82,11 @@ spelling_plain : (level : Level) (p : Phrase) → Is level p → are_plain (spel
 spelling_plain level (numeral digits) h = digits_plain digits h.digits
 spelling_plain level (ratio num den) h =
     plain_append num (codes "/" ++ den) (digits_plain num h.0.digits) (digits_plain den h.1.digits)
-spelling_plain level (label basis words) h =
-    plain_append (letter basis) (codes "[" ++ (join_with_byte 44 words ++ codes "]")) (letter_plain basis)
-    (plain_append (join_with_byte 44 words) (codes "]") (commas_plain words h) refl)
+spelling_plain level (label basis words) h = search (rules, plain_append, letter_plain, commas_plain)
 spelling_plain level (brackets inner) h = plain_append (spelling inner) (codes ")") (spelling_plain expression inner h) refl
 spelling_plain level (minus_first inner) h = spelling_plain term inner h.1
 spelling_plain level (operation operator left right) h =
-    plain_append (spelling left) (sign operator ++ spelling right) (spelling_plain (level_of operator) left h.1)
-    (plain_append (sign operator) (spelling right) (sign_plain operator) (spelling_plain (level_after operator) right h.2))
+    search (rules, plain_append, sign_plain, (spelling_plain (level_of operator) left h.1), (spelling_plain (level_after operator) right h.2))
 
 pub expression_plain : (text : List ℕ) → BeginsExpression text → are_plain text ≡ true
 expression_plain text h =

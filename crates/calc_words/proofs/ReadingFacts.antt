@@ -22,7 +22,6 @@ use Rattle.word_laws.proofs.EntryLists.{one_command, one_offence, one_place}
 abbrev pub Clear : List Entry → Type 0
 Clear entries = are_unambiguous (forms_of entries) ≡ true
 
--- if words spell c without an error, they spell c
 freely_spells : (entries : List Entry) (words : Words) (c : Command) → SpellsWithoutOffence entries words c → SpellsCommand entries words c
 freely_spells [] words c h = h
 freely_spells (e ∷ entries) words c (inl x) = inl (record { has = x.has; says_it = x.says_it })

@@ -1,7 +1,7 @@
 -- The words of factors at the front of a list of words.
-use Rattle.std.proofs.Common.{◌≡◌, ℕ, ◌-◌, ◌≤◌, List, ◌∷◌, ◌++◌, append_assoc, map, length, length-append, refl, sym, ap, ◌∙◌, subst, arith, inl, inr}
+use Rattle.std.proofs.lemmas.Grind.{common_steps}
+use Rattle.std.proofs.Common.{◌≡◌, ℕ, ◌-◌, ◌≤◌, List, ◌∷◌, ◌++◌, append_assoc, map, length, refl, sym, ap, ◌∙◌, arith, rules}
 use Rattle.std.specs.Prelude.{codes}
-use Rattle.std.proofs.lemmas.List.{length-map}
 use Rattle.sym_model.specs.Form.{sequence, many, EachOf}
 use Rattle.sym_model.specs.WordForms.{the, partition_words, next_words, factors_words}
 use Rattle.word_laws.specs.OneReading.{continuing}
@@ -20,14 +20,8 @@ factors_wrong words ns rest e n b d =
     (stops_left next_words (many next_words) rest (length rest) refl refl
     (stops_left (the (codes "-")) partition_words rest (length rest) refl refl (the_wrong (codes "-") rest d)))
 
--- a word with which the words of factors can go on is a number or `-`
 of_piece : (t : List ℕ) → OfOne (continuing factors_words) t → IsPieceWord t
-of_piece t o = elim (o.among) as (λ m. IsPieceWord t) [
-  | inl e ↦ inr (o.spelled ∙ is_exact o.class o.written (codes "-") e)
-  | inr (inl e) ↦ inl (subst IsNumber (sym o.spelled) (is_number o.class o.written o.allowed e))
-  | inr (inr (inl e)) ↦ inl (subst IsNumber (sym o.spelled) (is_number o.class o.written o.allowed e))
-  | inr (inr (inr m)) ↦ absurd m
-]
+of_piece t o = search (rules, is_exact, is_number)
 
 pub factors_taken : (words ns after later ps rest : Words) → words ≡ ns ++ after → EachOf IsNumber ns → after ≡ codes "-" ∷ later
     → later ≡ ps ++ rest → EachOf IsPieceWord ps → BeginsOtherwise IsPieceWord rest → IsTaken factors_words (ns ++ codes "-" ∷ ps) rest words
@@ -46,23 +40,8 @@ factors_taken words ns after later ps rest e n d l p o =
 -- if the words are `piece` followed by `rest`, the number of words of `piece` is the number of all words minus that of `rest`
 pub factors_count : {A : Type 0} (f : A → List ℕ) (words rest : List A) (piece : Words) → map f words ≡ piece ++ map f rest
     → length words - length rest ≡ length piece
-factors_count f words rest piece e =
-    let k = ap length e in
-    let l = length-map words f in
-    let m = length-map rest f in
-    let n = length-append piece (map f rest) in
-    omega (arith, k, l, m, n)
+factors_count f words rest piece e = grind (arith, common_steps)
 
 pub no_more_left : {A : Type 0} (f : A → List ℕ) (words after later rest : List A) (ns ps : Words) → map f words ≡ ns ++ map f after → map f after ≡ codes "-" ∷ map f later
     → map f later ≡ ps ++ map f rest → length rest ≤ length words
-no_more_left f words after later rest ns ps e d l =
-    let a = ap length e in
-    let b = ap length d in
-    let c = ap length l in
-    let k = length-append ns (map f after) in
-    let m = length-append ps (map f rest) in
-    let w = length-map words f in
-    let u = length-map after f in
-    let v = length-map later f in
-    let x = length-map rest f in
-    omega (arith, a, b, c, k, m, w, u, v, x)
+no_more_left f words after later rest ns ps e d l = grind (arith, common_steps)

@@ -1,5 +1,5 @@
--- The test of the letters of a word, one letter after another.
-use Rattle.std.proofs.Common.{◌≡◌, ℕ, suc, ◌+◌, ◌<◌, ◌≤◌, ◌==◌, Bool, true, false, ◌||◌, List, [], ◌∷◌, ◌++◌, map, length, take, drop, get_or, drop-cons, refl, sym, ap, ◌∙◌, subst, arith, Some, None, inl, inr}
+-- The test of the letters of a word in the sense of combinatorics: a list of letters, each typed as a number, tested one after another.
+use Rattle.std.proofs.Common.{◌≡◌, ℕ, suc, ◌+◌, ◌<◌, ◌≤◌, ◌==◌, Bool, true, false, ◌||◌, List, [], ◌∷◌, ◌++◌, map, length, take, drop, get_or, drop-cons, refl, sym, ap, ◌∙◌, subst, arith, Some, None, rules}
 use Rattle.std.proofs.lemmas.Bool.{eqb-false, or_parts}
 use Rattle.std.proofs.Math.ListN.{set, length-set}
 use Rattle.std.proofs.lemmas.List.{take_more, take_more_set}
@@ -98,8 +98,6 @@ word_goes_on at ns i a v letters j h e w o =
       room = length-set letters i v ∙ j.room;
     }
 
--- ---- letters of a word without an error: they are within the limits
-
 record Fit (before ns : List ℕ) : Type 0 where
   letters : (b : ℕ) → Among b ns → (1 ≤ b) × (b ≤ greatest_letter)
   few : length before + length ns ≤ 256
@@ -107,19 +105,7 @@ record Fit (before ns : List ℕ) : Type 0 where
 letters_fit : (before : List ℕ) (k : ℕ) (ns : List ℕ) → length before ≤ 256 → offences_after letter_rule before k ns ≡ [] → Fit before ns
 letters_fit before k [] f h = record { letters = λ b m. absurd m; few = omega arith }
 letters_fit before k (a ∷ ns) f h =
-    let n = none_next letter_rule before k a ns h in
-    let y = is_outside greatest_letter a || (length before == most_letters) in
-    let p = none_append (when (is_wide a) literal) (when y range) n.0 in
-    let o = or_parts (is_outside greatest_letter a) (length before == most_letters) (none_chosen y range p.1) in
-    let more = eqb-false (length before) 256 o.1 in
-    let r = letters_fit (a ∷ before) (k + 1) ns (omega (arith, more, f)) n.1 in
-    record { letters = λ b m. by b (inside greatest_letter a o.0) r.letters m; few = (let x = r.few in omega (arith, x)) }
-  where
-    by : (b : ℕ) → (1 ≤ a) × (a ≤ greatest_letter) → ((c : ℕ) → Among c ns → (1 ≤ c) × (c ≤ greatest_letter)) → Among b (a ∷ ns) → (1 ≤ b) × (b ≤ greatest_letter)
-    by b i r (inl e) = (omega (arith, i.0, e), omega (arith, i.1, e))
-    by b i r (inr m) = r b m
+    search (rules, none_next, none_append, or_parts, none_chosen, eqb-false, inside, (letters_fit (a ∷ before) (k + 1) ns))
 
 pub written_word : (k : ℕ) (ns : List ℕ) → first_offence (offences_by letter_rule k ns) ≡ None → IsWrittenWord ns
-written_word k ns h =
-    let f = letters_fit [] k ns (omega arith) (first_none (offences_by letter_rule k ns) h) in
-    record { letters = f.letters; few = (let x = f.few in omega (arith, x)) }
+written_word k ns h = search (rules, letters_fit, first_none)

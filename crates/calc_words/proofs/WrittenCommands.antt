@@ -1,34 +1,28 @@
 -- If the words of a command have no error, the command is within its limits.
-use Rattle.std.proofs.Common.{◌≡◌, ℕ, ◌+◌, ◌-◌, ◌*◌, ◌≤◌, ◌==◌, nat_lt, Bool, true, false, cond, List, [], ◌∷◌, ◌++◌, map, length, refl, sym, ap, subst, ◌∙◌, arith, inl, inr, None}
-use Rattle.std.proofs.lemmas.Bool.{and_parts, eqb-false}
+use Rattle.std.proofs.Common.{◌≡◌, ℕ, ◌+◌, ◌-◌, ◌≤◌, ◌==◌, cond, List, [], ◌∷◌, ◌++◌, map, length, sym, ap, subst, ◌∙◌, arith, inl, inr, None, rules}
+use Rattle.std.proofs.lemmas.Bool.{eqb-false}
 use Rattle.std.proofs.lemmas.List.{length-map}
 use Rattle.sym_model.specs.Partition.{without_last_zeros}
 use Rattle.sym_model.specs.Expansion.{Basis}
-use Rattle.sym_model.specs.Expression.{degree}
-use Rattle.sym_model.specs.Phrase.{tree, spelling}
 use Rattle.sym_model.specs.PrintedBlock.{decimal_value}
-use Rattle.sym_model.specs.Form.{Written, words_of, EachOf}
+use Rattle.sym_model.specs.Form.{Written, EachOf}
 use Rattle.sym_model.specs.Command.{Command, quantum}
-use Rattle.sym_model.specs.CommandOffence.{Offence, first_offence, most_factors, part_offences, factor_offences, most_doubled, permutation_offences, permutation_offences_within, offences_by, rows_rule, lines_rule, seed_rule, judged_against, rows_in, offences_in_word}
-use Rattle.sym_model.specs.TableauList.{is_lattice_tableau}
-use Rattle.sym_model.specs.ExpressionOffence.{range, shape, degree_limit, plethysm_degree_limit, offences_within, inner_offences, sign_offences}
-use Rattle.sym_model.specs.GoodTableau.{column_reading, is_among, lattice_readings}
-use Rattle.sym_model.specs.Polynomial.{same}
-use Rattle.sym_model.specs.Schur.{row_lengths}
+use Rattle.sym_model.specs.CommandOffence.{Offence, first_offence, most_factors, part_offences, factor_offences, most_doubled, permutation_offences, permutation_offences_within, offences_by, rows_rule, judged_against}
+use Rattle.sym_model.specs.ExpressionOffence.{range}
 use Rattle.sym_model.specs.Entry.{Entry, SpellsFreely, SpellsWithoutOffence}
-use Rattle.sym_model.specs.WordForms.{optional, rows_words, form_words, factors_words, from_words, tableau_rows, numbers, factors, factor_numbers, row_limit, row_limit_offences, partition}
-use Rattle.sym_model.specs.Grammar.{entries_of, two_partitions, option_words, mult_entry, skew_entry, coef_entry, coprod_entry, tab_entry, last_reading, not_listed, from_entries, quantum_entry, fusion_entry, schubert_entry, schubmult_entry, expand_entry, work_entry, rsk_entry, growth_entry, plethysm_entry, dschubmult_entry, stanley_entry}
+use Rattle.sym_model.specs.WordForms.{optional, rows_words, factors_words, from_words, numbers, factors, factor_numbers, row_limit, row_limit_offences, partition}
+use Rattle.sym_model.specs.Grammar.{entries_of, two_partitions, mult_entry, skew_entry, coef_entry, coprod_entry, tab_entry, last_reading, not_listed, from_entries, quantum_entry, fusion_entry, schubert_entry, schubmult_entry, expand_entry, work_entry, rsk_entry, growth_entry, plethysm_entry, dschubmult_entry, stanley_entry}
 use Rattle.word_laws.specs.Words.{Words}
 use Rattle.word_laws.proofs.FirstOffences.{first_none}
 use Rattle.calc_words.specs.WrittenLimits.{IsWritten, KeepsLimits, IsInList, IsRowLimit, AreWrittenFactors}
 use Rattle.calc_words.proofs.WrittenLetters.{letters_within, written_letters}
 use Rattle.calc_words.proofs.WordJudging.{written_word}
 use Rattle.calc_words.proofs.WrittenExpressions.{no_signs}
-use Rattle.calc_words.proofs.WrittenLists.{written, two_written, row_number, lines_number, seed_number}
+use Rattle.calc_words.proofs.WrittenLists.{written, two_written, row_number}
 use Rattle.word_laws.proofs.NoOffences.{none_append, none_first, none_judged, not_past, none_in_word, within_limit, within_degree}
 use Rattle.sym_model.proofs.Lists.{none_chosen}
 
--- each command that words of the form of the entry e spell without an error is within the limits (`KeepsLimits`)
+-- if words of the form of the entry e have no error, the command that they spell is within the limits (`KeepsLimits`)
 abbrev pub Keeps : Entry → Type 0
 Keeps e = (x : Written e.form) → first_offence (e.offends x) ≡ None → KeepsLimits (e.says x)
 
@@ -39,8 +33,6 @@ limit_kept : (k : ℕ) (x : Written (optional rows_words)) → first_offence (ro
 limit_kept k (inl x) h = tt
 limit_kept k (inr x) h = row_number (k + 1) (decimal_value x.1) h
 
--- let at most eight factors, `count`, precede the factors ns: if ns have no error, there are at most eight factors in all, and each partition of ns
--- is within the limits
 factors_keep : (count k : ℕ) (ns : List (List ℕ)) → count ≤ 8 → factor_offences count k ns ≡ []
     → (count + length ns ≤ 8) × EachOf IsWritten (map without_last_zeros ns)
 factors_keep count k [] c h = (omega arith, tt)
@@ -62,22 +54,13 @@ factors_written k (first, (second, others)) h =
     record { some = omega arith; few = omega (arith, few, l); written = r.1 }
 
 mult_keeps : Keeps mult_entry
-mult_keeps (name, (limit, (form, x))) h =
-    let p = none_first (row_limit_offences 1 limit) (factor_offences 0 (1 + option_words limit form) (factor_numbers x)) h in
-    (limit_kept 1 limit p.0, factors_written (1 + option_words limit form) x p.1)
+mult_keeps (name, (limit, (form, x))) h = search (rules, none_first, limit_kept, factors_written)
 
 skew_keeps : Keeps skew_entry
-skew_keeps (name, (limit, (form, (outer, (slash, inner))))) h =
-    let k = 1 + option_words limit form in
-    let p = none_first (row_limit_offences 1 limit) (two_partitions k outer inner) h in
-    let w = two_written k outer inner p.1 in
-    (limit_kept 1 limit p.0, w.0, w.1)
+skew_keeps (name, (limit, (form, (outer, (slash, inner))))) h = search (rules, none_first, two_written, limit_kept)
 
 coef_keeps : Keeps coef_entry
-coef_keeps (name, (outer, (minus, (left, (again, right))))) h =
-    let p = none_first (part_offences 1 (numbers outer)) (two_partitions (2 + length outer) left right) h in
-    let w = two_written (2 + length outer) left right p.1 in
-    (written 1 (numbers outer) p.0, w.0, w.1)
+coef_keeps (name, (outer, (minus, (left, (again, right))))) h = search (rules, none_first, two_written, written)
 
 coprod_keeps : Keeps coprod_entry
 coprod_keeps (name, parts) h = written 1 (numbers parts) h
@@ -85,10 +68,7 @@ coprod_keeps (name, parts) h = written 1 (numbers parts) h
 reduction_keeps : (rows bound : List ℕ) (x : Written factors_words)
     → first_offence ((offences_by rows_rule 1 (decimal_value rows ∷ []) ++ offences_by rows_rule 2 (decimal_value bound ∷ [])) ++ factor_offences 0 3 (factor_numbers x)) ≡ None
     → KeepsLimits (quantum (decimal_value rows) (decimal_value bound) (factors x))
-reduction_keeps rows bound x h =
-    let p = none_first (offences_by rows_rule 1 (decimal_value rows ∷ []) ++ offences_by rows_rule 2 (decimal_value bound ∷ [])) (factor_offences 0 3 (factor_numbers x)) h in
-    let q = none_first (offences_by rows_rule 1 (decimal_value rows ∷ [])) (offences_by rows_rule 2 (decimal_value bound ∷ [])) p.0 in
-    (row_number 1 (decimal_value rows) q.0, row_number 2 (decimal_value bound) q.1, factors_written 3 x p.1)
+reduction_keeps rows bound x h = search (rules, none_first, row_number, factors_written)
 
 quantum_keeps : Keeps quantum_entry
 quantum_keeps (name, (rows, (columns, x))) h = reduction_keeps rows columns x h
@@ -96,18 +76,10 @@ quantum_keeps (name, (rows, (columns, x))) h = reduction_keeps rows columns x h
 fusion_keeps : Keeps fusion_entry
 fusion_keeps (name, (rows, (level, x))) h = reduction_keeps rows level x h
 
--- if there is a tableau after `-from`, and it has no error at the word `-from`, it is a lattice tableau of outer/inner
 last_kept : (k : ℕ) (outer inner : List ℕ) (after : Written (optional from_words)) → first_offence (not_listed k outer inner after) ≡ None
     → IsInList outer inner (last_reading outer inner after)
 last_kept k outer inner (inl x) h = tt
-last_kept k outer inner (inr (name, x)) h =
-    let rows = rows_in outer (tableau_rows x) in
-    (and_parts (same (map length rows) (row_lengths outer inner)) (is_among (column_reading outer inner rows) (lattice_readings outer inner))
-    (by (is_lattice_tableau outer inner (rows_in outer (tableau_rows x))) h)).1
-  where
-    by : (b : Bool) → first_offence (cond b [] ((k, 0, shape) ∷ [])) ≡ None → b ≡ true
-    by true h = refl
-    by false h = cc
+last_kept k outer inner (inr (name, x)) h = search rules
 
 tab_keeps : Keeps tab_entry
 tab_keeps (name, (outer, (slash, (inner, after)))) h =
@@ -120,26 +92,11 @@ tab_keeps (name, (outer, (slash, (inner, after)))) h =
     (w.0, w.1, last_kept k (partition outer) (partition inner) after (ap first_offence (sym (none_judged lists last q.0)) ∙ q.1))
 
 expand_keeps : (bases : List Basis) → Keeps (expand_entry bases)
-expand_keeps bases (name, (form, (basis, phrase))) h =
-    let k = 2 + length (words_of (optional form_words) form) in
-    within_degree k (degree_limit basis) phrase h
+expand_keeps bases (name, (form, (basis, phrase))) h = search (rules, within_degree)
 
--- in a plethysm without an error, the degrees of the expressions and their product are within their limits, and the
--- inner expression has no minus and no fraction
 plethysm_keeps : (bases : List Basis) → Keeps (plethysm_entry bases)
 plethysm_keeps bases (name, (basis, (outer, inner))) h =
-    let first = offences_in_word 2 (offences_within plethysm_degree_limit outer) in
-    let second = offences_in_word 3 (inner_offences inner) in
-    let past : List Offence = cond (nat_lt plethysm_degree_limit (degree (tree outer) * degree (tree inner))) ((3, length (spelling inner), range) ∷ []) [] in
-    let p = none_first (first ++ second) (judged_against first past) h in
-    let q = none_first first second p.0 in
-    let r = none_append (offences_within plethysm_degree_limit inner) (sign_offences 0 inner) (none_in_word 3 (inner_offences inner) q.1) in
-    let s = first_none past (ap first_offence (sym (none_judged first past q.0)) ∙ p.1) in (
-      within_degree 2 plethysm_degree_limit outer q.0,
-      within_limit plethysm_degree_limit inner r.0,
-      not_past plethysm_degree_limit (degree (tree outer) * degree (tree inner)) (3, length (spelling inner), range) s,
-      no_signs 0 inner r.1,
-    )
+    search (rules, none_first, none_append, none_in_word, first_none, none_judged, within_degree, within_limit, not_past, no_signs)
 
 schubert_keeps : Keeps schubert_entry
 schubert_keeps (name, (t, ts)) h = written_letters 1 (numbers (t ∷ ts)) (omega arith) h
@@ -173,10 +130,7 @@ rsk_keeps : Keeps rsk_entry
 rsk_keeps (name, w) h = written_word 1 (numbers w) h
 
 work_keeps : Keeps work_entry
-work_keeps (name, (lines, seed)) h =
-    let p = none_first (offences_by lines_rule 1 (decimal_value lines ∷ [])) (offences_by seed_rule 2 (decimal_value seed ∷ [])) h in
-    let l = lines_number 1 (decimal_value lines) p.0 in
-    (l.0, l.1, seed_number 2 (decimal_value seed) p.1)
+work_keeps (name, (lines, seed)) h = search rules
 
 -- if each entry of a list has the property `Keeps`, a command that words spell without an error is within the limits
 pub some_keeps : (entries : List Entry) → EachOf Keeps entries → (words : Words) (c : Command) → SpellsWithoutOffence entries words c → KeepsLimits c

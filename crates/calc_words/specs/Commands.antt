@@ -1,4 +1,5 @@
--- The command of the definitions (`PlainCommand`) that a command of the program stands for.
+-- A command of the program (`Command`) corresponds to a command of the definitions (`PlainCommand`), in which partitions and permutations are lists
+-- of numbers.
 use Rattle.std.specs.Prelude.{◌≡◌}
 use Rattle.sym_model.specs.Command.{Command as PlainCommand, mult, skew, coef, coprod, quantum}
 use Rattle.sym_model.specs.Command.{fusion, expand, schubert, schubmult, tab, rsk, unrsk, rect}
@@ -13,7 +14,7 @@ use Rattle.calc_words.specs.declared.command.Command.TheVariants.{Unrsk, Rect, G
 use Rattle.calc_words.specs.declared.command.Command.TheVariants.{Dschubmult, Stanley, Batch}
 use Rattle.calc_words.specs.declared.command.Command.TheVariants.{Work}
 
--- the command of the definitions that a command of the program stands for
+-- the command of the definitions that corresponds to a command of the program
 abbrev pub command_of : Command → PlainCommand
 command_of (Mult rows one_line factors) = mult rows one_line factors
 command_of (Skew rows one_line outer inner) = skew rows one_line outer inner
@@ -42,6 +43,6 @@ abbrev pub IsSound : Command → Type 0
 IsSound (Unrsk p q) = IsPair p q
 IsSound _ = Unit {0}
 
--- `command` stands for the command `plain` of the definitions, and is sound
+-- `command` corresponds to the command `plain` of the definitions, and is sound (`IsSound`)
 abbrev pub StandsFor : PlainCommand → Command → Type 0
 StandsFor plain command = (command_of command ≡ plain) × IsSound command

@@ -5,13 +5,13 @@ use Rattle.sym_model.specs.Grammar.{all_bases}
 use Rattle.word_laws.proofs.Cuts.{IsTaken}
 pub use Rattle.word_laws.proofs.Cuts.{StopsIn, IsByte, IsWrongAt}
 
--- the first `count` words have the form f, and the words of this form end there (`IsTaken`)
+-- the first `count` words have the form f, and a reader of words of the form f stops after them (`IsTaken`)
 abbrev pub Takes : Form → List (List ℕ) → ℕ → Type 0
 Takes f words count =
     (piece : List (List ℕ)) × (rest : List (List ℕ)) × IsTaken f piece rest words
     × (count ≡ length piece)
 
--- the words are words of the form f followed by `rest`, and the words of this form end before `rest` (`IsTaken`)
+-- the words are words of the form f followed by `rest`, and a reader of words of the form f stops before `rest` (`IsTaken`)
 abbrev pub StandsBehind : Form → List (List ℕ) → List (List ℕ) → Type 0
 StandsBehind f rest words = (piece : List (List ℕ)) × IsTaken f piece rest words
 

@@ -4,8 +4,8 @@ use Rattle.sym_model.specs.Sum.{Among}
 use Rattle.sym_model.specs.Form.{Has, Awaits}
 use Rattle.sym_model.specs.Entry.{Entry}
 
--- words that have the form of the command e begin with the name of e, and so do words after which, in this form, the next word may be an expression
--- (`Awaits`)
+-- Words that have the form of the command e begin with the name of e. Words after which an expression may be the next word of this form (`Awaits`)
+-- also begin with the name of e.
 pub record Named (e : Entry) : Type 0 where
   pub spells : (words : List (List ℕ)) → Has e.form words
       → (rest : List (List ℕ)) × (words ≡ e.name ∷ rest)

@@ -1,4 +1,4 @@
--- The pair of tableaux of a sound command `unrsk`.
+-- The pairs of an insertion tableau and a recording tableau from which the command `unrsk` finds a word.
 use Rattle.std.specs.Prelude.{◌≡◌, ◌≤◌, [], length}
 use Rattle.sym_model.specs.CommandOffence.{most_letters}
 use Rattle.sym_model.specs.Schur.{letters_of}

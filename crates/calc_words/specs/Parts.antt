@@ -144,9 +144,9 @@ AreFine (p ∷ q ∷ ps) k x =
     (first_offence (part_offends p k x.0) ≡ None)
     × AreFine (q ∷ ps) (k + length (words_of (form_of_part p) x.0)) x.1
 
--- The parts before part i, counted from 0, have been read, and part i begins at word `at`. The first error of syntax in the words from `at` on, for
--- the parts from i on, is that of all words after the name. A list of places that has the entries 0 to i of `places`, and divides the words from `at`
--- on into the parts from i on, divides all words after the name into the parts (`IsCut`).
+-- The parts before part i, counted from 0, have been read, and part i begins at word `at`. The first error of syntax in the words from `at` on, read
+-- as the parts from i on, is also the first error of syntax in all words after the name, read as all parts. If a list of places agrees with `places`
+-- in the entries 0 to i and divides the words from `at` on into the parts from i on, it divides all words after the name into the parts (`IsCut`).
 pub record IsCutTo (parts : List Part) (i at : ℕ) (places : List ℕ)
     (words : List (List ℕ)) : Type 0 where
   pub within : at ≤ length words
@@ -171,7 +171,7 @@ pub record IsUnread (name : List ℕ) (ps : List Part) (places : List ℕ)
   pub wrong : (byte : ℕ) → IsWrongByte text byte → (e : Entry) → e.form ≡ command_form name ps
       → IsSyntaxPlace (e ∷ []) words at byte
 
--- the words are the name of a command and its parts (`AreCut`); or this is known but for the last word, which has not been tested: they are so if it
--- spells an expression (`IsUnread`)
+-- the words are the name of a command and its parts (`AreCut`); or the last word has not been tested, and the words are the name and the parts if the
+-- last word spells an expression (`IsUnread`)
 abbrev pub AreCutUnread : List ℕ → List Part → List ℕ → List (List ℕ) → Type 0
 AreCutUnread name ps places words = AreCut name ps places words ⊎ IsUnread name ps places words

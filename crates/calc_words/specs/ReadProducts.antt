@@ -1,4 +1,4 @@
--- The error of a ninth factor.
+-- The error of a ninth factor: a product has at most eight factors.
 use Rattle.std.specs.Prelude.{ℕ, ◌==◌, cond, List, [], ◌∷◌}
 use Rattle.sym_model.specs.CommandOffence.{Offence, most_factors}
 use Rattle.sym_model.specs.ExpressionOffence.{range}

@@ -21,7 +21,8 @@ IsRefusal entries words (Range at) = HasFirstOffence entries words (Some (at.wor
 IsRefusal entries words (Shape at) = HasFirstOffence entries words (Some (at.word, at.byte, shape))
 IsRefusal entries words NoMemory = Unit {0}
 
--- the result of reading the words is correct: a sound command (`IsSound`) that they spell without an error, or a correct refusal (`IsRefusal`)
+-- the result of reading the words is correct: a command that they spell without an error and that is sound (the tableaux of `unrsk` are a pair,
+-- `IsSound`), or a correct refusal (`IsRefusal`)
 abbrev pub IsRead : List Entry → List (List ℕ) → Result Command WordsFault → Type 0
 IsRead entries words (Ok command) =
     SpellsWithoutOffence entries words (command_of command) × IsSound command
@@ -47,7 +48,7 @@ IsFaultOf o (Range at) = o ≡ (at.word, at.byte, range)
 IsFaultOf o (Shape at) = o ≡ (at.word, at.byte, shape)
 IsFaultOf o _ = ⊥
 
--- the result is a command that stands for c, unless memory runs out
+-- the result is a command that corresponds to the command c of the definitions, unless memory runs out
 abbrev pub Accepts : PlainCommand → Result Command WordsFault → Type 0
 Accepts c (Ok command) = command_of command ≡ c
 Accepts c (Err fault) = fault ≡ NoMemory

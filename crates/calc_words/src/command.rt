@@ -107,8 +107,8 @@ pub enum Command {
     },
     /// The batch: each line of the input is run as a command.
     Batch,
-    /// The numbers of lines, terms and bytes in the answers to `lines` commands that are generated
-    /// from `seed`.
+    /// The sums over the answers or refusals of the first `lines` command lines that are generated
+    /// from `seed`: their number, and the numbers of their terms and bytes.
     Work {
         lines: u16,
         seed: u32,

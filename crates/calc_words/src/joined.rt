@@ -6,12 +6,16 @@ ghost use Rattle.sym_model.specs.Entry.{Entry, HasFirstOffence, SpellsWithoutOff
 ghost use Rattle.sym_model.specs.SyntaxPlace.{IsSyntaxPlace};
 ghost use Rattle.calc_words.specs.Joined.{Joined};
 
-/// Let e be in a list of commands; let no other command of the list have the name of e, and let the
-/// words of each command begin with its name (`Joined`). Then words that spell a command without an
-/// error by e spell it without an error by the list. If words have the form of e, their first error
-/// by e, if there is one, is also their first error by the list. If words begin with the name of e,
-/// the place of their first error of syntax by e is also that by the list. A law: it does nothing
-/// when it runs.
+/// Let e be a command in a list of commands. Let no other command of the list have the name of e,
+/// and let the words of each command of the list begin with its name (`Joined`). Compare the
+/// reading of words as e with the reading of them as any command of the list:
+/// - If the words spell a command without an error as e, they also spell it without an error as a
+///   command of the list.
+/// - If they have the form of e, their first error as e is also their first error for the list.
+/// - If they begin with the name of e, the place of their first error of syntax as e is also that
+///   for the list.
+///
+/// A law: it does nothing when it runs.
 pub fn joined_commands_law()
     ensures says { (e : Entry) (entries : List Entry) → Joined e entries
         → (words : List (List ℕ)) (command : Command)

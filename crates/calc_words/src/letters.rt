@@ -32,8 +32,8 @@ fn word_of(alloc: Global, letters: &[u16]) -> Result<Word, WordsFault>
     Ok(Word::from_slice(alloc, letters)?)
 }
 
-/// Reads words as the letters of a word, or returns the first error; the first of the words is word
-/// `at` of the command.
+/// Reads words as the letters of the word of `rsk`, one letter from each of them, or returns the
+/// first error; the first of these words is word `at` of the command.
 pub(crate) fn read_letters(alloc: Global, at: u64, words: &[String]) -> Result<Word, WordsFault>
     requires { at + length words.now < 2 ^ 64 }
     ensures { IsJudged (λ w. w ≡ numbers_of (map string_bytes words.now))

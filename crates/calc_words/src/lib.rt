@@ -10,8 +10,8 @@
 //! different names. `written_limits_law`: the values of a command whose words have no error are
 //! within the limits.
 //!
-//! `Command` is a command of the program, and `command_of` the command of the definitions that it
-//! stands for. Each command but `unrsk` is sound (`IsSound`); `unrsk` is sound if its two tableaux
+//! `Command` is a command of the program, and `command_of` the same command as the definitions
+//! describe it. Each command but `unrsk` is sound (`IsSound`); `unrsk` is sound if its two tableaux
 //! have the same straight shape, the second is standard, and there are at most 256 cells.
 #![tactic(auto)]
 

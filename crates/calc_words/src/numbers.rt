@@ -1,4 +1,4 @@
-//! Number words and their values.
+//! Number words, which are words of one or more ASCII digits, and their values.
 ghost use Rattle.std.specs.Prelude.{◌≡◌};
 ghost use Rattle.sym_model.specs.PrintedBlock.{decimal_value};
 ghost use Rattle.sym_model.specs.Form.{is_number_word, is_digit};

@@ -1,4 +1,5 @@
-//! The values that the words of each part of a command denote, or their first error.
+//! The values that the words of each part of a command denote, or their first error. A number word
+//! is a word of decimal digits.
 ghost use Rattle.std.specs.Prelude.{◌≡◌, ◌≤◌, ◌<◌, ◌+◌, ◌^◌, [], ◌∷◌, ℕ, List, map, length};
 ghost use Rattle.std.specs.Prelude.{string_bytes, codes, slice_get, Some};
 ghost use Rattle.sym_model.specs.CommandOffence.{first_offence, offences_by, rows_rule};
@@ -36,10 +37,10 @@ use std::alloc::Global;
 /// The greatest number of rows or columns, and the greatest level.
 const MOST_ROWS: u128 = 64;
 
-/// The greatest number of lines of `work`.
+/// The greatest number of lines that the command `work` accepts.
 const MOST_LINES: u128 = 10_000;
 
-/// The greatest seed of `work`.
+/// The greatest seed that the command `work` accepts.
 const GREATEST_SEED: u128 = 65_536;
 
 /// Whether the words are the option `-m`; they must be this option or no word.
@@ -88,8 +89,9 @@ fn is_outside(value: u128) -> bool
     value == 0 || value > MOST_ROWS
 }
 
-/// Returns `number`, which is a number of rows or columns or a level, or its error. It is the word
-/// `word` of the command, and `None` if it is over 2^127 - 1.
+/// Tests a number of rows or columns, or a level, which is word `word` of the command: returns the
+/// number if it is from 1 to 64, and otherwise its error. `number` is `None` for a number over
+/// 2^127 - 1.
 fn rows_number(word: u64, number: Option<u128>) -> Result<u16, WordsFault>
     ensures { (a : ℕ) → number ≡ narrow a
         → IsJudged (λ n. n ≡ a) (first_offence (offences_by rows_rule word (a ∷ []))) result }
@@ -176,7 +178,8 @@ pub(crate) fn shape_of(alloc: Global, at: u64, words: &[String]) -> Result<Parti
     read_partition(alloc, at, words)
 }
 
-/// Reads words as the letters of a word; the first of them is word `at` of the command.
+/// Reads words as the letters of the word of `rsk`, one letter from each of them; the first of
+/// these words is word `at` of the command.
 pub(crate) fn word_of(alloc: Global, at: u64, words: &[String]) -> Result<Word, WordsFault>
     requires { at + length words.now + 1 < 2 ^ 64 }
     ensures { (k : ℕ) (x : Written partition_words)

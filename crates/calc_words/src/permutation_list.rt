@@ -15,7 +15,8 @@ use calc_base::WordsFault;
 use perm_codes::Perm;
 use std::alloc::Global;
 
-/// The greatest number of letters of a written permutation, and its greatest letter.
+/// The greatest number of letters of a permutation, and its greatest letter, except in a product of
+/// double Schubert polynomials.
 pub(crate) const MOST_PERMUTED: usize = 16;
 
 /// The greatest number of letters of a permutation in a product of double Schubert polynomials, and

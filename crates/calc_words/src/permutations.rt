@@ -15,9 +15,9 @@ use std::alloc::Global;
 /// Reads the words of `schubert`: that word and the letters of a permutation.
 ///
 /// Words that do not have this form are refused as `Syntax`, at the place of the first error of
-/// syntax. Otherwise the first error of the letters is refused: one over 2^127 - 1 as `Literal`;
-/// one over 16, or the 17th, as `Range`; one that is 0, greater than the number of letters, or
-/// equal to an earlier one, as `Shape`.
+/// syntax. Otherwise the first error is refused: a letter over 2^127 - 1 as `Literal`; a letter
+/// over 16, and the 17th letter, as `Range`; a letter that is 0, greater than the number of
+/// letters, or equal to an earlier letter, as `Shape`.
 pub fn read_schubert(alloc: Global, words: &[String]) -> Result<Command, WordsFault>
     ensures { IsRead (schubert_entry ∷ []) (map string_bytes words.now) result }
 {
@@ -30,9 +30,9 @@ pub fn read_schubert(alloc: Global, words: &[String]) -> Result<Command, WordsFa
 /// Reads the words of `growth`: that word and the letters of a permutation.
 ///
 /// Words that do not have this form are refused as `Syntax`, at the place of the first error of
-/// syntax. Otherwise the first error is refused: a letter over 2^127 - 1 as `Literal`; one over 16,
-/// or the 17th of a permutation, as `Range`; one that is 0, greater than the number of letters of
-/// its permutation, or equal to an earlier one of it, as `Shape`.
+/// syntax. Otherwise the first error is refused: a letter over 2^127 - 1 as `Literal`; a letter
+/// over 16, and the 17th letter, as `Range`; a letter that is 0, greater than the number of
+/// letters, or equal to an earlier letter, as `Shape`.
 pub fn read_growth(alloc: Global, words: &[String]) -> Result<Command, WordsFault>
     ensures { IsRead (growth_entry ∷ []) (map string_bytes words.now) result }
 {
@@ -45,9 +45,10 @@ pub fn read_growth(alloc: Global, words: &[String]) -> Result<Command, WordsFaul
 /// Reads the words of `schubmult`: that word and two permutations with `-` between them.
 ///
 /// Words that do not have this form are refused as `Syntax`, at the place of the first error of
-/// syntax. Otherwise the first error is refused: a letter over 2^127 - 1 as `Literal`; one over 16,
-/// or the 17th of a permutation, as `Range`; one that is 0, greater than the number of letters of
-/// its permutation, or equal to an earlier one of it, as `Shape`.
+/// syntax. Otherwise the first error is refused: a letter over 2^127 - 1 as `Literal`; a letter
+/// over 16, and the 17th letter of a permutation, as `Range`; a letter that is 0, greater than the
+/// number of letters of its permutation, or equal to an earlier letter of this permutation, as
+/// `Shape`.
 pub fn read_schubmult(alloc: Global, words: &[String]) -> Result<Command, WordsFault>
     ensures { IsRead (schubmult_entry ∷ []) (map string_bytes words.now) result }
 {
@@ -63,9 +64,10 @@ pub fn read_schubmult(alloc: Global, words: &[String]) -> Result<Command, WordsF
 /// Reads the words of `dschubmult`: that word and two permutations with `-` between them.
 ///
 /// Words that do not have this form are refused as `Syntax`, at the place of the first error of
-/// syntax. Otherwise the first error is refused: a letter over 2^127 - 1 as `Literal`; one over 8,
-/// or the ninth of a permutation, as `Range`; one that is 0, greater than the number of letters of
-/// its permutation, or equal to an earlier one of it, as `Shape`.
+/// syntax. Otherwise the first error is refused: a letter over 2^127 - 1 as `Literal`; a letter
+/// over 8, and the ninth letter of a permutation, as `Range`; a letter that is 0, greater than the
+/// number of letters of its permutation, or equal to an earlier letter of this permutation, as
+/// `Shape`.
 pub fn read_dschubmult(alloc: Global, words: &[String]) -> Result<Command, WordsFault>
     ensures { IsRead (dschubmult_entry ∷ []) (map string_bytes words.now) result }
 {

@@ -1,5 +1,5 @@
-//! Tests of the first words of a list: a given word, a number, the letter of a basis, or a run of
-//! numbers.
+//! Tests of the first words of a list: a given word, a number word (a word of decimal digits), the
+//! letter of a basis, or a run of number words.
 ghost use Rattle.std.specs.Prelude.{◌≡◌, false, ◌++◌, ◌∷◌, map, string_bytes, MatchOption};
 ghost use Rattle.sym_model.specs.Form.{EachOf, is_letter_of};
 ghost use Rattle.sym_model.specs.Grammar.{all_bases};

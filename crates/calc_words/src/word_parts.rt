@@ -1,5 +1,5 @@
-//! The parts of the words of commands, and for each part the number of words at the front of a list
-//! that belong to it.
+//! The parts that the words of a command are divided into, and for each part the number of words at
+//! the front of a list that belong to it.
 ghost use Rattle.std.specs.Prelude.{ℕ, ◌≡◌, ◌++◌, ◌<◌, map, length, string_bytes, IfOk, IfErr};
 ghost use Rattle.std.specs.Prelude.{IsTrue, ◌↔◌};
 ghost use Rattle.sym_model.specs.Form.{EachOf, word, number, target, formula};
@@ -31,9 +31,9 @@ pub enum Part {
     MaybeRows,
     /// A number of rows or columns, or a level, in one word.
     Bound,
-    /// The number of lines of `work`.
+    /// The number of lines for the command `work`.
     Lines,
-    /// The seed of `work`.
+    /// The seed for the command `work`.
     Seed,
     /// The numbers of a partition; there may be none.
     Shape,
@@ -198,8 +198,8 @@ fn behind_row(words: &[String]) -> Result<&[String], usize>
 }
 
 /// The number of words at the front that are the rows of a tableau. The error is the number of
-/// words from the first wrong word to the end. This function is not inlined, so that `taken` stays
-/// small for the other parts.
+/// words from the first wrong word to the end. This function is not inlined, so that its caller
+/// `taken`, which is called for the parts of all kinds, stays small.
 #[inline(never)]
 fn tableau(words: &[String]) -> Result<usize, usize>
     ensures ok { IfOk result (λ n. Takes tableau_words (map string_bytes words.now) n) }

@@ -1,4 +1,4 @@
--- The values of results that are checked integers of 128 bits.
+-- Results of checked operations on integers of 128 bits: the exact integer if it fits in 128 bits, and otherwise None or an error.
 use Rattle.std.proofs.Common.{◌≡◌, ℕ, ◌%◌, ◌^◌, ◌≤◌, Bool, true, false, sym, ap, ◌∙◌, refl, subst, arith, ℤ, neg_ℤ, ◌*ℤ◌}
 use Rattle.std.proofs.lemmas.Int.{ints}
 use Rattle.std.specs.Prelude.{Option, Some, None, Result, MatchOption, MatchResult, nat_abs}
@@ -28,7 +28,7 @@ checked-answers {E} z o e r is answer =
     by None h = h
     by (Some w) h = h
 
--- for odd m, -z as a checked integer of 128 bits is (-1)^m·z, or it does not exist and |z| ≥ 2^127
+-- for odd m: if -z fits in 128 bits, it is (-1)^m·z; otherwise |z| ≥ 2^127
 pub negated_number : (m : ℕ) (z : ℤ) (o : Option ℤ) → o ≡ checked_i128 (neg_ℤ z) → (m % 2 ≡ 0 → ⊥) → MatchOption o (2 ^ 127 ≤ nat_abs z) (λ v. v ≡ minus_one_to m *ℤ z)
 negated_number m z o h n = by o (subst (λ p. MatchOption p (2 ^ 127 ≤ nat_abs (neg_ℤ z)) (λ w. w ≡ neg_ℤ z)) (sym h) (checked-tells (neg_ℤ z)))
   where

@@ -61,10 +61,8 @@ Balances-difference left right total e = record {
   to_left = λ d p q. divides_sum d total right left (omega (arith, ints)) p q;
 }
 
--- ---- common divisors of the numerator that the sum of two fractions has over their least common denominator, and of this denominator
+-- ---- common divisors of the least common denominator of two fractions and the numerator of their sum
 
--- let left = n·v and right = m·u, with u a divisor of den, n coprime to den, and u coprime to v. If d is a divisor of
--- u that divides left in case it divides right, then d divides 1.
 half : (n m den u v left right : ℕ) → IsGcd n den 1 → u ∣ den → IsGcd u v 1 → left ≡ n * v → right ≡ m * u
     → (d : ℕ) → d ∣ u → (d ∣ right → d ∣ left) → d ∣ 1
 half n m den u v left right lowest whole apart l r d p balances =
@@ -103,8 +101,8 @@ divisor_divides a b some =
     let g = greatest_common_divisor a.1 b.1 in
     dvd_trans g (IsGcd-greatest a.1 b.1).0 (dvd-mul_right a.1 (b.1 / g))
 
--- if `factor` divides den, and each common divisor of |n| and den divides `factor`, then a greatest common divisor g
--- of |n| and `factor` is one of |n| and den
+-- if `factor` divides den, and each common divisor of |n| and den divides `factor`, then a greatest common divisor of |n|
+-- and `factor` is also a greatest common divisor of |n| and den
 pub IsGcd-by_factor : (n : ℤ) (size den factor g : ℕ) → size ≡ unsigned_abs n → factor ∣ den
     → ((d : ℕ) → d ∣ unsigned_abs n → d ∣ den → d ∣ factor) → IsGcd size factor g → IsGcd size den g
 IsGcd-by_factor n size den factor g e h common is =

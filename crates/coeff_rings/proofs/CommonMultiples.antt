@@ -59,7 +59,6 @@ pub lcm-at_least_second : (d k : ℕ) → 0 < d → 0 < k → k ≤ lcm d k
 lcm-at_least_second d k hd hk =
     let p = parts_of d k hd hk in omega (arith, times-more k (d / gcd d k) p.first_positive)
 
--- if a < 2^127, the conversion of a/g to an integer of 128 bits with a sign does not change it
 cast_quotient : (a g : ℕ) → a < 2 ^ 127 → to_z w128 (a / g) ≡ pos (a / g)
 cast_quotient a g h = to_z_pos w128 (a / g) (let l = div-le_self a g in omega arith)
 
@@ -75,7 +74,6 @@ common_denominator-is a b g den p h q k e d l =
       cast_quotient a g h ∙ ap pos (ap (λ n. a / n) e ∙ sym (lcm-over_second a b p q)),
     )
 
--- if n < 2^127, the conversion of n to an unsigned number of 128 bits and back to one with a sign does not change it
 small_again : (z : ℤ) (n : ℕ) → z ≡ pos n → n < 2 ^ 127 → to_z w128 (of_z w128 z) ≡ z
 small_again z n e h = to_z-of_z (subst (FitsSigned w128) (sym e) (fits n h))
   where

@@ -1,4 +1,5 @@
--- The results of the functions of `Frac`, derived from the results of the functions that they call.
+-- `Frac` is the type of the fractions whose numerators and denominators fit in 128 bits. Here the results of its functions
+-- are derived from the results of the functions that they call.
 use Rattle.std.proofs.Common.{◌≡◌, ℕ, ◌*◌, ◌/◌, ◌<◌, ◌^◌, sym, refl, ap, ◌∙◌, subst, ℤ, pos, ◌+ℤ◌, ◌-ℤ◌, ◌*ℤ◌, unsigned_abs, Bool, true, false, FitsSigned, Option, Some, None}
 use Rattle.std.specs.Int.{w128, IsGcd}
 use native.Mathlib.Nat.{dvd_refl, div_self, mul-one}
@@ -18,9 +19,9 @@ sum_answers_fraction-from a b answer h k e = subst (AnswersSum (λ r. r) a b) (s
 pub difference_answers_fraction-from : (a b : Fraction) (answer : Option Fraction) → IsFraction a → IsFraction b → answer ≡ checked_fraction_difference a b → AnswersDifference (λ r. r) a b answer
 difference_answers_fraction-from a b answer h k e = subst (AnswersDifference (λ r. r) a b) (sym e) (difference_answers_fraction a b h k)
 
--- let D be the least common denominator of a and b, and let D, `total` and the numerators of a and b over D fit in
--- 128 bits with a sign: if r is total/D in lowest terms, then `checked_fraction r` is `where_fits (four_numbers_fit a
--- b total) r`, which is `Some r`
+-- let the least common denominator D of a and b, the numerators of a and b over D, and the number `total` fit in 128 bits
+-- with a sign. If r is total/D in lowest terms, then `checked_fraction r` is `Some r`, which is the result that
+-- `where_fits (four_numbers_fit a b total) r` gives.
 pub total-reached : (a b r : Fraction) (total : ℤ) → IsFraction a → IsFraction b → CommonFits a b → FitsSigned w128 total
     → lowest_terms total (common_denominator a b) ≡ r → checked_fraction (lowest_terms total (common_denominator a b)) ≡ where_fits (four_numbers_fit a b total) r
 total-reached a b r total h k c f e =
@@ -29,8 +30,6 @@ total-reached a b r total h k c f e =
     let four : FourNumbersFit a b total = record { left = c.left; right = c.right; total_fits = f; den = c.den } in
     where_fits-true (fits_fraction l) l (held-fits_fraction l held) ∙ ap Some e ∙ sym (where_fits-true (four_numbers_fit a b total) r (four_numbers_fit-true a b total four))
 
--- if total = t and den = d, and `answer` is the checked fraction total/den in lowest terms, then `answer` is also the
--- checked fraction t/d in lowest terms
 over_steps : (total t : ℤ) (den d : ℕ) (answer : Option Fraction) → total ≡ t → den ≡ d → answer ≡ checked_fraction (lowest_terms total den) → answer ≡ checked_fraction (lowest_terms t d)
 over_steps total t den d answer e f a =
     a ∙ ap (λ (z : ℤ). checked_fraction (lowest_terms z den)) e ∙ ap (λ (n : ℕ). checked_fraction (lowest_terms t n)) f
@@ -51,7 +50,6 @@ difference-reached a b left right total den answer h k c el er ed f t s =
     over_steps total (numerator_over_common a b -ℤ numerator_over_common b a) den (common_denominator a b) answer (t ∙ rest) ed s
     ∙ total-reached a b (fraction_difference a b) _ h k c (subst (FitsSigned w128) rest f) (difference_over_common a b h.lowest k.lowest)
 
--- if the test t is not true, `where_fits t r` is `None`
 refused : (t : Bool) (r : Fraction) → (t ≡ true → ⊥) → None ≡ where_fits t r
 refused true r h = absurd (h refl)
 refused false r h = refl
@@ -76,8 +74,6 @@ numerator-right a b g sa sb e = ap (λ (n : ℕ). b.0 *ℤ pos (a.1 / n)) (e ∙
 pub denominator-common : (a b : Fraction) (g : ℕ) → g ≡ greatest_common_divisor a.1 b.1 → a.1 * (b.1 / g) ≡ common_denominator a b
 denominator-common a b g e = ap (λ (n : ℕ). a.1 * (b.1 / n)) e
 
--- ---- fractions with coprime numerator and denominator
-
 -- if z fits in 128 bits with a sign, 0 < d < 2^127, and z and d are coprime, then z/d is a fraction that `Frac` can
 -- hold
 pub IsFraction-coprime : (z : ℤ) (d : ℕ) → FitsSigned w128 z → 0 < d → d < 2 ^ 127 → IsGcd (unsigned_abs z) d 1 → IsFraction (z, d)
@@ -94,13 +90,10 @@ checked_fraction-coprime z d f some small h =
 IsGcd-itself : (n : ℕ) → IsGcd n n n
 IsGcd-itself n = (dvd_refl n, dvd_refl n, λ d p q. p)
 
--- if the denominators of a and b are equal, the greatest common divisor of these denominators is the denominator of a
 pub divisor-same : (a b : Fraction) → 0 < a.1 → a.1 ≡ b.1 → greatest_common_divisor a.1 b.1 ≡ a.1
 divisor-same a b some e =
     ap (λ (n : ℕ). greatest_common_divisor a.1 n) (sym e) ∙ greatest_common_divisor-is a.1 a.1 a.1 (IsGcd-itself a.1)
 
--- if the denominators of a and b are equal, the numerator of a over the least common denominator of a and b is the
--- numerator of a
 pub numerator-same : (a b : Fraction) → 0 < a.1 → a.1 ≡ b.1 → numerator_over_common a b ≡ a.0
 numerator-same a b some e =
     ap (λ (n : ℕ). a.0 *ℤ pos (b.1 / n)) (divisor-same a b some e) ∙ ap (λ (n : ℕ). a.0 *ℤ pos (n / a.1)) (sym e)

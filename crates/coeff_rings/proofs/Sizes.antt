@@ -37,7 +37,6 @@ signed_quotient true zero g = ap pos (zero-div g) ∙ sym (ap (λ (n : ℕ). neg
 signed_quotient true (suc n) g = refl
 signed_quotient false n g = refl
 
--- the integer with the sign and the absolute value of z is z
 pub signed_self : (z : ℤ) → signed (int_lt z (pos 0)) (unsigned_abs z) ≡ z
 signed_self (pos n) = not_below (int_lt (pos n) (pos 0)) n (λ t. let below : n < 0 = ltb-true n 0 t in omega arith)
   where
@@ -111,8 +110,6 @@ part_divides n g p = subst (λ (v : ℕ). n / g ∣ v) (div-mul_cancel g p) (dvd
 coprime-parts : (a b x y : ℕ) → IsGcd a b 1 → x ∣ a → y ∣ b → IsGcd x y 1
 coprime-parts a b x y c p q = coprime_from x y (λ k u v. c.2 k (dvd_trans k u p) (dvd_trans k v q))
 
--- if n/d and m/e are in lowest terms, g = gcd(n, e) and h = gcd(m, d), then (n/g)·(m/h) and (d/h)·(e/g) are coprime,
--- and (d/h)·(e/g) is positive
 cancelled_parts : (n d m e g h : ℕ) → 0 < d → 0 < e → IsGcd n d 1 → IsGcd m e 1 → IsGcd n e g → IsGcd m d h
     → (0 < (d / h) * (e / g)) × IsGcd ((n / g) * (m / h)) ((d / h) * (e / g)) 1
 cancelled_parts n d m e g h sd se nd me ne md = (
@@ -160,8 +157,8 @@ product_den-large s n d m e g h sd se nd me ne md large =
     checked_fraction-den (of_sizes s ((n / g) * (m / h)) ((d / h) * (e / g))) large
     ∙ ap checked_fraction (lowest_terms-product s n d m e g h sd se nd me ne md)
 
--- for den ≠ 0, the checked fraction |num|/|den| in lowest terms, with the sign - if the signs of num and den differ,
--- is the checked fraction num/den
+-- if den ≠ 0, then `checked_fraction_of num den` is |num|/|den| in lowest terms, with the sign - if the signs of num and den
+-- differ, or None if that fraction does not fit in 128 bits
 pub checked_fraction_of-sizes : (num den : ℤ) → den ≢ pos 0
     → checked_fraction (lowest_terms (signed (signs_differ num den) (unsigned_abs num)) (unsigned_abs den)) ≡ checked_fraction_of num den
 checked_fraction_of-sizes num den other =
@@ -181,7 +178,6 @@ quotient-sizes a b some =
     ap (λ (z : ℤ). lowest_terms z (a.1 * unsigned_abs b.0)) (signed_turned_over a.0 b.0 b.1 some)
     ∙ ap (λ (n : ℕ). lowest_terms (a.0 *ℤ (reciprocal b).0) (a.1 * n)) (sym (den-turned_over b.0 b.1))
 
--- if the fraction b is not 0, the absolute value of its numerator is positive
 pub size_positive : (b : Fraction) → InLowestTerms b → b ≢ whole (pos 0) → 0 < unsigned_abs b.0
 size_positive b l other = from b.0 (λ e. other (num-zero b l e))
   where
@@ -206,8 +202,8 @@ product-answer s n d m e g h num den sd se nd me ne md en ed =
     ap (λ (k : ℕ). checked_fraction (of_sizes s k den)) en ∙ ap (λ (k : ℕ). checked_fraction (of_sizes s ((n / g) * (m / h)) k)) ed
     ∙ ap checked_fraction (lowest_terms-product s n d m e g h sd se nd me ne md)
 
--- if |a| = n/d and |b| = m/e, and s says whether the signs of a and b differ, then the checked fraction ±(n·m)/(d·e)
--- in lowest terms, with - if s is true, is the checked product of a and b
+-- let |a| = n/d and |b| = m/e, and let s be true if and only if the signs of a and b differ. Then `checked_fraction_product a b`
+-- is (n·m)/(d·e) in lowest terms, with the sign - if s is true, or None if that fraction does not fit in 128 bits.
 pub product-steps : (a b : Fraction) (s : Bool) (n d m e : ℕ) (answer : Option Fraction) → s ≡ signs_differ a.0 b.0
     → n ≡ unsigned_abs a.0 → d ≡ a.1 → m ≡ unsigned_abs b.0 → e ≡ b.1
     → answer ≡ checked_fraction (lowest_terms (signed s (n * m)) (d * e)) → answer ≡ checked_fraction_product a b
@@ -230,7 +226,6 @@ quotient-steps a b s n d m e answer some ps pn pd pm pe is =
     ∙ ap (λ (x : ℕ). value t size a.1 x e) pm ∙ ap (λ (x : ℕ). value t size a.1 b.1 x) pe
     ∙ ap checked_fraction (quotient-sizes a b some)
 
--- an integer of 128 bits whose bits are all 0 is 0
 bits_zero : (z : ℤ) → FitsSigned w128 z → cast_unsigned w128 z ≡ 0 → z ≡ pos 0
 bits_zero (pos n) f e = ap pos e
 bits_zero (negsuc n) f e = absurd (omega (arith, f.sfits))
@@ -242,8 +237,9 @@ zero-tells n d r h e = (
   λ z. eq-eqb (cast_unsigned w128 n) 0 (ap (λ (q : Fraction). cast_unsigned w128 q.0) (e ∙ z)),
 )
 
--- if n = |num| and d = |den| ≠ 0, and s says whether the signs of num and den differ, then the checked fraction ±n/d
--- in lowest terms, with - if s is true, is the checked fraction num/den
+-- let n = |num| and d = |den| ≠ 0, and let s be true if and only if the signs of num and den differ. Then
+-- `checked_fraction_of num den` is n/d in lowest terms, with the sign - if s is true, or None if that fraction does not fit
+-- in 128 bits.
 pub new-steps : (num den : ℤ) (s : Bool) (n d : ℕ) (answer : Option Fraction) → (cast_unsigned w128 den ≡ 0 → ⊥) → s ≡ signs_differ num den
     → n ≡ unsigned_abs num → d ≡ unsigned_abs den → answer ≡ checked_fraction (lowest_terms (signed s n) d) → answer ≡ checked_fraction_of num den
 new-steps num den s n d answer other ps pn pd is =

@@ -53,8 +53,8 @@ pub record CommonFits (a b : Fraction) : Type 0 where
   pub right : FitsSigned w128 (numerator_over_common b a)
   pub den : common_denominator a b < 2 ^ 127
 
--- whether four numbers fit i128: the numerators of a and b over the least common denominator of a and b, the number
--- `total`, which is their sum or difference, and that denominator
+-- whether four numbers fit i128: the least common denominator of a and b, the numerators of a and b over this denominator,
+-- and the number `total`, which is the sum or the difference of these two numerators
 abbrev pub four_numbers_fit : Fraction → Fraction → ℤ → Bool
 four_numbers_fit a b total =
     fits_128_bits (numerator_over_common a b) && fits_128_bits (numerator_over_common b a)

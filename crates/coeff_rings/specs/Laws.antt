@@ -1,4 +1,5 @@
--- The laws of rings and fields for the values of a type of scalars.
+-- The laws of rings and fields for the values of a type A of scalars: `value a` is the fraction that is the value of the
+-- scalar a, and the laws are stated for the scalars that satisfy `held`.
 use Rattle.std.specs.Prelude.{◌≡◌, ◌≢◌, ℕ, ◌*◌, ◌<◌, pos, ◌+ℤ◌, ◌*ℤ◌}
 use Rattle.std.specs.Int.{◌∣◌}
 use Rattle.sym_model.specs.Expansion.{Fraction}

@@ -1,5 +1,6 @@
--- Proofs of the laws that the implementations of the traits cite. They are here because a law of an implementation
--- may cite only lemmas of specs/ of its own crate; no contract uses a definition that occurs only here.
+-- Proofs of the laws that the implementations of the traits `Scalar`, `Ring` and `Field` cite. They are in specs/ because
+-- a law of an implementation may cite only lemmas of specs/ of its own crate. No contract uses a definition that occurs
+-- only in this module.
 pub mod Divisors
 pub mod Fractions
 pub mod Cleared

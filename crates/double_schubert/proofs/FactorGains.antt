@@ -43,8 +43,8 @@ scaled_beside : (k a : ℤ) (e : List ℕ) (vs : List (List ℕ)) → scaled k (
 scaled_beside k a e [] = refl
 scaled_beside k a e (v ∷ vs) = ap (λ (l : ShiftedSum). ((v, e), k *ℤ a) ∷ l) (scaled_beside k a e vs)
 
--- for a label (w, e), the list of the terms k at (v, e) for v in `up`, `minus` at (v, e) for v in `down`, k at (w, more), and `minus` at (w, less);
--- it is k times (x_r - y_c)·y^e·S_w if minus = -k, `up` and `down` are the covers of w at r, y^more = y_w(r)·y^e and y^less = y_c·y^e
+-- the list of the terms k·y^e·S_v for v in `up`, `minus`·y^e·S_v for v in `down`, k·y^more·S_w and `minus`·y^less·S_w, with (w, e) the given label.
+-- It is k times (x_r - y_c)·y^e·S_w if minus = -k, `up` is `covers_up r w`, `down` is `covers_down r w`, y^more = y_w(r)·y^e and y^less = y_c·y^e
 -- (`factor_scaled`)
 abbrev pub added : ℤ → ℤ → List ℕ × List ℕ → List (List ℕ) → List (List ℕ) → List ℕ → List ℕ → ShiftedSum
 added k minus label up down more less =
@@ -67,7 +67,8 @@ factor_scaled k minus r c letter_is label up down more less m l u d a b =
     rest : ShiftedSum
     rest = ((label.0, raised (letter label.0 r) label.1), pos 1) ∷ ((label.0, raised c label.1), negsuc 0) ∷ []
 
--- if the four lists of terms of which `added` consists are added to the table s0 one after another, the result is s0 with `added` added
+-- if the four lists of terms of which the list `added` consists are added to the sum s0 one after another, the result is the sum of s0 and
+-- the list `added`
 module _ (k minus : ℤ) (label : List ℕ × List ℕ) (up down : List (List ℕ)) (more less : List ℕ) (s0 s1 s2 s3 : ShiftedSum) where
   pub added_gains : (s4 : ShiftedSum) → Gains s0 (each_beside k label.1 up) s1 → Gains s1 (each_beside minus label.1 down) s2
       → Gains s2 (((label.0, more), k) ∷ []) s3 → Gains s3 (((label.0, less), minus) ∷ []) s4 → Gains s0 (added k minus label up down more less) s4
@@ -98,8 +99,7 @@ module _ (k minus : ℤ) (label : List ℕ × List ℕ) (up down : List (List �
       (overflows_both equal s1 (each_beside minus label.1 down) s2 (((label.0, more), k) ∷ ((label.0, less), minus) ∷ []) b
       (overflows_both equal s2 (((label.0, more), k) ∷ []) s3 (((label.0, less), minus) ∷ []) c o))
 
--- if the absolute value of k is 2^127 or more, adding k times the terms of the product of a label with x_r - y_c
--- overflows
+-- if |k| ≥ 2^127, then adding k times the terms of (x_r - y_c)·y^e·S_w overflows, for each label (w, e)
 pub overflow_negative : (old : ShiftedSum) (k : ℤ) (r c : ℕ) (label : List ℕ × List ℕ) → 2 ^ 127 ≤ nat_abs (neg_ℤ k) → Overflows equal old (scaled k (factor_terms r c label))
 overflow_negative old k r c label large =
     let a = overflows_alone label_laws same_pair old (label.0, raised c label.1) (neg_ℤ k) large in
@@ -112,13 +112,9 @@ overflow_negative old k r c label large =
     let q = mass_at_append equal x (each_beside (neg_ℤ k) label.1 (covers_down r label.0)) (((label.0, raised (letter label.0 r) label.1), k) ∷ ((label.0, raised c label.1), neg_ℤ k) ∷ []) in
     omega arith) a)
 
--- ---- `each_beside` for a list of permutations appended to another
-
 pub beside_append : (k : ℤ) (e : List ℕ) (vs ws : List (List ℕ)) → each_beside k e (vs ++ ws) ≡ each_beside k e vs ++ each_beside k e ws
 beside_append k e [] ws = refl
 beside_append k e (v ∷ vs) ws = ap (λ (l : ShiftedSum). ((v, e), k) ∷ l) (beside_append k e vs ws)
-
--- ---- the product of a list of terms y^e·S_w and x_r - y_c
 
 module _ (r c : ℕ) (first : 1 ≤ r) (list : ShiftedSum) where
   pub over_product : (φ : List ℕ × List ℕ → ℤ) → over φ (replaced (factor_terms r c) list) ≡ over (over_factor r c φ) list
@@ -140,8 +136,8 @@ module _ (r c : ℕ) (first : 1 ≤ r) (list : ShiftedSum) where
       labels_gained label_laws same_pair old (replaced (factor_terms r c) list) new is gains (IsWithin (letters + 1) (degree + 1)) was
       (labels_replaced (factor_terms r c) (IsWithin (letters + 1) (degree + 1)) list (λ t m. labels_terms r c letters degree t.0 first last (within t m)))
 
-  -- if each label (w, e) of the list is replaced by the terms of (x_r - y_c)·y^e·S_w in Monk's rule, the polynomial of the result is that of the list
-  -- times x_r - y_c
+  -- let p be the polynomial with the expansion `list` in terms y^e·S_w. If each of these terms is replaced by the expansion of (x_r - y_c)·y^e·S_w
+  -- by Monk's rule, the result is an expansion of (x_r - y_c)·p. This is stated for `pair`, the sum of coefficient times φ over the monomials.
   pub pair_product : (n : ℕ) (φ : List ℕ → ℤ) → IsShiftedTable list
       → over (over_factor r c (λ label. pair (shifted_in label n) φ)) list ≡ pair (times (difference_in r c n) (combined (λ label. shifted_in label n) list)) φ
   pair_product n φ is =
@@ -158,7 +154,8 @@ module _ (r c : ℕ) (first : 1 ≤ r) (list : ShiftedSum) where
       (sym (pair_times (difference_in r c n) (shifted_in t.0 n) φ)
       ∙ shifted_step n r c t.0.0 t.0.1 φ (one_line is t m) first)))
 
--- each permutation of the list has at most max(r, m) letters, m the greatest number of letters in the list
+-- if each label (w, e) of the list is within the bounds `letters` for the length of w and `degree` for the degree of y^e, then it is also
+-- within the bounds max(r, m) and `degree`, with m the greatest length of a permutation w of these labels
 pub longest : (list : ShiftedSum) (r letters degree : ℕ) → HaveLabels (IsWithin letters degree) list → HaveLabels (IsWithin (max r (greatest_length list)) degree) list
 longest [] r letters degree h t m = absurd m
 longest (u ∷ list) r letters degree h t (inl e) =

@@ -1,4 +1,6 @@
--- The entries that are added to a sum of terms f_w·S_w when (x_r - y_c)·f_w·S_w is computed (`factor_lists` of specs/ByPermutations).
+-- The entries that are added to a sum of terms f_w·S_w when (x_r - y_c)·f_w·S_w is computed (`factor_lists` of specs/ByPermutations). An *entry* is a
+-- permutation v with a polynomial in y by which the double Schubert polynomial S_v is multiplied. The *value* of a list of entries, for a function φ,
+-- is the sum of c·φ(v, e) over the entries and over the terms c·y^e of their polynomials.
 --     difference_none, difference_both    the product of a polynomial in y and y_a - y_c
 --     each_next, each_all                 the same polynomial in y added at each permutation of a list, one after another
 --     lists_value, all_value              the value of the entries for one term, and for all terms
@@ -33,8 +35,6 @@ use Rattle.double_schubert.specs.ByPermutations.{InY, at_pairs, one_each, plus_t
 use native.Mathlib.Nat.{mul-le-mul_left}
 use Rattle.std.proofs.lemmas.Grind.{flat_map-append}
 
--- ---- the product of a polynomial in y and y_a - y_c
-
 -- if a = c, adding k times the product of y^e and y_a - y_c, which is 0, leaves `sum` unchanged
 pub difference_none : (a c : ℕ) (e : List ℕ) (k : ℤ) (sum : InY) → a ≡ c → Gains sum (scaled k (difference_terms a c e)) sum
 difference_none a c e k sum same =
@@ -56,8 +56,6 @@ difference_both a c e more less k sum mid new m l first second =
     (ap₂ (λ x z. (x, z) ∷ (less, neg_ℤ k) ∷ []) m (sym (product-one k)) ∙ ap₂ (λ x z. (raised a e, k *ℤ pos 1) ∷ (x, z) ∷ []) l (sym (product-neg_one k)))
     (gains_both sum ((more, k) ∷ []) mid (each_with (neg_ℤ k) (less ∷ [])) new first second)
 
--- ---- the same polynomial in y added at each permutation of a list, one after another
-
 pub each_next : (list : InY) (xs : List (List ℕ)) (i : ℕ) (x : List ℕ) → i < length xs → x ≡ get_or xs i x
     → each_waits list (take i xs) ++ (record { perm = x; factor = list }) ∷ [] ≡ each_waits list (take (i + 1) xs)
 each_next list xs i x inside is = sym (each_append list (take i xs) (x ∷ [])) ∙ ap (each_waits list) (take-read xs i x inside is)
@@ -68,8 +66,6 @@ each_all list xs i x inside is =
     append_assoc (each_waits list (take i xs)) ((record { perm = x; factor = list }) ∷ []) (each_waits list (drop (suc i) xs))
     ∙ sym (each_append list (take i xs) (x ∷ drop (suc i) xs))
     ∙ ap (each_waits list) (split-read xs i x inside is)
-
--- ---- the value of the entries `factor_lists` for a term, and for all terms
 
 over_plus : (φ : List ℕ → ℤ) (f : InY) → over φ (replaced plus_terms f) ≡ over φ f
 over_plus φ f = replaced_over plus_terms φ f ∙ pair_ext f (λ e. pos 1 *ℤ φ e +ℤ pos 0) φ (λ e. omega (arith, ints))
@@ -115,8 +111,6 @@ all_value r c φ [] = refl
 all_value r c φ (term ∷ terms) =
     total_append (λ (x : WithList (List ℕ)). over (at_pairs φ x.perm) x.factor) (factor_lists r c term) (flat_map (factor_lists r c) terms)
     ∙ ap₂ (λ x y. x +ℤ y) (lists_value r c φ term) (all_value r c φ terms)
-
--- ---- the sum of the absolute values of the coefficients of the entries `factor_lists`
 
 growth_each : (list : InY) (xs : List (List ℕ)) → growth one_each (each_waits list xs) ≡ mass list * length xs
 growth_each list [] = omega arith
@@ -178,8 +172,6 @@ all_growth r c n (term ∷ terms) first last few =
     ≡ weighed (one_each term.perm) term.factor * (n + 2) + growth one_each terms * (n + 2) = omega arith in
     omega arith
 
--- let `all` be the terms `done`, one more term, and `rest`: the sum of the absolute values of the coefficients in `factor_lists` of `done` and of
--- this term is at most that for `all`
 pub growth_part : (r c : ℕ) (done rest all : List (WithList (List ℕ))) (term : WithList (List ℕ)) → done ++ term ∷ rest ≡ all
     → growth one_each (flat_map (factor_lists r c) done ++ factor_lists r c term) ≤ growth one_each (flat_map (factor_lists r c) all)
 growth_part r c done rest all term is =
@@ -189,8 +181,6 @@ growth_part r c done rest all term is =
     let e = sum_by-append (λ (x : WithList (List ℕ)). weighed (one_each x.perm) x.factor) (factor_lists r c term) (flat_map (factor_lists r c) rest) in
     let f = sum_by-append (λ (x : WithList (List ℕ)). weighed (one_each x.perm) x.factor) (flat_map (factor_lists r c) done) (factor_lists r c term) in
     omega arith
-
--- ---- the bounds on letters, inversions and degrees of the entries `factor_lists`
 
 cover_up_inversions : (r : ℕ) (w x : List ℕ) → Among x (covers_up r w) → inversions x ≡ inversions w + 1
 cover_up_inversions r w x m =
@@ -253,8 +243,6 @@ all_waiting r c n top terms first last are x m =
     let f = Among_from_each (factor_lists r c) x terms m in
     lists_waiting r c n top f.0 first last (are f.0 f.1) x f.2
 
--- ---- the entries `factor_lists` of one term, and of all terms, added to a sum
-
 pub lists_as : (r c letter_is : ℕ) (term : WithList (List ℕ)) (up down : List (List ℕ)) → up ≡ covers_up r term.perm → down ≡ covers_down r term.perm → letter_is ≡ letter term.perm r
     → each_waits (replaced plus_terms term.factor) up
     ++ (each_waits (replaced minus_terms term.factor) down ++ (record { perm = term.perm; factor = replaced (difference_terms letter_is c) term.factor }) ∷ [])
@@ -267,8 +255,8 @@ lists_as r c letter_is term up down u d l =
     ∙ ap (λ (a : ℕ). each_waits (replaced plus_terms term.factor) (covers_up r term.perm)
     ++ (each_waits (replaced minus_terms term.factor) (covers_down r term.perm) ++ (record { perm = term.perm; factor = replaced (difference_terms a c) term.factor }) ∷ [])) l
 
--- if `cur` is the sum of the entries `factor_lists` of the terms `done`, and those of one more term are added to it, the result is the sum of the
--- entries of `done` and this term
+-- let `cur` be the sum of the entries that `factor_lists` has for the terms `done`. If the entries for one more term are added to `cur`, the result
+-- is the sum of the entries for `done` followed by this term
 module _ (r c : ℕ) (done : List (WithList (List ℕ))) (term : WithList (List ℕ)) (cur : List (WithList (List ℕ))) (so_far : Joins [] (flat_map (factor_lists r c) done) cur) where
   pub term_joins : (new : List (WithList (List ℕ))) → Joins cur (factor_lists r c term) new → Joins [] (flat_map (factor_lists r c) (done ++ term ∷ [])) new
   term_joins new more =
@@ -285,7 +273,7 @@ module _ (r c : ℕ) (done : List (WithList (List ℕ))) (term : WithList (List 
       let d = all_growth r c n all first last (λ x m. (are x m).few) in
       omega arith
 
--- the value and the bounds of `new`, the sum of the entries `factor_lists` of all terms
+-- the value of `new`, the sum of the entries that `factor_lists` has for all terms, and the bounds on its coefficients, letters and degrees
 module _ (r c : ℕ) (terms new : List (WithList (List ℕ))) (all : Joins [] (flat_map (factor_lists r c) terms) new) where
   pub whole_value : (φ ψ : List ℕ × List ℕ → ℤ) → ((x : WithList (List ℕ)) → Among x terms → IsOneLine x.perm)
       → ((label : List ℕ × List ℕ) → IsOneLine label.0 → ψ label ≡ over_factor r c φ label)

@@ -1,5 +1,6 @@
 -- The product of factors x_r - y_c and a double Schubert polynomial, one factor after another: before the first factor, after one more factor, and
--- after the last.
+-- after the last. The *value* of a sum of terms f_w·S_w, for a function φ, is the sum of c·φ(w, e) over the permutations w and over the terms c·y^e
+-- of f_w.
 use Rattle.std.proofs.Common.{◌≡◌, ℕ, suc, ◌+◌, ◌*◌, ◌^◌, ◌<◌, ◌≤◌, Bool, List, [], ◌∷◌, ◌++◌, length, length-append, refl, sym, ap, ap₂, ◌∙◌, subst, inl, inr, arith, ℤ, pos, ◌+ℤ◌, ◌*ℤ◌, replicate}
 use Rattle.std.specs.Prelude.{nat_abs}
 use Rattle.std.specs.Cmp.Lexicographic.{pointwise, nat_list_eq_equiv}
@@ -30,8 +31,6 @@ use Rattle.double_schubert.specs.ByPermutations.{InY, at_pairs, at_general, one_
 use Rattle.double_schubert.specs.LinearFactors.{AreWithin, product_in}
 use Rattle.double_schubert.proofs.LinearProducts.{trailing}
 use native.Mathlib.Nat.{mul-le-mul_left, pow-suc}
-
--- ---- the sum whose only term is the double Schubert polynomial of `perm`
 
 module _ (perm copy zeros : List ℕ) (one : ℤ) (nothing factor : InY) (before items : List (WithList (List ℕ))) (same : copy ≡ perm) (empty : nothing ≡ [])
     (gains : Gains nothing ((zeros, one) ∷ []) factor) (is : one ≡ pos 1) (none : before ≡ []) (pushed : items ≡ before ++ (record { perm = copy; factor = factor }) ∷ []) where
@@ -75,8 +74,8 @@ module _ (perm copy zeros : List ℕ) (one : ℤ) (nothing factor : InY) (before
 
 -- ---- bounds on letters, degrees and coefficients after one more factor x_r - y_c
 
--- if inv ≤ 28 and k < 24, terms with at most 8 + k letters and degrees of at most 8 + inv + 2k have room for the next factor: at most 31 letters, and
--- degrees of at most 254
+-- if inv ≤ 28 and k < 24, terms with at most 8 + k letters and degrees of at most 8 + inv + 2k have at most 31 letters and degrees of at most 254, so
+-- that they can be multiplied by one more factor
 pub room : (k inv : ℕ) (items : List (WithList (List ℕ))) → k < 24 → inv ≤ 28 → AreWaiting size (8 + k) (8 + inv + (k + k)) items → AreWaiting size 31 254 items
 room k inv items few small are x m =
     let w = are x m in
@@ -84,7 +83,6 @@ room k inv items few small are x m =
     let i = w.inside in
     record { few = omega arith; inside = omega arith; labels = λ t j. let l = w.labels t j in omega arith }
 
--- the bounds after k factors and one more, written for n = k + 1 factors
 pub next_bounds : (m k inv n : ℕ) (items : List (WithList (List ℕ))) → n ≡ k + 1 → AreWaiting size (m + k + 1) (m + inv + (k + k) + 2) items → AreWaiting size (m + n) (m + inv + (n + n)) items
 next_bounds m k inv n items e are x i =
     let w = are x i in
@@ -107,8 +105,6 @@ next_large base few k all old e f some h g =
     let a = next_power base few k (suc k) (old * few) old refl f h (omega arith) in
     let b = pow-le-pow_right some e in
     omega arith
-
--- ---- the value of the sum after all factors
 
 pub general_value : (n : ℕ) (φ : List ℕ → ℤ) (items : List (WithList (List ℕ)))
     → value_of (at_general (λ label. pair (shifted_in label n) φ)) items ≡ value_of (at_pairs (λ label. pair (shifted_in label n) φ)) items
@@ -172,8 +168,6 @@ last_value n φ items =
     (λ (x : WithList (List ℕ)). over (at_pairs (λ label. pair (times (product_in n []) (shifted_in label n)) φ) x.perm) x.factor)
     (λ x. pair_ext x.factor (at_pairs (λ label. pair (shifted_in label n) φ) x.perm) (at_pairs (λ label. pair (times (product_in n []) (shifted_in label n)) φ) x.perm)
     (λ e. sym (one_value n φ (x.perm, e)))) items
-
--- ---- the list of the written terms, after the terms of one more permutation are appended
 
 pub written_next : (φ : List ℕ × List ℕ → ℤ) (old new : ShiftedSum) (done : List (WithList (List ℕ))) (term : WithList (List ℕ))
     → over φ old ≡ value_of (at_general φ) done → over φ new ≡ over φ old +ℤ over (at_general φ term.perm) term.factor

@@ -1,8 +1,8 @@
 -- Products of factors x_r - y_c and double Schubert polynomials.
---     product_respects   if two polynomials are equal, so are their products with the factors
---     product_last       the product with a list of factors, by its last factor
---     single_lower       S_w, if the factor times S_v is the only term of the transition rule for S_w
---     times_next         the product of a list of factors and a term y^e·S_w, by the first factor
+--     product_respects   if p = q, then p and q have equal products with the factors of a list
+--     product_last       p times a factor f, times the factors of a list, is p times the factors of the list with f appended
+--     single_lower       if the transition rule for S_w has only one term, S_w is a factor x_r - y_c times S_v
+--     times_next         a list of factors times y^e·S_w: the first factor is multiplied by y^e·S_w, and each term by the other factors
 --     trailing           zeros at the end of the exponents of y^e change nothing
 use Rattle.std.proofs.Common.{◌≡◌, ℕ, zero, suc, ◌≤◌, Bool, true, false, cond, List, [], ◌∷◌, ◌++◌, ◌&&◌, ◌==◌, refl, ap, ◌∙◌, append-nil, subst, ℤ, pos, map}
 use Rattle.sym_model.specs.DividedDifference.{x_to_in}
@@ -17,8 +17,6 @@ use Rattle.double_schubert_laws.specs.Factors.{over_factor}
 use Rattle.double_schubert_laws.proofs.DoubleVariables.{double_transition_in}
 use Rattle.double_schubert_laws.proofs.ProductSteps.{factor_step}
 use Rattle.double_schubert.specs.LinearFactors.{product_with, product_in}
-
--- ---- products of factors x_r - y_c and a polynomial
 
 pub product_respects : (n : ℕ) (factors : List (ℕ × ℕ)) (p q : Poly) → Same p q → Same (product_with n factors p) (product_with n factors q)
 product_respects n [] p q e = e
@@ -40,10 +38,8 @@ single_lower n r s w o t none =
     ∙ append-nil (times (difference_in r (letter (times_swap r s w) r) n) (double_schubert_in (times_swap r s w) n)))
     (double_transition_in r s n w o t)
 
--- ---- the product of factors x_r - y_c and a term y^e·S_w
-
--- let f = (r, c) and label = (w, e). The pairing with φ of the product of x_r - y_c, the factors of `factors` and y^e·S_w is the sum, over the terms
--- of (x_r - y_c)·y^e·S_w by Monk's rule (`over_factor`), of the pairings of these terms times the factors of `factors`
+-- let f = (r, c) and label = (w, e). The product of x_r - y_c, the factors of `factors` and y^e·S_w is the sum of the terms of (x_r - y_c)·y^e·S_w in
+-- Monk's rule (`over_factor`), each times the factors of `factors`; for any φ, the sums of coefficient times φ(exponents) of both sides are equal
 pub times_next : (n : ℕ) (φ : List ℕ → ℤ) (f : ℕ × ℕ) (factors : List (ℕ × ℕ)) (label : List ℕ × List ℕ) → IsOneLine label.0 → 1 ≤ f.0
     → pair (times (product_in n (f ∷ factors)) (shifted_in label n)) φ
     ≡ over_factor f.0 f.1 (λ label. pair (times (product_in n factors) (shifted_in label n)) φ) label

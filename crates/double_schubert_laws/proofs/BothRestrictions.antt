@@ -1,8 +1,8 @@
--- Double Schubert polynomials in n variables x and n variables y: they do not depend on the number m of variables from which they are restricted, and
--- restriction to fewer variables is compatible with products and sums.
-use Rattle.std.proofs.Common.{◌≡◌, ℕ, zero, suc, ◌+◌, ◌<◌, ◌≤◌, List, [], ◌∷◌, ◌++◌, ◌&&◌, take, drop, length, replicate, refl, sym, ◌∙◌, ap, ap₂, subst, arith, inl, inr, ◌⊎◌, cond, Bool, true, false, None, ℤ, pos, ◌-ℤ◌, ◌*ℤ◌, filter}
+-- Double Schubert polynomials in n variables x and n variables y, obtained by restriction from m variables x and m variables y: they do not depend on
+-- m, and the restriction is compatible with products and sums.
+use Rattle.std.proofs.Common.{◌≡◌, ℕ, zero, suc, ◌+◌, ◌<◌, ◌≤◌, List, [], ◌∷◌, ◌++◌, ◌&&◌, take, drop, length, replicate, refl, sym, ◌∙◌, ap, ap₂, subst, arith, inl, inr, ◌⊎◌, cond, Bool, true, false, None, ℤ, pos, ◌-ℤ◌, rules}
 use Rattle.std.proofs.lemmas.List.{replicate-append-replicate, length-replicate}
-use Rattle.sym_model.specs.Polynomial.{Term, Poly, Same, In, times, pair, join, resize, fits_in}
+use Rattle.sym_model.specs.Polynomial.{Poly, Same, In, times, pair, join, resize, fits_in}
 use Rattle.sym_model.specs.Alternant.{staircase}
 use Rattle.sym_model.specs.BetaList.{rising_pairs}
 use Rattle.sym_model.specs.Permutation.{first_ascent}
@@ -18,17 +18,11 @@ use Rattle.double_schubert_laws.proofs.DoubleDominant.{pair_double_ascent, pair_
 use Rattle.sym_model.proofs.Integers.{times_chosen}
 use Rattle.schubert_laws.proofs.FixedLetters.{resize_added, fits_in_added}
 
--- ---- the sum of c·φ(α) over the terms c·x^α of a polynomial restricted to n variables x and n variables y
-
 abbrev pub both : ℕ → ℕ → (List ℕ → ℤ) → List ℕ → ℤ
 both m n φ α = cond (fits_in n (take m α) && fits_in n (drop m α)) (φ (resize n (take m α) ++ resize n (drop m α))) (pos 0)
 
 pub pair_restrict_both : (m n : ℕ) (f : Poly) (φ : List ℕ → ℤ) → pair (restrict_both m n f) φ ≡ pair f (both m n φ)
-pair_restrict_both m n f φ =
-    total_map (λ (t : Term). t.1 *ℤ φ t.0) (λ (t : Term). (resize n (take m t.0) ++ resize n (drop m t.0), t.1)) (filter (λ (t : Term). fits_in n (take m t.0) && fits_in n (drop m t.0)) f)
-    ∙ total_select (λ (t : Term). t.1 *ℤ φ (resize n (take m t.0) ++ resize n (drop m t.0))) (λ (t : Term). fits_in n (take m t.0) && fits_in n (drop m t.0)) f
-    ∙ total_ext (λ (t : Term). cond (fits_in n (take m t.0) && fits_in n (drop m t.0)) (t.1 *ℤ φ (resize n (take m t.0) ++ resize n (drop m t.0))) (pos 0)) (λ (t : Term). t.1 *ℤ both m n φ t.0)
-    (λ t. times_chosen (fits_in n (take m t.0) && fits_in n (drop m t.0)) t.1 (φ (resize n (take m t.0) ++ resize n (drop m t.0)))) f
+pair_restrict_both m n f φ = search (rules, total_map, total_select, total_ext, times_chosen)
 
 -- ---- exponents with one more variable x and one more variable y, both with the exponent 0
 
@@ -83,7 +77,7 @@ along_wide zero (suc (suc m)) φ (a ∷ []) h l = absurd (omega arith)
 along_wide zero (suc (suc m)) φ (a ∷ b ∷ α) h l = refl
 along_wide (suc k) (suc m) φ (a ∷ α) h l = along_wide k m (λ β. φ (a ∷ β)) α (omega arith) (omega arith)
 
--- ---- the operators `row` and `diagram`, on functions of exponents that agree at all lists of n exponents (`AgreeIn`)
+-- ---- functions φ that agree at all lists of n exponents (`AgreeIn`), and the sums of c·φ(α) over the terms c·x^α of products of differences x - y
 
 abbrev AgreeIn : ℕ → (List ℕ → ℤ) → (List ℕ → ℤ) → Type 0
 AgreeIn n φ ψ = (α : List ℕ) → length α ≡ n → φ α ≡ ψ α
@@ -98,16 +92,11 @@ diagram_in n s r (c ∷ cs) φ ψ e = diagram_in n s (suc r) cs (row r s c φ) (
 
 row_wide : (m r s c : ℕ) (φ : List ℕ → ℤ) → r < m → m ≤ s → s + c ≤ m + m → AgreeIn (m + m) (λ α. row r (suc s) c φ (wide m α)) (row r s c (λ β. φ (wide m β)))
 row_wide m r s zero φ h l k α e = refl
-row_wide m r s (suc c) φ h l k α e =
-    row_wide m r (suc s) c (less r (suc s) φ) h (omega arith) (omega arith) α e
-    ∙ row_in (m + m) r (suc s) c (λ β. less r (suc s) φ (wide m β)) (less r s (λ β. φ (wide m β)))
-    (λ β d. ap₂ (λ x y. φ x -ℤ φ y) (raise_wide_x r m β h (omega arith)) (raise_wide_y s m β l (omega arith))) α e
+row_wide m r s (suc c) φ h l k α e = search (rules, less, row_in, raise_wide_x, raise_wide_y, (row_wide m r (suc s) c))
 
 diagram_wide : (m r k : ℕ) (φ : List ℕ → ℤ) → r + k ≤ m → AgreeIn (m + m) (λ α. diagram (suc m) r (staircase k) φ (wide m α)) (diagram m r (staircase k) (λ β. φ (wide m β)))
 diagram_wide m r zero φ h α e = refl
-diagram_wide m r (suc k) φ h α e =
-    diagram_wide m (suc r) k (row r (suc m) k φ) (omega arith) α e
-    ∙ diagram_in (m + m) m (suc r) (staircase k) (λ β. row r (suc m) k φ (wide m β)) (row r m k (λ β. φ (wide m β))) (row_wide m r m k φ (omega arith) (omega arith) (omega arith)) α e
+diagram_wide m r (suc k) φ h α e = search (rules, row, diagram_in, row_wide, (diagram_wide m (suc r) k))
 
 -- ---- the double Schubert polynomial, restricted to n variables x and n variables y, does not depend on the number m of variables
 
@@ -138,10 +127,7 @@ wider_within (suc n) m w φ b h = by (first_ascent_cases w) (λ v ψ c l. wider_
         ∙ sym (ap (λ u. pair u (λ α. φ (wide m α))) (over_top (difference_product (length w) m) (rising_pairs w) w none.0) ∙ pair_difference_product m (length w) (λ α. φ (wide m α)) h)
 
 both_wide : (m n : ℕ) (φ : List ℕ → ℤ) (α : List ℕ) → m ≤ length α → both (suc m) n φ (wide m α) ≡ both m n φ α
-both_wide m n φ α h =
-    ap₂ (λ β γ. cond (fits_in n β && fits_in n γ) (φ (resize n β ++ resize n γ)) (pos 0)) (take_wide m α h) (drop_wide m α h)
-    ∙ ap₂ (λ s t. cond (s && t) (φ (resize n (take m α ++ (0 ∷ [])) ++ resize n (drop m α ++ (0 ∷ [])))) (pos 0)) (fits_in_added n (take m α)) (fits_in_added n (drop m α))
-    ∙ ap₂ (λ β γ. cond (fits_in n (take m α) && fits_in n (drop m α)) (φ (β ++ γ)) (pos 0)) (resize_added n (take m α)) (resize_added n (drop m α))
+both_wide m n φ α h = search (rules, take_wide, drop_wide, fits_in_added, resize_added)
 
 wider : (m n : ℕ) (w : List ℕ) → length w ≤ m → Same (restrict_both (suc m) n (double_schubert w (suc m))) (restrict_both m n (double_schubert w m))
 wider m n w h =
@@ -182,7 +168,8 @@ join_append [] β (c ∷ γ) δ e = absurd (omega arith)
 join_append (a ∷ α) β [] δ e = absurd (omega arith)
 join_append (a ∷ α) β (c ∷ γ) δ e = ap (λ l. (a + c) ∷ l) (join_append α β γ δ (omega arith))
 
--- for the exponents of m variables x, followed by those of variables y: whether the exponents of each of the two kinds are 0 after the first n
+-- whether α, the exponents of m variables x followed by the exponents of variables y, is 0 at each x after the first n variables x and at each y
+-- after the first n variables y
 abbrev fits : ℕ → ℕ → List ℕ → Bool
 fits m n α = fits_in n (take m α) && fits_in n (drop m α)
 
@@ -190,18 +177,10 @@ abbrev cut : ℕ → ℕ → List ℕ → List ℕ
 cut m n α = resize n (take m α) ++ resize n (drop m α)
 
 fits-join : (m n : ℕ) (α β : List ℕ) → length α ≡ length β → fits m n (join α β) ≡ (fits m n α && fits m n β)
-fits-join m n α β e =
-    ap₂ (λ x y. fits_in n x && fits_in n y) (take-join m α β e) (drop-join m α β e)
-    ∙ ap₂ (λ s t. s && t) (fits_in-join n (take m α) (take m β)) (fits_in-join n (drop m α) (drop m β))
-    ∙ and_exchange (fits_in n (take m α)) (fits_in n (take m β)) (fits_in n (drop m α)) (fits_in n (drop m β))
+fits-join m n α β e = search (rules, take-join, drop-join, fits_in-join, and_exchange)
 
 cut-join : (m n : ℕ) (α β : List ℕ) → length α ≡ length β → cut m n (join α β) ≡ join (cut m n α) (cut m n β)
-cut-join m n α β e =
-    let a = length-resize n (take m α) in
-    let b = length-resize n (take m β) in
-    ap₂ (λ x y. resize n x ++ resize n y) (take-join m α β e) (drop-join m α β e)
-    ∙ ap₂ (λ x y. x ++ y) (resize-join n (take m α) (take m β)) (resize-join n (drop m α) (drop m β))
-    ∙ sym (join_append (resize n (take m α)) (resize n (drop m α)) (resize n (take m β)) (resize n (drop m β)) (omega arith))
+cut-join m n α β e = search (rules, length-resize, take-join, drop-join, resize-join, join_append)
 
 both_join : (m n N : ℕ) (φ : List ℕ → ℤ) (g : Poly) (α : List ℕ) → In N g → length α ≡ N → pair g (λ β. both m n φ (join α β)) ≡ both m n (λ γ. pair g (both m n (λ β. φ (join γ β)))) α
 both_join m n N φ g α i l = by (fits m n α) refl

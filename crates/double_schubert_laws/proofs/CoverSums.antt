@@ -1,8 +1,11 @@
--- From sums over places of a long list to sums over covers of a permutation, for any function of lists that does not change if fixed letters are
--- added: for Monk's rule and the transition rule.
---     covers_sum      the sum over the places, with signs, is the sum over `covers_up` minus the sum over `covers_down`
---     only_up         for w·t_rs of the transition rule, w is the only member of `covers_up`
-use Rattle.std.proofs.Common.{◌≡◌, ℕ, suc, ◌+◌, ◌-◌, ◌<◌, ◌≤◌, max, List, ◌++◌, map, length, refl, sym, ◌∙◌, ap, ap₂, subst, arith, cond, ◌==◌, ℤ, pos, ◌-ℤ◌, neg_ℤ, length-append, eqb-true, eq-eqb}
+-- Sums of a function `val` over the covers of a permutation w, for Monk's rule and the transition rule. A *cover* of w is w with two letters
+-- exchanged, if it has one inversion more than w. Here `val` does not change if *fixed letters*, which are equal to their places, are added at the
+-- end of w.
+--     covers_sum      let w have fixed letters added at its end. The sum of `val` over the covers of w that exchange the places r and b, with the
+--                     sign + for b > r and - for b < r, is the sum over the covers w·t_rj with j > r (`covers_up`) minus the sum over the covers
+--                     w·t_ir with i < r (`covers_down`)
+--     only_up         for v = w·t_rs of the transition rule, w is the only cover v·t_rj of v with j > r
+use Rattle.std.proofs.Common.{◌≡◌, ℕ, suc, ◌+◌, ◌-◌, ◌<◌, ◌≤◌, max, List, ◌++◌, map, length, refl, sym, ◌∙◌, ap, ap₂, subst, arith, cond, ◌==◌, ℤ, pos, ◌-ℤ◌, neg_ℤ, length-append, eqb-true, eq-eqb, rules}
 use Rattle.std.specs.List.{swap}
 use Rattle.std.proofs.lemmas.Int.{ints}
 use Rattle.std.proofs.lemmas.Bool.{ne_eqb}
@@ -44,30 +47,12 @@ at_swap val w a b = cond (is_cover w a b) (val (swap_at a b w)) (pos 0)
 
 cover_tests : (val : List ℕ → ℤ) (w long v x : List ℕ) → Once long → Once v → length v ≡ length long → inversions long ≡ inversions w → inversions x ≡ inversions v → val v ≡ val x
     → cond (rising_pairs long == suc (rising_pairs v)) (val v) (pos 0) ≡ at_cover val w x
-cover_tests val w long v x o p l e f q =
-    ap₂ (λ t z. cond t z (pos 0))
-    (tests_agree (rising_pairs long == suc (rising_pairs v)) (inversions x == inversions w + 1)
-    (λ t. let a = one_more_inversion long v o p l (eqb-true (rising_pairs long) (suc (rising_pairs v)) t) in eq-eqb (inversions x) (inversions w + 1) (omega arith))
-    (λ t. let a = eqb-true (inversions x) (inversions w + 1) t in eq-eqb (rising_pairs long) (suc (rising_pairs v)) (one_less_rising long v o p l (omega arith))))
-    q
+cover_tests val w long v x o p l e f q = search (rules, tests_agree, one_more_inversion, eqb-true, eq-eqb, one_less_rising)
 
--- let u and w have the same number of inversions, and let adding fixed letters not change `val`: `at_swap` at the places a and b of u with t fixed
--- letters added is `at_cover` at u with the letters at a and b exchanged, without the fixed letters at its end
 term_added : (m : ℕ) (val : List ℕ → ℤ) (w u : List ℕ) (t a b : ℕ) → IsStable m val → IsOneLine u → a < length u → b < length u → inversions u ≡ inversions w → length u + t ≤ m
     → at_swap val (u ++ after (length u) t) a b ≡ at_cover val w (kept (swap u a b))
 term_added m val w u t a b s o h l e n =
-    let os = one_line_swap a b u h l o in
-    let ou = one_line_added t u o in
-    let sa = swap_added u t a b h l in
-    let k : kept (swap_at a b u) ≡ kept (swap u a b) = ap kept (sym (swap_is u a b h l)) in
-    let ls = length-swap_at a b u in
-    cover_tests val w (u ++ after (length u) t) (swap_at a b (u ++ after (length u) t)) (kept (swap u a b))
-    ou.once
-    (subst Once (sym sa) (one_line_added t (swap_at a b u) os).once)
-    (length-swap_at a b (u ++ after (length u) t))
-    (inversions_added t u o ∙ e)
-    (ap inversions (sym k) ∙ inversions_kept (swap_at a b u) os ∙ sym (inversions_added t (swap_at a b u) os) ∙ ap inversions (sym sa))
-    (ap val sa ∙ s.added (swap_at a b u) t os (omega arith) ∙ sym (kept_value m val (swap_at a b u) s os (omega arith)) ∙ ap val k)
+    search (rules, one_line_swap, one_line_added, swap_added, swap_at, swap_is, length-swap_at, cover_tests, inversions_added, inversions_kept, kept_value)
 
 cover_term : (m : ℕ) (val : List ℕ → ℤ) (w : List ℕ) (k i j : ℕ) → IsStable m val → IsOneLine w → 1 ≤ i → i < j → j ≤ length w + k + 1 → length w + k + 1 ≤ m
     → at_swap val (longer w k) (i - 1) (j - 1) ≡ at_cover val w (times_swap i j w)
@@ -79,7 +64,6 @@ cover_term m val w k i j s o c h l n =
     (term_added m val w (w ++ after (length w) (j - length w)) (k + 1 - (j - length w)) (i - 1) (j - 1) s
     (one_line_added (j - length w) w o) (omega arith) (omega arith) (inversions_added (j - length w) w o) (omega arith))
 
--- the sum of `val` over those of the lists f(j), for j in `js`, that have one inversion more than w is the sum of `at_cover` over all f(j)
 covers_total : (val : List ℕ → ℤ) (w : List ℕ) (f : ℕ → List ℕ) (js : List ℕ) → total val (covers_among w (map f js)) ≡ total (λ j. at_cover val w (f j)) js
 covers_total val w f js =
     total_select val (λ (v : List ℕ). inversions v == inversions w + 1) (map f js) ∙ total_map (at_cover val w) f js
@@ -116,8 +100,6 @@ covers_sum m val w k q s o e n =
     let u = ap (λ l. total (λ j. at_cover val w (times_swap (suc q) j w)) l) (ap₂ after s1 s2) in
     let d = ap (λ t. total (λ i. at_cover val w (times_swap i (suc q) w)) (after 0 t)) s3 in
     omega (arith, ints)
-
--- ---- for the list w·t_rs of the transition rule for w, w is the only member of `covers_up` at r
 
 pub only_up : (m : ℕ) (val : List ℕ → ℤ) (w : List ℕ) (q b : ℕ) → IsStable m val → IsOneLine w → IsStep w q b → length w + 1 ≤ m → total val (covers_up (suc q) (swap_at q b w)) ≡ val w
 only_up m val w q b st o s n =

@@ -1,10 +1,10 @@
 -- Products with differences of two variables, as operators on functions φ of exponents. The pairing of φ with a polynomial is the sum of c·φ(α) over
 -- its terms c·x^α. Variables are counted from 0.
---     less r s φ            the pairing of φ with (x - y)·x^α, for x the variable r and y the variable s
---     row r s c φ           the pairing of φ with x^α times the product of all x - y, for x the variable r and y the c variables from s on
---     diagram s r cs φ      the pairing of φ with x^α times a product of rows, one of c factors for each c in the list cs: the first row for the
---                           variable r, the next one for the variable r + 1, and so on
-use Rattle.std.proofs.Common.{◌≡◌, ℕ, zero, suc, ◌+◌, ◌<◌, List, [], ◌∷◌, ◌++◌, length, get_or, replicate, refl, sym, ◌∙◌, ap, ap₂, arith, ℤ, pos, ◌+ℤ◌, ◌-ℤ◌, neg_ℤ}
+--     less r s φ            the pairing of φ with (u - v)·x^α, for u the variable r and v the variable s
+--     row r s c φ           the pairing of φ with x^α times the product of all u - v, for u the variable r and v each of the c variables from s on
+--     diagram s r cs φ      the pairing of φ with x^α times a product of rows. Each entry c of the list cs gives one row of c factors, the first for
+--                           the variable r, the next one for the variable r + 1, and so on
+use Rattle.std.proofs.Common.{◌≡◌, ℕ, zero, suc, ◌+◌, ◌<◌, List, [], ◌∷◌, ◌++◌, length, get_or, replicate, refl, sym, ◌∙◌, ap, ap₂, arith, ℤ, pos, ◌+ℤ◌, ◌-ℤ◌, neg_ℤ, rules}
 use Rattle.std.proofs.lemmas.Int.{ints}
 use Rattle.schubert_laws.proofs.Differences.{along, along_ext, along_add, along_neg}
 use Rattle.schubert_laws.proofs.Exchanges.{raise}
@@ -52,23 +52,15 @@ diagram_ext s r (c ∷ cs) φ ψ e = diagram_ext s (suc r) cs (row r s c φ) (ro
 
 pub row_less : (r s c p q : ℕ) (φ : List ℕ → ℤ) (α : List ℕ) → row r s c (less p q φ) α ≡ less p q (row r s c φ) α
 row_less r s zero p q φ α = refl
-row_less r s (suc c) p q φ α =
-    row_ext r (suc s) c (less r s (less p q φ)) (less p q (less r s φ)) (less_less r s p q φ) α
-    ∙ row_less r (suc s) c p q (less r s φ) α
+row_less r s (suc c) p q φ α = search (rules, row_ext, less_less, (row_less r (suc s) c p q (less r s φ) α))
 
 pub diagram_less : (s r : ℕ) (cs : List ℕ) (p q : ℕ) (φ : List ℕ → ℤ) (α : List ℕ) → diagram s r cs (less p q φ) α ≡ less p q (diagram s r cs φ) α
 diagram_less s r [] p q φ α = refl
-diagram_less s r (c ∷ cs) p q φ α =
-    diagram_ext s (suc r) cs (row r s c (less p q φ)) (less p q (row r s c φ)) (row_less r s c p q φ) α
-    ∙ diagram_less s (suc r) cs p q (row r s c φ) α
-
--- ---- a row with one more factor at its end, and a diagram with one more empty row
+diagram_less s r (c ∷ cs) p q φ α = search (rules, diagram_ext, row_less, (diagram_less s (suc r) cs p q (row r s c φ) α))
 
 pub row_last : (r s c : ℕ) (φ : List ℕ → ℤ) (α : List ℕ) → row r s (suc c) φ α ≡ less r (s + c) (row r s c φ) α
 row_last r s zero φ α = let e : s ≡ s + 0 = omega arith in ap (λ t. less r t φ α) e
-row_last r s (suc c) φ α =
-    let e : suc s + c ≡ s + suc c = omega arith in
-    row_last r (suc s) c (less r s φ) α ∙ ap (λ t. less r t (row r (suc s) c (less r s φ)) α) e
+row_last r s (suc c) φ α = search (rules, (row_last r (suc s) c (less r s φ) α))
 
 pub diagram_raise : (s r k i : ℕ) (cs : List ℕ) (φ : List ℕ → ℤ) (α : List ℕ) → k < length cs → i ≡ r + k
     → diagram s r (raise k cs) φ α ≡ less i (s + get_or cs k 0) (diagram s r cs φ) α
@@ -80,14 +72,13 @@ diagram_raise s r zero i (c ∷ cs) φ α h e =
     ∙ ap (λ p. less p (s + c) (diagram s (suc r) cs (row r s c φ)) α) d
 diagram_raise s r (suc k) i (c ∷ cs) φ α h e = diagram_raise s (suc r) k i cs (row r s c φ) α (omega arith) (omega arith)
 
--- an empty row added at the end of a diagram does not change the pairing
 pub diagram_added : (s r : ℕ) (cs : List ℕ) (φ : List ℕ → ℤ) (α : List ℕ) → diagram s r (cs ++ (0 ∷ [])) φ α ≡ diagram s r cs φ α
 diagram_added s r [] φ α = refl
 diagram_added s r (c ∷ cs) φ α = diagram_added s (suc r) cs (row r s c φ) α
 
 -- ---- divided differences of products of x_i - y_j
 
--- the place r is neither k nor k + 1
+-- the statement that r is neither k nor k + 1
 abbrev pub Apart : ℕ → ℕ → Type 0
 Apart zero zero = ⊥
 Apart zero (suc zero) = ⊥
@@ -129,8 +120,6 @@ pub along_less : (k r s : ℕ) (φ : List ℕ → ℤ) (α : List ℕ) → Apart
 along_less k r s φ α p q =
     along_minus k (λ γ. φ (raise r γ)) (λ γ. φ (raise s γ)) α ∙ ap₂ ◌-ℤ◌ (along_raised k r φ α p) (along_raised k s φ α q)
 
--- let x and y be the variables at the places k and k + 1: multiplication by x·y commutes with the divided difference along k; in `along_either`
--- below, multiplication by x + y does
 along_both : (k : ℕ) (φ : List ℕ → ℤ) (α : List ℕ) → along k (λ γ. φ (raise k (raise (suc k) γ))) α ≡ along k φ (raise k (raise (suc k) α))
 along_both zero φ [] = refl
 along_both (suc k) φ [] = refl
@@ -152,8 +141,6 @@ along_either zero φ (a ∷ b ∷ α) =
     omega (arith, ints)
 along_either (suc k) φ (a ∷ α) = along_either k (λ β. φ (a ∷ β)) α
 
--- let x, y and z be the variables at the places k, k + 1 and s, with s another place: multiplication by (x - z)·(y - z) commutes with the divided
--- difference along k
 along_two : (k s : ℕ) (φ : List ℕ → ℤ) (α : List ℕ) → Apart k s → along k (less (suc k) s (less k s φ)) α ≡ less (suc k) s (less k s (along k φ)) α
 along_two k s φ α p =
     let b = along_both k φ α in
@@ -171,9 +158,7 @@ along_two k s φ α p =
 
 pub row_along : (k r s c : ℕ) (φ : List ℕ → ℤ) (α : List ℕ) → Apart k r → suc k < s → row r s c (along k φ) α ≡ along k (row r s c φ) α
 row_along k r s zero φ α p h = refl
-row_along k r s (suc c) φ α p h =
-    row_ext r (suc s) c (less r s (along k φ)) (along k (less r s φ)) (λ γ. sym (along_less k r s φ γ p (apart_after k s h))) α
-    ∙ row_along k r (suc s) c (less r s φ) α p (omega arith)
+row_along k r s (suc c) φ α p h = search (rules, row_ext, along, along_less, apart_after, (row_along k r (suc s) c (less r s φ) α p (omega arith)))
 
 rows_along : (k s c : ℕ) (φ : List ℕ → ℤ) (α : List ℕ) → suc k < s
     → row (suc k) s c (row k s c (along k φ)) α ≡ along k (row (suc k) s c (row k s c φ)) α
@@ -190,13 +175,10 @@ rows_along k s (suc c) φ α h =
 diagram_along : (k s r : ℕ) (cs : List ℕ) (φ : List ℕ → ℤ) (α : List ℕ) → suc k < r → suc k < s → diagram s r cs (along k φ) α ≡ along k (diagram s r cs φ) α
 diagram_along k s r [] φ α h l = refl
 diagram_along k s r (c ∷ cs) φ α h l =
-    diagram_ext s (suc r) cs (row r s c (along k φ)) (along k (row r s c φ)) (λ γ. row_along k r s c φ γ (apart_after k r h) l) α
-    ∙ diagram_along k s (suc r) cs (row r s c φ) α (omega arith) l
+    search (rules, diagram_ext, along, row_along, apart_after, (diagram_along k s (suc r) cs (row r s c φ) α (omega arith) l))
 
--- ---- a divided difference removes one factor from the product over a diagram
-
--- `along r` is the divided difference of a function φ: the diagram with the rows c + 1, c, cs of `along r φ` is `less r (s + c)` of `along r` of the
--- diagram with the rows c, c, cs of φ
+-- the operators `along r` and `diagram s r (c ∷ c ∷ cs)` commute, since the product over these rows is symmetric in the variables r and r + 1. If
+-- the first row has one factor more, this factor, `less r (s + c)`, is applied after `along r`.
 along_rows : (s r c : ℕ) (cs : List ℕ) (φ : List ℕ → ℤ) (α : List ℕ) → suc r < s
     → diagram s r (suc c ∷ c ∷ cs) (along r φ) α ≡ less r (s + c) (along r (diagram s r (c ∷ c ∷ cs) φ)) α
 along_rows s r c cs φ α h =
@@ -221,9 +203,7 @@ along_diagram s r zero i (a ∷ b ∷ c) d φ α u e h =
     ∙ ap₂ (λ j x. less j (s + a) (along j (diagram s r (a ∷ x ∷ c) φ)) α) (sym f) (sym g)
 along_diagram s r (suc k) i (a ∷ c) [] φ α u e h = absurd u
 along_diagram s r (suc k) i (a ∷ c) (b ∷ d) φ α u e h =
-    ap (λ x. diagram s (suc r) d (row r s x (along i φ)) α) (sym u.0)
-    ∙ diagram_ext s (suc r) d (row r s a (along i φ)) (along i (row r s a φ)) (λ γ. row_along i r s a φ γ (apart_before i r (omega arith)) h) α
-    ∙ along_diagram s (suc r) k i c d (row r s a φ) α u.1 (omega arith) h
+    search (rules, along, diagram_ext, row_along, apart_before, (along_diagram s (suc r) k i c d (row r s a φ) α u.1 (omega arith) h))
 
 -- ---- the values at the exponents 0, .., 0 of `along k φ`, the divided difference of φ along k
 

@@ -1,11 +1,12 @@
 -- The double Schubert polynomial of a list with a weakly decreasing code is the product of the x_i - y_j over the diagram of its code; and a last
--- letter that is greater than all others does not change a double Schubert polynomial.
-use Rattle.std.proofs.Common.{◌≡◌, ℕ, zero, suc, ◌+◌, ◌-◌, ◌<◌, ◌≤◌, List, [], ◌∷◌, ◌++◌, map, length, get_or, replicate, refl, sym, ◌∙◌, ap, ap₂, subst, arith, inl, inr, ◌⊎◌, cond, None, ℤ, pos, ◌+ℤ◌, ◌-ℤ◌, neg_ℤ, length-append, flat_map}
+-- letter that is greater than all others does not change a double Schubert polynomial. Here the *pairing* of a function φ of exponents with a
+-- polynomial is the sum of c·φ(α) over its terms c·x^α.
+use Rattle.std.proofs.Common.{◌≡◌, ℕ, zero, suc, ◌+◌, ◌-◌, ◌<◌, ◌≤◌, List, [], ◌∷◌, ◌++◌, map, length, get_or, replicate, refl, sym, ◌∙◌, ap, ap₂, subst, arith, inl, inr, ◌⊎◌, None, ℤ, ◌+ℤ◌, ◌-ℤ◌, neg_ℤ, length-append, flat_map, rules}
 use Rattle.std.proofs.lemmas.Simd.{map-map}
 use Rattle.std.proofs.lemmas.List.{map-append, length-replicate, replicate-append-replicate, append-nil}
 use Rattle.std.proofs.lemmas.Int.{ints}
 use Rattle.sym_model.specs.Sum.{Among, Once}
-use Rattle.sym_model.specs.Polynomial.{Poly, Same, In, one, plus, negate, times, pair, join, resize, fits_in}
+use Rattle.sym_model.specs.Polynomial.{Poly, Same, In, one, plus, negate, times, pair, join, resize}
 use Rattle.sym_model.specs.Partition.{part, after, cells, Falls}
 use Rattle.sym_model.specs.Alternant.{staircase}
 use Rattle.sym_model.specs.BetaList.{rising_pairs}
@@ -13,7 +14,6 @@ use Rattle.sym_model.specs.Permutation.{code, first_ascent}
 use Rattle.sym_model.specs.DividedDifference.{variable, variable_in}
 use Rattle.sym_model.specs.Expansion.{beside}
 use Rattle.schubert_laws.proofs.Dominant.{pair_x_to}
-use Rattle.sym_model.specs.Schubert.{schubert_over}
 use Rattle.sym_model.proofs.Exponents.{resize-nil, join_zeros, fits_in_length}
 use Rattle.sym_model.proofs.Polynomials.{pair_ext, pair_in, pair_add, pair_opposite, pair_plus, pair_negate, pair_times, pair_beside, pair_one, pair_restrict, same_from_pair, In_one, In_plus, In_negate, In_times, In_beside, In_restrict}
 use Rattle.schubert_laws.proofs.Differences.{along}
@@ -55,13 +55,7 @@ pub length-unit : (r : ℕ) → length {A = ℕ} (replicate r 0 ++ (1 ∷ [])) �
 length-unit r = let a = length-append {A = ℕ} (replicate r 0) (1 ∷ []) in let b = length-replicate {A = ℕ} r 0 in omega arith
 
 pub pair_variable_in : (r m : ℕ) (φ : List ℕ → ℤ) → r < m → pair (variable_in (suc r) m) φ ≡ φ (unit r m)
-pair_variable_in r m φ h =
-    let e : suc r - 1 ≡ r = omega arith in
-    let l = length-unit r in
-    pair_restrict m (variable (suc r)) φ
-    ∙ pair_x_to (replicate (suc r - 1) 0 ++ (1 ∷ [])) (λ α. cond (fits_in m α) (φ (resize m α)) (pos 0))
-    ∙ ap (λ i. cond (fits_in m (replicate i 0 ++ (1 ∷ []))) (φ (resize m (replicate i 0 ++ (1 ∷ [])))) (pos 0)) e
-    ∙ ap (λ b. cond b (φ (unit r m)) (pos 0)) (fits_in_length m (replicate r 0 ++ (1 ∷ [])) (omega arith))
+pair_variable_in r m φ h = search (rules, length-unit, pair_restrict, pair_x_to, fits_in_length)
 
 -- the pairing of φ with x_(r+1) - y_(s+1) is φ at the exponents of x_(r+1) minus φ at those of y_(s+1), for m variables x and m variables y
 pub pair_difference_in : (r s m : ℕ) (φ : List ℕ → ℤ) → r < m → s < m
@@ -76,10 +70,7 @@ pair_difference_in r s m φ h l =
 join_x : (r m k : ℕ) (β : List ℕ) → r < m → length β ≡ m + k → join (unit r m ++ replicate k 0) β ≡ raise r β
 join_x r zero k β h l = absurd (omega arith)
 join_x r (suc m) k [] h l = absurd (omega arith)
-join_x zero (suc m) k (b ∷ β) h l =
-    let e : 1 + b ≡ suc b = omega arith in
-    let z = resize-nil m in
-    ap₂ ◌∷◌ e (ap (λ α. join (α ++ replicate k 0) β) z ∙ ap (λ α. join α β) (replicate-append-replicate m k 0) ∙ join_zeros (m + k) β (omega arith))
+join_x zero (suc m) k (b ∷ β) h l = search (rules, resize-nil, replicate-append-replicate, join_zeros)
 join_x (suc r) (suc m) k (b ∷ β) h l = let e : 0 + b ≡ b = omega arith in ap₂ ◌∷◌ e (join_x r m k β (omega arith) (omega arith))
 
 join_y : (s m k : ℕ) (β : List ℕ) → s < k → length β ≡ m + k → join (replicate m 0 ++ unit s k) β ≡ raise (m + s) β
@@ -90,10 +81,7 @@ join_y s zero k β h l =
     append-nil-join : (t n : ℕ) (γ : List ℕ) → t < n → length γ ≡ n → raise t γ ≡ join (unit t n) γ
     append-nil-join t n γ h l = let e : n ≡ n + 0 = omega arith in sym (join_x t n 0 γ h (omega arith)) ∙ ap (λ α. join α γ) (append-nil (unit t n))
 join_y s (suc m) k [] h l = absurd (omega arith)
-join_y s (suc m) k (b ∷ β) h l =
-    let e : 0 + b ≡ b = omega arith in
-    let f : suc (m + s) ≡ suc m + s = omega arith in
-    ap₂ ◌∷◌ e (join_y s m k β h (omega arith)) ∙ ap (λ i. raise i (b ∷ β)) f
+join_y s (suc m) k (b ∷ β) h l = search (rules, raise, (join_y s m k β h (omega arith)))
 
 pub pair_difference : (m r s : ℕ) (f : Poly) (φ : List ℕ → ℤ) → In (m + m) f → r < m → s < m → pair (times (difference_in (suc r) (suc s) m) f) φ ≡ pair f (less r (m + s) φ)
 pair_difference m r s f φ i h l =
@@ -166,12 +154,8 @@ In_difference_product m n = In_rows m (λ i. n - i) 0 n
 pub In_double : (m : ℕ) (w : List ℕ) → In (m + m) (double_schubert w m)
 In_double m w = In_descended (difference_product (length w) m) (m + m) (rising_pairs w) w (In_difference_product m (length w))
 
--- ---- if the code of a list is weakly decreasing, its double Schubert polynomial is the product of the x_i - y_j over the diagram of the code
-
 pub pair_double_ascent : (m : ℕ) (w : List ℕ) (k : ℕ) (φ : List ℕ → ℤ) → Rises k w → pair (double_schubert w m) φ ≡ pair (double_schubert (exchange_at k w) m) (along k φ)
-pair_double_ascent m w k φ r =
-    pair_ascent (difference_product (length w) m) w k φ r
-    ∙ ap (λ n. pair (schubert_over (difference_product n m) (exchange_at k w)) (along k φ)) (sym (length-exchange_at k w))
+pair_double_ascent m w k φ r = search (rules, pair_ascent, exchange_at, along, length-exchange_at)
 
 double_dominant_within : (n m : ℕ) (w : List ℕ) (φ : List ℕ → ℤ) → rising_pairs w < n → length w ≤ m → Once w → Falls (code w)
     → pair (double_schubert w m) φ ≡ diagram m 0 (code w) φ (replicate (m + m) 0)
@@ -198,8 +182,6 @@ double_dominant_within (suc n) m w φ b h o f = by (first_ascent_cases w) (λ v 
 pub double_dominant : (m : ℕ) (w : List ℕ) (φ : List ℕ → ℤ) → length w ≤ m → Once w → Falls (code w)
     → pair (double_schubert w m) φ ≡ diagram m 0 (code w) φ (replicate (m + m) 0)
 double_dominant m w φ h o f = double_dominant_within (suc (rising_pairs w)) m w φ (omega arith) h o f
-
--- ---- a last letter that is greater than all others does not change the double Schubert polynomial
 
 last_within : (n m p : ℕ) (w : List ℕ) (φ : List ℕ → ℤ) → rising_pairs w < n → length w < m → Once w → ((a : ℕ) → Among a w → a < p)
     → pair (double_schubert (w ++ (p ∷ [])) m) φ ≡ pair (double_schubert w m) φ
@@ -233,8 +215,6 @@ pub last_letter_double : (m p : ℕ) (w : List ℕ) → length w < m → Once w 
 last_letter_double m p w h o l =
     same_from_pair (double_schubert (w ++ (p ∷ [])) m) (double_schubert w m) (λ φ. last_within (suc (rising_pairs w)) m p w φ (omega arith) h o l)
 
--- ---- pairing with the product of the x_i - y_j over the cells of a diagram
-
 pub pair_cells : (m : ℕ) (cs : List ℕ) (φ : List ℕ → ℤ) → length cs ≤ m → ((i : ℕ) → get_or cs i 0 ≤ m)
     → pair (product_of (m + m) (map (λ cell. difference_in cell.0 cell.1 m) (cells cs []))) φ ≡ diagram m 0 cs φ (replicate (m + m) 0)
 pair_cells m cs φ h b =
@@ -257,7 +237,6 @@ pair_cells m cs φ h b =
         let y : get_or γ (a + 1 - 1) 0 - 0 ≡ c = omega arith in
         ap₂ ◌∷◌ y (parts_after γ (a + 1) β (λ i. let d : a + 1 + i ≡ a + suc i = omega arith in ap (λ k. get_or γ k 0) d ∙ e (suc i)))
 
--- each entry of the code of a list is at most the length of the list
 entry_small : (w : List ℕ) (i : ℕ) → get_or (code w) i 0 ≤ length w
 entry_small [] i = omega arith
 entry_small (a ∷ w) zero = let s = (code_is_code (a ∷ w)).0 in let l = length-code w in omega arith

@@ -1,5 +1,6 @@
--- Monk's rule and the transition rule for double Schubert polynomials of permutations.
-use Rattle.std.proofs.Common.{◌≡◌, ℕ, zero, suc, ◌+◌, ◌-◌, ◌<◌, ◌≤◌, max, List, [], ◌∷◌, ◌++◌, length, get_or, refl, sym, ◌∙◌, ap, ap₂, subst, arith, inl, inr, cond, ℤ, pos, ◌-ℤ◌, length-append, flat_map}
+-- Monk's rule and the transition rule for double Schubert polynomials of permutations. A letter of a permutation is *fixed* if it is equal to its
+-- place; fixed letters can be added at the end of a permutation.
+use Rattle.std.proofs.Common.{◌≡◌, ℕ, zero, suc, ◌+◌, ◌-◌, ◌<◌, ◌≤◌, max, List, [], ◌∷◌, ◌++◌, length, get_or, refl, sym, ◌∙◌, ap, ap₂, subst, arith, inl, inr, cond, ℤ, pos, ◌-ℤ◌, length-append, flat_map, rules}
 use Rattle.std.proofs.lemmas.Int.{ints}
 use Rattle.std.proofs.lemmas.Bool.{cases_lt}
 use Rattle.std.proofs.lemmas.List.{append-nil, get_or_past, get_or_default}
@@ -46,14 +47,8 @@ stable m φ = record { added = λ w k o h. double_added m k w φ o h }
 pub double_kept : (m : ℕ) (w : List ℕ) → IsOneLine w → length w ≤ m → Same (double_schubert (kept w) m) (double_schubert w m)
 double_kept m w o h = same_from_pair (double_schubert (kept w) m) (double_schubert w m) (λ φ. kept_value m (paired m φ) w (stable m φ) o h)
 
--- ---- the letters of a permutation with fixed letters added
-
 letter_longer : (w : List ℕ) (k q : ℕ) → q < length w + (k + 1) → get_or (longer w k) q 0 ≡ letter w (suc q)
-letter_longer w k q h =
-    let i : q ≡ suc q - 1 = omega arith in
-    let la = length-append w (after (length w) (k + 1)) in
-    let lb = length_after (length w) (k + 1) in
-    get_or_default (longer w k) q 0 (suc q) (omega arith) ∙ ap (λ j. get_or (longer w k) j (suc q)) i ∙ letter_added (k + 1) w (suc q) (omega arith)
+letter_longer w k q h = search (rules, length-append, length_after, get_or_default, longer, letter_added)
 
 -- ---- Monk's rule for a permutation in m variables x and m variables y
 
@@ -84,7 +79,6 @@ letter_small w i o h = elim (cases_lt (i - 1) (length w)) [
   | inr l ↦ let p = get_or_past w (i - 1) i l in omega arith
 ]
 
--- if a = b, pairing φ with (x_(q+1) - y_b)·f is pairing φ with (x_(q+1) + (-y_a))·f
 factor_pairs : (m q a b : ℕ) (f : Poly) (φ : List ℕ → ℤ) → In (m + m) f → q < m → a ≡ b → 1 ≤ b → b ≤ m
     → pair (times (difference_in (suc q) b m) f) φ ≡ pair (times (plus (variable_after q) (minus_y m a)) f) φ
 factor_pairs m q a b f φ i h e c l =

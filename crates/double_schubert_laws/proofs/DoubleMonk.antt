@@ -1,5 +1,5 @@
 -- Monk's rule for double Schubert polynomials of lists whose last letter is greater than all others.
-use Rattle.std.proofs.Common.{◌≡◌, ℕ, zero, suc, ◌+◌, ◌-◌, ◌<◌, ◌≤◌, List, [], ◌∷◌, ◌++◌, length, get_or, replicate, refl, sym, ◌∙◌, ap, ap₂, subst, arith, inl, inr, ℤ, neg_ℤ, length-append}
+use Rattle.std.proofs.Common.{◌≡◌, ℕ, zero, suc, ◌+◌, ◌-◌, ◌<◌, ◌≤◌, List, [], ◌∷◌, ◌++◌, length, get_or, replicate, refl, sym, ◌∙◌, ap, subst, arith, inl, inr, ℤ, neg_ℤ, length-append, rules}
 use Rattle.std.proofs.Math.ListN.{get_or-append}
 use Rattle.sym_model.specs.Sum.{Among, Once}
 use Rattle.sym_model.specs.Polynomial.{Poly, negate, times, pair, join}
@@ -10,7 +10,6 @@ use Rattle.sym_model.specs.DividedDifference.{differences_after}
 use Rattle.sym_model.specs.Schubert.{schubert_over}
 use Rattle.sym_model.proofs.Polynomials.{pair_in, pair_negate, pair_times, same_from_pair}
 use Rattle.sym_model.proofs.Parts.{length-staircase}
-use Rattle.schubert_laws.proofs.Climbs.{across, across_ext}
 use Rattle.schubert_laws.proofs.Differences.{along, pair_differences}
 use Rattle.schubert_laws.proofs.Exchanges.{raise, length-exchange_at}
 use Rattle.schubert_laws.proofs.DifferenceLaws.{variable_after}
@@ -24,21 +23,13 @@ use Rattle.sym_model.specs.DoubleSchubert.{difference_product, double_schubert}
 use Rattle.double_schubert_laws.proofs.DiagramProducts.{less, diagram, diagram_less, diagram_raise}
 use Rattle.double_schubert_laws.proofs.DoubleDominant.{pair_less, In_double, In_difference_product, double_dominant}
 
--- ---- multiplication by a variable y commutes with divided differences in x
-
-joined_zero : (c : ℕ) → 0 + c ≡ c
-joined_zero c = omega arith
-
 along_joined : (k s : ℕ) (φ : List ℕ → ℤ) (α : List ℕ) → suc k < s → suc k < length α
     → along k (λ β. φ (join (replicate s 0 ++ (1 ∷ [])) β)) α ≡ along k φ (join (replicate s 0 ++ (1 ∷ [])) α)
 along_joined k s φ [] h l = absurd (omega arith)
 along_joined zero zero φ (a ∷ α) h l = absurd (omega arith)
 along_joined zero (suc zero) φ (a ∷ α) h l = absurd (omega arith)
 along_joined zero (suc (suc s)) φ (a ∷ []) h l = absurd (omega arith)
-along_joined zero (suc (suc s)) φ (a ∷ b ∷ α) h l =
-    across_ext (λ c d. φ ((0 + c) ∷ (0 + d) ∷ join (replicate s 0 ++ (1 ∷ [])) α)) (λ c d. φ (c ∷ d ∷ join (replicate s 0 ++ (1 ∷ [])) α))
-    (λ c d. ap₂ (λ x y. φ (x ∷ y ∷ join (replicate s 0 ++ (1 ∷ [])) α)) (joined_zero c) (joined_zero d)) a b
-    ∙ ap₂ (λ x y. across (λ c d. φ (c ∷ d ∷ join (replicate s 0 ++ (1 ∷ [])) α)) x y) (sym (joined_zero a)) (sym (joined_zero b))
+along_joined zero (suc (suc s)) φ (a ∷ b ∷ α) h l = search rules
 along_joined (suc k) zero φ (a ∷ α) h l = absurd (omega arith)
 along_joined (suc k) (suc s) φ (a ∷ α) h l = along_joined k s (λ β. φ ((0 + a) ∷ β)) α (omega arith) (omega arith)
 
@@ -61,8 +52,6 @@ y_passes m n a l k f h i =
     (λ α e. along_joined k (m + (a - 1)) φ α (omega arith) (omega arith)))
     ∙ sym (pair_differences k (times (minus_y m a) f) φ ∙ pair_minus_y m a f (along k φ)))
 
--- ---- a permutation of n letters without an ascent has the letters n, .., 1
-
 abbrev AreFrom : ℕ → List ℕ → Type 0
 AreFrom n v = (a : ℕ) → Among a v → (1 ≤ a) × (a ≤ n)
 
@@ -83,7 +72,7 @@ falling_letters (suc (suc n)) (a ∷ v) e o h i zero l =
 falling_letters (suc n) (a ∷ v) e o h i (suc r) l =
     falling_letters n v (omega arith) o.1 (λ k. h (suc k)) (below_next_letter n a v i (greater_head a v o h)) r (omega arith)
 
--- ---- permutations v of n letters with n + 1 added at the end, and Monk's rule for these if v has no ascent
+-- ---- permutations v of n letters (`IsStart`), and Monk's rule for v followed by the letter n + 1 if v has no ascent
 
 pub record IsStart (n : ℕ) (v : List ℕ) : Type 0 where
   pub size : length v ≡ n
@@ -126,7 +115,6 @@ monk_falling m n r v s h l k φ =
     ∙ sym (sum_below_only (length (v ++ (suc n ∷ []))) (length v) (value (difference_product (length (v ++ (suc n ∷ []))) m) φ (v ++ (suc n ∷ [])) r) (omega arith)
     (λ j q d. falling_elsewhere (difference_product (length (v ++ (suc n ∷ []))) m) φ (suc n) r j v s.once h (omega arith) (omega arith)))
   where
-    -- the letter at the index r of v, a permutation of n letters, is at most n
     get_small : r < length v → get_or (v ++ (suc n ∷ [])) r 0 - 1 ≡ get_or (code (v ++ (suc n ∷ []))) r 0 → code (v ++ (suc n ∷ [])) ≡ staircase n ++ (0 ∷ []) → get_or (v ++ (suc n ∷ [])) r 0 ≤ n
     get_small q e f =
         let a = get_or-append v (suc n ∷ []) 0 r q in

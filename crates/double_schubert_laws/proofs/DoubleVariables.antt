@@ -1,5 +1,5 @@
 -- Monk's rule and the transition rule for double Schubert polynomials in every number of variables.
-use Rattle.std.proofs.Common.{◌≡◌, ℕ, zero, suc, ◌+◌, ◌-◌, ◌<◌, ◌≤◌, max, List, [], ◌∷◌, ◌++◌, ◌==◌, ◌&&◌, map, length, replicate, refl, sym, ◌∙◌, ap, ap₂, subst, arith, cond, true, None, ℤ, pos, ◌-ℤ◌, length-append}
+use Rattle.std.proofs.Common.{◌≡◌, ℕ, zero, suc, ◌+◌, ◌-◌, ◌<◌, ◌≤◌, max, List, [], ◌∷◌, ◌++◌, ◌==◌, ◌&&◌, map, length, replicate, refl, sym, ◌∙◌, ap, ap₂, subst, arith, cond, true, None, ℤ, pos, ◌-ℤ◌, length-append, rules}
 use Rattle.std.proofs.lemmas.Int.{ints}
 use Rattle.std.specs.List.{swap}
 use Rattle.std.proofs.lemmas.List.Edits.{length-swap}
@@ -9,15 +9,13 @@ use Rattle.sym_model.specs.Polynomial.{Same, coefficient, one, plus, negate, tim
 use Rattle.sym_model.specs.Partition.{after, Falls}
 use Rattle.sym_model.specs.PlaceOrders.{inversions}
 use Rattle.sym_model.specs.Permutation.{IsOneLine, IsTransition, IsDescent, exchanged, last_descent, letter, with_fixed, kept, times_swap, covers_up, covers_down}
-use Rattle.sym_model.specs.DividedDifference.{divided_difference, variable, variable_in}
-use Rattle.sym_model.specs.Schubert.{schubert_over}
+use Rattle.sym_model.specs.DividedDifference.{divided_difference, variable_in}
 use Rattle.sym_model.specs.Expansion.{beside}
 use Rattle.sym_model.proofs.Sums.{total_among, Among_from_map, Among_from_select}
 use Rattle.sym_model.proofs.AfterLists.{length_after, after_among}
 use Rattle.sym_model.proofs.Exponents.{length-resize, resize-nil, resize_zeros, fits_in_zeros}
-use Rattle.sym_model.proofs.Polynomials.{pair_beside, pair_one, pair_plus, pair_negate, pair_each, pair_restrict, pair_determined, same_from_pair, Same_sym, times_respects}
+use Rattle.sym_model.proofs.Polynomials.{pair_beside, pair_one, pair_plus, pair_negate, pair_each, pair_determined, same_from_pair, Same_sym, times_respects}
 use Rattle.sym_model.proofs.Parts.{Falls-zeros}
-use Rattle.schubert_laws.proofs.Dominant.{pair_x_to}
 use Rattle.schubert_laws.proofs.Transition.{last_descent_is}
 use Rattle.schubert_laws.proofs.LowerPermutations.{code_never_falls}
 use Rattle.schubert_laws.proofs.FixedTails.{kept_tail, one_line_kept}
@@ -25,7 +23,7 @@ use Rattle.schubert_laws.proofs.Paths.{any_descent}
 use Rattle.schubert_laws.proofs.Swaps.{swap_at}
 use Rattle.schubert_laws.proofs.MonkFromOne.{one_line_swap}
 use Rattle.schubert_laws.proofs.TransitionFromOne.{step_of, kept_swap}
-use Rattle.sym_model.specs.DoubleSchubert.{difference_in, difference_product, double_schubert, restrict_both, double_schubert_in, double_schuberts_in}
+use Rattle.sym_model.specs.DoubleSchubert.{difference_in, double_schubert, restrict_both, double_schubert_in, double_schuberts_in}
 use Rattle.double_schubert_laws.proofs.DoubleDominant.{double_dominant, unit, pair_difference_in, In_difference_in, In_double, length-unit}
 use Rattle.double_schubert_laws.proofs.DiagramProducts.{diagram}
 use Rattle.double_schubert_laws.proofs.BothRestrictions.{both, pair_restrict_both, in_any, restrict_both-times}
@@ -56,11 +54,7 @@ abbrev power_at : ℕ → List ℕ
 power_at r = replicate r 0 ++ (1 ∷ [])
 
 pair_variable : (r n : ℕ) (φ : List ℕ → ℤ) → pair (variable_in (suc r) n) φ ≡ cond (fits_in n (power_at r)) (φ (unit r n)) (pos 0)
-pair_variable r n φ =
-    let e : suc r - 1 ≡ r = omega arith in
-    pair_restrict n (variable (suc r)) φ
-    ∙ pair_x_to (power_at (suc r - 1)) (λ α. cond (fits_in n α) (φ (resize n α)) (pos 0))
-    ∙ ap (λ i. cond (fits_in n (power_at i)) (φ (resize n (power_at i))) (pos 0)) e
+pair_variable r n φ = search rules
 
 pair_difference_any : (r s n : ℕ) (φ : List ℕ → ℤ) → pair (difference_in (suc r) (suc s) n) φ
     ≡ cond (fits_in n (power_at r)) (φ (unit r n ++ replicate n 0)) (pos 0) -ℤ cond (fits_in n (power_at s)) (φ (replicate n 0 ++ unit s n)) (pos 0)
@@ -76,28 +70,13 @@ both_parts : (m n : ℕ) (φ : List ℕ → ℤ) (α β : List ℕ) → length �
 both_parts m n φ α β e = ap₂ (λ x y. cond (fits_in n x && fits_in n y) (φ (resize n x ++ resize n y)) (pos 0)) (take_at α β m e) (drop_at α β m e)
 
 both_x : (r m n : ℕ) (φ : List ℕ → ℤ) → r < m → both m n φ (unit r m ++ replicate m 0) ≡ cond (fits_in n (power_at r)) (φ (unit r n ++ replicate n 0)) (pos 0)
-both_x r m n φ h =
-    let l = length-unit r in
-    both_parts m n φ (unit r m) (replicate m 0) (length-resize m (power_at r))
-    ∙ ap₂ (λ b c. cond (b && c) (φ (resize n (unit r m) ++ resize n (replicate m 0))) (pos 0)) (fits_again n m (power_at r) (omega arith)) (fits_in_zeros n m)
-    ∙ ap₂ (λ b l. cond b (φ l) (pos 0)) (and-true (fits_in n (power_at r))) (ap₂ (λ x y. x ++ y) (resize_again n m (power_at r) (omega arith)) (resize_zeros n m))
+both_x r m n φ h = search (rules, length-unit, both_parts, unit, length-resize, fits_again, fits_in_zeros, and-true, resize_again, resize_zeros)
 
 both_y : (s m n : ℕ) (φ : List ℕ → ℤ) → s < m → both m n φ (replicate m 0 ++ unit s m) ≡ cond (fits_in n (power_at s)) (φ (replicate n 0 ++ unit s n)) (pos 0)
-both_y s m n φ h =
-    let l = length-unit s in
-    both_parts m n φ (replicate m 0) (unit s m) (length-replicate {A = ℕ} m 0)
-    ∙ ap₂ (λ b c. cond (b && c) (φ (resize n (replicate m 0) ++ resize n (unit s m))) (pos 0)) (fits_in_zeros n m) (fits_again n m (power_at s) (omega arith))
-    ∙ ap (λ l. cond (fits_in n (power_at s)) (φ l) (pos 0)) (ap₂ (λ x y. x ++ y) (resize_zeros n m) (resize_again n m (power_at s) (omega arith)))
+both_y s m n φ h = search (rules, length-unit, both_parts, unit, length-replicate, fits_in_zeros, fits_again, resize_zeros, resize_again)
 
 difference_fewer : (r s m n : ℕ) → r < m → s < m → Same (restrict_both m n (difference_in (suc r) (suc s) m)) (difference_in (suc r) (suc s) n)
-difference_fewer r s m n h l =
-    same_from_pair (restrict_both m n (difference_in (suc r) (suc s) m)) (difference_in (suc r) (suc s) n) (λ φ.
-    pair_restrict_both m n (difference_in (suc r) (suc s) m) φ
-    ∙ pair_difference_in r s m (both m n φ) h l
-    ∙ ap₂ ◌-ℤ◌ (both_x r m n φ h) (both_y s m n φ l)
-    ∙ sym (pair_difference_any r s n φ))
-
--- ---- bounds for the numbers of letters of covers
+difference_fewer r s m n h l = search (rules, same_from_pair, pair_restrict_both, pair_difference_in, both, both_x, both_y, pair_difference_any)
 
 length_times_swap : (i j : ℕ) (w : List ℕ) → length (times_swap i j w) ≤ max (length w) j
 length_times_swap i j w =
@@ -137,12 +116,8 @@ in_variables m n w φ h =
     ∙ pair_determined (restrict_both m n (double_schubert w m)) (double_schubert_in w n) φ (in_any (m - length w) m n w (omega arith))
 
 in_sum : (m n : ℕ) (ws : List (List ℕ)) (φ : List ℕ → ℤ) → ((w : List ℕ) → Among w ws → length w ≤ m) → total (paired m (both m n φ)) ws ≡ pair (double_schuberts_in ws n) φ
-in_sum m n ws φ h =
-    total_among (paired m (both m n φ)) (λ w. pair (double_schubert_in w n) φ) ws (λ w i. in_variables m n w φ (h w i))
-    ∙ sym (pair_each (λ (w : List ℕ). double_schubert_in w n) ws φ)
+in_sum m n ws φ h = search (rules, total_among, paired, both, in_variables, pair_each)
 
--- the product of x_(r+1) - y_(s+1) and the double Schubert polynomial of w, in n variables x and n variables y, is the restriction of their product
--- in m variables x and m variables y
 in_product : (r s m n : ℕ) (w : List ℕ) (φ : List ℕ → ℤ) → r < m → s < m → length w ≤ m
     → pair (times (difference_in (suc r) (suc s) n) (double_schubert_in w n)) φ ≡ pair (times (difference_in (suc r) (suc s) m) (double_schubert w m)) (both m n φ)
 in_product r s m n w φ h l k =
@@ -180,8 +155,6 @@ double_monk_in (suc q) n w o h =
     subst (λ x. Same (times (difference_in (suc q) x n) (double_schubert_in w n)) (plus (double_schuberts_in (covers_up (suc q) w) n) (negate (double_schuberts_in (covers_down (suc q) w) n)))) (sym e)
     (monk_in_letter q (letter w (suc q) - 1) n w o e)
 
--- ---- the transition rule in every number of variables
-
 transition_in_letter : (q l n r s : ℕ) (w v : List ℕ) → IsOneLine w → IsTransition w r s → r ≡ suc q → v ≡ times_swap r s w → letter v r ≡ suc l → suc l ≤ length w → length v ≤ length w → r ≤ length w
     → Same (double_schubert_in w n) (plus (times (difference_in (suc q) (suc l) n) (double_schubert_in v n)) (double_schuberts_in (covers_down r v) n))
 transition_in_letter q l n r s w v o t e f g h k i =
@@ -197,8 +170,8 @@ transition_in_letter q l n r s w v o t e f g h k i =
     let z = pair_plus (times (difference_in (suc q) (suc l) n) (double_schubert_in v n)) (double_schuberts_in (covers_down r v) n) φ in
     omega (arith, ints))
 
--- the transition rule: for the places r and s of the rule and v = w·t_rs, S_w is (x_r - y_v(r))·S_v plus the sum of S_u over the covers u = v·t_ir
--- with i < r
+-- the transition rule: let r be the last descent of w, s the last place whose letter is smaller than w(r), and v = w·t_rs. Then S_w is
+-- (x_r - y_v(r))·S_v plus the sum of S_u over the covers u = v·t_ir with i < r.
 pub double_transition_in : (r s n : ℕ) (w : List ℕ) → IsOneLine w → IsTransition w r s
     → Same (double_schubert_in w n) (plus (times (difference_in r (letter (times_swap r s w) r) n) (double_schubert_in (times_swap r s w) n)) (double_schuberts_in (covers_down r (times_swap r s w)) n))
 double_transition_in r s n w o t =
@@ -220,12 +193,8 @@ double_transition_in r s n w o t =
     transition_in_letter p.0 (letter (times_swap r s w) r - 1) n r s w (times_swap r s w) o t p.2 refl l (omega arith) (omega arith) (omega arith) α
     ∙ ap₂ (λ x y. coefficient (plus (times (difference_in x y n) (double_schubert_in (times_swap r s w) n)) (double_schuberts_in (covers_down r (times_swap r s w)) n)) α) (sym p.2) (sym l)
 
--- ---- laws of one double Schubert polynomial: descents, the number of variables, fixed letters
-
 pub any_descent_double : (w : List ℕ) (m i : ℕ) → IsDescent w i → Same (divided_difference i (double_schubert w m)) (double_schubert (exchanged i w) m)
-any_descent_double w m i d =
-    subst (λ n. Same (divided_difference i (double_schubert w m)) (schubert_over (difference_product n m) (exchanged i w))) (sym (length-swap w (i - 1) (i + 1 - 1)))
-    (any_descent (difference_product (length w) m) w i d)
+any_descent_double w m i d = search (rules, length-swap, any_descent)
 
 pub any_places : (w : List ℕ) (m n : ℕ) → length w ≤ m → Same (restrict_both m n (double_schubert w m)) (double_schubert_in w n)
 any_places w m n h = in_any (m - length w) m n w (omega arith)
@@ -238,8 +207,6 @@ kept_in w n o =
     sym (in_variables (length w) n (kept w) φ (omega arith))
     ∙ pair_determined (double_schubert (kept w) (length w)) (double_schubert w (length w)) (both (length w) n φ) (double_kept (length w) w o (omega arith))
     ∙ in_variables (length w) n w φ (omega arith))
-
--- ---- the double Schubert polynomial of the identity is 1
 
 diagram_nothing : (s r k : ℕ) (φ : List ℕ → ℤ) (α : List ℕ) → diagram s r (replicate k 0) φ α ≡ φ α
 diagram_nothing s r zero φ α = refl

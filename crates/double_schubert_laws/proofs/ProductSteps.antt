@@ -3,7 +3,7 @@
 --     product_step       the product of S_p and the term as a sum of products, by the transition rule for p
 --     product_identity   if p is the identity, the product of S_p and the term is the term
 --     product_start      if e is empty, the product of S_p and the term is S_p·S_w
-use Rattle.std.proofs.Common.{◌≡◌, ℕ, ◌+◌, ◌≤◌, List, [], ◌++◌, ◌&&◌, take, drop, length, replicate, cond, sym, ◌∙◌, ap, arith, length-append, None, ℤ, pos, ◌+ℤ◌, filter}
+use Rattle.std.proofs.Common.{◌≡◌, ℕ, ◌+◌, ◌≤◌, List, [], ◌++◌, ◌&&◌, take, drop, length, ◌∙◌, arith, length-append, None, ℤ, ◌+ℤ◌, filter, rules}
 use Rattle.std.proofs.lemmas.Int.{ints}
 use Rattle.std.proofs.lemmas.List.{replicate-append-replicate}
 use Rattle.sym_model.specs.Sum.{total}
@@ -81,18 +81,9 @@ product_identity n φ p w e o d =
     (times_respects (double_schubert_in p n) (one (n + n)) term term (identity_double p n o d) (Same_refl term))
     ∙ pair_determined (times (one (n + n)) term) term φ (one-times (n + n) term (In_shifted n w e))
 
--- y^e is 1 for the empty list e of exponents
 nothing_in_y : (n : ℕ) → Same (beside (one n) (x_to_in [] n)) (one (n + n))
 nothing_in_y n =
-    same_from_pair (beside (one n) (x_to_in [] n)) (one (n + n)) (λ φ.
-    pair_beside (one n) (x_to_in [] n) φ
-    ∙ pair_one n (λ α. pair (x_to_in [] n) (λ β. φ (α ++ β)))
-    ∙ pair_restrict n (x_to []) (λ β. φ (replicate n 0 ++ β))
-    ∙ pair_x_to [] (λ α. cond (fits_in n α) (φ (replicate n 0 ++ resize n α)) (pos 0))
-    ∙ ap (λ b. cond b (φ (replicate n 0 ++ resize n [])) (pos 0)) (fits_in_length n [] (omega arith))
-    ∙ ap (λ β. φ (replicate n 0 ++ β)) (resize-nil n)
-    ∙ ap φ (replicate-append-replicate n n 0)
-    ∙ sym (pair_one (n + n) φ))
+    search (rules, same_from_pair, pair_beside, pair_one, pair_restrict, pair_x_to, fits_in_length, resize-nil, replicate-append-replicate)
 
 pub product_start : (n : ℕ) (φ : List ℕ → ℤ) (p w : List ℕ) → acted n φ p (w, []) ≡ pair (times (double_schubert_in p n) (double_schubert_in w n)) φ
 product_start n φ p w =

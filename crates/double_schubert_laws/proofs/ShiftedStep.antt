@@ -39,7 +39,6 @@ in_y_respects n f g e =
     ∙ pair_ext (one n) (λ α. pair f (λ β. φ (α ++ β))) (λ α. pair g (λ β. φ (α ++ β))) (λ α. pair_determined f g (λ β. φ (α ++ β)) e)
     ∙ sym (pair_beside (one n) g φ))
 
--- y_j·y^e is y^e with the exponent of y_j raised by 1
 y_next : (n j : ℕ) (e : List ℕ) → Same (times (in_y n (x_to_in e n)) (in_y n (variable_in j n))) (in_y n (x_to_in (raised j e) n))
 y_next n j e =
     Same_trans (times (in_y n (x_to_in e n)) (in_y n (variable_in j n))) (in_y n (times (x_to_in e n) (variable_in j n))) (in_y n (x_to_in (raised j e) n))
@@ -56,14 +55,12 @@ pair_y_next n j w e φ =
     ∙ pair_determined (times (times y p) s) (times (in_y n (x_to_in (raised j e) n)) s) φ
     (times_respects (times y p) (in_y n (x_to_in (raised j e) n)) s s (Same_trans (times y p) (times p y) (in_y n (x_to_in (raised j e) n)) (times_comm y p) (y_next n j e)) (Same_refl s))
 
--- the pairing of φ with d·(p·s) is its pairing with p·(d·s)
 pair_swapped : (d p s : Poly) (φ : List ℕ → ℤ) → pair (times d (times p s)) φ ≡ pair (times p (times d s)) φ
 pair_swapped d p s φ =
     pair_determined (times d (times p s)) (times (times d p) s) φ (Same_sym (times (times d p) s) (times d (times p s)) (times_assoc d p s))
     ∙ pair_determined (times (times d p) s) (times (times p d) s) φ (times_respects (times d p) (times p d) s s (times_comm d p) (Same_refl s))
     ∙ pair_determined (times (times p d) s) (times p (times d s)) φ (times_assoc p d s)
 
--- f·(x_r - y_c) is f·(x_r - y_l) plus f·y_l minus f·y_c, stated for the pairings with φ
 pair_other_y : (n r c l : ℕ) (f : Poly) (φ : List ℕ → ℤ) → pair (times (difference_in r c n) f) φ
     ≡ (pair (times (difference_in r l n) f) φ +ℤ pair (times (in_y n (variable_in l n)) f) φ) -ℤ pair (times (in_y n (variable_in c n)) f) φ
 pair_other_y n r c l f φ =

@@ -1,5 +1,5 @@
 //! Double Schubert polynomials do not depend on the path of divided differences nor on fixed
-//! letters at the end of the permutation.
+//! letters at the end of the permutation. A letter is fixed if it is equal to its place.
 
 ghost use Rattle.std.specs.Prelude.{◌≡◌, ℕ, ◌+◌, ◌≤◌, List, [], None, map, length};
 ghost use Rattle.sym_model.specs.Sum.{Once};

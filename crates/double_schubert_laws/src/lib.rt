@@ -5,9 +5,10 @@
 //! What is proved:
 //!
 //! `double_schubert_law`: every path of divided differences in x gives the same double Schubert
-//! polynomial, fixed letters at the end of the permutation do not change it, and if the code is
-//! weakly decreasing, it is the product of the x_i - y_j over the diagram of the code.
-//! `double_monk_law`: Monk's rule and the transition rule for double Schubert polynomials.
+//! polynomial, fixed letters (letters equal to their places) at the end of the permutation do not
+//! change it, and if the code is weakly decreasing, it is the product of the x_i - y_j over the
+//! diagram of the code. `double_monk_law`: Monk's rule and the transition rule for double Schubert
+//! polynomials.
 #![tactic(auto)]
 
 mod double_laws;

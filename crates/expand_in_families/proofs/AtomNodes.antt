@@ -1,4 +1,6 @@
--- The value in a target e, h or p of an atom: a list in the target, the denominator 1 and the degree of the atom.
+-- Atoms of expressions, which are basis elements of one of the bases m, e, h, p and s, expanded in the basis e, h or p. The value of an atom of
+-- degree d is a list of terms in that basis, which is d! times the polynomial of the atom, with the denominator 1. The absolute values of the
+-- coefficients of this list add up to at most `grown d`, which is d!·(2d)^d.
 use Rattle.std.proofs.Common.{◌≡◌, ℕ, ◌*◌, ◌^◌, ◌≤◌, List, subst, arith}
 use Rattle.sym_model.specs.Polynomial.{Poly}
 use Rattle.sym_model.specs.Partition.{size}
@@ -14,8 +16,9 @@ use Rattle.basis_change_laws.specs.JoinedLists.{Stands}
 use Rattle.expand_in_families.specs.Nodes.{ClearsTo}
 use Rattle.basis_change_laws.proofs.GrowthBounds.{grown}
 
--- let k be the number of cells of an atom in any of the five bases: a value c with the denominator 1 and the degree k represents the atom
--- (`ClearsTo`) if its terms are k! times the polynomial of the atom, and the absolute values of their coefficients add up to at most `grown k`
+-- let k be the number of cells of an atom (a basis element) in any of the five bases: a value c with the denominator 1 and the degree k represents
+-- the atom (`ClearsTo`) if its terms are k! times the polynomial of the atom, and the absolute values of their coefficients add up to at most `grown
+-- k`
 pub clears-atom : (P : ℕ → ℕ → Poly) (basis : Basis) (parts : List ℕ) (c : Node) → c.den ≡ 1 → c.degree ≡ size parts
     → Stands P (factorial (size parts)) (grown (size parts)) (size parts) (λ n. basis_polynomial basis parts n) c.terms → ClearsTo P (atom basis parts) c
 clears-atom P basis parts c d g s =

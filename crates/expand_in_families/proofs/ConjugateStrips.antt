@@ -14,8 +14,6 @@ use Rattle.product_laws.specs.StripLists.{ListsEach, AddsHorizontalStrip, AddsVe
 use Rattle.sym_model.proofs.Conjugates.{count_from-most, count_from-least, IsPartition-conjugate, rows-conjugate, size-conjugate}
 use Rattle.std.proofs.lemmas.List.{get_or_past}
 
--- ---- the rows of the conjugate are the columns of the shape
-
 column_at : (parts : List ℕ) (k : ℕ) → Falls parts → get_or (conjugate parts) k 0 ≡ count_from (suc k) parts
 column_at parts k f = elim (cases_lt k (columns parts)) [
   | inl l ↦ at_letter (λ j. count_from j parts) 0 (columns parts) k l ∙ ap (λ j. count_from j parts) (let e : 0 + suc k ≡ suc k = omega arith in e)
@@ -32,8 +30,6 @@ part-conjugate parts (suc k) f h = let d : suc k - 1 ≡ k = omega arith in ap (
 
 row_reaches : (j : ℕ) (parts : List ℕ) (r : ℕ) → Falls parts → 0 < j → j ≤ get_or parts r 0 → suc r ≤ count_from j parts
 row_reaches j parts r f h l = count_from-least j parts r f (positive_within parts r (omega arith)) l
-
--- ---- the conjugate of the conjugate is the shape
 
 twice_at : (parts : List ℕ) (k : ℕ) → Falls parts → get_or (conjugate (conjugate parts)) k 0 ≡ get_or parts k 0
 twice_at parts k f =

@@ -1,5 +1,5 @@
--- At the end, the list that represents an expression is divided by its denominator times the factorial of its degree: the result expands the
--- expression in the basis of the target.
+-- The last step of an expansion in the basis e, h or p. The list that represents an expression of degree d with the denominator D is D·d! times the
+-- expression. If its coefficients are divided by D·d!, the result is the expansion of the expression in this basis.
 use Rattle.std.proofs.Common.{◌≡◌, ℕ, ◌*◌, ◌<◌, List, sym, ap, ◌∙◌, ℤ, pos, ◌*ℤ◌}
 use Rattle.sym_model.specs.Polynomial.{Poly, coefficient}
 use Rattle.sym_model.specs.Bases.{product_over}

@@ -1,4 +1,5 @@
--- The special rim hooks of a shape are rim hooks that occupy the rows from some row to the last one, and their signs are those of their heights.
+-- A special rim hook of a shape, which is a rim hook with the first cell of the last row, occupies the rows from some row to the last one, and its
+-- sign is (-1)^(height - 1).
 use Rattle.std.proofs.Common.{◌≡◌, ℕ, zero, suc, ◌+◌, ◌-◌, ◌<◌, ◌≤◌, List, [], ◌∷◌, map, length, get_or, refl, sym, ◌∙◌, ap, subst, inl, inr, arith}
 use Rattle.std.proofs.lemmas.List.{length-map, get_or_past}
 use Rattle.sym_model.specs.Sum.{Among}
@@ -11,8 +12,6 @@ use Rattle.sym_model.proofs.SortedParts.{IsPartition_tail}
 use Rattle.strip_laws.specs.HookRows.{IsHookRows}
 use Rattle.strip_laws.proofs.RimHooks.{hook_from_rows, height_of_rows}
 use Rattle.expand_in_families.specs.SpecialHooks.{SpecialHook, shortened, below_row, special_hooks}
-
--- ---- the rows of a shape without its first column
 
 lowered_row : (parts : List ℕ) (k : ℕ) → get_or (map (λ a. a - 1) parts) k 0 ≡ get_or parts k 0 - 1
 lowered_row [] k = refl

@@ -1,5 +1,7 @@
--- A Schur polynomial as a sum over the special rim hooks of its shape: the summand of a hook is the product of its sign, h_k or e_k and the Schur
--- polynomial of the remaining shape.
+-- A Schur polynomial as a sum over the special rim hooks of its shape, the rim hooks with the first cell of its last row. The summand of a hook is
+-- the product of its sign, h_k or e_k and the Schur polynomial of the remaining shape, with k the number of cells of the hook. Let the shape have d
+-- cells. In the list for d! times the Schur polynomial, the absolute values of the coefficients add up to at most `grown d`, which is d!·(2d)^d. In
+-- the list for d! times one summand, they add up to at most `peeled d`, which is d!·2·(2d)^(d-1).
 --     hook-law         the polynomial is the sum over the hooks
 --     hook-product     the summand of one hook, as a list
 --     hooks-next       the sum with the summand of one more hook
@@ -58,8 +60,6 @@ hook-at (a ∷ parts) (suc i) h =
 pub hook-rest : (parts : List ℕ) (i : ℕ) → IsPartition parts → i < length parts → IsRest parts (hook_of parts i)
 hook-rest parts i p h = hook_rest parts (hook_of parts i) p (among-slice (special_hooks parts) i (hook_of parts i) (hook-at parts i h))
 
--- ---- the polynomial of a shape as the sum over its special rim hooks
-
 abbrev pub hook_term : Family → ℕ → SpecialHook → Poly
 hook_term family n h = scale h.sign (times (polynomial_of family h.cells n) (schur_in family h.rest n))
 
@@ -72,8 +72,6 @@ each-more : (f : SpecialHook → Poly) (hs : List SpecialHook) (i : ℕ) (h : Sp
 each-more f [] i h e = cc
 each-more f (g ∷ hs) zero h e = let same : g ≡ h = cc in append-nil (f g) ∙ ap f same
 each-more f (g ∷ hs) (suc i) h e = ap (λ l. f g ++ l) (each-more f hs i h e) ∙ sym (append_assoc (f g) (flat_map f (take i hs)) (f h))
-
--- ---- the bound `peeled d` for the summand of one hook of a shape of d cells; for d > 0, d·(`peeled d`) is `grown d`
 
 abbrev pub peeled : ℕ → ℕ
 peeled d = factorial d * (2 * (2 * d) ^ (d - 1))
@@ -112,8 +110,6 @@ peeled-part (suc j) s c h e =
     grouped : (c o x v y : ℕ) → c * ((o * (2 * x)) * (v * y)) ≡ (c * (o * v)) * (2 * (x * y))
     grouped c o x v y = omega arith
 
--- ---- the lists of the summands of the hooks, added one after another
-
 module _ (P : ℕ → ℕ → Poly) (places : (n k : ℕ) → In n (P k n)) where
   pub hook-product : (k s c : ℕ) (σ z : ℤ) (f g : ℕ → Poly) (W V : WholeTerms) → 0 < k → nat_abs σ ≡ 1 → z ≡ pos c *ℤ σ → c * (factorial k * factorial s) ≡ factorial (k + s)
       → Stands P (factorial k) (factorial k * 2 ^ k) k f W → Stands P (factorial s) (grown s) s g V
@@ -139,8 +135,9 @@ hooks-next P q B d f hs i h S T e s t =
     one_more : (i x : ℕ) → i * x + x ≤ (i + 1) * x
     one_more i x = omega arith
 
--- if S is d! times the sum of the summands of all special rim hooks of a shape of d cells, and its absolute values add up to at most `peeled d` times
--- the number of these hooks, then S is d! times the polynomial of the shape, and its absolute values add up to at most `grown d`
+-- let S be d! times the sum of the summands of all special rim hooks of a shape of d cells, and let the absolute values of its coefficients add up to
+-- at most `peeled d` times the number of these hooks. Then S is d! times the polynomial of the shape, and the absolute values of its coefficients add
+-- up to at most `grown d`
 pub hooks-done : (P : ℕ → ℕ → Poly) (family : Family) → family ≢ PowerSum → (parts : List ℕ) (i : ℕ) (S : WholeTerms) → IsPartition parts → 1 ≤ length parts → length parts ≡ i
     → Stands P (factorial (size parts)) (i * peeled (size parts)) (size parts) (λ n. flat_map (hook_term family n) (take i (special_hooks parts))) S
     → Stands P (factorial (size parts)) (grown (size parts)) (size parts) (schur_in family parts) S

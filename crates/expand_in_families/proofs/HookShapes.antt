@@ -27,9 +27,6 @@ lowered_first (a ∷ parts) = omega arith
 shortened_first : (parts : List ℕ) → get_or (shortened parts) 0 0 ≤ get_or parts 0 0
 shortened_first parts = omega (arith, get_or-without_last_zeros (map (λ a. a - 1) parts) 0, lowered_first parts)
 
--- ---- the shape that remains after a special rim hook is removed
-
--- if a shape remains after a special rim hook of `parts` is removed, its first row is at most as long as the first row of `parts`
 hook_first : (parts : List ℕ) (h : SpecialHook) → Falls parts → Among h (special_hooks parts) → get_or h.rest 0 0 ≤ get_or parts 0 0
 hook_first [] h f m = absurd m
 hook_first (a ∷ parts) h f (inl e) =

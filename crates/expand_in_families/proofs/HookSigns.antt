@@ -22,7 +22,7 @@ use lib.IntN.{+ℤ_idl, +ℤ_idr, *ℤ-zero}
 
 -- ---- lists x₁, x₂, .. and y₁, y₂, .. that interlace: x₁ ≥ y₁ ≥ x₂ ≥ y₂ ≥ ..
 
--- whether x, the first number κ₁ of the second list, the first number y₁ of the first list, κ₂, y₂ and so on are weakly decreasing
+-- whether x ≥ κ₁ ≥ y₁ ≥ κ₂ ≥ y₂ ≥ .., for a number x and two lists y₁, y₂, .. and κ₁, κ₂, .., as far as both lists go
 abbrev pub between : ℕ → List ℕ → List ℕ → Bool
 between x [] κ = true
 between x (y ∷ ys) [] = true
@@ -164,13 +164,11 @@ signs_elsewhere a x bs ys f p e s other =
         let low = lowered_size bs p in
         absurd (omega arith)
 
--- ---- whether the rows of two partitions interlace (`covers`), as the test for a horizontal strip
-
 -- for inner with at most m rows: whether outer has at most m + 1 rows and outer/inner is a horizontal strip, as a test of interlacing rows
 abbrev pub covers : ℕ → List ℕ → List ℕ → Bool
 covers m outer inner = nat_le (rows outer) (suc m) && interlaces (resize (suc m) outer) (resize m inner)
 
--- the sum of the signs of the special rim hooks of a ∷ bs to whose remaining shapes `outer` adds a horizontal strip (`covers`)
+-- the sum of the signs of those special rim hooks h of a ∷ bs such that `outer` is the remaining shape of h with a horizontal strip added (`covers`)
 abbrev pub signs_covered : List ℕ → ℕ → List ℕ → ℤ
 signs_covered outer a bs = total (λ (h : SpecialHook). h.sign *ℤ indicator (covers (length bs) outer h.rest)) (special_hooks (a ∷ bs))
 
@@ -202,14 +200,12 @@ covered_elsewhere outer a bs o p s other = elim (cases_lt (suc (length bs)) (row
         ∙ signs_elsewhere a x bs ys p.falls p.positive.1 (omega arith) (omega arith)
         (λ g. other (sym (without_last_zeros-resize (suc (length bs)) outer o.positive l) ∙ ap without_last_zeros (e ∙ g) ∙ without_last_zeros-positive (a ∷ bs) p.positive))
 
--- ---- the sum over the special rim hooks h of a shape, with signs, of sums over the partitions of its size that cover the shape without h
-
 factor_out : (s : ℤ) (b : Bool) (z : ℤ) → s *ℤ cond b z (pos 0) ≡ z *ℤ (s *ℤ indicator b)
 factor_out s true z = simp ring (omega (arith, ints))
 factor_out s false z = simp ring (omega (arith, ints))
 
--- the sum, over the special rim hooks of a shape, of the sign of the hook times the sum of F over the partitions of the size of the shape that cover
--- the remaining shape (`covers`), is F of the shape itself
+-- for a special rim hook h of a shape, let G(h) be the sum of F over the partitions of the size of the shape that cover the remaining shape of h
+-- (`covers`). The sum of sign(h)·G(h) over all these hooks is F of the shape itself
 pub signed_sum : (F : List ℕ → ℤ) (a : ℕ) (bs : List ℕ) → IsPartition (a ∷ bs)
     → total (λ (h : SpecialHook). h.sign *ℤ total F (filter (λ ν. covers (length bs) ν h.rest) (partitions_of (size (a ∷ bs))))) (special_hooks (a ∷ bs))
     ≡ F (a ∷ bs)

@@ -1,4 +1,5 @@
--- The partitions that cover the remaining shape of a special rim hook (`covers`) are those that add a horizontal strip to it.
+-- The partitions that cover the remaining shape of a special rim hook (`covers`, a test of interlacing rows) are those that add a horizontal strip
+-- to it.
 use Rattle.std.proofs.Common.{◌≡◌, ℕ, zero, suc, ◌+◌, ◌-◌, ◌≤◌, true, ◌&&◌, nat_le, List, [], ◌∷◌, length, get_or, refl, sym, ◌∙◌, ap, inl, inr, arith, filter}
 use Rattle.std.proofs.lemmas.Bool.{and_parts, and_from, le-leb, leb-true, cases_lt}
 use Rattle.sym_model.specs.Sum.{Among}
@@ -18,8 +19,6 @@ use Rattle.expand_in_families.proofs.HookShapes.{hook_rest}
 use Rattle.expand_in_families.proofs.HookSigns.{between, interlaces, covers}
 use Rattle.std.proofs.lemmas.List.{get_or_past}
 use Rattle.product_laws.proofs.StripShapes.{get-padded}
-
--- ---- two lists of rows that interlace, as a condition on each row
 
 -- for each i, row i of inner is at most row i of outer, and at least row i + 1 of outer
 abbrev IsInterlaced : List ℕ → List ℕ → Type 0
@@ -110,8 +109,6 @@ covers_from m outer inner p q few s =
           absurd (omega (arith, a, b, (h m).1))
       | inr l ↦ l
     ]
-
--- ---- the list of the partitions that cover the remaining shape of a hook
 
 -- the partitions of the size of a ∷ bs that cover the remaining shape of the special rim hook h of a ∷ bs (`covers`)
 abbrev pub covering : ℕ → List ℕ → SpecialHook → List (List ℕ)

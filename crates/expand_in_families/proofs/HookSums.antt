@@ -17,8 +17,6 @@ use Rattle.expand_in_families.proofs.HookSigns.{signed_sum}
 use Rattle.expand_in_families.proofs.HookStrips.{covering, covering_listed}
 use Rattle.expand_in_families.proofs.ConjugateStrips.{conjugate_listed}
 
--- if, for each special rim hook h of the shape a ∷ bs, `product h` is the sum of Z over the partitions that cover the remaining shape of h
--- (`covering`), then the sum of sign(h)·`product h` over the hooks is Z at the shape itself
 summed : (Z : List ℕ → Poly) (product : SpecialHook → Poly) (a : ℕ) (bs : List ℕ) → IsPartition (a ∷ bs)
     → ((h : SpecialHook) → Among h (special_hooks (a ∷ bs)) → Same (product h) (flat_map Z (covering a bs h)))
     → Same (Z (a ∷ bs)) (flat_map (λ (h : SpecialHook). scale h.sign (product h)) (special_hooks (a ∷ bs)))

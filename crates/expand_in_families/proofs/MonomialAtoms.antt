@@ -1,4 +1,5 @@
--- A monomial symmetric polynomial, changed into the target e, h or p.
+-- The expansion of a monomial symmetric polynomial of degree d in the basis e, h or p. In the list of terms for d! times this polynomial, the
+-- absolute values of the coefficients add up to at most `grown d`, which is d!·(2d)^d.
 use Rattle.std.proofs.Common.{ℕ, ◌*◌, ◌≤◌, List, [], ◌∷◌, sym, ◌∙◌, arith, pos}
 use Rattle.sym_model.specs.Partition.{size}
 use Rattle.sym_model.specs.Polynomial.{Poly, Same, scale}
@@ -41,7 +42,7 @@ multiple-family Elementary q list terms h = h
 multiple-family Complete q list terms h = h
 multiple-family PowerSum q list terms h = h
 
--- `list` is the list in m with the one term m_label
+-- `list` is the list in the monomial basis m with the one term m_label
 module _ (label : List ℕ) (list : WholeTerms) (table : IsWholeTable list) (same : Same list ((label, pos 1) ∷ [])) where
   is-list : IsList list (monomial label)
   is-list = list_respects ((label, pos 1) ∷ []) list (monomial label) (Same_sym list ((label, pos 1) ∷ []) same) (list-monomial label)
@@ -49,8 +50,6 @@ module _ (label : List ℕ) (list : WholeTerms) (table : IsWholeTable list) (sam
   pub bounded-monomial : IsBoundedBy 1 list
   bounded-monomial = bounded-terms 1 (size label) list (monomial label) table is-list (bounded-atom Basis.monomials label)
 
-  -- let d be the size of the label: if `terms` is d! times `list`, changed into the target, and its absolute values add up to at most the growth into
-  -- the target at d, then `terms` is d! times m_label, with absolute values that add up to at most `grown d` (`Stands`)
   pub monomial-stands : (target : Family) (terms : WholeTerms) → IsWholeTable terms → AreWithin (size label) terms → IsMultipleIn (basis_in target) (factorial (size label)) list terms
       → absolute_total terms ≤ 1 * growth (basis_in target) (size label)
       → Stands (polynomial_of target) (factorial (size label)) (grown (size label)) (size label) (monomial label) terms

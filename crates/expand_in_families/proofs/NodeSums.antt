@@ -1,4 +1,5 @@
--- The value (a list, a denominator and a degree) of a sum of two expressions, in a target e, h or p.
+-- The value of a sum of two expressions that are expanded in the basis e, h or p: a list of terms in this basis, a denominator and a degree. For an
+-- expression t of degree d, the absolute values of the coefficients of the list add up to at most `numerator t` times `grown d`, which is d!·(2d)^d.
 use Rattle.std.proofs.Common.{◌≡◌, ◌⊎◌, ℕ, ◌+◌, ◌*◌, ◌/◌, ◌^◌, ◌<◌, ◌≤◌, max, sym, ◌∙◌, ap, ap₂, subst, inl, inr, arith, ℤ, pos, ◌*ℤ◌}
 use Rattle.std.specs.Prelude.{nat_abs}
 use Rattle.std.proofs.lemmas.Nat.{mul-le}
@@ -24,8 +25,6 @@ use Rattle.sym_model.proofs.WholeTerms.{absolute-append}
 use native.Mathlib.Nat.{mul-le-mul_left, mul-pos}
 use Rattle.std.proofs.Math.Nat.{mul_assoc, add-mul}
 
--- if p·A, q·B or p·A + q·B has a coefficient of absolute value 2^127 or more (`SumIsLarge`), then |p| times the sum of the absolute values of A plus
--- |q| times that of B is at least 2^127
 sum-large : (A B : WholeTerms) (p q : ℤ) → SumIsLarge A B p q → 2 ^ 127 ≤ nat_abs p * absolute_total A + nat_abs q * absolute_total B
 sum-large A B p q (inl l) =
     let a = coefficient-few (scale p A) l.label in let b = absolute-scale p A in let g = l.large in omega arith
@@ -39,7 +38,6 @@ sum-large A B p q (inr (inr l)) =
     let g = l.large in
     omega arith
 
--- let N be the numerator of e: if degree e ≤ d and k·(degree e)! = d!, then l·k·N·`grown`(degree e) is at most N·l·`grown`(d)
 part-bound : (e : Tree) (l k d : ℕ) → degree e ≤ d → k * factorial (degree e) ≡ factorial d → (l * k) * (numerator e * grown (degree e)) ≤ (numerator e * l) * grown d
 part-bound e l k d h w =
     let g = grown-raised (degree e) d k h w in
@@ -100,8 +98,6 @@ module _ (P : ℕ → ℕ → Poly) (e f : Tree) (c d : Node) (k j : ℕ) (he : 
       spread : (a b g : ℕ) → a * g + b * g ≤ (a + b) * g
       spread a b g = omega arith
 
-  -- let l and r be the least common multiple of the denominators of e and f, divided by that of e and by that of f: l·k times the bound of the list
-  -- of e and r·j times the bound of the list of f add up to at most the weight of e + f
   met : (l r : ℕ) → l ≡ lcm (denominator e) (denominator f) / denominator e → r ≡ lcm (denominator e) (denominator f) / denominator f
       → (l * k) * (numerator e * grown (degree e)) + (r * j) * (numerator f * grown (degree f)) ≤ weight Basis.completes (sum e f)
   met l r li ri =

@@ -1,4 +1,6 @@
--- The values (a list, a denominator and a degree) of numbers, negations and products, in a target e, h or p.
+-- The values of numbers, negations and products in expressions that are expanded in the basis e, h or p. A value is a list of terms in this basis, a
+-- denominator and a degree. For an expression t of degree d, the absolute values of the coefficients of the list add up to at most `numerator t`
+-- times `grown d`, which is d!·(2d)^d.
 use Rattle.std.proofs.Common.{◌≡◌, ℕ, ◌+◌, ◌*◌, ◌^◌, ◌≤◌, max, [], ◌∷◌, sym, ◌∙◌, ap, ap₂, refl, arith, ℤ, pos, negsuc, ◌*ℤ◌, ◌+ℤ◌}
 use Rattle.std.specs.Prelude.{nat_abs}
 use Rattle.std.proofs.lemmas.Int.{ints}
@@ -31,19 +33,15 @@ use native.Mathlib.Nat.{mul-le-mul_left, mul-le-mul_right}
 use Rattle.std.proofs.Math.Nat.{mul_assoc}
 use Rattle.basis_expand.proofs.Conversions.{minus_once}
 
--- ---- the bound of the list of an expression, and its denominator, are at most the weight of the expression
-
 pub growth-within_weight : (e : Tree) → HasDenominators e → numerator e * grown (degree e) ≤ weight Basis.completes e
 growth-within_weight e h = mul-le (numerator e) (grown (degree e)) (numerator e * denominator e) (grown (degree e)) (times-more (numerator e) (denominator e) (denominator-positive e h)) (omega arith)
 
--- if the denominators in e are positive, the denominator of e times the factorial of its degree, by which the list is divided at the end, is at most
--- the weight of e
+-- if the denominators in e are positive, then the denominator of e times the factorial of the degree of e is at most the weight of e for the target
+-- basis h
 pub denominator-within_weight : (e : Tree) → HasDenominators e → denominator e * factorial (degree e) ≤ weight Basis.completes e
 denominator-within_weight e h =
     let p : 1 * denominator e ≤ numerator e * denominator e = mul-le-mul_right (denominator e) (numerator-positive e h) in
     mul-le (denominator e) (factorial (degree e)) (numerator e * denominator e) (grown (degree e)) (omega arith) (factorial-within (degree e))
-
--- ---- the value of a number
 
 stands-number : (P : ℕ → ℕ → Poly) (a : ℕ) → Stands P 1 (max 1 a * 1) 0 (λ n. scale (pos a) (one n)) (([], pos a) ∷ [])
 stands-number P a = record {
@@ -60,8 +58,6 @@ clears-number P a c d g h = record { den_is = d; degree_is = g; stands = table-s
 
 pub clears-fraction : (P : ℕ → ℕ → Poly) (a b : ℕ) (c : Node) → c.den ≡ b → c.degree ≡ 0 → Same c.terms (([], pos a) ∷ []) → ClearsTo P (fraction a b) c
 clears-fraction P a b c d g h = record { den_is = d; degree_is = g; stands = table-stands c.terms (([], pos a) ∷ []) c.table h P 1 (max 1 a * 1) 0 (cleared_value (fraction a b)) (stands-number P a) }
-
--- ---- the value of a negation
 
 pub clears-negation : (P : ℕ → ℕ → Poly) (e : Tree) (c d : Node) → d.den ≡ c.den → d.degree ≡ c.degree → Same d.terms (scale (negsuc 0) c.terms) → ClearsTo P e c → ClearsTo P (negation e) d
 clears-negation P e c d i j h k =
@@ -92,8 +88,6 @@ large-negation P e c d h l =
 pub node-greatest : (P : ℕ → ℕ → Poly) (e : Tree) (c : Node) → ClearsTo P e c → greatest_size c.terms ≤ degree e
 node-greatest P e c h = stands-greatest P (factorial (degree e)) (numerator e * grown (degree e)) (degree e) (cleared_value e) c.terms h.stands
 
--- let d and d' be the degrees of e and f, and k = (d + d')!/(d!·d'!): then k times the bound of the list of e times that of the list of f is at most
--- the bound of the list of the product
 joined-bound : (e f : Tree) (k : ℕ) → k * (factorial (degree e) * factorial (degree f)) ≡ factorial (degree e + degree f)
     → k * ((numerator e * grown (degree e)) * (numerator f * grown (degree f))) ≤ (numerator e * numerator f) * grown (degree e + degree f)
 joined-bound e f k h =

@@ -1,4 +1,5 @@
--- The loop over the special rim hooks that computes the list of a shape: the shape that remains without a hook, and the summand of a hook.
+-- The loop over the special rim hooks of a shape of d cells. It computes d! times the Schur polynomial of the shape as a list of terms, from the
+-- shape that remains without a hook and from the summand of a hook: its sign times h_k or e_k times the Schur polynomial of the remaining shape.
 --     left-numbers, left-limits      the rows of the remaining shape
 --     left-rest                      the remaining shape is a partition of the cells outside the hook
 --     peeled-term, peeled-next, peeled-large      the summand of the hook
@@ -61,8 +62,6 @@ left_by parts i rest = record { sign = minus_one_to (length parts - 1 - i); cell
 pub left-rest : (parts : List ℕ) (i : ℕ) (rest : List ℕ) → IsPartition parts → i < length parts → rest ≡ take i parts ++ shortened (drop (i + 1) parts) → IsRest parts (left_by parts i rest)
 left-rest parts i rest p h e = subst (λ (r : List ℕ). IsRest parts (left_by parts i r)) (sym e) (hook-rest parts i p h)
 
--- the number of cells of the special rim hook that ends in row i, counted from 0, and the size of the remaining shape `rest` add up to the size of
--- `parts`
 pub left-sized : (parts : List ℕ) (i : ℕ) (rest : List ℕ) → IsPartition parts → i < length parts → rest ≡ take i parts ++ shortened (drop (i + 1) parts)
     → get_or parts i 0 + (length parts - 1 - i) + size rest ≡ size parts
 left-sized parts i rest p h e = let s = (left-rest parts i rest p h e).sized in omega arith
@@ -75,8 +74,6 @@ left-limits parts i numbers p h low e =
     let k = rows_within_size (without_last_zeros numbers) q.positive in
     let s = r.sized in
     record { partition = r.partition; few = omega arith; small = omega arith }
-
--- ---- the number of cells of a special rim hook
 
 -- if the numbers of columns and of rows of `parts` add up to at most m, each special rim hook has fewer than m cells
 pub cells-within : (parts : List ℕ) (i m : ℕ) → IsPartition parts → i < length parts → columns parts + length parts ≤ m
@@ -117,8 +114,6 @@ left-within parts i m rest p h e w =
     let s = ap columns e in
     omega arith
 
--- ---- the list of h_k or e_k, for k the number of cells of the hook
-
 pub factor-at : (P : ℕ → ℕ → Poly) (family : Family) → family ≢ PowerSum → (lists : List WholeTerms) → AreFactors P family (length lists) lists → (k i : ℕ) (d W : WholeTerms) → 0 < k → k < length lists → i ≡ k → W ≡ get_or lists i d
     → Stands P (factorial k) (factorial k * 2 ^ k) k (λ n. polynomial_of family k n) W
 factor-at P family f lists are k i d W some h e is =
@@ -129,8 +124,6 @@ factor-at P family f lists are k i d W some h e is =
     by Elementary g a = a k some h
     by Complete g a = a k some h
     by PowerSum g a = absurd (g refl)
-
--- ---- the summand of the hook that ends in row i: its sign, h_k or e_k, and the Schur polynomial of the remaining shape
 
 module _ (target family : Family) (newton : family ≢ PowerSum) (parts : List ℕ) (i c : ℕ) (z : ℤ) (rest : List ℕ) (W V : WholeTerms) (p : IsPartition parts) (lo : i < length parts)
     (e : rest ≡ take i parts ++ shortened (drop (i + 1) parts)) (many : c * (factorial (get_or parts i 0 + (length parts - 1 - i)) * factorial (size rest)) ≡ factorial (get_or parts i 0 + (length parts - 1 - i) + size rest))
@@ -160,7 +153,6 @@ module _ (target family : Family) (newton : family ≢ PowerSum) (parts : List �
       (hooks-next (polynomial_of target) (factorial (size parts)) (peeled (size parts)) (size parts) (hook_term family) (special_hooks parts) i (hook_of parts i) S (joined (scale z W) V)
       (hook-at parts i lo) s peeled-term)
 
-  -- if adding the summand of the hook to S, the sum over the first i hooks, overflows, `grown` at the size of the shape is 2^127 or more
   pub peeled-large : (S : WholeTerms) → absolute_total S ≤ i * peeled (size parts)
       → Overflows equal S (joined (scale z W) V) → 2 ^ 127 ≤ grown (size parts)
   peeled-large S s large =
@@ -182,8 +174,6 @@ module _ (target family : Family) (newton : family ≢ PowerSum) (parts : List �
       one_more : (i x : ℕ) → (i + 1) * x ≡ i * x + x
       one_more i x = omega arith
 
--- ---- the list of the empty shape
-
 nothing-schur : (family : Family) (n : ℕ) → schur_in family [] n ≡ one n
 nothing-schur Elementary n = ap (λ (l : List ℕ). (l, pos 1) ∷ []) (map-zeros 0 n)
 nothing-schur Complete n = ap (λ (l : List ℕ). (l, pos 1) ∷ []) (map-zeros 0 n)
@@ -193,8 +183,6 @@ pub nothing-list : (P : ℕ → ℕ → Poly) (family : Family) (parts : List �
 nothing-list P family [] terms e is h =
     stands-same P 1 1 0 (λ n. one n) (schur_in family []) terms (λ n. subst (Same (one n)) (sym (nothing-schur family n)) (Same_refl (one n))) (parts-none P P terms is h)
 nothing-list P family (a ∷ parts) terms e is h = absurd (omega arith)
-
--- ---- the list of a shape for the factors e_k, as the list of the Schur polynomial of the conjugate shape
 
 pub conjugate-list : (P : ℕ → ℕ → Poly) (parts shape : List ℕ) (r : Result WholeTerms SumFault) → IsPartition parts → shape ≡ conjugate parts → IfOk r (IsSchurList P Elementary shape)
     → IfOk r (λ terms. Stands P (factorial (size parts)) (grown (size parts)) (size parts) (λ n. schur parts n) terms)

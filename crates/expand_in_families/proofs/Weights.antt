@@ -1,4 +1,5 @@
--- If the weight for the target h is 2^127 or more, so is the weight for each of the targets e, h and p.
+-- The weight of an expression for a target basis is a bound for the numbers in its expansion in this basis. If the weight for the target basis h is
+-- 2^127 or more, so is the weight for each of the bases e, h and p.
 use Rattle.std.proofs.Common.{◌*◌, ◌^◌, ◌≤◌, sym, subst}
 use Rattle.sym_model.specs.Expansion.{completes}
 use Rattle.sym_model.specs.Expression.{Tree, degree, denominator}

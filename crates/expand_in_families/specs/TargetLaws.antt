@@ -1,5 +1,5 @@
--- Laws of the values in e, h and p: each value that represents e + (-f) represents e - f, and the weight increases weakly with the numerator, the
--- denominator and the degree.
+-- Laws of the values of expressions that are expanded in the basis e, h or p. For expressions s and t, each value that represents s + (-t) represents
+-- s - t. The weight of an expression increases weakly with its numerator, its denominator and its degree.
 use Rattle.std.specs.Prelude.{ℕ, ◌*◌}
 use Rattle.sym_model.specs.Polynomial.{Poly}
 use Rattle.sym_model.specs.Expansion.{Basis}

@@ -1,4 +1,5 @@
-//! The polynomials m_λ, e_λ, h_λ, p_λ and s_λ as lists of terms in the target e, h or p.
+//! The polynomials m_λ, e_λ, h_λ, p_λ and s_λ as lists of terms in the target basis, which is e, h
+//! or p in which an expression is expanded.
 ghost use Rattle.std.specs.Prelude.{◌≡◌, ◌+◌, ◌*◌, ◌<◌, ◌≤◌, ◌^◌, IfOk, IsErrOf};
 ghost use Rattle.sym_model.specs.Bases.{product_over};
 ghost use Rattle.sym_model.specs.Expansion.{completes, monomials, schurs};
@@ -39,8 +40,8 @@ fn ways(family: Family, k: u16, size: u16) -> u128
     }
 }
 
-/// A list in the target, and the sum d of the parts. The list is d! times the product of e_k, h_k
-/// or p_k (`family` says which) over the parts k.
+/// A list in the target basis, returned with the sum d of the parts: the list is d! times the
+/// product of e_k, h_k or p_k (`family` says which) over the parts k.
 fn over_parts(
     alloc: Global,
     target: Family,
@@ -88,7 +89,7 @@ fn by_parts(
     })
 }
 
-/// The basis polynomial of `label` in the basis of the target, as a list in the target: one term.
+/// The basis polynomial of `label` in the target basis, as a list in that basis: one term.
 fn itself(alloc: Global, label: &Partition) -> Result<Node, SumFault>
     requires { size label.now ≤ 20 }
     ensures { (target : Family) → IsConverted (polynomial_of target)
@@ -103,7 +104,8 @@ fn itself(alloc: Global, label: &Partition) -> Result<Node, SumFault>
     })
 }
 
-/// The basis polynomial of `label` in the basis e, h or p of `family`, as a list in the target.
+/// The basis polynomial of `label` in the basis e, h or p of `family`, as a list in the target
+/// basis.
 fn from_family(
     alloc: Global,
     target: Family,
@@ -121,7 +123,7 @@ fn from_family(
 
 /// Whether the Schur polynomial of `label` is computed from e_k and the special rim hooks of the
 /// conjugate shape, and not from h_k and the special rim hooks of the shape itself: for the target
-/// e, and for the target p if the shape has fewer columns than rows.
+/// basis e, and for the target basis p if the shape has fewer columns than rows.
 fn is_by_columns(target: Family, label: &Partition) -> bool {
     match target {
         Family::Elementary => true,
@@ -130,8 +132,8 @@ fn is_by_columns(target: Family, label: &Partition) -> bool {
     }
 }
 
-/// The Schur polynomial of `label`, as a list in the target: by the special rim hooks of its shape,
-/// with the factors h_k, or by those of the conjugate shape, with the factors e_k.
+/// The Schur polynomial of `label`, as a list in the target basis: by the special rim hooks of its
+/// shape, with the factors h_k, or by those of the conjugate shape, with the factors e_k.
 fn by_hooks(alloc: Global, target: Family, label: &Partition) -> Result<Node, SumFault>
     requires { size label.now ≤ 15 }
     ensures { IsConverted (polynomial_of target) (atom schurs label.now) result }
@@ -145,7 +147,8 @@ fn by_hooks(alloc: Global, target: Family, label: &Partition) -> Result<Node, Su
     })
 }
 
-/// The list in the target of d! times the Schur polynomial of `label`, with d its degree.
+/// d! times the Schur polynomial of `label`, as a list of terms in the target basis, with d the
+/// degree of this polynomial.
 fn schur_terms(alloc: Global, target: Family, label: &Partition) -> Result<Whole, SumFault>
     requires partition { IsPartition label.now }
     requires low { size label.now ≤ 15 }
@@ -163,7 +166,7 @@ fn schur_terms(alloc: Global, target: Family, label: &Partition) -> Result<Whole
     schur_list(alloc, target, Family::Complete, label)
 }
 
-/// The monomial symmetric polynomial of `label`, as a list in the target.
+/// The monomial symmetric polynomial of `label`, as a list in the target basis.
 fn from_monomial(alloc: Global, target: Family, label: &Partition) -> Result<Node, SumFault>
     requires { size label.now ≤ 15 }
     ensures { IsConverted (polynomial_of target) (atom monomials label.now) result }
@@ -178,7 +181,8 @@ fn from_monomial(alloc: Global, target: Family, label: &Partition) -> Result<Nod
     })
 }
 
-/// The polynomial of λ = `label` in `basis` (m_λ, e_λ, h_λ, p_λ or s_λ), as a list in the target.
+/// The polynomial of λ = `label` in `basis` (m_λ, e_λ, h_λ, p_λ or s_λ), as a list in the target
+/// basis.
 pub(crate) fn atom(
     alloc: Global,
     target: Family,

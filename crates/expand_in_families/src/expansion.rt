@@ -16,11 +16,11 @@ use partitions::Partition;
 use sparse_polys::{Family, divided};
 use std::alloc::Global;
 
-/// The expansion of a formula of degree at most 15 in the basis e, h or p of the family `target`,
-/// in every number of variables.
+/// The expansion of an expression of degree at most 15 in the basis e, h or p of the family
+/// `target`, in every number of variables.
 ///
 /// Returns `Large` only if N·D·d!·(2d)^d is 2^127 or more, with N and D the two numbers of
-/// `Formula::weight`, and d the degree of the formula (0^0 is 1).
+/// `Formula::weight`, and d the degree of the expression (0^0 is 1).
 ///
 /// Example: p_2 in e is e_1^2 - 2·e_2, and h_2 in p is (p_1^2 + p_2)/2.
 pub fn to_family(

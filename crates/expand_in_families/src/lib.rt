@@ -3,12 +3,13 @@
 //!
 //! What is proved:
 //!
-//! `to_family`: the list is the expression of degree at most 15 in e, h or p, in every number of
-//! variables. It is computed node by node as a list in the target: in a product the parts of labels
-//! are joined, an atom in another one of the bases e, h and p is a product over its parts, an atom
-//! in s is expanded by special rim hooks, and an atom in m is changed by `in_family` of
-//! basis_change. `Large` is returned only if the weight for the target (`Formula::weight_below`) is
-//! 2^127 or more.
+//! `to_family`: the result is the expansion of an expression of degree at most 15 in the target
+//! basis, which is e, h or p, in every number of variables. It is computed node by node as a list
+//! of terms in the target basis. In a product the parts of labels are joined. An atom (a basis
+//! polynomial in the expression) of another one of the bases e, h and p is a product over its
+//! parts, an atom of s is expanded by special rim hooks, and an atom of m is changed by `in_family`
+//! of basis_change. `Large` is returned only if the weight for the target basis
+//! (`Formula::weight_below`) is 2^127 or more.
 //!
 //! `special_hooks_law`: in every number of variables, s_λ is the sum, over the special rim hooks of
 //! λ, of ±h_k times the Schur polynomial of the remaining shape, with k the number of cells of the

@@ -1,4 +1,5 @@
-//! The values of expressions in the target e, h or p: lists of terms with integer coefficients.
+//! The values of expressions: lists of terms with integer coefficients in the target basis, which
+//! is e, h or p in which the expressions are expanded.
 ghost use Rattle.std.specs.Prelude.{◌<◌, ◌^◌};
 ghost use Rattle.std.proofs.Props.{props};
 ghost use Rattle.sparse_polys.specs.Tables.{IsWholeTable};
@@ -6,7 +7,7 @@ ghost use Rattle.sparse_polys.specs.Tables.{IsWholeTable};
 use sparse_polys::Whole;
 
 /// The value of an expression of degree d = `degree` with the denominator `den`: the list `terms`
-/// in the target is the expression times `den`·d!.
+/// in the target basis is the expression times `den`·d!.
 #[derive(Drop)]
 pub(crate) struct Node {
     pub(crate) terms: Whole,

@@ -1,5 +1,5 @@
-//! The targets e, h and p: the values of numbers, atoms, negations, sums and products, as lists in
-//! the target.
+//! The values of numbers, atoms (basis polynomials), negations, sums and products in an expression,
+//! as lists of terms in the target basis, which is e, h or p in which it is expanded.
 ghost use Rattle.std.specs.Prelude.{◌≡◌, ◌<◌, ◌≤◌, ◌^◌, ◌*ℤ◌, pos, nat_abs, MatchResult};
 ghost use Rattle.std.specs.Prelude.{IsErrOf};
 ghost use Rattle.sym_model.specs.Expression.{lcm, sum};
@@ -21,7 +21,7 @@ use partitions::Partition;
 use sparse_polys::{Family, single, sum_of};
 use std::alloc::Global;
 
-/// The target e, h or p, the basis of `family`.
+/// The target basis e, h or p, the basis of `family`.
 #[derive(Clone, Copy)]
 pub(crate) struct InFamily {
     pub(crate) family: Family,

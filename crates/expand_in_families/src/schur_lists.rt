@@ -41,11 +41,11 @@ fn left_by_hook(alloc: Global, shape: &[u16], row: usize) -> Result<Partition, N
     Partition::from_valid_numbers(alloc, &parts)
 }
 
-/// The list in the target of d! times the Schur polynomial of `shape`, or of its conjugate if
-/// `family` is e, with d the number of cells of `shape`. For the empty shape it is 1. Otherwise it
-/// is the sum, over the special rim hooks of `shape`, of the product of the sign of the hook, the
-/// binomial coefficient d!/(k!·(d-k)!), the list `lists[k]` and the list of the remaining shape,
-/// with k the number of cells of the hook.
+/// d! times the Schur polynomial of `shape`, or of its conjugate if `family` is e, as a list of
+/// terms in the target basis, with d the number of cells of `shape`. The list `lists[k]` must be
+/// that of k!·h_k, or of k!·e_k if `family` is e. For the empty shape the result is 1. Otherwise it
+/// is a sum over the special rim hooks of `shape`: for a hook of k cells, the product of its sign,
+/// the binomial coefficient d!/(k!·(d-k)!), `lists[k]` and the list of the remaining shape.
 #[cycle(peeling)]
 fn list_of(
     alloc: Global,
@@ -110,10 +110,10 @@ fn index_of(
     Ok(keep(store, shape, list)?)
 }
 
-/// The list in the target of d! times the Schur polynomial of `shape` if `family` is h, and of the
-/// conjugate of `shape` if `family` is e, with d the number of cells of `shape`. It is computed by
-/// the special rim hooks of `shape`: a hook of k cells gives the factor h_k or e_k. Returns `Large`
-/// only if d!·(2d)^d is 2^127 or more.
+/// d! times the Schur polynomial of `shape` if `family` is h, and of the conjugate of `shape` if
+/// `family` is e, as a list of terms in the target basis, with d the number of cells of `shape`. It
+/// is computed by the special rim hooks of `shape`: a hook of k cells gives the factor h_k or e_k.
+/// Returns `Large` only if d!·(2d)^d is 2^127 or more.
 pub(crate) fn schur_list(
     alloc: Global,
     target: Family,

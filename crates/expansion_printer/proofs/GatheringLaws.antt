@@ -1,5 +1,6 @@
--- Laws of `Gathers`, which says that a text was collected, that is, appended to what was written to a sink and to the bytes in a buffer. They are on
--- texts that are collected one after another, on equal texts, on the empty text, and on the text that a printer has collected at its end.
+-- A text is *collected* (`Gathers`) if its first part, which may be empty, is written to a sink and the rest is kept in a buffer, both after the
+-- texts collected before; after a failed write, nothing more is written. Laws of `Gathers`: for texts that are collected one after another, for equal
+-- texts, for the empty text, and for the text that a printer has collected at its end.
 use Rattle.std.proofs.Common.{◌≡◌, ℕ, List, [], ◌++◌, Bool, true, false, refl, sym, ◌∙◌, ap, subst, append_assoc, append-nil}
 use Rattle.std.specs.Prelude.{Result, is_ok}
 use Rattle.calc_base.specs.Puts.{Puts, Prints}
@@ -7,7 +8,6 @@ use Rattle.calc_base.specs.Sink.{SinkSeen}
 use Rattle.calc_base.proofs.PutsLaws.{Puts-then, Puts-as, Puts-nothing, Puts-prints}
 use Rattle.expansion_printer.specs.Gathering.{Waiting, HasPut, Gathers}
 
--- `Puts` for the text a implies `Puts` for the text b, if a and b are equal or a write has failed before; after a failed write nothing is written
 Puts-else : {before now : Bool} {old new : SinkSeen} {a b : List ℕ} → (before ≡ true → a ≡ b)
     → Puts before old now new a → Puts before old now new b
 Puts-else {before = before} {now = now} {old = old} {new = new} {b = b} same goes =
@@ -25,9 +25,6 @@ Puts-else {before = before} {now = now} {old = old} {new = new} {b = b} same goe
       ill = goes.ill;
     }
 
--- ---- the text so far: what was written to the sink, and the bytes in the buffer
-
--- at the start, with an empty buffer, the empty text has been collected
 HasPut-nothing : (start : SinkSeen)
     → HasPut start [] (record { bytes = []; well = true }) start
 HasPut-nothing start = record {
@@ -88,8 +85,6 @@ Gathers-straight {piece = piece} before_empty empty goes = record {
   };
 }
 
--- ---- texts that are collected one after another
-
 -- if the text a was collected and then the text b, the text a ++ b was collected
 pub Gathers-then : {old mid new : Waiting}
     {first second third : SinkSeen} {a b : List ℕ} → Gathers old first mid second a
@@ -100,21 +95,18 @@ Gathers-then {new = new} {third = third} {a = a} {b = b} front back = record {
       subst P (append_assoc before a b) (back.behind start (before ++ a) (front.behind start before h));
 }
 
--- if a text a was collected, a text b that is equal to a was collected
 pub Gathers-as : {old new : Waiting}
     {first second : SinkSeen} {a b : List ℕ} → a ≡ b → Gathers old first new second a
     → Gathers old first new second b
 Gathers-as {old = old} {new = new} {first = first} {second = second} same goes =
     let P : List ℕ → Type 0 = λ t. Gathers old first new second t in subst P same goes
 
--- if `old` and `other` are equal buffers, what was collected after `other` was collected after `old`
 pub Gathers-from : {other old new : Waiting}
     {first second : SinkSeen} {text : List ℕ} → other ≡ old → Gathers other first new second text
     → Gathers old first new second text
 Gathers-from {new = new} {first = first} {second = second} {text = text} same goes =
     let P : Waiting → Type 0 = λ w. Gathers w first new second text in subst P same goes
 
--- if the buffer and the sink do not change, the empty text was collected
 pub Gathers-nothing : (now : Waiting) (sink : SinkSeen)
     → Gathers now sink now sink []
 Gathers-nothing now sink = record {

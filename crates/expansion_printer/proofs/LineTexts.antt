@@ -1,4 +1,4 @@
--- The printed texts of coefficients, and of the terms of a one-line form.
+-- The printed texts of coefficients, and of the terms of the one-line form, which prints an expansion on one line.
 use Rattle.std.proofs.Common.{◌≡◌, ℕ, ◌<◌, length, arith, Bool, true, false, List, [], ◌∷◌, ◌++◌, cond, eqb, ℤ, pos, negsuc, suc, nat_abs, refl, sym, ◌∙◌, ap, append_assoc, append-nil, decimal}
 use Rattle.std.specs.Prelude.{codes}
 use Rattle.std.specs.Fmt.{signed_decimal}
@@ -42,8 +42,6 @@ fraction-printed num den = by (eqb den 1) num
     by false (pos n) = refl
     by false (negsuc n) = refl
 
--- ---- the texts of the terms of a one-line form, one after another
-
 later_text-push : (basis : Basis) (terms : Terms (List ℕ)) (t : List ℕ × Fraction) → later_text basis terms ++ signed_text basis false t ≡ later_text basis (terms ++ t ∷ [])
 later_text-push basis [] t =
     ap (λ text. cond (is_negative t.1.0) (codes "-") (codes "+") ++ text) (sym (append-nil (unsigned_text basis t)))
@@ -62,7 +60,6 @@ signed_terms-push basis (u ∷ terms) is_first t e =
     ∙ append_assoc (signed_text basis true u) (later_text basis terms) (signed_text basis false t)
     ∙ ap (λ text. signed_text basis true u ++ text) (later_text-push basis terms t)
 
--- a list to which a term was appended is not empty
 pub is_empty-push : (terms : Terms (List ℕ)) (t : List ℕ × Fraction) → false ≡ is_empty (terms ++ t ∷ [])
 is_empty-push [] t = refl
 is_empty-push (u ∷ terms) t = refl

@@ -1,4 +1,5 @@
--- If a list is canonical and its coefficients are numbers of 128 bits, it can be printed and read back.
+-- If a list of terms is canonical (the labels are valid and strictly increasing, the coefficients are in lowest terms and not 0), and its
+-- coefficients are numbers of 128 bits, it can be printed and read back.
 use Rattle.std.proofs.Common.{◌≡◌, ◌^◌, ℤ, List, Bool, true, false, ◌&&◌, [], ◌∷◌, refl, sym, ap}
 use Rattle.std.proofs.Common.{◌∙◌, pos, nat_lt, FitsSigned}
 use Rattle.std.specs.Int.{w128}
@@ -19,12 +20,10 @@ use Rattle.sparse_polys.proofs.Tables.{canonical-fractions}
 use Rattle.sparse_polys.proofs.ValueLists.{canonical_values}
 
 module _ {L : Type 0} where
-  -- whether each term has a coefficient that a block can have, and a label of its type
+  -- whether each term has a coefficient that a canonical list can have (in lowest terms, not 0, a fraction only if `has_fractions`) and a valid label
   abbrev are_proper : Bool → (L → Bool) → Terms L → Bool
   are_proper has_fractions is_label terms =
       each_term (λ (t : L × Fraction). is_coefficient has_fractions t.1 && is_label t.0) terms
-
-  -- ---- lists of terms with integer coefficients of 128 bits
 
   proper-whole : (is_label : L → Bool) (terms : List (L × ℤ))
       → are_proper false is_label (as_fractions terms)
@@ -42,7 +41,7 @@ module _ {L : Type 0} where
       (test_from_fits t.1 (All-head (λ (u : L × ℤ). FitsSigned w128 u.1) t terms all)) refl)
       (printable-whole terms (All-tail (λ (u : L × ℤ). FitsSigned w128 u.1) t terms all))
 
-  -- a canonical list with integers of 128 bits as coefficients is in order, has terms that a block can have (`are_proper`), and can be printed
+  -- a canonical list with integers of 128 bits as coefficients is in order, has only valid terms (`are_proper`), and can be printed
   pub whole-printable : (order : L → L → Ordering) (is_label : L → Bool) (terms : List (L × ℤ))
       → All (λ (t : L × ℤ). FitsSigned w128 t.1) terms
       → is_canonical_list order is_label whole terms ≡ true
@@ -55,8 +54,6 @@ module _ {L : Type 0} where
         printable-whole terms all,
       )
 
-  -- ---- lists of terms with fractions of 128 bits
-
   printable-fractions : (terms : Terms L) → All (λ (t : L × Fraction). IsFraction t.1) terms
       → is_printable terms ≡ true
   printable-fractions [] all = refl
@@ -65,7 +62,7 @@ module _ {L : Type 0} where
       (held-fits_fraction t.1 (All-head (λ (u : L × Fraction). IsFraction u.1) t terms all))
       (printable-fractions terms (All-tail (λ (u : L × Fraction). IsFraction u.1) t terms all))
 
-  -- a canonical list with fractions of 128 bits as coefficients is in order, has terms that a block can have (`are_proper`), and can be printed
+  -- a canonical list with fractions of 128 bits as coefficients is in order, has only valid terms (`are_proper`), and can be printed
   pub fractions-printable : (order : L → L → Ordering) (is_label : L → Bool) (terms : Terms L)
       → All (λ (t : L × Fraction). IsFraction t.1) terms
       → is_canonical_list order is_label (λ (r : Fraction). r) terms ≡ true

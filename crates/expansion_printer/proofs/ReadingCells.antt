@@ -1,4 +1,5 @@
--- The index of a cell's letter in a column reading.
+-- The index of a cell's letter in a column reading, which has the letters of the columns from the rightmost to the leftmost, each from top to
+-- bottom.
 use Rattle.std.proofs.Common.{zero-add, ◌≡◌, ◌≢◌, ℕ, zero, suc, ◌+◌, ◌-◌, ◌≤◌, ◌<◌, inl, inr, ◌⊎◌, max, length, arith, Bool, true, false, ◌&&◌, List, [], ◌∷◌, ◌++◌, refl, sym, ◌∙◌, ap, ap₂, map, drop, cond, ◌==◌, nat_lt, nat_le, reverse, filter, flat_map}
 use Rattle.std.specs.Prelude.{slice_index}
 use Rattle.std.proofs.lemmas.Bool.{eq-eqb, ne_eqb, cases_eq, cond-true, cond-false, lt-ltb, le-leb, and_from, and_right, le-ltb}
@@ -26,8 +27,6 @@ cells_in_rows outer inner row column numbers =
 abbrev pub cells_before : List ℕ → List ℕ → ℕ → ℕ → ℕ
 cells_before outer inner row column = cells_in_rows outer inner row column (after 0 (rows outer))
 
--- ---- sums of natural numbers over lists
-
 sum_by-add : {A : Type 0} (f h : A → ℕ) (xs : List A) → sum_by (λ x. f x + h x) xs ≡ sum_by f xs + sum_by h xs
 sum_by-add f h [] = refl
 sum_by-add f h (x ∷ xs) =
@@ -40,8 +39,6 @@ sum_by-ext f h [] same = refl
 sum_by-ext f h (x ∷ xs) same =
     sum_by-cons f x xs ∙ (ap₂ ◌+◌ (same x) (sum_by-ext f h xs same) ∙ sym (sum_by-cons h x xs))
 
--- ---- the letter of a cell in a list of cells
-
 -- no cell of the list is in the column
 abbrev NotIn : ℕ → List (ℕ × ℕ) → Type 0
 NotIn column [] = Unit {0}
@@ -51,8 +48,6 @@ letter-nothing : (row column : ℕ) (cells : List (ℕ × ℕ)) → letter_of_ce
 letter-nothing row column [] = refl
 letter-nothing row column (c ∷ cells) = refl
 
--- let w be letters for the cells of `cells ++ others`, in this order: if no cell of `cells` is in the column, the letter of a cell of this column is
--- found in w after the letters of `cells`
 letter-past : (row column : ℕ) (cells others : List (ℕ × ℕ)) (w : List ℕ) → NotIn column cells
     → letter_of_cell row column (cells ++ others) w ≡ letter_of_cell row column others (drop (length cells) w)
 letter-past row column [] others w n = refl
@@ -74,7 +69,6 @@ rows_above-cons : (row : ℕ) (test : ℕ → Bool) (i : ℕ) (is : List ℕ)
     → rows_above row test (i ∷ is) ≡ cond (nat_lt i row && test i) 1 0 + rows_above row test is
 rows_above-cons row test i is = sum_by-cons (λ k. cond (nat_lt k row && test k) 1 0) i is
 
--- if row ≤ a + 1, no row of a + 1, .., a + m is above `row`
 rows_above-past : (row : ℕ) (test : ℕ → Bool) (a m : ℕ) → row ≤ a + 1 → rows_above row test (after a m) ≡ 0
 rows_above-past row test a zero far = refl
 rows_above-past row test a (suc m) far =
@@ -86,8 +80,6 @@ rows_above-past row test a (suc m) far =
 abbrev cells_then : ℕ → List ℕ → List (ℕ × ℕ) → List (ℕ × ℕ)
 cells_then column is others = map (λ (i : ℕ). (i, column)) is ++ others
 
--- let w begin with the letters of a column in those of the rows a + 1 to a + m that pass the test: if `row` is one of these rows, the letter in `row`
--- is at the index given by the number of these rows above `row`
 in-column : (row column : ℕ) (test : ℕ → Bool) (others : List (ℕ × ℕ)) (a m : ℕ) → a < row → row ≤ a + m → test row ≡ true → (w : List ℕ)
     → letter_of_cell row column (cells_then column (filter test (after a m)) others) w ≡ slice_index w (rows_above row test (after a m))
 in-column row column test others a zero high low h w = absurd (omega arith)
@@ -116,8 +108,6 @@ in-column row column test others a (suc m) high low h w =
 
 moved : (long before above : ℕ) → long + (before + above) ≡ (before + (0 + long)) + above
 moved long before above = omega arith
-
--- ---- the letter of a cell in the list of the columns, from the rightmost to the leftmost
 
 reverse-after : (k : ℕ) → reverse (after 0 (suc k)) ≡ suc k ∷ reverse (after 0 k)
 reverse-after k =
@@ -225,7 +215,7 @@ sum_by-size : (f : ℕ → ℕ) (xs : List ℕ) → sum_by f xs ≡ size (map f 
 sum_by-size f [] = refl
 sum_by-size f (x ∷ xs) = sum_by-cons f x xs ∙ ap (λ n. f x + n) (sum_by-size f xs)
 
--- the number of cells in the rows 1 to at + 1 that come before a cell is that for the rows 1 to `at`, plus that for the row at + 1
+-- the number of cells in the rows 1 to at + 1 that come before a given cell is the number for the rows 1 to `at` plus the number for the row at + 1
 pub cells_in_rows-more : (outer inner : List ℕ) (row column at : ℕ)
     → cells_in_rows outer inner row column (after 0 at) + before_in_row (part inner (at + 1)) (part outer (at + 1)) column (nat_lt (at + 1) row)
     ≡ cells_in_rows outer inner row column (after 0 (at + 1))
@@ -236,7 +226,6 @@ cells_in_rows-more outer inner row column at =
     ap (λ n. so_far + n) (sym (zero-add (count (at + 1)))) ∙ ap (λ i. so_far + (0 + count i)) here
     ∙ sym (sum_by-append count (after 0 at) ((0 + at + 1) ∷ [])) ∙ ap (sum_by count) (sym (after-more 0 at))
 
--- the number of cells that come before a cell in a column reading is at most the size of outer
 before-within : (outer inner : List ℕ) (row column : ℕ) → cells_before outer inner row column ≤ size outer
 before-within outer inner row column =
     let most = sum_by-le-sum_by (λ i. before_in_row (part inner i) (part outer i) column (nat_lt i row)) (part outer) (after 0 (rows outer))

@@ -9,8 +9,8 @@ use Rattle.sym_model.proofs.AfterLists.{length_after, after-more}
 use Rattle.skew_shapes.specs.Rows.{row_by, rows_by}
 use Rattle.expansion_printer.proofs.Texts.{separated-push}
 
--- the separated texts of a + 1, .., a + at, then the separator unless at = 0, and then the text of the next number, are the separated texts of the at
--- + 1 numbers after a
+-- the separated texts of the numbers from a + 1 to a + at, then the separator unless at = 0, and then the text of the next number, are the separated
+-- texts of the numbers from a + 1 to a + at + 1
 pub pieces-more : (separator : List ℕ) (text : ℕ → List ℕ) (a at next : ℕ) → next ≡ a + at + 1
     → separated separator (map text (after a at)) ++ cond (at == 0) (text next) (separator ++ text next)
     ≡ separated separator (map text (after a (at + 1)))
@@ -19,11 +19,10 @@ pieces-more separator text a at next e =
     ∙ separated-push separator (map text (after a at)) (text (a + at + 1)) at (length-map (after a at) text ∙ length_after a at)
     ∙ ap (separated separator) (sym (map-append text (after a at) ((a + at + 1) ∷ [])) ∙ ap (map text) (sym (after-more a at)))
 
--- the texts of the values of f, with spaces between them, are the text of the list of values
 pub spaced-map : (f : ℕ → ℕ) (columns : List ℕ) → separated (codes " ") (map (λ column. decimal (f column)) columns) ≡ spaced (map f columns)
 spaced-map f columns = ap (separated (codes " ")) (sym (map-map decimal f columns))
 
--- if a row has cells, its text is that of its entries, with spaces between them
+-- if a row has cells, the text of the row consists of its entries with spaces between them
 pub row_text-some : (f : ℕ → ℕ → ℕ) (outer inner : List ℕ) (row : ℕ) → part inner row < part outer row
     → spaced (row_by f outer inner row) ≡ row_text (row_by f outer inner row)
 row_text-some f outer inner row some = by (part outer row - part inner row) (omega arith)

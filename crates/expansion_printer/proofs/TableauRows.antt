@@ -9,7 +9,6 @@ use Rattle.sym_model.proofs.Tableaux.{length-row_lengths}
 use Rattle.skew_shapes.specs.CellFillings.{row_of, place_in_row}
 use Rattle.skew_shapes.specs.Rows.{row_by, rows_by}
 
--- if g(s + i + 1) is element i of xs, for each i, then the values of g at s + j + 1, s + j + 2, .. are the elements of xs from index j on
 tabulated : {A : Type 0} (default : A) (g : ℕ → A) (xs : List A) (s j m : ℕ) → j + m ≡ length xs
     → ((i : ℕ) → i < length xs → g (s + i + 1) ≡ get_or xs i default) → map g (after (s + j) m) ≡ drop j xs
 tabulated default g xs s j zero long is =
@@ -63,7 +62,6 @@ rows-told outer inner filling cells =
         (λ k low. let place : (left + k + 1) - (left + 1) ≡ k = omega arith in
         ap (slice_index (row_of filling r)) place ∙ ap (λ (w : List ℕ). slice_index w k) same)
 
--- the parts of a partition in the rows 1, 2, .. are the partition
 pub parts-told : (parts : List ℕ) → map (part parts) (after 0 (rows parts)) ≡ parts
 parts-told parts =
     tabulated 0 (part parts) parts 0 0 (rows parts) (omega arith) (λ i below. let at : 0 + i + 1 - 1 ≡ i = omega arith in ap (slice_index parts) at)

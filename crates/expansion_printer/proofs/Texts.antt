@@ -1,4 +1,5 @@
--- The texts of lists, item by item: numbers with a separator, and lines.
+-- The texts of lists, item by item: numbers with a separator, and the block of a list of terms, which has one line for each term, or only the line
+-- `0` if there is no term.
 use Rattle.std.proofs.Common.{◌≡◌, ℕ, ◌+◌, ◌<◌, ◌≤◌, length, get_or, take, take_all, arith, List, [], ◌∷◌, ◌++◌, refl, sym, ◌∙◌, ap, append_assoc, append-nil, map, cond, ◌==◌, zero, suc}
 use Rattle.std.specs.Prelude.{codes, decimal, ℤ, pos, negsuc, nat_lt}
 use Rattle.std.specs.Fmt.{digits, signed_decimal}
@@ -14,14 +15,11 @@ use Rattle.expansion_printer.specs.Answers.{number_terms}
 use Rattle.sym_model.specs.PrintedBlock.{line_by, lines_by, block_by}
 use Rattle.sym_model.specs.TableauText.{separated}
 
--- the texts of numbers, with commas between them, are `numbers_text`
 pub numbers_text-separated : (numbers : List ℕ) → separated (codes ",") (map decimal numbers) ≡ numbers_text numbers
 numbers_text-separated [] = refl
 numbers_text-separated (a ∷ []) = refl
 numbers_text-separated (a ∷ b ∷ numbers) = ap (λ t. decimal a ++ (codes "," ++ t)) (numbers_text-separated (b ∷ numbers))
 
--- if a list of pieces is not empty, its separated text, followed by the separator and a piece, is the separated text of the list with this piece
--- appended
 separated-behind : (separator piece : List ℕ) (first : List ℕ) (pieces : List (List ℕ))
     → separated separator (first ∷ pieces) ++ (separator ++ piece) ≡ separated separator ((first ∷ pieces) ++ piece ∷ [])
 separated-behind separator piece first [] = refl
@@ -64,12 +62,10 @@ numerals-more separator number numbers at item below is =
     ∙ texts-more separator (λ n. decimal (number n)) numbers at item below is
     ∙ ap (separated separator) (sym (map-map decimal number (take (at + 1) numbers)))
 
--- if there are at most `at` numbers, the separated text of the first `at` numbers is that of all numbers
 pub numerals-all : {N : Type 0} (separator : List ℕ) (number : N → ℕ) (numbers : List N) (at : ℕ) → length numbers ≤ at
     → separated separator (map decimal (map number (take at numbers))) ≡ separated separator (map decimal (map number numbers))
 numerals-all separator number numbers at all = ap (λ xs. separated separator (map decimal (map number xs))) (take_all at numbers all)
 
--- the identity maps a list of numbers to itself
 pub map_same : (numbers : List ℕ) → map (λ (n : ℕ). n) numbers ≡ numbers
 map_same [] = refl
 map_same (n ∷ numbers) = ap (λ ns. n ∷ ns) (map_same numbers)

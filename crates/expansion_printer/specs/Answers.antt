@@ -1,4 +1,4 @@
--- The answers of the program as answers of the definitions (`sym_model`).
+-- The answers that the program computes, translated into answers as the definitions of `sym_model` describe them.
 use Rattle.std.specs.Prelude.{ℤ, [], ◌∷◌, cond, nat_lt, nat_abs}
 use Rattle.sym_model.specs.Kind.{Kind as PlainKind, Label, number, expansion, product, pairs}
 use Rattle.sym_model.specs.Kind.{powers, permutations, polynomial, shifts}
@@ -12,7 +12,7 @@ use Rattle.expansion_printer.specs.declared.answer.Answer.TheVariants.{Number, E
 use Rattle.expansion_printer.specs.declared.answer.Answer.TheVariants.{Pairs, Powers, Permutations}
 use Rattle.expansion_printer.specs.declared.answer.Answer.TheVariants.{Polynomial, Shifts}
 
--- the kind of the definitions for a kind of answer of the program
+-- for a kind of answer of the program, the kind of answer in the definitions (`sym_model`)
 abbrev pub kind_of : Kind → PlainKind
 kind_of kinds.Number = number
 kind_of kinds.Expansion = expansion
@@ -27,7 +27,7 @@ kind_of kinds.Shifts = shifts
 abbrev pub number_terms : ℤ → Terms (Label number)
 number_terms value = cond (nat_lt 0 (nat_abs value)) ((tt, (value, 1)) ∷ []) []
 
--- the answer of the definitions for an answer of the program: its kind and its terms, with integer coefficients as fractions
+-- for an answer of the program, the answer in the definitions (`sym_model`): its kind and its terms, with integer coefficients as fractions
 abbrev pub plain_answer : Answer → PlainAnswer
 plain_answer (Number value) = answer number (number_terms value)
 plain_answer (Expansion terms) = answer expansion terms
@@ -38,7 +38,7 @@ plain_answer (Permutations terms) = answer permutations (as_fractions terms)
 plain_answer (Polynomial terms) = answer polynomial (as_fractions terms)
 plain_answer (Shifts terms) = answer shifts (as_fractions terms)
 
--- the kind of the definitions for the kind of an answer of the program
+-- for an answer of the program, the kind of this answer in the definitions (`sym_model`)
 abbrev pub kind_of_answer : Answer → PlainKind
 kind_of_answer (Number value) = number
 kind_of_answer (Expansion terms) = expansion

@@ -1,4 +1,4 @@
--- The indices of cells in a column reading.
+-- The indices of cells in a column reading, which has the letters of the columns from the rightmost to the leftmost, each from top to bottom.
 use Rattle.std.specs.Prelude.{◌≡◌, ℕ, ◌+◌, ◌-◌, max, nat_le, nat_lt, Bool, ◌&&◌, cond, List}
 use Rattle.std.specs.Prelude.{slice_index}
 use Rattle.sym_model.specs.Partition.{IsCell}

@@ -1,4 +1,4 @@
--- The line of a refusal.
+-- The line that is printed if the words of a command are refused.
 use Rattle.std.specs.Prelude.{ℕ, List, [], codes}
 use Rattle.calc_base.specs.declared.words.WordsFault.{WordsFault}
 use Rattle.calc_base.specs.declared.words.WordsFault.TheVariants.{Syntax, Literal, Range, Shape}

@@ -1,4 +1,5 @@
-//! The texts of atoms: the letter of a basis, and numbers in brackets.
+//! The texts of atoms, that is, of basis elements such as `s[2,1]`: the letter of a basis, and the
+//! parts of a partition in brackets.
 ghost use Rattle.std.specs.Prelude.{◌≡◌, ◌∷◌, [], ◌++◌, ◌==◌, decimal, codes, if◌then◌else◌};
 ghost use Rattle.expansion_printer.specs.Gathering.{Gathers};
 ghost use Rattle.expression_reading.specs.Trees.{basis_of};
@@ -10,7 +11,7 @@ use crate::numbers::put_separated;
 use crate::text_buffer::TextBuffer;
 use calc_base::{Basis, Sink};
 
-/// Writes the atom of a basis with these parts, as `s[2,1]`.
+/// Writes the basis element with these parts, such as `s[2,1]`.
 pub(crate) fn put_atom<K: Sink>(basis: Basis, parts: &[u16], text: &mut TextBuffer, sink: &mut K)
     ensures { Gathers text.old (K.seen sink.old) text.new (K.seen sink.new)
         (atom_text (basis_of basis) parts.now) }

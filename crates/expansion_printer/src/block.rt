@@ -27,7 +27,8 @@ pub fn print<K: Sink>(answer: &Answer, sink: &mut K) -> Result<(), SinkFault>
     ensures prints { Prints (K.seen sink.old) (K.seen sink.new)
         (answer_text (plain_answer answer.now)) result }
 
-    // The answer is canonical and has numbers of at most 128 bits, so its block can be read back.
+    // The labels of an answer are in the printed order, its coefficients are in lowest terms and
+    // not 0, and its numbers have at most 128 bits. So the block can be read back.
     ensures printable { IsPrintable (plain_answer answer.now) }
 {
     print_after(b"", answer, sink)
@@ -42,7 +43,8 @@ pub fn print_after<K: Sink>(front: &[u8], answer: &Answer, sink: &mut K) -> Resu
     ensures prints { Prints (K.seen sink.old) (K.seen sink.new)
         (front.now ++ answer_text (plain_answer answer.now)) result }
 
-    // The answer is canonical and has numbers of at most 128 bits, so its block can be read back.
+    // The labels of an answer are in the printed order, its coefficients are in lowest terms and
+    // not 0, and its numbers have at most 128 bits. So the block can be read back.
     ensures printable { IsPrintable (plain_answer answer.now) }
 {
     let mut text = TextBuffer::new();

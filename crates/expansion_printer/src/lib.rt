@@ -1,6 +1,7 @@
-//! Answers of commands, and all functions that print them: the block of an answer or its one-line
-//! form, the line of a refusal, and the line of an answer that is too large; the lines of words,
-//! tableaux and shapes, and single labels.
+//! Answers of commands, and the functions that print them. An answer is printed as a block, with
+//! one line for each term, or on one line. Other functions print the line of a refused command, the
+//! line for an answer that is too large, words, tableaux, lists of partitions, and a single
+//! partition.
 //!
 //! A printer collects its text in a buffer of fixed size, which is written to the sink when a
 //! further piece does not fit, and at the end. No write follows a failed one, and what was written
@@ -8,12 +9,13 @@
 //!
 //! What is proved:
 //!
-//! `print` writes the block of an answer of any kind, `print_refusal` and `print_large` the line of
-//! a refusal, and `print_label`, `print_letters`, `print_shapes`, `print_reading`, `print_in_order`
-//! and `print_tableau` the texts that they are named for: the whole text, or a prefix of it if a
-//! write fails. Every answer is canonical and has numbers of at most 128 bits. `print_one_line`
-//! writes an expansion or a product on one line with the atoms of a basis, and any other answer as
-//! its block. `print_after` and `print_one_line_after` write a given text first.
+//! `print` writes the block of an answer. `print_one_line` writes an expansion or a product on one
+//! line, and any other answer as a block. `print_after` and `print_one_line_after` write a given
+//! text first. Every other function writes the text that its contract states; `print_label`, for
+//! example, writes the label of a partition. If a write fails, a prefix of the text was written.
+//!
+//! Every `Answer` is printable: its labels are in the printed order, its coefficients are in lowest
+//! terms and not 0, and its numerators and denominators have at most 128 bits.
 #![tactic(auto)]
 
 mod answer;

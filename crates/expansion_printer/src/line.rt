@@ -22,9 +22,9 @@ use calc_base::{Basis, Sink, SinkFault};
 use linear_combinations::Terms;
 use partitions::Partition;
 
-/// Prints an expansion, or a product, on one line with the atoms of the basis, as
-/// `-1/3*p[3]+1/3*p[1,1,1]`: the terms in their order, or `0` if there is no term. An answer of
-/// another kind, whose labels are not partitions, has no such line: its block is printed.
+/// Prints an expansion or a product on one line, such as `-1/3*p[3]+1/3*p[1,1,1]`: the terms in
+/// their order, or `0` if there is no term. Each partition is written with the letter of the basis.
+/// An answer of another kind, whose labels are not partitions, is printed as a block.
 ///
 /// Returns `SinkFault` if and only if a write failed. No write follows a failed one, and what was
 /// written is then a prefix of the line.
@@ -32,14 +32,16 @@ pub fn print_one_line<K: Sink>(answer: &Answer, basis: Basis, sink: &mut K) -> R
     ensures prints { Prints (K.seen sink.old) (K.seen sink.new)
         (answer_text_in (as_line (basis_of basis)) (plain_answer answer.now)) result }
 
-    // The answer is canonical and has numbers of at most 128 bits, so its line can be read back.
+    // The labels of an answer are in the printed order, its coefficients are in lowest terms and
+    // not 0, and its numbers have at most 128 bits. So the line can be read back.
     ensures printable { IsPrintable (plain_answer answer.now) }
 {
     print_one_line_after(b"", answer, basis, sink)
 }
 
-/// Prints the text `front` and then the answer on one line with the atoms of the basis, or its
-/// block if its labels are not partitions. If `front` is empty, the sink is not called for it.
+/// Prints the text `front` and then the answer on one line, with the letter of the basis before
+/// each partition; if its labels are not partitions, it is printed as a block. If `front` is empty,
+/// the sink is not called for it.
 ///
 /// Returns `SinkFault` if and only if a write failed. No write follows a failed one, and what was
 /// written is then a prefix of the two texts, one after the other.
@@ -52,7 +54,8 @@ pub fn print_one_line_after<K: Sink>(
     ensures prints { Prints (K.seen sink.old) (K.seen sink.new)
         (front.now ++ answer_text_in (as_line (basis_of basis)) (plain_answer answer.now)) result }
 
-    // The answer is canonical and has numbers of at most 128 bits, so its line can be read back.
+    // The labels of an answer are in the printed order, its coefficients are in lowest terms and
+    // not 0, and its numbers have at most 128 bits. So the line can be read back.
     ensures printable { IsPrintable (plain_answer answer.now) }
 {
     match answer {
@@ -62,7 +65,8 @@ pub fn print_one_line_after<K: Sink>(
     }
 }
 
-/// Prints the text `front` and then the one-line form of the terms with the atoms of the basis.
+/// Prints the text `front` and then the terms on one line. Each partition is written as a basis
+/// element, such as `s[2,1]`.
 fn print_terms<R: Ratio, K: Sink>(
     front: &[u8],
     basis: Basis,
@@ -80,7 +84,7 @@ fn print_terms<R: Ratio, K: Sink>(
     text.finish(sink)
 }
 
-/// Writes the one-line form of the terms with the atoms of the basis.
+/// Writes the terms on one line. Each partition is written as a basis element, such as `s[2,1]`.
 fn put_line<R: Ratio, K: Sink>(
     basis: Basis,
     terms: &Terms<Partition, R>,

@@ -8,7 +8,7 @@ use crate::text_buffer::TextBuffer;
 use calc_base::Sink;
 use itoa::{Buffer, Integer};
 
-/// Numbers of at most 64 bits, as in the list of a label.
+/// Numbers of at most 64 bits, such as those in the label of a term.
 pub(crate) trait Numeral {
     ghost number: { Self → ℕ };
 

@@ -1,4 +1,4 @@
-//! The lines of refusals.
+//! The lines that are printed if a command is refused or its answer is too large.
 ghost use Rattle.std.specs.Prelude.{◌≢◌, true};
 ghost use Rattle.calc_base.specs.Puts.{Prints};
 ghost use Rattle.sym_model.specs.RefusalText.{refusal_line, large_line};
@@ -36,7 +36,7 @@ pub fn print_large<K: Sink>(sink: &mut K) -> Result<(), SinkFault>
     sink.put(b"! Large\n")
 }
 
-/// Prints the line of a refusal with this name and this place.
+/// Prints the line of a refusal with the given name and place of an error.
 fn print_offence<K: Sink>(name: &[u8], at: Place, sink: &mut K) -> Result<(), SinkFault>
     ensures { Prints (K.seen sink.old) (K.seen sink.new)
         (refusal_line name.now at.word at.byte) result }

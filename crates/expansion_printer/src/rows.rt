@@ -16,7 +16,7 @@ pub(crate) trait Entries {
 
     ghost inner: { Self → List ℕ };
 
-    // The number in the cell of this row and this column, both counted from 1.
+    // `entry f row column`: the number in the cell of f in that row and column, counted from 1.
     ghost entry: { Self → ℕ → ℕ → ℕ };
 
     // The numbers of the filling, row by row.

@@ -1,4 +1,4 @@
-//! The lines of words and of shapes, and single labels.
+//! Prints a word or a list of partitions as a line, and a single partition with no line feed.
 ghost use Rattle.std.specs.Prelude.{◌++◌, ◌==◌, map, codes, if◌then◌else◌};
 ghost use Rattle.calc_base.specs.Puts.{Prints};
 ghost use Rattle.expansion_printer.specs.Gathering.{Gathers};

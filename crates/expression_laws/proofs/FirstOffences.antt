@@ -1,16 +1,16 @@
--- The first of a list of errors is one of them, and no other one is before it.
-use Rattle.std.proofs.Common.{◌≡◌, ℕ, ◌<◌, ◌==◌, nat_le, nat_lt, Bool, true, false, ◌&&◌, ◌||◌, cond, List, [], ◌∷◌, refl, sym, ap, ◌∙◌, subst, arith, Option, Some, None, ◌⊎◌, inl, inr}
+-- The errors of a word that is read as an expression are ordered by their places in the word (`ComesBefore`). The first error of a list of errors
+-- is an element of the list, and no error of the list comes before it.
+use Rattle.std.proofs.Common.{◌≡◌, ℕ, ◌<◌, ◌==◌, nat_le, nat_lt, Bool, true, false, ◌&&◌, ◌||◌, cond, List, [], ◌∷◌, refl, sym, ap, ◌∙◌, subst, arith, Option, Some, None, ◌⊎◌, inl, inr, rules}
 use Rattle.std.proofs.lemmas.Bool.Decides.{nat_tests}
 use Rattle.sym_model.specs.Sum.{Among}
 use Rattle.sym_model.specs.ExpressionOffence.{WordOffence, rank, comes_first, ComesBefore, earlier, first_of}
 
--- no error comes before itself (`ComesBefore`)
 never_itself : (o : WordOffence) → ComesBefore o o → ⊥
 never_itself o (inl h) = omega arith
 never_itself o (inr h) = omega arith
 
--- the pair (a, b) is lexicographically before the pair (c, d): this is the order of errors, with a and c their bytes, and b and d the ranks of their
--- kinds
+-- the pair (a, b) comes before (c, d) in the lexicographic order; two errors are compared in this way, with the byte of an error as the first number
+-- and the rank of its kind as the second
 abbrev pub Before : ℕ → ℕ → ℕ → ℕ → Type 0
 Before a b c d = (a < c) ⊎ ((a ≡ c) × (b < d))
 
@@ -25,41 +25,23 @@ pub first_before : (a b c d : ℕ) → Before a b c d → goes_first a b c d ≡
 first_before a b c d (inl h) = grind (arith, nat_tests)
 first_before a b c d (inr h) = grind (arith, nat_tests)
 
--- if the error p is before x, and x is before y or has the place and the kind of y, then p is before y
 before-first : (p x y : WordOffence) → ComesBefore p x → comes_first x y ≡ true → ComesBefore p y
 before-first p x y h k = before_first p.0 (rank p.1) x.0 (rank x.1) y.0 (rank y.1) h k
 
 pub first_none : (os : List WordOffence) → first_of os ≡ None → os ≡ []
 first_none [] h = refl
-first_none (x ∷ os) h = absurd (by (first_of os) h)
-  where
-    by : (rest : Option WordOffence) → earlier (Some x) rest ≡ None → ⊥
-    by None e = cc
-    by (Some y) e = chosen (comes_first x y) e
-      where
-        chosen : (c : Bool) → cond c (Some x) (Some y) ≡ None → ⊥
-        chosen true e = cc
-        chosen false e = cc
+first_none (x ∷ os) h = search rules
 
 pub none-empty : (os : List WordOffence) → os ≡ [] → first_of os ≡ None
 none-empty os h = ap first_of h
 
--- if o is what a test c selects, x if c is true and y if c is false, then c is true and o is x, or c is false and o is y
 pub one_of : {A : Type 0} (x y o : A) (c : Bool) → cond c (Some x) (Some y) ≡ Some o → ((c ≡ true) × (o ≡ x)) ⊎ ((c ≡ false) × (o ≡ y))
 one_of x y o true h = inl (refl, cc)
 one_of x y o false h = inr (refl, cc)
 
 pub first-among : (os : List WordOffence) (o : WordOffence) → first_of os ≡ Some o → Among o os
 first-among [] o h = cc
-first-among (x ∷ os) o h = by (first_of os) refl h (first-among os)
-  where
-    by : (rest : Option WordOffence) → first_of os ≡ rest → earlier (Some x) rest ≡ Some o → ((p : WordOffence) → first_of os ≡ Some p → Among p os) → Among o (x ∷ os)
-    by None e h ih = inl (cc)
-    by (Some y) e h ih = chosen (one_of x y o (comes_first x y) h)
-      where
-        chosen : ((comes_first x y ≡ true) × (o ≡ x)) ⊎ ((comes_first x y ≡ false) × (o ≡ y)) → Among o (x ∷ os)
-        chosen (inl k) = inl k.1
-        chosen (inr k) = inr (ih o (e ∙ ap Some (sym k.1)))
+first-among (x ∷ os) o h = search (rules, one_of, (first-among os))
 
 pub none-before : (os : List WordOffence) (o p : WordOffence) → first_of os ≡ Some o → Among p os → ComesBefore p o → ⊥
 none-before [] o p h a b = a

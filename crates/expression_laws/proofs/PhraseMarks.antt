@@ -1,6 +1,7 @@
--- The marks of a phrase (specs/ExpressionOffence): its numbers and its opening parentheses, each with the byte at which it begins. They are found
--- while the phrase is read from the left.
-use Rattle.std.proofs.Common.{◌≡◌, ℕ, ◌+◌, List, [], ◌∷◌, ◌++◌, length, length-append, refl, sym, ap, ◌∙◌, subst, append_assoc, arith, Option, Some, None}
+-- A *phrase* is the syntax tree of an expression or of a part of one. Its *marks* are its numbers and its opening parentheses, each with the byte at
+-- which it begins (specs/ExpressionOffence). The machine of specs/LeftToRight reads an expression byte by byte; its *state* (`Reading`) has the parts
+-- of the expression that it has read. Here the marks of a phrase are computed from the states of the machine.
+use Rattle.std.proofs.Common.{◌≡◌, ℕ, ◌+◌, List, [], ◌∷◌, ◌++◌, length, length-append, refl, sym, ap, ◌∙◌, subst, append_assoc, arith, Option, Some, None, rules}
 use Rattle.std.proofs.lemmas.List.{append-nil}
 use Rattle.std.specs.Prelude.{codes, option_to_list}
 use Rattle.sym_model.specs.Expansion.{Basis}
@@ -14,7 +15,7 @@ use Rattle.expression_laws.proofs.PhrasePrefixes.{written_term, written_factor, 
 abbrev pub Marks : Type 0
 Marks = List (ℕ × Mark)
 
--- the number of parentheses that are open in a state
+-- the number of open parentheses
 abbrev pub depth_of : Opened Phrase → ℕ
 depth_of outermost = 0
 depth_of (inside o t f) = depth_of o + 1
@@ -44,7 +45,8 @@ opened_marks (inside o t f) =
     opened_marks o ++ (term_marks (depth_of o) (term_begin o) t
     ++ (factor_marks (depth_of o) (factor_begin t o) f ++ (piece_begin t f o, opening (depth_of o + 1)) ∷ []))
 
--- the marks of those numbers and parentheses of the current factor that are complete
+-- the marks of the complete numbers and parentheses in the part of the current factor that is read; the factor begins at the byte b, after d open
+-- parentheses
 abbrev pub piece_marks : ℕ → ℕ → Piece Phrase (List ℕ) → Marks
 piece_marks d b (after_slash n) = (b, value (decimal_value n)) ∷ []
 piece_marks d b (in_denominator n ds) = (b, value (decimal_value n)) ∷ []
@@ -59,31 +61,29 @@ state_marks (at p t f o) =
     opened_marks o ++ (term_marks (depth_of o) (term_begin o) t
     ++ (factor_marks (depth_of o) (factor_begin t o) f ++ piece_marks (depth_of o) (piece_begin t f o) p))
 
--- the value of the last of the number words ws, or `before` if ws is empty
+-- the value of the last number of ws, or `before` if ws is empty; a number is given by the list of its digits
 abbrev pub last_value : Option ℕ → List (List ℕ) → Option ℕ
 last_value before [] = before
 last_value before (w ∷ ws) = last_value (Some (decimal_value w)) ws
 
--- the mark of the number whose digits are being read, if there is one
+-- the mark of the number whose digits are being read, if there is one, in a factor that begins at the byte b
 abbrev pub piece_mark : ℕ → Piece Phrase (List ℕ) → Option (ℕ × Mark)
 piece_mark b (in_number ds) = Some (b, value (decimal_value ds))
 piece_mark b (in_denominator n ds) = Some (b + length n + 1, denominator (decimal_value ds))
 piece_mark b (in_entry basis ws ds) = Some (b + 2 + length (commas ws), entry (length ws) (last_value None ws) (decimal_value ds))
 piece_mark b _ = None
 
--- the mark that is complete after the next symbol is read, if there is one: that of a number which the symbol ends, or of an opening parenthesis
+-- the mark that becomes complete when the symbol is read in the state: the mark of a number that the symbol ends, or of an opening parenthesis, or
+-- None
 abbrev pub new_mark : Reading → Symbol → Option (ℕ × Mark)
 new_mark dead s = None
 new_mark (at p t f o) (digit b) = None
 new_mark (at p t f o) opens = Some (piece_begin t f o, opening (depth_of o + 1))
 new_mark (at p t f o) _ = piece_mark (piece_begin t f o) p
 
--- the marks of the number words ws and w in the list of an atom are those of ws, followed by that of w
 entry_marks-snoc : (b k : ℕ) (before : Option ℕ) (ws : List (List ℕ)) (w : List ℕ)
     → entry_marks b k before (ws ++ w ∷ []) ≡ entry_marks b k before ws ++ (b + length (commas ws), entry (k + length ws) (last_value before ws) (decimal_value w)) ∷ []
-entry_marks-snoc b k before [] w =
-    ap (λ n. (n, entry k before (decimal_value w)) ∷ []) (omega arith)
-    ∙ ap (λ n. (b + 0, entry n before (decimal_value w)) ∷ []) (omega arith)
+entry_marks-snoc b k before [] w = search rules
 entry_marks-snoc b k before (v ∷ ws) w =
     let place : b + length v + 1 + length (commas ws) ≡ b + length (v ++ (codes "," ++ commas ws)) = simp length-append (omega arith) in
     let count : k + 1 + length ws ≡ k + length (v ∷ ws) = omega arith in
@@ -94,11 +94,8 @@ entry_marks-snoc b k before (v ∷ ws) w =
 
 pub entry_marks-next : (b : ℕ) (ws : List (List ℕ)) (w : List ℕ)
     → entry_marks b 0 None (ws ++ w ∷ []) ≡ entry_marks b 0 None ws ++ (b + length (commas ws), entry (length ws) (last_value None ws) (decimal_value w)) ∷ []
-entry_marks-next b ws w =
-    entry_marks-snoc b 0 None ws w
-    ∙ ap (λ n. entry_marks b 0 None ws ++ (b + length (commas ws), entry n (last_value None ws) (decimal_value w)) ∷ []) (omega arith)
+entry_marks-next b ws w = search (rules, entry_marks-snoc, commas)
 
--- the marks of the term that is complete after the factor x are those of the term before x, if there is one, followed by those of x
 marks-join_factor : (d b : ℕ) (f : BeforeFactor Phrase) (x : Phrase) → marks d b (join_factor phrases f x) ≡ factor_marks d b f ++ marks d (b + length (written_factor f)) x
 marks-join_factor d b no_factor x = ap (λ n. marks d n x) (omega arith)
 marks-join_factor d b (multiplying e) x = ap (λ n. marks d b e ++ marks d n x) (simp length-append (omega arith))
@@ -128,22 +125,14 @@ begin-inside o t f = simp length-append (omega arith)
 regroup : (a t f r : Marks) (m : ℕ × Mark) → a ++ (t ++ (f ++ m ∷ r)) ≡ (a ++ (t ++ (f ++ m ∷ []))) ++ r
 regroup a t f r m = simp append_assoc
 
--- if a symbol is read after the whole factor x, the new state is `dead` or has the same marks as the state before
 after-factor : (s : Symbol) (x : Phrase) (t : BeforeTerm Phrase) (f : BeforeFactor Phrase) (o : Opened Phrase)
     → MarksAre (state_marks (at (closed x) t f o)) (after_factor phrases x t f o s)
-after-factor star x t f o =
-    ap (λ ms. opened_marks o ++ (term_marks (depth_of o) (term_begin o) t ++ ms))
-    (append-nil _ ∙ marks-join_factor (depth_of o) (factor_begin t o) f x)
+after-factor star x t f o = search (rules, append-nil, marks-join_factor)
 after-factor plus_sign x t f o =
     ap (λ ms. opened_marks o ++ ms) (append-nil _ ∙ marks-join (depth_of o) (term_begin o) t f x)
 after-factor minus_sign x t f o =
     ap (λ ms. opened_marks o ++ ms) (append-nil _ ∙ marks-join (depth_of o) (term_begin o) t f x)
-after-factor closes x t f (inside o t' f') =
-    let d = depth_of o in
-    ap (λ ms. opened_marks o ++ (term_marks d (term_begin o) t' ++ (factor_marks d (factor_begin t' o) f' ++ (piece_begin t' f' o, opening (d + 1)) ∷ ms)))
-    (ap (λ n. marks (d + 1) n (join phrases t f x)) (sym (begin-inside o t' f'))
-    ∙ marks-join (d + 1) (term_begin (inside o t' f')) t f x)
-    ∙ regroup (opened_marks o) (term_marks d (term_begin o) t') (factor_marks d (factor_begin t' o) f') _ (piece_begin t' f' o, opening (d + 1))
+after-factor closes x t f (inside o t' f') = search (rules, begin-inside, marks-join, regroup)
 after-factor _ x t f o = tt
 
 last : (a t f : Marks) (m : ℕ × Mark) → a ++ (t ++ (f ++ m ∷ [])) ≡ (a ++ (t ++ (f ++ []))) ++ m ∷ []
@@ -162,27 +151,18 @@ entry-next : (ws : List (List ℕ)) (ds : List ℕ) (t : BeforeTerm Phrase) (f :
     → opened_marks o ++ (term_marks (depth_of o) (term_begin o) t
     ++ (factor_marks (depth_of o) (factor_begin t o) f ++ entry_marks (piece_begin t f o + 2) 0 None (ws ++ ds ∷ [])))
     ≡ state_marks (at (in_entry basis ws ds) t f o) ++ (piece_begin t f o + 2 + length (commas ws), entry (length ws) (last_value None ws) (decimal_value ds)) ∷ []
-entry-next ws ds t f o basis =
-    ap (λ ms. opened_marks o ++ (term_marks (depth_of o) (term_begin o) t ++ (factor_marks (depth_of o) (factor_begin t o) f ++ ms)))
-    (entry_marks-next (piece_begin t f o + 2) ws ds)
-    ∙ last_entry (opened_marks o) (term_marks (depth_of o) (term_begin o) t) (factor_marks (depth_of o) (factor_begin t o) f) (entry_marks (piece_begin t f o + 2) 0 None ws) _
+entry-next ws ds t f o basis = search (rules, entry_marks-next, last_entry)
 
 abbrev Adds : Reading → Symbol → Type 0
 Adds x s = MarksAre (state_marks x ++ option_to_list (new_mark x s)) (step phrases x s)
 
 after-numeral : (s : Symbol) (ds : List ℕ) (t : BeforeTerm Phrase) (f : BeforeFactor Phrase) (o : Opened Phrase)
     → MarksAre (state_marks (at (in_number ds) t f o) ++ (piece_begin t f o, value (decimal_value ds)) ∷ []) (after_factor phrases (numeral ds) t f o s)
-after-numeral s ds t f o =
-    cast _ _ (after_factor phrases (numeral ds) t f o s)
-    (last (opened_marks o) (term_marks (depth_of o) (term_begin o) t) (factor_marks (depth_of o) (factor_begin t o) f) _)
-    (after-factor s (numeral ds) t f o)
+after-numeral s ds t f o = search (rules, cast, last, after-factor)
 
 after-ratio : (s : Symbol) (n ds : List ℕ) (t : BeforeTerm Phrase) (f : BeforeFactor Phrase) (o : Opened Phrase)
     → MarksAre (state_marks (at (in_denominator n ds) t f o) ++ (piece_begin t f o + length n + 1, denominator (decimal_value ds)) ∷ []) (after_factor phrases (ratio n ds) t f o s)
-after-ratio s n ds t f o =
-    cast _ _ (after_factor phrases (ratio n ds) t f o s)
-    (last_two (opened_marks o) (term_marks (depth_of o) (term_begin o) t) (factor_marks (depth_of o) (factor_begin t o) f) _ _)
-    (after-factor s (ratio n ds) t f o)
+after-ratio s n ds t f o = search (rules, cast, last_two, after-factor)
 
 after-closed : (s : Symbol) (x : Phrase) (t : BeforeTerm Phrase) (f : BeforeFactor Phrase) (o : Opened Phrase)
     → MarksAre (state_marks (at (closed x) t f o) ++ []) (after_factor phrases x t f o s)
@@ -226,8 +206,8 @@ in-closed minus_sign x t f o = after-closed minus_sign x t f o
 in-closed closes x t f o = after-closed closes x t f o
 in-closed _ x t f o = tt
 
--- after a symbol is read, the state is `dead`, or its marks are those of the state before, followed by the mark that is then complete (`new_mark`),
--- if any
+-- if the symbol s is read in the state x, the new state is `dead`, or its marks are the marks of x, followed by the mark `new_mark x s` if there is
+-- one
 pub marks-step : (s : Symbol) (x : Reading) → Adds x s
 marks-step s dead = tt
 marks-step s (at awaited t f o) = before-factor s t f o
@@ -244,8 +224,8 @@ marks-step closes_list (at (in_entry basis ws ds) t f o) = entry-next ws ds t f 
 marks-step _ (at (in_entry basis ws ds) t f o) = tt
 marks-step s (at (closed x) t f o) = in-closed s x t f o
 
--- if the bytes read spell the expression e, the marks of e are those of the state, followed by the mark of the number with which e ends, if e ends
--- with a number
+-- if the bytes read spell the expression e, then the marks of e are the marks of the state x, followed by the mark of the number at the end of e, if
+-- e ends with a number
 pub marks-found : (x : Reading) (e : Phrase) → found phrases x ≡ Some e → marks 0 0 e ≡ state_marks x ++ option_to_list (new_mark x other)
 marks-found dead e h = cc
 marks-found (at p t f (inside o t' f')) e h = cc
@@ -257,9 +237,7 @@ marks-found (at (in_denominator n ds) t f outermost) e h =
     let is : join phrases t f (ratio n ds) ≡ e = cc h in
     ap (marks 0 0) (sym is) ∙ marks-join 0 0 t f (ratio n ds)
     ∙ last_two [] (term_marks 0 0 t) (factor_marks 0 (0 + length (written_term t)) f) _ _
-marks-found (at (closed x) t f outermost) e h =
-    let is : join phrases t f x ≡ e = cc h in
-    ap (marks 0 0) (sym is) ∙ marks-join 0 0 t f x ∙ sym (append-nil _)
+marks-found (at (closed x) t f outermost) e h = search (rules, marks-join, append-nil)
 marks-found (at awaited t f outermost) e h = cc
 marks-found (at (after_slash ds) t f outermost) e h = cc
 marks-found (at (after_letter basis) t f outermost) e h = cc

@@ -1,10 +1,11 @@
--- If the state after reading a text is not `dead`, some expression begins with the text; if an expression is complete after the last byte, the text
--- spells it.
-use Rattle.std.proofs.Common.{◌≡◌, ℕ, ◌==◌, nat_le, Bool, true, false, cond, ◌&&◌, List, [], ◌∷◌, ◌++◌, length-append, refl, sym, ap, ◌∙◌, subst, append_assoc, arith, Some}
-use Rattle.std.proofs.lemmas.Bool.{leb-true, eqb-true, and_parts}
+-- The machine of specs/LeftToRight reads a text byte by byte. If its state after the text is not `dead`, some expression begins with the text. If it
+-- finds an expression e after the last byte, the text spells e. A state is *sound* (`Sound`) if each phrase (syntax tree) in it has the level that
+-- the grammar requires: factor, term or expression.
+use Rattle.std.proofs.Common.{◌≡◌, ℕ, ◌==◌, true, List, [], ◌∷◌, ◌++◌, length-append, refl, sym, ap, ◌∙◌, subst, append_assoc, arith, Some, rules}
+use Rattle.std.proofs.lemmas.Bool.{eqb-true}
 use Rattle.std.proofs.lemmas.List.{append-nil}
 use Rattle.std.specs.Prelude.{codes}
-use Rattle.sym_model.specs.Expansion.{Basis, monomials, elementaries, completes, power_sums, schurs}
+use Rattle.sym_model.specs.Expansion.{Basis}
 use Rattle.sym_model.specs.NumberWord.{IsDigit, AreDigits, IsNumberWord, AreNumberWords, comma_separated}
 use Rattle.sym_model.specs.Phrase.{plus, minus, times, Phrase, numeral, ratio, label, brackets, minus_first, operation, expression, term, factor, Is, letter, spelling, SpellsPhrase, BeginsExpression}
 use Rattle.expression_laws.specs.LeftToRight.{Symbol, digit, plus_sign, minus_sign, star, slash, opens, closes, opens_list, closes_list, comma, letter_of, other, symbol, BeforeTerm, no_term, negating, adding, subtracting, BeforeFactor, no_factor, multiplying, Opened, outermost, inside, Piece, awaited, in_number, after_slash, in_denominator, after_letter, in_list, in_entry, closed, at, dead, step, start, phrases, join, join_factor, join_term, after_factor, before_factor, in_list_step, is_live, found}
@@ -25,36 +26,11 @@ Codes b comma = b ≡ 44
 Codes b (letter_of basis) = letter basis ≡ b ∷ []
 Codes b other = Unit {0}
 
-choose : (b : ℕ) (x : Bool) (s t : Symbol) → (x ≡ true → Codes b s) → Codes b t → Codes b (cond x s t)
-choose b true s t h k = h refl
-choose b false s t h k = k
-
 same : (b k : ℕ) → b == k ≡ true → b ≡ k
 same b k h = eqb-true b k h
 
-digit_range : (b : ℕ) → (nat_le 48 b && nat_le b 57) ≡ true → IsDigit b
-digit_range b h = let p = and_parts (nat_le 48 b) (nat_le b 57) h in (leb-true 48 b p.0, leb-true b 57 p.1)
-
-one_letter : (b k : ℕ) (l : List ℕ) → l ≡ k ∷ [] → b ≡ k → l ≡ b ∷ []
-one_letter b k l h e = cc
-
 pub symbol-codes : (b : ℕ) → Codes b (symbol b)
-symbol-codes b =
-    choose b (nat_le 48 b && nat_le b 57) (digit b) _ (λ e. (refl, digit_range b e))
-    (choose b (b == 43) plus_sign _ (same b 43)
-    (choose b (b == 45) minus_sign _ (same b 45)
-    (choose b (b == 42) star _ (same b 42)
-    (choose b (b == 47) slash _ (same b 47)
-    (choose b (b == 40) opens _ (same b 40)
-    (choose b (b == 41) closes _ (same b 41)
-    (choose b (b == 91) opens_list _ (same b 91)
-    (choose b (b == 93) closes_list _ (same b 93)
-    (choose b (b == 44) comma _ (same b 44)
-    (choose b (b == 109) (letter_of monomials) _ (λ e. one_letter b 109 (109 ∷ []) refl (same b 109 e))
-    (choose b (b == 101) (letter_of elementaries) _ (λ e. one_letter b 101 (101 ∷ []) refl (same b 101 e))
-    (choose b (b == 104) (letter_of completes) _ (λ e. one_letter b 104 (104 ∷ []) refl (same b 104 e))
-    (choose b (b == 112) (letter_of power_sums) _ (λ e. one_letter b 112 (112 ∷ []) refl (same b 112 e))
-    (choose b (b == 115) (letter_of schurs) other (λ e. one_letter b 115 (115 ∷ []) refl (same b 115 e)) tt))))))))))))))
+symbol-codes b = search rules
 
 -- the bytes of the text before a term
 abbrev pub written_term : BeforeTerm Phrase → List ℕ
@@ -71,7 +47,7 @@ abbrev pub written_opened : Opened Phrase → List ℕ
 written_opened outermost = []
 written_opened (inside o t f) = written_opened o ++ (written_term t ++ (written_factor f ++ codes "("))
 
--- the bytes of number words, each with a comma after it
+-- the text of a list of numbers with a comma after each number; a number is given by the list of its digits
 abbrev pub commas : List (List ℕ) → List ℕ
 commas [] = []
 commas (w ∷ ws) = w ++ (codes "," ++ commas ws)
@@ -123,7 +99,6 @@ abbrev pub Continues : List ℕ → Reading → Type 0
 Continues w dead = Unit {0}
 Continues w (at p t f o) = (written (at p t f o) ≡ w) × Sound (at p t f o)
 
--- the spelling of the term that is complete after the factor x is the text f before x followed by the spelling of x
 pub spelling-join_factor : (f : BeforeFactor Phrase) (x : Phrase) → spelling (join_factor phrases f x) ≡ written_factor f ++ spelling x
 spelling-join_factor no_factor x = refl
 spelling-join_factor (multiplying e) x = sym (append_assoc (spelling e) (codes "*") (spelling x))
@@ -168,17 +143,10 @@ Is-join_term (subtracting e) x h a = (tt, h, a)
 pub Is-join : (t : BeforeTerm Phrase) (f : BeforeFactor Phrase) (x : Phrase) → SoundTerm t → SoundFactor f → Is factor x → Is expression (join phrases t f x)
 Is-join t f x h k a = Is-join_term t (join_factor phrases f x) h (Is-join_factor f x k a)
 
--- if t and f are sound (`SoundTerm`, `SoundFactor`) and x is a factor, the bytes of t, f and x spell the expression that is complete after them
 joined : (w : List ℕ) (t : BeforeTerm Phrase) (f : BeforeFactor Phrase) (x e : Phrase) → Is factor x → SoundTerm t → SoundFactor f
     → w ≡ written_term t ++ (written_factor f ++ spelling x) → Some (join phrases t f x) ≡ Some e → SpellsPhrase w e
-joined w t f x e a ht hf h k =
-    let same : join phrases t f x ≡ e = cc k in
-    record {
-      allowed = subst (Is expression) same (Is-join t f x ht hf a);
-      spelled = h ∙ sym (spelling-join t f x) ∙ ap spelling same;
-    }
+joined w t f x e a ht hf h k = search (rules, same, Is-join, spelling-join)
 
--- the list of one digit is a number word
 one_digit : (c b : ℕ) → c ≡ b → IsDigit b → IsNumberWord (c ∷ [])
 one_digit c b e h = record { nonempty = omega arith; digits = (subst IsDigit (sym e) h, tt) }
 
@@ -187,13 +155,8 @@ AreDigits-snoc [] c h k = (k, tt)
 AreDigits-snoc (d ∷ ds) c h k = (h.0, AreDigits-snoc ds c h.1 k)
 
 IsNumberWord-snoc : (ds : List ℕ) (c b : ℕ) → c ≡ b → IsDigit b → IsNumberWord ds → IsNumberWord (ds ++ c ∷ [])
-IsNumberWord-snoc ds c b e h k = record {
-  nonempty = simp length-append (omega (arith, k.nonempty));
-  digits = AreDigits-snoc ds c k.digits (subst IsDigit (sym e) h);
-}
+IsNumberWord-snoc ds c b e h k = search (rules, length-append, AreDigits-snoc)
 
--- if t, f and o are sound and the factor x has been read after them, the state after one more byte b is `dead`, or it is sound and the bytes read are
--- those read before, followed by b
 after-factor : (b : ℕ) (s : Symbol) (x : Phrase) (t : BeforeTerm Phrase) (f : BeforeFactor Phrase) (o : Opened Phrase) → Codes b s → Is factor x → SoundTerm t → SoundFactor f → SoundOpened o
     → Continues ((written_opened o ++ (written_term t ++ (written_factor f ++ spelling x))) ++ b ∷ []) (after_factor phrases x t f o s)
 after-factor b star x t f o e a ht hf ho =
@@ -206,8 +169,6 @@ after-factor b closes x t f (inside o t' f') e a ht hf ho =
     (simp (e, spelling-join, append_assoc), (Is-join t f x ht hf a, ho.1, ho.2, ho.0))
 after-factor b _ x t f o e a ht hf ho = tt
 
--- if t, f and o are sound and no byte of the next factor has been read, the state after one more byte b is `dead`, or it is sound and the bytes read
--- are those read before, followed by b
 before-factor : (b : ℕ) (s : Symbol) (t : BeforeTerm Phrase) (f : BeforeFactor Phrase) (o : Opened Phrase) → Codes b s → SoundTerm t → SoundFactor f → SoundOpened o
     → Continues ((written_opened o ++ (written_term t ++ (written_factor f ++ []))) ++ b ∷ []) (before_factor phrases t f o s)
 before-factor b (digit c) t f o e ht hf ho =
@@ -220,7 +181,6 @@ before-factor b minus_sign no_term no_factor o e ht hf ho =
     (simp (e, append-nil), (tt, tt, tt, ho))
 before-factor b _ t f o e ht hf ho = tt
 
--- the number words ws and then w, separated by commas, are the words ws, each with a comma after it, followed by w
 pub comma_separated-snoc : (ws : List (List ℕ)) (w : List ℕ) → comma_separated (ws ++ w ∷ []) ≡ commas ws ++ w
 comma_separated-snoc [] w = refl
 comma_separated-snoc (v ∷ []) w = simp (append_assoc, append-nil)
@@ -236,8 +196,6 @@ AreNumberWords-snoc : (ws : List (List ℕ)) (w : List ℕ) → AreNumberWords w
 AreNumberWords-snoc [] w h k = (k, tt)
 AreNumberWords-snoc (v ∷ ws) w h k = (h.0, AreNumberWords-snoc ws w h.1 k)
 
--- if t, f, o and the numbers ws in the list of an atom are sound, the state after one more byte b is `dead`, or it is sound and the bytes read are
--- those read before, followed by b
 in-list : (b : ℕ) (s : Symbol) (basis : Basis) (ws : List (List ℕ)) (t : BeforeTerm Phrase) (f : BeforeFactor Phrase) (o : Opened Phrase) → Codes b s → AreNumberWords ws → SoundTerm t → SoundFactor f → SoundOpened o
     → Continues ((written_opened o ++ (written_term t ++ (written_factor f ++ (letter basis ++ (codes "[" ++ commas ws))))) ++ b ∷ []) (in_list_step phrases basis ws t f o s)
 in-list b (digit c) basis ws t f o e hw ht hf ho =
@@ -272,7 +230,6 @@ continues b closes_list (at (in_entry basis ws ds) t f o) e h =
 continues b s (at (in_entry basis ws ds) t f o) e h = tt
 continues b s (at (closed x) t f o) e h = after-factor b s x t f o e h.0 h.1 h.2 h.3
 
--- after any text is read from the state `dead`, the state is `dead`
 pub read-dead : (w : List ℕ) → read_on w dead ≡ dead
 read-dead [] = refl
 read-dead (b ∷ w) = read-dead w
@@ -291,7 +248,7 @@ read-written (b ∷ w) x h =
         (ap (λ v. v ++ w) k.0 ∙ append_assoc (written x) (b ∷ []) w)
         (ih (at p t f o) k.1)
 
--- bytes that make the current factor complete
+-- some bytes that make the current factor complete if they are read next
 abbrev rest_of : Piece Phrase (List ℕ) → List ℕ
 rest_of awaited = codes "1"
 rest_of (in_number ds) = []
@@ -306,7 +263,7 @@ abbrev closers : Opened Phrase → List ℕ
 closers outermost = []
 closers (inside o t f) = codes ")" ++ closers o
 
--- the factor that is complete after the bytes `rest_of`
+-- the complete factor that the current factor becomes if the bytes `rest_of` are read next
 abbrev factor_from : Piece Phrase (List ℕ) → Phrase
 factor_from awaited = numeral (codes "1")
 factor_from (in_number ds) = numeral ds
@@ -361,7 +318,6 @@ Is-close : (e : Phrase) (o : Opened Phrase) → Is expression e → SoundOpened 
 Is-close e outermost h k = h
 Is-close e (inside o t f) h k = Is-close (join phrases t f (brackets e)) o (Is-join t f (brackets e) k.1 k.2 h) k.0
 
--- if w is the list of the bytes read, and the state is not `dead`, some expression begins with w
 complete : (w : List ℕ) (x : Reading) → Continues w x → is_live x ≡ true → BeginsExpression w
 complete w dead h live = cc
 complete w (at p t f o) h live = (
@@ -396,7 +352,6 @@ live-from_begins w h =
     found-dead h.0 (read_on w start) h.1 e
     (ap (found phrases) (sym (read-append w h.0 start)) ∙ found-spelled (w ++ h.0) h.1 h.2))
 
--- if w is the list of the bytes read, and e is the expression found in the state, w spells e
 whole : (w : List ℕ) (x : Reading) (e : Phrase) → Continues w x → found phrases x ≡ Some e → SpellsPhrase w e
 whole w dead e h k = cc
 whole w (at p t f (inside o t' f')) e h k = cc

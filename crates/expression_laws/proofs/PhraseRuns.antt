@@ -1,19 +1,15 @@
--- Reading the spelling of a phrase from the left finds this phrase, so a word spells at most one phrase.
-use Rattle.std.proofs.Common.{◌≡◌, ℕ, nat_le, Bool, true, cond, ◌&&◌, List, [], ◌∷◌, ◌++◌, refl, sym, ap, ◌∙◌, append_assoc, arith, Some, option_map}
-use Rattle.std.proofs.lemmas.Bool.{le-leb}
+-- A *phrase* is the syntax tree of an expression or of a part of one. If the machine of specs/LeftToRight reads the spelling of a phrase, byte by
+-- byte, it finds this phrase. So a word spells at most one phrase.
+use Rattle.std.proofs.Common.{◌≡◌, ℕ, List, [], ◌∷◌, ◌++◌, refl, sym, ap, ◌∙◌, append_assoc, arith, Some, option_map, rules}
 use Rattle.std.proofs.lemmas.List.{append-nil}
 use Rattle.std.specs.Prelude.{codes}
 use Rattle.sym_model.specs.Expansion.{Basis, monomials, elementaries, completes, power_sums, schurs}
 use Rattle.sym_model.specs.NumberWord.{IsDigit, AreDigits, IsNumberWord, AreNumberWords, comma_separated}
 use Rattle.sym_model.specs.Phrase.{Operator, plus, minus, times, Phrase, numeral, ratio, label, brackets, minus_first, operation, Level, expression, term, factor, Covers, level_of, Is, letter, spelling, SpellsPhrase}
-use Rattle.expression_laws.specs.LeftToRight.{Symbol, digit, plus_sign, minus_sign, star, slash, opens, closes, opens_list, closes_list, comma, letter_of, other, symbol, sign_symbol, BeforeTerm, no_term, negating, adding, subtracting, BeforeFactor, no_factor, multiplying, Opened, outermost, inside, Piece, awaited, in_number, after_slash, in_denominator, in_list, in_entry, closed, State, at, step, run, start, phrases, join, join_term, after_factor, factor_found, found}
+use Rattle.expression_laws.specs.LeftToRight.{Symbol, digit, plus_sign, minus_sign, star, slash, opens, closes, opens_list, closes_list, comma, letter_of, other, symbol, BeforeTerm, no_term, negating, adding, subtracting, BeforeFactor, no_factor, multiplying, Opened, outermost, inside, Piece, awaited, in_number, after_slash, in_denominator, in_list, in_entry, closed, State, at, step, run, start, phrases, join, join_term, after_factor, factor_found, found}
 
--- the symbol of a byte that is a digit is that digit
 pub symbol-digit : (b : ℕ) → IsDigit b → symbol b ≡ digit b
-symbol-digit b h = by (nat_le 48 b) (nat_le b 57) (le-leb 48 b h.0) (le-leb b 57 h.1)
-  where
-    by : (x y : Bool) → x ≡ true → y ≡ true → cond (x && y) (digit b) (sign_symbol b) ≡ digit b
-    by x y p q = rw (p, q) refl
+symbol-digit b h = search rules
 
 abbrev pub Reading : Type 0
 Reading = State Phrase (List ℕ)
@@ -21,37 +17,28 @@ Reading = State Phrase (List ℕ)
 abbrev pub read_on : List ℕ → Reading → Reading
 read_on w s = run phrases w s
 
--- the state after reading u ++ v is the state after reading u and then v
 pub read-append : (u v : List ℕ) (s : Reading) → read_on (u ++ v) s ≡ read_on v (read_on u s)
 read-append [] v s = refl
 read-append (b ∷ u) v s = read-append u v (step phrases s (symbol b))
 
--- reading a digit is a step with the symbol of this digit
 read-digit : (b : ℕ) (w : List ℕ) (s : Reading) → IsDigit b → read_on (b ∷ w) s ≡ read_on w (step phrases s (digit b))
 read-digit b w s h = ap (λ x. read_on w (step phrases s x)) (symbol-digit b h)
 
 read-number : (ds es : List ℕ) (t : BeforeTerm Phrase) (f : BeforeFactor Phrase) (o : Opened Phrase) → AreDigits es
     → read_on es (at (in_number ds) t f o) ≡ at (in_number (ds ++ es)) t f o
 read-number ds [] t f o h = ap (λ x. at (in_number x) t f o) (sym (append-nil ds))
-read-number ds (b ∷ es) t f o h =
-    read-digit b es (at (in_number ds) t f o) h.0 ∙ read-number (ds ++ b ∷ []) es t f o h.1
-    ∙ ap (λ x. at (in_number x) t f o) (append_assoc ds (b ∷ []) es)
+read-number ds (b ∷ es) t f o h = search (rules, read-digit, append_assoc, (read-number (ds ++ b ∷ []) es t f o h.1))
 
 read-denominator : (n ds es : List ℕ) (t : BeforeTerm Phrase) (f : BeforeFactor Phrase) (o : Opened Phrase) → AreDigits es
     → read_on es (at (in_denominator n ds) t f o) ≡ at (in_denominator n (ds ++ es)) t f o
 read-denominator n ds [] t f o h = ap (λ x. at (in_denominator n x) t f o) (sym (append-nil ds))
-read-denominator n ds (b ∷ es) t f o h =
-    read-digit b es (at (in_denominator n ds) t f o) h.0 ∙ read-denominator n (ds ++ b ∷ []) es t f o h.1
-    ∙ ap (λ x. at (in_denominator n x) t f o) (append_assoc ds (b ∷ []) es)
+read-denominator n ds (b ∷ es) t f o h = search (rules, read-digit, append_assoc, (read-denominator n (ds ++ b ∷ []) es t f o h.1))
 
 read-entry : (basis : Basis) (ws : List (List ℕ)) (ds es : List ℕ) (t : BeforeTerm Phrase) (f : BeforeFactor Phrase) (o : Opened Phrase) → AreDigits es
     → read_on es (at (in_entry basis ws ds) t f o) ≡ at (in_entry basis ws (ds ++ es)) t f o
 read-entry basis ws ds [] t f o h = ap (λ x. at (in_entry basis ws x) t f o) (sym (append-nil ds))
-read-entry basis ws ds (b ∷ es) t f o h =
-    read-digit b es (at (in_entry basis ws ds) t f o) h.0 ∙ read-entry basis ws (ds ++ b ∷ []) es t f o h.1
-    ∙ ap (λ x. at (in_entry basis ws x) t f o) (append_assoc ds (b ∷ []) es)
+read-entry basis ws ds (b ∷ es) t f o h = search (rules, read-digit, append_assoc, (read-entry basis ws (ds ++ b ∷ []) es t f o h.1))
 
--- if the number word w is read at the beginning of a factor, the state is that after the digits w of a number (`in_number`)
 whole-number : (w : List ℕ) (t : BeforeTerm Phrase) (f : BeforeFactor Phrase) (o : Opened Phrase) → IsNumberWord w
     → read_on w (at awaited t f o) ≡ at (in_number w) t f o
 whole-number [] t f o h = absurd (omega (arith, h.nonempty))
@@ -70,19 +57,13 @@ whole-entry basis ws [] t f o h = absurd (omega (arith, h.nonempty))
 whole-entry basis ws (b ∷ ds) t f o h =
     read-digit b ds (at (in_list basis ws) t f o) h.digits.0 ∙ read-entry basis ws (b ∷ []) ds t f o h.digits.1
 
--- reading the remaining numbers and the closing bracket of an atom's list makes the atom complete
 read-entries : (basis : Basis) (ws : List (List ℕ)) (w : List ℕ) (more : List (List ℕ)) (t : BeforeTerm Phrase) (f : BeforeFactor Phrase) (o : Opened Phrase) → AreNumberWords (w ∷ more)
     → read_on (comma_separated (w ∷ more) ++ codes "]") (at (in_list basis ws) t f o) ≡ at (closed (label basis (ws ++ w ∷ more))) t f o
 read-entries basis ws w [] t f o h =
     read-append w (codes "]") (at (in_list basis ws) t f o) ∙ ap (read_on (codes "]")) (whole-entry basis ws w t f o h.0)
 read-entries basis ws w (v ∷ more) t f o h =
-    ap (λ x. read_on x (at (in_list basis ws) t f o)) (append_assoc w (codes "," ++ comma_separated (v ∷ more)) (codes "]"))
-    ∙ read-append w (codes "," ++ (comma_separated (v ∷ more) ++ codes "]")) (at (in_list basis ws) t f o)
-    ∙ ap (read_on (codes "," ++ (comma_separated (v ∷ more) ++ codes "]"))) (whole-entry basis ws w t f o h.0)
-    ∙ read-entries basis (ws ++ w ∷ []) v more t f o h.1
-    ∙ ap (λ x. at (closed (label basis x)) t f o) (append_assoc ws (w ∷ []) (v ∷ more))
+    search (rules, append_assoc, read-append, whole-entry, (read-entries basis (ws ++ w ∷ []) v more t f o h.1))
 
--- reading the letter of a basis is a step with the symbol of this letter
 symbol-letter : (basis : Basis) (w : List ℕ) (s : Reading) → read_on (letter basis ++ w) s ≡ read_on w (step phrases s (letter_of basis))
 symbol-letter monomials w s = refl
 symbol-letter elementaries w s = refl
@@ -93,9 +74,7 @@ symbol-letter schurs w s = refl
 read-label : (basis : Basis) (ws : List (List ℕ)) (t : BeforeTerm Phrase) (f : BeforeFactor Phrase) (o : Opened Phrase) → AreNumberWords ws
     → read_on (spelling (label basis ws)) (at awaited t f o) ≡ at (closed (label basis ws)) t f o
 read-label basis [] t f o h = symbol-letter basis (codes "[]") (at awaited t f o)
-read-label basis (w ∷ ws) t f o h =
-    symbol-letter basis (codes "[" ++ (comma_separated (w ∷ ws) ++ codes "]")) (at awaited t f o)
-    ∙ read-entries basis [] w ws t f o h
+read-label basis (w ∷ ws) t f o h = search (rules, symbol-letter, read-entries)
 
 -- the current factor after all bytes of the factor e: if e is a number or a fraction, further digits may follow, and otherwise it is complete
 abbrev pub piece_of : Phrase → Piece Phrase (List ℕ)
@@ -154,13 +133,11 @@ after-denominator : (ds es : List ℕ) (t : BeforeTerm Phrase) (f : BeforeFactor
 after-denominator ds es t f o (digit b) h = absurd h
 after-denominator ds es t f o _ h = refl
 
--- a phrase with an operator is not of the level of a factor
 pub factor_covers : (operator : Operator) → Covers factor (level_of operator) → ⊥
 factor_covers plus h = h
 factor_covers minus h = h
 factor_covers times h = h
 
--- after the factor e, the step for a symbol s that may follow a factor is `after_factor` of e
 after-piece : (e : Phrase) (t : BeforeTerm Phrase) (f : BeforeFactor Phrase) (o : Opened Phrase) (s : Symbol) → Follows s → Is factor e
     → step phrases (at (piece_of e) t f o) s ≡ after_factor phrases e t f o s
 after-piece (numeral ds) t f o s h a = after-number ds t f o s h
@@ -186,7 +163,6 @@ as_term l r t o comma h = absurd h
 as_term l r t o (letter_of b) h = absurd h
 as_term l r t o other h = absurd h
 
--- after the term e, the step for a symbol s that may follow a factor is `after_factor` of e, as if e were one factor
 after-term : (e : Phrase) (t : BeforeTerm Phrase) (o : Opened Phrase) (s : Symbol) → Follows s → Is term e
     → step phrases (ended_term t o e) s ≡ after_factor phrases e t no_factor o s
 after-term (numeral ds) t o s h a = after-number ds t no_factor o s h
@@ -214,7 +190,6 @@ as_expression t e o comma h = absurd h
 as_expression t e o (letter_of b) h = absurd h
 as_expression t e o other h = absurd h
 
--- after the expression e, the step for a symbol s that ends a term is `after_factor` of e, as if e were one factor
 after-expression : (e : Phrase) (o : Opened Phrase) (s : Symbol) → EndsTerm s → Is expression e
     → step phrases (ended o e) s ≡ after_factor phrases e no_term no_factor o s
 after-expression (numeral ds) o s h a = after-term (numeral ds) no_term o s (follows s h) a
@@ -226,7 +201,8 @@ after-expression (operation times l r) o s h a = after-term (operation times l r
 after-expression (operation plus l r) o s h a = after-term r (adding l) o s (follows s h) a.2 ∙ as_expression (adding l) r o s h
 after-expression (operation minus l r) o s h a = after-term r (subtracting l) o s (follows s h) a.2 ∙ as_expression (subtracting l) r o s h
 
--- reading the spelling of e, as a factor, a term or an expression, gives the state after that factor, term or expression
+-- the statement that the machine, if it reads the spelling of the phrase e as a factor, a term or an expression, is then in the state after this
+-- factor, term or expression
 abbrev pub Reads : Level → Phrase → Type 0
 Reads factor e = (t : BeforeTerm Phrase) (f : BeforeFactor Phrase) (o : Opened Phrase) → read_on (spelling e) (at awaited t f o) ≡ at (piece_of e) t f o
 Reads term e = (t : BeforeTerm Phrase) (o : Opened Phrase) → read_on (spelling e) (at awaited t no_factor o) ≡ ended_term t o e
@@ -253,39 +229,21 @@ reads-brackets term e h = λ t o. h t no_factor o
 reads-brackets expression e h = λ o. h no_term no_factor o
 
 read-times : (l r : Phrase) → Is term l → Reads term l → Reads factor r → Reads term (operation times l r)
-read-times l r a hl hr = λ t o.
-    read-append (spelling l) (codes "*" ++ spelling r) (at awaited t no_factor o)
-    ∙ ap (read_on (codes "*" ++ spelling r)) (hl t o)
-    ∙ ap (read_on (spelling r)) (after-term l t o star tt a)
-    ∙ hr t (multiplying l) o
+read-times l r a hl hr = search (rules, read-append, after-term)
 
 read-brackets : (e : Phrase) → Is expression e → Reads expression e → Reads factor (brackets e)
-read-brackets e a h = λ t f o.
-    read-append (spelling e) (codes ")") (at awaited no_term no_factor (inside o t f))
-    ∙ ap (read_on (codes ")")) (h (inside o t f))
-    ∙ after-expression e (inside o t f) closes tt a
+read-brackets e a h = search (rules, read-append, after-expression)
 
 read-plus : (l r : Phrase) → Is expression l → Reads expression l → Reads term r → Reads expression (operation plus l r)
-read-plus l r a hl hr = λ o.
-    read-append (spelling l) (codes "+" ++ spelling r) (at awaited no_term no_factor o)
-    ∙ ap (read_on (codes "+" ++ spelling r)) (hl o)
-    ∙ ap (read_on (spelling r)) (after-expression l o plus_sign tt a)
-    ∙ hr (adding l) o
+read-plus l r a hl hr = search (rules, read-append, after-expression)
 
 read-minus : (l r : Phrase) → Is expression l → Reads expression l → Reads term r → Reads expression (operation minus l r)
-read-minus l r a hl hr = λ o.
-    read-append (spelling l) (codes "-" ++ spelling r) (at awaited no_term no_factor o)
-    ∙ ap (read_on (codes "-" ++ spelling r)) (hl o)
-    ∙ ap (read_on (spelling r)) (after-expression l o minus_sign tt a)
-    ∙ hr (subtracting l) o
+read-minus l r a hl hr = search (rules, read-append, after-expression)
 
 -- if the phrase e is of a level (factor, term or expression), reading its spelling gives the state after e as a phrase of this level
 pub reads : (level : Level) (e : Phrase) → Is level e → Reads level e
 reads level (numeral ds) a = reads-numeral level ds (λ t f o. whole-number ds t f o a)
-reads level (ratio ds es) a = reads-ratio level ds es (λ t f o.
-    read-append ds (codes "/" ++ es) (at awaited t f o)
-    ∙ ap (read_on (codes "/" ++ es)) (whole-number ds t f o a.0)
-    ∙ whole-denominator ds es t f o a.1)
+reads level (ratio ds es) a = search (rules, reads-ratio, read-append, whole-number, whole-denominator)
 reads level (label basis ws) a = reads-label level basis ws (λ t f o. read-label basis ws t f o a)
 reads level (brackets e) a = reads-brackets level e (read-brackets e a (reads expression e a))
 reads expression (minus_first e) a = λ o. reads term e a.1 negating o
@@ -327,12 +285,9 @@ found-expression (operation times l r) a = found-term (operation times l r) no_t
 found-expression (operation plus l r) a = found-term r (adding l) a.2
 found-expression (operation minus l r) a = found-term r (subtracting l) a.2
 
--- after reading a word that spells the phrase e from the start, the expression found is e
+-- if a word spells the phrase e, the machine finds e after it has read the word
 pub found-spelled : (word : List ℕ) (e : Phrase) → SpellsPhrase word e → found phrases (read_on word start) ≡ Some e
-found-spelled word e h =
-    ap (λ w. found phrases (read_on w start)) h.spelled
-    ∙ ap (found phrases) (reads expression e h.allowed outermost)
-    ∙ found-expression e h.allowed
+found-spelled word e h = search (rules, reads, found-expression)
 
 -- a word spells at most one phrase
 pub one_phrase : (word : List ℕ) (p q : Phrase) → SpellsPhrase word p → SpellsPhrase word q → p ≡ q

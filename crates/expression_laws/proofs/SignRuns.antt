@@ -1,4 +1,5 @@
--- The minus signs and fractions of an expression, read from the left: the first one found is the first of the errors `sign_offences`.
+-- The inner expression of a plethysm may have neither minus signs nor fractions; each of them is an error, listed by `sign_offences` from the syntax
+-- tree (phrase). The function `first_sign` finds the first of these errors byte by byte from the left.
 use Rattle.std.proofs.Common.{◌≡◌, ℕ, suc, ◌+◌, ◌<◌, ◌≤◌, ◌==◌, nat_le, Bool, true, false, ◌&&◌, ◌||◌, cond, List, [], ◌∷◌, ◌++◌, length, length-append, append_assoc, append-nil, refl, sym, ap, ◌∙◌, arith, Option, Some, None}
 use Rattle.std.specs.Prelude.{codes}
 use Rattle.std.proofs.lemmas.Bool.{le-leb, lt-ltb, and_from}
@@ -64,21 +65,17 @@ one_more m h o (Some p) b l k = by (comes_first o p)
     by true = refl
     by false = refl
 
--- if the errors os are at bytes below m, and the errors ps at bytes from m on, the first error of os ++ ps is the first of os, or that of ps if os is
--- empty
 first-apart : (low m high : ℕ) (os ps : List WordOffence) → AreBetween low m os → AreBetween m high ps → first_of (os ++ ps) ≡ or_else (first_of os) (first_of ps)
 first-apart low m high [] ps a b = refl
 first-apart low m high (o ∷ os) ps a b =
     ap (earlier (Some o)) (first-apart low m high os ps a.1 b)
     ∙ one_more m high o (first_of os) (first_of ps) a.0.1 (first-between m high ps b)
 
--- the length of the spelling of an operation is 1 more than the sum of the lengths of the spellings of its operands
 pub joined-length : (operator : Operator) (l r : Phrase) → length (spelling (operation operator l r)) ≡ length (spelling l) + 1 + length (spelling r)
 joined-length plus l r = simp length-append (omega arith)
 joined-length minus l r = simp length-append (omega arith)
 joined-length times l r = simp length-append (omega arith)
 
--- the error for an operator at the byte m, if it is a minus, is at the byte m
 minus-between : (m : ℕ) (operator : Operator) → AreBetween m (m + 1) (minus_offences m operator)
 minus-between m plus = tt
 minus-between m minus = ((omega arith, omega arith), tt)
@@ -147,7 +144,7 @@ digits at s (d ∷ ds) rest h =
     digit-step at s d (ds ++ rest) h.0 ∙ digits (at + 1) s ds rest h.1
     ∙ ap (λ n. first_sign n s rest) (let e : at + 1 + length ds ≡ at + length (d ∷ ds) = omega arith in e)
 
--- the text is empty or begins with a byte that is neither a digit nor a slash, as any text after a phrase does
+-- the text is empty or begins with a byte that is neither a digit nor a slash (the byte 47); this is true of each text that follows a phrase
 abbrev Ends : List ℕ → Type 0
 Ends [] = Unit {0}
 Ends (byte ∷ bytes) = (is_digit byte ≡ false) × ((byte == 47) ≡ false)

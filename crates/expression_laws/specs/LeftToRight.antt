@@ -1,5 +1,6 @@
--- A machine that reads an expression byte by byte from the left: its states, and its step for the next byte. A reader of expressions is proved
--- correct by this machine; the grammar (Phrase) defines expressions.
+-- A machine that reads an expression byte by byte from the left: its states, and its step for the next byte. The grammar (specs/Phrase) defines the
+-- expressions: an expression is a sum or difference of terms, possibly with a minus in front; a term is a product of factors; a factor is a number, a
+-- fraction, an atom such as s[3,1], or an expression in parentheses. The machine serves to prove that a reader of expressions is correct.
 use Rattle.std.specs.Prelude.{ℕ, ◌==◌, nat_le, Bool, true, false, ◌&&◌, cond, List, [], ◌∷◌, ◌++◌}
 use Rattle.std.specs.Prelude.{Option, Some, None, option_map}
 use Rattle.sym_model.specs.Expansion.{Basis, monomials, elementaries, completes, power_sums, schurs}
@@ -55,14 +56,14 @@ pub data BeforeFactor (A : Type 0) : Type 0 where
   no_factor : BeforeFactor A
   multiplying : A → BeforeFactor A
 
--- the open parentheses; each begins a factor, and is stored with the text before the term of this factor and the text before the factor in this term;
--- the innermost parenthesis is the outermost constructor
+-- the open parentheses, the innermost one first. Each of them begins a factor of a term; `inside` stores the text before this term and the text
+-- between the beginning of this term and the parenthesis.
 pub data Opened (A : Type 0) : Type 0 where
   outermost : Opened A
   inside : Opened A → BeforeTerm A → BeforeFactor A → Opened A
 
--- the bytes of the current factor that have been read; the list in `in_list` and `in_entry` has those numbers of an atom such as s[3,1] that are
--- followed by commas
+-- the part of the current factor that is read; the list in `in_list` and `in_entry` has the numbers of an atom such as s[3,1] that are already
+-- followed by a comma
 pub data Piece (A N : Type 0) : Type 0 where
   awaited : Piece A N
   in_number : N → Piece A N

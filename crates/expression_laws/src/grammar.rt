@@ -4,7 +4,8 @@ ghost use Rattle.std.specs.Prelude.{◌≡◌, ℕ, List};
 ghost use Rattle.sym_model.specs.Expression.{Tree};
 ghost use Rattle.sym_model.specs.Phrase.{Phrase, SpellsPhrase, SpellsTree};
 
-/// No word (list of bytes) spells two different phrases or two different expressions.
+/// A word (list of bytes) spells at most one phrase, the syntax tree with the digits and
+/// parentheses of the word, and at most one expression (`Tree`).
 pub fn grammar_law()
     ensures one_phrase { (word : List ℕ) (p q : Phrase) → SpellsPhrase word p → SpellsPhrase word q
         → p ≡ q }

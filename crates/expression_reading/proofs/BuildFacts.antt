@@ -1,4 +1,4 @@
--- The state of the builder, and its relation to the phrase that is read.
+-- The states of the builder, which makes the tree of an expression while the bytes of a word are read from left to right.
 use Rattle.std.proofs.Common.{◌≡◌, ℕ, zero, suc, ◌*◌, ◌≤◌, List, [], ◌∷◌, ◌++◌, length, refl, arith, Option, None, Some, IsSome, option_map}
 use Rattle.sym_model.specs.Partition.{Falls, size, rows, without_last_zeros, in_front}
 use Rattle.sym_model.proofs.Parts.{length-without_last_zeros, size-in_front}
@@ -7,7 +7,7 @@ use Rattle.expression_reading.specs.declared.builder.Frame.{Frame}
 use Rattle.expression_reading.specs.Building.{Built, builds, terms_in, factors_in, opened_from, AreEntries}
 use Rattle.sym_model.specs.Bounded.{AreAtMost}
 
--- a frame appended to the frames is one more open parenthesis, inside those open before it
+-- a frame is the text before an open parenthesis; a frame appended to the list of frames is one more open parenthesis, inside those opened before
 pub opened_snoc : (o : Opened Built) (fs : List Frame) (f : Frame) → opened_from o (fs ++ f ∷ []) ≡ inside (opened_from o fs) (terms_in f.terms) (factors_in f.factors)
 opened_snoc o [] f = refl
 opened_snoc o (g ∷ fs) f = opened_snoc (inside o (terms_in g.terms) (factors_in g.factors)) fs f
@@ -50,7 +50,8 @@ Falls-cut (n ∷ m ∷ ns) f =
 pub falls_cut : (ns : List ℕ) → AreEntries ns → Falls (without_last_zeros ns)
 falls_cut ns h = Falls-cut ns h.falls
 
--- an expression that ends at a state is the factor that ends there, joined to the text before it
+-- if an expression can end at a state, and its result is e, then the factor at its end has a result, and joining that result to the text before the
+-- factor gives e
 pub found-joined : (p : Piece Built ℕ) (t : BeforeTerm Built) (f : BeforeFactor Built) (o : Opened Built) (e : Built)
     → found builds (at p t f o) ≡ Some e → option_map (join builds t f) (factor_found builds p) ≡ Some e
 found-joined p t f outermost e h = h

@@ -1,4 +1,5 @@
--- The expression built from a word is the tree of the phrase that is read.
+-- From a word that spells an expression, the builder makes the tree of this expression. A *phrase* is an expression as the grammar parses it, and a
+-- *reading* is a state of the parser of phrases.
 use Rattle.std.proofs.Common.{◌≡◌, ℕ, ◌+◌, ◌^◌, ◌<◌, ◌≤◌, ◌==◌, nat_lt, Bool, true, false, cond, List, [], ◌∷◌, ◌++◌, length, map, take, drop, get_or, refl, sym, ap, ◌∙◌, subst, append_assoc, arith, Option, Some, None}
 use Rattle.std.specs.Prelude.{option_to_list}
 use Rattle.std.proofs.lemmas.List.{map-append, take-append-drop}
@@ -22,7 +23,7 @@ use Rattle.expression_reading.proofs.FirstOffences.{small as not_wide}
 use Rattle.sym_model.specs.Bounded.{AreAtMost}
 use Rattle.std.proofs.lemmas.Bool.{ltb-false}
 
--- the value that the builder has for a phrase that was read: the tree of the phrase and `true`, as the numbers of the tree have no sign
+-- the result of the builder for a phrase: the tree of the phrase, and `true`, since it has no negative number and no denominator 0
 abbrev pub tree_in : Phrase → Built
 tree_in e = (tree e, true)
 
@@ -245,7 +246,6 @@ list-state closes_list basis [] t f o b = refl
 list-state closes_list basis (w ∷ ws) t f o b = refl
 list-state _ basis ws t f o b = refl
 
--- if the marks are mild (`Mild`), the step of the builder for the symbol s agrees with the step of the reading for s
 build-step : (s : Symbol) (p : Piece Phrase (List ℕ)) (t : BeforeTerm Phrase) (f : BeforeFactor Phrase) (o : Opened Phrase) → IsByte s → Mild (at p t f o) s
     → step builds (tree_state (at p t f o)) s ≡ tree_state (step phrases (at p t f o) s)
 build-step s awaited t f o b h = before_factor-state s t f o b
@@ -268,8 +268,6 @@ build-step closes_list (in_entry basis ws ds) t f o b h =
 build-step _ (in_entry basis ws ds) t f o b h = refl
 build-step s (closed x) t f o b h = after_factor-state s x t f o
 
--- let the numbers of an atom be those of the words ws and then that of the digits ds: if their marks are mild (no error, and no
--- number over 20), there are at most 64 numbers, weakly decreasing and at most 20 each
 entries-fine : (basis : Basis) (ws : List (List ℕ)) (ds : List ℕ) (t : BeforeTerm Phrase) (f : BeforeFactor Phrase) (o : Opened Phrase)
     → AreMild (state_marks (at (in_entry basis ws ds) t f o))
     → AreMild ((piece_begin t f o + 2 + length (commas ws), entry (length ws) (last_value None ws) (decimal_value ds)) ∷ [])
@@ -308,7 +306,6 @@ grows-step : (ms new : List (ℕ × Mark)) (y : Reading) (v : List ℕ) (e : Phr
 grows-step ms new dead v e k h g = dead-finds v e h
 grows-step ms new (at p t f o) v e k h g = (new ++ g.0, g.1 ∙ ap (λ l. l ++ g.0) k ∙ append_assoc ms new g.0)
 
--- if reading v from the state x ends with the phrase e, the marks of e begin with those of x
 grows : (v : List ℕ) (x : Reading) (e : Phrase) → found phrases (read_on v x) ≡ Some e → Grows x e
 grows [] x e h = (option_to_list (new_mark x other), marks-found x e h)
 grows (b ∷ v) x e h =
@@ -387,8 +384,6 @@ stays-live w i z h small b k =
     ap is_live (next-state w i z h small b k)
     ∙ live-state (read_on (take (i + 1) w) start) (ap is_live (read-more w i (get_or w i 0) h refl) ∙ (step-is w i h b).live)
 
--- if w is an expression whose marks are mild (no error, and no number of an atom over 20), all marks of its reading to the end are
--- mild
 whole-mild : (w : List ℕ) (b : IsBuildable w) → AreMild (state_marks (read_on w start) ++ option_to_list (new_mark (read_on w start) other))
 whole-mild w b = subst AreMild (marks-found (read_on w start) b.0 (found-spelled w b.0 b.1)) b.2
 

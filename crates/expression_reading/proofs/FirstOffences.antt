@@ -32,7 +32,6 @@ not_first-all : (o p q : WordOffence) → comes_first o p ≡ false → comes_fi
 not_first-all o p q h k =
     comes_first-key o q ∙ not_le-trans (key o) (key p) (key q) (sym (comes_first-key o p) ∙ h) (sym (comes_first-key p q) ∙ k)
 
--- `earlier`, the first of two errors, is associative for three errors o, p and q
 first_of_three : (o p q : WordOffence) (a b : Bool) → comes_first o p ≡ a → comes_first p q ≡ b
     → earlier (earlier (Some o) (Some p)) (Some q) ≡ earlier (Some o) (earlier (Some p) (Some q))
 first_of_three o p q true true h k =
@@ -142,6 +141,6 @@ any_high-append [] ns = refl
 any_high-append (m ∷ ms) ns =
     ap (λ x. is_high m.1 || x) (any_high-append ms ns) ∙ sym (or_assoc (is_high m.1) (any_high ms) (any_high ns))
 
--- appending a digit d to n, and capping the result at 2^127, gives the same if n is capped before
+-- appending a digit d to n and capping the result at 2^127 gives the same if n has been capped before
 pub capped-next : (n d : ℕ) → capped (10 * capped n + d) ≡ capped (10 * n + d)
 capped-next n d = omega arith

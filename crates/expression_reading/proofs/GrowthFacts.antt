@@ -20,7 +20,7 @@ growth-positive elementaries (suc d) = times-positive _ _ (factorial-positive (s
 growth-positive completes (suc d) = times-positive _ _ (factorial-positive (suc d)) (power-positive (2 * suc d) (suc d) (omega arith))
 growth-positive power_sums (suc d) = times-positive _ _ (factorial-positive (suc d)) (power-positive (2 * suc d) (suc d) (omega arith))
 
--- for the targets p, h and e, the growth at degree d is d!·(2d)^d
+-- for the target bases p, h and e, the growth at degree d is d!·(2d)^d
 pub growth-with_factorial : (b : Basis) → (b ≡ power_sums) ⊎ (b ≡ completes) ⊎ (b ≡ elementaries) → (d : ℕ) → growth b d ≡ factorial d * (2 * d) ^ d
 growth-with_factorial b h zero = refl
 growth-with_factorial b (inl e) (suc d) = ap (λ x. growth x (suc d)) e
@@ -52,7 +52,7 @@ pub wide-product : (b : Basis) (e : Tree) → 2 ^ 127 ≤ numerator e * denomina
 wide-product b e w =
     omega (arith, w, times-more (numerator e * denominator e) (growth b (degree e)) (growth-positive b (degree e)))
 
--- for the targets p, h and e: if (2d)^d is 2^128 or more, so is the growth at degree d
+-- for the target bases p, h and e: if (2d)^d is 2^128 or more, so is the growth at degree d
 pub growth-past : (target : Letter) → (target ≡ P) ⊎ ((target ≡ H) ⊎ (target ≡ E)) → (d b k : ℕ) → b ≡ d → k ≡ d
     → ((2 * b) ^ k < 2 ^ 128 → ⊥) → growth (basis_of target) d < 2 ^ 128 → ⊥
 growth-past target h d b k e f past small =

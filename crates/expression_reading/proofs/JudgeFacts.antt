@@ -1,4 +1,5 @@
--- The first error of a word that is an expression.
+-- The first error of a word that is an expression. A *mark* is a number, a denominator or an opening parenthesis of the word, with the byte at
+-- which it begins.
 use Rattle.std.proofs.Common.{◌≡◌, ℕ, ◌+◌, ◌<◌, ◌≤◌, nat_lt, max, Bool, true, false, ◌||◌, cond, List, [], ◌∷◌, ◌++◌, length, length-append, map, refl, sym, ap, ◌∙◌, subst, arith, Option, Some, None, option_map, ◌⊎◌, inl, inr, ⊎_elim, flat_map}
 use Rattle.std.proofs.lemmas.Bool.Decides.{nat_tests}
 use Rattle.std.proofs.lemmas.Bool.{cases_lt, or_cases, lt-ltb, le-ltb, ltb-true}
@@ -100,7 +101,6 @@ nesting-joined plus e f = refl
 nesting-joined minus e f = refl
 nesting-joined times e f = refl
 
--- the nesting of a phrase is at most the number of its bytes
 pub nesting-within : (level : Level) (e : Phrase) → Is level e → nesting (tree e) ≤ length (spelling e)
 nesting-within level (numeral ds) h = omega (arith, h.nonempty)
 nesting-within level (ratio n k) h = simp length-append (omega arith)
@@ -175,7 +175,6 @@ marks-below level d b (operation operator l r) h =
     operation-below operator d b l r (marks-below (level_of operator) d b l h.1)
     (marks-below (level_after operator) d (b + length (spelling l) + 1) r h.2)
 
--- if o is the first of two errors, each of which may be absent, o is one of them
 pub first_is : (a b : Option WordOffence) (o : WordOffence) → earlier a b ≡ Some o → (a ≡ Some o) ⊎ (b ≡ Some o)
 first_is None b o h = inr h
 first_is (Some p) None o h = inl h
@@ -235,7 +234,6 @@ first_stays : (o : WordOffence) (n : ℕ) (h : Bool) → o.0 < n → earlier (So
 first_stays o n true l = ap (λ c. cond c (Some o) (Some (n, range))) (before-end n o.0 o.1 l)
 first_stays o n false l = refl
 
--- the first error of an expression, other than that of its degree, is at a byte of its word
 below-end : (e : Phrase) (o : WordOffence) → Is expression e → first_before_degree e ≡ Some o → o.0 < length (spelling e)
 below-end e o a h =
     let n = length (spelling e) in
@@ -259,7 +257,6 @@ judge-none limit e h k =
     all_offences limit e ∙ ap (λ f. earlier f (high_offence limit e)) h
     ∙ ap (λ b. cond b (Some (length (spelling e), range)) None) (le-ltb limit (degree (tree e)) k)
 
--- if an expression has no error for the degree limit `limit`, its degree is at most `limit`
 pub none-low : (limit : ℕ) (e : Phrase) → first_of (offences_within limit e) ≡ None → degree (tree e) ≤ limit
 none-low limit e h = by (nat_lt limit (degree (tree e))) refl (none_right (first_before_degree e) _ (sym (all_offences limit e) ∙ h))
   where
@@ -278,7 +275,6 @@ long_none n false h k = grind (arith, nat_tests)
 pub short : (e : Phrase) → first_before_degree e ≡ None → length (spelling e) ≤ 4096
 short e h = long_none (length (spelling e)) (nat_lt 4096 (length (spelling e))) refl (none_right (first_of (flat_map offences_at (marks 0 0 e))) _ h)
 
--- the error of the program for a word that is too long is that of the definitions
 long_kept : (b : Bool) → option_map offence_in (then_some b (record { byte = 4096; kind = Range })) ≡ cond b (Some (4096, range)) None
 long_kept true = refl
 long_kept false = refl
@@ -300,7 +296,6 @@ fault-judged limit w e o (Shape byte) h k l = (e, h, k ∙ ap Some l)
 fault-judged limit w e o (Syntax byte) h k l = absurd l
 fault-judged limit w e o NoMemory h k l = absurd l
 
--- if the degree of the expression e exceeds the limit, and e has no other error, the refusal `Range` at the end of its word w is correct
 past-judged : (limit : ℕ) (w : List ℕ) (e : Phrase) (f : ExpressionFault) → SpellsPhrase w e → first_before_degree e ≡ None → limit < degree (tree e)
     → IsFaultOf (length w, range) f → IsReadBy (offences_within limit) w (Err f)
 past-judged limit w e f h k d l =
@@ -339,7 +334,6 @@ formula-judged limit w e x f h k b s d =
     let t : tree_of f.tree ≡ tree e = ap tree_of s ∙ ap (λ (z : Built). z.0) b in
     (e, h, judge-none limit e k (omega (arith, ap degree t, d)), t)
 
--- if the formula f is a correct result of reading a word with a limit for the degree, the degree of f is at most this limit
 read-low : (limit : ℕ) (w : List ℕ) (f : Formula) → IsReadBy (offences_within limit) w (Ok f) → degree (tree_of f.tree) ≤ limit
 read-low limit w f h = omega (arith, ap degree h.3, none-low limit h.0 h.2)
 
@@ -347,7 +341,6 @@ pub result-low : (limit : ℕ) (w : List ℕ) (r : Result Formula ExpressionFaul
 result-low limit w (Ok f) h = read-low limit w f h
 result-low limit w (Err e) h = tt
 
--- for an error of the kind `range` at byte n and itself, `comes_first` is true
 end-itself : (n : ℕ) → comes_first (n, range) (n, range) ≡ true
 end-itself n = grind (arith, nat_tests)
 

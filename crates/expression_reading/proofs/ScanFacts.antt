@@ -1,4 +1,5 @@
--- The state of a scan agrees with the state of `LeftToRight` after the bytes that have been read.
+-- A scan reads the bytes of a word from left to right; its mode says what has been read last, and its depth is the number of open parentheses. Mode
+-- and depth agree with the state of the parser of the definitions (`LeftToRight`) after the same bytes.
 use Rattle.std.proofs.Common.{◌≡◌, ℕ, ◌+◌, ◌-◌, ◌*◌, ◌<◌, ◌==◌, true, ◌||◌, cond, List, [], ◌∷◌, ◌++◌, length, length-append, refl, sym, ap, ◌∙◌, subst, add-one, arith, Option, Some, None, option_map, flat_map}
 use Rattle.std.specs.Prelude.{option_to_list}
 use Rattle.std.proofs.lemmas.List.{append-nil}
@@ -21,7 +22,7 @@ use Rattle.expression_reading.specs.Offences.{offence_in, mark_in}
 use Rattle.expression_reading.specs.ScanSteps.{capped, mode_after, mode_after_factor, mode_before_factor, depth_after, number_mark, mark_before, is_high, any_high, first_at, Sees}
 use Rattle.expression_reading.proofs.FirstOffences.{first-append, first-one, capped_mark, kind-capped, high-capped, any_high-append, capped-next}
 
--- the count and the last value, capped at 2^127, of the numbers `ws` of an atom's list
+-- the count and the last value, capped at 2^127, of the numbers `ws` in the list of an atom such as s[2,1]
 abbrev pub before_of : List (List ℕ) → Before
 before_of ws = record { count = length ws; last = option_map capped (last_value None ws) }
 
@@ -189,7 +190,7 @@ agrees closes_list (in_entry basis ws ds) t f o h = (refl, refl)
 agrees _ (in_entry basis ws ds) t f o h = refl
 agrees s (closed x) t f o h = agrees-after_factor s x t f o
 
--- the mark of the definitions for a mark of a scan (what begins at a byte: a number, a denominator or a parenthesis)
+-- a mark that a scan has recorded (a byte, and the number, denominator or parenthesis that begins there), as a mark of the type in the definitions
 abbrev pub plain : ℕ × Mark → ℕ × PlainMark
 plain m = (m.0, mark_in m.1)
 
@@ -232,7 +233,8 @@ same-mark (digit c) p t f o h = refl
 same-mark opens p t f o h = ap (λ n. Some (n, opening (depth_of o + 1))) (opening-mark p t f o h)
 same-mark _ p t f o h = piece-mark p t f o
 
--- the scan has the first error at the marks ms, and records whether one of them is a number of an atom over 20
+-- the first error that the scan s has recorded is the first error at the marks ms, and s has recorded whether one of these marks is a number of an
+-- atom over 20
 abbrev pub Finds : Scan → List (ℕ × PlainMark) → Type 0
 Finds s ms = (option_map offence_in s.first ≡ first_of (flat_map offences_at ms)) × (s.is_high ≡ any_high ms)
 

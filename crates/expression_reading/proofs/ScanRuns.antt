@@ -20,12 +20,11 @@ use Rattle.expression_reading.proofs.ScanFacts.{mode_of, Agrees, agrees, IsByte,
 none-spelled : (w : List ℕ) (phrase : Phrase) → read_on w start ≡ dead → SpellsPhrase w phrase → ⊥
 none-spelled w phrase d h = let e = ap (found phrases) (sym d) ∙ found-spelled w phrase h in cc
 
--- the state is not `dead`; the scan has the mode and the depth of the state, and the first error at the marks of the state
+-- the state is not `dead`; the scan s has the mode and the depth of the state, and s has recorded the first error at the marks of the state
 abbrev pub Keeps : Scan → Reading → Type 0
 Keeps s dead = ⊥
 Keeps s (at p t f o) = (s.mode ≡ mode_of p t f o) × (s.depth ≡ depth_of o) × Finds s (state_marks (at p t f o))
 
--- the state after the first i + 1 bytes of w is one step by byte i after the state for the first i bytes
 pub read-more : (w : List ℕ) (i b : ℕ) → i < length w → b ≡ get_or w i 0 → read_on (take (i + 1) w) start ≡ step phrases (read_on (take i w) start) (symbol b)
 read-more w i b h e =
     ap (λ v. read_on v start) (take_more w i 0 h)
@@ -35,7 +34,6 @@ read-more w i b h e =
 written-so_far : (w : List ℕ) → Continues w (read_on w start)
 written-so_far w = read-written w start (tt, tt, tt, tt)
 
--- the symbol of a byte below 256 satisfies `IsByte`
 pub byte-symbol : (b : ℕ) (s : Symbol) → b < 256 → Codes b s → IsByte s
 byte-symbol b (digit c) h k = omega (arith, k.0)
 byte-symbol b _ h k = tt
@@ -67,7 +65,6 @@ same-kept s k y p t f o h keep live =
     ∙ ap (λ n. mark_before (mode_of p t f o) (depth_of o) n y) (sym h) in
     ap (option_map plain) m ∙ same-mark y p t f o live
 
--- if the scan s agrees with a state after k bytes, and becomes u by the symbol y, then u agrees with the next state z
 stepped : (s u : Scan) (k : ℕ) (y : Symbol) (p : Piece Phrase (List ℕ)) (t : BeforeTerm Phrase) (f : BeforeFactor Phrase) (o : Opened Phrase) (z : Reading)
     → step phrases (at p t f o) y ≡ z → length (written (at p t f o)) ≡ k → IsByte y
     → Keeps s (at p t f o) → StepsTo s k y (Some u) → Keeps u z
@@ -102,7 +99,6 @@ keeps-step w i b s u h e small keep steps =
     subst (Keeps u) (sym (read-more w i b h e))
     (kept-step w i b s u (read_on (take i w) start) h small (written-so_far (take i w)) keep steps)
 
--- if a mode and a depth agree with the state z, and not both are given, then z is `dead`
 agrees-fault : (m : Option Mode) (d : Option ℕ) (z : Reading) → (m ≡ None) ⊎ (d ≡ None) → Agrees m d z → z ≡ dead
 agrees-fault None d z h a = a
 agrees-fault (Some m) None z h a = a
@@ -122,7 +118,6 @@ fault w i b s (at p t f o) h small c keep steps =
     steps)
     (agrees y p t f o (byte-symbol b y small (symbol-codes b)))
 
--- the number of open parentheses is at most the number of bytes of the text that opens them
 depth-within : (o : Opened Phrase) → depth_of o ≤ length (written_opened o)
 depth-within outermost = omega arith
 depth-within (inside o t f) = simp length-append (omega (arith, depth-within o))
@@ -161,7 +156,6 @@ kept-room w i s (at p t f o) h small c keep =
 pub room : (w : List ℕ) (i : ℕ) (s : Scan) → i < length w → length w < 2 ^ 64 → Keeps s (read_on (take i w) start) → CanCount s.mode × (s.depth + 1 < 2 ^ 64)
 room w i s h small keep = kept-room w i s (read_on (take i w) start) h small (written-so_far (take i w)) keep
 
--- if a scan agrees with the state x, then x is not `dead`
 live-kept : (s : Scan) (x : Reading) → Keeps s x → is_live x ≡ true
 live-kept s dead keep = absurd keep
 live-kept s (at p t f o) keep = refl

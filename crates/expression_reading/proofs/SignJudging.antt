@@ -23,7 +23,6 @@ outer_offences phrase = offences_within plethysm_degree_limit phrase
 abbrev pub HasSign : List ℕ → Option ℕ → Type 0
 HasSign word sign = (phrase : Phrase) → SpellsPhrase word phrase → option_map (λ byte. (byte, shape)) sign ≡ first_of (sign_offences 0 phrase)
 
--- if the search for the first sign in the word has reached place i, it goes on with the byte there and the bytes after it
 found_at : (word : List ℕ) (i from byte : ℕ) → first_sign 0 0 word ≡ first_sign i from (drop i word) → i < length word → get_or word i 0 ≡ byte
     → first_sign 0 0 word ≡ first_sign i from (byte ∷ drop (suc i) word)
 found_at word i from byte inv h e = inv ∙ ap (first_sign i from) (drop-cons word i 0 h ∙ ap (λ x. x ∷ drop (suc i) word) e)
@@ -48,7 +47,6 @@ earlier-none : (a : Option WordOffence) → earlier a None ≡ a
 earlier-none None = refl
 earlier-none (Some o) = refl
 
--- an expression without a minus and a fraction has the same first error as an inner and as an outer expression
 without : (word : List ℕ) (phrase : Phrase) → HasSign word None → SpellsPhrase word phrase → first_of (inner_offences phrase) ≡ first_of (outer_offences phrase)
 without word phrase s h = with_signs word None phrase s h ∙ earlier-none (first_of (outer_offences phrase))
 

@@ -1,4 +1,5 @@
--- Every expression has a nesting of at least 1.
+-- Every expression has a nesting of at least 1: the nesting is 1 for a number, a fraction or an atom (a basis element), and otherwise 1 more than the
+-- greatest nesting of an operand.
 use Rattle.std.proofs.Common.{◌≤◌, arith}
 use Rattle.sym_model.specs.Expression.{Tree, number, fraction, atom, negation, sum, difference, product, nesting}
 

@@ -1,4 +1,5 @@
--- The results of building an expression from its parts: its tree, and whether it has no negative number and no denominator 0 (`has_no_signs`).
+-- The results of building an expression from its parts: its tree, and whether it has no negative number and no denominator 0 (`has_no_signs`). An
+-- *atom* is a basis element such as s[2,1]; a *mark* is a number or an opening parenthesis, which can be an error.
 use Rattle.std.specs.Prelude.{◌≡◌, ℕ, ◌+◌, ◌-◌, ◌*◌, ◌^◌, ◌<◌, ◌≤◌, nat_lt, Bool, true, false, ◌&&◌, IsTrue}
 use Rattle.std.specs.Prelude.{List, [], ◌∷◌, ◌++◌, length, Option, Some, None}
 use Rattle.sym_model.specs.Partition.{Falls, without_last_zeros}
@@ -50,15 +51,16 @@ builds = record {
   operation_of = λ operator x y. (join_trees operator x.0 y.0, x.1 && y.1);
 }
 
--- the text before the current term of a builder, as a value of the definitions: nothing, a minus, or the result of an expression that is followed by
--- `+` or `-`
+-- the text before the current term of a builder, as the machine `LeftToRight` describes it: nothing, a minus, or the result of an expression that is
+-- followed by `+` or `-`
 abbrev pub terms_in : LeadingTerms → BeforeTerm Built
 terms_in NoTerm = no_term
 terms_in Negating = negating
 terms_in (Adding e) = adding (built_of e.value)
 terms_in (Subtracting e) = subtracting (built_of e.value)
 
--- the text before the current factor of a builder, as a value of the definitions: nothing, or the result of a term that is followed by `*`
+-- the text before the current factor of a builder, as the machine `LeftToRight` describes it: nothing, or the result of a term that is followed by
+-- `*`
 abbrev pub factors_in : LeadingFactors → BeforeFactor Built
 factors_in NoFactor = no_factor
 factors_in (Multiplying e) = multiplying (built_of e.value)
@@ -75,7 +77,7 @@ abbrev pub list_part : Basis → List ℕ → Option ℕ → Piece Built ℕ
 list_part basis numbers None = in_list basis numbers
 list_part basis numbers (Some n) = in_entry basis numbers n
 
--- the piece of the current factor that a builder has read, as a value of the definitions, with the values of its numbers
+-- the part of the current factor that a builder has read, as the machine `LeftToRight` describes it, with the values of its numbers
 abbrev pub part_in : Part → Piece Built ℕ
 part_in Awaited = awaited
 part_in (Number n) = in_number n
@@ -85,7 +87,7 @@ part_in (Letter basis) = after_letter (basis_of basis)
 part_in (Listing basis numbers entry) = list_part (basis_of basis) numbers.items entry
 part_in (Closed e) = closed (built_of e)
 
--- the open parentheses o, and inside them those of the frames, of which the last is the innermost
+-- the open parentheses o, and inside them one open parenthesis for each frame (the text before a parenthesis); the last frame gives the innermost one
 abbrev pub opened_from : Opened Built → List Frame → Opened Built
 opened_from o [] = o
 opened_from o (f ∷ fs) = opened_from (inside o (terms_in f.terms) (factors_in f.factors)) fs
@@ -93,7 +95,8 @@ opened_from o (f ∷ fs) = opened_from (inside o (terms_in f.terms) (factors_in 
 abbrev pub opened_in : List Frame → Opened Built
 opened_in fs = opened_from outermost fs
 
--- the state of a builder as a state of `LeftToRight`
+-- what a builder has read, as a state of the machine `LeftToRight`, which reads an expression symbol by symbol: the part of the current factor, the
+-- text before the current term and before the current factor, and the open parentheses
 abbrev pub state_of : Builder → State Built ℕ
 state_of b =
     at (part_in b.part) (terms_in b.frame.terms) (factors_in b.frame.factors)
@@ -115,7 +118,7 @@ IsFine p s = IsSound p
 abbrev pub CanRead : Builder → Symbol → Type 0
 CanRead b s = IsTrue (is_live (step builds (state_of b) s)) × IsFine (part_in b.part) s
 
--- there is no error at the mark, and if the mark is a number of an atom, it is at most 20, the greatest degree
+-- the mark is no error, and if it is a number of an atom, it is at most 20, the greatest degree
 abbrev pub IsMild : ℕ × Mark → Type 0
 IsMild m = (first_kind m.1 ≡ None) × (is_high m.1 ≡ false)
 
@@ -123,6 +126,6 @@ abbrev pub AreMild : List (ℕ × Mark) → Type 0
 AreMild [] = Unit {0}
 AreMild (m ∷ ms) = IsMild m × AreMild ms
 
--- the word is an expression, there is no error at its marks, and its atoms have no number over 20, the greatest degree
+-- the word is an expression, none of its marks is an error, and its atoms have no number over 20, the greatest degree
 abbrev pub IsBuildable : List ℕ → Type 0
 IsBuildable word = (phrase : Phrase) × SpellsPhrase word phrase × AreMild (marks 0 0 phrase)

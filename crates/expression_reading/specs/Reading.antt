@@ -12,7 +12,7 @@ use Rattle.expression_reading.specs.declared.reading.ExpressionFault.TheVariants
 use Rattle.expression_reading.specs.declared.reading.ExpressionFault.TheVariants.{NoMemory}
 use Rattle.expression_reading.specs.Trees.{tree_of}
 
--- the word spells an expression in which `offends` finds no error, and the formula has the tree of this expression
+-- the word spells an expression in which `offends` finds no error, and the `Formula` has the tree of this expression
 abbrev pub IsExpressionWithout : (Phrase → List WordOffence) → List ℕ → Formula → Type 0
 IsExpressionWithout offends word formula =
     (phrase : Phrase) × SpellsPhrase word phrase × (first_of (offends phrase) ≡ None)
@@ -29,7 +29,7 @@ IsWrongByte word byte =
     ((phrase : Phrase) → SpellsPhrase word phrase → ⊥) × IsLongestPrefix BeginsExpression word byte
 
 -- The result of reading the word is correct. If the word spells no expression, it is the byte of the first error of syntax. If the word spells one,
--- it is the formula of the expression if `offends` finds no error in it, and otherwise the first error that `offends` finds. Nothing is required if
+-- it is the `Formula` of the expression if `offends` finds no error in it, and otherwise the first error that `offends` finds. Nothing is required if
 -- memory runs out.
 abbrev pub IsReadBy : (Phrase → List WordOffence) → List ℕ → Result Formula ExpressionFault → Type 0
 IsReadBy offends word (Ok formula) = IsExpressionWithout offends word formula

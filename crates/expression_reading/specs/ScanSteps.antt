@@ -1,4 +1,5 @@
--- The change of the state of a scan by one symbol.
+-- The change of the state of a scan by one symbol. A scan reads an expression from left to right and finds its first error. A *mark* is a number or
+-- an opening parenthesis, that is, something that can be an error.
 use Rattle.std.specs.Prelude.{◌≡◌, ℕ, zero, suc, ◌+◌, ◌-◌, ◌*◌, ◌^◌, ◌==◌, ◌≤◌, ◌<◌, nat_lt, min}
 use Rattle.std.specs.Prelude.{Bool, true, false, ◌||◌, ◌&&◌, cond, Option, Some, None, option_map}
 use Rattle.std.specs.Prelude.{List, [], ◌∷◌, ◌⊎◌, Result, Ok, Err, flat_map}
@@ -83,7 +84,7 @@ depth_after zero closes = None
 depth_after (suc depth) closes = Some depth
 depth_after depth _ = Some depth
 
--- the number at the end of the bytes read, if the mode has one, with the byte at which it begins
+-- the mark of the number whose digits are being read in this mode, with the byte at which the number begins; None if the mode is not that of a number
 abbrev pub number_mark : Mode → Option (ℕ × Mark)
 number_mark (Number start n) = Some (start, Value n)
 number_mark (Denominator start n) = Some (start, Zeroable n)
@@ -106,13 +107,14 @@ is_high _ = false
 abbrev pub scan_start : Scan
 scan_start = record { mode = Start; depth = 0; first = None; is_high = false }
 
--- the first error at a mark, with the byte of the mark, if there is an error
+-- the error of a mark, given as the byte at which the mark begins and the mark itself: this byte and the kind of the error; None if the mark is no
+-- error
 abbrev pub first_at : ℕ × PlainMark → Option PlainOffence
 first_at m = option_map (λ kind. (m.0, kind)) (first_kind m.1)
 
--- If a mark is given, the first error of the scan `after` is the earlier one of the first error of the scan `before` and the first error at the mark,
--- and `after` records a number of an atom over 20 if and only if `before` does or the mark is such a number. If no mark is given, both are as in
--- `before`.
+-- Let `before` and `after` be a scan before and after a mark. The first error in `after` is the first error in `before` or that of the mark,
+-- whichever comes first. The flag `is_high` is true in `after` if it is true in `before`, or if the mark is a number over 20 in the list of an atom
+-- (a basis element such as s[2,1]). With no mark, both remain the same.
 abbrev pub Sees : Scan → Option (ℕ × Mark) → Scan → Type 0
 Sees before None after = (after.first ≡ before.first) × (after.is_high ≡ before.is_high)
 Sees before (Some m) after =

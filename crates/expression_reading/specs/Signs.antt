@@ -1,4 +1,4 @@
--- The refusal of an expression with a minus or a fraction.
+-- The refusal of an expression with a minus or a fraction as the inner expression of a plethysm.
 use Rattle.std.specs.Prelude.{ℕ, nat_lt, cond}
 use Rattle.expression_reading.specs.declared.reading.ExpressionFault.{ExpressionFault}
 use Rattle.expression_reading.specs.declared.reading.ExpressionFault.TheVariants.{Syntax, Literal}

@@ -1,4 +1,5 @@
--- The expression of the definitions for an `Expr`, and the bounds of a `Formula`.
+-- The expressions and bases of the program (`Expr`, `Letter`) as those of the types in the definitions of `sym_model` (`Tree`, `Basis`), and the
+-- bounds of a `Formula`.
 use Rattle.std.specs.Prelude.{pos, ◌≤◌, nat_abs, Bool, true, ◌&&◌, IsTrue}
 use lib.Signed.{le_z, lt_z}
 use Rattle.calc_base.specs.declared.words.Basis.{Basis as Letter}
@@ -9,7 +10,7 @@ use Rattle.sym_model.specs.Expression.{product, degree, nesting}
 use Rattle.expression_reading.specs.declared.expr.Expr.{Expr, Number, Fraction, Atom, Negation'}
 use Rattle.expression_reading.specs.declared.expr.Expr.{Sum', Difference', Product'}
 
--- the basis of the definitions for a basis of the program
+-- a basis of the program, as a basis of the type in the definitions (`sym_model`)
 abbrev pub basis_of : Letter → Basis
 basis_of M = monomials
 basis_of E = elementaries
@@ -17,7 +18,7 @@ basis_of H = completes
 basis_of P = power_sums
 basis_of S = schurs
 
--- the expression of the definitions for an expression of the program, with the absolute values of its numbers
+-- an expression of the program, as an expression of the type in the definitions (`sym_model`); each number is replaced by its absolute value
 abbrev pub tree_of : Expr → Tree
 tree_of (Number num) = number (nat_abs num)
 tree_of (Fraction num den) = fraction (nat_abs num) (nat_abs den)
@@ -37,7 +38,7 @@ has_no_signs (Sum' p left q right) = has_no_signs left && has_no_signs right
 has_no_signs (Difference' p left q right) = has_no_signs left && has_no_signs right
 has_no_signs (Product' p left q right) = has_no_signs left && has_no_signs right
 
--- the bounds of a formula: no negative number and no denominator 0, a nesting of at most 4096 and a degree of at most 20
+-- the bounds of a `Formula`: no negative number and no denominator 0, a nesting of at most 4096 and a degree of at most 20
 pub record IsFormula (e : Expr) : Type 0 where
   pub numbers : IsTrue (has_no_signs e)
   pub nested : nesting (tree_of e) ≤ 4096

@@ -1,4 +1,4 @@
--- The condition for the numerator and the denominator of a weight to be below 2^127.
+-- The correct result of computing the numerator and the denominator of a weight, each of which must be below 2^127.
 use Rattle.std.specs.Prelude.{◌≡◌, ℕ, ◌^◌, ◌<◌, ◌≤◌, ◌⊎◌, Option, MatchOption}
 use Rattle.calc_base.specs.declared.words.Weight.{Weight}
 

@@ -1,5 +1,6 @@
-//! The tree of a word that is known to be an expression,
-//! built from left to right with no recursion.
+//! The tree of a word that is known to be an expression, built from left to right with no
+//! recursion. An atom of an expression is a basis element such as s[2,1], whose list of numbers is
+//! in brackets.
 ghost use Rattle.std.specs.Prelude.{◌≡◌, ◌++◌, IfOk, IsSome, None, Some};
 ghost use Rattle.std.specs.Prelude.{option_map, option_to_list, true};
 ghost use Rattle.expression_laws.specs.LeftToRight.{join_factor, join_term, join, awaited};
@@ -116,7 +117,7 @@ pub(crate) struct Frame {
 }
 
 impl Frame {
-    /// No text.
+    /// The frame without any text.
     fn empty() -> Frame
         ensures terms { terms_in result.terms ≡ no_term }
         ensures factors { factors_in result.factors ≡ no_factor }

@@ -39,7 +39,8 @@ impl Drop for Expr {
     }
 }
 
-/// The degree 21, above that of every formula; it replaces all greater degrees.
+/// The degree 21, which is greater than that of any expression allowed; `capped_degree` returns it
+/// for every degree over 20.
 const HIGH: u16 = 21;
 
 impl Expr {

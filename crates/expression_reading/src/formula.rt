@@ -10,13 +10,13 @@ use crate::Expr;
 use crate::weigh::checked_weight;
 use calc_base::{Basis, Weight};
 
-/// The nesting of a formula is at most 4,096, and its degree at most 20.
+/// The nesting of a `Formula` is at most 4,096, and its degree at most 20.
 const MAX_NESTING: u16 = 4096;
 
 pub(crate) const MAX_DEGREE: u16 = 20;
 
-/// The greatest degree of an expression that is expanded into the target: 20 for m and s,
-/// 15 for p, h and e.
+/// The greatest degree of an expression that is expanded into the target basis: 20 for m and s, 15
+/// for p, h and e.
 pub fn degree_limit(target: Basis) -> u16
     ensures { result ≡ degree_limit (basis_of target) }
 {
@@ -35,7 +35,7 @@ pub struct Formula {
 }
 
 impl Formula {
-    /// The formula of this tree; the tree as an error if and only if it is not within the bounds of
+    /// The tree as a `Formula`; the tree as an error if and only if it is not within the bounds of
     /// a `Formula`. No memory is allocated.
     pub fn from_tree(tree: Expr) -> Result<Formula, Expr>
         ensures { MatchResult result (λ f. (f.tree ≡ tree) × IsFormula tree)
@@ -48,7 +48,7 @@ impl Formula {
         }
     }
 
-    /// The tree of the formula.
+    /// The tree of the expression.
     pub fn tree(&self) -> &Expr
         ensures tree { result.now ≡ self.now.tree }
         ensures within { IsFormula self.now.tree }
@@ -56,8 +56,9 @@ impl Formula {
         &self.tree
     }
 
-    /// The degree of the formula: 0 for a number or a fraction, the size of the partition for an
-    /// atom, the greater of the two degrees for a sum or a difference, and their sum for a product.
+    /// The degree of the expression: 0 for a number or a fraction, the size of the partition for a
+    /// basis element such as s[2,1], the greater of the two degrees for a sum or a difference, and
+    /// their sum for a product.
     pub fn degree(&self) -> u16
         ensures { result ≡ degree (tree_of self.now.tree) }
     {
@@ -65,9 +66,9 @@ impl Formula {
     }
 
     /// The two numbers N and D of the weight. D is a common denominator of the coefficients of the
-    /// formula; N/D is the value of the formula with each atom, number 0 and numerator 0 replaced
-    /// by 1 and each minus by a plus. None if and only if N or D is 2^127 or more. No memory is
-    /// allocated.
+    /// expression. N/D is the value of the expression with each basis element, number 0 and
+    /// numerator 0 replaced by 1, and each minus by a plus. None if and only if N or D is 2^127 or
+    /// more. No memory is allocated.
     pub fn weight(&self) -> Option<Weight>
         ensures { IsWeighed result (numerator (tree_of self.now.tree))
             (denominator (tree_of self.now.tree)) }
@@ -75,7 +76,7 @@ impl Formula {
         self.tree.weigh()
     }
 
-    /// Whether the weight for the target is below the limit, which must be at most 2^127. The
+    /// Whether the weight for the target basis is below the limit, which must be at most 2^127. The
     /// weight is N·D·B, with N and D the numbers of `weight`; for the degree d, B is d^d for m and
     /// s, and d!·(2d)^d for p, h and e (1 if d = 0). No memory is allocated.
     pub fn weight_below(&self, target: Basis, limit: u128) -> bool

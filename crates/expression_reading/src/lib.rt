@@ -2,12 +2,12 @@
 //!
 //! What is proved:
 //!
-//! Unless memory runs out, `read_expression` returns the formula of a word for a target basis if
-//! and only if the word spells an expression without an error, and otherwise the first error.
-//! `read_outer` and `read_inner` do the same for the two words of a plethysm, with the degree limit
-//! 10; in the inner expression, minus signs and fractions are errors too. A `Formula` is an
-//! expression within bounds; its `degree`, `weight` and `weight_below` are those of the
-//! definitions.
+//! Unless memory runs out, `read_expression` returns the `Formula` of a word, an expression within
+//! bounds, if the word spells an expression without an error, and otherwise the first error; the
+//! degree limit depends on the target basis. `read_outer` and `read_inner` do the same for the two
+//! words of a plethysm, with the degree limit 10; in the inner expression, minus signs and
+//! fractions are errors too. The `degree`, `weight` and `weight_below` of a `Formula` are those of
+//! the definitions.
 #![tactic(auto)]
 
 mod builder;

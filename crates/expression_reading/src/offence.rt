@@ -1,4 +1,6 @@
-//! The errors in the word of an expression, and which of them comes first.
+//! The errors in the word of an expression, and which of them comes first. An atom of an expression
+//! is a basis element such as s[2,1]. A mark is a number or an opening parenthesis, that is,
+//! something that can be an error.
 ghost use Rattle.std.specs.Prelude.{◌≡◌, option_map};
 ghost use Rattle.expression_reading.specs.Offences.{kind_in, offence_in, mark_in, first_kind};
 ghost use Rattle.sym_model.specs.ExpressionOffence.{earlier, comes_first};
@@ -42,7 +44,7 @@ pub(crate) enum Mark {
 /// 2^127; the numbers of an expression must be below it.
 pub(crate) const WIDE: u128 = 1 << 127;
 
-/// The kind of the first error at a mark, if there is an error.
+/// The kind of the error of a mark; None if the mark is no error.
 pub(crate) fn kind_at(mark: Mark) -> Option<Kind>
     ensures { option_map kind_in result ≡ first_kind (mark_in mark) }
 {

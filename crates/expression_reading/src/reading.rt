@@ -1,4 +1,4 @@
-//! Reading a word as an expression.
+//! Reading a word as an expression. An atom of an expression is a basis element such as s[2,1].
 ghost use Rattle.std.specs.Prelude.{◌≡◌, ◌≤◌, IfOk, MatchOption};
 ghost use Rattle.sym_model.specs.Phrase.{Phrase, SpellsPhrase};
 ghost use Rattle.sym_model.specs.Expression.{degree};
@@ -52,7 +52,7 @@ impl From<NoMemory> for ExpressionFault {
 /// The greatest number of bytes of an expression.
 const MAX_BYTES: u64 = 4096;
 
-/// The refusal with this error.
+/// The fault with the byte and the kind of this error.
 fn fault_of(offence: Offence) -> ExpressionFault
     ensures { IsFaultOf (offence_in offence) result }
 {
@@ -64,7 +64,7 @@ fn fault_of(offence: Offence) -> ExpressionFault
     }
 }
 
-/// The formula of a word that is an expression and has been scanned, or its first error; a degree
+/// The `Formula` of a word that is an expression and has been scanned, or its first error; a degree
 /// over `limit` is an error.
 fn judged(alloc: Global, limit: u16, word: &[u8], scan: Scan) -> Result<Formula, ExpressionFault>
     requires scanned { IsScanned word.now (Ok scan) }
@@ -96,9 +96,9 @@ fn judged(alloc: Global, limit: u16, word: &[u8], scan: Scan) -> Result<Formula,
     Ok(formula)
 }
 
-/// The byte of the first error of syntax in a word that is not an expression: the length of its
-/// longest prefix that begins one; None if the word is an expression, with or without other errors.
-/// No memory is allocated.
+/// The byte of the first error of syntax in a word that is not an expression: the length of the
+/// longest prefix of the word that begins an expression. None if the word is an expression, with or
+/// without other errors. No memory is allocated.
 pub fn wrong_byte(word: &[u8]) -> Option<u64>
     ensures { MatchOption result ((phrase : Phrase) × SpellsPhrase word.now phrase)
         (IsWrongByte word.now) }
@@ -125,14 +125,15 @@ pub(crate) fn read_within(
     }
 }
 
-/// Reads a word as an expression of atoms in m, e, h, p and s that is to be expanded into the
-/// target basis.
+/// Reads a word as an expression that is to be expanded into the target basis. Its atoms are basis
+/// elements, such as s[2,1], of m, e, h, p and s.
 ///
 /// A word that is not an expression is refused as `Syntax`, at the length of its longest prefix
-/// that begins an expression. Otherwise its first error is refused: a number over 2^127 - 1 as
-/// `Literal`; as `Range` a parenthesis that opens depth 65, the 65th number of an atom, byte 4,096
-/// of a longer word, and, at the end of the word, a degree over the limit of the target; as `Shape`
-/// a number of an atom that is greater than the one before it, and a denominator 0.
+/// that begins an expression. Otherwise it is refused with its first error: `Literal` for a number
+/// over 2^127 - 1; `Range` for a parenthesis that opens depth 65, for the 65th number of an atom,
+/// for byte 4,096 of a longer word, and, at the end of the word, for a degree over the limit of the
+/// target basis; `Shape` for a number of an atom that is greater than the one before it, and for a
+/// denominator 0.
 pub fn read_expression(
     alloc: Global,
     target: Basis,

@@ -1,5 +1,7 @@
 //! One scan of a word from left to right, without allocation and recursion: whether the word is an
-//! expression, the length of its longest prefix that begins an expression, and its first error.
+//! expression, the length of its longest prefix that begins an expression, and its first error. An
+//! atom of an expression is a basis element such as s[2,1], with its list of numbers. A mark is a
+//! number or an opening parenthesis, that is, a place at which an error is possible.
 ghost use Rattle.std.specs.Prelude.{◌≡◌, ℕ, ◌+◌, ◌-◌, ◌*◌, ◌^◌, ◌<◌, ◌≤◌, option_map};
 ghost use Rattle.expression_reading.specs.Symbols.{symbol_in};
 ghost use Rattle.expression_reading.specs.ScanSteps.{capped, IsSoundDigit, CanCount};
@@ -229,7 +231,7 @@ fn mark_before(mode: Mode, depth: u64, at: u64, symbol: Symbol) -> Option<(u64, 
     }
 }
 
-/// The first error at a mark, with the byte of the mark, if there is an error.
+/// The error of a mark, with the byte at which the mark begins; None if the mark is no error.
 fn offence_at(mark: (u64, Mark)) -> Option<Offence>
     ensures { option_map offence_in result
         ≡ option_map (λ kind. (mark.0, kind)) (first_kind (mark_in mark.1)) }

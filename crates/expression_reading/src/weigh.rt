@@ -1,4 +1,6 @@
-//! The weights of expressions, with numerators and denominators below 2^127.
+//! Bounds for the numbers in the conversion of an expression e into a basis. The weight of e is a
+//! numerator N and a denominator D, both below 2^127: if D·e is multiplied out into a sum of
+//! products of basis elements, the absolute values of its coefficients add up to at most N.
 ghost use Rattle.std.specs.Prelude.{◌≡◌, ◌+◌, ◌*◌, ◌/◌, ◌^◌, ◌<◌, ◌≤◌, IsTrue, SomeIff};
 ghost use Rattle.std.specs.Prelude.{MatchOption, option_map};
 ghost use Rattle.sym_model.specs.Canonical.{gcd};
@@ -11,7 +13,7 @@ use crate::Expr;
 use calc_base::{Basis, Weight};
 use coeff_rings::{factorial, gcd};
 
-/// The numerator and the denominator of a weight must be below this.
+/// 2^127. The numerator and the denominator of a weight must be below this limit.
 const LIMIT: u128 = 1 << 127;
 
 /// The weight with this numerator and denominator, if both are below 2^127.
@@ -141,8 +143,9 @@ fn growth(target: Basis, d: u16) -> Option<u128>
     }
 }
 
-/// The weight of an expression for the target basis: its numerator times its denominator times
-/// `growth` at its degree; None only if this product is 2^127 or more.
+/// A bound for all numbers in the conversion of an expression into the target basis: N·D times
+/// `growth` at the degree of the expression, with the numerator N and the denominator D of its
+/// weight. None only if this product is 2^127 or more.
 pub(crate) fn checked_weight(tree: &Expr, degree: u16, target: Basis) -> Option<u128>
     requires plain { IsTrue (has_no_signs tree.now) }
     requires low { degree ≤ 20 }

@@ -1,6 +1,6 @@
--- Sums over the pairs (β, γ) of lists whose sum, place by place, is α, and in which no entry of β is above 1. The summands depend on two numbers: the
--- sum a of the entries of β, and the sum b of the entries of γ.
-use Rattle.std.proofs.Common.{◌≡◌, ◌⊎◌, ℕ, zero, suc, ◌+◌, ◌-◌, ◌<◌, Bool, true, false, ◌&&◌, cond, ◌==◌, leb, List, [], ◌∷◌, refl, sym, ap, ap₂, ◌∙◌, inl, inr, arith, ℤ, pos, negsuc, neg_ℤ, ◌+ℤ◌, ◌*ℤ◌}
+-- Here α is a list of numbers. The sums of this file run over the pairs (β, γ) of lists with β + γ = α, entry by entry, such that each entry of β is
+-- 0 or 1. The summand W(a, b) depends only on two numbers: the sum a of the entries of β, and the sum b of the entries of γ.
+use Rattle.std.proofs.Common.{◌≡◌, ℕ, zero, suc, ◌+◌, ◌-◌, ◌<◌, Bool, true, false, ◌&&◌, cond, ◌==◌, leb, List, [], ◌∷◌, refl, sym, ap, ap₂, ◌∙◌, arith, ℤ, pos, negsuc, neg_ℤ, ◌+ℤ◌, ◌*ℤ◌, rules}
 use Rattle.std.proofs.lemmas.Bool.{cases_eq, eq-eqb, ne_eqb, le-leb, lt-leb}
 use Rattle.std.proofs.lemmas.Int.{ints}
 use Rattle.sym_model.specs.Sum.{total}
@@ -26,19 +26,11 @@ low_two : (g : ℕ → ℤ) (c : ℕ) → total (λ (b : ℕ). cond (leb b 1) (g
     ≡ g 0 +ℤ cond (leb 1 c) (g 1) (pos 0)
 low_two g zero = refl
 low_two g (suc zero) = let e = +ℤ_idr (g 0) in omega (arith, ints)
-low_two g (suc (suc c)) =
-    ap₂ (λ (t : Bool) (z : ℤ). cond t (g (suc (suc c))) (pos 0) +ℤ z)
-    (lt-leb (suc (suc c)) 1 (omega arith)) (low_two g (suc c))
-    ∙ +ℤ_idl (g 0 +ℤ cond (leb 1 (suc c)) (g 1) (pos 0))
-    ∙ ap (λ (t : Bool). g 0 +ℤ cond t (g 1) (pos 0))
-    (le-leb 1 (suc c) (omega arith) ∙ sym (le-leb 1 (suc (suc c)) (omega arith)))
+low_two g (suc (suc c)) = search (rules, lt-leb, +ℤ_idl, le-leb, (low_two g (suc c)))
 
 pub low_total-ext : (V W : ℕ → ℕ → ℤ) (α : List ℕ) → ((a b : ℕ) → V a b ≡ W a b) → low_total V α
     ≡ low_total W α
-low_total-ext V W α h =
-    total_ext (λ (s : List ℕ × List ℕ). cond (at_most_one s.0) (V (size s.0) (size s.1)) (pos 0))
-    (λ (s : List ℕ × List ℕ). cond (at_most_one s.0) (W (size s.0) (size s.1)) (pos 0))
-    (λ s. ap (λ z. cond (at_most_one s.0) z (pos 0)) (h (size s.0) (size s.1))) (splits α)
+low_total-ext V W α h = search rules
 
 pub low_total-add : (V W : ℕ → ℕ → ℤ) (α : List ℕ) → low_total (λ a b. V a b +ℤ W a b) α
     ≡ low_total V α +ℤ low_total W α
@@ -57,20 +49,13 @@ low_total-add V W α =
 
 pub low_total-scale : (c : ℤ) (W : ℕ → ℕ → ℤ) (α : List ℕ) → low_total (λ a b. c *ℤ W a b) α
     ≡ c *ℤ low_total W α
-low_total-scale c W α =
-    total_ext (λ (s : List ℕ × List ℕ). cond (at_most_one s.0) (c *ℤ W (size s.0) (size s.1))
-    (pos 0)) (λ (s : List ℕ × List ℕ). c *ℤ cond (at_most_one s.0) (W (size s.0) (size s.1))
-    (pos 0))
-    (λ s. sym (sym (times_chosen (at_most_one s.0) c (W (size s.0) (size s.1))))) (splits α)
-    ∙ total_scale c
-    (λ (s : List ℕ × List ℕ). cond (at_most_one s.0) (W (size s.0) (size s.1)) (pos 0)) (splits α)
+low_total-scale c W α = search (rules, total_ext, times_chosen, total_scale)
 
 pub low_total-none : (α : List ℕ) → low_total (λ a b. pos 0) α ≡ pos 0
-low_total-none α = total_none (λ (s : List ℕ × List ℕ). cond (at_most_one s.0) (pos 0) (pos 0))
-    (splits α) (λ s m. nothing_either (at_most_one s.0))
+low_total-none α = search (rules, total_none, nothing_either)
 
--- `low_total W (c ∷ α)` is the sum of W(a, c + b) over the pairs (β, γ) for α, a and b being the sums of β and γ, plus, if c ≥ 1, the sum of W(1 + a,
--- c - 1 + b) over the same pairs: the first entries of a pair for c ∷ α are 0 and c or, if c ≥ 1, 1 and c - 1
+-- the first entries of β and γ in a pair for c ∷ α are 0 and c or, if c ≥ 1, 1 and c - 1. So `low_total W (c ∷ α)` is a sum over the pairs for α: the
+-- sum of W(a, c + b) and, if c ≥ 1, also the sum of W(1 + a, c - 1 + b); here a and b are the sums of β and γ
 pub low_total-cons : (W : ℕ → ℕ → ℤ) (c : ℕ) (α : List ℕ)
     → low_total W (c ∷ α)
     ≡ low_total (λ a b. W (0 + a) (c - 0 + b)) α +ℤ cond (leb 1 c)
@@ -99,7 +84,7 @@ low_total-cons W c α =
     rest : ℕ → ℤ
     rest b = low_total (λ a d. W (b + a) (c - b + d)) α
 
--- ---- the sums `low_total W α` for particular functions W of the sums a of β and b of γ
+-- ---- the value of `low_total W α` for particular functions W
 
 -- 1 if the number is 0, and 0 otherwise
 abbrev pub at_zero : ℕ → ℤ
@@ -133,15 +118,8 @@ signs (c ∷ α) =
         cancels : (z : ℤ) → z +ℤ negsuc 0 *ℤ z ≡ pos 0
         cancels z = omega (arith, ints)
 
--- the sum of c + 1 and the entries of α is an entry of (c + 1) ∷ α if and only if all entries of α are 0
 only_number : (c : ℕ) (α : List ℕ) → (size α == 0) ≡ has (suc c + size α) (suc c ∷ α)
-only_number c α = by (cases_eq (size α) 0)
-  where
-    by : (size α ≡ 0) ⊎ (size α ≡ 0 → ⊥) → (size α == 0) ≡ has (suc c + size α) (suc c ∷ α)
-    by (inl e) = eq-eqb (size α) 0 e ∙ sym (has_here (suc c + size α) (suc c) α (omega arith))
-    by (inr n) = ne_eqb (size α) 0 n
-        ∙ sym (has_past (suc c + size α) (suc c) α (λ d. absurd (n (omega arith)))
-        ∙ has_above_size (suc c + size α) α (omega arith))
+only_number c α = search (rules, cases_eq, eq-eqb, has_here, ne_eqb, has_past, has_above_size)
 
 -- if α has a positive sum: the sum of (-1)^a·b over the pairs (β, γ) with β + γ = α in which no entry of β is above 1, a and b being the sums of β
 -- and γ, is 1 if α has only one entry other than 0, and 0 otherwise

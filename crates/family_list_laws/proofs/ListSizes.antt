@@ -1,5 +1,5 @@
--- The sums of the absolute values of the closed coefficients (specs/OnePartLists) over the partitions of a number; l is the number of parts, and the
--- m_i are their multiplicities.
+-- The sums, over the partitions of a number, of the absolute values of the coefficients that specs/OnePartLists gives in closed form. Here l is the
+-- number of parts of a partition, and m_i is the number of its parts i.
 --     total-orders      the sum of l!/Π m_i! over the partitions of k + 1 is 2^k
 --     total-sized       the sum of k·(l - 1)!/Π m_i! over the partitions of k is 2^k - 1
 --     total-cycles      the sum of k!/z_μ over the partitions μ of k is k!
@@ -49,8 +49,6 @@ sum-over-step k x before z closed =
     total-taken k i (λ ρ. pos (z i * before ρ)) r.0 (let l = r.1 in omega arith)
     ∙ total_scale (pos (z i)) (λ (ρ : List ℕ). pos (before ρ)) (partitions_of (k - i)))
 
--- ---- the sum of z(i)·f(m + 1 - i) over i = 1, .., m + 1 as its first term plus a sum over i = 1, .., m
-
 total-shifted : (g : ℕ → ℤ) (a m : ℕ) → total g (after (a + 1) m)
     ≡ total (λ (i : ℕ). g (i + 1)) (after a m)
 total-shifted g a zero = refl
@@ -66,8 +64,6 @@ back_sum z f m =
     ∙ total_ext (λ (i : ℕ). z (i + 1) *ℤ f (suc m - (i + 1))) (λ (i : ℕ). z (i + 1) *ℤ f (m - i))
     (λ i. ap (λ n. z (i + 1) *ℤ f n) (let e : suc m - (i + 1) ≡ m - i = omega arith in e))
     (after 0 m))
-
--- the sums of l!/Π m_i!, k·(l - 1)!/Π m_i! and k!/z_μ over the partitions of k
 
 -- the number of lists of positive numbers with the sum k: 1 for k = 0, and 2^(k - 1) for k ≥ 1
 abbrev pub compositions : ℕ → ℕ

@@ -1,7 +1,10 @@
--- Lists of terms whose labels are the partitions of k, computed from lists whose labels are the partitions of smaller numbers.
---     total-taken     the sum of g over the partitions of k - i is the sum of g(μ without one i) over the partitions μ of k with a part i
---     sum-step        if q·f is the sum of s_i·q_i·g_i·P_i over i = 1, .., k, and each q_i·g_i is given by a list over the partitions of k - i
---                     (`IsSumOver`), then q·f is given by a list over the partitions of k
+-- Let P_1, P_2, .. be polynomials, and let P_μ be the product of the P_a over the parts a of a partition μ. An expansion of a polynomial f is an
+-- equation of q·f with the sum of c(μ)·P_μ over the partitions μ of k; the number q and the coefficients c(μ) are integers. Expansions over the
+-- partitions of k are computed from expansions over the partitions of smaller numbers.
+--     total-taken     if 1 ≤ i ≤ k, then the sum of a function g over the partitions of k - i is the sum of g(μ without one i) over the partitions μ
+--                     of k with a part i
+--     sum-step        let g_i be polynomials, and s_i and q_i integers. If q·f is the sum of s_i·q_i·g_i·P_i over i = 1, .., k, and each q_i·g_i has
+--                     an expansion over the partitions of k - i (`IsSumOver`), then q·f has an expansion over the partitions of k
 use Rattle.std.proofs.Common.{◌≡◌, ℕ, ◌-◌, ◌<◌, ◌≤◌, Bool, true, false, cond, List, refl, sym, ap, ◌∙◌, arith, ℤ, pos, ◌*ℤ◌, filter}
 use Rattle.sym_model.specs.Sum.{total}
 use Rattle.sym_model.specs.Polynomial.{Poly, pair, join, times}

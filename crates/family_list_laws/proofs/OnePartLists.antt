@@ -1,5 +1,6 @@
--- The lists of e_k, h_k and p_k with the closed coefficients of specs/OnePartLists, as `one_part_list_law` states them.
-use Rattle.std.proofs.Common.{◌≡◌, ℕ, ◌-◌, ◌*◌, ◌^◌, ◌<◌, ◌≤◌, List, [], ◌∷◌, map, length, refl, sym, ap, ap₂, ◌∙◌, subst, arith, ℤ, pos, ◌+ℤ◌, ◌*ℤ◌}
+-- The expansions of e_k, h_k and p_k in another of the bases e, h and p, with the coefficients of specs/OnePartLists, as `one_part_list_law` states
+-- them.
+use Rattle.std.proofs.Common.{◌≡◌, ℕ, ◌-◌, ◌*◌, ◌^◌, ◌<◌, ◌≤◌, List, [], ◌∷◌, map, length, refl, sym, ap, ap₂, ◌∙◌, subst, arith, ℤ, pos, ◌+ℤ◌, ◌*ℤ◌, rules}
 use Rattle.std.specs.Prelude.{nat_abs}
 use Rattle.std.proofs.lemmas.Int.{ints, unsigned_abs-mul}
 use Rattle.sym_model.specs.Sum.{total}
@@ -42,8 +43,7 @@ listed P q most k f c x m is abs sum few = record {
 }
 
 signed : (a x : ℕ) → nat_abs (minus_one_to a *ℤ pos x) ≡ x
-signed a x = unsigned_abs-mul (minus_one_to a) (pos x) ∙ ap (λ n. n * x) (sign_size a)
-    ∙ (let e : 1 * x ≡ x = omega arith in e)
+signed a x = search (rules, unsigned_abs-mul, sign_size)
 
 pub elementary-list : (k : ℕ)
     → Stands complete_of 1 (2 ^ k) k (λ n. elementary_of k n) (list_over signed_orders k)

@@ -1,9 +1,9 @@
 -- e_k, h_k and p_k as sums of multiples of the products e_i·h_(k-i).
-use Rattle.std.proofs.Common.{◌≡◌, ◌⊎◌, ℕ, zero, suc, ◌+◌, ◌-◌, ◌<◌, ◌≤◌, Bool, true, false, ◌&&◌, cond, ◌==◌, leb, List, length, refl, sym, ap, ap₂, ◌∙◌, inl, inr, arith, ℤ, pos, negsuc, neg_ℤ, ◌+ℤ◌, ◌*ℤ◌, flat_map}
+use Rattle.std.proofs.Common.{◌≡◌, ◌⊎◌, ℕ, zero, suc, ◌+◌, ◌-◌, ◌<◌, ◌≤◌, Bool, true, false, ◌&&◌, cond, ◌==◌, leb, List, length, refl, sym, ap, ap₂, ◌∙◌, inl, inr, arith, ℤ, pos, negsuc, neg_ℤ, ◌+ℤ◌, ◌*ℤ◌, flat_map, rules}
 use Rattle.std.proofs.lemmas.Bool.{cases_eq, cases_lt, eq-eqb, ne_eqb, le-leb, lt-leb, eqb-true}
 use Rattle.std.proofs.lemmas.Int.{ints}
 use Rattle.sym_model.specs.Sum.{total, Among}
-use Rattle.sym_model.specs.Polynomial.{Poly, Term, Same, In, same, coefficient, pair, scale, times}
+use Rattle.sym_model.specs.Polynomial.{Poly, Same, In, coefficient, pair, scale, times}
 use Rattle.sym_model.specs.Partition.{after, size}
 use Rattle.sym_model.specs.PlaceOrders.{minus_one_to}
 use Rattle.sym_model.specs.Bases.{has, at_most_one, elementary_of, complete_of, power_sum_of, monomials}
@@ -20,7 +20,7 @@ use Rattle.family_list_laws.proofs.AlternatingSums.{low_total, low_total-ext, lo
 use lib.IntN.{*ℤ-zero, +ℤ_idr}
 use Rattle.sym_model.proofs.Integers.{nothing_either, tests_exchanged}
 
--- ---- the coefficients of the product of one e_a and one h_b
+-- ---- the coefficients of the product e_a·h_b
 
 -- 1 if p = a and q = b, and 0 otherwise
 abbrev at_sizes : ℕ → ℕ → ℕ → ℕ → ℤ
@@ -56,10 +56,6 @@ product-sizes n a b α long =
     by false false true = refl
     by false false false = refl
 
--- ---- the coefficients of sums of multiples of products e_a·h_b
-
--- suppose that, for all p, q with p + q = |α|, the sum of the v(i) over those i = 1, .., k for which x(i) = p and y(i) = q is W(p, q) if |α| = k, and
--- 0 if not. Then the coefficient of x^α in the sum of v(i)·e_(x(i))·h_(y(i)) over i = 1, .., k is `low_total W α` if |α| = k, and 0 if not
 weighted : (n k : ℕ) (x y : ℕ → ℕ) (v : ℕ → ℤ) (W : ℕ → ℕ → ℤ) (α : List ℕ) → length α ≡ n
     → ((p q : ℕ) → p + q ≡ size α → total (λ (i : ℕ). v i *ℤ at_sizes (x i) (y i) p q) (after 0 k)
     ≡ cond (size α == k) (W p q) (pos 0))
@@ -158,8 +154,6 @@ module _ (k : ℕ) (v : ℕ → ℤ) where
       (λ i. ap (λ z. v i *ℤ z) (tests_exchanged (p == i) (q == (k - i)) (pos 1))) (after 0 k)
       ∙ pick-second m q p (omega arith)
 
--- ---- e_k, h_k and p_k as sums of multiples of products of e_i and h_(k-i): four sums, p_k in two ways
-
 -- the sum of v(i)·G_(k-i)·P_i over i = 1, .., k, in n variables
 abbrev pub scaled_products : (ℕ → ℤ) → (ℕ → ℕ → Poly) → (ℕ → ℕ → Poly) → ℕ → ℕ → Poly
 scaled_products v G P k n = flat_map (λ i. scale (v i) (times (G (k - i) n) (P i n))) (after 0 k)
@@ -167,12 +161,7 @@ scaled_products v G P k n = flat_map (λ i. scale (v i) (times (G (k - i) n) (P 
 coefficient-products : (v : ℕ → ℤ) (G P : ℕ → ℕ → Poly) (k n : ℕ) (α : List ℕ)
     → coefficient (scaled_products v G P k n) α
     ≡ total (λ (i : ℕ). v i *ℤ coefficient (times (G (k - i) n) (P i n)) α) (after 0 k)
-coefficient-products v G P k n α =
-    total_each (λ (t : Term). cond (same t.0 α) t.1 (pos 0))
-    (λ (i : ℕ). scale (v i) (times (G (k - i) n) (P i n))) (after 0 k)
-    ∙ total_ext (λ (i : ℕ). coefficient (scale (v i) (times (G (k - i) n) (P i n))) α)
-    (λ (i : ℕ). v i *ℤ coefficient (times (G (k - i) n) (P i n)) α)
-    (λ i. coefficient_scale (v i) (times (G (k - i) n) (P i n)) α) (after 0 k)
+coefficient-products v G P k n α = search (rules, total_each, total_ext, coefficient_scale)
 
 In-products : (v : ℕ → ℤ) (G P : ℕ → ℕ → Poly) (k n : ℕ) → ((i : ℕ) → In n (G i n))
     → ((i : ℕ) → In n (P i n)) → In n (scaled_products v G P k n)
@@ -188,9 +177,6 @@ all : (n i : ℕ) → In n (complete_of i n)
 all n i = In-monomials (λ β. true) n i
 
 module _ (k n : ℕ) (some : 0 < k) where
-  -- suppose that, for all p, q, the sum of the v(i) over those i = 1, .., k for which x(i) = p and y(i) = q is W(p, q) if p + q = k, and 0 if not,
-  -- and that, if |α| = k, `low_total W α` is 1 if α passes the test, and 0 if not. Then x^α has the same coefficient in the sum of the monomials of
-  -- degree k that pass the test and in the sum of v(i)·e_(x(i))·h_(y(i)) over i = 1, .., k
   summed : (test : List ℕ → Bool) (x y : ℕ → ℕ) (v : ℕ → ℤ) (W : ℕ → ℕ → ℤ) (α : List ℕ) → length α
       ≡ n
       → ((m p q : ℕ) → p + q ≡ m → total (λ (i : ℕ). v i *ℤ at_sizes (x i) (y i) p q) (after 0 k)
@@ -211,23 +197,13 @@ module _ (k n : ℕ) (some : 0 < k) where
       by true e = sym (value (eqb-true (size α) k e))
       by false e = refl
 
-  -- for i ≥ 1, (-1)^(i-1) = 0 - (-1)^i, and for i = 0, 0 = 1 - (-1)^i
   turned : (i : ℕ) → cond (leb 1 i) (minus_one_to (i - 1)) (pos 0)
       ≡ at_zero i +ℤ negsuc 0 *ℤ minus_one_to i
   turned zero = refl
-  turned (suc i) =
-      let e : suc i - 1 ≡ i = omega arith in
-      ap₂ (λ (t : Bool) (m : ℕ). cond t (minus_one_to m) (pos 0)) (le-leb 1 (suc i) (omega arith)) e
-      ∙ again (minus_one_to i)
-      ∙ ap (λ (t : Bool). cond t (pos 1) (pos 0) +ℤ negsuc 0 *ℤ neg_ℤ (minus_one_to i))
-      (sym (ne_eqb (suc i) 0 (λ d. omega arith)))
-    where
-      again : (z : ℤ) → z ≡ pos 0 +ℤ negsuc 0 *ℤ neg_ℤ z
-      again z = omega (arith, ints)
+  turned (suc i) = search rules
 
   apart : (α : List ℕ) → size α ≡ k → at_zero (size α) ≡ pos 0
-  apart α e = ap (λ (t : Bool). cond t (pos 1) (pos 0))
-      (ne_eqb (size α) 0 (λ d. absurd (omega arith)))
+  apart α e = search rules
 
   without_last : (x : ℤ) → x +ℤ negsuc 0 *ℤ pos 0 ≡ x
   without_last x = +ℤ_idr x
@@ -253,17 +229,10 @@ module _ (k n : ℕ) (some : 0 < k) where
       ∙ without_last (cond (at_most_one α) (pos 1) (pos 0)))
       ∙ sym (coefficient-products (λ i. minus_one_to (i - 1)) elementary_of complete_of k n α))
 
-  -- Σ v(i)·e_i·h_(k-i) and Σ v(i)·h_(k-i)·e_i, over i = 1, .., k, have the same coefficient at x^α
   exchanged : (v : ℕ → ℤ) (α : List ℕ)
       → total (λ (i : ℕ). v i *ℤ coefficient (times (elementary_of i n) (complete_of (k - i) n)) α)
       (after 0 k) ≡ coefficient (scaled_products v complete_of elementary_of k n) α
-  exchanged v α =
-      total_ext (λ (i : ℕ). v i *ℤ coefficient
-      (times (elementary_of i n) (complete_of (k - i) n)) α)
-      (λ (i : ℕ). v i *ℤ coefficient (times (complete_of (k - i) n) (elementary_of i n)) α)
-      (λ i. ap (λ z. v i *ℤ z) (times_comm (elementary_of i n) (complete_of (k - i) n) α))
-      (after 0 k)
-      ∙ sym (coefficient-products v complete_of elementary_of k n α)
+  exchanged v α = search (rules, total_ext, times_comm, coefficient-products)
 
   pub complete-sum : Same (complete_of k n)
       (scaled_products (λ i. minus_one_to (i - 1)) complete_of elementary_of k n)
@@ -347,8 +316,6 @@ module _ (k n : ℕ) (some : 0 < k) where
           (le-leb 1 (suc p) (omega arith)) e
           ∙ sym (ap (λ z. negsuc 0 *ℤ z) (negation-product (minus_one_to p) (pos (suc p)))
           ∙ again (minus_one_to p *ℤ pos (suc p)))
-
--- ---- the sum of φ over the terms of `scaled_products` (`pair`), for a function φ of exponent lists
 
 pub pair-products : (v : ℕ → ℤ) (G P : ℕ → ℕ → Poly) (k n : ℕ) (f : Poly)
     → Same f (scaled_products v G P k n) → (φ : List ℕ → ℤ)

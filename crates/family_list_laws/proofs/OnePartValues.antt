@@ -1,5 +1,6 @@
--- The lists of e_k, h_k and p_k with the closed coefficients of specs/OnePartLists, proved by induction on k in n variables.
-use Rattle.std.proofs.Common.{◌≡◌, ℕ, zero, suc, ◌+◌, ◌-◌, ◌*◌, ◌<◌, ◌≤◌, true, cond, List, [], ◌∷◌, length, refl, sym, ap, ap₂, ◌∙◌, arith, ℤ, pos, neg_ℤ, ◌*ℤ◌, flat_map}
+-- The expansions of e_k, h_k and p_k in another of the bases e, h and p, with the coefficients of specs/OnePartLists, proved by induction on k in n
+-- variables. The pairing of a function φ of exponent lists with a polynomial f (`pair f φ`) is the sum of c·φ(α) over the terms c·x^α of f.
+use Rattle.std.proofs.Common.{◌≡◌, ℕ, zero, suc, ◌+◌, ◌-◌, ◌*◌, ◌<◌, ◌≤◌, true, cond, List, [], ◌∷◌, length, refl, sym, ap, ap₂, ◌∙◌, arith, ℤ, pos, neg_ℤ, ◌*ℤ◌, flat_map, rules}
 use Rattle.std.proofs.lemmas.Int.{ints}
 use Rattle.sym_model.specs.Sum.{total}
 use Rattle.sym_model.specs.Polynomial.{Poly, Same, pair, scale, times, one}
@@ -25,9 +26,6 @@ use Rattle.family_list_laws.proofs.OnePartSums.{scaled_products, pair-products, 
 use lib.IntN.{+ℤ_idr}
 use Rattle.std.proofs.Math.Nat.{mul_comm}
 
--- ---- the sign (-1)^(k - l) of a partition of k with l parts, after a part is removed
-
--- if i is a part of the partition μ, then (-1)^(i-1) times the parity sign of μ without one i is the parity sign of μ
 sign-taken : (i : ℕ) (μ : List ℕ) → IsPartition μ → has i μ ≡ true
     → minus_one_to (i - 1) *ℤ parity_sign (without_one i μ) ≡ parity_sign μ
 sign-taken i μ p e =
@@ -42,10 +40,7 @@ sign-taken i μ p e =
 
 sign-square : (a : ℕ) → minus_one_to a *ℤ minus_one_to a ≡ pos 1
 sign-square zero = refl
-sign-square (suc a) = turned (minus_one_to a) ∙ sign-square a
-  where
-    turned : (z : ℤ) → neg_ℤ z *ℤ neg_ℤ z ≡ z *ℤ z
-    turned z = simp ring (omega (arith, ints))
+sign-square (suc a) = search (rules, neg_ℤ, ring, ints, (sign-square a))
 
 sign-left : (i : ℕ) (μ : List ℕ) → IsPartition μ → has i μ ≡ true
     → minus_one_to (size μ - i) *ℤ parity_sign (without_one i μ) ≡ minus_one_to (length μ - 1)
@@ -64,21 +59,16 @@ sign-left i μ p e =
     (sign-square (size (without_one i μ) - length (without_one i μ)))
     ∙ product-one (minus_one_to (length μ - 1))
 
--- ---- a list with a positive sum has at least one entry
-
 pub some_part : (k : ℕ) (μ : List ℕ) → 0 < k → size μ ≡ k → suc (length μ - 1) ≡ length μ
 some_part k [] h e = absurd (omega arith)
 some_part k (a ∷ μ) h e = omega arith
 
--- if μ has size k, a sum over 1, .., size μ is the sum over 1, .., k
 up_to : (k : ℕ) (μ : List ℕ) (f : ℕ → ℤ) → size μ ≡ k → total f (after 0 (size μ))
     ≡ total f (after 0 k)
 up_to k μ f e = ap (λ n. total f (after 0 n)) e
 
 four : (a b c d : ℤ) → (a *ℤ b) *ℤ (c *ℤ d) ≡ (a *ℤ c) *ℤ (b *ℤ d)
 four a b c d = simp ring (omega (arith, ints))
-
--- ---- the closed coefficients of a partition μ as sums over its different parts i of coefficients of μ without one i
 
 orders-closed : (k : ℕ) (μ : List ℕ) → 0 < k → IsPartition μ → size μ ≡ k
     → signed_orders μ
@@ -125,8 +115,6 @@ power-elementary-closed k μ h p e =
     ∙ up_to k μ (λ (i : ℕ). cond (has i μ)
     ((minus_one_to (i - 1) *ℤ pos i) *ℤ signed_orders (without_one i μ)) (pos 0)) e
 
--- let σ(i)·τ(μ without one i) = τ(μ) for each part i of each partition μ. Then, for a partition μ of k > 0, τ(μ)·k!/z_μ is the sum, over the
--- different parts i of μ, of σ(i)·(k - 1)!/(k - i)! times τ(ρ)·(k - i)!/z_ρ; here ρ is μ without one i
 cycles-closed : (σ : ℕ → ℤ) (τ : List ℕ → ℤ)
     → ((i : ℕ) (μ : List ℕ) → IsPartition μ → has i μ ≡ true → σ i *ℤ τ (without_one i μ) ≡ τ μ)
     → (k : ℕ) (μ : List ℕ) → 0 < k → IsPartition μ → size μ ≡ k
@@ -145,7 +133,7 @@ cycles-closed σ τ turn k μ h p e =
     ((σ i *ℤ pos (rise k i)) *ℤ (τ (without_one i μ) *ℤ pos (cycle_type_count (without_one i μ))))
     (pos 0)) e
 
--- ---- lists of terms with closed coefficients, by induction on k
+-- ---- expansions with coefficients in closed form, by induction on k
 
 nothing-left : (P : ℕ → ℕ → Poly) (n : ℕ) (c : List ℕ → ℤ) (f : Poly) → c [] ≡ pos 1
     → Same f (one n) → IsSumOver P n 0 c 1 f
@@ -153,8 +141,6 @@ unfolding partitions_within
 nothing-left P n c f e h φ = +ℤ_idr (c [] *ℤ pair (one n) φ)
     ∙ ap₂ ◌*ℤ◌ e (sym (pair_determined f (one n) φ h))
 
--- if f is Σ v(i)·G_(k-i)·P_i over i = 1, .., k, then for each φ, `pair f φ` is the sum over i of v(i) times the pairing (`pair`) of G_(k-i)·P_i with
--- φ
 whole-sum : (v : ℕ → ℤ) (G P : ℕ → ℕ → Poly) (k n : ℕ) (f : Poly)
     → Same f (scaled_products v G P k n) → (φ : List ℕ → ℤ)
     → pos 1 *ℤ pair f φ
@@ -166,8 +152,6 @@ whole-sum v G P k n f e φ =
     (λ (i : ℕ). v i *ℤ (pos 1 *ℤ pair (times (G (k - i) n) (P i n)) φ))
     (λ i. ap (λ z. v i *ℤ z) (sym (one-product (pair (times (G (k - i) n) (P i n)) φ)))) (after 0 k)
 
--- if G_0 = 1 and, for each k > 0, G_k is the sum of (-1)^(i-1)·G_(k-i)·P_i over i = 1, .., k, then G_k is the sum, over the partitions μ of k, of
--- `signed_orders` μ times the product of the P_a over the parts a of μ
 family-list : (G P : ℕ → ℕ → Poly) (n : ℕ) → Same (G 0 n) (one n)
     → ((k : ℕ) → 0 < k → Same (G k n) (scaled_products (λ i. minus_one_to (i - 1)) G P k n))
     → (d k : ℕ) → k ≤ d → IsSumOver P n k signed_orders 1 (G k n)
@@ -215,10 +199,8 @@ power-in-elementary k n h =
     (power-elementary-sum k n h))
     (λ μ p e. power-elementary-closed k μ h p e)
 
--- ---- the lists of k!·e_k and k!·h_k in power sums, with closed coefficients
+-- ---- the expansions of k!·e_k and k!·h_k in power sums
 
--- if G satisfies Newton's identities with the signs σ, and k > 0, then the pairing of k!·G_k with φ is the sum, over i = 1, .., k, of σ(i)·(k -
--- 1)!/(k - i)! times the pairing of (k - i)!·G_(k-i)·p_i with φ
 newton-sum : (G : ℕ → ℕ → Poly) (σ : ℕ → ℤ) → IsNewton G σ → (k n : ℕ) → 0 < k → (φ : List ℕ → ℤ)
     → pos (factorial k) *ℤ pair (G k n) φ
     ≡ total (λ (i : ℕ). (σ i *ℤ pos (rise k i)) *ℤ
@@ -267,8 +249,7 @@ newton-list : (G : ℕ → ℕ → Poly) (σ : ℕ → ℤ) (τ : List ℕ → �
     → ((i : ℕ) (μ : List ℕ) → IsPartition μ → has i μ ≡ true → σ i *ℤ τ (without_one i μ) ≡ τ μ)
     → (n d k : ℕ) → k ≤ d
     → IsSumOver power_sum_of n k (λ μ. τ μ *ℤ pos (cycle_type_count μ)) (factorial k) (G k n)
-newton-list G σ τ is first turn n d zero h = nothing-left power_sum_of n
-    (λ μ. τ μ *ℤ pos (cycle_type_count μ)) (G 0 n) (ap (λ z. z *ℤ pos 1) first) (is.first n)
+newton-list G σ τ is first turn n d zero h = search (rules, nothing-left)
 newton-list G σ τ is first turn n zero (suc k) h = absurd (omega arith)
 newton-list G σ τ is first turn n (suc d) (suc k) h =
     sum-step power_sum_of n (suc k) (factorial (suc k)) (λ μ. τ μ *ℤ pos (cycle_type_count μ))

@@ -1,5 +1,6 @@
--- The closed coefficients of specs/OnePartLists at a partition μ, computed from those at the partitions that are μ without one part.
-use Rattle.std.proofs.Common.{◌≡◌, ◌⊎◌, ℕ, zero, suc, ◌+◌, ◌-◌, ◌*◌, ◌/◌, ◌<◌, ◌≤◌, Bool, true, false, cond, eqb, List, [], ◌∷◌, map, length, refl, sym, ap, ap₂, ◌∙◌, inl, inr, arith, ℤ, pos, ◌+ℤ◌, ◌*ℤ◌}
+-- The coefficients of specs/OnePartLists at a partition μ, computed from the coefficients at the partitions that arise from μ by removing one part.
+-- Here m_i is the number of parts i of μ.
+use Rattle.std.proofs.Common.{◌≡◌, ◌⊎◌, ℕ, zero, suc, ◌+◌, ◌-◌, ◌*◌, ◌/◌, ◌<◌, ◌≤◌, Bool, true, false, cond, eqb, List, [], ◌∷◌, map, length, refl, sym, ap, ap₂, ◌∙◌, inl, inr, arith, ℤ, pos, ◌+ℤ◌, ◌*ℤ◌, rules}
 use Rattle.std.proofs.lemmas.Bool.{cases_eq, cases_lt, eq-eqb, ne_eqb, both_ways, true≢false}
 use Rattle.std.proofs.lemmas.Int.{ints}
 use Rattle.sym_model.specs.Sum.{total, Among}
@@ -42,12 +43,10 @@ total-parts y k (j ∷ μ) h =
     ∙ ap (λ (t : Bool). cond t (y j) (pos 0)) (eq-eqb j j refl))
     (total-parts y k μ (λ i m. h i (inr m)))
 
--- if all entries of a list μ are positive, each is at most the sum of μ
 pub parts-within : (μ : List ℕ) → ArePositive μ → (j : ℕ) → Among j μ → (0 < j) × (j ≤ size μ)
 parts-within [] p j m = absurd m
 parts-within (a ∷ μ) p j (inl e) = let q = p.0 in (omega arith, omega arith)
-parts-within (a ∷ μ) p j (inr m) = let r = parts-within μ p.1 j m in let l = r.1 in
-    (r.0, omega arith)
+parts-within (a ∷ μ) p j (inr m) = search (rules, (parts-within μ p.1 j m))
 
 add_up : (ℕ → ℕ) → List ℕ → ℕ
 add_up f [] = 0
@@ -106,45 +105,23 @@ quotient-parts M N x y μ some p each sum = (
 
 module _ (i : ℕ) (μ : List ℕ) (p : IsPartition μ) (e : has i μ ≡ true) where
   pub part-positive : 0 < i
-  part-positive = by i refl
-    where
-      by : (j : ℕ) → i ≡ j → 0 < i
-      by zero f = absurd (both_ways (has i μ) (ap (λ n. has n μ) f ∙ has-zero μ p.positive) e)
-      by (suc j) f = omega arith
+  part-positive = search (rules, both_ways, has-zero)
 
   back : insert_part i (without_one i μ) ≡ μ
   back = insert_part-without_one i μ part-positive p.falls e
 
   pub multiplicities-taken : multiplicity_factorials μ
       ≡ times_in i μ * multiplicity_factorials (without_one i μ)
-  multiplicities-taken =
-      ap multiplicity_factorials (sym back)
-      ∙ multiplicity_factorials-insert i (without_one i μ) part-positive
-      ∙ ap (λ ν. times_in i ν * multiplicity_factorials (without_one i μ)) back
+  multiplicities-taken = search (rules, back, multiplicity_factorials-insert, part-positive)
 
 pub taken-length : (i : ℕ) (μ : List ℕ) → has i μ ≡ true → suc (length (without_one i μ)) ≡ length μ
 taken-length i [] e = absurd (true≢false (sym e))
-taken-length i (a ∷ μ) e = by (cases_eq a i) (taken-length i μ)
-  where
-    by : (a ≡ i) ⊎ (a ≡ i → ⊥) → (has i μ ≡ true → suc (length (without_one i μ)) ≡ length μ)
-        → suc (length (without_one i (a ∷ μ))) ≡ suc (length μ)
-    by (inl d) r = ap (λ ν. suc (length ν)) (without_one_here i a μ d)
-    by (inr n) r = ap (λ ν. suc (length ν)) (without_one_past i a μ n)
-        ∙ ap suc (r (sym (has_past i a μ n) ∙ e))
+taken-length i (a ∷ μ) e = search (rules, cases_eq, without_one_here, without_one_past, has_past, (taken-length i μ))
 
 pub taken-product : (i : ℕ) (μ : List ℕ) → has i μ ≡ true → product_of_parts μ
     ≡ i * product_of_parts (without_one i μ)
 taken-product i [] e = absurd (true≢false (sym e))
-taken-product i (a ∷ μ) e = by (cases_eq a i) (taken-product i μ)
-  where
-    by : (a ≡ i) ⊎ (a ≡ i → ⊥)
-        → (has i μ ≡ true → product_of_parts μ ≡ i * product_of_parts (without_one i μ))
-        → a * product_of_parts μ ≡ i * product_of_parts (without_one i (a ∷ μ))
-    by (inl d) r = ap₂ (λ n ν. n * product_of_parts ν) d (sym (without_one_here i a μ d))
-    by (inr n) r =
-        ap (λ m. a * m) (r (sym (has_past i a μ n) ∙ e))
-        ∙ mul_left_comm a i (product_of_parts (without_one i μ))
-        ∙ ap (λ ν. i * product_of_parts ν) (sym (without_one_past i a μ n))
+taken-product i (a ∷ μ) e = search (rules, cases_eq, without_one_here, has_past, mul_left_comm, without_one_past, (taken-product i μ))
 
 pub multiplicities-positive : (μ : List ℕ) → 0 < multiplicity_factorials μ
 multiplicities-positive μ = factorials-positive (map (λ b. times_in b μ) (distinct μ))
@@ -160,8 +137,7 @@ centralizer-positive μ p = mul-pos (product-positive μ p.positive) (multiplici
 
 scaled-sizes : (c : ℕ) (μ : List ℕ) → total (λ (j : ℕ). pos (j * c)) μ ≡ pos (size μ * c)
 scaled-sizes c [] = ap pos (let e : 0 ≡ 0 * c = omega arith in e)
-scaled-sizes c (j ∷ μ) = ap (λ z. pos (j * c) +ℤ z) (scaled-sizes c μ)
-    ∙ ap pos (let e : j * c + size μ * c ≡ (j + size μ) * c = omega arith in e)
+scaled-sizes c (j ∷ μ) = search (rules, (scaled-sizes c μ))
 
 -- for a partition μ of l + 1 parts, `orders_of_parts` μ, which is (l + 1)!/Π m_i!, is the sum, over the different parts i of μ, of `orders_of_parts`
 -- of μ without one part i
@@ -220,8 +196,8 @@ sized-orders l μ p e =
 abbrev pub rise : ℕ → ℕ → ℕ
 rise k i = factorial (k - 1) / factorial (k - i)
 
--- for a partition μ of k with at least one part, `cycle_type_count` μ, which is k!/z_μ, is the sum, over the different parts i of μ, of (k - 1)!/(k -
--- i)! times `cycle_type_count` of μ without one part i
+-- let μ be a partition of k with at least one part. Then `cycle_type_count` μ, which is k!/z_μ, is the sum, over the different parts i of μ, of the
+-- numbers (k - 1)!/(k - i)! times `cycle_type_count` of μ without one part i
 module _ (l : ℕ) (μ : List ℕ) (p : IsPartition μ) (long : length μ ≡ suc l)
     (before : (ρ : List ℕ) → IsPartition ρ → length ρ ≡ l → cycle_type_count ρ * centralizer ρ
     ≡ factorial (size ρ)) where
@@ -271,8 +247,6 @@ pub cycles-sum : (l : ℕ) (μ : List ℕ) → IsPartition μ → length μ ≡ 
     (pos 0)) (after 0 (size μ)) ≡ pos (cycle_type_count μ)
 cycles-sum l μ p e = (cycles-both l μ p e (cycles-exact l)).0
 
--- ---- the closed coefficients of a partition with their signs, as sums over its different parts
-
 pub signed-sum : (μ : List ℕ) (σ : ℤ) (s : ℕ → ℤ) (before : List ℕ → ℤ) (x : ℕ → ℕ) (X : ℕ)
     → ((i : ℕ) → has i μ ≡ true → s i *ℤ before (without_one i μ) ≡ σ *ℤ pos (x i))
     → total (λ (i : ℕ). cond (has i μ) (pos (x i)) (pos 0)) (after 0 (size μ)) ≡ pos X
@@ -289,8 +263,6 @@ signed-sum μ σ s before x X h e =
         ≡ cond b (s i *ℤ before (without_one i μ)) (pos 0)
     by i true f = sym (h i f)
     by i false f = *ℤ-zero σ
-
--- ---- the quotients l!/Π m_i!, k·(l - 1)!/Π m_i! and k!/z_μ are integers
 
 pub orders-whole : (μ : List ℕ) → IsPartition μ → orders_of_parts μ * multiplicity_factorials μ
     ≡ factorial (length μ)

@@ -7,11 +7,11 @@ use Rattle.sym_model.specs.WholeTerms.{WholeTerms}
 use Rattle.sym_model.specs.Weight.{factorial}
 use Rattle.basis_change_laws.specs.AugmentedMonomial.{multiplicity_factorials}
 
--- l!/Π m_i! for a partition with l parts of the multiplicities m_i: the number of distinct orders of its parts
+-- l!/Π m_i!, for a partition with l parts, in which each part i occurs m_i times: the number of distinct rearrangements of its parts
 abbrev pub orders_of_parts : List ℕ → ℕ
 orders_of_parts μ = factorial (length μ) / multiplicity_factorials μ
 
--- k·(l - 1)!/Π m_i!, for a partition of k with l parts of the multiplicities m_i
+-- k·(l - 1)!/Π m_i!, for a partition of k with l parts, in which each part i occurs m_i times
 abbrev pub sized_orders : List ℕ → ℕ
 sized_orders μ = size μ * factorial (length μ - 1) / multiplicity_factorials μ
 
@@ -32,7 +32,7 @@ cycle_type_count μ = factorial (size μ) / centralizer μ
 abbrev pub parity_sign : List ℕ → ℤ
 parity_sign μ = minus_one_to (size μ - length μ)
 
--- (-1)^(k - l)·l!/Π m_i!, for a partition of k with l parts of the multiplicities m_i
+-- (-1)^(k - l)·l!/Π m_i!, for a partition of k with l parts, in which each part i occurs m_i times
 abbrev pub signed_orders : List ℕ → ℤ
 signed_orders μ = parity_sign μ *ℤ pos (orders_of_parts μ)
 

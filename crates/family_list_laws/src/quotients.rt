@@ -1,4 +1,5 @@
-//! The quotients in the closed coefficients of e_k, h_k and p_k are integers.
+//! The quotients in the closed formulas for the expansions of e_k, h_k and p_k in the bases e, h
+//! and p are integers.
 
 ghost use Rattle.std.specs.Prelude.{◌≡◌, ℕ, ◌-◌, ◌*◌, ◌<◌, List, length};
 ghost use Rattle.sym_model.specs.Partition.{IsPartition, size};

@@ -1,6 +1,7 @@
--- The lists of p_k, k!·e_k and k!·h_k in the basis of another family, by closed formulas for the coefficients.
---     listed-fits                  adding the coefficient of the next label never overflows
---     closed-stands                a table with these coefficients is p_k, k!·e_k or k!·h_k (`IsFactor`)
+-- The expansions of p_k, k!·e_k and k!·h_k in another of the bases e, h and p, as lists of terms with coefficients in closed form. A table is a list
+-- of terms in which each label occurs only once and no coefficient is 0.
+--     listed-fits                  if the coefficients are added one partition after another, then no addition overflows
+--     closed-stands                a table with these coefficients is a list of p_k, k!·e_k or k!·h_k (`IsFactor`)
 --     scaled-low, sized-low, cycles-low, ..     bounds for the absolute values of the coefficients
 use Rattle.std.proofs.Common.{◌≡◌, ℕ, ◌-◌, ◌*◌, ◌<◌, ◌≤◌, ◌^◌, List, [], ◌∷◌, ◌++◌, length, refl, sym, ap, ap₂, ◌∙◌, subst, inl, inr, arith, ℤ, pos, cond, ◌+ℤ◌, ◌*ℤ◌, lit<}
 use Rattle.std.specs.Prelude.{FitsSigned, ◌≢◌}
@@ -39,8 +40,6 @@ use Rattle.family_lists.specs.FactorLists.{IsFactor}
 use Rattle.linear_combinations.specs.Gains.{each_by}
 use Rattle.family_lists.proofs.TableLists.{table-stands}
 
--- ---- the list of the partitions of k with their coefficients, built one partition after another
-
 coefficient-absent : (c : List ℕ → ℤ) (labels : List (List ℕ)) (label : List ℕ)
     → (Among label labels → ⊥) → coefficient (each_by c labels) label ≡ pos 0
 coefficient-absent c labels label n =
@@ -51,8 +50,8 @@ coefficient-absent c labels label n =
     ap (λ b. cond b (c μ) (pos 0))
     (same_apart μ label (λ e. n (subst (λ x. Among x labels) e m))))
 
--- if each look-up in `terms` gives c(μ) for a partition μ of k that is listed before `label`, and 0 for all others, adding z to the coefficient of
--- `label`, which is 0, never overflows
+-- suppose that the coefficient in `terms` is c(μ) at each partition μ of k that is listed before `label`, and 0 at all other labels. Then adding z to
+-- the coefficient of `label`, which is 0, never overflows
 pub listed-fits : (c : List ℕ → ℤ) (k : ℕ) (before new : List (List ℕ)) (label key : List ℕ)
     (terms : WholeTerms) (z : ℤ)
     → Finds terms (each_by c before) → before ++ (label ∷ new) ≡ partitions_of k → key ≡ label
@@ -69,8 +68,6 @@ listed-fits c k before new label key terms z h e same r =
     (FallsLexicographically-partitions_within k k k)))))
     r
 
--- ---- the list of all partitions of k with their coefficients, as a polynomial
-
 listed-same : (c d : List ℕ → ℤ) (labels : List (List ℕ))
     → ((μ : List ℕ) → Among μ labels → c μ ≡ d μ) → each_by c labels ≡ each_by d labels
 listed-same c d [] h = refl
@@ -78,7 +75,6 @@ listed-same c d (μ ∷ labels) h =
     ap₂ (λ (z : ℤ) (l : WholeTerms). (μ, z) ∷ l) (h μ (inl refl))
     (listed-same c d labels (λ ν m. h ν (inr m)))
 
--- for a partition μ of k with l parts, and N distinct orders of its parts, k! times (-1)^(k - l)·N is (-1)^(k - l) times k!·N
 times-orders : (k : ℕ) (μ : List ℕ) → size μ ≡ k
     → pos (factorial k) *ℤ signed_orders μ
     ≡ parity_sign μ *ℤ pos (factorial (size μ) * orders_of_parts μ)
@@ -105,7 +101,6 @@ exchanged-stands P k f s =
     (stands-raised P 1 (2 ^ k) (factorial k * 2 ^ k) k (factorial k) (factorial k) f
     (list_over signed_orders k) s one (omega arith))
 
--- ---- the lists of p_k, k!·e_k and k!·h_k in the basis of another family
 more : (k : ℕ) → factorial k ≤ factorial k * 2 ^ k
 more k = times-more (factorial k) (2 ^ k) (power-positive 2 k (omega arith))
 
@@ -141,8 +136,6 @@ pub closed-stands : (target family : Family) (k : ℕ) (terms : WholeTerms) → 
 closed-stands target family k terms n h is e =
     table-stands terms (each_by (closed_coefficient target family) (partitions_of k)) is e
     (polynomial_of target) _ _ k (λ n. polynomial_of family k n) (closed-list target family k n h)
-
--- ---- bounds for the absolute values of the coefficients, for partitions of at most 20 cells
 
 pub some_row : (label : List ℕ) → 0 < size label → 0 < length label
 some_row [] h = absurd (omega arith)

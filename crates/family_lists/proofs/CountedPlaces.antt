@@ -1,5 +1,5 @@
 -- The product of the factorials of the multiplicities of the parts of a partition, computed from the last part to the first.
---     counted-end, counted-next, counted-all     the invariant at each index
+--     counted-end, counted-next, counted-all     the invariant of this loop over the parts (`Counted`)
 --     multiplicities-low, centralizer-low        bounds for the products
 use Rattle.std.proofs.Common.{◌≡◌, ◌⊎◌, ℕ, zero, suc, ◌+◌, ◌*◌, ◌<◌, ◌≤◌, ◌^◌, List, [], ◌∷◌, length, get_or, drop, refl, sym, ap, ap₂, ◌∙◌, subst, inl, inr, arith, lit<, drop-cons}
 use Rattle.std.proofs.Math.ListN.{drop_of_length-le, get_or-eq_default}
@@ -19,8 +19,6 @@ use Rattle.family_list_laws.proofs.PartQuotients.{multiplicities-positive, centr
 use Rattle.family_lists.proofs.MergedLists.{positive-drop, falls-drop}
 use Rattle.std.proofs.Math.Nat.{mul_comm, mul_assoc}
 use Rattle.sym_model.proofs.Parts.{size-drop}
-
--- ---- bounds for the product of the factorials of the multiplicities and for the product of the parts
 
 factor-low : (n m whole most : ℕ) → n * m ≡ whole → 0 < whole → whole ≤ most → m ≤ most
 factor-low zero m whole most e h l = absurd (let z : 0 * m ≡ 0 = omega arith in omega arith)
@@ -49,8 +47,6 @@ product-low label p low =
     (multiplicities-positive label) in
     omega arith
 
--- ---- the parts of a partition from the index i on are a partition
-
 pub rest-partition : (i : ℕ) (parts : List ℕ) → IsPartition parts → IsPartition (drop i parts)
 rest-partition i parts p =
     record { falls = falls-drop i parts p.falls; positive = positive-drop i parts p.positive }
@@ -61,9 +57,8 @@ rest-low i parts p low =
     multiplicities-low (drop i parts)
     (rest-partition i parts p) (let s = size-drop i parts in omega arith)
 
--- ---- the invariant `Counted` of the loop over the parts, from the last part to the first
+-- ---- the invariant `Counted` of the loop over the parts
 
--- if a is greater than the first of weakly decreasing parts, a does not occur among them
 none_above : (a : ℕ) (parts : List ℕ) → Falls parts → get_or parts 0 0 < a → times_in a parts ≡ 0
 none_above a [] f h = refl
 none_above a (b ∷ []) f h = times_in-other a b [] (λ e. omega arith)
@@ -133,8 +128,6 @@ module _ (parts : List ℕ) (product next times i at now : ℕ) (p : IsPartition
   pub counted-next : Counted parts (product * now) (get_or parts i 0) now i
   counted-next = record { product_is = counted-product; next_is = refl; times_is = now-is }
 
-  -- let `product` be the product of the factorials of the multiplicities of the parts after index i, and `now` the multiplicity of part i among the
-  -- parts from i on: for a partition of at most 20 cells, `product`·`now` is below 2^128
   pub counted-fits : size parts ≤ 20 → product * now < 2 ^ 128
   counted-fits low =
       let r = rest-low i parts p low in
@@ -161,8 +154,6 @@ pub counted-all : (parts : List ℕ) (product next times at : ℕ) → at ≡ 0
     → Counted parts product next times at → product ≡ multiplicity_factorials parts
 counted-all parts product next times at e inv =
     inv.product_is ∙ ap (λ k. multiplicity_factorials (drop k parts)) e
-
--- ---- the product of the parts, computed one part after another
 
 pub product-next : (product whole : ℕ) (parts : List ℕ) (at : ℕ) → at < length parts
     → product * product_of_parts (drop at parts) ≡ whole

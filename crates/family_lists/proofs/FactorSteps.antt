@@ -1,6 +1,6 @@
--- The lists of p_k, k!·e_k and k!·h_k in a target basis e, h or p (specs/FactorLists).
+-- The expansions of p_k, k!·e_k and k!·h_k in a target basis e, h or p, as lists of terms (specs/FactorLists).
 --     factor-loose                    the absolute values of the coefficients add up to at most 2^k for p_k, k!·2^k for k!·e_k and k!·h_k
---     own-stands                      the list in the basis of the family itself: one term
+--     own-stands                      the expansion of a multiple of e_k, h_k or p_k in its own basis has one term
 --     factorial-below                 d! is below 2^127 if d is at most 20
 use Rattle.std.proofs.Common.{◌≡◌, ℕ, ◌-◌, ◌*◌, ◌<◌, ◌≤◌, ◌^◌, [], ◌∷◌, arith, pos, pow-suc, zero, suc, lit<}
 use Rattle.sym_model.specs.Polynomial.{Poly, Same}

@@ -1,9 +1,9 @@
 -- Maps from partitions to values, as lists of entries (specs/KeptLists).
 --     entry_found, none_found     the result of a look-up
---     place-found                 if looking up a partition gives an index, the entry at this index has the partition
---     place-missed                if looking up a partition gives None, no entry has the partition
---     lists-kept                  if all values have a property for their partitions, this holds after one more entry is appended
---     list-found                  the property of the value at the index of a partition
+--     place-found                 if looking up a partition gives an index, then the entry at this index has the partition
+--     place-missed                if looking up a partition gives None, then no entry has the partition
+--     lists-kept                  if all entries and a new entry have a property, then all entries have it after the new one is appended
+--     list-found                  if all entries have a property, then a partition and the value at its index have it
 use Rattle.std.proofs.Common.{◌≡◌, ◌⊎◌, ℕ, zero, suc, ◌+◌, ◌<◌, Bool, cond, true, false, List, [], ◌∷◌, ◌++◌, length, get_or, refl, sym, ap, ◌∙◌, subst, inl, inr, arith}
 use Rattle.std.specs.Prelude.{Option, Some, None, IfSome, IfNone, is_some, slice_get, position, nat_eq}
 use Rattle.std.specs.Cmp.Lexicographic.{pointwise, nat_list_eq_equiv}
@@ -16,7 +16,7 @@ use Rattle.sym_model.proofs.Sums.{Among_from_append}
 use Rattle.linear_combinations.specs.Labels.{same_partition}
 use Rattle.family_lists.specs.KeptLists.{AreListsOf, StandsAt, HasKept}
 
--- if looking up the first key that passes the test gives the index i, the key of the entry at i passes the test
+-- if the first key that passes the test is at the index i, then there is an entry at the index i, and its key passes the test
 pub entry_found : {K V : Type 0} (es : List (K × V)) (test : K → Bool) (i : ℕ) → i < length es → position test (keys_of es) ≡ Some i
     → (p : K × V) × (slice_get es i ≡ Some p) × (test p.0 ≡ true)
 entry_found {K} {V} [] test i l h = absurd (omega arith)
@@ -53,7 +53,6 @@ place-found {X} lists label (Some i) e within =
     let f = entry_found lists (pointwise nat_eq label) i within (sym e) in
     (f.0.1, f.1 ∙ ap (λ (x : List ℕ). Some (x, f.0.1)) (sym (same_partition label f.0.0 f.2)))
 
--- if looking up `label` gives None, no entry has the partition `label`
 missed : {X : Type 0} (lists : List (List ℕ × X)) (label : List ℕ) (i at : ℕ) → position_from (pointwise nat_eq label) i (keys_of lists) ≡ None → StandsAt lists label at → ⊥
 missed {X} [] label i at e s = let h = s.1 in cc
 missed {X} (x ∷ lists) label i zero e s =

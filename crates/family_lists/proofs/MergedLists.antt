@@ -1,7 +1,9 @@
--- The merge of two partitions, computed from their first parts on.
---     merged-right, merged-left      the greater of the next parts of both partitions is the next part of the merged list
---     merged-end                     one of the two partitions has no part left
---     written                        the remaining parts of both partitions are appended
+-- The merge of two partitions `more` and `parts`, computed by a loop from their first parts on. Its invariant: the list `done`, followed by the merge
+-- of the parts of `more` from the index i on and of the parts of `parts` from the index j on, is the merge of `more` and `parts`.
+--     merged-right, merged-left      the invariant still holds after the greater one of the next two parts is appended to `done`
+--     merged-end                     if one of the two partitions has no part left, then `done`, followed by the parts that are left of the other
+--                                    one, is the merge
+--     written                        the list is the merge after these parts are appended to it
 use Rattle.std.proofs.Common.{◌≡◌, ◌⊎◌, ℕ, zero, suc, ◌+◌, ◌<◌, ◌≤◌, List, [], ◌∷◌, ◌++◌, length, get_or, take, drop, refl, sym, ap, ◌∙◌, subst, inl, inr, arith, ◌-◌, ap₂, append-nil, append_assoc}
 use Rattle.std.proofs.Math.ListN.{drop_of_length-le}
 use Rattle.std.proofs.lemmas.List.{drop_more, take_rest}
@@ -12,7 +14,6 @@ use Rattle.basis_change_laws.specs.JoinedLists.{merged}
 use Rattle.family_lists.proofs.PartLists.{columns-tail}
 use Rattle.sym_model.proofs.Parts.{falls_more}
 
--- if 0 < c ≤ b, and b is at least the first of `parts`, inserting c into b ∷ parts gives b, followed by `parts` with c inserted
 insert-behind : (c b : ℕ) (parts : List ℕ) → 0 < c → c ≤ b → get_or parts 0 0 ≤ b → insert_part c (b ∷ parts) ≡ b ∷ insert_part c parts
 insert-behind zero b parts p h f = absurd (omega arith)
 insert-behind (suc a) b parts p h f = by (cases_lt (suc a) b)
@@ -36,8 +37,6 @@ first-insert (suc a) b (d ∷ parts) p h f = by (cases_lt (suc a) d)
     by (inl l) = subst (λ (ps : List ℕ). get_or ps 0 0 ≤ b) (sym (insert_part_below a d parts l)) f
     by (inr l) = subst (λ (ps : List ℕ). get_or ps 0 0 ≤ b) (sym (insert_part_above a d parts l)) h
 
--- if the entries of `more` are positive, b ∷ more is weakly decreasing, and b is at least the first of `parts`, then the merge of `more` and b ∷
--- parts is b, followed by the merge of `more` and `parts`
 merged-front : (more : List ℕ) (b : ℕ) (parts : List ℕ) → ArePositive more → Falls (b ∷ more) → get_or parts 0 0 ≤ b → merged more (b ∷ parts) ≡ b ∷ merged more parts
 merged-front [] b parts p f g = refl
 merged-front (c ∷ more) b parts p f g =
@@ -54,7 +53,7 @@ merged-nothing (c ∷ more) p f =
     insert-nothing zero more h = absurd (omega arith)
     insert-nothing (suc c) more h = refl
 
--- ---- lists of positive, weakly decreasing numbers: the numbers from an index on, and the merge of two such lists
+-- ---- lists of positive, weakly decreasing numbers, and the merge of two such lists
 
 pub positive-drop : (i : ℕ) (xs : List ℕ) → ArePositive xs → ArePositive (drop i xs)
 positive-drop zero xs p = p
@@ -67,7 +66,6 @@ falls-drop (suc i) [] f = tt
 falls-drop (suc i) (x ∷ xs) f = falls-drop i xs (Falls_tail x xs f)
 
 module _ (all more parts : List ℕ) (i j : ℕ) (p : IsPartition more) (q : IsPartition parts) (done : List ℕ) (so_far : done ++ merged (drop i more) (drop j parts) ≡ all) where
-  -- if the next part of `parts`, at index j, is greater than the next part of `more`, at index i, it is the next part of the merged list `all`
   pub merged-right : i < length more → j < length parts → get_or more i 0 < get_or parts j 0 → (done ++ get_or parts j 0 ∷ []) ++ merged (drop i more) (drop (j + 1) parts) ≡ all
   merged-right h k l =
       let x = drop_more more i 0 h in
@@ -82,8 +80,6 @@ module _ (all more parts : List ℕ) (i j : ℕ) (p : IsPartition more) (q : IsP
       (subst (λ (ps : List ℕ). Falls (get_or parts j 0 ∷ ps)) (sym x) (omega arith, f)) (columns-tail (get_or parts j 0) (drop (j + 1) parts) (record { falls = g; positive = t }))))
       ∙ so_far
 
-  -- if the next part of `parts`, at index j, is not greater than the next part of `more`, at index i, the latter is the next part of the merged list
-  -- `all`
   pub merged-left : i < length more → j < length parts → get_or parts j 0 ≤ get_or more i 0 → (done ++ get_or more i 0 ∷ []) ++ merged (drop (i + 1) more) (drop j parts) ≡ all
   merged-left h k l =
       let x = drop_more more i 0 h in
@@ -102,8 +98,6 @@ module _ (all more parts : List ℕ) (i j : ℕ) (p : IsPartition more) (q : IsP
       in_front_of (suc k) [] o g = refl
       in_front_of (suc k) (d ∷ ps) o g = insert_part_above k d ps g
 
-  -- if `more` has no part from index i on, or `parts` none from index j on, the merged list `all` is `done`, followed by the parts of `more` from i
-  -- on and those of `parts` from j on
   pub merged-end : (length more ≤ i) ⊎ (length parts ≤ j) → (done ++ drop i more) ++ drop j parts ≡ all
   merged-end (inl h) =
       let x = drop_of_length-le more h in

@@ -7,8 +7,8 @@ use Rattle.family_list_laws.proofs.PartQuotients.{multiplicities-positive}
 use native.Mathlib.Nat.{mul-le-mul_left}
 use Rattle.std.proofs.Math.Nat.{mul_assoc}
 
--- let `times` be the number of times that part `at` occurs from the index `at` on. If `product`, times the product of the factorials of the
--- multiplicities of the parts from the index `at` on, is `whole`, then this also holds for `product`·`times` and the parts from the index `at` + 1 on
+-- let M(i) be the product of the factorials of the multiplicities of the parts from the index i on, and let `times` be the number of times that the
+-- part at the index `at` occurs from `at` on. If `product`·M(`at`) = `whole`, then `product`·`times`·M(`at` + 1) = `whole`
 pub multiplicity-next : (product times whole : ℕ) (parts : List ℕ) (at : ℕ) → at < length parts
     → product * multiplicity_factorials (drop at parts) ≡ whole
     → times ≡ times_in (get_or parts at 0) (drop at parts)

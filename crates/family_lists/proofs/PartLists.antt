@@ -1,7 +1,9 @@
--- Lists of terms that are q times a given polynomial if each label is read as the product of the polynomials P_k over its parts k (`Stands`).
+-- Lists of terms that are q times a given polynomial if each label is read as the product of the polynomials P_k over its parts k (`Stands`). A table
+-- is a list of terms in which each label occurs only once and no coefficient is 0.
 --     `stands-itself`, `stands-number`    a table with one term
 --     `parts-none`, `parts-next`          the list for a product of factors: without any factor, and after one more factor is multiplied
---     `parts-large`                       a lower bound if multiplying by one more factor overflows
+--     `parts-large`                       if multiplying by one more factor overflows, then d!·(2d)^d is 2^127 or more; here d is the degree of the
+--                                         product
 use Rattle.std.proofs.Common.{◌≡◌, ℕ, ◌+◌, ◌*◌, ◌^◌, ◌<◌, ◌≤◌, List, [], ◌∷◌, sym, ap, subst, inl, inr, arith, ℤ, pos, ◌*ℤ◌}
 use Rattle.std.specs.Prelude.{nat_abs}
 use Rattle.sym_model.specs.Polynomial.{Poly, Same, In, one, pair, scale, times}
@@ -22,7 +24,6 @@ use native.Mathlib.Nat.{mul-le-mul_left, mul-le-mul_right}
 use lib.IntN.{+ℤ_idr}
 use Rattle.std.proofs.Math.Nat.{mul_assoc}
 
--- if `label` has the property P, so has each label of the list with the one term (label, c)
 pub one_label : (P : List ℕ → Type 0) (label : List ℕ) (c : ℤ) → P label → HaveLabels P ((label, c) ∷ [])
 one_label P label c here t (inl e) = subst (λ (u : List ℕ × ℤ). P u.0) (sym e) here
 one_label P label c here t (inr m) = absurd m
@@ -36,7 +37,6 @@ parts-none P F terms is h =
       labels = one_label (IsLow 0) [] (pos 1) (record { partition = record { falls = tt; positive = tt }; low = omega arith });
     })
 
--- in a partition k ∷ rest, the first part of `rest` is at most k
 pub columns-tail : (k : ℕ) (rest : List ℕ) → IsPartition (k ∷ rest) → columns rest ≤ k
 columns-tail k [] p = omega arith
 columns-tail k (b ∷ rest) p = p.falls.0

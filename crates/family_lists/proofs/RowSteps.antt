@@ -1,5 +1,5 @@
--- Products of two lists of terms: the product of two labels is the label that has the parts of both. Lemmas on such products, and on the case that a
--- multiple of such a product overflows when it is added to a table.
+-- Products of two lists of terms: the product of two labels is the label that has the parts of both. Lemmas on such products, and on the case that
+-- adding a multiple of such a product to a list overflows: at some label, |old coefficient| + Σ|added coefficients| is 2^127 or more.
 use Rattle.std.proofs.Common.{◌≡◌, ℕ, zero, suc, ◌+◌, ◌*◌, ◌^◌, ◌≤◌, cond, List, [], ◌∷◌, ◌++◌, length, sym, ◌∙◌, ap, ap₂, refl, inl, arith, ℤ, pos, negsuc, ◌*ℤ◌}
 use Rattle.std.specs.Prelude.{nat_abs}
 use Rattle.std.proofs.lemmas.Int.{unsigned_abs-mul}
@@ -37,14 +37,14 @@ scaled-row k x c (t ∷ V) =
 pub row-gained : (k : List ℕ) (x c : ℤ) (V : WholeTerms) → row k (x *ℤ c) V ≡ scaled x (row k c V)
 row-gained k x c V = ap (λ z. row k z V) (*ℤ_comm x c) ∙ sym (scaled-row k x c V)
 
--- replacing each label k of W by the product of c·k and V gives the product of c·W and V
+-- let V and W be lists of terms. If each label k of W is replaced by the product of V and the term with the label k and the coefficient c, then the
+-- result is the product of c·W and V
 pub products-gained : (c : ℤ) (W V : WholeTerms) → replaced (λ k. row k c V) W ≡ joined (scale c W) V
 products-gained c [] V = refl
 products-gained c (t ∷ W) V = ap₂ (λ (a b : WholeTerms). a ++ b) (scaled-row t.0 t.1 c V) (products-gained c W V)
 
--- ---- the case that adding a product of lists to a table overflows
-
--- if V is not empty and |x·c| is at least 2^127, adding x times the product of c·k and V, for a label k, overflows
+-- let V be a list of terms that is not empty, and let |x·c| be at least 2^127. Multiply V by the term with the label k and the coefficient c, and
+-- then by the number x. Adding the result to the list `old` overflows
 pub large-row : (old : WholeTerms) (k : List ℕ) (x c : ℤ) (V : WholeTerms) → IsWholeTable V → (length V ≡ 0 → ⊥) → 2 ^ 127 ≤ nat_abs (x *ℤ c) → Overflows equal old (scaled x (row k c V))
 large-row old k x c [] is some h = absurd (some refl)
 large-row old k x c (t ∷ V) is some h =

@@ -1,4 +1,5 @@
--- Properties of a list W that also hold for a table `terms` with the same coefficients.
+-- Properties of a list W of terms that also hold for a table `terms` with the same coefficients. A table is a list of terms in which each label
+-- occurs only once and no coefficient is 0.
 --     `table-few`        the absolute values of the coefficients of the table add up to at most those of the terms of W
 --     `table-stands`     if W is q times f (`Stands`), so is the table
 --     `stands-greatest`  if a list is q times f with labels of at most d cells, its greatest label has at most d cells
@@ -33,8 +34,6 @@ module _ (terms W : WholeTerms) (is : IsWholeTable terms) (e : Same terms W) whe
     few = let x = table-few in let y = h.few in omega arith;
     labels = labels-same (IsLow d) terms W is e h.labels;
   }
-
--- ---- the sizes of the labels of a list that is q times f (`Stands`)
 
 pub stands-within : (P : ℕ → ℕ → Poly) (q A d : ℕ) (f : ℕ → Poly) (terms : WholeTerms) → Stands P q A d f terms → AreWithin d terms
 stands-within P q A d f terms h t m = (h.labels t m).low

@@ -1,6 +1,6 @@
--- Sums of the absolute values of the coefficients of a list.
---     labels_few           the absolute values of the coefficients of different labels add up to at most the sum of the absolute values of all terms
---     coefficient-few      the absolute value of the coefficient of one label is at most the sum of the absolute values of all terms
+-- Sums of the absolute values of the coefficients of a list; `absolute_total` is the sum over all terms of the list.
+--     labels_few           for different labels, the absolute values of the coefficients at these labels add up to at most `absolute_total`
+--     coefficient-few      the absolute value of the coefficient at one label is at most `absolute_total`
 use Rattle.std.proofs.Common.{◌≡◌, ◌⊎◌, ℕ, ◌+◌, ◌≤◌, Bool, true, false, cond, List, [], ◌∷◌, map, ap, subst, refl, inl, inr, arith, ℤ, pos, ◌+ℤ◌}
 use Rattle.std.specs.Prelude.{nat_abs}
 use Rattle.std.proofs.lemmas.Int.{ints}
@@ -44,8 +44,8 @@ labels_more label z W (l ∷ ls) = let r = labels_more label z W ls in let s = o
     one true c = omega (arith, ints)
     one false c = omega (arith, ints)
 
--- for the different labels `ls`, the absolute values of their coefficients in the list W add up to at most the sum of the absolute values of all
--- terms of W
+-- if no label occurs twice in `ls`, the absolute values of the coefficients of W at these labels add up to at most the sum of the absolute values of
+-- the coefficients of all terms of W
 pub labels_few : (W : WholeTerms) (ls : List (List ℕ)) → Once ls → size (map (λ (l : List ℕ). nat_abs (coefficient W l)) ls) ≤ absolute_total W
 labels_few [] ls o = omega (arith, labels_zero ls)
 labels_few (t ∷ W) ls o =
@@ -54,7 +54,6 @@ labels_few (t ∷ W) ls o =
     let m = labels_more t.0 t.1 W ls in
     omega arith
 
--- the absolute value of the coefficient of ν in the list W is at most the sum of the absolute values of all terms of W
 pub coefficient-few : (W : WholeTerms) (ν : List ℕ) → nat_abs (coefficient W ν) ≤ absolute_total W
 coefficient-few [] ν = omega arith
 coefficient-few (t ∷ W) ν = let r = coefficient-few W ν in let s = one (same t.0 ν) (coefficient W ν) in omega arith

@@ -20,20 +20,20 @@ over_number Elementary k = factorial k
 over_number Complete k = factorial k
 over_number PowerSum k = 1
 
--- a bound for the sum of the absolute values of the coefficients in the list of p_k, k!·e_k or k!·h_k, the one of the family
+-- a bound for the sum of the absolute values of the coefficients in an expansion of k!·e_k, k!·h_k or p_k, according to the family e, h or p
 abbrev pub most_in : Family → ℕ → ℕ
 most_in Elementary k = factorial k * 2 ^ k
 most_in Complete k = factorial k * 2 ^ k
 most_in PowerSum k = 2 ^ k - 1
 
--- the list is p_k, k!·e_k or k!·h_k, the one of the family; a label of the list stands for the product of the polynomials P over its parts. The
--- absolute values of the coefficients add up to at most `most_in`, and the labels are partitions of at most k cells.
+-- the list is an expansion of k!·e_k, k!·h_k or p_k, according to the family e, h or p; a label of the list denotes the product of the polynomials P
+-- over its parts. The absolute values of the coefficients add up to at most `most_in family k`, and the labels are partitions of at most k cells.
 abbrev pub IsFactor : (ℕ → ℕ → Poly) → Family → ℕ → WholeTerms → Type 0
 IsFactor P family k list =
     Stands P (over_number family k) (most_in family k) k (λ n. polynomial_of family k n) list
 
--- for k from 1 to d - 1, the list at index k is p_k, k!·e_k or k!·h_k, the one of the family, and the absolute values of its coefficients add up to
--- at most 2^k - 1 for p_k, k!·2^k for k!·e_k and k!·h_k
+-- for each k from 1 to d - 1, the list at the index k is an expansion of k!·e_k, k!·h_k or p_k, according to the family e, h or p, with the bounds of
+-- `IsFactor`: the absolute values of its coefficients add up to at most 2^k - 1 for p_k, and to at most k!·2^k for k!·e_k and k!·h_k
 abbrev pub AreFactors : (ℕ → ℕ → Poly) → Family → ℕ → List WholeTerms → Type 0
 AreFactors P family d lists =
     (k : ℕ) → 0 < k → k < d → IsFactor P family k (list_at lists k)

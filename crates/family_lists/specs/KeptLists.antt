@@ -2,11 +2,11 @@
 use Rattle.std.specs.Prelude.{◌≡◌, ◌⊎◌, ℕ, List, [], ◌∷◌, ◌++◌, slice_get, Some}
 use Rattle.sym_model.specs.Sum.{Among}
 
--- the property holds of the partition and the value of each entry
+-- the statement that the property `IsListOf` holds of the partition and the value of each entry
 abbrev pub AreListsOf : {X : Type 0} → (List ℕ → X → Type 0) → List (List ℕ × X) → Type 0
 AreListsOf {X} IsListOf lists = (l : List ℕ × X) → Among l lists → IsListOf l.0 l.1
 
--- the entry at this index has this partition, with some value
+-- the entry at the index `at` has the partition `parts`, with some value
 abbrev pub StandsAt : {X : Type 0} → List (List ℕ × X) → List ℕ → ℕ → Type 0
 StandsAt {X} lists parts at = (value : X) × (slice_get lists at ≡ Some (parts, value))
 

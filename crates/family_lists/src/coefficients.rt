@@ -36,7 +36,7 @@ pub fn signed(exponent: u16, number: u128) -> Int
 }
 
 /// The exponent of -1 in the coefficient of `label`, a partition of k, if e_k, h_k or p_k (`family`
-/// says which) is expanded in the basis of `target`.
+/// says which) is expanded in the basis e, h or p of `target`.
 fn exponent(target: Family, family: Family, label: &Partition) -> u16
     requires { 0 < size label.now }
     ensures { result ≡ sign_exponent target family label.now }
@@ -104,7 +104,7 @@ fn outside_p(family: Family, label: &Partition) -> u128
 }
 
 /// The absolute value of the coefficient of `label`, a partition of k, if p_k, k!·e_k or k!·h_k
-/// (`family` says which) is expanded in the basis of `target`.
+/// (`family` says which) is expanded in the basis e, h or p of `target`.
 fn absolute(target: Family, family: Family, label: &Partition) -> u128
     requires some { 0 < size label.now }
     requires low { size label.now ≤ 20 }
@@ -119,7 +119,7 @@ fn absolute(target: Family, family: Family, label: &Partition) -> u128
 }
 
 /// The coefficient of `label`, a partition of k, if p_k, k!·e_k or k!·h_k (`family` says which) is
-/// expanded in the basis of another family `target`.
+/// expanded in another one of the bases e, h and p, that of `target`.
 pub(crate) fn coefficient(target: Family, family: Family, label: &Partition) -> Int
     requires some { 0 < size label.now }
     requires low { size label.now ≤ 20 }

@@ -35,8 +35,8 @@ fn own_list(alloc: Global, family: Family, k: u16) -> Result<Whole, SumFault>
     single(alloc, &[k], over(family, k).get())
 }
 
-/// The list of p_k, k!·e_k or k!·h_k (`family` says which) in the basis of another family `target`,
-/// by closed formulas for the coefficients at the partitions of k.
+/// The list of p_k, k!·e_k or k!·h_k (`family` says which) in another one of the bases e, h and p,
+/// that of `target`, by closed formulas for the coefficients at the partitions of k.
 fn closed_list(alloc: Global, target: Family, family: Family, k: u16) -> Result<Whole, SumFault>
     requires other { target ≢ family }
     requires low { (0 < k) × (k ≤ 20) }
@@ -53,8 +53,8 @@ fn closed_list(alloc: Global, target: Family, family: Family, k: u16) -> Result<
     Ok(list)
 }
 
-/// The list of p_k, k!·e_k or k!·h_k (`family` says which) in the basis of `target`, for k of at
-/// most 20; the empty list for k = 0. `Large` is never returned.
+/// The list of p_k, k!·e_k or k!·h_k (`family` says which) in the basis e, h or p of `target`, for
+/// k of at most 20; the empty list for k = 0. `Large` is never returned.
 ///
 /// Example: 2!·h_2 in p is p_1^2 + p_2.
 pub fn factor_list(alloc: Global, target: Family, family: Family, k: u16) -> Result<Whole, SumFault>
@@ -94,8 +94,8 @@ fn lists_up_to(
     Ok(lists)
 }
 
-/// The lists of p_1, .., p_d in the basis of `target`, the list of p_k at the index k, for d of at
-/// most 20. `Large` is never returned.
+/// The lists of p_1, .., p_d in the basis e, h or p of `target`, the list of p_k at the index k,
+/// for d of at most 20. `Large` is never returned.
 pub fn power_sums(alloc: Global, target: Family, d: u16) -> Result<Vec<Whole>, SumFault>
     requires { d ≤ 20 }
     ensures length { IfOk result (λ lists. vec_len lists ≡ d + 1) }

@@ -1,5 +1,6 @@
 //! Lists of terms in the basis e, h or p. The product of two elements of such a basis is the
-//! element whose label has the parts of both labels.
+//! element whose label has the parts of both labels. A table is a list of terms in which each label
+//! occurs only once and no coefficient is 0.
 //!
 //! What is proved:
 //!

@@ -53,7 +53,7 @@ pub fn put_merged(buffer: &mut Vec<u16>, more: &[u16], parts: &[u16]) -> Result<
 /// Adds to `sum` the product of z·`left` and the list `right`: for each term c·μ of `right`, z·c at
 /// the label that has the parts of `left` and of μ. The size of `left` and the greatest size of a
 /// label of `right` add up to at most 512. The parts are joined in one vector, which is used again
-/// for each term and has room for a short label from the start.
+/// for each term; its capacity is enough for a short label from the start.
 ///
 /// Returns `Large` only if, at some label, the absolute values of the old coefficient and of the
 /// terms to be added have a sum of 2^127 or more. On an error some of the terms have been added.

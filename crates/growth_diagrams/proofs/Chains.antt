@@ -1,11 +1,11 @@
--- The tableau of a chain of shapes (`tableau_of_chain`), one number after another.
+-- The tableau of a chain of shapes (`tableau_of_chain`): each number k is appended to the row in which the shape k of the chain is longer than the
+-- shape before it.
 use Rattle.std.proofs.Common.{◌≡◌, ℕ, suc, ◌+◌, ◌≤◌, List, length, ◌∙◌, ap, ap₂, sym, arith}
 use Rattle.std.proofs.lemmas.List.{length-map}
 use Rattle.sym_model.specs.Growth.{grown, tableau_of_chain, with_end}
 use Rattle.sym_model.specs.Tableau.{shape_of}
 use Rattle.insertion_laws.proofs.Removals.{grown-within}
 
--- if `rows` have the shape `small`, and i is the first row in which `large` is longer than `small`, i is at most the number of rows
 pub row_there :
     (rows : List (List ℕ)) (large small : List ℕ) (i count : ℕ) → shape_of rows ≡ small → i ≡ grown large small → count ≡ length rows
     → i ≤ count

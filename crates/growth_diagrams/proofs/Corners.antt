@@ -1,4 +1,5 @@
--- The functions of corner.rt row by row: the union, a cell added, and the first row that is longer.
+-- The functions of corner.rt row by row: the union of two shapes, a shape with one cell added, and the first row that is longer in one shape than in
+-- another.
 use Rattle.std.proofs.Common.{◌≡◌, ℕ, zero, suc, ◌+◌, ◌<◌, ◌≤◌, max, List, [], ◌∷◌, ◌++◌, length, get_or, ◌∙◌, ap, refl, arith}
 use Rattle.std.proofs.Math.ListN.{set}
 use Rattle.sym_model.specs.Partition.{ArePositive, size}
@@ -42,7 +43,6 @@ grown-none (a ∷ large) [] h p = let z = h 0 (omega arith) in let q = p.0 in ab
 grown-none (a ∷ large) (b ∷ small) h p =
     grown-below a b large small (h 0 (omega arith)) ∙ ap suc (grown-none large small (λ k n. h (suc k) (omega arith)) p.1)
 
--- if v is the length of row i of the shape s, v + 1 is at most the size of s with a cell added in row i
 pub cell_fits : (i : ℕ) (s : List ℕ) (v : ℕ) → i < length s → v ≡ get_or s i v → v + 1 ≤ size (with_cell i s)
 cell_fits i [] v l e = absurd (omega arith)
 cell_fits zero (a ∷ s) v l e = omega arith

@@ -56,7 +56,6 @@ corner_next w (suc i) k a lower left right f l m e p q r =
     ∙ ap (at_corner (letter w (suc i) == suc k) (growth_shape w i k) (growth_shape w i (suc k))) r
     ∙ ap (growth_shape w (suc i)) (sym s)
 
--- the shape at the index k of line i of the grid of w is the growth shape at (i, k)
 pub shape_in : (w : List ℕ) (line : List (List ℕ)) (i k here : ℕ) (x : List ℕ) → line ≡ grid_line w i → here ≡ k → k ≤ length w
     → x ≡ get_or line here x → x ≡ growth_shape w i k
 shape_in w line i k here x e f l g = g ∙ ap₂ (λ (m : List (List ℕ)) (n : ℕ). get_or m n x) e f ∙ get-line w i k x l

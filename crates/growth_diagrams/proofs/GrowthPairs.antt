@@ -1,4 +1,4 @@
--- The insertion tableau and the recording tableau of a permutation, read from its growth shapes, and those of its inverse.
+-- The insertion tableaux and the recording tableaux of a permutation and of its inverse, read from the growth shapes of the permutation.
 use Rattle.std.proofs.Common.{◌≡◌, ℕ, zero, suc, ◌+◌, ◌-◌, ◌<◌, ◌≤◌, ◌==◌, Bool, cond, List, [], ◌∷◌, ◌++◌, length, take, get_or, Some, ◌∙◌, ap, ap₂, sym, refl, subst, inl, inr, arith, nat_le}
 use Rattle.std.proofs.lemmas.Bool.{cases_lt, cases_eq, le-leb, lt-leb, eq-eqb, ne_eqb}
 use Rattle.std.proofs.lemmas.List.{length-take-le, nil_from_length}
@@ -19,7 +19,6 @@ use Rattle.sym_model.proofs.Contents.{times_in-none}
 
 -- ---- the growth grid of the inverse permutation
 
--- if v and w are inverse and w has the letter j + 1 at the index i, counted from 0, then v has the letter i + 1 at the index j
 inverse-place : (v w : List ℕ) (i j : ℕ) → ((k : ℕ) → 1 ≤ k → k ≤ length w → letter v (letter w k) ≡ k) → i < length w
     → letter w (suc i) ≡ suc j → letter v (suc j) ≡ suc i
 inverse-place v w i j h l e = ap (letter v) (sym e) ∙ h (suc i) (omega arith) (omega arith)
@@ -169,7 +168,7 @@ tableau_read w p (suc j) l =
     tableau-next j w p.different (p.there j l)
     ∙ ap (with_end (grown (shape_of (tableau_of (suc j) w)) (shape_of (tableau_of j w))) (suc j)) (tableau_read w p j (omega arith))
 
--- ---- the recording tableau is read from the last column of the growth grid
+-- ---- the recording tableau is read from the last column of the growth grid, and the insertion tableau from its last line
 
 recorded_next : (a : ℕ) (u : List ℕ)
     → (insertion_pair (u ++ a ∷ [])).1
@@ -195,8 +194,6 @@ recorded_read w (suc i) l =
     ∙ ap₂ (λ (k : ℕ) (r : List (List ℕ)). with_end (grown (shape_of (insertion_pair (take (suc i) w)).0) (shape_of (insertion_pair (take i w)).0)) k r) n
     (recorded_read w i (omega arith))
 
--- ---- growth shapes are shapes of insertion tableaux
-
 shape_grown : (w : List ℕ) (i j : ℕ) → IsPerm w → i ≤ length w → j ≤ length w → shape_at w i j ≡ growth_shape w i j
 shape_grown w i j p l m = grown-shape w (shape_at w) (shapes_grown w p.different p.no_zero) i j l m
 
@@ -205,7 +202,6 @@ pub growth-shape : (w : List ℕ) (i j : ℕ) → IsPerm w → i ≤ length w �
     → growth_shape w i j ≡ shape_of (insertion_pair (at_most j (take i w))).0
 growth-shape w i j p l m = sym (shape_grown w i j p l m) ∙ ap shape_of (sym (first-tableau (at_most j (take i w)) 1 [] []))
 
--- the growth shape of w at (n, j), where n is the length of w, is the shape of the insertion tableau of the letters of w that are at most j
 line_shape : (w : List ℕ) → IsPerm w → (j : ℕ) → j ≤ length w → shape_of (tableau_of j w) ≡ growth_shape w (length w) j
 line_shape w p j l = ap (λ v. shape_of (tableau_of j v)) (sym (take-length w)) ∙ shape_grown w (length w) j p (omega arith) l
 
@@ -223,7 +219,6 @@ first_of_grid w p =
     let n = length w in
     first-tableau w 1 [] [] ∙ ap (inserted_word []) (sym (at_most_all n w p.at_most_n)) ∙ line_tableau w p n (omega arith)
 
--- the growth shape of w at (i, n), where n is the length of w, is the shape of the insertion tableau of the first i letters of w
 column_shape : (w : List ℕ) → IsPerm w → (i : ℕ) → i ≤ length w → shape_of (insertion_pair (take i w)).0 ≡ growth_shape w i (length w)
 column_shape w p i l =
     let n = length w in

@@ -10,8 +10,6 @@ use Rattle.insertion_laws.proofs.Removals.{grown-here, grown-below}
 use Rattle.sym_model.specs.Growth.{grown, with_end}
 use Rattle.sym_model.specs.Bounded.{AreBelow}
 
--- ---- tableaux whose letters are all smaller than m (`RowsBelow`)
-
 below_with : (m a : ℕ) (row : List ℕ) → a < m → AreBelow m row → AreBelow m (row_with a row)
 below_with m a [] l h = (l, tt)
 below_with m a (x ∷ row) l h = elim (cases_lt a x) [
@@ -34,13 +32,10 @@ below_inserted m a (row ∷ rows) l h = (below_with m a row l h.0, by (bumped a 
     by None e rec = subst (RowsBelow m) (sym (inserted-none rows)) h.1
     by (Some b) e rec = rec b (bumped_below m a b row h.0 e)
 
--- ---- a row with the largest letter m appended
-
 none_bumped : (m : ℕ) (row : List ℕ) → AreBelow m row → bumped m row ≡ None
 none_bumped m [] h = refl
 none_bumped m (x ∷ row) h = bumped-more m x row (omega (arith, h.0)) ∙ none_bumped m row h.1
 
--- if a < m and inserting a into the row replaces no letter, inserting a into the row with m appended replaces m
 end_taken : (m a : ℕ) (row : List ℕ) → a < m → bumped a row ≡ None
     → (bumped a (row ++ m ∷ []) ≡ Some m) × (row_with a (row ++ m ∷ []) ≡ row_with a row)
 end_taken m a [] l e = (bumped-less a m [] l, with-less a m [] l)
@@ -53,7 +48,6 @@ end_taken m a (x ∷ row) l e = elim (cases_lt a x) [
       )
 ]
 
--- if inserting a into the row replaces b, inserting a into the row with the letters `more` appended also replaces b
 end_kept : (a b : ℕ) (row more : List ℕ) → bumped a row ≡ Some b
     → (bumped a (row ++ more) ≡ Some b) × (row_with a (row ++ more) ≡ row_with a row ++ more)
 end_kept a b [] more e = cc

@@ -49,8 +49,6 @@ pub record IsSquare (j a : ℕ) (u : List ℕ) (small large : List (List ℕ)) :
   pub rule : shape_of (after_letter (suc j) a large)
       ≡ at_corner (a == suc j) (shape_of small) (shape_of large) (shape_of (after_letter j a small))
 
--- let `more` be `small` with the letter a inserted if a ≤ j, and `last` be `large` with a inserted if a ≤ j + 1 (`after_letter`): if `Extends` holds
--- for `more` and `last`, and the shapes of the four tableaux satisfy the local rule, then `IsSquare` holds
 from_parts :
     (j a : ℕ) (u : List ℕ) (small large more last : List (List ℕ)) → after_letter j a small ≡ more → after_letter (suc j) a large ≡ last
     → Extends (suc j) (u ++ a ∷ []) more last
@@ -63,8 +61,6 @@ from_parts j a u small large more last e f n r =
       rule = ap shape_of f ∙ r ∙ ap (λ (x : List (List ℕ)). at_corner (a == suc j) (shape_of small) (shape_of large) (shape_of x)) (sym e);
     }
 
--- the local rule (`IsSquare`) for a < m = j + 1, if all letters of `small` are less than m, and `large` is `small` or `small` with m appended to a
--- row
 square_less :
     (j a : ℕ) (u : List ℕ) (small large : List (List ℕ)) → RowsBelow (suc j) small → a < suc j → Extends (suc j) u small large
     → IsSquare j a u small large
@@ -100,8 +96,6 @@ square_less j a u small large b l (ended t k n e) =
           ∙ ap₂ (λ (x y : List ℕ). at_corner (a == suc j) s x y) (sym μ) (sym c.is))
     ]
 
--- the local rule (`IsSquare`) for a = m = j + 1, if m occurs once in u with a appended, all letters of `small` are less than m, and `large` is
--- `small` or `small` with m appended to a row
 square_same :
     (j a : ℕ) (u : List ℕ) (small large : List (List ℕ)) → RowsBelow (suc j) small → a ≡ suc j → times_in (suc j) (u ++ a ∷ []) ≤ 1
     → Extends (suc j) u small large → IsSquare j a u small large
@@ -114,7 +108,6 @@ square_same j a u small large b l o (alone t e) =
     (shape-last 0 (suc j) small ∙ ap (λ t. cond t (with_cell 0 s) s) (sym (eq-eqb a (suc j) l)) ∙ sym (corner-equal (a == suc j) s)
     ∙ ap (λ (x : List ℕ). at_corner (a == suc j) s x s) (ap shape_of (sym e)))
 
--- the local rule (`IsSquare`) for a > m = j + 1, if `large` is `small` or `small` with m appended to a row
 square_more :
     (j a : ℕ) (u : List ℕ) (small large : List (List ℕ)) → suc j < a → Extends (suc j) u small large → IsSquare j a u small large
 square_more j a u small large l (alone t e) =
@@ -143,7 +136,7 @@ square j a u small large b o h = elim (cases_lt a (suc j)) [
   ]
 ]
 
--- ---- the letters of a word inserted one after another: the tableau of those that are at most j, and of those that are at most j + 1
+-- ---- the letters of a word that are at most j, or at most j + 1, are inserted one after another
 
 after-more : (j a : ℕ) (v : List ℕ) (rows : List (List ℕ)) → inserted_word rows (at_most j (a ∷ v)) ≡ inserted_word (after_letter j a rows) (at_most j v)
 after-more j a v rows = ap (inserted_word rows) (at_most-append j (a ∷ []) v) ∙ word-append (at_most j (a ∷ [])) (at_most j v) rows
@@ -237,8 +230,6 @@ shapes_grown w d z =
           ∙ ap (λ a. at_corner (a == suc j) (shape_at w i j) (shape_at w i (suc j)) (shape_at w (suc i) j))
           (get_or_default w i 0 (suc i) l ∙ ap (λ n. get_or w n (suc i)) e);
     }
-
--- ---- shapes that satisfy `AreGrown` are the growth shapes
 
 pub grown-shape : (w : List ℕ) (s : ℕ → ℕ → List ℕ) → AreGrown w s → (i j : ℕ) → i ≤ length w → j ≤ length w → s i j ≡ growth_shape w i j
 grown-shape w s g zero j l m = g.top_edge j

@@ -1,5 +1,5 @@
--- The insertion tableau and the recording tableau of a permutation are standard, and are those of the chains of shapes in the last line and in the
--- last column of its growth grid.
+-- The insertion tableau and the recording tableau of a permutation are standard. They are the tableaux of the chains of shapes in the last line and
+-- in the last column of the growth grid of the permutation.
 use Rattle.std.proofs.Common.{◌≡◌, ℕ, zero, suc, ◌+◌, ◌<◌, ◌≤◌, ◌==◌, cond, List, [], ◌∷◌, ◌++◌, length, ◌∙◌, ap, sym, refl, subst, inl, inr, arith}
 use Rattle.std.proofs.lemmas.Bool.{cases_eq, eq-eqb, ne_eqb}
 use Rattle.sym_model.specs.Insertion.{insertion_pair}

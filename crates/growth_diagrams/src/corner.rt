@@ -9,8 +9,8 @@ use partitions::Partition;
 use std::alloc::Global;
 
 /// The growth shape at the last corner of a square, given the shape `lower` at the opposite corner
-/// and the shapes `left` and `right` at the other two corners; `marked` says whether the square is
-/// marked. Fails only if memory runs out.
+/// and the shapes `left` and `right` at the other two corners. `marked` says whether the square is
+/// that of a pair (i, w(i)) of the permutation w. Fails only if memory runs out.
 pub(crate) fn shape_at_corner(
     alloc: Global,
     marked: bool,

@@ -54,9 +54,9 @@ impl Grid {
         self.lines[usize::from(i)].as_slice()
     }
 
-    /// The growth shape at (i, j), for i and j up to the number of letters. It is the shape of the
-    /// insertion tableau of a word: the first i letters of the permutation, of which only those
-    /// that are at most j are kept (Fomin; Stanley, Enumerative Combinatorics 2, 7.13).
+    /// The growth shape at (i, j), for i and j up to the number of letters. Take the word of those
+    /// of the first i letters of the permutation that are at most j: the growth shape is the shape
+    /// of its insertion tableau (Fomin; Stanley, Enumerative Combinatorics 2, 7.13).
     pub fn shape_at(&self, i: u16, j: u16) -> &Partition
         requires i { i ≤ length self.now }
         requires j { j ≤ length self.now }

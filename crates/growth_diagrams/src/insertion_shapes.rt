@@ -6,11 +6,11 @@ ghost use Rattle.sym_model.specs.Insertion.{insertion_pair};
 ghost use Rattle.sym_model.specs.Permutation.{AreInverse, IsOneLine};
 ghost use Rattle.sym_model.specs.Tableau.{shape_of};
 
-/// For a permutation w, the growth shape at (i, j) is the shape of the insertion tableau of the
-/// first i letters of w, of which only those that are at most j are kept. So the insertion tableau
-/// of w is the tableau of the chain of shapes in the last line (`tableau_of_chain`), and the
-/// recording tableau of w is the tableau of the chain of shapes in the last column. For w = 3 1 2
-/// the chain in the last line is (1), (2), (2,1), and that in the last column is (1), (1,1), (2,1).
+/// For a permutation w, take the word of those of the first i letters of w that are at most j: the
+/// growth shape at (i, j) is the shape of its insertion tableau. So the insertion tableau of w is
+/// the tableau of the chain of shapes in the last line (`tableau_of_chain`), and the recording
+/// tableau of w is the tableau of the chain of shapes in the last column. For w = 3 1 2 the chain
+/// in the last line is (1), (2), (2,1), and that in the last column is (1), (1,1), (2,1).
 pub fn growth_law()
     ensures shapes { (w : List ℕ) (i j : ℕ) → IsOneLine w → i ≤ length w → j ≤ length w
         → growth_shape w i j ≡ shape_of (insertion_pair (at_most j (take i w))).0 }

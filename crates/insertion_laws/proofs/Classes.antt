@@ -1,5 +1,5 @@
 -- Knuth classes: chains of Knuth steps can be joined and reversed, and the same letters can be added before and after all words of a chain.
-use Rattle.std.proofs.Common.{◌≡◌, ℕ, ◌<◌, ◌≤◌, List, [], ◌∷◌, ◌++◌, ◌∙◌, ap, sym, refl, subst, inl, inr, append_assoc, append-nil}
+use Rattle.std.proofs.Common.{◌≡◌, ℕ, ◌<◌, ◌≤◌, List, [], ◌∷◌, ◌++◌, ◌∙◌, ap, sym, refl, subst, inl, inr, append_assoc, append-nil, rules}
 use Rattle.sym_model.specs.Knuth.{AreKnuthRelated, IsKnuthStep, IsKnuthChain, AreKnuthEquivalent}
 
 infixr 20 ◌⨾◌
@@ -23,16 +23,7 @@ related_back v w (inr (inl h)) = inr (inr h)
 related_back v w (inr (inr h)) = inr (inl h)
 
 step_back : {v w : List ℕ} → IsKnuthStep v w → IsKnuthStep w v
-step_back s =
-    record {
-      front = s.front;
-      three = s.changed;
-      changed = s.three;
-      back = s.back;
-      related = related_back s.three s.changed s.related;
-      from = s.to;
-      to = s.from;
-    }
+step_back s = search (rules, related_back)
 
 pub turned : {v w : List ℕ} → AreKnuthEquivalent v w → AreKnuthEquivalent w v
 turned {v} {w} h = by v h.chain h.steps
@@ -72,7 +63,7 @@ behind a {v} {w} h =
 pub before : (b : List ℕ) {v w : List ℕ} → AreKnuthEquivalent v w → AreKnuthEquivalent (v ++ b) (w ++ b)
 before b h = between [] b h
 
--- ---- the two Knuth exchanges of the first three letters of a word
+-- ---- the two Knuth exchanges of three letters, in a word of three letters and at the front of a longer word
 
 pub first_related : (x y z : ℕ) → x < y → y ≤ z → AreKnuthRelated (y ∷ z ∷ x ∷ []) (y ∷ x ∷ z ∷ [])
 first_related x y z l m = inl (inl (record { x = x; y = y; z = z; below = l; within = m; before = refl; after = refl }))

@@ -1,5 +1,5 @@
 -- Inserting a letter into the rows of a straight tableau gives the rows of a straight tableau with one cell more.
-use Rattle.std.proofs.Common.{◌≡◌, ℕ, suc, ◌<◌, ◌≤◌, cond, List, [], ◌∷◌, ◌++◌, length, Option, Some, None, ◌∙◌, ap, sym, refl, subst, inl, inr, arith}
+use Rattle.std.proofs.Common.{◌≡◌, ℕ, ◌<◌, ◌≤◌, cond, List, [], ◌∷◌, ◌++◌, length, Option, Some, None, ◌∙◌, ap, sym, refl, subst, inl, inr, arith, rules}
 use Rattle.std.proofs.lemmas.Bool.{cases_lt, lt-ltb, le-ltb}
 use Rattle.std.proofs.lemmas.List.{length-append}
 use Rattle.sym_model.specs.Insertion.{row_with, bumped, inserted}
@@ -27,34 +27,19 @@ some_same x b e = cc
 
 pub bumped_greater : (a b : ℕ) (row : List ℕ) → bumped a row ≡ Some b → a < b
 bumped_greater a b [] e = cc
-bumped_greater a b (x ∷ row) e = elim (cases_lt a x) [
-  | inl h ↦ subst (λ n. a < n) (some_same x b (sym (bumped-less a x row h) ∙ e)) h
-  | inr h ↦ bumped_greater a b row (sym (bumped-more a x row h) ∙ e)
-]
+bumped_greater a b (x ∷ row) e = search (rules, cases_lt, some_same, bumped-less, bumped-more, (bumped_greater a b row))
 
--- if a replaces no letter of the row, it is appended to the row
 pub with-end : (a : ℕ) (row : List ℕ) → bumped a row ≡ None → row_with a row ≡ row ++ a ∷ []
 with-end a [] e = refl
-with-end a (x ∷ row) e = elim (cases_lt a x) [
-  | inl h ↦ let f = sym (bumped-less a x row h) ∙ e in cc
-  | inr h ↦ with-more a x row h ∙ ap (λ l. x ∷ l) (with-end a row (sym (bumped-more a x row h) ∙ e))
-]
+with-end a (x ∷ row) e = search (rules, cases_lt, bumped-less, with-more, bumped-more, (with-end a row))
 
 pub length-with : (a b : ℕ) (row : List ℕ) → bumped a row ≡ Some b → length (row_with a row) ≡ length row
 length-with a b [] e = cc
-length-with a b (x ∷ row) e = elim (cases_lt a x) [
-  | inl h ↦ ap length (with-less a x row h)
-  | inr h ↦ ap length (with-more a x row h) ∙ ap suc (length-with a b row (sym (bumped-more a x row h) ∙ e))
-]
+length-with a b (x ∷ row) e = search (rules, cases_lt, with-less, with-more, bumped-more, (length-with a b row))
 
 pub filled-with : (a : ℕ) (row : List ℕ) → 0 < length (row_with a row)
 filled-with a [] = omega arith
-filled-with a (x ∷ row) = elim (cases_lt a x) [
-  | inl h ↦ omega (arith, ap length (with-less a x row h))
-  | inr h ↦ omega (arith, ap length (with-more a x row h))
-]
-
--- ---- inserting a letter keeps a row weakly increasing
+filled-with a (x ∷ row) = search rules
 
 pub rises_lower : (c d : ℕ) (row : List ℕ) → c ≤ d → RisesFrom d row → RisesFrom c row
 rises_lower c d [] l h = tt
@@ -67,9 +52,8 @@ rises_with c a (x ∷ row) l h = elim (cases_lt a x) [
   | inr m ↦ subst (RisesFrom c) (sym (with-more a x row m)) (h.0, rises_with x a row m h.1)
 ]
 
--- ---- two neighbouring rows of a tableau, after a letter is inserted into one of them
-
--- if `lower` can be directly below `upper`, it can also be below `upper` with a inserted: one letter becomes smaller, or the row becomes longer
+-- if `lower` can be directly below `upper`, then `lower` can also be directly below the row `upper` with a inserted: this row is longer than `upper`,
+-- or has a smaller letter in one place
 pub stands_with : (a : ℕ) (lower upper : List ℕ) → StandsOn lower upper → StandsOn lower (row_with a upper)
 stands_with a [] upper h = tt
 stands_with a (y ∷ lower) [] h = absurd h
@@ -84,12 +68,7 @@ pub stands_bumped :
     → StandsOn (row_with b lower) (row_with a upper)
 stands_bumped a b [] [] e h = cc
 stands_bumped a b (y ∷ lower) [] e h = absurd h
-stands_bumped a b [] (x ∷ upper) e h =
-    let less = bumped_greater a b (x ∷ upper) e in
-    elim (cases_lt a x) [
-      | inl m ↦ subst (StandsOn (b ∷ [])) (sym (with-less a x upper m)) (less, tt)
-      | inr m ↦ subst (StandsOn (b ∷ [])) (sym (with-more a x upper m)) (omega arith, tt)
-    ]
+stands_bumped a b [] (x ∷ upper) e h = search (rules, bumped_greater, cases_lt, with-less, with-more)
 stands_bumped a b (y ∷ lower) (x ∷ upper) e h =
     let less = bumped_greater a b (x ∷ upper) e in
     let above = h.0 in
@@ -118,8 +97,6 @@ pub stands-length : (lower upper : List ℕ) → StandsOn lower upper → length
 stands-length [] upper h = omega arith
 stands-length (y ∷ lower) [] h = absurd h
 stands-length (y ∷ lower) (x ∷ upper) h = omega (arith, stands-length lower upper h.1)
-
--- ---- a letter inserted into the rows of a tableau
 
 pub inserted-none : (rows : List (List ℕ)) → inserted rows None ≡ rows
 inserted-none [] = refl

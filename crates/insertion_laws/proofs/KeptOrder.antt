@@ -1,6 +1,7 @@
--- All rows are semistandard after a slide of a semistandard tableau: the row of the empty cell and the rows below it, and the rows above it.
-use Rattle.std.proofs.Common.{◌≡◌, ℕ, zero, suc, ◌+◌, ◌-◌, ◌<◌, ◌≤◌, true, nat_le, List, [], ◌∷◌, ◌++◌, map, length, take, drop, get_or, ◌∙◌, ap, ap₂, sym, refl, subst, inl, inr, arith, append-nil, cond, Bool, false}
-use Rattle.std.proofs.lemmas.Bool.{cases_eq, and_parts, leb-true}
+-- A slide of a semistandard tableau gives semistandard rows. The rows above the row in which the slide begins do not change; this row and the rows
+-- below it are slid.
+use Rattle.std.proofs.Common.{◌≡◌, ℕ, zero, suc, ◌+◌, ◌-◌, ◌<◌, ◌≤◌, true, nat_le, List, [], ◌∷◌, ◌++◌, map, length, take, drop, get_or, ◌∙◌, ap, ap₂, sym, refl, subst, arith, append-nil, cond, Bool, false, rules}
+use Rattle.std.proofs.lemmas.Bool.{and_parts, leb-true}
 use Rattle.std.proofs.lemmas.List.{drop-drop, length-append, length-drop, length-take-le}
 use Rattle.strip_laws.proofs.Containment.{contains-tells}
 use Rattle.sym_model.specs.Partition.{Falls, part}
@@ -12,17 +13,13 @@ use Rattle.insertion_laws.proofs.RisingRows.{StandsUnder, first_row, order-tells
 use Rattle.insertion_laws.proofs.SlideSteps.{place_below, moved}
 use Rattle.insertion_laws.proofs.SlidOrder.{HasHole, slides}
 
--- ---- the lengths of the rows of a tableau, and its shape
-
 first_end :
     (outer inner : List ℕ) (rows : List (List ℕ)) → map length rows ≡ row_lengths outer inner → contains outer inner ≡ true
     → part inner 1 + length (first_row rows) ≤ part outer 1
 first_end outer inner [] e h = omega (arith, contains-tells outer inner h 1)
 first_end [] inner (row ∷ rows) e h = absurd (cc e)
 first_end (a ∷ outer) [] (row ∷ rows) e h = let same : length row ≡ a = cc e in omega arith
-first_end (a ∷ outer) (b ∷ inner) (row ∷ rows) e h =
-    let same : length row ≡ a - b = cc e in
-    omega (arith, leb-true b a (and_parts (nat_le b a) (contains outer inner) h).0)
+first_end (a ∷ outer) (b ∷ inner) (row ∷ rows) e h = search rules
 
 pub shape-from :
     (rows : List (List ℕ)) (outer inner : List ℕ) → map length rows ≡ row_lengths outer inner → contains outer inner ≡ true
@@ -41,8 +38,6 @@ shape-from (row ∷ rows) (a ∷ outer) (b ∷ inner) e h f g =
       omega (arith, first_end outer inner rows rest p.1, Falls_first a outer f, leb-true b a p.0),
       shape-from rows outer inner rest p.1 (Falls_tail a outer f) (Falls_tail b inner g),
     )
-
--- ---- inner partitions with the same parts; `semistandard` depends only on these parts, not on zeros at the end of the list
 
 next_parts : (a b : List ℕ) → ((k : ℕ) → get_or a k 0 ≡ get_or b k 0) → (k : ℕ) → get_or (drop 1 a) k 0 ≡ get_or (drop 1 b) k 0
 next_parts a b e k = part_next a k ∙ e (k + 1) ∙ sym (part_next b k)
@@ -64,8 +59,6 @@ HasShape-parts : (rows : List (List ℕ)) (a b : List ℕ) → ((k : ℕ) → ge
 HasShape-parts [] a b e h = tt
 HasShape-parts (row ∷ below) a b e h =
     (omega (arith, h.0, e 0, e 1), omega (arith, h.1, e 0, e 1), HasShape-parts below (drop 1 a) (drop 1 b) (next_parts a b e) h.2)
-
--- ---- the first k rows of a semistandard filling are semistandard
 
 stands_taken : (k s : ℕ) (row : List ℕ) (below : List (List ℕ)) → StandsUnder s row (first_row below) → StandsUnder s row (first_row (take k below))
 stands_taken zero s row below h i l m = absurd (omega arith)
@@ -93,30 +86,13 @@ pub record IsLowered (i : ℕ) (inner new : List ℕ) : Type 0 where
   pub corner : get_or inner (i + 1) 0 < get_or inner i 0
 
 pub lowered_less : (i k : ℕ) (inner new : List ℕ) → IsLowered i inner new → get_or new k 0 ≤ get_or inner k 0
-lowered_less i k inner new h = elim (cases_eq k i) [
-  | inl e ↦ omega (arith, h.here, ap (λ n. get_or new n 0) e, ap (λ n. get_or inner n 0) e)
-  | inr d ↦ omega (arith, h.others k d)
-]
+lowered_less i k inner new h = search rules
 
 pub lowered_next : (i : ℕ) (inner new : List ℕ) → IsLowered (suc i) inner new → IsLowered i (drop 1 inner) (drop 1 new)
-lowered_next i inner new h =
-    let e : i + 1 ≡ suc i = omega arith in
-    let f : i + 1 + 1 ≡ suc i + 1 = omega arith in
-    record {
-      here = omega (arith, h.here, part_next inner i, part_next new i, ap (λ n. get_or new n 0) e, ap (λ n. get_or inner n 0) e);
-      others = λ k d. part_next new k ∙ h.others (k + 1) (λ s. d (omega arith)) ∙ sym (part_next inner k);
-      corner = omega (
-        arith,
-        h.corner,
-        part_next inner i,
-        part_next inner (i + 1),
-        ap (λ n. get_or inner n 0) e,
-        ap (λ n. get_or inner n 0) f,
-      );
-    }
+lowered_next i inner new h = search (rules, part_next)
 
--- the row `new` begins d columns to the left of the row `old` and does not end further right, and none of its letters is smaller than the letter of
--- `old` in the same column
+-- the row `new` begins d columns to the left of the row `old` and does not end further right than `old`. In each column that both rows have, the
+-- letter of `new` is at least the letter of `old`
 record IsRaised (d : ℕ) (old new : List ℕ) : Type 0 where
   long : length new ≤ length old + d
   letters : (k : ℕ) → k < length old → k + d < length new → get_or old k 0 ≤ get_or new (k + d) 0
@@ -126,8 +102,8 @@ abbrev pub rows_from : ℕ → List ℕ → List (List ℕ) → List (List ℕ)
 rows_from i inner rows =
     take i rows ++ slid_rows (drop i inner) [] (letters_of (take 1 (drop i rows))) (drop 1 (drop i rows))
 
--- the rows `slid` are semistandard for the inner parts `new`, the columns in which they end are weakly decreasing, and no letter of the first row is
--- smaller than the letter of `row` that was in its cell
+-- the rows `slid` are semistandard for the inner parts `new`, and the columns in which they end are weakly decreasing. Their first row ends no later
+-- than `row`, the first row before the slide, and none of its letters is smaller than the letter of `row` in the same cell
 record IsKept (inner new row : List ℕ) (slid : List (List ℕ)) : Type 0 where
   order : semistandard new slid ≡ true
   first : (d : ℕ) → get_or new 0 0 + d ≡ get_or inner 0 0 → IsRaised d row (first_row slid)
@@ -136,23 +112,7 @@ record IsKept (inner new row : List ℕ) (slid : List (List ℕ)) : Type 0 where
 pub first_hole :
     (inner new row : List ℕ) (below : List (List ℕ)) → HasShape inner (row ∷ below) → semistandard inner (row ∷ below) ≡ true
     → IsLowered 0 inner new → HasHole new [] row below
-first_hole inner new row below s o l =
-    let t = order-tells inner row below o in
-    let second : get_or new 1 0 ≡ get_or inner 1 0 = l.others 1 (λ e. omega arith) in
-    let one : get_or inner (0 + 1) 0 ≡ get_or inner 1 0 = refl in
-    let rest : (k : ℕ) → get_or (drop 1 inner) k 0 ≡ get_or (drop 1 new) k 0 =
-    λ k. part_next inner k ∙ sym (l.others (k + 1) (λ e. omega arith)) ∙ sym (part_next new k) in
-    record {
-      falls = omega (arith, l.here, l.corner);
-      rises = t.rises;
-      before = λ k u v. absurd (omega arith);
-      behind = λ k u v.
-          let at : place_below new [] + 1 + k ≡ part inner 1 - part inner 2 + k = omega (arith, l.here, l.corner) in
-          omega (arith, t.stands k u (omega arith), ap (λ n. get_or (first_row below) n 0) at);
-      ends = omega (arith, s.1, l.here);
-      shape = HasShape-parts below (drop 1 inner) (drop 1 new) rest s.2;
-      order = semistandard-parts below (drop 1 inner) (drop 1 new) rest t.later;
-    }
+first_hole inner new row below s o l = search (rules, order-tells, part_next, place_below, first_row, HasShape-parts, semistandard-parts)
 
 keeps :
     (i : ℕ) (inner new : List ℕ) (rows : List (List ℕ)) → i < length rows → HasShape inner rows → semistandard inner rows ≡ true

@@ -1,7 +1,7 @@
 -- The greatest number of a recording tableau is the last letter of a row, in a corner; without it, the rows are still a straight tableau.
-use Rattle.std.proofs.Common.{◌≡◌, ◌≢◌, ℕ, zero, suc, ◌+◌, ◌-◌, ◌<◌, ◌==◌, cond, List, [], ◌∷◌, ◌++◌, length, ◌∙◌, ap, ap₂, sym, refl, subst, inl, inr, arith, nat_lt}
+use Rattle.std.proofs.lemmas.Grind.{common_steps}
+use Rattle.std.proofs.Common.{◌≡◌, ◌≢◌, ℕ, zero, suc, ◌+◌, ◌-◌, ◌<◌, ◌==◌, cond, List, [], ◌∷◌, ◌++◌, length, ◌∙◌, ap, ap₂, sym, refl, subst, inl, inr, arith, nat_lt, rules}
 use Rattle.std.proofs.lemmas.Bool.{cases_lt, cases_eq, lt-ltb, le-ltb, eq-eqb, ne_eqb}
-use Rattle.std.proofs.lemmas.List.{length-append}
 use Rattle.sym_model.specs.Insertion.{with_step}
 use Rattle.sym_model.specs.Schur.{letters_of, times_in}
 use Rattle.sym_model.specs.Tableau.{shape_of}
@@ -9,21 +9,17 @@ use Rattle.sym_model.proofs.Contents.{times_in-append}
 use Rattle.insertion_laws.specs.Rows.{StandsOn, IsRowOver, AreRows, RowsBelow, HasCorner}
 use Rattle.insertion_laws.specs.Removal.{without_last, last_of, row_over, removed, row_ending, without_step}
 use Rattle.insertion_laws.proofs.InsertedRows.{stands-length}
-use Rattle.insertion_laws.proofs.RecordedSteps.{step-here, step-below}
+use Rattle.insertion_laws.proofs.RecordedSteps.{step-below}
 use Rattle.insertion_laws.proofs.RowsBack.{length-back, ends, length-without_last, front_stands, stands_last}
-use Rattle.insertion_laws.proofs.Removals.{removed_here, no_rows, corner-next, last_below, ending-here, ending-below, without-here, without-below}
+use Rattle.insertion_laws.proofs.Removals.{removed_here, corner-next, last_below, ending-here, ending-below, without-here, without-below}
 use Rattle.sym_model.specs.Bounded.{AreBelow}
 use Rattle.tableau_laws.specs.Rows.{RisesFrom}
 use Rattle.tableau_laws.specs.Grid.{first_line}
 
--- ---- the letters of rows, compared with the greatest number k
-
 below_last : (c k : ℕ) (row : List ℕ) → RisesFrom c row → last_of row < k → AreBelow k row
 below_last c k [] h l = tt
 below_last c k (a ∷ []) h l = (l, tt)
-below_last c k (a ∷ b ∷ row) h l =
-    let rest = below_last a k (b ∷ row) h.1 l in
-    (omega (arith, rest.0, h.1.0), rest)
+below_last c k (a ∷ b ∷ row) h l = search (rules, (below_last a k (b ∷ row) h.1 l))
 
 times-below : (k : ℕ) (w : List ℕ) → AreBelow k w → times_in k w ≡ 0
 times-below k [] h = refl
@@ -49,10 +45,7 @@ below_fewer k (a ∷ w) h e = elim (cases_eq a k) [
 
 pub rows_below_fewer : (k : ℕ) (q : List (List ℕ)) → RowsBelow (k + 1) q → times_in k (letters_of q) ≡ 0 → RowsBelow k q
 rows_below_fewer k [] h e = tt
-rows_below_fewer k (row ∷ q) h e = (
-  below_fewer k row h.0 (omega (arith, times_in-append k row (letters_of q))),
-  rows_below_fewer k q h.1 (omega (arith, times_in-append k row (letters_of q))),
-)
+rows_below_fewer k (row ∷ q) h e = search (rules, below_fewer, times_in-append, (rows_below_fewer k q h.1))
 
 front_below : (k : ℕ) (v w : List ℕ) → AreBelow k (v ++ w) → AreBelow k v
 front_below k [] w h = tt
@@ -72,26 +65,14 @@ without_below m k l (row ∷ q) r h = elim (cases_eq (last_of row) k) [
   | inr n ↦ subst (RowsBelow l) (sym (without-below k row q n)) (h.0, without_below m k l q r.1 h.1)
 ]
 
--- ---- the only row that has the greatest number k is the one that ends with it
-
--- let all letters of a weakly increasing row be at most k: if the row does not end with k, and k occurs in the row or in the rows q below it, then k
--- occurs in q
 later_rows :
     (m k : ℕ) (row : List ℕ) (q : List (List ℕ)) → IsRowOver m row q → AreBelow (k + 1) row → last_of row ≢ k
     → 0 < times_in k (row ++ letters_of q) → 0 < times_in k (letters_of q)
-later_rows m k row q h b n t =
-    let last = last_below (k + 1) row h.filled b in
-    omega (arith, times_in-append k row (letters_of q), times-below k row (below_last m k row h.rises (omega arith)))
+later_rows m k row q h b n t = search (rules, last_below, times_in-append, times-below, below_last)
 
 corner_here : (m k : ℕ) (row : List ℕ) (q : List (List ℕ)) → AreRows m (row ∷ q) → RowsBelow (k + 1) q → last_of row ≡ k → HasCorner 0 (length row ∷ shape_of q)
 corner_here m k row [] h b e = tt
-corner_here m k row (r ∷ q) h b e = elim (cases_lt (length r) (length row)) [
-  | inl l ↦ l
-  | inr l ↦
-      let s = stands_last r row (omega (arith, stands-length r row h.0.stands)) h.1.0.filled h.0.stands in
-      let n = last_below (k + 1) r h.1.0.filled b.0 in
-      absurd (omega arith)
-]
+corner_here m k row (r ∷ q) h b e = search (rules, cases_lt, stands_last, stands-length, last_below)
 
 pub corner_found :
     (m k : ℕ) (q : List (List ℕ)) → AreRows m q → RowsBelow (k + 1) q → 0 < times_in k (letters_of q) → HasCorner (row_ending k q) (shape_of q)
@@ -108,13 +89,8 @@ corner_found m k (row ∷ q) h b t = elim (cases_eq (last_of row) k) [
 again_here :
     (m k : ℕ) (row' row front : List ℕ) (p q : List (List ℕ)) → front ++ k ∷ [] ≡ row → AreRows m (row ∷ q) → length row' ≡ length row
     → length (first_line q) < length row → with_step k (row' ∷ p) (row_over front q) ≡ row ∷ q
-again_here m k row' row [] p q e h s l =
-    let long : length row ≡ 1 = ap length (sym e) in
-    let none = no_rows m q h.1 (omega arith) in
-    ap (with_step k (row' ∷ p)) none ∙ ap (λ r. r ∷ []) e ∙ ap (λ (r : List (List ℕ)). row ∷ r) (sym none)
-again_here m k row' row (a ∷ f) p q e h s l =
-    let long : length (a ∷ f) + 1 ≡ length row = omega (arith, ap length e, length-append (a ∷ f) (k ∷ [])) in
-    step-here k row' (a ∷ f) p q (omega arith) ∙ ap (λ r. r ∷ q) e
+again_here m k row' row [] p q e h s l = search rules
+again_here m k row' row (a ∷ f) p q e h s l = grind (arith, common_steps)
 
 pub step_again :
     (m k : ℕ) (p q : List (List ℕ)) → AreRows m q → RowsBelow (k + 1) q → 0 < times_in k (letters_of q) → shape_of p ≡ shape_of q
@@ -137,9 +113,7 @@ step_again m k (row' ∷ p) (row ∷ q) h b t s =
 first_over :
     (m k : ℕ) (row r front : List ℕ) (q : List (List ℕ)) → front ++ k ∷ [] ≡ r → AreRows m (r ∷ q) → length (first_line q) < length r
     → StandsOn r row → StandsOn (first_line (row_over front q)) row
-first_over m k row r [] q e h l s =
-    let long : length r ≡ 1 = ap length (sym e) in
-    subst (λ (x : List (List ℕ)). StandsOn (first_line x) row) (sym (no_rows m q h.1 (omega arith))) tt
+first_over m k row r [] q e h l s = search rules
 first_over m k row r (a ∷ f) q e h l s = front_stands (a ∷ f) (k ∷ []) row (subst (λ x. StandsOn x row) (sym e) s)
 
 first_without :
@@ -166,7 +140,7 @@ keeps_without m k (row ∷ q) h b = elim (cases_eq (last_of row) k) [
       (record { filled = h.0.filled; rises = h.0.rises; stands = first_without m k row q h.1 b.1 h.0.stands }, keeps_without m k q h.1 b.1)
 ]
 
--- ---- removing a letter from p (`removed`) and the number from q (`without_step`) removes the same cell of their common shape
+-- ---- `removed`, for an insertion tableau, and `without_step`, for its recording tableau, remove the same cell of the common shape
 
 -- the shape without the last cell of row i, counted from 0; a row that becomes empty is dropped
 abbrev pub shape_less : ℕ → List ℕ → List ℕ
@@ -177,11 +151,7 @@ shape_less (suc i) (a ∷ shape) = a ∷ shape_less i shape
 shape-over : (row : List ℕ) (rest : List (List ℕ)) → 0 < length row → shape_of (row_over (without_last row) rest) ≡ shape_less 0 (length row ∷ shape_of rest)
 shape-over [] rest h = absurd (omega arith)
 shape-over (a ∷ []) rest h = sym (ap (λ t. cond t (0 ∷ shape_of rest) (shape_of rest)) (le-ltb 1 1 (omega arith)))
-shape-over (a ∷ b ∷ row) rest h =
-    let long = length-without_last (a ∷ b ∷ row) (omega arith) in
-    let e : suc (length (without_last (b ∷ row))) ≡ length (a ∷ b ∷ row) - 1 = omega arith in
-    ap (λ n. n ∷ shape_of rest) e
-    ∙ sym (ap (λ t. cond t ((length (a ∷ b ∷ row) - 1) ∷ shape_of rest) (shape_of rest)) (lt-ltb 1 (length (a ∷ b ∷ row)) (omega arith)))
+shape-over (a ∷ b ∷ row) rest h = search (rules, length-without_last, lt-ltb)
 
 pub shape-removed : (m i : ℕ) (p : List (List ℕ)) → AreRows m p → shape_of (removed i p).0 ≡ shape_less i (shape_of p)
 shape-removed m zero [] h = refl
@@ -191,11 +161,5 @@ shape-removed m (suc i) (row ∷ p) h = ap₂ (λ n s. n ∷ s) (length-back (re
 
 pub shape-without : (m k : ℕ) (q : List (List ℕ)) → AreRows m q → shape_of (without_step k q) ≡ shape_less (row_ending k q) (shape_of q)
 shape-without m k [] h = refl
-shape-without m k (row ∷ q) h = elim (cases_eq (last_of row) k) [
-  | inl e ↦
-      ap shape_of (without-here k row q e) ∙ shape-over row q h.0.filled
-      ∙ ap (λ i. shape_less i (length row ∷ shape_of q)) (sym (ending-here k row q e))
-  | inr n ↦
-      ap shape_of (without-below k row q n) ∙ ap (λ s. length row ∷ s) (shape-without m k q h.1)
-      ∙ ap (λ i. shape_less i (length row ∷ shape_of q)) (sym (ending-below k row q n))
-]
+shape-without m k (row ∷ q) h =
+    search (rules, cases_eq, without-here, shape-over, ending-here, without-below, ending-below, (shape-without m k q h.1))

@@ -15,8 +15,6 @@ IsOver [] (b ∷ lower) = ⊥
 IsOver (a ∷ upper) [] = ⊥
 IsOver (a ∷ upper) (b ∷ lower) = (a < b) × IsOver upper lower
 
--- if all letters of the row `right` are at least b, and the weakly increasing row `lower` can be directly below `right`, then the words b, `lower`,
--- `right` and `lower`, b, `right` are in the same Knuth class
 goes_behind : (b c : ℕ) (lower right : List ℕ) → RisesFrom b right → RisesFrom c lower → StandsOn lower right
     → AreKnuthEquivalent (b ∷ (lower ++ right)) (lower ++ b ∷ right)
 goes_behind b c [] right h k s = one_word (b ∷ right)

@@ -1,6 +1,6 @@
 -- Two words of three letters that are related by a Knuth relation, inserted into the same row: the rows afterwards are equal, and the words of the
 -- letters that leave the row are equal or related by a Knuth relation.
-use Rattle.std.proofs.Common.{◌≡◌, ◌⊎◌, ℕ, ◌<◌, ◌≤◌, List, [], ◌∷◌, ◌++◌, Option, Some, None, ◌∙◌, ap, ap₂, sym, refl, subst, inl, inr, arith}
+use Rattle.std.proofs.Common.{◌≡◌, ◌⊎◌, ℕ, ◌<◌, ◌≤◌, List, [], ◌∷◌, ◌++◌, Option, Some, None, ◌∙◌, ap, ap₂, sym, refl, subst, inl, inr, arith, rules}
 use Rattle.std.proofs.lemmas.Bool.{cases_lt}
 use Rattle.sym_model.specs.Insertion.{row_with, bumped}
 use Rattle.sym_model.specs.Knuth.{AreKnuthRelated}
@@ -9,17 +9,12 @@ use Rattle.insertion_laws.proofs.Classes.{first_related, second_related}
 use Rattle.insertion_laws.proofs.RowRuns.{listed, row_after, letters_out, IsRun, run_none, run_less, run_more, run_past}
 use Rattle.tableau_laws.specs.Rows.{RisesFrom}
 
--- ---- the letters that are replaced in a row by insertions
-
 pub bumped_from : (c a b : ℕ) (row : List ℕ) → RisesFrom c row → bumped a row ≡ Some b → c ≤ b
 bumped_from c a b [] r e = cc
-bumped_from c a b (x ∷ row) r e = elim (cases_lt a x) [
-  | inl l ↦ let s = some_same x b (sym (bumped-less a x row l) ∙ e) in omega (arith, r.0)
-  | inr l ↦ let s = bumped_from x a b row r.1 (sym (bumped-more a x row l) ∙ e) in omega (arith, r.0)
-]
+bumped_from c a b (x ∷ row) r e = search (rules, cases_lt, some_same, bumped-less, bumped-more, (bumped_from x a b row r.1))
 
--- inserting y into the row replaces a letter that is at most d. By `takes_later`, this holds if y ≤ z, and if z replaces d when it is inserted after
--- y
+-- inserting y into the row replaces a letter that is at most d. This holds if y ≤ z and if z, inserted into the row after y, replaces the letter d
+-- (`takes_later`)
 pub record TakesLater (y z d : ℕ) (row : List ℕ) : Type 0 where
   pub earlier : ℕ
   pub is : bumped y row ≡ Some earlier
@@ -37,7 +32,7 @@ takes_later c y z d (x ∷ row) l r e = elim (cases_lt y x) [
       record { earlier = t.earlier; is = bumped-more y x row m ∙ t.is; order = t.order }
 ]
 
--- if z and then y is inserted into the row, y replaces a letter that is at most z; by `takes_earlier`, this holds if y < z
+-- after z is inserted into the row, inserting y replaces a letter that is at most z; by `takes_earlier`, this holds if y < z
 pub record TakesEarlier (y z : ℕ) (row : List ℕ) : Type 0 where
   pub earlier : ℕ
   pub is : bumped y (row_with z row) ≡ Some earlier
@@ -65,29 +60,16 @@ pub record AreAlike (row v w : List ℕ) : Type 0 where
 alike :
     {row v w new out other : List ℕ} → IsRun row v new out → IsRun row w new other → (out ≡ other) ⊎ AreKnuthRelated out other
     → AreAlike row v w
-alike h k r =
-    record {
-      rows_same = h.row_is ∙ sym k.row_is;
-      out = by (sym h.out_is) (sym k.out_is) r;
-    }
-  where
-    by : {a b c d : List ℕ} → a ≡ b → c ≡ d → (a ≡ c) ⊎ AreKnuthRelated a c → (b ≡ d) ⊎ AreKnuthRelated b d
-    by p q (inl e) = inl (sym p ∙ e ∙ q)
-    by {a} {b} {c} {d} p q (inr e) = inr (subst (λ x. AreKnuthRelated x d) p (subst (λ x. AreKnuthRelated a x) q e))
+alike h k r = search rules
 
 alike_past : (b : ℕ) (row v w : List ℕ) → IsRun (b ∷ row) v (b ∷ row_after row v) (letters_out row v)
     → IsRun (b ∷ row) w (b ∷ row_after row w) (letters_out row w) → AreAlike row v w → AreAlike (b ∷ row) v w
 alike_past b row v w h k a =
     alike h (record { row_is = k.row_is ∙ ap (λ (x : List ℕ). b ∷ x) (sym a.rows_same); out_is = k.out_is }) a.out
 
--- ---- the words y z x and y x z, for x < y ≤ z, inserted into a row
-
 pub first_none : (x y z : ℕ) → x < y → y ≤ z
     → (row_after [] (y ∷ z ∷ x ∷ []) ≡ row_after [] (y ∷ x ∷ z ∷ [])) × (letters_out [] (y ∷ z ∷ x ∷ []) ≡ letters_out [] (y ∷ x ∷ z ∷ []))
-first_none x y z l m =
-    let p : IsRun (y ∷ []) (z ∷ x ∷ []) (x ∷ z ∷ []) (y ∷ []) = run_more z y m (run_less x y l (run_none _)) in
-    let q : IsRun (y ∷ []) (x ∷ z ∷ []) (x ∷ z ∷ []) (y ∷ []) = run_less x y l (run_more z x (omega arith) (run_none _)) in
-    (p.row_is ∙ sym q.row_is, p.out_is ∙ sym q.out_is)
+first_none x y z l m = search rules
 
 pub first_alike : (c x y z : ℕ) (row : List ℕ) → x < y → y ≤ z → RisesFrom c row → AreAlike row (y ∷ z ∷ x ∷ []) (y ∷ x ∷ z ∷ [])
 first_alike c x y z [] l m r = let e = first_none x y z l m in record { rows_same = e.0; out = inl e.1 }
@@ -122,16 +104,9 @@ first_alike c x y z (b ∷ row) l m r = elim (cases_lt y b) [
         let n = bumped_greater y a row e in
         inr (first_related b a d (omega arith) (omega (arith, t.order)))
 
--- ---- the words x z y and z x y, for x ≤ y < z, inserted into a row
-
 pub second_none : (x y z : ℕ) → x ≤ y → y < z
     → (row_after [] (x ∷ z ∷ y ∷ []) ≡ row_after [] (z ∷ x ∷ y ∷ [])) × (letters_out [] (x ∷ z ∷ y ∷ []) ≡ letters_out [] (z ∷ x ∷ y ∷ []))
-second_none x y z l m =
-    let i : IsRun (z ∷ []) (y ∷ []) (y ∷ []) (z ∷ []) = run_less y z m (run_none _) in
-    let p : IsRun (x ∷ []) (z ∷ y ∷ []) (x ∷ y ∷ []) (z ∷ []) =
-    run_more z x (omega arith) (record { row_is = (run_past x (z ∷ []) (y ∷ []) (l, tt)).row_is ∙ ap (λ (v : List ℕ). x ∷ v) i.row_is; out_is = (run_past x (z ∷ []) (y ∷ []) (l, tt)).out_is ∙ i.out_is }) in
-    let q : IsRun (z ∷ []) (x ∷ y ∷ []) (x ∷ y ∷ []) (z ∷ []) = run_less x z (omega arith) (run_more y x l (run_none _)) in
-    (p.row_is ∙ sym q.row_is, p.out_is ∙ sym q.out_is)
+second_none x y z l m = search rules
 
 pub second_alike : (c x y z : ℕ) (row : List ℕ) → x ≤ y → y < z → RisesFrom c row → AreAlike row (x ∷ z ∷ y ∷ []) (z ∷ x ∷ y ∷ [])
 second_alike c x y z [] l m r = let e = second_none x y z l m in record { rows_same = e.0; out = inl e.1 }

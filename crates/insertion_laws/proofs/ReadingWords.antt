@@ -1,6 +1,6 @@
 -- The reading word of the insertion tableau of a word is in the Knuth class of the word, and inserting the reading word of a tableau gives the
 -- tableau. So each class contains the reading word of exactly one straight tableau.
-use Rattle.std.proofs.Common.{◌≡◌, true, ℕ, ◌<◌, ◌≤◌, List, [], ◌∷◌, ◌++◌, Option, Some, None, ◌∙◌, ap, ap₂, sym, refl, subst, inl, inr, arith, append_assoc, append-nil, reverse}
+use Rattle.std.proofs.Common.{◌≡◌, true, ℕ, ◌<◌, ◌≤◌, List, [], ◌∷◌, ◌++◌, Option, Some, None, ◌∙◌, ap, ap₂, sym, refl, subst, inl, inr, arith, append_assoc, append-nil, reverse, rules}
 use Rattle.std.proofs.lemmas.Bool.{cases_lt}
 use Rattle.std.proofs.lemmas.List.{reverse-append}
 use Rattle.sym_model.specs.Insertion.{row_with, bumped, inserted, insertion_pair, reading_word}
@@ -18,15 +18,10 @@ use Rattle.insertion_laws.proofs.Triples.{class_same}
 use Rattle.sym_model.specs.Bounded.{AreAtLeast}
 use Rattle.tableau_laws.specs.Rows.{RisesFrom}
 
--- ---- the word of a row and a letter a is in the Knuth class of the letter that a replaces, followed by the row with a inserted
-
--- if the row y ∷ row is weakly increasing, and x < y, then the words y, `row`, x, `back` and y, x, `row`, `back` are in the same Knuth class
 pub through : (y x : ℕ) (row back : List ℕ) → x < y → RisesFrom y row → AreKnuthEquivalent (y ∷ (row ++ x ∷ back)) (y ∷ x ∷ (row ++ back))
 through y x [] back l h = one_word (y ∷ x ∷ back)
 through y x (z ∷ row) back l h = behind (y ∷ []) (through z x row back (omega (arith, h.0)) h.1) ⨾ first x y z (row ++ back) l h.0
 
--- if the row is weakly increasing, and inserting a replaces the letter b, then the row followed by a is in the Knuth class of b followed by the row
--- with a inserted
 row_class : (c a b : ℕ) (row : List ℕ) → RisesFrom c row → bumped a row ≡ Some b → AreKnuthEquivalent (row ++ a ∷ []) (b ∷ row_with a row)
 row_class c a b [] h e = cc
 row_class c a b (x ∷ row) h e = elim (cases_lt a x) [
@@ -50,8 +45,6 @@ row_class c a b (x ∷ row) h e = elim (cases_lt a x) [
           | inr m ↦
               subst (λ v. AreKnuthEquivalent (x ∷ b ∷ v) (b ∷ x ∷ v)) (sym (with-more a y row m)) (second x y b (row_with a row) h.0 (omega arith))
         ]
-
--- ---- the reading word of a tableau, followed by a word w, is in the Knuth class of the reading word of the tableau with w inserted
 
 letters-push : (v : List (List ℕ)) (row : List ℕ) → letters_of (v ++ row ∷ []) ≡ letters_of v ++ row
 letters-push [] row = append-nil row
@@ -91,15 +84,11 @@ from_rising : (c d : ℕ) (row : List ℕ) → c ≤ d → RisesFrom d row → A
 from_rising c d [] l h = tt
 from_rising c d (a ∷ row) l h = (omega (arith, h.0), from_rising c a row (omega (arith, h.0)) h.1)
 
--- suppose that inserting the letters of `row` into the row `lower` gives `row`, and that the letters of `lower` leave. If `row` is weakly increasing
--- and a is at most each of its letters, then inserting the letters of `row` into a ∷ lower gives a ∷ row, and the letters of `lower` leave
 run_behind : (a : ℕ) (lower row : List ℕ) → RisesFrom a row → IsRun lower row row lower → IsRun (a ∷ lower) row (a ∷ row) lower
 run_behind a lower row h k =
     let p = run_past a lower row (from_rising a a row (omega arith) h) in
     record { row_is = p.row_is ∙ ap (λ (v : List ℕ). a ∷ v) k.row_is; out_is = p.out_is ∙ k.out_is }
 
--- if the row `lower` can be directly below `row`, then inserting the letters of `row` into `lower` gives `row`, and the letters of `lower` leave in
--- order
 pushes : (c : ℕ) (lower row : List ℕ) → RisesFrom c row → StandsOn lower row → IsRun lower row row lower
 pushes c [] [] h s = run_none []
 pushes c (b ∷ lower) [] h s = absurd s
@@ -119,16 +108,12 @@ put_over m (a ∷ row) (lower ∷ rows) h =
 
 pub reading_again : (m : ℕ) (rows : List (List ℕ)) → AreRows m rows → inserted_word [] (reading_word rows) ≡ rows
 reading_again m [] h = refl
-reading_again m (row ∷ rows) h =
-    ap (inserted_word []) (reading-more row rows) ∙ word-append (reading_word rows) row []
-    ∙ ap (λ (r : List (List ℕ)). inserted_word r row) (reading_again m rows h.1) ∙ put_over m row rows h
+reading_again m (row ∷ rows) h = search (rules, inserted_word, reading-more, word-append, put_over, (reading_again m rows h.1))
 
 -- if the reading word of a straight tableau is in the Knuth class of w, the tableau is the insertion tableau of w
 pub only_tableau :
     (m : ℕ) (w : List ℕ) (rows : List (List ℕ)) → AreRows m rows → AreKnuthEquivalent (reading_word rows) w → rows ≡ inserted_word [] w
 only_tableau m w rows h k = sym (reading_again m rows h) ∙ class_same (reading_word rows) w k
-
--- ---- the insertion tableau of a word is the only straight tableau of its Knuth class
 
 pub tableau_class : (w : List ℕ) → AreKnuthEquivalent w (reading_word (insertion_pair w).0)
 tableau_class w = word_class w [] tt ⨾ same_word (ap reading_word (sym (first-tableau w 1 [] [])))

@@ -1,5 +1,6 @@
--- The number of an insertion is recorded at the end of the row that has become longer (`with_step`), and the recording tableau stays a tableau.
-use Rattle.std.proofs.Common.{◌≡◌, ◌⊎◌, ℕ, ◌+◌, ◌<◌, ◌≤◌, ◌==◌, cond, List, [], ◌∷◌, ◌++◌, length, ◌∙◌, ap, sym, subst, inl, inr, arith}
+-- The k-th insertion makes one row of the insertion tableau longer. The number k is recorded at the end of the row with the same index of the
+-- recording tableau (`with_step`), and the recording tableau stays a tableau.
+use Rattle.std.proofs.Common.{◌≡◌, ◌⊎◌, ℕ, ◌+◌, ◌<◌, ◌≤◌, ◌==◌, cond, List, [], ◌∷◌, ◌++◌, length, ◌∙◌, ap, sym, subst, inl, inr, arith, rules}
 use Rattle.std.proofs.lemmas.Bool.{cases_lt, lt-ltb, le-ltb}
 use Rattle.std.proofs.lemmas.List.{length-append}
 use Rattle.sym_model.specs.Partition.{size}
@@ -13,8 +14,6 @@ use Rattle.sym_model.specs.Bounded.{AreBelow}
 use Rattle.tableau_laws.specs.Rows.{RisesFrom}
 use Rattle.tableau_laws.specs.Grid.{first_line}
 use Rattle.sym_model.proofs.Numbers.{below_more}
-
--- ---- the row in which the number of an insertion is recorded
 
 pub step-here :
     (k : ℕ) (row steps : List ℕ) (p q : List (List ℕ)) → length steps < length row
@@ -31,9 +30,7 @@ step-below k row steps p q h =
 pub shape-step :
     (k : ℕ) (p q : List (List ℕ)) → HasOneMore (shape_of p) (shape_of q) → shape_of (with_step k p q) ≡ shape_of p
 shape-step k [] q h = absurd h
-shape-step k (row ∷ p) [] h =
-    let long : 1 ≡ length row = omega (arith, h.0) in
-    ap (λ (s : List ℕ). 1 ∷ s) (sym h.1) ∙ ap (λ n. n ∷ shape_of p) long
+shape-step k (row ∷ p) [] h = search rules
 shape-step k (row ∷ p) (steps ∷ q) h = by h (λ m. shape-step k p q m)
   where
     by : ((length row ≡ length steps + 1) × (shape_of p ≡ shape_of q)) ⊎ ((length row ≡ length steps) × HasOneMore (shape_of p) (shape_of q))
@@ -46,8 +43,6 @@ shape-step k (row ∷ p) (steps ∷ q) h = by h (λ m. shape-step k p q m)
     by (inr m) rec =
         ap shape_of (step-below k row steps p q (omega (arith, m.0))) ∙ ap (λ n. n ∷ shape_of (with_step k p q)) (sym m.0)
         ∙ ap (λ (s : List ℕ). length row ∷ s) (rec m.1)
-
--- ---- the number of times that a number occurs in the recording tableau after a step is recorded
 
 pub times-step :
     (j k : ℕ) (p q : List (List ℕ)) → HasOneMore (shape_of p) (shape_of q)
@@ -75,8 +70,6 @@ times-step j k (row ∷ p) (steps ∷ q) h = by h (λ m. times-step j k p q m)
           times_in-append j steps (letters_of q),
           rec m.1,
         )
-
--- ---- all letters of the rows are less than a given number
 
 pub rows_below_more : (k l : ℕ) (q : List (List ℕ)) → k ≤ l → RowsBelow k q → RowsBelow l q
 rows_below_more k l [] le h = tt
@@ -112,7 +105,6 @@ stands_end k [] (x ∷ upper) l b h = (b.0, tt)
 stands_end k (y ∷ lower) [] l b h = absurd h
 stands_end k (y ∷ lower) (x ∷ upper) l b h = (h.0, stands_end k lower upper (omega arith) b.1 h.1)
 
--- in a tableau that begins with the rows `row` and row', row' is not longer than `row`
 pub next_shorter : (m : ℕ) (row row' : List ℕ) (p : List (List ℕ)) → AreRows m (row ∷ row' ∷ p) → length row' ≤ length row
 next_shorter m row row' p h = stands-length row' row h.0.stands
 
@@ -123,13 +115,7 @@ stands-step :
 stands-step m k row steps [] q e r b f s h = absurd h
 stands-step m k row [] (row' ∷ p) [] e r b f s h = absurd (omega arith)
 stands-step m k row (x ∷ steps) (row' ∷ p) [] e r b f s h = (b.0, tt)
-stands-step m k row steps (row' ∷ p) (steps' ∷ q) e r b f s h = elim (cases_lt (length steps') (length row')) [
-  | inl n ↦
-      let short : length row' ≤ length row = next_shorter m row row' p r in
-      subst (λ (x : List (List ℕ)). StandsOn (first_line x) steps) (sym (step-here k row' steps' p q n))
-      (stands_end k steps' steps (omega arith) b s)
-  | inr n ↦ subst (λ (x : List (List ℕ)). StandsOn (first_line x) steps) (sym (step-below k row' steps' p q n)) s
-]
+stands-step m k row steps (row' ∷ p) (steps' ∷ q) e r b f s h = search (rules, cases_lt, next_shorter, step-here, stands_end, step-below)
 
 pub keeps_steps :
     (m k : ℕ) (p q : List (List ℕ)) → 1 ≤ k → AreRows m p → AreRows 1 q → RowsBelow k q → HasOneMore (shape_of p) (shape_of q)
@@ -160,7 +146,6 @@ keeps_steps m k (row ∷ p) (steps ∷ q) l r h b o = by o (λ n. keeps_steps m 
           rec n.1,
         )
 
--- if the shape `large` is `small` with one more cell, its size is greater by 1
 pub size-more : (large small : List ℕ) → HasOneMore large small → size large ≡ size small + 1
 size-more [] small h = absurd h
 size-more (a ∷ large) [] h = omega (arith, h.0, ap size h.1)

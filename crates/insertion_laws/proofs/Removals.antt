@@ -1,6 +1,6 @@
--- A cell removed from a straight tableau (`removed`): the rest is a straight tableau, inserting the letter that left adds the cell again, and removal
--- undoes insertion.
-use Rattle.std.proofs.Common.{◌≡◌, ◌≢◌, ◌⊎◌, ℕ, zero, suc, ◌+◌, ◌<◌, ◌≤◌, cond, List, [], ◌∷◌, ◌++◌, length, Option, Some, None, ◌∙◌, ap, ap₂, sym, refl, subst, inl, inr, arith}
+-- Reverse row insertion (`removed`) from a corner of a straight tableau: the rows that are left are a straight tableau, inserting the letter that has
+-- left gives the old tableau, and reverse insertion undoes insertion.
+use Rattle.std.proofs.Common.{◌≡◌, ◌≢◌, ◌⊎◌, ℕ, zero, suc, ◌+◌, ◌<◌, ◌≤◌, cond, List, [], ◌∷◌, ◌++◌, length, Option, Some, None, ◌∙◌, ap, ap₂, sym, refl, subst, inl, inr, arith, rules}
 use Rattle.std.proofs.lemmas.Bool.{cases_lt, lt-ltb, le-ltb, eq-eqb, ne_eqb}
 use Rattle.std.proofs.lemmas.List.{length-append}
 use Rattle.sym_model.specs.Insertion.{row_with, bumped, inserted, with_step}
@@ -15,7 +15,7 @@ use Rattle.sym_model.specs.Bounded.{AreBelow}
 use Rattle.tableau_laws.specs.Rows.{RisesFrom}
 use Rattle.tableau_laws.specs.Grid.{first_line}
 
--- the rows are those of a straight tableau with letters of at least m, a is at least m, and inserting a into the rows gives the tableau t
+-- the rows are a straight tableau whose letters are at least m, the letter a is at least m, and inserting a into the rows gives the tableau t
 pub record IsRemoval (m : ℕ) (t rows : List (List ℕ)) (a : ℕ) : Type 0 where
   pub least : m ≤ a
   pub rows_are : AreRows m rows
@@ -25,11 +25,6 @@ first_rises : (m : ℕ) (rows : List (List ℕ)) → AreRows m rows → RisesFro
 first_rises m [] h = tt
 first_rises m (row ∷ rows) h = h.0.rises
 
--- if the first row of a tableau is empty or does not exist, the tableau has no rows
-pub no_rows : (m : ℕ) (rows : List (List ℕ)) → AreRows m rows → length (first_line rows) < 1 → rows ≡ []
-no_rows m [] h l = refl
-no_rows m (row ∷ rows) h l = let f = h.0.filled in absurd (omega arith)
-
 pub corner-next : (a : ℕ) (rows : List (List ℕ)) → 0 < a → HasCorner 0 (a ∷ shape_of rows) → length (first_line rows) < a
 corner-next a [] f h = f
 corner-next a (row ∷ rows) f h = h
@@ -37,16 +32,7 @@ corner-next a (row ∷ rows) f h = h
 pub removed_here :
     (m x : ℕ) (row front : List ℕ) (rest : List (List ℕ)) → front ++ x ∷ [] ≡ row → AreRows m (row ∷ rest)
     → length (first_line rest) < length row → IsRemoval m (row ∷ rest) (row_over front rest) x
-removed_here m x row [] rest e h l =
-    let long : length row ≡ 1 = ap length (sym e) in
-    let none = no_rows m rest h.1 (omega arith) in
-    record {
-      least = rises_to_end m x [] (subst (RisesFrom m) (sym e) h.0.rises);
-      rows_are = h.1;
-      gives =
-          ap (λ (r : List (List ℕ)). inserted r (Some x)) none ∙ ap (λ r. r ∷ []) e
-          ∙ ap (λ (r : List (List ℕ)). row ∷ r) (sym none);
-    }
+removed_here m x row [] rest e h l = search rules
 removed_here m x row (a ∷ f) rest e h l =
     let front = a ∷ f in
     let r = subst (RisesFrom m) (sym e) h.0.rises in
@@ -157,7 +143,7 @@ off_again m a (row ∷ rows) h = by (bumped a row) refl (λ b. off_again m b row
         ∙ ap {B = List (List ℕ) × ℕ} (λ (off : List (List ℕ) × ℕ). (row_back off.1 (row_with a row) ∷ off.0, letter_back off.1 (row_with a row))) (rec b)
         ∙ ap₂ {C = List (List ℕ) × ℕ} (λ r n. (r ∷ rows, n)) (row_again a b m row h.0.rises e) (letter_again a b m row h.0.rises e)
 
--- ---- the last letter of a row whose letters are all less than k; the insertion that was recorded with the greatest number is undone
+-- ---- undoing the insertion that was recorded with the greatest number
 
 pub last_below : (k : ℕ) (row : List ℕ) → 0 < length row → AreBelow k row → last_of row < k
 last_below k [] f h = absurd (omega arith)

@@ -1,5 +1,6 @@
 -- Weakly increasing rows and strictly increasing columns, as conditions on the letters at each place.
-use Rattle.std.proofs.Common.{◌≡◌, ℕ, zero, suc, ◌+◌, ◌-◌, ◌<◌, ◌≤◌, true, ◌&&◌, nat_le, nat_lt, List, [], ◌∷◌, ◌++◌, length, drop, get_or, ◌∙◌, ap, refl, inl, inr, arith, length-append}
+use Rattle.std.proofs.lemmas.Grind.{common_steps}
+use Rattle.std.proofs.Common.{◌≡◌, ℕ, zero, suc, ◌+◌, ◌-◌, ◌<◌, ◌≤◌, true, nat_le, nat_lt, List, [], ◌∷◌, ◌++◌, length, drop, get_or, ◌∙◌, ap, refl, inl, inr, arith, length-append, rules}
 use Rattle.std.proofs.lemmas.Bool.{cases_lt, leb-true, ltb-true, le-leb, lt-ltb, and_parts, and_from}
 use Rattle.std.proofs.lemmas.List.{get_or_append_left, get_or-append-add, get_or-drop, length-drop}
 use Rattle.sym_model.specs.Partition.{Falls, part}
@@ -7,7 +8,7 @@ use Rattle.sym_model.specs.Schur.{row_rises, columns_rise, semistandard}
 use Rattle.sym_model.specs.Slide.{outer_parts}
 use Rattle.sym_model.proofs.Parts.{Falls-front}
 
--- ---- a place k is before the place p (k < p), or is p + j for some j
+-- ---- the two cases for places k and p: k is before p, or k = p + j for some j
 
 pub data Side (p k : ℕ) : Type 0 where
   before : k < p → Side p k
@@ -15,8 +16,6 @@ pub data Side (p k : ℕ) : Type 0 where
 
 pub side_of : (p k : ℕ) → Side p k
 side_of p k = elim (cases_lt k p) [ inl h ↦ before h | inr h ↦ from (k - p) (omega arith) ]
-
--- ---- weakly increasing rows, by places
 
 -- no letter of the word is smaller than the letter before it
 abbrev pub Rises : List ℕ → Type 0
@@ -42,30 +41,14 @@ rises-from (a ∷ b ∷ w) h =
     and_from (nat_le a b) (row_rises (b ∷ w)) (le-leb a b (h 0 (omega arith))) (rises-from (b ∷ w) (rises-next a (b ∷ w) h))
 
 pub rises_left : (v w : List ℕ) → Rises (v ++ w) → Rises v
-rises_left v w h k l =
-    omega (
-      arith,
-      h k (omega (arith, length-append v w)),
-      get_or_append_left v w 0 k (omega arith),
-      get_or_append_left v w 0 (k + 1) l,
-    )
+rises_left v w h k l = search (rules, length-append, get_or_append_left)
 
 pub rises_right : (v w : List ℕ) → Rises (v ++ w) → Rises w
-rises_right v w h k l =
-    let e : length v + k + 1 ≡ length v + (k + 1) = omega arith in
-    omega (
-      arith,
-      h (length v + k) (omega (arith, length-append v w)),
-      get_or-append-add v w k 0,
-      get_or-append-add v w (k + 1) 0,
-      ap (λ n. get_or (v ++ w) n 0) e,
-    )
+rises_right v w h k l = search (rules, length-append, get_or-append-add)
 
 pub rises_front : (a : ℕ) (w : List ℕ) → (0 < length w → a ≤ get_or w 0 0) → Rises w → Rises (a ∷ w)
 rises_front a w h r zero l = h (omega arith)
-rises_front a w h r (suc k) l =
-    let e : suc k + 1 ≡ suc (k + 1) = omega arith in
-    omega (arith, r k (omega arith), ap (λ n. get_or (a ∷ w) n 0) e)
+rises_front a w h r (suc k) l = grind (arith, common_steps)
 
 pub rises_append :
     (v w : List ℕ) → Rises v → Rises w → (0 < length v → 0 < length w → get_or v (length v - 1) 0 ≤ get_or w 0 0) → Rises (v ++ w)
@@ -96,8 +79,6 @@ rises_append v w r s h k l = elim (side_of (length v) (k + 1)) [
       )
 ]
 
--- ---- strictly increasing columns, by places
-
 -- each letter of the row `lower` that is below a letter of the row `upper` is greater than that letter; the letter of `upper` at place k is above
 -- place s + k of `lower`
 abbrev pub StandsUnder : ℕ → List ℕ → List ℕ → Type 0
@@ -107,13 +88,7 @@ columns-tell : (upper lower : List ℕ) → columns_rise upper lower ≡ true �
 columns-tell [] lower h k l m = absurd (omega arith)
 columns-tell (a ∷ upper) [] h k l m = absurd (omega arith)
 columns-tell (a ∷ upper) (b ∷ lower) h zero l m = ltb-true a b (and_parts (nat_lt a b) (columns_rise upper lower) h).0
-columns-tell (a ∷ upper) (b ∷ lower) h (suc k) l m =
-    let e : 0 + suc k ≡ suc (0 + k) = omega arith in
-    omega (
-      arith,
-      columns-tell upper lower (and_parts (nat_lt a b) (columns_rise upper lower) h).1 k (omega arith) (omega arith),
-      ap (λ n. get_or (b ∷ lower) n 0) e,
-    )
+columns-tell (a ∷ upper) (b ∷ lower) h (suc k) l m = search (rules, and_parts, (columns-tell upper lower))
 
 columns-from : (upper lower : List ℕ) → StandsUnder 0 upper lower → columns_rise upper lower ≡ true
 columns-from [] lower h = refl
@@ -136,51 +111,26 @@ stands-tells s upper lower h k l m =
     )
 
 pub stands-from : (s : ℕ) (upper lower : List ℕ) → StandsUnder s upper lower → columns_rise upper (drop s lower) ≡ true
-stands-from s upper lower h =
-    columns-from upper (drop s lower)
-    (λ k l m.
-    let e : 0 + k ≡ k = omega arith in
-    omega (
-      arith,
-      h k l (omega (arith, length-drop s lower)),
-      get_or-drop s lower k 0,
-      ap (λ n. get_or (drop s lower) n 0) e,
-    ))
-
--- ---- semistandard fillings: conditions on the first row, the row below it, and the other rows
+stands-from s upper lower h = search (rules, columns-from, length-drop, get_or-drop)
 
 -- the first row of a filling; the empty row if the filling has no row
 abbrev pub first_row : List (List ℕ) → List ℕ
 first_row rows = get_or rows 0 []
 
--- the row is weakly increasing, the letters below its letters in the next row are greater, and the rows below are semistandard
+-- the row is weakly increasing, each letter of the next row is greater than the letter of the row directly above it, and the rows below are
+-- semistandard
 pub record IsOrdered (inner row : List ℕ) (below : List (List ℕ)) : Type 0 where
   pub rises : Rises row
   pub stands : StandsUnder (part inner 1 - part inner 2) row (first_row below)
   pub later : semistandard (drop 1 inner) below ≡ true
 
 pub order-tells : (inner row : List ℕ) (below : List (List ℕ)) → semistandard inner (row ∷ below) ≡ true → IsOrdered inner row below
-order-tells inner row [] h = record {
-  rises = rises-tells row h;
-  stands = λ k l m. absurd (omega arith);
-  later = refl;
-}
-order-tells inner row (lower ∷ rest) h =
-    let s = part inner 1 - part inner 2 in
-    let p = and_parts (row_rises row && columns_rise row (drop s lower)) (semistandard (drop 1 inner) (lower ∷ rest)) h in
-    let q = and_parts (row_rises row) (columns_rise row (drop s lower)) p.0 in
-    record {
-      rises = rises-tells row q.0;
-      stands = stands-tells s row lower q.1;
-      later = p.1;
-    }
+order-tells inner row [] h = search (rules, rises-tells)
+order-tells inner row (lower ∷ rest) h = search (rules, and_parts, rises-tells, stands-tells)
 
 pub order-from : (inner row : List ℕ) (below : List (List ℕ)) → IsOrdered inner row below → semistandard inner (row ∷ below) ≡ true
 order-from inner row [] h = rises-from row h.rises
-order-from inner row (lower ∷ rest) h =
-    let s = part inner 1 - part inner 2 in
-    and_from (row_rises row && columns_rise row (drop s lower)) (semistandard (drop 1 inner) (lower ∷ rest))
-    (and_from (row_rises row) (columns_rise row (drop s lower)) (rises-from row h.rises) (stands-from s row lower h.stands)) h.later
+order-from inner row (lower ∷ rest) h = search (rules, and_from, rises-from, stands-from)
 
 -- the rows have a skew shape: the inner parts are weakly decreasing, and so are the inner parts plus the lengths of the rows
 abbrev pub HasShape : List ℕ → List (List ℕ) → Type 0
@@ -199,19 +149,14 @@ ends-first inner (row ∷ rows) = omega arith
 
 pub ends-fall : (rows : List (List ℕ)) (inner : List ℕ) → HasShape inner rows → Falls (outer_parts inner rows)
 ends-fall [] inner h = tt
-ends-fall (row ∷ below) inner h =
-    Falls-front (part inner 1 + length row) (outer_parts (drop 1 inner) below)
-    (omega (arith, ends-first (drop 1 inner) below, part_next inner 0, h.1)) (ends-fall below (drop 1 inner) h.2)
+ends-fall (row ∷ below) inner h = search (rules, Falls-front, ends-first, part_next, (ends-fall below (drop 1 inner) h.2))
 
 pub ends-at :
     (rows : List (List ℕ)) (inner : List ℕ) (k : ℕ) → k < length rows
     → get_or (outer_parts inner rows) k 0 ≡ get_or inner k 0 + length (get_or rows k [])
 ends-at [] inner k h = absurd (omega arith)
 ends-at (row ∷ rows) inner zero h = refl
-ends-at (row ∷ rows) inner (suc k) h =
-    let e : k + 1 ≡ suc k = omega arith in
-    ends-at rows (drop 1 inner) k (omega arith)
-    ∙ ap (λ x. x + length (get_or rows k [])) (part_next inner k ∙ ap (λ n. get_or inner n 0) e)
+ends-at (row ∷ rows) inner (suc k) h = search (rules, part_next, (ends-at rows (drop 1 inner) k (omega arith)))
 
 pub length-ends : (inner : List ℕ) (rows : List (List ℕ)) → length (outer_parts inner rows) ≡ length rows
 length-ends inner [] = refl

@@ -1,7 +1,7 @@
 -- The letters of a word inserted into one row, one after another: the row afterwards, and the word of the letters that are replaced.
-use Rattle.std.proofs.Common.{◌≡◌, ℕ, ◌<◌, ◌≤◌, List, [], ◌∷◌, ◌++◌, Option, Some, None, ◌∙◌, ap, ap₂, refl}
+use Rattle.std.proofs.Common.{◌≡◌, ℕ, ◌<◌, ◌≤◌, List, [], ◌∷◌, ◌++◌, Option, Some, None, ◌∙◌, ap, refl, rules}
 use Rattle.sym_model.specs.Insertion.{row_with, bumped, inserted}
-use Rattle.insertion_laws.proofs.InsertedRows.{with-less, with-more, bumped-less, bumped-more, inserted-none}
+use Rattle.insertion_laws.proofs.InsertedRows.{inserted-none}
 use Rattle.insertion_laws.proofs.InsertedWords.{inserted_word}
 use Rattle.sym_model.specs.Bounded.{AreAtLeast}
 
@@ -15,7 +15,7 @@ abbrev pub row_after : List ℕ → List ℕ → List ℕ
 row_after row [] = row
 row_after row (a ∷ w) = row_after (row_with a row) w
 
--- the word of the letters that are replaced, and so leave the row, when the letters of a word are inserted into it one after another
+-- the word of the letters that are replaced, and so leave the row, when the letters of a word are inserted into the row one after another
 abbrev pub letters_out : List ℕ → List ℕ → List ℕ
 letters_out row [] = []
 letters_out row (a ∷ w) = listed (bumped a row) ++ letters_out (row_with a row) w
@@ -29,27 +29,16 @@ pub run_none : (row : List ℕ) → IsRun row [] row []
 run_none row = record { row_is = refl; out_is = refl }
 
 pub run_less : (a b : ℕ) {row w new out : List ℕ} → a < b → IsRun (a ∷ row) w new out → IsRun (b ∷ row) (a ∷ w) new (b ∷ out)
-run_less a b {row} {w} l h =
-    record {
-      row_is = ap (λ v. row_after v w) (with-less a b row l) ∙ h.row_is;
-      out_is = ap₂ (λ o v. listed o ++ letters_out v w) (bumped-less a b row l) (with-less a b row l) ∙ ap (λ v. b ∷ v) h.out_is;
-    }
+run_less a b {row} {w} l h = search rules
 
 pub run_more :
     (a b : ℕ) {row w new out : List ℕ} → b ≤ a → IsRun (b ∷ row_with a row) w new out
     → IsRun (b ∷ row) (a ∷ w) new (listed (bumped a row) ++ out)
-run_more a b {row} {w} l h =
-    record {
-      row_is = ap (λ v. row_after v w) (with-more a b row l) ∙ h.row_is;
-      out_is = ap₂ (λ o v. listed o ++ letters_out v w) (bumped-more a b row l) (with-more a b row l)
-          ∙ ap (λ v. listed (bumped a row) ++ v) h.out_is;
-    }
+run_more a b {row} {w} l h = search rules
 
 pub run_past : (b : ℕ) (row w : List ℕ) → AreAtLeast b w → IsRun (b ∷ row) w (b ∷ row_after row w) (letters_out row w)
 run_past b row [] f = run_none (b ∷ row)
 run_past b row (a ∷ w) f = run_more a b f.0 (run_past b (row_with a row) w f.1)
-
--- ---- a word inserted into a tableau: its first row, and the rows below
 
 pub word-rows :
     (row : List ℕ) (rows : List (List ℕ)) (w : List ℕ)

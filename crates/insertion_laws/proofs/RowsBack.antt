@@ -1,5 +1,5 @@
 -- A letter inserted into a row, and the insertion undone: a letter b replaces the last letter smaller than b (`row_back`, `letter_back`).
-use Rattle.std.proofs.Common.{◌≡◌, ℕ, suc, ◌+◌, ◌<◌, ◌≤◌, cond, List, [], ◌∷◌, ◌++◌, length, Some, None, ◌∙◌, ap, ap₂, sym, refl, subst, inl, inr, arith}
+use Rattle.std.proofs.Common.{◌≡◌, ℕ, ◌+◌, ◌<◌, ◌≤◌, cond, List, [], ◌∷◌, ◌++◌, length, Some, None, ◌∙◌, ap, ap₂, sym, refl, subst, inl, inr, arith, rules}
 use Rattle.std.proofs.lemmas.Bool.{cases_lt, lt-ltb, le-ltb}
 use Rattle.std.proofs.lemmas.List.{length-append}
 use Rattle.sym_model.specs.Insertion.{row_with, bumped}
@@ -8,7 +8,7 @@ use Rattle.insertion_laws.specs.Removal.{row_back, letter_back, without_last, la
 use Rattle.insertion_laws.proofs.InsertedRows.{with-less, with-more, bumped-less, bumped-more, bumped_greater, with-end, some_same}
 use Rattle.tableau_laws.specs.Rows.{RisesFrom}
 
--- ---- the last letter of a row that is smaller than b, and the row with b in its place
+-- ---- the last of the letters of a row that are smaller than b, and the row with b in place of this letter
 
 pub back-more : (b a c : ℕ) (row : List ℕ) → c < b → row_back b (a ∷ c ∷ row) ≡ a ∷ row_back b (c ∷ row)
 back-more b a c row h = ap (λ t. cond t (a ∷ row_back b (c ∷ row)) (b ∷ c ∷ row)) (lt-ltb c b h)
@@ -37,18 +37,12 @@ letter-over b x (y ∷ row) h = letter-more b x y row h
 
 pub begins-with : (a b : ℕ) (row : List ℕ) → a < b → BeginsBelow b (row_with a row)
 begins-with a b [] h = h
-begins-with a b (y ∷ row) h = elim (cases_lt a y) [
-  | inl m ↦ subst (BeginsBelow b) (sym (with-less a y row m)) h
-  | inr m ↦ let less : y < b = omega arith in subst (BeginsBelow b) (sym (with-more a y row m)) less
-]
+begins-with a b (y ∷ row) h = search rules
 
 pub length-back : (b : ℕ) (row : List ℕ) → length (row_back b row) ≡ length row
 length-back b [] = refl
 length-back b (a ∷ []) = refl
-length-back b (a ∷ c ∷ row) = elim (cases_lt c b) [
-  | inl m ↦ ap length (back-more b a c row m) ∙ ap suc (length-back b (c ∷ row))
-  | inr m ↦ ap length (back-here b a c row m)
-]
+length-back b (a ∷ c ∷ row) = search (rules, cases_lt, back-more, back-here, (length-back b (c ∷ row)))
 
 pub letter_least : (b c x : ℕ) (row : List ℕ) → RisesFrom c (x ∷ row) → c ≤ letter_back b (x ∷ row)
 letter_least b c x [] h = h.0
@@ -89,12 +83,7 @@ bumped_again b c x (y ∷ row) l h = elim (cases_lt y b) [
 -- if inserting a into a weakly increasing row replaces b, then replacing the last letter smaller than b by b (`row_back`) gives the old row
 pub row_again : (a b c : ℕ) (row : List ℕ) → RisesFrom c row → bumped a row ≡ Some b → row_back b (row_with a row) ≡ row
 row_again a b c [] h e = cc
-row_again a b c (x ∷ []) h e = elim (cases_lt a x) [
-  | inl m ↦
-      let same : x ≡ b = some_same x b (sym (bumped-less a x [] m) ∙ e) in
-      ap (row_back b) (with-less a x [] m) ∙ ap (λ n. n ∷ []) (sym same)
-  | inr m ↦ let f = sym (bumped-more a x [] m) ∙ e in cc
-]
+row_again a b c (x ∷ []) h e = search rules
 row_again a b c (x ∷ y ∷ row) h e = elim (cases_lt a x) [
   | inl m ↦
       let same : x ≡ b = some_same x b (sym (bumped-less a x (y ∷ row) m) ∙ e) in
@@ -109,10 +98,7 @@ row_again a b c (x ∷ y ∷ row) h e = elim (cases_lt a x) [
 
 pub letter_again : (a b c : ℕ) (row : List ℕ) → RisesFrom c row → bumped a row ≡ Some b → letter_back b (row_with a row) ≡ a
 letter_again a b c [] h e = cc
-letter_again a b c (x ∷ []) h e = elim (cases_lt a x) [
-  | inl m ↦ ap (letter_back b) (with-less a x [] m)
-  | inr m ↦ let f = sym (bumped-more a x [] m) ∙ e in cc
-]
+letter_again a b c (x ∷ []) h e = search rules
 letter_again a b c (x ∷ y ∷ row) h e = elim (cases_lt a x) [
   | inl m ↦
       let same : x ≡ b = some_same x b (sym (bumped-less a x (y ∷ row) m) ∙ e) in
@@ -125,20 +111,12 @@ letter_again a b c (x ∷ y ∷ row) h e = elim (cases_lt a x) [
       ∙ letter_again a b x (y ∷ row) h.1 f
 ]
 
--- ---- two neighbouring rows, after a letter b has gone back from the lower to the upper row: if `lower` with b inserted can be below `upper`, then
--- `lower` can be below `row_back b upper`
+-- ---- if the row `lower` with b inserted can be below `upper`, then `lower` can be below `row_back b upper`
 
 pub begins-above : (b : ℕ) (lower upper : List ℕ) → StandsOn (row_with b lower) upper → BeginsBelow b upper
 begins-above b [] [] h = h
 begins-above b [] (x ∷ upper) h = h.0
-begins-above b (y ∷ lower) upper h = elim (cases_lt b y) [
-  | inl m ↦ by b (omega arith) lower upper (subst (λ l. StandsOn l upper) (with-less b y lower m) h)
-  | inr m ↦ by y m (row_with b lower) upper (subst (λ l. StandsOn l upper) (with-more b y lower m) h)
-]
-  where
-    by : (n : ℕ) → n ≤ b → (l u : List ℕ) → StandsOn (n ∷ l) u → BeginsBelow b u
-    by n le l [] h = h
-    by n le l (x ∷ u) h = omega (arith, h.0)
+begins-above b (y ∷ lower) upper h = search rules
 
 stands_back_high : (b y : ℕ) (lower upper : List ℕ) → b < y → RisesFrom y lower → StandsOn lower upper → StandsOn lower (row_back b upper)
 stands_back_high b y [] upper l h s = tt
@@ -174,8 +152,6 @@ stands_back b c (y ∷ lower) (x ∷ upper) r h s = elim (cases_lt b y) [
           (omega (arith, h), stands_back_high b y lower (z ∷ upper) m r.1 t)
       | inr n ↦ subst (StandsOn (y ∷ lower)) (sym (back-here b x z upper n)) (m, t)
     ]
-
--- ---- a row without its last letter, and its last letter
 
 pub ends : (row : List ℕ) → 0 < length row → without_last row ++ last_of row ∷ [] ≡ row
 ends [] h = absurd (omega arith)

@@ -8,8 +8,6 @@ use Rattle.sym_model.specs.Tableau.{are_letters}
 use Rattle.sym_model.proofs.Tableaux.{are_letters-append}
 use Rattle.insertion_laws.proofs.SlideSteps.{place_below, moved}
 
--- ---- the letters of words that are joined, and of words that are taken from a word, are positive
-
 letters-parts : (v w : List ℕ) → are_letters (v ++ w) ≡ true → (are_letters v ≡ true) × (are_letters w ≡ true)
 letters-parts [] w h = (refl, h)
 letters-parts (a ∷ v) w h =
@@ -22,8 +20,6 @@ letters-taken n w h = (letters-parts (take n w) (drop n w) (ap are_letters (take
 
 letters-dropped : (n : ℕ) (w : List ℕ) → are_letters w ≡ true → are_letters (drop n w) ≡ true
 letters-dropped n w h = (letters-parts (take n w) (drop n w) (ap are_letters (take-append-drop n w) ∙ h)).1
-
--- ---- the letters of the rows after a slide are positive
 
 -- all letters of all rows are positive
 abbrev pub AreLetters : List (List ℕ) → Type 0

@@ -1,5 +1,6 @@
--- After a slide the rows from the row of the empty cell on are semistandard.
-use Rattle.std.proofs.Common.{◌≡◌, ℕ, zero, suc, ◌+◌, ◌-◌, ◌<◌, ◌≤◌, true, false, List, [], ◌∷◌, ◌++◌, length, take, drop, get_or, ◌∙◌, ap, sym, refl, subst, inl, inr, arith, append_assoc, length-append}
+-- After a slide, the row of the empty cell and the rows below it are semistandard.
+use Rattle.std.proofs.lemmas.Grind.{common_steps}
+use Rattle.std.proofs.Common.{◌≡◌, ℕ, zero, suc, ◌+◌, ◌-◌, ◌<◌, ◌≤◌, true, false, List, [], ◌∷◌, ◌++◌, length, take, drop, get_or, ◌∙◌, ap, sym, refl, subst, inl, inr, arith, append_assoc, length-append, rules}
 use Rattle.std.proofs.lemmas.Bool.{cases_Bool, leb-true, leb-false}
 use Rattle.std.proofs.lemmas.List.{get_or_append_left, get_or-append-add, get_or-drop, get_or-take, length-drop, length-take-le, length_push, get_or_push, drop_all}
 use Rattle.sym_model.specs.Partition.{Falls, part}
@@ -9,8 +10,8 @@ use Rattle.sym_model.proofs.Parts.{Falls-front}
 use Rattle.insertion_laws.proofs.RisingRows.{before, from, side_of, Rises, rises_left, rises_right, rises_front, rises_append, rises-from, StandsUnder, first_row, order-tells, order-from, HasShape, ends-first, ends-fall, part_next}
 use Rattle.insertion_laws.proofs.SlideSteps.{place_below, slid-moves_left, slid-moves_up, slid-stops}
 
--- a first row with an empty cell between the words `left` and `right`, and the rows below it: they are semistandard and have a skew shape, except for
--- the empty cell
+-- a first row with an empty cell between the words `left` and `right`, and the rows `below` this row, are semistandard and have a skew shape, except
+-- for the empty cell
 pub record HasHole (inner left right : List ℕ) (below : List (List ℕ)) : Type 0 where
   pub falls : part inner 2 ≤ part inner 1
   pub rises : Rises (left ++ right)
@@ -38,36 +39,11 @@ pub record Slides (inner left right : List ℕ) (below : List (List ℕ)) : Type
   pub first : IsSlid left right (drop (place_below inner left) (first_row below)) (first_row (slid_rows inner left right below))
   pub falls : Falls (outer_parts inner (slid_rows inner left right below))
 
--- ---- the slide in the last row: the letters to the right of the empty cell move left
-
 last_slid : (left right : List ℕ) → Rises (left ++ right) → IsSlid left right [] (left ++ right)
-last_slid left right r = record {
-  long = omega (arith, length-append left right);
-  before = λ k h. get_or_append_left left right 0 k h;
-  here = λ x h l m.
-      let e : length left + 0 ≡ length left = omega arith in
-      omega (
-        arith,
-        h (omega (arith, length-append left right)),
-        get_or-append-add left right 0 0,
-        ap (λ n. get_or (left ++ right) n 0) e,
-      );
-  behind = λ k h l.
-      let e : length left + 1 + k ≡ length left + (k + 1) = omega arith in
-      omega (
-        arith,
-        rises_right left right r k (omega (arith, length-append left right)),
-        get_or-append-add left right (k + 1) 0,
-        ap (λ n. get_or (left ++ right) n 0) e,
-      );
-}
+last_slid left right r = search (rules, length-append, before, get_or_append_left, get_or-append-add, rises_right)
 
 slides_last : (inner left right : List ℕ) → HasHole inner left right [] → Slides inner left right []
-slides_last inner left right h = record {
-  order = rises-from (left ++ right) h.rises;
-  first = subst (λ w. IsSlid left right w (left ++ right)) (sym (drop_all (place_below inner left) [] (omega arith))) (last_slid left right h.rises);
-  falls = tt;
-}
+slides_last inner left right h = search (rules, rises-from, drop_all, place_below, last_slid)
 
 -- ---- the letter below the empty cell moves up, and the empty cell is then in the next row
 
@@ -75,52 +51,8 @@ pub hole_below :
     (inner row : List ℕ) (place : ℕ) (below : List (List ℕ)) → place < length row → HasShape inner (row ∷ below)
     → semistandard inner (row ∷ below) ≡ true → HasHole inner (take place row) (drop (place + 1) row) below
 hole_below inner row place below l s o =
-    let t = order-tells inner row below o in
-    let count : length (take place row) ≡ place = length-take-le place row (omega arith) in
-    let falls = s.0 in
-    let long = length-drop (place + 1) row in
-    record {
-      falls = s.0;
-      rises = rises_append (take place row) (drop (place + 1) row)
-          (λ k h.
-          omega (arith, t.rises k (omega arith), get_or-take place row k 0 (omega arith), get_or-take place row (k + 1) 0 (omega arith)))
-          (λ k h.
-          let e : place + 1 + k + 1 ≡ place + 1 + (k + 1) = omega arith in
-          omega (
-            arith,
-            t.rises (place + 1 + k) (omega arith),
-            get_or-drop (place + 1) row k 0,
-            get_or-drop (place + 1) row (k + 1) 0,
-            ap (λ n. get_or row n 0) e,
-          ))
-          (λ a b.
-          let e : length (take place row) - 1 + 1 ≡ place = omega arith in
-          let f : place + 1 + 0 ≡ place + 1 = omega arith in
-          omega (
-            arith,
-            t.rises (length (take place row) - 1) (omega arith),
-            t.rises place (omega arith),
-            get_or-take place row (length (take place row) - 1) 0 (omega arith),
-            get_or-drop (place + 1) row 0 0,
-            ap (λ n. get_or row n 0) e,
-            ap (λ n. get_or row n 0) f,
-          ));
-      before = λ k h m. omega (arith, t.stands k (omega arith) m, get_or-take place row k 0 (omega arith));
-      behind = λ k h m.
-          let e : place_below inner (take place row) + 1 + k ≡ part inner 1 - part inner 2 + (place + 1 + k) = omega arith in
-          omega (
-            arith,
-            t.stands (place + 1 + k) (omega arith) (omega arith),
-            get_or-drop (place + 1) row k 0,
-            ap (λ n. get_or (first_row below) n 0) e,
-          );
-      ends = omega (arith, s.1);
-      shape = s.2;
-      order = t.later;
-    }
+    search (rules, order-tells, length-take-le, length-drop, rises_append, get_or-take, get_or-drop, before, place_below, first_row)
 
--- if the letter b below the empty cell moves up, b is at most the letters of `right`, and the next rows are semistandard after the slide, then all
--- rows are semistandard after it
 risen_order :
     (inner left right row : List ℕ) (b : ℕ) (below rows : List (List ℕ)) → HasHole inner left right (row ∷ below)
     → place_below inner left < length row → b ≡ get_or row (place_below inner left) 0 → IsAtMost b right
@@ -202,16 +134,7 @@ risen_order inner left right row b below rows h l e m n o =
     })
 
 risen_slid : (left right lower : List ℕ) (b : ℕ) → IsSlid left right (b ∷ lower) (left ++ b ∷ right)
-risen_slid left right lower b = record {
-  long = omega (arith, length-append left (b ∷ right));
-  before = λ k h. get_or_append_left left (b ∷ right) 0 k h;
-  here = λ x h l m.
-      let e : length left + 0 ≡ length left = omega arith in
-      omega (arith, l (omega arith), get_or-append-add left (b ∷ right) 0 0, ap (λ n. get_or (left ++ b ∷ right) n 0) e);
-  behind = λ k h l.
-      let e : length left + 1 + k ≡ length left + suc k = omega arith in
-      omega (arith, get_or-append-add left (b ∷ right) (suc k) 0, ap (λ n. get_or (left ++ b ∷ right) n 0) e);
-}
+risen_slid left right lower b = grind (arith, common_steps)
 
 pub least_moves : (right lower : List ℕ) (b : ℕ) → moves_up right (b ∷ lower) ≡ true → IsAtMost b right
 least_moves [] lower b h l = absurd (omega arith)
@@ -250,8 +173,6 @@ slides_up inner left right row lower b below ih h e m =
             length-append left (b ∷ right),
           )) n.falls);
     }
-
--- ---- the empty cell has no letter to its right and none below: the slide ends
 
 slides_end : (inner left row : List ℕ) (below : List (List ℕ)) → HasHole inner left [] (row ∷ below) → drop (place_below inner left) row ≡ [] → Slides inner left [] (row ∷ below)
 slides_end inner left row below h e =
@@ -358,8 +279,6 @@ slid_right inner left right row first a below h m n =
             omega (arith, n.behind k (omega arith) (omega arith), ap (λ n. get_or first n 0) at)
       ];
     }
-
--- ---- after all moves of a slide, the rows from that of the empty cell on are semistandard
 
 pub data Shown (w : List ℕ) : Type 0 where
   nothing : w ≡ [] → Shown w

@@ -1,12 +1,12 @@
 -- The reading words of a tableau before and after a slide are in the same Knuth class.
-use Rattle.std.proofs.Common.{◌≡◌, ℕ, zero, suc, ◌+◌, ◌-◌, ◌<◌, ◌≤◌, true, List, [], ◌∷◌, ◌++◌, length, take, drop, get_or, ◌∙◌, ap, ap₂, sym, refl, subst, inl, inr, arith, append_assoc, append-nil}
+use Rattle.std.proofs.Common.{◌≡◌, ℕ, zero, suc, ◌+◌, ◌-◌, ◌<◌, ◌≤◌, true, List, [], ◌∷◌, ◌++◌, length, take, drop, get_or, ◌∙◌, ap, sym, refl, subst, inl, inr, arith, append_assoc, append-nil, rules}
 use Rattle.std.proofs.lemmas.Bool.{cases_Bool}
 use Rattle.std.proofs.lemmas.List.{take-append-drop, drop-drop, get_or-take, get_or-drop, length-take-le, length-drop, nil_from_length}
 use Rattle.sym_model.specs.Insertion.{reading_word}
 use Rattle.sym_model.specs.Knuth.{AreKnuthEquivalent, IsOnlyTableauOf}
-use Rattle.sym_model.specs.Partition.{part, in_front, without_last_zeros}
+use Rattle.sym_model.specs.Partition.{part, without_last_zeros}
 use Rattle.sym_model.specs.Schur.{semistandard, letters_of}
-use Rattle.sym_model.specs.Slide.{HasInnerCorner, IsReached, SlidesTo, lowered_at, moves_up, outer_parts, slid_rows, slide}
+use Rattle.sym_model.specs.Slide.{HasInnerCorner, IsReached, SlidesTo, moves_up, outer_parts, slid_rows, slide}
 use Rattle.sym_model.specs.Tableau.{IsTableau, IsStraightTableau, SkewFilling}
 use Rattle.sym_model.proofs.Tableaux.{row_lengths-none}
 use Rattle.insertion_laws.specs.Rows.{StandsOn}
@@ -19,8 +19,6 @@ use Rattle.insertion_laws.proofs.Classes.{◌⨾◌, one_word, same_word, behind
 use Rattle.insertion_laws.proofs.ReadingWords.{reading-more, only_tableau_from}
 use Rattle.insertion_laws.proofs.MovedUp.{IsOver, moves_between}
 use Rattle.tableau_laws.specs.Rows.{RisesFrom}
-
--- ---- weakly increasing rows and strictly increasing columns: from conditions at each place to conditions on lists
 
 rises_to_from : (c : ℕ) (w : List ℕ) → IsAtMost c w → Rises w → RisesFrom c w
 rises_to_from c [] h r = tt
@@ -39,8 +37,6 @@ stands_from [] right l h = tt
 stands_from (b ∷ lower) [] l h = absurd (omega arith)
 stands_from (b ∷ lower) (a ∷ right) l h =
     (h 0 (omega arith), stands_from lower right (omega arith) (λ k m. h (suc k) (omega arith)))
-
--- ---- if a letter moves up into the empty cell, the word of the letters of its row and of the row above stays in the same Knuth class
 
 row_split : (inner left row lower : List ℕ) (b : ℕ) → drop (place_below inner left) row ≡ b ∷ lower
     → row ≡ take (place_below inner left) row ++ b ∷ lower
@@ -84,8 +80,6 @@ rows_exchange inner left right row lower b below h e m =
     ⨾ behind v₀ (moves_between 0 b left v lower right over rising (rises_to_from b right m (rises_right left right h.rises)) stands)
     ⨾ same_word (sym (append_assoc v₀ v (lower ++ (left ++ b ∷ right))) ∙ ap (λ (w : List ℕ). w ++ (lower ++ (left ++ b ∷ right))) parts
     ∙ sym (append_assoc front lower (left ++ b ∷ right)) ∙ ap (λ (w : List ℕ). (front ++ w) ++ (left ++ b ∷ right)) (sym rest))
-
--- ---- all moves of a slide, from the row of the empty cell on, keep the Knuth class of the reading word
 
 class_up :
     (inner left right row lower : List ℕ) (b : ℕ) (below : List (List ℕ))
@@ -134,15 +128,13 @@ pub slid_class :
 slid_class [] inner left right h = one_word (reading_word ((left ++ right) ∷ []))
 slid_class (row ∷ below) inner left right h = class_row right inner left row below (slid_class below) h
 
--- ---- a slide keeps the Knuth class of the reading word of all rows, including the rows above that of the empty cell
+-- ---- a slide keeps the Knuth class of the reading word of all rows, including the rows above the row of the empty cell
 
 rows_class :
     (i : ℕ) (inner new : List ℕ) (rows : List (List ℕ)) → i < length rows → HasShape inner rows → semistandard inner rows ≡ true
     → IsLowered i inner new → AreKnuthEquivalent (reading_word rows) (reading_word (rows_from i new rows))
 rows_class i inner new [] m s o l = absurd (omega arith)
-rows_class zero inner new (row ∷ below) m s o l =
-    subst (λ w. AreKnuthEquivalent (reading_word (row ∷ below)) (reading_word (slid_rows new [] w below))) (sym (append-nil row))
-    (slid_class below new [] row (first_hole inner new row below s o l))
+rows_class zero inner new (row ∷ below) m s o l = search (rules, append-nil, slid_class, first_hole)
 rows_class (suc i) inner new (row ∷ rest) m s o l =
     let t = order-tells inner row rest o in
     let count : 1 + i ≡ suc i = omega arith in
@@ -156,28 +148,12 @@ rows_class (suc i) inner new (row ∷ rest) m s o l =
 reading-taken : (rows : List (List ℕ)) (inner : List ℕ)
     → reading_word (take (length (without_last_zeros (outer_parts inner rows))) rows) ≡ reading_word rows
 reading-taken [] inner = refl
-reading-taken (row ∷ rows) inner =
-    by (part inner 1 + length row) (without_last_zeros (outer_parts (drop 1 inner) rows)) refl (reading-taken rows (drop 1 inner))
-  where
-    longer : (n : ℕ) → reading_word (take n rows) ≡ reading_word rows → reading_word (row ∷ take n rows) ≡ reading_word (row ∷ rows)
-    longer n e = reading-more row (take n rows) ∙ ap (λ (w : List ℕ). w ++ row) e ∙ sym (reading-more row rows)
-
-    by : (n : ℕ) (ends : List ℕ) → part inner 1 + length row ≡ n → reading_word (take (length ends) rows) ≡ reading_word rows
-        → reading_word (take (length (in_front n ends)) (row ∷ rows)) ≡ reading_word (row ∷ rows)
-    by zero [] e h = ap₂ (λ (v w : List ℕ). v ++ w) h (sym (nil_from_length row (omega arith))) ∙ sym (reading-more row rows)
-    by zero (b ∷ ends) e h = longer (suc (length ends)) h
-    by (suc a) ends e h = longer (length ends) h
+reading-taken (row ∷ rows) inner = search (rules, reading-more, nil_from_length, (reading-taken rows (drop 1 inner)))
 
 pub slide_class :
     (row : ℕ) (t : SkewFilling) → IsTableau t.outer t.inner t.rows → HasInnerCorner row t.inner
     → AreKnuthEquivalent (reading_word t.rows) (reading_word (slide row t).rows)
-slide_class row t h c =
-    let new = without_last_zeros (lowered_at row t.inner) in
-    rows_class (row - 1) t.inner new t.rows (corner_row row t h c)
-    (shape-from t.rows t.outer t.inner h.cells h.holds h.outside.falls h.inside.falls) h.order (corner-lowered row t.inner c)
-    ⨾ same_word (sym (reading-taken (rows_from (row - 1) new t.rows) new))
-
--- ---- several slides, one after another, keep the Knuth class of the reading word
+slide_class row t h c = search (rules, rows_class, corner_row, shape-from, corner-lowered, same_word, reading-taken, rows_from)
 
 pub slides_class :
     (chosen : List ℕ) (t s : SkewFilling) → IsTableau t.outer t.inner t.rows → SlidesTo t chosen s
@@ -189,16 +165,12 @@ slides_class (row ∷ chosen) t s h g =
     (slide_class row t h g.0 ⨾ r.0, r.1)
 
 straight_from : (s : SkewFilling) → IsTableau s.outer s.inner s.rows → s.inner ≡ [] → IsStraightTableau s.rows
-straight_from s h e =
-    let k : IsTableau s.outer [] s.rows = subst (λ i. IsTableau s.outer i s.rows) e h in
-    subst (λ o. IsTableau o [] s.rows) (sym (k.cells ∙ row_lengths-none s.outer)) k
+straight_from s h e = search (rules, row_lengths-none)
 
 -- if slides lead from t to a straight tableau s, the rows of s are the only straight tableau whose reading word is in the Knuth class of the reading
 -- word of t
 pub reached_only : (t s : SkewFilling) → IsTableau t.outer t.inner t.rows → IsReached t s → IsOnlyTableauOf (reading_word t.rows) s.rows
-reached_only t s h r =
-    let c = slides_class r.chosen t s h r.slides in
-    only_tableau_from (reading_word t.rows) s.rows (straight_from s c.1 r.straight) c.0
+reached_only t s h r = search (rules, slides_class, only_tableau_from, straight_from)
 
 -- if s is a straight tableau, and its reading word is in the Knuth class of w, then the rows of s are the only straight tableau whose reading word is
 -- in this class

@@ -1,5 +1,5 @@
 -- A slide of a semistandard tableau gives a semistandard tableau.
-use Rattle.std.proofs.Common.{◌≡◌, ℕ, zero, suc, ◌+◌, ◌-◌, ◌<◌, ◌≤◌, true, List, [], map, length, take, drop, get_or, ◌∙◌, ap, sym, refl, subst, inl, inr, arith}
+use Rattle.std.proofs.Common.{◌≡◌, ℕ, zero, suc, ◌+◌, ◌-◌, ◌<◌, ◌≤◌, true, List, [], map, length, take, drop, get_or, ◌∙◌, ap, sym, refl, inl, inr, arith, rules}
 use Rattle.std.proofs.lemmas.Bool.{cases_eq, cases_lt}
 use Rattle.std.proofs.lemmas.List.{ext_get_or, get_or-map, get_or-take, get_or_past, length-map, length-take-le}
 use Rattle.strip_laws.proofs.Containment.{contains-from, contains-tells}
@@ -15,21 +15,9 @@ use Rattle.insertion_laws.proofs.SlidLetters.{AreLetters-append, AreLetters-take
 use Rattle.insertion_laws.proofs.KeptOrder.{IsLowered, ends-kept, length-rows_from, lowered_less, rows_from, order-kept, semistandard-taken, shape-from}
 use Rattle.strip_laws.proofs.Strips.{falls_at}
 
--- ---- the inner partition after a slide: one part is lowered by 1
-
 part_lowered : (row : ℕ) (inner : List ℕ) → HasInnerCorner row inner → IsLowered (row - 1) inner (lowered_at row inner)
 part_lowered zero inner h = absurd (omega (arith, h.0))
-part_lowered (suc i) inner h =
-    let e : suc i - 1 ≡ i = omega arith in
-    let f : suc i + 1 - 1 ≡ i + 1 = omega arith in
-    let corner : get_or inner (i + 1) 0 < get_or inner i 0 =
-    omega (arith, h.1, ap (λ n. get_or inner n 0) e, ap (λ n. get_or inner n 0) f) in
-    subst (λ n. IsLowered n inner (lowered_at (suc i) inner)) (sym e)
-    (record {
-      here = omega (arith, get_or-lowered inner i);
-      others = λ k d. get-not_lowered inner i k d;
-      corner = corner;
-    })
+part_lowered (suc i) inner h = search (rules, get_or-lowered, get-not_lowered)
 
 pub corner-lowered : (row : ℕ) (inner : List ℕ) → HasInnerCorner row inner → IsLowered (row - 1) inner (without_last_zeros (lowered_at row inner))
 corner-lowered row inner h =
@@ -40,15 +28,11 @@ corner-lowered row inner h =
       corner = l.corner;
     }
 
--- the inner partition after a slide has one cell less
 pub slide-smaller : (row : ℕ) (t : SkewFilling) → HasInnerCorner row t.inner → size (slide row t).inner + 1 ≡ size t.inner
 slide-smaller zero t h = absurd (omega (arith, h.0))
-slide-smaller (suc i) t h =
-    let e : suc i - 1 ≡ i = omega arith in
-    let some : 0 < get_or t.inner i 0 = omega (arith, h.1, ap (λ n. get_or t.inner n 0) e) in
-    omega (arith, size-without_last_zeros (lowered_at (suc i) t.inner), size-lowered t.inner i some)
+slide-smaller (suc i) t h = search (rules, size-without_last_zeros, size-lowered)
 
--- ---- the number of rows of a tableau is that of its outer partition, so it has the row in which a slide begins
+-- ---- a tableau has one row for each entry of its outer partition, so it has the row in which a slide begins
 
 pub count-rows : (t : SkewFilling) → IsTableau t.outer t.inner t.rows → length t.rows ≡ length t.outer
 count-rows t h =
@@ -58,8 +42,6 @@ pub corner_row : (row : ℕ) (t : SkewFilling) → IsTableau t.outer t.inner t.r
 corner_row row t h c =
     let count = count-rows t h in
     omega (arith, positive_within t.outer (row - 1) (omega (arith, contains-tells t.outer t.inner h.holds row, c.1)))
-
--- ---- the outer and inner partitions after the slide
 
 falls-lowered : (i : ℕ) (inner new : List ℕ) → Falls inner → IsLowered i inner new → Falls new
 falls-lowered i inner new f l =
@@ -77,8 +59,6 @@ falls-lowered i inner new f l =
       | inr d ↦ omega (arith, l.others k d, falls_at inner f k, lowered_less i (k + 1) inner new l)
     ])
 
--- rows of positive letters that are semistandard for the inner partition `new`, and whose outer parts are weakly decreasing, are a tableau; its outer
--- partition is the list of the outer parts without the zeros at its end
 built : (new : List ℕ) (rows : List (List ℕ)) → IsPartition new → Falls (outer_parts new rows)
     → ((k : ℕ) → length rows ≤ k → get_or new k 0 ≡ 0)
     → are_letters (letters_of rows) ≡ true → semistandard new rows ≡ true

@@ -1,6 +1,7 @@
 -- A slide as a sequence of moves of the empty cell: to the right or down, until the slide ends.
-use Rattle.std.proofs.Common.{◌≡◌, ℕ, suc, ◌+◌, ◌-◌, ◌<◌, ◌≤◌, Bool, true, false, cond, nat_le, List, [], ◌∷◌, ◌++◌, length, take, drop, ◌∙◌, ap, ap₂, sym, refl, arith, append_assoc, append-nil}
-use Rattle.std.proofs.lemmas.Bool.{le-leb, lt-leb}
+use Rattle.std.proofs.lemmas.Grind.{common_steps}
+use Rattle.std.proofs.Common.{◌≡◌, ℕ, suc, ◌+◌, ◌-◌, ◌≤◌, Bool, true, false, cond, nat_le, List, [], ◌∷◌, ◌++◌, length, take, drop, ◌∙◌, ap, ap₂, sym, arith, append_assoc, append-nil, rules}
+use Rattle.std.proofs.lemmas.Bool.{le-leb}
 use Rattle.std.proofs.lemmas.List.{drop-drop, length_push, length-drop}
 use Rattle.sym_model.specs.Partition.{part}
 use Rattle.sym_model.specs.Slide.{moves_up, moves_left, slid_rows}
@@ -22,10 +23,7 @@ moved inner left right row = moves_left right (drop (place_below inner left) row
 rows_at-next :
     (inner : List ℕ) (n k m a : ℕ) (left right row : List ℕ) (below : List (List ℕ)) → n ≡ k
     → rows_at inner n (suc m) left (a ∷ right) row below ≡ rows_at inner k m (left ++ a ∷ []) right row below
-rows_at-next inner n k m a left right row below e =
-    ap (λ i. rows_at inner i (suc m) left (a ∷ right) row below) e
-    ∙ ap (λ (w : List ℕ). w ∷ cond (nat_le (length row) k) (row ∷ below) (slid_rows (drop 1 inner) (take k row) (drop (k + 1) row) below))
-    (sym (append_assoc left (a ∷ []) (take m right ++ (take 1 (drop k row) ++ drop m right))))
+rows_at-next inner n k m a left right row below e = search (rules, append_assoc)
 
 -- if the letter a to the right of the empty cell moves left, the slide continues with a as the last letter to the left of the empty cell
 pub slid-moves_left :
@@ -56,19 +54,7 @@ pub slid-moves_up :
     → slid_rows inner left right (row ∷ below)
     ≡ (left ++ b ∷ right)
     ∷ slid_rows (drop 1 inner) (take (place_below inner left) row) (drop (place_below inner left + 1) row) below
-slid-moves_up inner left right row lower b below e h =
-    let p = place_below inner left in
-    let count : moved inner left right row ≡ 0 = ap (moves_left right) e ∙ stays right lower b h in
-    let long : p < length row = omega (arith, length-drop p row, ap length e) in
-    let here : p + 0 ≡ p = omega arith in
-    ap (λ n. rows_at inner (p + n) n left right row below) count
-    ∙ ap (λ n. rows_at inner n 0 left right row below) here
-    ∙ ap₂ (λ (w : List ℕ) (t : Bool). (left ++ (take 1 w ++ right)) ∷ cond t (row ∷ below) (slid_rows (drop 1 inner) (take p row) (drop (p + 1) row) below))
-    e (lt-leb (length row) p long)
-  where
-    stays : (right lower : List ℕ) (b : ℕ) → moves_up right (b ∷ lower) ≡ true → moves_left right (b ∷ lower) ≡ 0
-    stays [] lower b h = refl
-    stays (a ∷ right) lower b h = ap (λ t. cond t 0 (suc (moves_left right lower))) h
+slid-moves_up inner left right row lower b below e h = grind (arith, common_steps)
 
 -- if the empty cell has no letter to its right and none below, the slide ends: the rows are unchanged
 pub slid-stops :

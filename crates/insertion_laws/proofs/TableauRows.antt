@@ -1,6 +1,6 @@
 -- Straight tableaux (`IsStraightTableau`) and standard tableaux, described row by row (`AreRows`).
-use Rattle.std.proofs.Common.{◌≡◌, ◌≢◌, ℕ, zero, suc, ◌+◌, ◌<◌, ◌≤◌, ◌==◌, ◌&&◌, true, cond, List, [], ◌∷◌, ◌++◌, map, length, replicate, ◌∙◌, ap, ap₂, sym, refl, inl, inr, arith, nat_lt, nat_le}
-use Rattle.std.proofs.lemmas.Bool.{cases_lt, cases_eq, lt-ltb, le-ltb, le-leb, leb-true, ltb-true, eq-eqb, ne_eqb, and_from, and_parts}
+use Rattle.std.proofs.Common.{◌≡◌, ℕ, zero, suc, ◌+◌, ◌<◌, ◌≤◌, ◌==◌, ◌&&◌, true, cond, List, [], ◌∷◌, ◌++◌, map, length, replicate, ◌∙◌, ap, ap₂, sym, refl, inl, inr, arith, nat_lt, nat_le, rules}
+use Rattle.std.proofs.lemmas.Bool.{cases_lt, cases_eq, lt-ltb, le-ltb, le-leb, leb-true, ltb-true, and_from, and_parts}
 use Rattle.sym_model.specs.Partition.{Falls, ArePositive, after}
 use Rattle.sym_model.specs.PlaceOrders.{smaller}
 use Rattle.sym_model.specs.Schur.{row_rises, columns_rise, semistandard, letters_of, times_in}
@@ -48,21 +48,10 @@ columns_from (b ∷ lower) (a ∷ upper) h = and_from (nat_lt a b) (columns_rise
 order_from : (m : ℕ) (rows : List (List ℕ)) → AreRows m rows → semistandard [] rows ≡ true
 order_from m [] h = refl
 order_from m (row ∷ []) h = rises_from m row h.0.rises
-order_from m (row ∷ lower ∷ rest) h =
-    and_from (row_rises row && columns_rise row lower) (semistandard [] (lower ∷ rest))
-    (and_from (row_rises row) (columns_rise row lower) (rises_from m row h.0.rises) (columns_from lower row h.0.stands))
-    (order_from m (lower ∷ rest) h.1)
+order_from m (row ∷ lower ∷ rest) h = search (rules, and_from, rises_from, columns_from, (order_from m (lower ∷ rest) h.1))
 
 pub tableau_from : (rows : List (List ℕ)) → AreRows 1 rows → IsStraightTableau rows
-tableau_from rows h =
-    record {
-      outside = record { falls = falls_from 1 rows h; positive = positive_from 1 rows h };
-      inside = record { falls = tt; positive = tt };
-      holds = refl;
-      cells = sym (row_lengths-none (shape_of rows));
-      letters = all_letters rows h;
-      order = order_from 1 rows h;
-    }
+tableau_from rows h = search (rules, falls_from, positive_from, row_lengths-none, all_letters, order_from)
 
 -- ---- the rows of a straight tableau satisfy `AreRows`
 
@@ -123,20 +112,7 @@ ones_tell f a (suc n) j h l m = elim (cases_eq j (a + 1)) [
     rest = cc
 
 one_smaller : (a k : ℕ) → cond (nat_lt a (k + 1)) 1 0 ≡ cond (nat_lt a k) 1 0 + cond (a == k) 1 0
-one_smaller a k = elim (cases_lt a k) [
-  | inl h ↦
-      let n : a ≢ k = omega arith in
-      ap {B = ℕ} (λ t. cond t 1 0) (lt-ltb a (k + 1) (omega arith))
-      ∙ sym (ap₂ (λ s t. cond s 1 0 + cond t 1 0) (lt-ltb a k h) (ne_eqb a k n))
-  | inr h ↦ elim (cases_eq a k) [
-    | inl e ↦
-        ap {B = ℕ} (λ t. cond t 1 0) (lt-ltb a (k + 1) (omega arith))
-        ∙ sym (ap₂ (λ s t. cond s 1 0 + cond t 1 0) (le-ltb a k h) (eq-eqb a k e))
-    | inr e ↦
-        ap {B = ℕ} (λ t. cond t 1 0) (le-ltb a (k + 1) (omega arith))
-        ∙ sym (ap₂ (λ s t. cond s 1 0 + cond t 1 0) (le-ltb a k h) (ne_eqb a k e))
-  ]
-]
+one_smaller a k = search rules
 
 smaller-more : (k : ℕ) (w : List ℕ) → smaller (k + 1) w ≡ smaller k w + times_in k w
 smaller-more k [] = refl
@@ -150,15 +126,7 @@ none_smaller (a ∷ w) h =
 
 all_smaller : (n : ℕ) (w : List ℕ) → are_letters w ≡ true → ((j : ℕ) → 1 ≤ j → j ≤ n → times_in j w ≡ 1) → smaller (n + 1) w ≡ n
 all_smaller zero w h o = none_smaller w h
-all_smaller (suc n) w h o =
-    let e : n + 1 ≡ suc n = omega arith in
-    omega (
-      arith,
-      smaller-more (suc n) w,
-      ap (λ k. smaller k w) e,
-      all_smaller n w h (λ j l m. o j l (omega arith)),
-      o (suc n) (omega arith) (omega arith),
-    )
+all_smaller (suc n) w h o = search (rules, smaller-more, (all_smaller n w h))
 
 below_from : (k : ℕ) (w : List ℕ) → smaller k w ≡ length w → AreBelow k w
 below_from k [] h = tt
@@ -174,8 +142,6 @@ below_split k (a ∷ v) w h = let r = below_split k v w h.1 in ((h.0, r.0), r.1)
 below_rows : (k : ℕ) (q : List (List ℕ)) → AreBelow k (letters_of q) → RowsBelow k q
 below_rows k [] h = tt
 below_rows k (row ∷ q) h = let r = below_split k row (letters_of q) h in (r.0, below_rows k q r.1)
-
--- a straight tableau p and a standard tableau q of the same shape satisfy `IsPairAt 1 n p q`, n being the number of cells of q
 
 pub pair_from :
     (p q : List (List ℕ)) → IsStraightTableau p → IsStandard q → shape_of p ≡ shape_of q → IsPairAt 1 (length (letters_of q)) p q
@@ -194,9 +160,4 @@ pair_from p q t s e =
     }
 
 pub standard_from : (m n : ℕ) (p q : List (List ℕ)) → IsPairAt m n p q → IsStandard q
-standard_from m n p q h =
-    let long : length (letters_of q) ≡ n = length-letters_of q ∙ h.cells in
-    record {
-      tableau = tableau_from q h.q_rows;
-      once = ones_from (λ k. times_in k (letters_of q)) 0 (length (letters_of q)) (λ j l r. h.once j (omega arith) (omega arith));
-    }
+standard_from m n p q h = search (rules, length-letters_of, tableau_from, ones_from)

@@ -1,60 +1,30 @@
 -- A Knuth step between two words does not change the insertion tableau.
-use Rattle.std.proofs.Common.{◌≡◌, ◌⊎◌, ℕ, ◌<◌, ◌≤◌, List, [], ◌∷◌, ◌++◌, Some, ◌∙◌, ap, ap₂, sym, subst, inl, inr, arith}
+use Rattle.std.proofs.Common.{◌≡◌, ◌⊎◌, ℕ, ◌<◌, ◌≤◌, List, [], ◌∷◌, ◌++◌, Some, ◌∙◌, ap, ap₂, sym, inl, inr, arith, rules}
 use Rattle.sym_model.specs.Insertion.{inserted, insertion_pair}
-use Rattle.sym_model.specs.Knuth.{IsFirstExchange, IsSecondExchange, AreKnuthRelated, IsKnuthStep, IsKnuthChain, AreKnuthEquivalent}
+use Rattle.sym_model.specs.Knuth.{AreKnuthRelated, IsKnuthStep, IsKnuthChain, AreKnuthEquivalent}
 use Rattle.insertion_laws.specs.Rows.{AreRows}
 use Rattle.insertion_laws.proofs.InsertedRows.{keeps_rows}
 use Rattle.insertion_laws.proofs.InsertedWords.{inserted_word, word-append, first-tableau}
-use Rattle.insertion_laws.proofs.RowRuns.{row_after, letters_out, word-rows}
-use Rattle.insertion_laws.proofs.OneRow.{AreAlike, first_none, second_none, first_alike, second_alike}
-use Rattle.insertion_laws.proofs.Classes.{related_back}
+use Rattle.insertion_laws.proofs.RowRuns.{letters_out, word-rows}
+use Rattle.insertion_laws.proofs.OneRow.{AreAlike, first_alike, second_alike}
 use Rattle.tableau_laws.specs.Rows.{RisesFrom}
 
--- ---- two words of three letters that are related by a Knuth relation, inserted into a tableau
-
--- if a symmetric relation P holds of y z x and y x z for x < y ≤ z, and of x z y and z x y for x ≤ y < z, it holds of any two words that are related
--- by a Knuth relation
 related_cases :
     (P : List ℕ → List ℕ → Type 0) → ((v w : List ℕ) → P v w → P w v)
     → ((x y z : ℕ) → x < y → y ≤ z → P (y ∷ z ∷ x ∷ []) (y ∷ x ∷ z ∷ []))
     → ((x y z : ℕ) → x ≤ y → y < z → P (x ∷ z ∷ y ∷ []) (z ∷ x ∷ y ∷ []))
     → (v w : List ℕ) → AreKnuthRelated v w → P v w
-related_cases P back one two v w r = by r
-  where
-    of_first : (v w : List ℕ) → IsFirstExchange v w → P v w
-    of_first v w h = subst (λ a. P a w) (sym h.before) (subst (λ b. P (h.y ∷ h.z ∷ h.x ∷ []) b) (sym h.after) (one h.x h.y h.z h.below h.within))
-
-    of_second : (v w : List ℕ) → IsSecondExchange v w → P v w
-    of_second v w h = subst (λ a. P a w) (sym h.before) (subst (λ b. P (h.x ∷ h.z ∷ h.y ∷ []) b) (sym h.after) (two h.x h.y h.z h.within h.below))
-
-    by : AreKnuthRelated v w → P v w
-    by (inl (inl h)) = of_first v w h
-    by (inl (inr h)) = back w v (of_first w v h)
-    by (inr (inl h)) = of_second v w h
-    by (inr (inr h)) = back w v (of_second w v h)
+related_cases P back one two v w r = search rules
 
 alike_back : (row v w : List ℕ) → AreAlike row v w → AreAlike row w v
-alike_back row v w a = record { rows_same = sym a.rows_same; out = by a.out }
-  where
-    by : (letters_out row v ≡ letters_out row w) ⊎ AreKnuthRelated (letters_out row v) (letters_out row w)
-        → (letters_out row w ≡ letters_out row v) ⊎ AreKnuthRelated (letters_out row w) (letters_out row v)
-    by (inl e) = inl (sym e)
-    by (inr r) = inr (related_back (letters_out row v) (letters_out row w) r)
+alike_back row v w a = search rules
 
 related_alike : (c : ℕ) (row v w : List ℕ) → RisesFrom c row → AreKnuthRelated v w → AreAlike row v w
 related_alike c row v w h =
     related_cases (AreAlike row) (alike_back row) (λ x y z l m. first_alike c x y z row l m h) (λ x y z l m. second_alike c x y z row l m h) v w
 
 none_same : (v w : List ℕ) → AreKnuthRelated v w → inserted_word [] v ≡ inserted_word [] w
-none_same v w r =
-    related_cases (λ v w. inserted_word [] v ≡ inserted_word [] w) (λ v w e. sym e)
-    (λ x y z l m. by (y ∷ z ∷ x ∷ []) (y ∷ x ∷ z ∷ []) (first_none x y z l m))
-    (λ x y z l m. by (x ∷ z ∷ y ∷ []) (z ∷ x ∷ y ∷ []) (second_none x y z l m)) v w r
-  where
-    by : (v w : List ℕ) → (row_after [] v ≡ row_after [] w) × (letters_out [] v ≡ letters_out [] w)
-        → inserted_word ([] ∷ []) v ≡ inserted_word ([] ∷ []) w
-    by v w e =
-        word-rows [] [] v ∙ ap₂ (λ (r o : List ℕ). r ∷ inserted_word [] o) e.0 e.1 ∙ sym (word-rows [] [] w)
+none_same v w r = search rules
 
 pub triple_same :
     (m : ℕ) (rows : List (List ℕ)) (v w : List ℕ) → AreRows m rows → AreKnuthRelated v w
@@ -71,7 +41,7 @@ triple_same m (row ∷ rows) v w h r =
     by (inl e) rec = ap (inserted_word rows) e
     by (inr r) rec = rec r
 
--- ---- inserting a word into a tableau gives a tableau; all words of a Knuth class have the same insertion tableau
+-- ---- all words of a Knuth class have the same insertion tableau
 
 pub keeps_word : (w : List ℕ) (rows : List (List ℕ)) → AreRows 0 rows → AreRows 0 (inserted_word rows w)
 keeps_word [] rows h = h

@@ -1,5 +1,5 @@
 -- Row insertion is a bijection between words and pairs of a tableau and a standard tableau of the same shape.
-use Rattle.std.proofs.Common.{◌≡◌, ◌≢◌, ℕ, zero, suc, ◌+◌, ◌<◌, ◌≤◌, ◌==◌, true, cond, List, [], ◌∷◌, ◌++◌, length, Some, ◌∙◌, ap, ap₂, sym, refl, subst, inl, inr, arith, nat_le, append-nil, append_assoc}
+use Rattle.std.proofs.Common.{◌≡◌, ◌≢◌, ℕ, zero, suc, ◌+◌, ◌<◌, ◌≤◌, ◌==◌, true, cond, List, [], ◌∷◌, ◌++◌, length, Some, ◌∙◌, ap, ap₂, sym, refl, subst, inl, inr, arith, nat_le, append_assoc, rules}
 use Rattle.std.proofs.lemmas.Bool.{cases_eq, eq-eqb, ne_eqb, leb-true, and_parts}
 use Rattle.std.proofs.lemmas.List.{length-append}
 use Rattle.sym_model.specs.Insertion.{inserted, with_step, inserted_from, insertion_pair}
@@ -63,15 +63,7 @@ pair_run m n (a ∷ w) p q f h =
     subst (λ i. IsPairAt m i r.0 r.1) e (pair_run m (n + 1) w next (with_step (n + 1) next q) f.1 (pair_step m n a p q f.0 h))
 
 no_pair : (m : ℕ) → IsPairAt m 0 [] []
-no_pair m =
-    record {
-      p_rows = tt;
-      q_rows = tt;
-      shapes = refl;
-      below = tt;
-      once = λ j f t. absurd (omega arith);
-      cells = refl;
-    }
+no_pair m = search rules
 
 pub pair_of : (m : ℕ) (w : List ℕ) → AreAtLeast m w → IsPairAt m (length w) (insertion_pair w).0 (insertion_pair w).1
 pair_of m w f =
@@ -85,8 +77,6 @@ from_zero (a ∷ w) = (omega arith, from_zero w)
 pub from_letters : (w : List ℕ) → are_letters w ≡ true → AreAtLeast 1 w
 from_letters [] h = tt
 from_letters (a ∷ w) h = let p = and_parts (nat_le 1 a) (are_letters w) h in (leb-true 1 a p.0, from_letters w p.1)
-
--- ---- undoing the insertions of a word gives the word
 
 step_back :
     (m n a : ℕ) (p q : List (List ℕ)) → IsPairAt m n p q
@@ -108,9 +98,7 @@ step_back m n a p q h =
 run_back :
     (m n : ℕ) (w : List ℕ) (p q : List (List ℕ)) → AreAtLeast m w → IsPairAt m n p q
     → steps_back (n + length w) (inserted_from (n + 1) w p q).0 (inserted_from (n + 1) w p q).1 ≡ steps_back n p q ++ w
-run_back m n [] p q f h =
-    let e : n + 0 ≡ n = omega arith in
-    ap (λ i. steps_back i p q) e ∙ sym (append-nil (steps_back n p q))
+run_back m n [] p q f h = search rules
 run_back m n (a ∷ w) p q f h =
     let next = inserted p (Some a) in
     let e : n + suc (length w) ≡ n + 1 + length w = omega arith in
@@ -133,9 +121,7 @@ pair_after k a r = let next = inserted r.0 (Some a) in (next, with_step k next r
 
 pub inserted-more :
     (k a : ℕ) (w : List ℕ) (p q : List (List ℕ)) → inserted_from k (w ++ a ∷ []) p q ≡ pair_after (k + length w) a (inserted_from k w p q)
-inserted-more k a [] p q =
-    let e : k ≡ k + 0 = omega arith in
-    ap (λ i. pair_after i a (p, q)) e
+inserted-more k a [] p q = search rules
 inserted-more k a (b ∷ w) p q =
     let next = inserted p (Some b) in
     let e : k + 1 + length w ≡ k + suc (length w) = omega arith in
@@ -195,10 +181,7 @@ pair_before m n p q h =
     )
 
 pub pair_again : (m n : ℕ) (p q : List (List ℕ)) → IsPairAt m n p q → insertion_pair (steps_back n p q) ≡ (p, q)
-pair_again m zero p q h =
-    let q_none = no_cells 1 q h.q_rows h.cells in
-    let p_none = no_cells m p h.p_rows (ap size h.shapes ∙ h.cells) in
-    ap₂ {C = List (List ℕ) × List (List ℕ)} (λ (x y : List (List ℕ)). (x, y)) (sym p_none) (sym q_none)
+pair_again m zero p q h = search (rules, no_cells)
 pair_again m (suc n) p q h =
     let off = removed (row_ending (suc n) q) p in
     let rest = without_step (suc n) q in

@@ -1,5 +1,5 @@
--- One move of a letter into the empty cell: the slide that continues after the move ends with the same rows as the slide that continues before it.
--- Rows are lists, and places are counted from 0.
+-- One move of a letter into the empty cell of a slide (jeu de taquin): continuing the slide after the move and continuing it before the move give the
+-- same rows at the end. Rows are lists, and places are counted from 0.
 use Rattle.std.proofs.Common.{◌≡◌, ℕ, suc, ◌+◌, ◌-◌, ◌<◌, ◌≤◌, true, false, List, [], ◌∷◌, ◌++◌, length, take, drop, get_or, ◌∙◌, ap, ap₂, sym, arith, append_assoc, append-nil}
 use Rattle.std.proofs.Math.ListN.{set}
 use Rattle.std.proofs.lemmas.List.{take-set, take_more_set, drop-set-lt, set_split, get_or-set_same, get_or-set_other, drop-drop, drop_more, length-take-le, get_or-drop, drop_all}
@@ -13,11 +13,9 @@ abbrev pub slid_at : ℕ → ℕ → List ℕ → List (List ℕ) → List (List
 slid_at n p inner rows =
     take n rows ++ slid_rows (drop n inner) (take p (get_or rows n [])) (drop (p + 1) (get_or rows n [])) (drop (n + 1) rows)
 
--- the letters of row n + 1 from the column of the place p of row n on
+-- the letters of row n + 1, beginning in the column of the cell at the place p of row n
 abbrev pub lower_at : ℕ → ℕ → List ℕ → List (List ℕ) → List ℕ
 lower_at n p inner rows = drop (get_or inner n 0 + p - get_or inner (n + 1) 0) (get_or rows (n + 1) [])
-
--- ---- the inner partition without its first n parts
 
 this_part : (inner : List ℕ) (n : ℕ) → part (drop n inner) 1 ≡ get_or inner n 0
 this_part inner n = let e : n + 0 ≡ n = omega arith in get_or-drop n inner 0 0 ∙ ap (λ k. get_or inner k 0) e
@@ -27,8 +25,6 @@ next_part inner n = get_or-drop n inner 1 0
 
 place-is : (inner left : List ℕ) (n p : ℕ) → length left ≡ p → place_below (drop n inner) left ≡ get_or inner n 0 + p - get_or inner (n + 1) 0
 place-is inner left n p e = ap₂ (λ x y. x - y) (ap₂ (λ x y. x + y) (this_part inner n) e) (next_part inner n)
-
--- ---- a move of the right neighbour into the empty cell
 
 slid-left_at :
     (inner left right : List ℕ) (a : ℕ) (below : List (List ℕ)) → part inner 2 ≤ part inner 1
@@ -61,8 +57,6 @@ moved_left n p a inner right rows h k f e m =
     ∙ slid-left_at (drop n inner) (take p R) right a (drop (n + 1) rows) falls (ap (moves_up (a ∷ right)) lower ∙ m)
     ∙ ap (λ (w : List ℕ). slid_rows (drop n inner) (take p R) w (drop (n + 1) rows)) (sym e))
 
--- ---- a move of the lower neighbour into the empty cell
-
 pub moved_up :
     (n p q b : ℕ) (inner lower : List ℕ) (rows : List (List ℕ)) → n + 1 < length rows → p < length (get_or rows n [])
     → q ≡ get_or inner n 0 + p - get_or inner (n + 1) 0 → lower_at n p inner rows ≡ b ∷ lower
@@ -93,8 +87,6 @@ moved_up n p q b inner lower rows h k at e m =
     (sym place_is) (sym inner_next)
     ∙ ap (λ (v : List (List ℕ)). take n rows ++ v) (sym step)
     ∙ ap (λ (v : List (List ℕ)). take n rows ++ slid_rows (drop n inner) (take p R) (drop (p + 1) R) v) (sym rest)
-
--- ---- the end of the slide: an empty cell without neighbours on the right and below is removed
 
 pub stopped :
     (n p : ℕ) (inner : List ℕ) (rows : List (List ℕ)) → n < length rows → length (get_or rows n []) ≡ p + 1 → lower_at n p inner rows ≡ []

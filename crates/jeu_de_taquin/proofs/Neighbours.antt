@@ -20,8 +20,6 @@ use Rattle.jeu_de_taquin.specs.EmptyCell.{next_of}
 use Rattle.jeu_de_taquin.proofs.Moves.{lower_at}
 use Rattle.strip_laws.proofs.Strips.{falls_at}
 
--- ---- the lengths of the rows of a filling
-
 pub count-rows : (t : SkewFilling) → IsFilling t → length t.rows ≡ length t.outer
 count-rows t f =
     sym (length-map t.rows (λ (w : List ℕ). length w)) ∙ ap length f.cells ∙ length-row_lengths t.outer t.inner
@@ -29,8 +27,6 @@ count-rows t f =
 pub count-row : (t : SkewFilling) (k : ℕ) → IsFilling t → k < length t.rows → length (get_or t.rows k []) ≡ get_or t.outer k 0 - get_or t.inner k 0
 count-row t k f h =
     sym (get_or-map (λ (w : List ℕ). length w) t.rows k [] 0 h) ∙ ap (λ (w : List ℕ). get_or w k 0) f.cells ∙ get_or-row_lengths t.outer t.inner k
-
--- ---- fillings with one entry changed, or one cell added
 
 pub IsFilling-with_entry : (t : SkewFilling) (row column a : ℕ) → IsFilling t → IsFilling (with_entry t row column a)
 IsFilling-with_entry t row column a f =
@@ -89,8 +85,6 @@ IsFilling-with_inner_cell t row f c =
               ap (λ (w : List ℕ). length w) (get_or-set_other t.rows (row - 1) i (0 ∷ row_of t.rows row) [] d)
               ∙ count-row t i f h ∙ ap (λ x. get_or t.outer i 0 - x) (sym (less.others i d))
         ]
-
--- ---- a cell (row, column), given by its row and its place in the row, counted from 0
 
 pub record IsAt (t : SkewFilling) (row column : ℕ) : Type 0 where
   pub row_counts : 1 ≤ row

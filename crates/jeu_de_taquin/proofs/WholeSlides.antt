@@ -18,8 +18,6 @@ use Rattle.jeu_de_taquin.proofs.Neighbours.{count-row, count-rows}
 pub IsFilling-tableau : (t : SkewFilling) → IsTableauWithin t → IsFilling t
 IsFilling-tableau t h = record { shape = h.shape; cells = h.tableau.cells }
 
--- ---- the start of a slide: a corner of the inner partition becomes a cell of the shape, the empty cell
-
 pub corner_cell :
     (t : SkewFilling) (row : ℕ) → IsTableauWithin t → HasInnerCorner row t.inner
     → IsCell t.outer (without_last_zeros (lowered_at row t.inner)) row (part t.inner row)
@@ -53,8 +51,6 @@ slid_from-corner t row h c =
     ∙ ap₂ (λ (v w : List (List ℕ)). v ++ slid_rows (drop n new) [] R w) (take-set t.rows n (0 ∷ R)) below
     ∙ ap (λ (w : List ℕ). take n t.rows ++ slid_rows (drop n new) [] w (drop (row - 1 + 1) t.rows)) (sym (append-nil R))
     ∙ ap (λ (v : List (List ℕ)). take n t.rows ++ slid_rows (drop n new) [] (letters_of (take 1 v)) (drop 1 v)) (sym rest)
-
--- ---- the end of a slide: the parts of the outer partition when the last empty cell is removed
 
 ends-kept :
     (rows : List (List ℕ)) (outer inner : List ℕ) → map length rows ≡ row_lengths outer inner → contains outer inner ≡ true
@@ -153,12 +149,9 @@ is_tableau-slide row t h c =
     let k = slide-keeps row t h.tableau c in
     ap₂ (λ a b. a && b) k.letters k.order
 
--- ---- sequences of slides from one tableau to another
-
 pub reached-next : (t s : SkewFilling) (row : ℕ) → HasInnerCorner row t.inner → IsReached (slide row t) s → IsReached t s
 reached-next t s row c r = record { chosen = row ∷ r.chosen; slides = (c, r.slides); straight = r.straight }
 
--- a partition that is not empty has a corner in its last row
 pub last_corner : (parts : List ℕ) → IsPartition parts → 0 < length parts → HasInnerCorner (length parts) parts
 last_corner parts h l =
     (omega arith, omega (arith, positive-at parts (length parts - 1) h.positive (omega arith), get_or_past parts (length parts + 1 - 1) 0 (omega arith)))

@@ -1,4 +1,4 @@
--- The labels of a table with one term, and of a table to which a term is added.
+-- The labels of a table, which is a list of terms with different labels: if it has only one term, or after one more term is added.
 use Rattle.std.proofs.Common.{◌≡◌, ◌≤◌, ℕ, Bool, true, List, [], ◌∷◌, refl, sym, subst}
 use Rattle.std.proofs.Common.{inl, inr, arith, ℤ, pos, ◌+ℤ◌}
 use Rattle.std.specs.Cmp.{IsEquivalence}
@@ -15,7 +15,6 @@ use Rattle.beta_sets.proofs.ShapeSums.{one_label}
 module _ {L : Type 0} {eq : L → L → Bool} (laws : IsEquivalence eq)
     (same : (x y : L) → eq x y ≡ true → x ≡ y) {is_label : L → Bool} (old new : WholeTermsOf L)
     (k : L) (c : ℤ) where
-  -- if P holds for the labels of the table `old`, and for the label k at which c is added, it holds for all labels of `new`
   pub one_more_has : IsCombination eq is_label whole old → IsCombination eq is_label whole new
       → HasMoreAt eq (pos 0) (λ x y. x +ℤ y) old k c new
       → (P : L → Type 0) → HaveLabels P old → P k → HaveLabels P new
@@ -23,7 +22,6 @@ module _ {L : Type 0} {eq : L → L → Bool} (laws : IsEquivalence eq)
       labels_gained laws same old ((k, c) ∷ []) new also
       (gains_term laws same old new was also k c more) P there (one_label P k c here)
 
-  -- if the table `old` is empty, and c is added at the label k, then P holds for all labels of `new` if it holds for k
   pub only_has : old ≡ [] → IsCombination eq is_label whole old
       → IsCombination eq is_label whole new
       → HasMoreAt eq (pos 0) (λ x y. x +ℤ y) old k c new
@@ -32,7 +30,6 @@ module _ {L : Type 0} {eq : L → L → Bool} (laws : IsEquivalence eq)
       one_more_has was also more P
       (subst (λ ts. HaveLabels P ts) (sym none) (λ t m. absurd m)) here
 
--- if each label of a list has a size of at most `bound`, the greatest size of a label is at most `bound`
 pub sizes_bounded : {R : Type 0} (bound : ℕ) (terms : List (List ℕ × R))
     → ((t : List ℕ × R) → Among t terms → size t.0 ≤ bound) → greatest_size terms ≤ bound
 sizes_bounded bound [] each = omega arith

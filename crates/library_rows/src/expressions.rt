@@ -1,4 +1,5 @@
-//! Calls that test whether the weight of an expression is below a bound, with their results.
+//! Calls that test whether the weight of an expression, a number computed from its coefficients and
+//! its degree, is below a bound, with their results.
 use anyhow::Result;
 use expression_reading::{Basis, read_expression};
 use row_texts::{said, truth};
@@ -14,8 +15,8 @@ pub fn print(rt: &(impl Print + Alloc<A = Global>)) -> Result<()> {
     )
 }
 
-/// Reads a word as an expression for the target m, and prints whether the weight of the expression
-/// is below 2^127, or that the word is refused.
+/// Reads a word as an expression to be expanded in the basis m, and prints whether the weight of
+/// the expression is below 2^127, or that the word is refused.
 fn row(rt: &(impl Print + Alloc<A = Global>), what: &str, word: &str) -> Result<()> {
     match read_expression(rt.alloc(), Basis::M, word.as_bytes()) {
         Ok(formula) => truth(rt, what, formula.weight_below(Basis::M, 1 << 127)),

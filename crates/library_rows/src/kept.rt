@@ -1,4 +1,5 @@
-//! Calls of a store (`Memo`) with room for one Schubert polynomial, with their results.
+//! Calls of a store of computed Schubert polynomials (`Memo`) that can hold only one of them, with
+//! their results.
 use crate::printing::polynomial;
 use anyhow::Result;
 use coeff_rings::Int;

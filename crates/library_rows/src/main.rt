@@ -1,7 +1,8 @@
 //! Prints the results of calls of library functions that no command calls, one row for each call.
-//! The rows show a fact that no contract states: the calls find memory and return a result. (For
-//! the functions that a command calls, the test cases of the commands show it.) The output is
-//! compared with `stdout`, whose lines were written from the definitions and from outside values.
+//! The rows show a fact that no contract states: the calls find enough memory and return a result.
+//! (For the functions that a command calls, the test cases of the commands show this.) The output
+//! is compared with the file `stdout`, whose lines were written from the definitions or by
+//! independent programs.
 //!
 //! What is proved:
 //!

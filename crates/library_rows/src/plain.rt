@@ -1,5 +1,4 @@
-//! Calls of the plain programs, that is, of the slow programs that follow the definitions, with
-//! their results.
+//! Calls of the slow programs that follow the definitions, with their results.
 use anyhow::Result;
 use plain_programs::{
     Core, Signed, plain_alcove, plain_arrangements, plain_beta, plain_column_reading,

@@ -15,7 +15,7 @@ pub fn print(rt: &(impl Print + Alloc<A = Global>)) -> Result<()> {
     sum(rt, "m_1 m_1", square(rt.alloc())?)
 }
 
-/// The list in m of the polynomial m_1.
+/// The polynomial m_1, as a list of terms in the basis m.
 fn one_cell(alloc: Global) -> Result<Lin<Partition, Int>>
     ensures { IfOk result (λ list. greatest_size list ≤ 1) }
 {
@@ -24,7 +24,7 @@ fn one_cell(alloc: Global) -> Result<Lin<Partition, Int>>
     Ok(list)
 }
 
-/// The list in m of the product m_1·m_1.
+/// The product m_1·m_1, as a list of terms in the basis m.
 fn square(alloc: Global) -> Result<Lin<Partition, Int>> {
     let left = one_cell(alloc)?;
     let right = one_cell(alloc)?;

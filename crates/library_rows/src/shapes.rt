@@ -1,4 +1,4 @@
-//! The skew shapes to which the calls of this program are applied.
+//! Makes the skew shapes that `listed.rt` applies calls to.
 use anyhow::Result;
 use partitions::Partition;
 use skew_shapes::Skew;

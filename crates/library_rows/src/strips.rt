@@ -32,7 +32,7 @@ fn with_hook(alloc: Global) -> Result<Expansion> {
     Ok(add_hook(alloc, one_cell(alloc)?, 2)?)
 }
 
-/// The expansion s_(1). Its label has room for two more cells (`HaveRoomForStrips`).
+/// The expansion s_(1). Its label is small enough for two more cells (`HaveRoomForStrips`).
 fn one_cell(alloc: Global) -> Result<Expansion>
     ensures { IfOk result (HaveRoomForStrips 2) }
 {

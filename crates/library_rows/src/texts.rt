@@ -6,7 +6,8 @@ use expansion_printer::Kind;
 use expression_reading::Basis;
 use std::alloc::Global;
 
-/// Prints the results of reading blocks and one-line forms.
+/// Prints the results of reading answers back from their printed texts: from blocks, which have a
+/// line for each term, and from one-line forms.
 pub fn print(rt: &(impl Print + Alloc<A = Global>)) -> Result<()> {
     blocks(rt)?;
     line(rt, "the line of s_(2,1) in p", "-1/3*p[3]+1/3*p[1,1,1]\n")?;

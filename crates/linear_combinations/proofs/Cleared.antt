@@ -1,4 +1,5 @@
--- Terms added to a table of fractions by several additions, one after another (`GainsCleared` of specs/Cleared).
+-- Terms added to a table, a list of labels with fractions as coefficients, by several additions, one after another. `GainsCleared` of specs/Cleared
+-- states that q·new = q·old + (the added terms), where q is a common denominator.
 use Rattle.std.proofs.Common.{◌≡◌, ℕ, ◌*◌, Bool, List, [], ◌∷◌, ◌++◌, refl, sym, ap, ◌∙◌, subst}
 use Rattle.std.proofs.Common.{arith, ℤ}
 use Rattle.std.specs.Int.{◌∣◌}
@@ -10,7 +11,6 @@ use Rattle.linear_combinations.specs.Cleared.{AreCleared, GainsCleared, Overflow
 use Rattle.linear_combinations.proofs.Gains.{gains_none, gains_as, gains_both, pairs_overflow}
 use native.Mathlib.Nat.{dvd-mul_left}
 
--- a common denominator of a list is a denominator of each of its coefficients
 pub denominator_among : {L : Type 0} {q : ℕ} {terms : Terms L} → IsCommonDenominator q terms
     → (t : L × Fraction) → Among t terms → IsDenominator q t.1
 denominator_among common t m = record {
@@ -49,9 +49,9 @@ module _ {L : Type 0} {eq : L → L → Bool} {is_label : L → Bool} (q : ℕ) 
         a.gains b.gains;
   }
 
--- let gained(xs ++ ys) = gained(xs) ++ gained(ys), and let q·cur be q·old plus the terms gained(done) (`GainsCleared`): adding gained(p ∷ []) to
--- q·cur gives q·old plus gained(done ++ p ∷ []), and if this overflows, so does adding the terms of a whole list that begins with `done` and p to
--- q·old
+-- one more step of a loop that adds the terms gained(p ∷ []) of each element p, where gained(xs ++ ys) = gained(xs) ++ gained(ys). If q·cur is q·old
+-- plus gained(done), adding gained(p ∷ []) to q·cur gives q·old plus gained(done ++ p ∷ []). If this addition overflows, so does adding the terms of
+-- a whole list that begins with `done` and p to q·old
 module _ {A L : Type 0} (gained : List A → WholeTermsOf L)
     (pieces : (xs ys : List A) → gained (xs ++ ys) ≡ gained xs ++ gained ys)
     {eq : L → L → Bool} {is_label : L → Bool} (q : ℕ) (done : List A) (p : A) (old cur : Terms L)

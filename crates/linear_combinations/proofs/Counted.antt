@@ -1,8 +1,10 @@
 -- Lists of labels whose coefficients are the values of a function at the labels (`each_by`), and lists in which no coefficient is negative.
 --     each_by-over, -labels, -append    the sum Σ c·φ(label) for a list made by `each_by`, its labels, and the list for xs ++ ys
 --     counted_counts                    coefficients that are natural numbers are not negative
---     counts_gain, counts_overflow      if Σ c·φ(label) is the same for two lists and every φ, then adding a multiple of one list to a table gives
---                                       the same as for the other list, and overflows if it does for the other
+--     counts_gain                       suppose that Σ c·φ(label) is the same for the lists g and h, for every φ. If a list is `old` plus a multiple
+--                                       of g, then it is `old` plus the same multiple of h
+--     counts_overflow                   suppose moreover that g and h have no negative coefficient. If adding a multiple of g to `old` overflows,
+--                                       then so does adding the same multiple of h
 --     replaced_at, replaced_mass        the image of a list under a linear map whose value at each label is known
 use Rattle.std.proofs.Common.{◌≡◌, ℕ, ◌+◌, ◌*◌, Bool, List, [], ◌∷◌, ◌++◌, refl, sym, ap, ap₂, ◌∙◌, subst, inl, inr, arith, ℤ, pos, ◌+ℤ◌, ◌*ℤ◌}
 use Rattle.std.specs.Prelude.{nat_abs, ◌≤ℤ◌}
@@ -37,8 +39,6 @@ counted_counts {L} count labels t m =
     let r = Among_from_map (λ (x : L). (x, pos (count x))) t labels m in
     subst (λ (u : L × ℤ). pos 0 ≤ℤ u.1) (sym r.2) (omega (arith, ints))
 
--- ---- if Σ c·φ(label) is the same for the lists g and h and every φ, adding a multiple of g to a table gives the same as adding this multiple of h
-
 module _ {L : Type 0} (g h : WholeTermsOf L) (same : (φ : L → ℤ) → over φ g ≡ over φ h) where
   pub counts_gain : (c : ℤ) (old new : WholeTermsOf L) → Gains old (scaled c g) new → Gains old (scaled c h) new
   counts_gain c old new a =
@@ -53,8 +53,6 @@ module _ {L : Type 0} (g h : WholeTermsOf L) (same : (φ : L → ℤ) → over �
       let e = ap (λ n. nat_abs c * n) (pos_equal (sym (counts_at eq x g p) ∙ same (only eq x) ∙ counts_at eq x h q)) in
       omega arith) o
 
--- ---- the image of a list under a linear map, if Σ c·φ(label) over the image of each label k is `value k`
-
 module _ {K L : Type 0} (image : K → WholeTermsOf L) (value : K → ℤ) where
   pub replaced_at : (φ : L → ℤ) (terms : WholeTermsOf K) → ((t : K × ℤ) → Among t terms → over φ (image t.0) ≡ value t.0)
       → over φ (replaced image terms) ≡ over value terms
@@ -62,8 +60,6 @@ module _ {K L : Type 0} (image : K → WholeTermsOf L) (value : K → ℤ) where
       replaced_over image φ terms
       ∙ total_among (λ (t : K × ℤ). t.1 *ℤ over φ (image t.0)) (λ (t : K × ℤ). t.1 *ℤ value t.0) terms (λ t m. ap (λ z. t.1 *ℤ z) (h t m))
 
-  -- if no image has a negative coefficient and `value k` is the coefficient of x in the image of k, the absolute values of the coefficients of x in
-  -- the image of the list sum up to the sum of |c|·value k over the terms (k, c) of the list
   pub replaced_mass : (eq : L → L → Bool) (x : L) (terms : WholeTermsOf K) → ((k : K) → AreCounts (image k))
       → ((t : K × ℤ) → Among t terms → over (only eq x) (image t.0) ≡ value t.0)
       → pos (mass_at eq x (replaced image terms)) ≡ total (λ (t : K × ℤ). pos (nat_abs t.1) *ℤ value t.0) terms

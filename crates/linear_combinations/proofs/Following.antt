@@ -1,4 +1,6 @@
--- A list is canonical if and only if each term may follow the one before it (`each_follows`).
+-- A list of terms is canonical if its labels are in strictly increasing order and each term satisfies `is_term` (its label is within the limits of
+-- its type, and its coefficient is in lowest terms and not 0). A term *may follow* a label if the term satisfies `is_term` and has a strictly greater
+-- label. A list is canonical if and only if each term may follow the label of the term before it (`each_follows`).
 use Rattle.std.proofs.Common.{◌≡◌, ◌≤◌, ◌<◌, ℕ, ◌+◌, arith, suc, Bool, true, false, ◌&&◌, List, [], ◌∷◌, refl, sym, ap, ◌∙◌, subst, drop, length, get_or, Some, None, Option, pos}
 use Rattle.std.specs.Prelude.{not, IsTrue, ◌↔◌}
 use Rattle.std.specs.Ordering.{is_lt}
@@ -11,7 +13,6 @@ use Rattle.coeff_rings.specs.Fractions.{whole, InLowestTerms}
 use Rattle.linear_combinations.specs.Entries.{is_ordered, are_terms, is_canonical_list, is_next, each_follows}
 use Rattle.linear_combinations.proofs.LowestTerms.{is_reduced-lowest}
 
--- a fraction c in lowest terms passes the test `is_reduced` of a coefficient if and only if it is not 0
 pub reduced-unless_zero : (c : Fraction) (is_zero : Bool) → InLowestTerms c → (IsTrue is_zero ↔ (c ≡ whole (pos 0))) → not is_zero ≡ is_reduced c
 reduced-unless_zero c true lowest tells = subst (λ (d : Fraction). false ≡ is_reduced d) (sym (tells.0 refl)) refl
 reduced-unless_zero c false lowest tells = sym (is_reduced-lowest c lowest (λ e. let clash : false ≡ true = tells.1 e in cc))
@@ -29,8 +30,6 @@ regroup true false within true rest = refl
 regroup true false within false rest = refl
 regroup false reduced within ordered rest = refl
 
--- the first of the terms may follow the label `previous`, and each later term the one before it, if and only if the labels are in strict order after
--- `previous` and each term satisfies `is_term`
 follows-label : {L R : Type 0} (order : L → L → Ordering) (is_label : L → Bool) (value : R → Fraction) (previous : L) (c : R) (terms : List (L × R))
     → each_follows order is_label value (Some previous) terms ≡ (is_ordered order ((previous, c) ∷ terms) && are_terms value is_label terms)
 follows-label order is_label value previous c [] = refl
@@ -38,7 +37,6 @@ follows-label order is_label value previous c (t ∷ terms) =
     ap (λ b. is_next order is_label value (Some previous) t && b) (follows-label order is_label value t.0 t.1 terms)
     ∙ regroup (is_lt (order previous t.0)) (is_reduced (value t.1)) (is_label t.0) (is_ordered order (t ∷ terms)) (are_terms value is_label terms)
 
--- a list is canonical if and only if each term may follow the one before it
 pub canonical-follows : {L R : Type 0} (order : L → L → Ordering) (is_label : L → Bool) (value : R → Fraction) (terms : List (L × R))
     → each_follows order is_label value None terms ≡ is_canonical_list order is_label value terms
 canonical-follows order is_label value [] = refl
@@ -46,19 +44,15 @@ canonical-follows order is_label value (t ∷ terms) =
     ap (λ b. (is_reduced (value t.1) && is_label t.0) && b) (follows-label order is_label value t.0 t.1 terms)
     ∙ regroup true (is_reduced (value t.1)) (is_label t.0) (is_ordered order (t ∷ terms)) (are_terms value is_label terms)
 
--- the pairs from the index `at` on are the pair p at this index and those after it
 pairs-from : {L R : Type 0} (pairs : List (L × R)) (at : ℕ) (p : L × R) → at < length pairs
     → p ≡ get_or pairs at p → drop at pairs ≡ p ∷ drop (at + 1) pairs
 pairs-from pairs at p below is =
     let next : suc at ≡ at + 1 = omega arith in
     drop-cons pairs at p below ∙ ap (λ q. q ∷ drop (suc at) pairs) (sym is) ∙ ap (λ k. p ∷ drop k pairs) next
 
--- ---- one pass of a loop over pairs of labels and scalars, in which each pair before the index `at` may follow the one before it
-
 module _ {L R : Type 0} (order : L → L → Ordering) (is_label : L → Bool) (value : R → Fraction) (pairs : List (L × R)) (at : ℕ)
     (previous : Option L)
     (so_far : each_follows order is_label value None pairs ≡ each_follows order is_label value previous (drop at pairs)) where
-  -- if the pair at the index `at` may not follow the previous one, the list is not canonical
   pub follows-not : (p : L × R) → at < length pairs → p ≡ get_or pairs at p → is_next order is_label value previous p ≡ false
       → false ≡ is_canonical_list order is_label value pairs
   follows-not p below is other =
@@ -66,7 +60,6 @@ module _ {L R : Type 0} (order : L → L → Ordering) (is_label : L → Bool) (
       ∙ ap (each_follows order is_label value previous) (pairs-from pairs at p below is)
       ∙ ap (λ b. b && each_follows order is_label value (Some p.0) (drop (at + 1) pairs)) other)
 
-  -- if no pair is left at the index `at`, the list is canonical
   pub follows-all : length pairs ≤ at → true ≡ is_canonical_list order is_label value pairs
   follows-all none =
       sym (sym (canonical-follows order is_label value pairs) ∙ so_far

@@ -1,4 +1,4 @@
--- The coefficient of a label in a table of integers, and lists with the same sums Σ c·φ(label).
+-- Lists of terms with integer coefficients: the coefficient of a label, and lists that have the same sum Σ c·φ(label) for every function φ of labels.
 use Rattle.std.proofs.Common.{◌≡◌, ◌⊎◌, inl, inr, ℕ, ◌+◌, ◌^◌, ◌≤◌, Bool, true, false, cond, List, [], ◌∷◌, ◌++◌, refl, sym, ap, ◌∙◌, arith, ℤ, pos, negsuc, ◌+ℤ◌, ◌*ℤ◌}
 use Rattle.std.specs.Prelude.{Option, nat_abs, nat_eq, ◌≤ℤ◌}
 use Rattle.std.specs.Cmp.Lexicographic.{pointwise, nat_list_eq_equiv}
@@ -21,7 +21,6 @@ use Rattle.linear_combinations.proofs.Gains.{over_at, over_append}
 use Rattle.linear_combinations.proofs.Totals.{found-among}
 use lib.IntN.{*ℤ-zero, +ℤ_idl}
 
--- if no coefficient of a list is negative, the sum of its coefficients at a label is the sum of their absolute values
 pub counts_at : {L : Type 0} (eq : L → L → Bool) (x : L) (g : WholeTermsOf L) → AreCounts g → over (only eq x) g ≡ pos (mass_at eq x g)
 counts_at eq x [] h = refl
 counts_at {L} eq x (t ∷ g) h = by (eq x t.0) t.1 (h t (inl refl)) (counts_at eq x g (λ u m. h u (inr m)))
@@ -51,17 +50,14 @@ coefficient_over g x =
 pub coefficient_found : (terms : WholeTermsOf (List ℕ)) → IsDistinct (pointwise nat_eq) (keys_of terms) → (x : List ℕ) → coefficient_of terms x ≡ coefficient (pointwise nat_eq) (pos 0) terms x
 coefficient_found terms distinct x = coefficient_over terms x ∙ over_at nat_list_eq_equiv same_partition terms distinct x
 
--- if no label occurs twice in a list, the coefficient of the label of a term t is the coefficient of t
 pub coefficient_of_term : (terms : WholeTermsOf (List ℕ)) → IsDistinct (pointwise nat_eq) (keys_of terms) → (t : List ℕ × ℤ) → Among t terms → coefficient_of terms t.0 ≡ t.1
 coefficient_of_term terms distinct t m =
     coefficient_found terms distinct t.0
     ∙ ap (λ (o : Option ℤ). unwrap_or o (pos 0)) (found-among nat_list_eq_equiv same_partition terms distinct t m)
 
--- if `new` is `old` plus the terms `gained` (`Gains`), it has the coefficients of `old` with these terms appended
+-- if `new` is `old` plus the terms `gained` (`Gains`), each label has the same coefficient in `new` as in the list `old ++ gained`
 pub gains_same : (old gained new : WholeTermsOf (List ℕ)) → Gains old gained new → Same new (old ++ gained)
 gains_same old gained new a = same_from_pair new (old ++ gained) (λ φ. a.sums φ ∙ sym (over_append φ old gained))
-
--- ---- a table that was empty before terms were added
 
 pub coefficient_gained : (old gained new : WholeTermsOf (List ℕ)) (x : List ℕ) → old ≡ [] → Gains old gained new
     → coefficient_of new x ≡ over (only (pointwise nat_eq) x) gained

@@ -1,4 +1,7 @@
--- Terms added to a table of integers by several additions, one after another (`Gains` of specs/Gains).
+-- Terms added to a table, a list of labels with integers as coefficients, by several additions, one after another. Here `Gains old g new` of
+-- specs/Gains states that new = old + g as formal sums. `Overflows eq old g`: at some label, the absolute values of the coefficient of `old` and of
+-- all coefficients of g sum up to at least 2^127. A table *refuses* a term (label, c) if c and the coefficient of the table at this label fit i128,
+-- but their sum does not. `RefusesFirst` states that a table refuses the first term of a list.
 use Rattle.std.proofs.Common.{◌≡◌, ◌⊎◌, ℕ, suc, ◌+◌, ◌^◌, ◌<◌, ◌≤◌, Bool, true, false, cond, List, [], ◌∷◌, ◌++◌, length, take, drop, get_or, refl, sym, ap, ap₂, ◌∙◌, subst, inl, inr, arith, append_assoc, ℤ, pos, ◌+ℤ◌, ◌*ℤ◌}
 use Rattle.std.specs.Prelude.{Option, Some, None, nat_abs}
 use Rattle.std.specs.Cmp.{IsEquivalence}
@@ -26,8 +29,6 @@ use lib.IntN.{+ℤ_idr, *ℤ-zero, zero-*ℤ}
 module _ {L : Type 0} where
   pub over_append : (φ : L → ℤ) (xs ys : WholeTermsOf L) → over φ (xs ++ ys) ≡ over φ xs +ℤ over φ ys
   over_append φ xs ys = total_append (λ (t : L × ℤ). t.1 *ℤ φ t.0) xs ys
-
-  -- ---- several additions to a table, one after another
 
   pub gains_none : (old : WholeTermsOf L) → Gains old [] old
   gains_none old = record { sums = λ φ. sym (+ℤ_idr (over φ old)) }
@@ -65,7 +66,6 @@ module _ {L : Type 0} where
         by true r = omega arith
         by false r = omega arith
 
-    -- if `mid` is `old` plus g, and adding h to `mid` overflows, adding g ++ h to `old` overflows
     pub overflows_both : (old g mid h : WholeTermsOf L) → Gains old g mid → Overflows eq mid h → Overflows eq old (g ++ h)
     overflows_both old g mid h a o =
         let x = o.0 in
@@ -76,14 +76,11 @@ module _ {L : Type 0} where
         let m = mass_at_append o.0 g h in
         (x, omega arith)
 
-    -- if adding g to a table overflows, so does adding g ++ h
     pub overflows_more : (old g h : WholeTermsOf L) → Overflows eq old g → Overflows eq old (g ++ h)
     overflows_more old g h o = let l = o.1 in let m = mass_at_append o.0 g h in (o.0, omega arith)
 
     pub overflows_as : (old g h : WholeTermsOf L) → ((x : L) → mass_at eq x g ≤ mass_at eq x h) → Overflows eq old g → Overflows eq old h
     overflows_as old g h e o = let l = o.1 in let m = e o.0 in (o.0, omega arith)
-
-  -- ---- one term is added to a table, or adding it overflows
 
   module _ {eq : L → L → Bool} (laws : IsEquivalence eq) (same : (x y : L) → eq x y ≡ true → x ≡ y) where
     pub over_at : (terms : WholeTermsOf L) → IsDistinct eq (keys_of terms) → (k : L) → over (only eq k) terms ≡ coefficient eq (pos 0) terms k
@@ -105,7 +102,6 @@ module _ {L : Type 0} where
         let h = ap (λ b. cond b (nat_abs c) 0) (laws.refl k) in
         (k, omega arith)
 
-    -- adding one term (k, c) with |c| at least 2^127 to any table overflows
     pub overflows_alone : (old : WholeTermsOf L) (k : L) (c : ℤ) → 2 ^ 127 ≤ nat_abs c → Overflows eq old ((k, c) ∷ [])
     overflows_alone old k c large = let h = ap (λ b. cond b (nat_abs c) 0) (laws.refl k) in (k, omega arith)
 
@@ -121,10 +117,7 @@ module _ {L : Type 0} where
           omega (arith, ints);
     }
 
-    -- ---- the labels of a table after terms are added
-
     module _ {is_label : L → Bool} (old g new : WholeTermsOf L) (is : IsCombination eq is_label whole new) (a : Gains old g new) where
-      -- if P holds for the labels of `old` and of the added terms g, and no coefficient of `new` = old + g is 0, P holds for the labels of `new`
       pub gains_labels : (P : L → Type 0) → ((t : L × ℤ) → Among t new → (t.1 ≡ pos 0) → ⊥) → HaveLabels P old → HaveLabels P g → HaveLabels P new
       gains_labels P proper hold gained t m =
           let here = over_at new is.distinct t.0 ∙ ap (λ (o : Option ℤ). unwrap_or o (pos 0)) (found-among laws same new is.distinct t m) in
@@ -148,8 +141,6 @@ module _ {L : Type 0} where
               (sym (over_at new is.distinct t.0 ∙ ap (λ (o : Option ℤ). unwrap_or o (pos 0)) (found-among laws same new is.distinct t m))
               ∙ a.sums (only eq t.0) ∙ ap₂ (λ x y. x +ℤ y) p r))
 
-  -- ---- the lists of added terms (`each_with`, `scaled`, `replaced`) for a list in two pieces
-
   pub each_append : (c : ℤ) (xs ys : List L) → each_with c (xs ++ ys) ≡ each_with c xs ++ each_with c ys
   each_append c [] ys = refl
   each_append c (x ∷ xs) ys = ap (λ l. (x, c) ∷ l) (each_append c xs ys)
@@ -165,9 +156,6 @@ replaced_append image [] ys = refl
 replaced_append image (t ∷ xs) ys =
     ap (λ l. scaled t.1 (image t.0) ++ l) (replaced_append image xs ys) ∙ sym (append_assoc (scaled t.1 (image t.0)) (replaced image xs) (replaced image ys))
 
--- ---- loops over the pairs of a table
-
--- the pairs visited, the next pair and the pairs not yet visited are together the pairs of the whole list
 pub all_pairs : {A : Type 0} (done rest left begun items all : List A) (p : A) → left ≡ p ∷ rest → done ++ left ≡ begun → begun ≡ items → items ≡ all → done ++ p ∷ rest ≡ all
 all_pairs done rest left begun items all p steps so_far given is = ap (λ es. done ++ es) (sym steps) ∙ so_far ∙ given ∙ is
 
@@ -187,19 +175,16 @@ KeepsFirst eq old [] cur = cur ≡ old
 KeepsFirst eq old (t ∷ done) cur = ¬ RefusesFirst eq old (t ∷ done)
 
 module _ {L : Type 0} (eq : L → L → Bool) (old : WholeTermsOf L) where
-  -- if `KeepsFirst` holds for `done` and `cur`, and the table `cur` does not refuse the term t, then `KeepsFirst` also holds after t is added
   pub first_kept : (done : WholeTermsOf L) (t : L × ℤ) (cur next new : WholeTermsOf L) → done ++ t ∷ [] ≡ next → KeepsFirst eq old done cur
       → ¬ RefusesFirst eq cur (t ∷ []) → KeepsFirst eq old next new
   first_kept [] t cur next new pushed is fits = subst (λ l. KeepsFirst eq old l new) pushed (subst (λ l. ¬ RefusesFirst eq l (t ∷ [])) is fits)
   first_kept (u ∷ done) t cur next new pushed was fits = subst (λ l. KeepsFirst eq old l new) pushed was
 
-  -- if `old` refuses the first of all terms, then no term has been added before t, and `cur` refuses t
   pub first_refused : (done : WholeTermsOf L) (t : L × ℤ) (cur rest all : WholeTermsOf L) → done ++ t ∷ rest ≡ all → KeepsFirst eq old done cur
       → RefusesFirst eq old all → RefusesFirst eq cur (t ∷ [])
   first_refused [] t cur rest all is same refuses = subst (λ l. RefusesFirst eq l (t ∷ [])) (sym same) (subst (RefusesFirst eq old) (sym is) refuses)
   first_refused (u ∷ done) t cur rest all is was refuses = absurd (was (subst (RefusesFirst eq old) (sym is) refuses))
 
-  -- if all terms have been added, the old table does not refuse the first one
   pub first_fits : (done cur all : WholeTermsOf L) → done ≡ all → KeepsFirst eq old done cur → ¬ RefusesFirst eq old all
   first_fits [] cur all is same refuses = subst (RefusesFirst eq old) (sym is) refuses
   first_fits (u ∷ done) cur all is was refuses = was (subst (RefusesFirst eq old) (sym is) refuses)
@@ -219,10 +204,9 @@ pub replaced_over : {K L : Type 0} (image : K → WholeTermsOf L) (φ : L → �
 replaced_over image φ [] = refl
 replaced_over image φ (t ∷ terms) = over_append φ (scaled t.1 (image t.0)) (replaced image terms) ∙ ap₂ (λ x y. x +ℤ y) (scaled_over t.1 φ (image t.0)) (replaced_over image φ terms)
 
--- ---- loops that add terms for each element: over the pairs of a table, and over a list by index
-
--- let gained(xs ++ ys) = gained(xs) ++ gained(ys), and let `cur` be `old` plus the terms gained(done) (`Gains`): adding gained(p ∷ []) to `cur` gives
--- `old` plus gained(done ++ p ∷ []), and if this overflows, so does adding the terms of a whole list that begins with `done` and p to `old`
+-- one more step of a loop that adds the terms gained(p ∷ []) of each element p, where gained(xs ++ ys) = gained(xs) ++ gained(ys). If `cur` is `old`
+-- plus gained(done), adding gained(p ∷ []) to `cur` gives `old` plus gained(done ++ p ∷ []). If this addition overflows, so does adding the terms of
+-- a whole list that begins with `done` and p to `old`
 module _ {A L : Type 0} (gained : List A → WholeTermsOf L) (pieces : (xs ys : List A) → gained (xs ++ ys) ≡ gained xs ++ gained ys)
     (done : List A) (p : A) (old cur : WholeTermsOf L) (so_far : Gains old (gained done) cur) where
   pub pairs_gain : (next : List A) (new : WholeTermsOf L) → done ++ p ∷ [] ≡ next → Gains cur (gained (p ∷ [])) new → Gains old (gained next) new

@@ -1,8 +1,9 @@
--- A label k inserted into a table with a scalar c, and c then replaced by another scalar.
+-- A label k is inserted into a table with a scalar c, and c is then replaced by another scalar. A table is a list of pairs (label, scalar) with
+-- distinct labels and without the scalar 0.
 --     inserted_at    the index of the label
 --     restored       if the old scalar of k is written back, the table is the old one
 --     settled        the table after another scalar is written at k, or k is removed
---     some_of        two cases, each with a condition replaced by one that it implies
+--     some_of        if P and U, or Q and V, then P and F, or Q and G, provided that U implies F, and V implies G
 --     in_place       the table after the scalar of a label in the table is replaced, or the label is removed
 use Rattle.std.proofs.Common.{◌≡◌, ◌≢◌, ◌⊎◌, inl, inr, ℕ, suc, ◌+◌, Bool, true, false, cond, not, ◌&&◌, List, [], ◌∷◌, refl, sym, ap, subst, ◌∙◌, arith, pos}
 use Rattle.std.specs.Prelude.{Option, Some, None, slice_get}
@@ -50,8 +51,8 @@ module _ {L R : Type 0} (eq : L → L → Bool) (same : (x y : L) → eq x y ≡
           let i : 1 + place ≡ suc place = omega arith in
           ap (λ n. set_value_at (e ∷ insert_entry eq es k c) n had) i ∙ ap (λ xs. e ∷ xs) (later h)
 
--- let `mid` be the table `old` after k is inserted with the scalar c, and `new` be `mid` after this scalar is replaced by s, or k removed if s is 0:
--- `new` is a table, and if s is the coefficient of k in `old` plus x, then `new` is `old` with x added at k (`Settled`)
+-- let `mid` be the table `old` after k is inserted with the scalar c, and `new` be `mid` after this scalar is replaced by s, or k is removed if s is
+-- 0. Then `new` is a table; and if s is the coefficient of k in `old` plus x, then `new` is `old` with x added at k (`Settled`)
 module _ {L R : Type 0} {eq : L → L → Bool} (laws : IsEquivalence eq) (same : (x y : L) → eq x y ≡ true → x ≡ y) (is_label : L → Bool)
     (zero : R) (value : R → Fraction) (is_held : R → Type 0) (sum : R → R → R) (zero_is : value zero ≡ whole (pos 0)) (zero_held : is_held zero)
     (same_value : (a b : R) → value a ≡ value b → a ≡ b) (lowest : (a : R) → is_held a → InLowestTerms (value a))
@@ -90,13 +91,12 @@ module _ {L R : Type 0} {eq : L → L → Bool} (laws : IsEquivalence eq) (same 
         λ x total. HasMoreAt-found eq zero sum old new k (Some s) x total finds,
       )
 
--- if (P and U) or (Q and V), U implies F, and V implies G, then (P and F) or (Q and G)
 pub some_of : {P Q U V F G : Type 0} → (U → F) → (V → G) → (P × U) ⊎ (Q × V) → (P × F) ⊎ (Q × G)
 some_of f g (inl (p, u)) = inl (p, f u)
 some_of f g (inr (q, v)) = inr (q, g v)
 
--- let k be a label in the table `old`, stored there as the equal label `key` and with the scalar `had`, and let `new` be `old` after `had` is
--- replaced by s, or the label removed if s is 0: `Settled` holds
+-- let k be a label in the table `old`, stored there as the equal label `key` with the scalar `had`, and let `new` be `old` after `had` is replaced by
+-- s, or the label is removed if s is 0. Then `new` is a table; and if s is `had` plus x, then `new` is `old` with x added at k (`Settled`)
 module _ {L R : Type 0} {eq : L → L → Bool} (laws : IsEquivalence eq) (same : (x y : L) → eq x y ≡ true → x ≡ y) (is_label : L → Bool)
     (zero : R) (value : R → Fraction) (is_held : R → Type 0) (sum : R → R → R) (zero_is : value zero ≡ whole (pos 0)) (zero_held : is_held zero)
     (same_value : (a b : R) → value a ≡ value b → a ≡ b) (lowest : (a : R) → is_held a → InLowestTerms (value a))

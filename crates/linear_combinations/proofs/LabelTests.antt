@@ -50,8 +50,6 @@ is_permutation_label-limits w l =
     (same_from (kept w) w l.kept.unfixed))
     (le-leb (length w) 255 l.few)
 
--- ---- the test whether two partitions are equal, place by place
-
 pub equal_from : (a b : List ℕ) → a ≡ b → pointwise nat_eq a b ≡ true
 equal_from a b e = subst (λ x. pointwise nat_eq a x ≡ true) e (nat_list_eq_equiv.refl a)
 

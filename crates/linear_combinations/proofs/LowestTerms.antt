@@ -17,7 +17,6 @@ nat_abs-positive (pos zero) other = absurd (other refl)
 nat_abs-positive (pos (suc n)) other = omega arith
 nat_abs-positive (negsuc n) other = omega arith
 
--- a fraction in lowest terms that is not 0 passes the test `is_reduced`
 pub is_reduced-lowest : (r : Fraction) → InLowestTerms r → r ≢ whole (pos 0) → is_reduced r ≡ true
 is_reduced-lowest r lowest other =
     is_reduced-from r (record {

@@ -1,5 +1,5 @@
--- Lists of terms added to a table, for any type of labels: their masses (sums of the absolute values of the coefficients), their labels, and their
--- values.
+-- The mass of a list of terms, which is the sum of the absolute values of its coefficients, for any type of labels: the masses of sums, of multiples
+-- and of images of lists under linear maps. Also the labels of such lists, and the polynomials that lists of terms represent.
 use Rattle.std.proofs.Common.{◌≡◌, ℕ, ◌+◌, ◌*◌, ◌^◌, ◌<◌, ◌≤◌, max, Bool, true, false, cond, List, [], ◌∷◌, ◌++◌, length, refl, sym, ap, ◌∙◌, subst, inl, inr, arith, ℤ, pos, ◌*ℤ◌}
 use Rattle.std.specs.Prelude.{nat_abs, Result, Ok, Err, OnOk}
 use Rattle.std.proofs.lemmas.Bool.{and_parts}
@@ -21,7 +21,6 @@ use Rattle.linear_combinations.proofs.Totals.{term-among, total_same}
 use Rattle.linear_combinations.proofs.Gains.{mass_at_append, over_only_within, mass_at_within, gains_labels}
 use native.Mathlib.Nat.{mul-le-mul_left}
 
--- if P and Q hold whenever the result r is `Ok`, and together imply R, then R holds whenever r is `Ok`
 pub on_both : {A E P Q R : Type 0} (r : Result A E) → OnOk r P → OnOk r Q → (P → Q → R) → OnOk r R
 on_both (Ok x) h k f = f h k
 on_both (Err e) h k f = tt
@@ -61,7 +60,6 @@ module _ {L : Type 0} where
   labels_each P a (x ∷ xs) h t (inl e) = subst P (sym (ap (λ (u : L × ℤ). u.0) e)) (h x (inl refl))
   labels_each P a (x ∷ xs) h t (inr m) = labels_each P a xs (λ y n. h y (inr n)) t m
 
-  -- if the coefficients at the label x are not all 0, and P holds for the labels of the list, then P holds for x
   pub label_held : (eq : L → L → Bool) → ((x y : L) → eq x y ≡ true → x ≡ y) → (P : L → Type 0) (terms : WholeTermsOf L) (x : L)
       → HaveLabels P terms → 0 < mass_at eq x terms → P x
   label_held eq same P [] x h l = absurd (omega arith)
@@ -71,7 +69,6 @@ module _ {L : Type 0} where
       by true e rest l = subst P (sym (same x t.0 e)) (h t (inl refl))
       by false e rest l = rest (omega (arith, l))
 
-  -- if adding g to the table `old` overflows, the absolute values of the coefficients of `old` and of g sum up to at least 2^127
   pub overflow_mass : (eq : L → L → Bool) (old g : WholeTermsOf L) → Overflows eq old g → 2 ^ 127 ≤ mass old + mass g
   overflow_mass eq old g o =
       let l = o.1 in
@@ -81,19 +78,15 @@ module _ {L : Type 0} where
       omega arith
 
   module _ {eq : L → L → Bool} (laws : IsEquivalence eq) (same : (x y : L) → eq x y ≡ true → x ≡ y) {is_label : L → Bool} where
-    -- if `new` is `old` plus g, and P holds for the labels of `old` and of g, P holds for the labels of `new`
     pub labels_gained : (old g new : WholeTermsOf L) → IsCombination eq is_label whole new → Gains old g new → (P : L → Type 0) → HaveLabels P old → HaveLabels P g → HaveLabels P new
     labels_gained old g new is a P hold gained =
         gains_labels laws same old g new is a P
         (λ t m e. not_zero-is_reduced (whole t.1) (and_parts _ _ (term-among is_label whole new is.proper t m)).0 (ap whole e)) hold gained
 
-    -- for two combinations with the same coefficients, Σ c·φ(label) has the same value, for every function φ of labels
     pub over_same : (first second : WholeTermsOf L) → IsCombination eq is_label whole first → IsCombination eq is_label whole second → HasSameCoefficients eq (pos 0) first second
         → (φ : L → ℤ) → over φ first ≡ over φ second
     over_same first second is also equal φ = total_same laws same (pos 0) whole refl first second is also (λ (t : L × ℤ). t.1 *ℤ φ t.0) equal
 
-  -- for polynomials p and functions φ of exponent lists, let `pair p φ` be the sum of b·φ(α) over the terms b·x^α of p; if for every φ the sum of
-  -- c·pair (polynomial x) φ over the terms (x, c) of a list is `pair f φ`, the list represents the polynomial f
   pub represents_sums : (polynomial : L → Poly) (terms : WholeTermsOf L) (f : Poly) → ((φ : List ℕ → ℤ) → over (λ x. pair (polynomial x) φ) terms ≡ pair f φ)
       → Represents polynomial (as_fractions terms) f 1
   represents_sums polynomial terms f h =
@@ -105,8 +98,6 @@ module _ {L : Type 0} where
             (sym (denominators-as_fractions terms))
             (scale_respects (pos 1) (value_by polynomial (as_fractions terms)) f (subst (λ g. Same g f) (sym (value_by-as_fractions polynomial terms)) e));
       }
-
-  -- ---- the weight (`list_weight`) of a list with integer coefficients
 
   common_one : (terms : WholeTermsOf L) → common_denominator (as_fractions terms) ≡ 1
   common_one [] = refl

@@ -1,4 +1,5 @@
--- A list with the labels of another list in the same order, and with each scalar of that list multiplied by one fixed scalar.
+-- A list with the labels of another list in the same order, and with each scalar of that list multiplied by one fixed scalar. A ring *holds* a scalar
+-- if its machine type can represent the scalar (`is_held`).
 use Rattle.std.proofs.Common.{◌≡◌, ◌≢◌, ℕ, suc, ◌+◌, ◌*◌, ◌<◌, ◌≤◌, Bool, true, false, cond, List, [], ◌∷◌, ◌++◌, length, pos, ◌*ℤ◌, unsigned_abs, refl, sym, ap, ◌∙◌, subst, inl, inr, arith}
 use Rattle.std.specs.Prelude.{Option, Some, slice_get}
 use Rattle.std.specs.Map.{lookup, keys_of}
@@ -46,7 +47,6 @@ module _ {L R : Type 0} (P : R → R → Type 0) where
   keys-Relates (x ∷ xs) (y ∷ ys) h = ap (λ ks. y.0 ∷ ks) (keys-Relates xs ys h.2) ∙ ap (λ k. k ∷ keys_of xs) h.0
 
 module _ {L R : Type 0} where
-  -- the element at the index `length done` of done ++ rest is the first of rest
   pub next_at : (done rest : List (L × R)) (p : L × R) → slice_get (done ++ rest) (length done) ≡ Some p → (tail : List (L × R)) × (rest ≡ p ∷ tail)
   next_at [] [] p h = cc
   next_at [] (e ∷ rest) p h = let here : e ≡ p = cc in (rest, ap (λ x. x ∷ rest) here)
@@ -57,7 +57,6 @@ module _ {L R : Type 0} where
   set_next (d ∷ done) tail k a b = ap (λ es. d ∷ es) (set_next done tail k a b)
 
 module _ {L R : Type 0} (P : R → R → Type 0) (before done rest was now : List (L × R)) (at end : ℕ) (all : before ++ rest ≡ was) (is : now ≡ done ++ rest) (related : Relates P before done) (place : length done ≡ at) (ends : end ≡ length was) where
-  -- an index `at` below `end` is an index of the list `now`
   pub place_within : at < end → at < length now
   place_within h =
       let a = length-append before rest in
@@ -67,7 +66,6 @@ module _ {L R : Type 0} (P : R → R → Type 0) (before done rest was now : Lis
       let e : length now ≡ length (done ++ rest) = ap (λ (es : List (L × R)). length es) is in
       omega arith
 
-  -- if the index `at` is not below `end`, no pair is left
   pub rest_empty : end ≤ at → rest ≡ []
   rest_empty h =
       let a = length-append before rest in
@@ -75,7 +73,6 @@ module _ {L R : Type 0} (P : R → R → Type 0) (before done rest was now : Lis
       let d : length (before ++ rest) ≡ length was = ap (λ (es : List (L × R)). length es) all in
       nil_from_length rest (omega arith)
 
--- the product of two fractions that are not 0 is not 0
 product-nonzero : (r s : Fraction) → InLowestTerms r → InLowestTerms s → r ≢ whole (pos 0) → s ≢ whole (pos 0) → fraction_product r s ≢ whole (pos 0)
 product-nonzero r s l k other also e =
     let is = (Stands-product r s _ _ _ _ (Stands-itself r l) (Stands-itself s k)).is in
@@ -95,7 +92,6 @@ abbrev pub IsProduct : {R : Type 0} → (R → Type 0) → (R → Fraction) → 
 IsProduct is_held value checked product c a b =
     (checked a c ≡ Some b) × (b ≡ product a c) × (value b ≡ fraction_product (value a) (value c)) × InLowestTerms (value b) × is_held b
 
--- the product of the scalar 0 and c is 0
 pub zero_product : {R : Type 0} (value : R → Fraction) (zero : R) (product : R → R → R) → ((a b : R) → value a ≡ value b → a ≡ b)
     → ((a b : R) → value (product a b) ≡ fraction_product (value a) (value b)) → value zero ≡ whole (pos 0)
     → (c : R) → InLowestTerms (value c) → product zero c ≡ zero
@@ -104,7 +100,6 @@ zero_product value zero product same values none c low =
 
 module _ {L R : Type 0} (eq : L → L → Bool) (is_label : L → Bool) (is_held : R → Type 0) (value : R → Fraction) (checked : R → R → Option R)
     (product : R → R → R) (c : R) where
-  -- if ys has the labels of xs in the same order, each with its scalar times c, then the coefficient of every label in ys is that in xs times c
   pub IsMultipleOf-Relates : (zero : R) → product zero c ≡ zero → (xs ys : List (L × R)) → Relates (IsProduct is_held value checked product c) xs ys → IsMultipleOf eq zero product xs c ys
   IsMultipleOf-Relates zero none xs ys h label = found xs ys h
     where
@@ -119,7 +114,6 @@ module _ {L R : Type 0} (eq : L → L → Bool) (is_label : L → Bool) (is_held
           by true rest = h.1.1
           by false rest = rest
 
-  -- if ys has the labels of xs in the same order, each with its scalar times c, the ring can hold the coefficients of ys
   pub held-Relates : (zero : R) → is_held zero → (xs ys : List (L × R)) → Relates (IsProduct is_held value checked product c) xs ys → AreHeld eq zero is_held ys
   held-Relates zero none xs ys h = record { at_label = λ label. found label xs ys h }
     where
@@ -133,8 +127,6 @@ module _ {L R : Type 0} (eq : L → L → Bool) (is_label : L → Bool) (is_held
           by true rest = h.1.4
           by false rest = rest
 
-  -- let c be not 0, and let ys have the labels of xs in the same order, each with its scalar times c: if each pair of xs satisfies `is_term`, so does
-  -- each pair of ys
   pub are_terms-Relates : InLowestTerms (value c) → value c ≢ whole (pos 0) → (xs ys : List (L × R)) → Relates (IsProduct is_held value checked product c) xs ys → are_terms value is_label xs ≡ true → are_terms value is_label ys ≡ true
   are_terms-Relates low other [] [] h t = refl
   are_terms-Relates low other [] (y ∷ ys) h t = absurd h
@@ -146,7 +138,6 @@ module _ {L R : Type 0} (eq : L → L → Bool) (is_label : L → Bool) (is_held
       λ e. product-nonzero (value x.1) (value c) (lowest-is_reduced (value x.1) q.0) low (not_zero-is_reduced (value x.1) q.0) other (sym h.1.2 ∙ e) in
       and_from _ _ (and_from _ _ (is_reduced-lowest (value y.1) h.1.3 nonzero) (ap is_label h.0 ∙ q.1)) (are_terms-Relates low other xs ys h.2 p.1)
 
-  -- if ys has the labels of xs in the same order, each with its scalar times c, the checked multiplication has a result for c and each scalar of xs
   pub fits-Relates : (xs ys : List (L × R)) → Relates (IsProduct is_held value checked product c) xs ys → (t : L × R) → Among t xs → IsRefused is_held checked t.1 c → ⊥
   fits-Relates [] [] h t m r = absurd m
   fits-Relates [] (y ∷ ys) h t m r = absurd m

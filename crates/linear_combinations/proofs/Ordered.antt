@@ -52,7 +52,6 @@ module _ {L R : Type 0} (order : L → L → Ordering) where
     stands_before-weaker x y [] h k = tt
     stands_before-weaker x y (t ∷ entries) h k = (trans x y t.0 h k.0, stands_before-weaker x y entries h k.1)
 
-    -- if the label of each pair comes strictly before that of the next pair, it comes strictly before those of all later pairs
     pub is_ordered-tells : (entries : List (L × R)) → is_ordered order entries ≡ true → IsOrdered entries
     is_ordered-tells [] h = tt
     is_ordered-tells (t ∷ []) h = (tt, tt)
@@ -80,8 +79,6 @@ module _ {L R : Type 0} (order : L → L → Ordering) where
         others [] k = tt
         others (u ∷ rest) k = (apart u.0 k.0 (eq t.0 u.0) refl, others rest k.1)
 
--- ---- two canonical lists joined
-
 module _ {L R : Type 0} (order : L → L → Ordering) (is_label : L → Bool) (value : R → Fraction) where
   are_terms-append : (xs ys : List (L × R)) → are_terms value is_label xs ≡ true → are_terms value is_label ys ≡ true → are_terms value is_label (xs ++ ys) ≡ true
   are_terms-append [] ys p q = q
@@ -91,7 +88,6 @@ module _ {L R : Type 0} (order : L → L → Ordering) (is_label : L → Bool) (
     pub canonical-ordered : (entries : List (L × R)) → IsCanonicalList order is_label value entries → IsOrdered order entries
     canonical-ordered entries c = is_ordered-tells order trans entries (and_parts (is_ordered order entries) _ c).0
 
-    -- if xs and ys are canonical and each label of xs comes before each label of ys, xs ++ ys is canonical
     pub canonical-append : (xs ys : List (L × R)) → IsCanonicalList order is_label value xs → IsCanonicalList order is_label value ys
         → ((x y : L × R) → Among x xs → Among y ys → order x.0 y.0 ≡ Less) → IsCanonicalList order is_label value (xs ++ ys)
     canonical-append xs ys p q apart =

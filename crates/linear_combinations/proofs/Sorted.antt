@@ -18,7 +18,6 @@ use Rattle.linear_combinations.specs.Entries.{is_ordered, are_terms}
 
 module _ {L R : Type 0} {eq : L → L → Bool} {order : L → L → Ordering} {is_label : L → Bool} (laws : IsEquivalence eq) (total : IsTotalOrder order)
     (exact : (a b : L) → is_label a ≡ true → is_label b ≡ true → order a b ≡ Equal → a ≡ b) (value : R → Fraction) where
-  -- for a total order, if y does not come before x and is not equal to x, then x comes strictly before y
   stands_before : (x y : L) → is_label x ≡ true → is_label y ≡ true → eq x y ≡ false → is_lt (order y x) ≡ false → is_lt (order x y) ≡ true
   stands_before x y p q apart up = by (order y x) refl up
     where
@@ -41,16 +40,12 @@ module _ {L R : Type 0} {eq : L → L → Bool} {order : L → L → Ordering} {
       (stands_before x.0 y.0 (and_parts (is_reduced (value x.1)) (is_label x.0) p.0).1 (and_parts (is_reduced (value y.1)) (is_label y.0) q.0).1 (apart_from_distinct eq (keys_of (x ∷ y ∷ es)) 0 1 x.0 distinct (omega arith) (omega arith)) (sorted 0 1 x refl (omega arith)))
       (is_ordered-sorted (y ∷ es) (IsDistinct-tail eq x.0 (keys_of (y ∷ es)) distinct) p.1 (λ i j d e h. sorted (suc i) (suc j) d (omega arith) (omega arith)))
 
--- ---- a list `new` that has the pairs of `old` in another order
-
 module _ {L X : Type 0} {eq : L → L → Bool} (laws : IsEquivalence eq) (same : (x y : L) → eq x y ≡ true → x ≡ y) (old new : List (L × X)) (moved : IsPermutation old new) where
-  -- if the keys of `old` are distinct, so are the keys of `new`
   pub distinct-moved : IsDistinct eq (keys_of old) → IsDistinct eq (keys_of new)
   distinct-moved distinct =
       let key : L × X → L = λ e. e.0 in
       IsDistinct-IsPermutation eq laws.symm (map key old) (map key new) (IsPermutation-map key old new moved) distinct
 
-  -- if the keys of `old` are distinct, looking up any k has the same result in `new` as in `old`
   pub lookup-moved : IsDistinct eq (keys_of old) → (k : L) → lookup (eq k) new ≡ lookup (eq k) old
   lookup-moved distinct k = by (lookup (eq k) new) (lookup (eq k) old) refl refl
     where

@@ -1,4 +1,5 @@
--- Statements about the pairs of a table that a loop has visited, and their change when the loop visits one more pair.
+-- For a loop over the pairs (label, coefficient) of a list with distinct labels: the coefficient of a label in the visited pairs, and the statement
+-- that a list is another list plus the visited pairs (`IsSumOf`), before and after the loop visits one more pair.
 use Rattle.std.proofs.Common.{◌≡◌, Bool, true, false, cond, List, [], ◌∷◌, ◌++◌, append-nil, pos, refl, sym, ap, ◌∙◌, subst, if◌then◌else◌}
 use Rattle.std.specs.Prelude.{Option, Some, None, Result, Ok, Err, IfOk, IsErrAnd, IsErrOf}
 use Rattle.std.specs.Cmp.{IsEquivalence}
@@ -36,7 +37,6 @@ module _ {L X : Type 0} where
       by false h rest = rest h
 
 module _ {L X : Type 0} {eq : L → L → Bool} (laws : IsEquivalence eq) where
-  -- if the keys of a list are distinct, the key of the pair e is not among those of the pairs `done` before it
   pub absent_before : (done : List (L × X)) (e : L × X) (ys : List (L × X)) → IsDistinct eq (keys_of (done ++ e ∷ ys)) → lookup (eq e.0) done ≡ None
   absent_before [] e ys h = refl
   absent_before (x ∷ done) e ys h = by (eq e.0 x.0) refl (absent_before done e ys (IsDistinct-tail eq x.0 (keys_of (done ++ e ∷ ys)) h))
@@ -47,14 +47,12 @@ module _ {L X : Type 0} {eq : L → L → Bool} (laws : IsEquivalence eq) where
           (lookup-none (eq e.0) (done ++ e ∷ ys) (none_past_head laws e.0 x (done ++ e ∷ ys) h p)))
       by false p rest = rest
 
-  -- if the keys of a list are distinct, looking up the key of the pair e finds the scalar of e
   pub found_next : (done : List (L × X)) (e : L × X) (ys : List (L × X)) → IsDistinct eq (keys_of (done ++ e ∷ ys)) → lookup (eq e.0) (done ++ e ∷ ys) ≡ Some e.1
   found_next done e ys h =
       found_past (eq e.0) done (e ∷ ys) (absent_before done e ys h) ∙ ap (λ b. cond b (Some e.1) (lookup (eq e.0) ys)) (laws.refl e.0)
 
 module _ {L R : Type 0} {eq : L → L → Bool} (laws : IsEquivalence eq) (same : (x y : L) → eq x y ≡ true → x ≡ y) (zero : R) (sum : R → R → R)
     (done : List (L × R)) (k : L) (v : R) (none : lookup (eq k) done ≡ None) where
-  -- if the pair (k, v) is appended to `done`, the coefficient at k is v, and the other coefficients are unchanged
   pub coefficient-push : (q : L) → coefficient eq zero (done ++ (k, v) ∷ []) q ≡ (if eq k q then v else coefficient eq zero done q)
   coefficient-push q = by (eq k q) refl
     where
@@ -67,7 +65,6 @@ module _ {L R : Type 0} {eq : L → L → Bool} (laws : IsEquivalence eq) (same 
   absent-coefficient : coefficient eq zero done k ≡ zero
   absent-coefficient = ap (λ o. unwrap_or o zero) none
 
-  -- if `cur` is the sum of `first` and the pairs visited so far, the coefficient of `cur` at the label k of the next pair is that of `first`
   pub sum-before : (first cur : List (L × R)) → sum (coefficient eq zero first k) zero ≡ coefficient eq zero first k → IsSumOf eq zero sum first done cur → coefficient eq zero cur k ≡ coefficient eq zero first k
   sum-before first cur neutral sums = sums k ∙ ap (λ r. sum (coefficient eq zero first k) r) absent-coefficient ∙ neutral
 
@@ -79,9 +76,6 @@ module _ {L R : Type 0} {eq : L → L → Bool} (laws : IsEquivalence eq) (same 
       by true p = ap (λ r. sum r v) (sum-before first cur neutral sums ∙ ap (coefficient eq zero first) (same k q p))
       by false p = sums q
 
-  -- let P be a relation such as `IsRefused`. If P holds at no label for the coefficients in `first` and in `done`, and P does not hold for the
-  -- coefficient of k in `first` and the scalar v, then P holds at no label for the coefficients in `first` and in `done` with the pair (k, v)
-  -- appended
   pub fits-next : (P : R → R → Type 0) (first : List (L × R)) → ((q : L) → P (coefficient eq zero first q) (coefficient eq zero done q) → ⊥) → (P (coefficient eq zero first k) v → ⊥) → (q : L) → P (coefficient eq zero first q) (coefficient eq zero (done ++ (k, v) ∷ []) q) → ⊥
   fits-next P first before here q h = by (eq k q) refl (subst (P (coefficient eq zero first q)) (coefficient-push q) h)
     where
@@ -89,7 +83,6 @@ module _ {L R : Type 0} {eq : L → L → Bool} (laws : IsEquivalence eq) (same 
       by true p h = here (subst (λ x. P (coefficient eq zero first x) v) (sym (same k q p)) h)
       by false p h = before q h
 
--- the sum of a scalar a and the scalar 0 is a
 pub sum_zero : {R : Type 0} (value : R → Fraction) (zero : R) (sum : R → R → R) → ((a b : R) → value a ≡ value b → a ≡ b)
     → ((a b : R) → value (sum a b) ≡ fraction_sum (value a) (value b)) → value zero ≡ whole (pos 0)
     → (a : R) → InLowestTerms (value a) → sum a zero ≡ a
@@ -104,16 +97,13 @@ module _ {R : Type 0} {is_held : R → Type 0} {value : R → Fraction} {checked
   pub fits-zero_left : (a b : R) → value a ≡ whole (pos 0) → IsRefused is_held checked a b → ⊥
   fits-zero_left a b e r = let h : checked a b ≡ Some b = (answers a b r.left_held r.right_held).zero_left e in let f = r.refused in cc
 
--- if the checked operation has a result for a and b, `IsRefused` does not hold for a and b
 pub answered : {R : Type 0} {is_held : R → Type 0} {checked : R → R → Option R} (a b s : R) → checked a b ≡ Some s → IsRefused is_held checked a b → ⊥
 answered a b s e r = let none = r.refused in cc
 
--- if a result is the error e and also the error l, then e is l
 pub error_is : {T E : Type 0} (r : Result T E) (e l : E) → IsErrAnd r (λ y. y ≡ e) → IsErrOf r l → e ≡ l
 error_is (Ok x) e l h k = cc
 error_is (Err y) e l h k = cc
 
--- if no pair is left, the pairs visited so far are all pairs
 pub all_done : {A : Type 0} (done rest all entries : List A) → rest ≡ [] → done ++ rest ≡ all → all ≡ entries → done ≡ entries
 all_done done rest all entries none so_far is = sym (append-nil done) ∙ ap (λ es. done ++ es) (sym none) ∙ so_far ∙ is
 
@@ -121,7 +111,6 @@ pub IsCombination-empty : {L R : Type 0} (eq : L → L → Bool) (is_label : L �
 unfolding IsDistinct
 IsCombination-empty eq is_label value = record { distinct = tt; proper = refl }
 
--- if P x holds whenever the result is `Ok x`, and P implies Q for each value, then Q x holds whenever it is `Ok x`
 pub if_answered : {T E : Type 0} {P Q : T → Type 0} (r : Result T E) → IfOk r P → ((x : T) → P x → Q x) → IfOk r Q
 if_answered (Ok x) h f = f x h
 if_answered (Err e) h f = tt

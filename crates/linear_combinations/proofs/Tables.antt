@@ -1,4 +1,6 @@
--- Tables of entries: the insertion and the removal of a label, and the test `is_term` of the entries.
+-- Tables, which are lists of entries (label, coefficient): the insertion and the removal of a label, and the test `is_term` of an entry: its label is
+-- within the limits of its type, and its coefficient is in lowest terms and not 0. A *combination* is a table with distinct labels whose entries
+-- satisfy `is_term`. A ring *holds* a coefficient if its machine type can represent the coefficient (`is_held`).
 use Rattle.std.proofs.Common.{◌≡◌, Bool, true, false, ◌&&◌, cond, List, [], ◌∷◌, refl, sym, ap, ◌∙◌, subst, if◌then◌else◌}
 use Rattle.std.specs.Prelude.{Option, Some, None}
 use Rattle.std.specs.Cmp.{IsEquivalence}
@@ -16,7 +18,6 @@ use Rattle.linear_combinations.proofs.LowestTerms.{lowest-is_reduced}
 use Rattle.linear_combinations.specs.Entries.{coefficient, are_terms, AreHeld, IsCombination, HasMoreAt}
 
 module _ {L R : Type 0} {eq : L → L → Bool} (laws : IsEquivalence eq) (same : (x y : L) → eq x y ≡ true → x ≡ y) (is_label : L → Bool) (value : R → Fraction) where
-  -- in a list of terms, a label k and the coefficient that looking up k finds satisfy `is_term`
   pub is_term-found : (es : List (L × R)) → are_terms value is_label es ≡ true → (k : L) (c : R) → lookup (eq k) es ≡ Some c → (is_reduced (value c) && is_label k) ≡ true
   is_term-found [] h k c found = cc
   is_term-found (e ∷ es) h k c found = by (eq k e.0) refl found (is_term-found es (and_parts _ _ h).1 k c)
@@ -31,7 +32,6 @@ module _ {L R : Type 0} {eq : L → L → Bool} (laws : IsEquivalence eq) (same 
       by true p found rest = here (same k e.0 p) cc
       by false p found rest = rest found
 
-  -- if the keys of a list are distinct, and each label and the coefficient that looking it up finds satisfy `is_term`, so does each entry of the list
   pub are_terms-found : (es : List (L × R)) → IsDistinct eq (keys_of es) → ((k : L) (c : R) → lookup (eq k) es ≡ Some c → (is_reduced (value c) && is_label k) ≡ true) → are_terms value is_label es ≡ true
   are_terms-found [] distinct h = refl
   are_terms-found (e ∷ es) distinct h =
@@ -45,11 +45,9 @@ module _ {L R : Type 0} {eq : L → L → Bool} (laws : IsEquivalence eq) (same 
           by true p = let none = lookup-none (eq k) es (none_past_head laws k e es distinct p) in cc
           by false p = h k c (ap (λ b. cond b (Some e.1) (lookup (eq k) es)) p ∙ found)
 
-  -- a list is a combination if its keys are distinct, and each label and the coefficient that looking it up finds satisfy `is_term`
   pub IsCombination-found : (es : List (L × R)) → IsDistinct eq (keys_of es) → ((k : L) (c : R) → lookup (eq k) es ≡ Some c → (is_reduced (value c) && is_label k) ≡ true) → IsCombination eq is_label value es
   IsCombination-found es distinct h = record { distinct = distinct; proper = are_terms-found es distinct h }
 
-  -- in a list of terms, the coefficient of each label (0 if the label does not occur) is in lowest terms
   pub lowest-coefficient : (zero : R) → InLowestTerms (value zero) → (es : List (L × R)) → are_terms value is_label es ≡ true → (k : L) → InLowestTerms (value (coefficient eq zero es k))
   lowest-coefficient zero low [] h k = low
   lowest-coefficient zero low (t ∷ es) h k = by (eq k t.0) (lowest-coefficient zero low es (and_parts _ _ h).1 k)
@@ -61,10 +59,7 @@ module _ {L R : Type 0} {eq : L → L → Bool} (laws : IsEquivalence eq) (same 
       by true rest = lowest-is_reduced (value t.1) (and_parts _ _ parts.0).0
       by false rest = rest
 
-  -- ---- the list `new` has a pair with the label k inserted into `old`, or the label k removed from it
-
   module _ (old new : List (L × R)) (k : L) where
-    -- if a pair (k, v) that satisfies `is_term` is inserted into a combination, or replaces the pair of k, the result is a combination
     pub IsCombination-put : (v : R) → IsCombination eq is_label value old → (is_reduced (value v) && is_label k) ≡ true → IsDistinct eq (keys_of new) → ((q : L) → lookup (eq q) new ≡ cond (eq k q) (Some v) (lookup (eq q) old)) → IsCombination eq is_label value new
     IsCombination-put v was passes distinct finds = IsCombination-found new distinct (λ q w found. by q w (eq k q) refl (sym (finds q) ∙ found))
       where
@@ -74,7 +69,6 @@ module _ {L R : Type 0} {eq : L → L → Bool} (laws : IsEquivalence eq) (same 
             ap (λ x. is_reduced (value w) && is_label x) (sym (same k q p)) ∙ ap (λ x. is_reduced (value x) && is_label k) (sym here) ∙ passes
         by q w false p e = is_term-found old was.proper q w e
 
-    -- if the label k is removed from a combination, the result is a combination
     pub IsCombination-taken : IsCombination eq is_label value old → IsDistinct eq (keys_of new) → ((q : L) → lookup (eq q) new ≡ cond (eq k q) None (lookup (eq q) old)) → IsCombination eq is_label value new
     IsCombination-taken was distinct finds = IsCombination-found new distinct (λ q w found. by q w (eq k q) (sym (finds q) ∙ found))
       where
@@ -83,8 +77,6 @@ module _ {L R : Type 0} {eq : L → L → Bool} (laws : IsEquivalence eq) (same 
         by q w false e = is_term-found old was.proper q w e
 
 module _ {L R : Type 0} (eq : L → L → Bool) (zero : R) (sum : R → R → R) where
-  -- if the coefficient of `new` at k is that of `old` plus c, and every other look-up finds the same in `new` as in `old`, then `HasMoreAt` holds:
-  -- `new` is `old` with c added at k
   pub HasMoreAt-found : (old new : List (L × R)) (k : L) (o : Option R) (c : R) → unwrap_or o zero ≡ sum (coefficient eq zero old k) c → ((q : L) → lookup (eq q) new ≡ cond (eq k q) o (lookup (eq q) old)) → HasMoreAt eq zero sum old k c new
   HasMoreAt-found old new k o c total finds q = ap (λ x. unwrap_or x zero) (finds q) ∙ by (eq k q)
     where
@@ -92,14 +84,10 @@ module _ {L R : Type 0} (eq : L → L → Bool) (zero : R) (sum : R → R → R)
       by true = total
       by false = refl
 
--- ---- tables whose coefficients the ring can hold
-
 module _ {L R : Type 0} (eq : L → L → Bool) (zero : R) (is_held : R → Type 0) where
   pub held_nothing : is_held zero → AreHeld eq zero is_held []
   held_nothing h = record { at_label = λ k. h }
 
-  -- if the ring can hold the coefficients of `old` and the one that looking up k in `new` finds, and all other look-ups find the same in both, it can
-  -- hold all coefficients of `new`
   pub held_found : (old new : List (L × R)) (k : L) (o : Option R) → AreHeld eq zero is_held old → is_held (unwrap_or o zero)
       → ((q : L) → lookup (eq q) new ≡ cond (eq k q) o (lookup (eq q) old)) → AreHeld eq zero is_held new
   held_found old new k o was here finds = record { at_label = λ q. subst is_held (sym (ap (λ x. unwrap_or x zero) (finds q))) (by q (eq k q)) }
@@ -108,6 +96,5 @@ module _ {L R : Type 0} (eq : L → L → Bool) (zero : R) (is_held : R → Type
       by q true = here
       by q false = was.at_label q
 
-  -- if the lists `old` and `new` have the same coefficients and the ring can hold those of `old`, it can hold those of `new`
   pub held_same : (old new : List (L × R)) → ((q : L) → coefficient eq zero new q ≡ coefficient eq zero old q) → AreHeld eq zero is_held old → AreHeld eq zero is_held new
   held_same old new equal was = record { at_label = λ q. subst is_held (sym (equal q)) (was.at_label q) }

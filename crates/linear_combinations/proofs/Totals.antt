@@ -1,4 +1,5 @@
--- Sums over the terms of a combination: they are determined by its coefficients and do not depend on the order of the terms.
+-- Sums over the terms of a combination, which is a list of terms with distinct labels: they are determined by the coefficients of the labels and do
+-- not depend on the order of the terms.
 use Rattle.std.proofs.Common.{◌≡◌, ◌≤◌, Bool, true, false, not, cond, ◌&&◌, List, [], ◌∷◌, length, ℤ, pos, ◌+ℤ◌, refl, sym, ap, ◌∙◌, subst, inl, inr, arith, filter}
 use Rattle.std.specs.Prelude.{Option, Some, None}
 use Rattle.std.specs.Option.{unwrap_or}
@@ -18,7 +19,6 @@ use Rattle.sym_model.proofs.Sums.{total_split, total_same_members, length_within
 use Rattle.linear_combinations.specs.Entries.{coefficient, are_terms, IsCombination, HasMoreAt, HasSameCoefficients}
 use Rattle.linear_combinations.proofs.LowestTerms.{not_zero-is_reduced}
 
--- each element of a list of terms satisfies `is_term`
 pub term-among : {L R : Type 0} (is_label : L → Bool) (value : R → Fraction) (terms : List (L × R)) → are_terms value is_label terms ≡ true → (t : L × R) → Among t terms → (is_reduced (value t.1) && is_label t.0) ≡ true
 term-among is_label value [] h t m = absurd m
 term-among {L} {R} is_label value (u ∷ terms) h t (inl e) = subst (λ (v : L × R). (is_reduced (value v.1) && is_label v.0) ≡ true) (sym e) (and_parts _ _ h).0
@@ -53,7 +53,6 @@ module _ {L R : Type 0} {eq : L → L → Bool} (laws : IsEquivalence eq) (same 
       (λ m. let found = found-among terms tail t m in let none = lookup-none (eq t.0) terms (none_past_head laws t.0 t terms distinct (laws.refl t.0)) in cc, once terms tail)
 
   module _ (zero : R) (value : R → Fraction) (zero_value : value zero ≡ whole (pos 0)) {is_label : L → Bool} where
-    -- if t is a term of `first`, and its label has the same coefficient in `second` as in `first`, then t is a term of `second`
     pub carried : (first second : List (L × R)) → IsCombination eq is_label value first → (t : L × R) → Among t first → coefficient eq zero second t.0 ≡ coefficient eq zero first t.0 → Among t second
     carried first second is t m e = by (lookup (eq t.0) second) refl
       where
@@ -70,13 +69,11 @@ module _ {L R : Type 0} {eq : L → L → Bool} (laws : IsEquivalence eq) (same 
             among-found second t.0 t.1 (p ∙ ap Some (equal))
 
     module _ (first second : List (L × R)) (is : IsCombination eq is_label value first) (also : IsCombination eq is_label value second) where
-      -- two combinations with the same coefficients have the same sum of f over their terms, for every f
       pub total_same : (f : L × R → ℤ) → HasSameCoefficients eq zero first second → total f first ≡ total f second
       total_same f equal =
           total_same_members f first second (once first is.distinct) (once second also.distinct)
           (λ t m. carried first second is t m (equal t.0)) (λ t m. carried second first also t m (sym (equal t.0)))
 
-      -- if two combinations have the same coefficients, the first has at most as many terms as the second
       pub length_same : HasSameCoefficients eq zero first second → length first ≤ length second
       length_same equal = length_within second first (once first is.distinct) (λ t m. carried first second is t m (equal t.0))
 
@@ -89,7 +86,6 @@ module _ {L R : Type 0} {eq : L → L → Bool} (laws : IsEquivalence eq) (same 
       by false none rest = rest none
 
   module _ (zero : R) (f : L → R → ℤ) (empty : (l : L) → f l zero ≡ pos 0) (k : L) where
-    -- if f l 0 = 0 for all labels l, and no label occurs twice, the sum of f over the terms with the label k is f k c, for c the coefficient of k
     total-at : (terms : List (L × R)) → IsDistinct eq (keys_of terms) → total (λ (t : L × R). f t.0 t.1) (filter (λ (t : L × R). eq k t.0) terms) ≡ f k (coefficient eq zero terms k)
     total-at [] distinct = sym (empty k)
     total-at (t ∷ terms) distinct = by (eq k t.0) refl (total-at terms (IsDistinct-tail eq t.0 (keys_of terms) distinct))
@@ -102,8 +98,6 @@ module _ {L R : Type 0} {eq : L → L → Bool} (laws : IsEquivalence eq) (same 
             ∙ ap (λ x. f x t.1) (sym (same k t.0 p))
         by false p h = h
 
-    -- if f l 0 = 0 for all labels l, and new is old with c added at the label k, then (sum of f over new) + f k (old coefficient of k) = (sum of f
-    -- over old) + f k (new coefficient of k)
     pub total-more : (value : R → Fraction) (sum : R → R → R) → value zero ≡ whole (pos 0) → {is_label : L → Bool} (old new : List (L × R)) → IsCombination eq is_label value old → IsCombination eq is_label value new → (c : R) → HasMoreAt eq zero sum old k c new
         → total (λ (t : L × R). f t.0 t.1) new +ℤ f k (coefficient eq zero old k) ≡ total (λ (t : L × R). f t.0 t.1) old +ℤ f k (coefficient eq zero new k)
     total-more value sum zero_value old new is also c more =

@@ -48,7 +48,6 @@ module _ {L : Type 0} where
       let d : nat_abs t.1 * (f t.0 + g t.0) ≡ nat_abs t.1 * f t.0 + nat_abs t.1 * g t.0 = omega arith in
       omega arith
 
-  -- if each label has the weight k, the weight of a list is the sum of the absolute values of its coefficients times k
   pub weighed_all : (k : ℕ) (terms : WholeTermsOf L) → weighed (λ x. k) terms ≡ mass terms * k
   weighed_all k [] = omega arith
   weighed_all k (t ∷ terms) =
@@ -63,7 +62,6 @@ module _ {L : Type 0} where
   pub mass_within-weighed : (f : L → ℕ) → ((x : L) → 1 ≤ f x) → (terms : WholeTermsOf L) → mass terms ≤ weighed f terms
   mass_within-weighed f h terms = omega (arith, weighed_all 1 terms, weighed_within (λ x. 1) f terms (λ t m. h t.0))
 
-  -- for a term (x, c) of a list, |c|·f(x) is at most the weight of the list
   pub weighed_among : (f : L → ℕ) (terms : WholeTermsOf L) (t : L × ℤ) → Among t terms → nat_abs t.1 * f t.0 ≤ weighed f terms
   weighed_among f [] t m = absurd m
   weighed_among f (u ∷ terms) t (inl e) = let a = ap (λ (v : L × ℤ). nat_abs v.1 * f v.0) e in omega arith
@@ -82,7 +80,6 @@ module _ {L : Type 0} where
             let m = mul-le-mul_left (nat_abs t.1) one in
             omega arith
 
-    -- if adding g to the table `old` overflows at a label x with f(x) at least 1, the weights of `old` and of g are together at least 2^127
     pub overflow_weighed : (old g : WholeTermsOf L) (o : Overflows eq old g) (f : L → ℕ) → 1 ≤ f o.0 → 2 ^ 127 ≤ weighed f old + weighed f g
     overflow_weighed old g o f some =
         let l = o.1 in
@@ -91,7 +88,6 @@ module _ {L : Type 0} where
         let d = mass_weighed f o.0 some g in
         omega arith
 
-    -- if `new` is `old` plus g, the weight of `new` is at most that of `old` plus that of g
     pub gains_weighed : (laws : IsEquivalence eq) {is_label : L → Bool} (old g new : WholeTermsOf L) → IsCombination eq is_label whole new → Gains old g new
         → (f : L → ℕ) → weighed f new ≤ weighed f old + weighed f g
     gains_weighed laws old g new is a f =
@@ -102,7 +98,6 @@ module _ {L : Type 0} where
         let s = a.sums (λ x. signed (coefficient eq (pos 0) new x) (f x)) in
         omega (arith, ints)
       where
-        -- the number with the absolute value k and the sign of z
         signed : ℤ → ℕ → ℤ
         signed (pos n) k = pos k
         signed (negsuc n) zero = pos 0
@@ -135,7 +130,6 @@ module _ {L : Type 0} where
             let q = ap pos p in
             omega (arith, ints)
 
-    -- if `new` is `old` plus g, the mass (sum of absolute values) of `new` is at most that of `old` plus that of g
     pub gains_mass : (laws : IsEquivalence eq) {is_label : L → Bool} (old g new : WholeTermsOf L) → IsCombination eq is_label whole new → Gains old g new
         → mass new ≤ mass old + mass g
     gains_mass laws old g new is a =

@@ -1,5 +1,5 @@
--- Terms added to a table of fractions. This is stated with integers: q is a common denominator of the table, and integer terms are added to q times
--- the table, or adding them overflows.
+-- The addition of terms to a table, a list of labels with fractions as coefficients, stated with integers: q is a common denominator of the table,
+-- and terms with integer coefficients are added to q times the table. Also the condition that this addition overflows.
 use Rattle.std.specs.Prelude.{ℕ, ◌^◌, ◌<◌, pos, Bool, map}
 use Rattle.std.specs.Int.{◌∣◌}
 use Rattle.sym_model.specs.Expansion.{Fraction, Terms}
@@ -46,7 +46,8 @@ GainsMultiple eq is_label c terms old new =
     (q : ℕ) → IsDenominator q c → AreCleared eq q old
     → GainsCleared eq is_label q old (scaled (numerator_over q c) terms) new
 
--- adding c·terms to old overflows: so does adding q·c·terms to q·old, for each common denominator q < 2^127 of c and of the coefficients of old
+-- the statement that adding c·terms to old overflows: for each common denominator q < 2^127 of c and of the coefficients of old, adding q·c·terms to
+-- q·old overflows
 abbrev pub OverflowsMultiple : {L : Type 0} → (L → L → Bool) → Fraction → WholeTermsOf L → Terms L
     → Type 0
 OverflowsMultiple eq c terms old =

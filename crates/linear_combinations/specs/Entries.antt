@@ -35,18 +35,18 @@ pub record IsCombination {L R : Type 0} (eq : L → L → Bool) (is_label : L �
 abbrev pub IsWholeTable : List (List ℕ × ℤ) → Type 0
 IsWholeTable entries = IsCombination (pointwise nat_eq) is_label whole entries
 
--- the coefficient of each label is one that a scalar of the ring can hold
+-- the scalar type of the ring can represent the coefficient of each label
 pub record AreHeld {L R : Type 0} (eq : L → L → Bool) (zero : R) (is_held : R → Type 0)
     (entries : List (L × R)) : Type 0 where
   pub at_label : (label : L) → is_held (coefficient eq zero entries label)
 
--- a table: a finite linear combination whose coefficients are ones that a scalar of the ring can hold
+-- a table: a finite linear combination whose coefficients the scalar type of the ring can represent
 pub record IsTable {L R : Type 0} (eq : L → L → Bool) (is_label : L → Bool) (zero : R)
     (value : R → Fraction) (is_held : R → Type 0) (entries : List (L × R)) : Type 0 where
   pub combination : IsCombination eq is_label value entries
   pub held : AreHeld eq zero is_held entries
 
--- the old list and the new list are tables
+-- the list before a change (`old`) and the list after it (`new`) are both tables, that is, satisfy `IsTable`
 pub record AreTables {L R : Type 0} (eq : L → L → Bool) (is_label : L → Bool) (zero : R)
     (value : R → Fraction) (is_held : R → Type 0) (old new : List (L × R)) : Type 0 where
   pub before : IsTable eq is_label zero value is_held old
@@ -96,7 +96,7 @@ abbrev pub HasSameCoefficients : {L R : Type 0} → (L → L → Bool) → R →
 HasSameCoefficients {L} eq zero first second =
     (label : L) → coefficient eq zero second label ≡ coefficient eq zero first label
 
--- the ring can hold the scalars a and b, but the checked operation has no result for them
+-- the scalar type of the ring can represent the scalars a and b, but the checked operation has no result for them
 pub record IsRefused {R : Type 0} (is_held : R → Type 0) (checked : R → R → Option R)
     (a b : R) : Type 0 where
   pub left_held : is_held a
@@ -121,8 +121,8 @@ abbrev pub is_later : {L : Type 0} → (L → L → Ordering) → Option L → L
 is_later order None label = true
 is_later order (Some previous) label = is_lt (order previous label)
 
--- whether a term may follow the previous label in a canonical list: it satisfies `is_term`, and its label comes strictly after the previous one, if
--- there is one
+-- whether a term may follow the previous label in a list that is in order (`is_canonical_list`): it satisfies `is_term`, and its label comes strictly
+-- after the previous one, if there is one
 abbrev pub is_next : {L R : Type 0} → (L → L → Ordering) → (L → Bool) → (R → Fraction) → Option L
     → L × R → Bool
 is_next order is_label value previous t = is_later order previous t.0 && is_term value is_label t

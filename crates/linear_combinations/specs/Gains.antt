@@ -1,11 +1,12 @@
--- Terms added to a table of integers: these terms are a list of labels with integers, in which a label may occur several times.
+-- Terms added to a table, a list of different labels with integers as coefficients. The added terms are a list of labels with integers, in which a
+-- label may occur several times.
 use Rattle.std.specs.Prelude.{◌≡◌, ℕ, ◌+◌, ◌^◌, ◌≤◌, ℤ, pos, ◌+ℤ◌, nat_abs, Bool, cond, List}
 use Rattle.std.specs.Prelude.{[], ◌∷◌, ◌++◌, map, FitsSigned}
 use Rattle.std.specs.Int.{w128}
 use Rattle.coeff_rings.specs.Checked.{checked_i128}
 use Rattle.sym_model.specs.Polynomial.{pair}
 use Rattle.linear_combinations.specs.Entries.{coefficient, IsRefused}
--- `scaled`: the list with each coefficient times c
+-- `scaled c terms`: the list `terms` with each coefficient multiplied by c
 pub use Rattle.sym_model.specs.Polynomial.{scale as scaled}
 -- `mass`: the sum of the absolute values of all coefficients
 pub use Rattle.sym_model.specs.WholeTerms.{WholeTermsOf, HaveLabels, weighed, absolute_total as mass}

@@ -1,4 +1,5 @@
--- Lemmas that the label types cite: labels that compare as equal are the same, and the printed order is total, with ties only between equal labels.
+-- Lemmas for the contracts of the types of labels. The equality test of labels is true only of identical labels. The order in which terms are printed
+-- is total, and only identical labels compare as equal in it.
 use Rattle.std.proofs.Common.{◌≡◌, ℕ, true, List}
 use Rattle.std.specs.Prelude.{nat_eq, IsTrue}
 use Rattle.std.specs.Cmp.{IsTotalOrder}

@@ -16,8 +16,9 @@ pub trait Rule<K: Label, L: Label> {
     // The image of a label.
     ghost image: { Self → K → List (L × ℤ) };
 
-    /// Adds `c` times the image of `label` to `sum`. Returns `Large` only if adding these terms
-    /// overflows (`Overflows`). After an error some of them may have been added to `sum`.
+    /// Adds `c` times the image of `label` to `sum`. Returns `Large` only if adding the terms of
+    /// the image, times `c`, overflows (`Overflows`). After an error some of these terms may have
+    /// been added.
     fn add_image(&self, label: &K, c: Int, sum: &mut Lin<L, Int>) -> Result<(), SumFault>
         requires { takes self.now label.now }
         ensures gains { OnOk result (Gains sum.old (scaled c (image self.now label.now)) sum.new) }

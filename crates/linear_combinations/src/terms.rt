@@ -114,8 +114,9 @@ fn are_canonical<L: Label, R: Scalar>(pairs: &[(L, R)]) -> bool
     true
 }
 
-/// Whether the term of `label` and `c` may follow the label `previous` in a canonical list: `c` is
-/// not 0, and `label` comes strictly after `previous`, if there is a previous label.
+/// Whether the term of `label` and `c` may follow a term with the label `previous` in a list with
+/// increasing labels and no coefficient 0: `c` is not 0, and `label` comes strictly after
+/// `previous`, if there is a previous label.
 fn may_follow<L: Label, R: Scalar>(previous: Option<&L>, label: &L, c: R) -> bool
     ensures { result ≡ is_next L.order L.is_label R.value (option_copied previous.entry)
         (label.now, c) }

@@ -59,7 +59,7 @@ impl<L: Label> Lin<L, Int> {
 
     /// Adds `c` to the coefficient of each of the labels `labels`.
     ///
-    /// On an error some of these terms may have been added to the table.
+    /// On an error `c` may have been added for some of the labels.
     pub fn add_each(&mut self, labels: &[L], c: Int) -> Result<(), SumFault>
         ensures gains { OnOk result (Gains self.old (each_with c labels.now) self.new) }
         ensures large { IsErrOf result SumFault.Large
@@ -76,7 +76,7 @@ impl<L: Label> Lin<L, Int> {
 
     /// Subtracts `c` from the coefficient of each of the labels `labels`.
     ///
-    /// On an error some of these terms may have been subtracted from the table.
+    /// On an error `c` may have been subtracted for some of the labels.
     pub fn subtract_each(&mut self, labels: &[L], c: Int) -> Result<(), SumFault>
         ensures gains { OnOk result (Gains self.old (each_with (neg_ℤ c) labels.now) self.new) }
         ensures large { IsErrOf result SumFault.Large
@@ -94,7 +94,7 @@ impl<L: Label> Lin<L, Int> {
 
     /// Adds `c` times the table `other`.
     ///
-    /// On an error some of these terms may have been added to the table.
+    /// On an error some of the terms of `other`, times `c`, may have been added.
     pub fn add_multiple(&mut self, other: &Lin<L, Int>, c: Int) -> Result<(), SumFault>
         ensures gains { OnOk result (Gains self.old (scaled c other.now) self.new) }
         ensures large { IsErrOf result SumFault.Large
@@ -114,8 +114,8 @@ impl<L: Label> Lin<L, Int> {
     /// Adds the table `other`.
     ///
     /// Returns `Large` if the sum of the two coefficients at the first label of `other` overflows,
-    /// since no memory is allocated before this sum is computed. On an error some of these terms
-    /// may have been added to the table.
+    /// since no memory is allocated before this sum is computed. On an error some of the terms of
+    /// `other` may have been added.
     pub fn add_terms(&mut self, other: &Lin<L, Int>) -> Result<(), SumFault>
         ensures gains { OnOk result (Gains self.old other.now self.new) }
         ensures large { IsErrOf result SumFault.Large → Overflows L.eq self.old other.now }
@@ -152,7 +152,7 @@ impl<L: Label> Lin<L, Int> {
 
     /// Adds the image of the table `list` under the linear map `rule`.
     ///
-    /// On an error some of these terms may have been added to the table.
+    /// On an error some of the terms of the image may have been added.
     pub fn add_by<K: Label, T: Rule<K, L>>(
         &mut self,
         rule: &T,

@@ -1,4 +1,5 @@
--- The list returned by `coprod`: its polynomial and its coefficients.
+-- The list of terms that `coprod` returns for the coproduct of a Schur polynomial: the polynomial that is the sum of the terms, and the coefficients
+-- of the terms. Each term is labelled by a pair of partitions.
 use Rattle.std.proofs.Common.{◌≡◌, ℕ, ◌+◌, List, [], ◌∷◌, ◌++◌, refl, sym, ap, ◌∙◌, arith, ℤ, pos, ◌+ℤ◌, ◌*ℤ◌, flat_map}
 use Rattle.std.specs.Prelude.{None}
 use Rattle.std.proofs.lemmas.Int.{ints}
@@ -23,10 +24,6 @@ use Rattle.lr_coproduct.proofs.InnerLists.{partitions_inside, part_among, among_
 use Rattle.lr_coproduct.proofs.SortedShapes.{once_listed}
 use Rattle.tableau_laws.proofs.Padding.{each_map}
 
--- ---- the terms whose first partition is a given partition inside the shape
-
--- if a list represents the polynomial f as a combination of the polynomials P(label), the sum of c·P(label) over the terms (label, c) of the list is
--- f
 pub sum_of_terms : (P : List ℕ → Poly) (list : WholeTerms) (f : Poly) → Represents P (as_fractions list) f 1 → Same (combined P list) f
 sum_of_terms P list f r α =
     let one : denominators (as_fractions list) ≡ 1 = denominators-as_fractions list in
@@ -59,8 +56,6 @@ plus_same new old f g e h α =
     let j = e α in
     omega (arith, ints)
 
--- ---- the terms of all first partitions inside the shape
-
 each_next : (f : List ℕ → Poly) (xs : List (List ℕ)) (x : List ℕ) (α : List ℕ) → coefficient_of (flat_map f (xs ++ (x ∷ []))) α ≡ coefficient_of (flat_map f xs) α +ℤ coefficient_of (f x) α
 each_next f [] x α = let p = coefficient_plus (f x) [] α in omega (arith, ints)
 each_next f (y ∷ xs) x α =
@@ -78,7 +73,6 @@ sum_next f xs next x old new e h k α =
     let t : coefficient_of (flat_map f next) α ≡ coefficient_of (flat_map f (xs ++ (x ∷ []))) α = ap (λ l. coefficient_of (flat_map f l) α) e in
     omega (arith, ints)
 
--- the coefficient at α of the sum of the polynomials f(x), for x in a list, is the sum of their coefficients at α
 coefficient_of_each : (f : List ℕ → Poly) (xs : List (List ℕ)) (α : List ℕ) → coefficient_of (flat_map f xs) α ≡ total (λ x. coefficient_of (f x) α) xs
 coefficient_of_each f [] α = refl
 coefficient_of_each f (x ∷ xs) α =
@@ -104,8 +98,6 @@ coproduct_meets shape inners terms p l sums n k =
     ∙ each_listed (λ inner. beside (schur inner n) (skew_schur shape inner k)) shape inners l α
     ∙ ap (λ (f : Poly). coefficient_of f α) (each_map (λ inner. beside (schur inner n) (skew_schur shape inner k)) without_last_zeros (shapes_inside shape (columns shape)))
     ∙ sym (coproduct n k shape p α)))
-
--- ---- coefficients that exceed 2^127 - 1
 
 pub past_of_inner : (shape inner : List ℕ) (inners : List (List ℕ)) → ListsShapesInside shape inners → Among inner inners → HasPast (IsCoefficientOfSkew None shape inner) → HasPast (IsCoproductCoefficient shape)
 past_of_inner shape inner inners l m (c, s, past) =

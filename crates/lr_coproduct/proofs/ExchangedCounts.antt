@@ -1,4 +1,5 @@
--- The number of lattice tableaux of a skew shape with a given content: the inner partition and the content may be exchanged.
+-- The number of lattice tableaux of a skew shape with a given content: the inner partition and the content may be exchanged. A tableau is *good* for
+-- a partition μ, its start, if for each j ≥ 0 the sum of μ and the content of the columns to the right of column j is a partition.
 use Rattle.std.proofs.Common.{◌≡◌, ℕ, ◌+◌, ◌≤◌, Bool, true, false, cond, List, [], sym, ap, ◌∙◌, arith, ℤ, pos, ◌*ℤ◌}
 use Rattle.std.proofs.lemmas.Int.{ints}
 use Rattle.sym_model.specs.Sum.{Among}
@@ -22,10 +23,6 @@ use Rattle.schur_laws.proofs.Duality.{rows_inside}
 use Rattle.schur_laws.proofs.ProductCounts.{product_by_shape, product_outside, product_exchanged}
 use Rattle.lr_product.proofs.GoodCounts.{product_count-other_size}
 
--- ---- the inner partition and the content exchanged
-
--- if inner lies inside outer, the number of good tableaux of outer/inner for the empty start, with letters from 1 to n and the content κ, is the
--- number of ways (`over_columns`) to fill the columns of outer/inner one after another so that the sum reached is κ
 terms_by_columns : (n : ℕ) (outer inner κ : List ℕ) → IsPartition outer → IsPartition inner → contains outer inner ≡ true
     → coefficient (good_terms n [] outer inner) κ ≡ over_columns n (column_lines outer inner) (is_sum κ) (resize n []) []
 terms_by_columns n outer inner κ o i holds =
@@ -34,8 +31,6 @@ terms_by_columns n outer inner κ o i holds =
     ∙ sym (total_good_contents n [] outer inner (λ ν. f (join [] ν)) o.falls holds)
     ∙ total_readings_by_columns n [] outer inner f IsPartition-none o i holds (omega arith)
 
--- if inner lies inside outer, and κ has at most as many rows as outer, the number of lattice tableaux of outer/inner with the content κ is the number
--- of good tableaux T of the shape κ for the start inner such that inner + content(T) = outer
 skew_is_product : (outer inner κ : List ℕ) → IsPartition outer → IsPartition inner → IsPartition κ → contains outer inner ≡ true → rows κ ≤ rows outer
     → skew_count outer inner κ ≡ product_count (rows outer) inner κ outer
 skew_is_product outer inner κ o i p holds h =
@@ -67,8 +62,6 @@ skew_outside outer inner κ o i p holds h k =
 pub skew_other_size : (outer inner κ : List ℕ) → IsPartition outer → IsPartition inner → IsPartition κ → contains outer inner ≡ true → rows κ ≤ rows outer → (size inner + size κ ≡ size outer → ⊥)
     → skew_count outer inner κ ≡ 0
 skew_other_size outer inner κ o i p holds h other = skew_is_product outer inner κ o i p holds h ∙ product_count-other_size outer inner κ o i p other
-
--- ---- the coefficients of a linear combination of Schur polynomials
 
 scaled_schur : (n : ℕ) (ν : List ℕ) (t : Term) → IsPartition t.0 → IsPartition ν → rows ν ≤ n
     → pair (times (alternant (staircase n)) (scale t.1 (schur t.0 n))) (at_only (join ν (staircase n))) ≡ cond (same t.0 ν) t.1 (pos 0)

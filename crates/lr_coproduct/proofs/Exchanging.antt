@@ -1,5 +1,7 @@
--- If the partition `inner` has less than half of the cells of `shape`, the terms of the skew Schur polynomial of shape/inner are read from the lists
--- of the skew Schur polynomials of shape/ν, for the partitions ν before `inner`.
+-- If the partition `inner` has less than half of the cells of `shape`, the terms of the skew Schur polynomial of shape/inner are found without
+-- counting tableaux: the coefficient of ν is that of `inner` in the skew Schur polynomial of shape/ν. The lists of these polynomials must have been
+-- made before, for the partitions ν before `inner` in the list of all partitions inside `shape`. `ListsExchanged shape inner firsts` holds for the
+-- list of the terms of shape/inner with labels in `firsts`.
 use Rattle.std.proofs.Common.{◌≡◌, ℕ, ◌+◌, ◌*◌, ◌<◌, ◌≤◌, ◌⊎◌, Bool, true, false, cond, ◌&&◌, List, [], ◌∷◌, ◌++◌, length, take, get_or, refl, sym, ap, ◌∙◌, subst, inl, inr, arith, ℤ, pos, ◌+ℤ◌, ◌^◌}
 use Rattle.std.specs.Prelude.{None}
 use Rattle.std.specs.declared.cmp.Ordering.TheVariants.{Less}
@@ -44,10 +46,8 @@ use Rattle.lr_product.proofs.Placed.{table_of}
 use Rattle.lr_product.proofs.GoodCounts.{no_label}
 use Rattle.lr_product.proofs.Partial.{among_taken}
 
--- ---- the list of the terms whose labels are among the first `at` partitions, and the list for the first at + 1
-
--- `terms` is the canonical list of the terms c·ν for those ν in `firsts` for which c, the number of lattice tableaux of shape/inner with the content
--- ν, is not 0
+-- `terms` is a canonical list (in the printed order, with no coefficient 0): it has the terms c·ν for the ν in `firsts`, with c the number of lattice
+-- tableaux of shape/inner with the content ν, if c is not 0
 pub record ListsExchanged (shape inner : List ℕ) (firsts : List (List ℕ)) (terms : WholeTerms) : Type 0 where
   pub canonical : IsCanonicalList printed_order is_label whole terms
   pub labels : (t : List ℕ × ℤ) → Among t terms → Among t.0 firsts
@@ -74,8 +74,6 @@ next_skipped shape inner inners at second terms ordered here none l = record {
       (no_label terms second (λ t k. apart_from inners at second t.0 ordered here (l.labels t k)) ∙ sym (ap pos none)) (l.counts parts);
 }
 
--- if `terms` is the list for the first `at` partitions (`ListsExchanged`), it remains canonical if a term is appended whose label is the partition at
--- the index `at` and whose coefficient is not 0
 next_canonical : (shape inner : List ℕ) (inners : List (List ℕ)) (at : ℕ) (second : List ℕ) (c : ℤ) (terms : WholeTerms) → IsInPrintedOrder inners → IsAt inners at second
     → is_label second ≡ true → (c ≡ pos 0 → ⊥) → ListsExchanged shape inner (take at inners) terms → IsCanonicalList printed_order is_label whole (terms ++ (second, c) ∷ [])
 next_canonical shape inner inners at second c terms ordered here label other l =
@@ -131,10 +129,6 @@ next_either shape inner inners at second c terms new ordered here label is none 
         (next_skipped shape inner inners at second terms ordered here (let z : pos (skew_count shape inner second) ≡ pos 0 = sym is ∙ e in omega (arith, ints)) l)
     by (inr d) = next_exchanged shape inner inners at second c terms new ordered here label is d (one d) l
 
--- ---- the terms after all partitions x with |inner| + |x| = |shape| have been visited
-
--- if no partition x from the index `at` on has |inner| + |x| = |shape|, and ν has no more rows than shape and is not among the first `at` partitions,
--- no lattice tableau of shape/inner has the content ν
 zero_unless_taken : (shape inner : List ℕ) (inners : List (List ℕ)) (at : ℕ) (ν : List ℕ) → IsPartition shape → ListsShapesInside shape inners → Among inner inners
     → ((i : ℕ) (x : List ℕ) → IsAt inners i x → at ≤ i → size inner + size x ≡ size shape → ⊥)
     → IsPartition ν → rows ν ≤ rows shape → (Among ν (take at inners) → ⊥) → skew_count shape inner ν ≡ 0
@@ -195,8 +189,6 @@ exchanged_term shape inner second list c o i s h k canonical meets e =
     ∙ listed_count shape second inner list o i s k canonical meets
     ∙ ap pos (skew_exchanged shape second inner o s i (contains-from shape second k) (contains-from shape inner h))
 
--- ---- coefficients that exceed 2^127 - 1
-
 -- if 2·|inner| < |shape|, and the skew Schur polynomials of shape/second, for the partitions `second` before `inner`, have no coefficient of 2^127 or
 -- more, neither has that of shape/inner
 pub exchanged_fits : (shape inner : List ℕ) (inners : List (List ℕ)) (m : ℕ) → IsPartition shape → ListsShapesInside shape inners → IsAt inners m inner → 2 * size inner < size shape
@@ -233,8 +225,6 @@ exchanged_fits shape inner inners m o listed at small fit (c, d, past) = by (amo
           past,
         )
 
--- ---- the lists for the first partitions inside a shape, and one more list appended to them
-
 pub lists_next : (shape : List ℕ) (inners : List (List ℕ)) (lists new : List WholeTerms) (inner : List ℕ) (list : WholeTerms) → IsAt inners (length lists) inner
     → IsSkewList shape inner list → new ≡ lists ++ list ∷ [] → HaveSkewLists shape inners lists → HaveSkewLists shape inners new
 lists_next shape inners lists new inner list here is e have =
@@ -252,8 +242,6 @@ listed_fits shape inners lists have second m =
     let r = index_of inners (length lists) second m in
     let list = get_or lists r.0 [] in
     (have.at_index r.0 second list r.2 (record { within = r.1; is = get_or_default lists r.0 [] list r.1 })).fits
-
--- ---- the loop of `exchanged`: its start, and the step to one more partition
 
 -- if |shape| ≤ |inner| + cells, none of the first `count` partitions, which have more than `cells` cells, is the content of a lattice tableau of
 -- shape/inner

@@ -22,8 +22,6 @@ use Rattle.std.proofs.lemmas.Grind.{flat_map-append}
 abbrev pub partitions_inside : List ℕ → List (List ℕ)
 partitions_inside shape = map without_last_zeros (shapes_inside shape (columns shape))
 
--- ---- each element of the list `partitions_inside` is a partition inside the shape
-
 pub record IsPart (shape inner : List ℕ) : Type 0 where
   pub partition : IsPartition inner
   pub inside : Holds shape inner
@@ -58,7 +56,6 @@ padded_among (a ∷ outer) m (b ∷ parts) f h l e =
     Among-each (λ x. map (λ i. x ∷ i) (shapes_inside outer x)) b (b ∷ resize (length outer) parts) (up_to (min a m)) (among_up_to (min a m) b (omega arith))
     (Among-map (λ i. b ∷ i) (resize (length outer) parts) (shapes_inside outer b) (padded_among outer b parts (Falls_tail b parts f) (Falls_first b parts f) (omega arith) (λ j. e (suc j))))
 
--- if a shape is within the limits, each partition inside it is a label (`is_label`)
 pub label_inside : (shape parts : List ℕ) → IsWithinLimits shape → IsPartition parts → Holds shape parts → is_label parts ≡ true
 label_inside shape parts l p h =
     let few = rows_held parts shape p.positive (Holds-get_or shape parts h) in
@@ -71,8 +68,6 @@ among_part shape parts p h =
     let few = rows_held parts shape p.positive at in
     subst (λ l. Among l (partitions_inside shape)) (without_last_zeros-resize (length shape) parts p.positive few)
     (Among-map without_last_zeros (resize (length shape) parts) (shapes_inside shape (columns shape)) (padded_among shape (columns shape) parts p.falls (at 0) few at))
-
--- ---- each partition occurs only once in the list `partitions_inside`
 
 once_up_to : (j : ℕ) → Once (up_to j)
 once_up_to j = (λ m. let r = after_among 0 j 0 m in let l = r.0 in absurd (omega arith), once_after 0 j)
@@ -118,7 +113,7 @@ limits_front front most f h k = record {
 abbrev pub listed_from : List ℕ → List ℕ → List ℕ → List (List ℕ)
 listed_from front below numbers = map (λ i. without_last_zeros (front ++ i)) (flat_map (λ b. map (λ i. b ∷ i) (shapes_inside below b)) numbers)
 
--- the numbers from 0 to b - 1
+-- `below_it b`: the numbers from 0 to b - 1
 abbrev pub below_it : ℕ → List ℕ
 below_it zero = []
 below_it (suc j) = up_to j

@@ -1,4 +1,4 @@
--- The coefficient of a label in a canonical list of terms, found by binary search.
+-- The coefficient of a label in a canonical list of terms (the labels are strictly increasing, and no coefficient is 0), found by binary search.
 use Rattle.std.proofs.Common.{◌≡◌, ℕ, zero, suc, ◌<◌, ◌≤◌, ◌⊎◌, List, [], ◌∷◌, length, get_or, refl, sym, ap, ◌∙◌, subst, inl, inr, arith, ℤ, pos}
 use Rattle.std.specs.Prelude.{Err}
 use Rattle.std.specs.List.Sorted.{IsNonDecreasingBy, IsBinarySearchResult}
@@ -25,11 +25,9 @@ use Rattle.lr_product.proofs.GoodCounts.{no_label}
 pub ordered_in : (terms : WholeTerms) → IsCanonicalList printed_order is_label whole terms → IsOrdered printed_order terms
 ordered_in terms c = canonical-ordered printed_order is_label whole printed_order-total.trans terms c
 
--- each label of a canonical list is a partition
 pub label_in : (terms : WholeTerms) → IsCanonicalList printed_order is_label whole terms → (t : List ℕ × ℤ) → Among t terms → IsPartition t.0
 label_in terms c t m = (is_label-tells t.0 (and_parts _ (is_label t.0) (term-among is_label whole terms (table_of terms c).proper t m)).1).partition
 
--- if x comes strictly before y in the printed order, x is not y
 pub not_before : (x y : List ℕ) → printed_order x y ≡ Less → x ≡ y → ⊥
 not_before x y h e =
     let itself = tied_itself printed_order-total y in

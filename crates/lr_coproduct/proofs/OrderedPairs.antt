@@ -41,9 +41,6 @@ sum_added n k first list old new e α =
     let p = coefficient_plus (pair_sum n k old) (second_sum n k first list) α in
     omega (arith, ints)
 
--- ---- the order of the pairs
-
--- if `label` comes before all labels of a list, the pair (first, label) comes before the pair (first, ν) for each label ν of the list
 with_first_before : (first label : List ℕ) (list : WholeTerms) → StandsBefore printed_order label list → StandsBefore pair_order (first, label) (with_first first list)
 with_first_before first label [] h = tt
 with_first_before first label (t ∷ list) h =
@@ -84,7 +81,6 @@ canonical_added first list old new e l c before was =
         let same : y.0.0 ≡ first = ap (λ (u : (List ℕ × List ℕ) × ℤ). u.0.0) s.2 in
         ap (λ (o : Ordering). ordering_then o (printed_order x.0.1 y.0.1)) (ap (printed_order x.0.0) same ∙ before x m)
 
--- if o is `Some x`, and o is `Some v` if P holds and None otherwise, then x = v
 pub unwrapped : {A : Type 0} (P : Type 0) (o : Option A) (x v : A) → o ≡ Some x → SomeIff o P v → x ≡ v
 unwrapped P None x v e h = cc
 unwrapped P (Some y) x v e h = let same : y ≡ x = cc in sym same ∙ h.1

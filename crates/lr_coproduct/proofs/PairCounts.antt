@@ -27,15 +27,12 @@ behind_one inner (t ∷ list) first second = by (same inner first) (behind_one i
     by true e = ap (λ z. cond (same t.0 second) t.1 (pos 0) +ℤ z) e
     by false e = +ℤ_idl (pair_coefficient (with_first inner list) first second) ∙ e
 
--- if no label of the terms is a pair with the first partition `first`, each pair (first, second) has the coefficient 0
 none_behind : (old : WholeTermsOf (List ℕ × List ℕ)) (first second : List ℕ) → ((t : (List ℕ × List ℕ) × ℤ) → Among t old → t.0.0 ≡ first → ⊥) → pair_coefficient old first second ≡ pos 0
 none_behind [] first second apart = refl
 none_behind (t ∷ old) first second apart =
     ap (λ b. cond (b && same t.0.1 second) t.1 (pos 0) +ℤ pair_coefficient old first second) (same_apart t.0.0 first (apart t (inl refl)))
     ∙ +ℤ_idl (pair_coefficient old first second)
     ∙ none_behind old first second (λ u m. apart u (inr m))
-
--- ---- the coefficients after the terms whose first partition is `inner` are appended
 
 pub count_here : (inner second : List ℕ) (list : WholeTerms) (old new : WholeTermsOf (List ℕ × List ℕ)) → new ≡ old ++ with_first inner list → AreBefore old inner
     → pair_coefficient new inner second ≡ coefficient list second

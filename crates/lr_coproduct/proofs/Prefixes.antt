@@ -10,7 +10,6 @@ at_among [] i x r = let l = r.within in absurd (omega arith)
 at_among (y ∷ xs) zero x r = inl r.is
 at_among (y ∷ xs) (suc i) x r = inr (at_among xs i x (let l = r.within in record { within = omega arith; is = r.is }))
 
--- if x is the element at the index i, the first i + 1 elements are the first i elements followed by x
 pub take_next : {A : Type 0} (xs : List A) (i : ℕ) (x : A) → IsAt xs i x → take (i + 1) xs ≡ take i xs ++ (x ∷ [])
 take_next [] i x r = let l = r.within in absurd (omega arith)
 take_next (y ∷ xs) zero x r = ap (λ z. z ∷ take 0 xs) (sym r.is) ∙ ap (λ l. x ∷ l) (take_none xs)
@@ -18,8 +17,6 @@ take_next (y ∷ xs) (suc i) x r =
     let e : suc i + 1 ≡ suc (i + 1) = omega arith in
     ap (λ j. take j (y ∷ xs)) e ∙ ap (λ l. y ∷ l) (take_next xs i x (let l = r.within in record { within = omega arith; is = r.is }))
 
--- let z be among the first i + 1 elements. If P holds for the element at the index i, and P holds for z if z is among the first i elements, then P
--- holds for z
 pub either_at : {A : Type 0} (P : A → Type 0) (xs : List A) (i : ℕ) (x z : A) → IsAt xs i x → Among z (take (i + 1) xs) → P x → (Among z (take i xs) → P z) → P z
 either_at {A} P xs i x z r m here before = by (take i xs) (subst (λ l. Among z l) (take_next xs i x r) m) before
   where

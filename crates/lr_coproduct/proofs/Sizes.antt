@@ -1,4 +1,4 @@
--- The sizes of partitions in a list in the printed order: they are weakly decreasing.
+-- The sizes of the partitions in a list in the printed order (the order in which terms are printed): they are weakly decreasing.
 use Rattle.std.proofs.Common.{◌≡◌, ℕ, zero, suc, ◌==◌, ◌*◌, ◌+◌, ◌<◌, ◌≤◌, ◌⊎◌, min, Bool, true, false, cond, List, [], ◌∷◌, length, get_or, sym, ap, ◌∙◌, subst, inl, inr, arith}
 use Rattle.std.specs.Prelude.{nat_lt}
 use Rattle.std.specs.List.Sorted.{IsPartitionedBy, IsPartitionPoint}
@@ -11,7 +11,6 @@ use Rattle.sym_model.specs.PrintedOrder.{printed_order, falling_lexicographic}
 use Rattle.lr_coproduct.specs.InnerShapeList.{IsInPrintedOrder, IsAt, IsCountAbove}
 use Rattle.lr_coproduct.proofs.Lookups.{member_at}
 
--- if x comes before y in the printed order, y has at most the size of x
 printed_size : (x y : List ℕ) → printed_order x y ≡ Less → size y ≤ size x
 printed_size x y h = by (cases_lt (size x) (size y))
   where
@@ -30,7 +29,6 @@ sizes_fall (x ∷ xs) h zero (suc j) d l k = printed_size x (get_or xs j d) (h.0
 sizes_fall (x ∷ xs) h (suc i) zero d l k = absurd (omega arith)
 sizes_fall (x ∷ xs) h (suc i) (suc j) d l k = sizes_fall xs h.1 i j d (omega arith) (omega arith)
 
--- in a list in the printed order, for i ≤ j, the partition at the index j has at most the size of that at the index i
 later_size : (xs : List (List ℕ)) (i j : ℕ) (x y : List ℕ) → IsInPrintedOrder xs → IsAt xs i x → IsAt xs j y → i ≤ j → size y ≤ size x
 later_size xs i j x y h at_x at_y l =
     let s = sizes_fall xs h i j y l at_y.within in
@@ -53,8 +51,6 @@ counted_above xs cells count bound p = record {
   before = λ i x at l. ltb-true cells (size x) (subst (λ (y : List ℕ). nat_lt cells (size y) ≡ true) (sym at.is) (p.0 i x (omega arith) l));
   after = λ i x at l. ltb-false cells (size x) (subst (λ (y : List ℕ). nat_lt cells (size y) ≡ false) (sym at.is) (p.1 i x l at.within));
 }
-
--- ---- partitions whose size and that of inner do not add up to a given number
 
 -- if inner is at the index m of a list in the printed order and 2·|inner| < cells, no partition x from the index m on has |inner| + |x| = cells
 pub behind_small : (cells : ℕ) (xs : List (List ℕ)) (m : ℕ) (inner : List ℕ) → IsInPrintedOrder xs → IsAt xs m inner → 2 * size inner < cells

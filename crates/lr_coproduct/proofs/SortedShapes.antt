@@ -20,8 +20,6 @@ use Rattle.lr_coproduct.specs.InnerShapeList.{IsInPrintedOrder, ListsShapesInsid
 use Rattle.lr_coproduct.proofs.InnerLists.{IsPart, partitions_inside, label_inside, part_among, among_part, once_partitions_inside}
 use Rattle.lr_coproduct.proofs.Prefixes.{IsAt, at_among}
 
--- ---- members of a list of shapes, and of a permutation of it
-
 among_at : (xs : List (List ℕ)) (x : List ℕ) → Among x xs → Contains xs x
 among_at [] x m = absurd m
 among_at (y ∷ xs) x (inl e) = (0, omega arith, sym e)
@@ -41,8 +39,6 @@ distinct (x ∷ xs) o = (apart xs (λ y m. m), distinct xs o.1)
     apart : (ys : List (List ℕ)) → ((y : List ℕ) → Among y ys → Among y xs) → AllByRecursion (λ y. same x y ≡ false) ys
     apart [] m = tt
     apart (y ∷ ys) m = (same_apart x y (λ e. o.0 (subst (λ z. Among z xs) (sym e) (m y (inl refl)))), apart ys (λ z k. m z (inr k)))
-
--- ---- of two different partitions one comes strictly before the other in the printed order
 
 not_after : (x y : List ℕ) → IsPartition x → IsPartition y → same x y ≡ false → is_lt (printed_order y x) ≡ false → printed_order x y ≡ Less
 not_after x y p q apart up = by (printed_order x y) refl
@@ -83,8 +79,6 @@ sorted_shapes shape old new e moved up limits = record {
 
     part : (x : List ℕ) → Among x new → IsPart shape x
     part x m = part_among shape x (subst (λ l. Among x l) e (moved_among new old (IsPermutation-sym old new moved) x m))
-
--- ---- lists of different partitions, sorted into the printed order
 
 once_ordered : (xs : List (List ℕ)) → IsInPrintedOrder xs → Once xs
 once_ordered [] h = tt

@@ -10,7 +10,7 @@ use Rattle.sym_model.specs.Expansion.{pair_polynomial}
 use Rattle.sym_model.specs.WholeTerms.{WholeTermsOf, WholeTerms, combined, coefficient_by}
 use Rattle.sym_model.specs.WholeTerms.{same_pair}
 
--- the polynomial in n + k variables that is the sum of the terms: a pair (μ, ν) stands for s_μ in the first n variables times s_ν in the last k
+-- the polynomial in n + k variables that is the sum of the terms: a pair (μ, ν) denotes s_μ in the first n variables times s_ν in the last k
 abbrev pub pair_sum : ℕ → ℕ → WholeTermsOf (List ℕ × List ℕ) → Poly
 pair_sum n k terms = combined (pair_polynomial n k) terms
 

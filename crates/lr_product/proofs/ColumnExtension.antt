@@ -1,5 +1,7 @@
--- The sum `extended`, for which a column is filled letter by letter, is equal to the sum `next_states` over whole columns.
-use Rattle.std.proofs.Common.{◌≡◌, ℕ, zero, suc, ◌+◌, ◌-◌, ◌<◌, ◌≤◌, ◌==◌, ◌⊎◌, inl, inr, nat_le, Bool, true, false, cond, ◌&&◌, List, [], ◌∷◌, ◌++◌, append_assoc, append-nil, map, length, take, drop, refl, sym, ap, ap₂, ◌∙◌, arith}
+-- A column is added to a tableau in all ways: the sum `extended`, for which the column is filled letter by letter, is equal to the sum `next_states`
+-- over whole columns. Here a *state* is a list of numbers: first the sum ν, a partition plus the content of all letters so far, with n numbers; then
+-- the letters of the column.
+use Rattle.std.proofs.Common.{◌≡◌, ℕ, zero, suc, ◌+◌, ◌-◌, ◌<◌, ◌≤◌, ◌==◌, ◌⊎◌, inl, inr, nat_le, Bool, true, false, cond, ◌&&◌, List, [], ◌∷◌, ◌++◌, append_assoc, append-nil, map, length, take, drop, refl, sym, ap, ap₂, ◌∙◌, arith, rules}
 use Rattle.std.proofs.lemmas.Bool.{cases_lt, cases_eq, lt-ltb, le-ltb, le-leb, lt-leb, ne_eqb, eq-eqb}
 use Rattle.sym_model.specs.Partition.{after}
 use Rattle.sym_model.specs.Polynomial.{join}
@@ -34,9 +36,6 @@ raise_from i b [] c (suc m) e = absurd (omega arith)
 raise_from i b (x ∷ ν) c zero e = absurd (omega arith)
 raise_from i b (x ∷ ν) c (suc m) e = by (cases_lt b (i + 1)) (cases_eq b (i + 1)) (raise_from (i + 1) b ν c m (omega arith))
   where
-    head : (t : Bool) (y : ℕ) → x + (cond t 1 0) ≡ y → x + (cond t 1 0 + times_in (i + 1) c) ≡ y + times_in (i + 1) c
-    head t y h = omega arith
-
     by : (b < i + 1) ⊎ (i + 1 ≤ b) → (b ≡ i + 1) ⊎ (b ≡ i + 1 → ⊥)
         → join ν (map (λ k. cond (b == k) 1 0 + times_in k c) (after (i + 1) m)) ≡ join (raised (b - (i + 1)) ν) (map (λ k. times_in k c) (after (i + 1) m))
         → (x + (cond (b == (i + 1)) 1 0 + times_in (i + 1) c)) ∷ join ν (map (λ k. cond (b == k) 1 0 + times_in k c) (after (i + 1) m))
@@ -89,19 +88,11 @@ cond_and : (p q : Bool) (x : ℕ) → cond (p && q) x 0 ≡ cond p (cond q x 0) 
 cond_and true q x = refl
 cond_and false q x = refl
 
--- for a ≤ n, the letters allowed at a place (p says whether it is a cell) below the letter a and left of the column `right` are the numbers from
--- `least_letter` to `letters_end` - 1
 letters-range : (n : ℕ) (p : Bool) (a : ℕ) (right : List ℕ) (S : ℕ → ℕ) → a ≤ n
     → sum_by (λ b. cond (may_stand_above a b && fits b right) (S b) 0) (letters_at n p)
     ≡ sum_by S (numbers_from (least_letter p a) (letters_end n p right a - least_letter p a))
-letters-range n false zero right S h = ap (λ t. cond t (S 0) 0 + 0) (fits-zero right)
-  where
-    fits-zero : (r : List ℕ) → fits 0 r ≡ true
-    fits-zero [] = refl
-    fits-zero (x ∷ r) = le-leb 0 x (omega arith)
-letters-range n false (suc a) right S h =
-    ap (λ t. cond (t && fits 0 right) (S 0) 0 + 0) (le-ltb (suc a) (0 + (1 - suc a)) (omega arith))
-    ∙ sym (ap (λ t. sum_by S (numbers_from 0 (cond t 1 0 - 0))) (ne_eqb (suc a) 0 (λ q. absurd (omega arith))))
+letters-range n false zero right S h = search rules
+letters-range n false (suc a) right S h = search rules
 letters-range n true a right S h =
     ap (sum_by (λ b. cond (may_stand_above a b && fits b right) (S b) 0)) (after-numbers 0 n)
     ∙ range-passing (λ b. may_stand_above a b && fits b right) S (greatest_letter n right + 1) 1 (a + 1) n (omega arith)
@@ -125,35 +116,23 @@ letters-range n true a right S h =
 pub end-within : (n : ℕ) (p : Bool) (right : List ℕ) (a : ℕ) → letters_end n p right a ≤ n + 1
 end-within n true [] a = omega arith
 end-within n true (r ∷ right) a = omega arith
-end-within n false right a = by (a == 0)
-  where
-    by : (t : Bool) → cond t 1 0 ≤ n + 1
-    by true = omega arith
-    by false = omega arith
+end-within n false right a = search rules
 
 -- ---- a whole column, filled letter by letter
 
--- if the letters c are allowed below the letter a and left of the column `right`, and the sum ν stays weakly decreasing when they are added to it:
--- the value of f after they are added to ν and appended to w; otherwise 0
+-- the number f(ν', w ++ c), where ν' is ν plus the content of the letters c, if c is allowed below the letter a and left of the column `right`, and
+-- ν' is weakly decreasing; otherwise 0
 abbrev goes_on : ℕ → List ℕ → ℕ → (List ℕ → List ℕ → ℕ) → List ℕ → List ℕ → List ℕ → ℕ
 goes_on n right a f ν w c =
     cond (is_chain may_stand_above (a ∷ c) && (pass_by_place nat_le c right && is_falling (join ν (content n c)))) (f (join ν (content n c)) (w ++ c)) 0
 
 goes_on-cons : (n : ℕ) (right : List ℕ) (a : ℕ) (f : List ℕ → List ℕ → ℕ) (ν w : List ℕ) (b : ℕ) (c : List ℕ) → length ν ≡ n
     → goes_on n right a f ν w (b ∷ c) ≡ cond (may_stand_above a b && fits b right) (goes_on n (drop 1 right) b f (raised b ν) (w ++ b ∷ []) c) 0
-goes_on-cons n right a f ν w b c e =
-    ap₂ (λ (x : Bool) (s : List ℕ). cond (is_chain may_stand_above (a ∷ b ∷ c) && (x && is_falling s)) (f s (w ++ (b ∷ c))) 0) (pass-cons b c right) (join-raised n b ν c e)
-    ∙ ap₂ (λ (x : Bool) (v : List ℕ). cond x (f (join (raised b ν) (content n c)) v) 0)
-    (regroup (may_stand_above a b) (is_chain may_stand_above (b ∷ c)) (fits b right) (pass_by_place nat_le c (drop 1 right)) (is_falling (join (raised b ν) (content n c))))
-    (sym (append_assoc w (b ∷ []) c))
-    ∙ cond_and (may_stand_above a b && fits b right) (is_chain may_stand_above (b ∷ c) && (pass_by_place nat_le c (drop 1 right) && is_falling (join (raised b ν) (content n c)))) (f (join (raised b ν) (content n c)) ((w ++ b ∷ []) ++ c))
+goes_on-cons n right a f ν w b c e = search (rules, pass-cons, join-raised, regroup, append_assoc, cond_and)
 
 extended-words : (n : ℕ) (line : List Bool) (right : List ℕ) (a : ℕ) (f : List ℕ → List ℕ → ℕ) (ν w : List ℕ) → length ν ≡ n → a ≤ n
     → extended true n line right a f (ν ++ w) ≡ sum_by (goes_on n right a f ν w) (words_over n line)
-extended-words n [] right a f ν w e h =
-    ap₂ (λ (s v : List ℕ). cond (is_falling s) (f s v) 0)
-    (ap (λ k. take k (ν ++ w)) (sym e) ∙ take-append_seam ν w ∙ sym (join-nothing n ν e)) (ap (λ k. drop k (ν ++ w)) (sym e) ∙ drop-append_seam ν w ∙ sym (append-nil w))
-    ∙ (let z : goes_on n right a f ν w [] ≡ goes_on n right a f ν w [] + 0 = omega arith in z)
+extended-words n [] right a f ν w e h = search (rules, take-append_seam, join-nothing, drop-append_seam, append-nil)
 extended-words n (p ∷ line) right a f ν w e h =
     let S : ℕ → ℕ = λ b. sum_by (goes_on n (drop 1 right) b f (raised b ν) (w ++ b ∷ [])) (words_over n line) in
     let low = least_letter p a in
@@ -183,8 +162,6 @@ extended-next n line right f ν e =
     first : (c : List ℕ) → may_precede may_stand_above 0 c ≡ true
     first [] = refl
     first (b ∷ c) = lt-ltb 0 (b + (1 - 0)) (omega arith)
-
--- ---- columns whose letters are not appended to the state
 
 forgotten : (n : ℕ) (line : List Bool) (right : List ℕ) (a : ℕ) (f : List ℕ → List ℕ → ℕ) (s w : List ℕ) → length s ≡ n
     → extended false n line right a f s ≡ extended true n line right a (seen false f) (s ++ w)

@@ -1,5 +1,7 @@
--- Lists of terms whose coefficients are the counts of a table, made by adding the counts of its entries one by one.
-use Rattle.std.proofs.Common.{◌≡◌, ℕ, zero, suc, ◌+◌, ◌*◌, ◌^◌, ◌<◌, ◌≤◌, ◌⊎◌, inl, inr, Bool, true, false, cond, List, [], ◌∷◌, length, take, refl, sym, ap, ◌∙◌, subst, arith, ℤ, pos, ◌+ℤ◌}
+-- The list of terms made from a table of states with counts. A *state* is a list of numbers: first its *sum*, which is a list of n numbers (a
+-- partition plus the content of all letters so far), then the letters of the column added last. The *count* of a partition is the total count of the
+-- states that have this partition as their sum, and becomes its coefficient in the list of terms. The entries of the table are added one by one.
+use Rattle.std.proofs.Common.{◌≡◌, ℕ, zero, suc, ◌+◌, ◌*◌, ◌^◌, ◌<◌, ◌≤◌, ◌⊎◌, inl, inr, Bool, true, false, cond, List, [], ◌∷◌, length, take, refl, sym, ap, ◌∙◌, subst, arith, ℤ, pos, ◌+ℤ◌, rules}
 use Rattle.std.specs.Prelude.{Some, slice_get, FitsSigned, nat_eq}
 use Rattle.std.specs.Int.{w128}
 use Rattle.std.specs.Cmp.Lexicographic.{nat_list_eq_equiv, pointwise}
@@ -27,14 +29,12 @@ use Rattle.lr_product.proofs.Steps.{IsReached}
 use Rattle.lr_product.proofs.Sums.{length_take}
 use Rattle.linear_combinations.proofs.LabelTests.{equal_from, equal_apart}
 
--- ---- lists of terms in which the coefficient of each label is its count
+-- ---- lists of terms in which the coefficient of each partition is its count
 
--- the coefficient of each label in the terms is its count
+-- the coefficient of each partition in `terms` is its count; a list that is not the label of a term has the coefficient 0
 abbrev pub Finds : (List ℕ → ℕ) → WholeTerms → Type 0
 Finds count terms = (parts : List ℕ) → coefficient (pointwise nat_eq) (pos 0) terms parts ≡ pos (count parts)
 
--- if the coefficients of the terms are the counts (`Finds`), and the count of each partition with more than n rows is 0, then `HasCounts` holds for
--- the terms and n
 pub has_counts : (n : ℕ) (count : List ℕ → ℕ) (terms : WholeTerms) → IsCombination (pointwise nat_eq) is_label whole terms → Finds count terms
     → ((parts : List ℕ) → n < rows parts → count parts ≡ 0) → HasCounts n count terms
 has_counts n count terms is finds short = record {
@@ -53,33 +53,20 @@ has_counts n count terms is finds short = record {
         sym (coefficient_of_term terms is.distinct t m) ∙ coefficient_found terms is.distinct t.0 ∙ finds t.0 ∙ ap pos (short t.0 l) in
         absurd (not_zero-is_reduced (whole t.1) (and_parts _ (is_label t.0) (term-among is_label whole terms is.proper t m)).0 (ap whole zero))
 
--- if two lists have the same coefficients, and those of the first are the counts, so are those of the second
 pub finds_same : (count : List ℕ → ℕ) (first second : WholeTerms) → HasSameCoefficients (pointwise nat_eq) (pos 0) first second → Finds count first → Finds count second
 finds_same count first second e h parts = e parts ∙ h parts
 
--- if the coefficients of the terms are the counts, and fit into signed integers of 128 bits, each count is less than 2^127
 pub held_small : (terms : WholeTerms) (count : List ℕ → ℕ) → AreHeld (pointwise nat_eq) (pos 0) (FitsSigned w128) terms → Finds count terms → (parts : List ℕ) → count parts < 2 ^ 127
 held_small terms count h finds parts = let f = (subst (FitsSigned w128) (finds parts) (h.at_label parts)).sfits in omega arith
 
 -- ---- the counts in the first i entries of a table, and in the first i + 1
 
--- if entry i of a table has the state `key` and the count w, the weighed sum of the first i + 1 entries is that of the first i plus w times g of
--- `key`
+-- the *weighed sum* of some entries is the sum of count·g(state) over them: if entry i has the state `key` and the count w, the weighed sum of the
+-- first i + 1 entries is that of the first i entries plus w·g(key)
 pub weighed-take : (n : ℕ) (g : List ℕ → List ℕ → ℕ) (es : List (List ℕ × ℕ)) (i : ℕ) (key : List ℕ) (w : ℕ) → slice_get es i ≡ Some (key, w) → weighed n g (take (i + 1) es) ≡ weighed n g (take i es) + w * at_state n g key
 weighed-take n g [] i key w h = cc
-weighed-take n g (e ∷ es) zero key w h =
-    let here : e ≡ (key, w) = cc in
-    ap (λ (x : List ℕ × ℕ). x.1 * at_state n g x.0 + weighed n g (take 0 es)) here
-    ∙ ap (λ l. w * at_state n g key + weighed n g l) (nothing es)
-    ∙ (let z : w * at_state n g key + 0 ≡ 0 + w * at_state n g key = omega arith in z)
-  where
-    nothing : (l : List (List ℕ × ℕ)) → take 0 l ≡ []
-    nothing [] = refl
-    nothing (x ∷ l) = refl
-weighed-take n g (e ∷ es) (suc i) key w h =
-    let r = weighed-take n g es i key w h in
-    let k : suc i + 1 ≡ suc (i + 1) = omega arith in
-    ap (λ j. weighed n g (take j (e ∷ es))) k ∙ (let z : e.1 * at_state n g e.0 + weighed n g (take (i + 1) es) ≡ (e.1 * at_state n g e.0 + weighed n g (take i es)) + w * at_state n g key = omega arith in z)
+weighed-take n g (e ∷ es) zero key w h = search rules
+weighed-take n g (e ∷ es) (suc i) key w h = search (rules, (weighed-take n g es i key w h))
 
 pub weighed-front : (n : ℕ) (g : List ℕ → List ℕ → ℕ) (es : List (List ℕ × ℕ)) (i : ℕ) → weighed n g (take i es) ≤ weighed n g es
 weighed-front n g [] zero = omega arith
@@ -91,13 +78,10 @@ weighed-front n g (e ∷ es) (suc i) = let r = weighed-front n g es i in omega a
 abbrev pub counted : ℕ → List (List ℕ × ℕ) → ℕ → List ℕ → ℕ
 counted n es i parts = weighed n (comes_to parts) (take i es)
 
--- if entry i has the count 0, the first i + 1 entries have the same counts as the first i
 pub counted-zero : (n : ℕ) (es : List (List ℕ × ℕ)) (i : ℕ) (key : List ℕ) (w : ℕ) (parts : List ℕ) → slice_get es i ≡ Some (key, w) → w ≡ 0 → counted n es (i + 1) parts ≡ counted n es i parts
 counted-zero n es i key w parts h z =
     weighed-take n (comes_to parts) es i key w h ∙ ap (λ v. counted n es i parts + v * at_state n (comes_to parts) key) z ∙ (let q : counted n es i parts + 0 * at_state n (comes_to parts) key ≡ counted n es i parts = omega arith in q)
 
--- if entry i has the state `key` and the count w, it adds w to the count of the partition that is the sum of `key` without the zeros at its end, and
--- leaves the other counts unchanged
 counted-more : (n : ℕ) (es : List (List ℕ × ℕ)) (i : ℕ) (key : List ℕ) (w : ℕ) (parts : List ℕ) → slice_get es i ≡ Some (key, w)
     → counted n es (i + 1) parts ≡ cond ((pointwise nat_eq) (without_last_zeros (take n key)) parts) (counted n es i parts + w) (counted n es i parts)
 counted-more n es i key w parts h = weighed-take n (comes_to parts) es i key w h ∙ by (same_or_not (without_last_zeros (take n key)) parts)
@@ -150,24 +134,15 @@ past_next n m es i key sum w old h is r finds large = record {
       omega arith;
 }
 
--- a weakly decreasing list of n ≤ 512 numbers that add up to at most 4,096 is, without the zeros at its end, a partition within the limits
+-- a weakly decreasing list of n ≤ 512 numbers that add up to at most 4,096 is, without the zeros at its end, a partition with at most 512 rows and at
+-- most 4,096 cells (`IsWithinLimits`)
 pub sum_within : (n : ℕ) (sum : List ℕ) → n ≤ 512 → IsReached n 4096 sum → IsWithinLimits (without_last_zeros sum)
-sum_within n sum h r = record {
-  partition = IsPartition-without_last_zeros sum (falls_from_test sum r.falls);
-  few = let l = length-without_last_zeros sum in let e = r.long in omega arith;
-  small = let l = size-without_last_zeros sum in let e = r.small in omega arith;
-}
+sum_within n sum h r = search (rules, IsPartition-without_last_zeros, falls_from_test, length-without_last_zeros, size-without_last_zeros)
 
--- the count of a partition with more than n rows is 0 in a table whose sums have n numbers
 pub counted-long : (n : ℕ) (es : List (List ℕ × ℕ)) (parts : List ℕ) → n < rows parts → weighed n (comes_to parts) es ≡ 0
 counted-long n [] parts h = refl
-counted-long n (e ∷ es) parts h =
-    let i = counted-long n es parts h in
-    let z : at_state n (comes_to parts) e.0 ≡ 0 = ap (λ t. cond t 1 0) (same_apart (without_last_zeros (take n e.0)) parts (λ d. let l = length-without_last_zeros (take n e.0) in let k = length_take n e.0 in let q = ap length d in absurd (omega arith))) in
-    let y : e.1 * at_state n (comes_to parts) e.0 ≡ e.1 * 0 = ap (λ x. e.1 * x) z in
-    omega arith
+counted-long n (e ∷ es) parts h = search (rules, same_apart, length-without_last_zeros, length_take, (counted-long n es parts h))
 
--- if all coefficients of a table of terms are 0, it is empty
 pub same_as_none : (terms : WholeTerms) → IsCombination (pointwise nat_eq) is_label whole terms → HasSameCoefficients (pointwise nat_eq) (pos 0) [] terms → terms ≡ []
 same_as_none terms is e =
     by terms (length_same nat_list_eq_equiv same_partition (pos 0) whole refl terms [] is (IsCombination-empty (pointwise nat_eq) is_label whole) (λ label. sym (e label)))

@@ -1,5 +1,6 @@
--- The counts `product_count` do not change if the two factors of a product are exchanged.
-use Rattle.std.proofs.Common.{◌≡◌, ℕ, ◌≤◌, List, sym, ap, ◌∙◌, arith, pos}
+-- The count `product_count` of good tableaux, which is the coefficient of a partition in the product of two Schur polynomials, does not change if the
+-- two factors are exchanged.
+use Rattle.std.proofs.Common.{◌≡◌, ℕ, ◌≤◌, List, sym, ◌∙◌, arith, pos, rules}
 use Rattle.std.proofs.lemmas.Int.{ints}
 use Rattle.sym_model.specs.Partition.{IsPartition, rows}
 use Rattle.sym_model.specs.Polynomial.{join, times}
@@ -22,18 +23,7 @@ exchanged n λ' μ ν p q r few =
     omega (arith, ints)
 
 pub counts_exchanged : (n : ℕ) (λ' μ : List ℕ) (terms : WholeTerms) → IsPartition λ' → IsPartition μ → HasCounts n (product_count n λ' μ) terms → HasCounts n (product_count n μ λ') terms
-counts_exchanged n λ' μ terms p q h = record {
-  table = h.table;
-  labels = h.labels;
-  counts = λ ν r few. h.counts ν r few ∙ ap pos (exchanged n λ' μ ν p q r few);
-}
+counts_exchanged n λ' μ terms p q h = search (rules, exchanged)
 
 pub past_exchanged : (n : ℕ) (λ' μ : List ℕ) → IsPartition λ' → IsPartition μ → IsPastSomewhere n (product_count n λ' μ) → IsPastSomewhere n (product_count n μ λ')
-past_exchanged n λ' μ p q h =
-    let e = exchanged n λ' μ h.parts p q h.partition h.within in
-    record {
-      parts = h.parts;
-      partition = h.partition;
-      within = h.within;
-      past = let a = h.past in omega arith;
-    }
+past_exchanged n λ' μ p q h = search (rules, exchanged)

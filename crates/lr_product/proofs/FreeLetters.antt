@@ -1,7 +1,9 @@
--- Sets of the letters that can be added to a sum, as binary digits of a number (`MarksFree`).
-use Rattle.std.proofs.Common.{◌≡◌, ◌≢◌, ℕ, zero, suc, ◌+◌, ◌-◌, ◌*◌, ◌/◌, ◌%◌, ◌^◌, ◌<◌, ◌≤◌, ◌==◌, ◌⊎◌, inl, inr, nat_le, nat_lt, Bool, true, false, cond, ◌&&◌, ◌||◌, List, [], ◌∷◌, ◌++◌, length, take, get_or, refl, sym, ap, ap₂, ◌∙◌, arith, w64}
+-- A set of letters as the binary digits of a number, with the digit i for the letter i + 1: the letters that can be added to a sum (`MarksFree`).
+-- Here a *sum* is a list of numbers. Adding the letter b ≥ 1 to a sum raises its number at the index b - 1 by 1, and adding the letter 0 changes
+-- nothing.
+use Rattle.std.proofs.Common.{◌≡◌, ◌≢◌, ℕ, zero, suc, ◌+◌, ◌-◌, ◌*◌, ◌/◌, ◌%◌, ◌^◌, ◌<◌, ◌≤◌, ◌==◌, ◌⊎◌, inl, inr, nat_le, nat_lt, Bool, true, false, cond, ◌&&◌, ◌||◌, List, [], ◌∷◌, ◌++◌, length, take, get_or, refl, sym, ap, ap₂, ◌∙◌, arith, w64, rules}
 use Rattle.std.specs.Int.{bit_at, from_bool}
-use Rattle.std.specs.Prelude.{bit_or, max, min}
+use Rattle.std.specs.Prelude.{bit_or}
 use Rattle.std.proofs.lemmas.Bool.{ne_eqb, lt-ltb, cases_lt, cases_eq, and_parts, leb-true}
 use Rattle.std.proofs.lemmas.List.{get_or-set_same, get_or_append_left}
 use Rattle.std.specs.Int.Count.{count_trailing_zeros, trailing_of_zero}
@@ -9,8 +11,7 @@ use Rattle.std.proofs.lemmas.Nat.{shr-shr}
 use Rattle.std.proofs.Math.Nat.{div-le_self}
 use Rattle.std.proofs.lemmas.Nat.Bits.{bit_at-trailing_zeros, bit_at-zero, bit_at_or, bit_at_set_same, bit_at_set_other}
 use Rattle.sym_model.specs.GoodTableau.{is_falling}
-use Rattle.sym_model.specs.Sum.{sum_by}
-use Rattle.lr_product.specs.Extension.{raised, mark, numbers_from, extended, least_letter, letters_end, can_rise}
+use Rattle.lr_product.specs.Extension.{raised, mark, extended, least_letter, letters_end, can_rise}
 use Rattle.lr_product.specs.MarksFree.{MarksFree}
 use Rattle.lr_product.proofs.Raising.{length-raised, raised-set}
 
@@ -26,11 +27,10 @@ get-raised_after (suc (suc b)) (suc j) (a ∷ s) h = get-raised_after (suc b) j 
 get-placed : (b j : ℕ) (s w : List ℕ) → b ≤ j → j < length s → get_or (raised b s ++ w) j 0 ≡ get_or s j 0
 get-placed b j s w h l = get_or_append_left (raised b s) w 0 j (let r = length-raised b s in omega arith) ∙ get-raised_after b j s h
 
--- whether the number at the index i is less than that of the bound at i, or the bound has no number there
+-- whether the entry of the sum s at the index i is less than the entry of the bound at i, or the bound has no entry at i
 abbrev allowed : List ℕ → ℕ → List ℕ → Bool
 allowed bound i s = nat_le (length bound) i || nat_lt (get_or s i 0) (get_or bound i 0)
 
--- let b ≤ i, and b < i unless b = 0: adding the letter b to the sum s does not change whether the number at the index i can be raised by 1
 rise-later : (bound : List ℕ) (b i : ℕ) (s w : List ℕ) → b ≤ i → i < length s → (b ≡ i → b ≡ 0) → can_rise bound i (raised b s ++ w) ≡ can_rise bound i s
 rise-later bound b zero s w h l e = ap (λ x. (nat_le (length bound) 0 || nat_lt x (get_or bound 0 0))) (get-placed b 0 s w h l)
 rise-later bound b (suc i) s w h l e =
@@ -51,7 +51,6 @@ falls_at (suc (suc n)) zero (a ∷ b ∷ s) h l falls = leb-true b a (and_parts 
 falls_at (suc (suc n)) (suc i) (a ∷ b ∷ s) h l falls =
     falls_at (suc n) i (b ∷ s) (omega arith) (omega arith) (and_parts (nat_le b a) (is_falling (b ∷ take n s)) falls).1
 
--- after the letter i + 1 is added to a weakly decreasing sum s, the number at the index i + 1 can be raised by 1 if and only if the bound allows it
 rise-next : (n : ℕ) (bound : List ℕ) (i : ℕ) (s w : List ℕ) → suc i < n → n ≤ length s → is_falling (take n s) ≡ true
     → can_rise bound (suc i) (raised (suc i) s ++ w) ≡ allowed bound (suc i) s
 rise-next n bound i s w h l falls =
@@ -73,8 +72,6 @@ and-last true q r e f = e ∙ f
 and-last false q r e f = refl
 
 module _ (n above b : ℕ) (bound s w t : List ℕ) (free : ℕ) (is : t ≡ raised b s ++ w) (long : n ≤ length s) (falls : is_falling (take n s) ≡ true) (low : above ≤ b) (marks : MarksFree n above bound s free) where
-  -- let t be the sum s after the letter b is added, and `free` the set for s. Let `new` have the digits of `free`, except that, for b > 0, the digit
-  -- b of `new` says whether the bound allows the number at the index b to be raised. Then `new` is the set for t from the index b on (`MarksFree`)
   placed-digits : (new : ℕ) → ((i : ℕ) → i ≢ b → bit_at new i ≡ bit_at free i) → (b ≡ 0 → bit_at new b ≡ bit_at free b)
       → (0 < b → b < n → b < 64 → bit_at new b ≡ cond (allowed bound b s) 1 0) → MarksFree n b bound t new
   placed-digits new others first next = record { digits = λ i h k m. each i (cases_eq i b) h k m ∙ ap (λ x. cond (can_rise bound i x) 1 0) (sym is) }
@@ -94,8 +91,6 @@ module _ (n above b : ℕ) (bound s w t : List ℕ) (free : ℕ) (is : t ≡ rai
           ap (bit_at new) e ∙ here b refl (omega arith) (omega arith) ∙ ap (λ j. cond (can_rise bound j (raised b s ++ w)) 1 0) (sym e)
       each i (inr d) h k m = later i (others i d) (λ e. absurd (d (sym e))) h k m
 
-  -- let t be the sum s after the letter b is added, and `free` the set for s: if the bound does not allow the number of t at the index b to be raised
-  -- by 1, then `free` is also the set for t from the index b on (`MarksFree`)
   pub free-unchanged : (0 < b → b < 64 → allowed bound b t ≡ false) → MarksFree n b bound t free
   free-unchanged refused =
       placed-digits free (λ i d. refl) (λ z. refl)
@@ -108,30 +103,19 @@ module _ (n above b : ℕ) (bound s w t : List ℕ) (free : ℕ) (is : t ≡ rai
       placed-digits (bit_or free (1 * 2 ^ b % 2 ^ 64)) (λ i d. bit_at_set_other w64 free b m i d) (λ z. absurd (omega arith))
       (λ q k h. bit_at_set_same w64 free b m ∙ ap (λ r. cond r 1 0) (sym (sym (allowed-placed bound b s w t is (omega arith)) ∙ able)))
 
--- ---- the letters allowed at a place of a column
-
 pub above_place : (m : ℕ) (cell : Bool) (right : List ℕ) (above b : ℕ) → least_letter cell above ≤ b → b < letters_end m cell right above → above ≤ b
 above_place m true right above b h l = omega arith
 above_place m false right zero b h l = omega arith
 above_place m false right (suc above) b h l =
     let e : letters_end m false right (suc above) ≡ 0 = ap (λ t. cond t 1 0) (ne_eqb (suc above) 0 (λ q. absurd (omega arith))) in absurd (omega arith)
 
--- if the first place of `line` is a cell, and its right neighbour is above + 1 ≤ n, then above + 1 is the only letter allowed there, and the sum
--- `extended` does not change if it is placed there
+-- let `above` be the letter above the first place of a column, and let `right` begin with the right neighbour of this place. If the place is a cell
+-- and its right neighbour is above + 1 ≤ n, then above + 1 is the only letter allowed there. So the sum `extended` over the ways to fill the column
+-- is the same after this letter is placed
 pub only-letter : (kept : Bool) (n : ℕ) (line rest : List Bool) (right others : List ℕ) (above : ℕ) (f : List ℕ → List ℕ → ℕ) (s t : List ℕ) → above < n
     → line ≡ true ∷ rest → right ≡ (above + 1) ∷ others → t ≡ raised (above + 1) s ++ mark kept (above + 1)
     → extended kept n line right above f s ≡ extended kept n rest others (above + 1) f t
-only-letter kept n line rest right others above f s t h l r p =
-    ap₂ (λ (x : List Bool) (y : List ℕ). extended kept n x y above f s) l r
-    ∙ ap (λ k. sum_by (λ b. extended kept n rest others b f (raised b s ++ mark kept b)) (numbers_from (above + 1) k)) one
-    ∙ alone (extended kept n rest others (above + 1) f (raised (above + 1) s ++ mark kept (above + 1)))
-    ∙ ap (extended kept n rest others (above + 1) f) (sym p)
-  where
-    one : min n (above + 1) + 1 - (above + 1) ≡ 1
-    one = omega arith
-
-    alone : (x : ℕ) → x + 0 ≡ x
-    alone x = omega arith
+only-letter kept n line rest right others above f s t h l r p = search rules
 
 -- ---- the least letter of a set among those that are at least a given letter
 
@@ -165,8 +149,6 @@ module _ (from end free : ℕ) (bound numbers : List ℕ) (some : 0 < from) (mar
   below : free / 2 ^ (from - 1) < 2 ^ 64
   below = let h = div-le_self free (2 ^ (from - 1)) in omega arith
 
-  -- let m be the least letter of the set `free` that is at least `from`, or 65 if there is no such letter: the letters from `from` to m - 1 that are
-  -- less than `end` cannot be added to the sum
   pub skipped-letters : (b : ℕ) → from ≤ b → b < from + count_trailing_zeros 64 (free / 2 ^ (from - 1)) → b < end → b ≤ 64 → ((b == 0) || can_rise bound (b - 1) numbers) ≡ false
   skipped-letters b low high l m =
       let place : (from - 1) + ((b - 1) - (from - 1)) ≡ b - 1 = omega arith in
@@ -184,9 +166,7 @@ module _ (from end free : ℕ) (bound numbers : List ℕ) (some : 0 < from) (mar
 -- ---- a set of letters made digit by digit
 
 nothing-set : (free at i : ℕ) → bit_at (bit_or free (0 * 2 ^ at % 2 ^ 64)) i ≡ bit_at free i
-nothing-set free at i =
-    let z : 0 * 2 ^ at % 2 ^ 64 ≡ 0 = omega arith in
-    ap (λ x. bit_at (bit_or free x) i) z ∙ bit_at_or free 0 i ∙ ap (max (bit_at free i)) (bit_at-zero i) ∙ omega arith
+nothing-set free at i = search (rules, bit_at_or, bit_at-zero)
 
 digit-set : (r : Bool) (x free at : ℕ) → x ≡ cond r 1 0 → at < 64 → bit_at free at ≡ 0 → bit_at (bit_or free (x * 2 ^ at % 2 ^ 64)) at ≡ cond r 1 0
 digit-set true x free at e h z = ap (λ y. bit_at (bit_or free (y * 2 ^ at % 2 ^ 64)) at) e ∙ bit_at_set_same w64 free at h
@@ -221,8 +201,8 @@ marks-next above bound numbers at free r x is h low e marks clear = record { dig
 pub clear-next : (at free : ℕ) (r : Bool) (x : ℕ) → x ≡ from_bool r → at < 64 → ((i : ℕ) → at ≤ i → bit_at free i ≡ 0) → (i : ℕ) → at + 1 ≤ i → bit_at (bit_or free (x * 2 ^ at % 2 ^ 64)) i ≡ 0
 clear-next at free r x is h clear i l = digit-kept r x free at i (digit-of r x is) h (λ e. absurd (omega arith)) ∙ clear i (omega arith)
 
--- if `free` is the set for the indices from `from` to n - 1, it is also the set for each range of indices `to`, .., m - 1 within this one, and for an
--- equal list of numbers
+-- if the digits of `free` at the indices from `from` to n - 1 mark the letters that can be added to the sum `numbers` (`MarksFree`), its digits at
+-- the indices in a smaller range from `to` to m - 1 do so, also for a sum equal to `numbers`
 pub marks-narrowed : (n m from to : ℕ) (bound numbers same : List ℕ) (free : ℕ) → numbers ≡ same → MarksFree n from bound numbers free
     → ((i : ℕ) → to ≤ i → i < m → i < 64 → (from ≤ i) × (i < n)) → MarksFree m to bound same free
 marks-narrowed n m from to bound numbers same free e marks within = record {

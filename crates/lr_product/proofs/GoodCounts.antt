@@ -1,6 +1,6 @@
 -- Counts of good tableaux are the Schur coefficients of products and of skew Schur polynomials. A tableau is good for the partition `start` if, for
 -- each k, start plus the content of its last k columns is a partition.
-use Rattle.std.proofs.Common.{◌≡◌, ℕ, ◌+◌, ◌^◌, ◌<◌, ◌≤◌, ◌⊎◌, inl, inr, min, nat_abs, Bool, true, false, cond, List, [], ◌∷◌, map, length, refl, sym, ap, ◌∙◌, subst, arith, ℤ, pos, ◌+ℤ◌, ◌≤ℤ◌, filter}
+use Rattle.std.proofs.Common.{◌≡◌, ℕ, ◌+◌, ◌^◌, ◌<◌, ◌≤◌, ◌⊎◌, inl, inr, min, Bool, true, false, cond, List, [], ◌∷◌, map, length, refl, sym, ap, ◌∙◌, subst, arith, ℤ, pos, ◌≤ℤ◌, filter, rules}
 use Rattle.std.specs.Prelude.{Result, Ok, Err, Option, Some, None, IfOk, OnOk, IfSome, nat_eq}
 use Rattle.std.specs.Cmp.Lexicographic.{pointwise}
 use Rattle.std.specs.Option.{unwrap_or}
@@ -17,7 +17,7 @@ use Rattle.sym_model.specs.WholeTerms.{WholeTerms, as_fractions, absolute_total}
 use Rattle.coeff_rings.specs.Fractions.{whole}
 use Rattle.linear_combinations.proofs.Steps.{IsCombination-empty}
 use Rattle.sym_model.specs.Products.{schur_product, classical_product}
-use Rattle.sym_model.specs.PastLimit.{IsSchurCoefficientOf, variables_or, is_past}
+use Rattle.sym_model.specs.PastLimit.{IsSchurCoefficientOf, variables_or}
 use Rattle.sym_model.specs.ReductionSteps.{classical_weight}
 use Rattle.sym_model.proofs.Exponents.{size-join}
 use Rattle.sym_model.proofs.Polynomials.{at_only, coefficient_pair, pair_times, pair_zero, times_respects, Same_refl}
@@ -46,7 +46,6 @@ use Rattle.sym_model.proofs.Integers.{at_most_absolute}
 
 -- ---- counts replaced by counts that agree with them (`Agree`: equal, or both at least 2^127)
 
--- `VanishesOutside` holds for the empty bound and every f
 pub no_bound : (f : List ℕ → List ℕ → ℕ) → VanishesOutside [] f
 no_bound f [] right h = absurd (cc)
 no_bound f (a ∷ ν) right h = absurd (cc)
@@ -62,7 +61,7 @@ fits_agree w g (Err e) a f = tt
 pub past_agree : (n : ℕ) (w g : List ℕ → ℕ) → ((parts : List ℕ) → Agree (w parts) (g parts)) → IsPastSomewhere n w → IsPastSomewhere n g
 past_agree n w g a p = record { parts = p.parts; partition = p.partition; within = p.within; past = (a p.parts).past p.past }
 
--- ---- good counts are Schur coefficients
+-- ---- counts of good tableaux (`good_count`) are Schur coefficients
 
 pub good_count-terms : (n : ℕ) (start outer inner ν : List ℕ) → IsPartition start → IsPartition outer → IsPartition inner → contains outer inner ≡ true → rows start ≤ n
     → pos (good_count n start outer inner ν) ≡ coefficient (good_terms n start outer inner) ν
@@ -87,7 +86,8 @@ schur-too_long : (m : ℕ) (start outer inner ν : List ℕ) → IsPartition sta
 schur-too_long m start outer inner ν p o i holds s q l k =
     coefficient_counts m m start outer inner ν (omega arith) p o i q l ∙ no_long_labels m start outer inner ν p o i holds s k
 
--- n ≤ m, `count` is `good` at each partition with at most n rows, and 0 at each partition with more than n and at most m rows
+-- the statement that n ≤ m, and that `count` is equal to `good` at each partition with at most n rows, and to 0 at each partition with more than n
+-- and at most m rows
 pub record SameCounts (n m : ℕ) (good count : List ℕ → ℕ) : Type 0 where
   pub fewer : n ≤ m
   pub same_within : (ν : List ℕ) → IsPartition ν → rows ν ≤ n → count ν ≡ good ν
@@ -97,59 +97,28 @@ pub record SameCounts (n m : ℕ) (good count : List ℕ → ℕ) : Type 0 where
 abbrev pub Counts : ℕ → Poly → (List ℕ → ℕ) → Type 0
 Counts m f count = (ν : List ℕ) → IsPartition ν → rows ν ≤ m → schur_coefficient m ν f ≡ pos (count ν)
 
--- let min(m, rows of start plus rows of outer) ≤ n ≤ m: if `count` has the Schur coefficients of s_start times the skew Schur polynomial of
--- outer/inner in m variables, then `count` is `good_count` with letters up to n at partitions with at most n rows, and 0 at those with n + 1 to m
--- rows
+-- let min(m, rows of start plus rows of outer) ≤ n ≤ m, and let `count` give the Schur coefficients of s_start times the skew Schur polynomial of
+-- outer/inner in m variables. Then `count` is `good_count` with letters up to n at each partition with at most n rows, and 0 at each partition with
+-- n + 1 to m rows.
 pub same_counts : (n m : ℕ) (start outer inner : List ℕ) (count : List ℕ → ℕ) → n ≤ m → min m (rows start + rows outer) ≤ n → IsPartition start → IsPartition outer → IsPartition inner → contains outer inner ≡ true → rows start ≤ n
     → Counts m (times (schur start m) (skew_schur outer inner m)) count → SameCounts n m (good_count n start outer inner) count
-same_counts n m start outer inner count most enough p o i holds s c = record {
-  fewer = omega arith;
-  same_within = λ ν q l.
-      let a : pos (count ν) ≡ pos (good_count n start outer inner ν) = sym (c ν q (omega arith)) ∙ schur-good_count n m start outer inner ν (omega arith) p o i holds s q l in
-      omega (arith, ints);
-  none_past = λ ν q l k.
-      let a : pos (count ν) ≡ pos 0 = sym (c ν q l) ∙ schur-too_long m start outer inner ν p o i holds (omega arith) q l (omega arith) in
-      omega (arith, ints);
-}
+same_counts n m start outer inner count most enough p o i holds s c = search (rules, schur-good_count, ints, schur-too_long)
 
--- if `HasCounts` holds for the terms, `ListsCounts` holds for the terms as fractions
 pub lists_counts : (k : ℕ) (count : List ℕ → ℕ) (terms : WholeTerms)
     → HasCounts k count terms → ListsCounts k count (as_fractions terms)
 lists_counts k count terms c = whole_counts k count terms c.labels c.counts
 
 pub lists_in : (n m : ℕ) (good count : List ℕ → ℕ) (terms : WholeTerms) → SameCounts n m good count → HasCounts n good terms → HasCounts m count terms
-lists_in n m good count terms same_ones c = record {
-  table = c.table;
-  labels = λ t k. let l = c.labels t k in (l.0, let a = l.1 in let b = same_ones.fewer in omega arith);
-  counts = λ ν q l. by ν q l (cases_lt n (rows ν));
-}
-  where
-    by : (ν : List ℕ) → IsPartition ν → rows ν ≤ m → (n < rows ν) ⊎ (rows ν ≤ n) → coefficient terms ν ≡ pos (count ν)
-    by ν q l (inl k) =
-        no_label terms ν (λ t g e. let r = c.labels t g in let a = r.1 in let d = ap length e in absurd (omega arith))
-        ∙ sym (ap pos (same_ones.none_past ν q l k))
-    by ν q l (inr k) = c.counts ν q k ∙ sym (ap pos (same_ones.same_within ν q k))
+lists_in n m good count terms same_ones c = search (rules, cases_lt, no_label)
 
 pub fits_in : (n m : ℕ) (good count : List ℕ → ℕ) → SameCounts n m good count → ((ν : List ℕ) → good ν < 2 ^ 127) → (ν : List ℕ) → IsPartition ν → rows ν ≤ m → count ν < 2 ^ 127
-fits_in n m good count same_ones f ν q l = by (cases_lt n (rows ν))
-  where
-    by : (n < rows ν) ⊎ (rows ν ≤ n) → count ν < 2 ^ 127
-    by (inl k) = let z = same_ones.none_past ν q l k in omega arith
-    by (inr k) = let z = same_ones.same_within ν q k in let s = f ν in omega arith
+fits_in n m good count same_ones f ν q l = search rules
 
 pub past_in : (n m : ℕ) (good count : List ℕ → ℕ) → SameCounts n m good count → IsPastSomewhere n good → IsPastSomewhere m count
-past_in n m good count same_ones p = record {
-  parts = p.parts;
-  partition = p.partition;
-  within = let a = p.within in let b = same_ones.fewer in omega arith;
-  past = let z = same_ones.same_within p.parts p.partition p.within in let s = p.past in omega arith;
-}
+past_in n m good count same_ones p = search rules
 
--- if all counts are 0, the empty list has them (`HasCounts`)
 pub none_counted : (m : ℕ) (count : List ℕ → ℕ) → ((ν : List ℕ) → count ν ≡ 0) → HasCounts m count []
 none_counted m count e = record { table = IsCombination-empty (pointwise nat_eq) is_label whole; labels = λ t k. absurd k; counts = λ ν q l. sym (ap pos (e ν)) }
-
--- ---- a count of 2^127 or more is a Schur coefficient that exceeds 2^127 - 1
 
 pub has_past : (m : ℕ) (f : Poly) (count : List ℕ → ℕ) → Counts m f count → IsPastSomewhere m count → HasPast (IsSchurCoefficientOf f m)
 has_past m f count e p = (
@@ -159,13 +128,9 @@ has_past m f count e p = (
 )
 
 pub has_none_past : (m : ℕ) (f : Poly) (count : List ℕ → ℕ) → Counts m f count → ((ν : List ℕ) → IsPartition ν → rows ν ≤ m → count ν < 2 ^ 127) → HasPast (IsSchurCoefficientOf f m) → ⊥
-has_none_past m f count e small (c, d, past) =
-    let is : c ≡ pos (count d.parts) = d.is ∙ e d.parts d.partition d.within in
-    let l = leb-true (2 ^ 127) (count d.parts) (sym (ap is_past is) ∙ past) in
-    let s = small d.parts d.partition d.within in
-    absurd (omega arith)
+has_none_past m f count e small (c, d, past) = search rules
 
--- ---- the counts `product_count` and the product of two Schur polynomials
+-- ---- the counts `product_count` are the Schur coefficients of the product of two Schur polynomials
 
 pub product_counts : (m : ℕ) (left right : List ℕ) → IsPartition left → IsPartition right → Counts m (schur_product (left ∷ right ∷ []) m) (product_count m left right)
 product_counts m left right p q ν r l = product_coefficients m left right ν p q r l
@@ -178,7 +143,6 @@ variables_same : (rows_given : Option ℕ) (k : ℕ) → unwrap_or rows_given k 
 variables_same None k = refl
 variables_same (Some n) k = refl
 
--- `unwrap_or` and `variables_or` give the same number of variables: the given one or, if there is none, the number of rows of left plus that of right
 enough_same : (variables : Option ℕ) (left right : List ℕ) → unwrap_or variables (rows left + rows right) ≡ variables_or variables (size (map rows (left ∷ right ∷ [])))
 enough_same variables left right = variables_same variables (rows left + rows right) ∙ ap (variables_or variables) (let z : rows left + rows right ≡ rows left + (rows right + 0) = omega arith in z)
 
@@ -224,14 +188,9 @@ classical_answer k left right terms p q c α = by (cases_Bool (is_partition α))
         both (λ t m d. let r = c.labels t m in both_ways (is_partition α) e (is_partition-from α (subst IsPartition d r.0)))
         (λ t m d. let r = classical_product-term k (left ∷ right ∷ []) t m in both_ways (is_partition α) e (is_partition-from α (subst IsPartition d r.partition)))
 
--- each coefficient of a list is at most the sum of the absolute values of the coefficients of its terms
 coefficient_at_most : (terms : WholeTerms) (α : List ℕ) → coefficient terms α ≤ℤ pos (absolute_total terms)
 coefficient_at_most [] α = omega (arith, ints)
-coefficient_at_most (t ∷ terms) α = by (same t.0 α) (at_most_absolute t.1) (coefficient_at_most terms α)
-  where
-    by : (b : Bool) → t.1 ≤ℤ pos (nat_abs t.1) → coefficient terms α ≤ℤ pos (absolute_total terms) → (cond b t.1 (pos 0) +ℤ coefficient terms α) ≤ℤ pos (nat_abs t.1 + absolute_total terms)
-    by true one r = omega (arith, ints)
-    by false one r = omega (arith, ints)
+coefficient_at_most (t ∷ terms) α = search (rules, at_most_absolute, ints, (coefficient_at_most terms α))
 
 pub heavy_answer : (k : ℕ) (left right : List ℕ) → IsPartition left → IsPartition right → IsPastSomewhere k (product_count k left right) → 2 ^ 127 ≤ classical_weight k (left ∷ right ∷ [])
 heavy_answer k left right p q past =
@@ -251,7 +210,7 @@ pub heavy_if : (variables : Option ℕ) (m : ℕ) (left right : List ℕ) → m 
 heavy_if None m left right e p q past = tt
 heavy_if (Some k) m left right e p q past = heavy_answer k left right p q (subst (λ j. IsPastSomewhere j (product_count j left right)) e past)
 
--- ---- the counts `skew_count` and the skew Schur polynomial
+-- ---- the counts `skew_count` are the Schur coefficients of the skew Schur polynomial
 
 skew_counts : (m : ℕ) (outer inner : List ℕ) → IsPartition outer → IsPartition inner → contains outer inner ≡ true → Counts m (skew_schur outer inner m) (skew_count outer inner)
 skew_counts m outer inner o i holds ν r l = skew_coefficients m outer inner ν o i holds r l
@@ -286,7 +245,6 @@ skew_fits variables m outer inner e o i holds small past =
 pub contains-false : (outer inner : List ℕ) → (Holds outer inner → ⊥) → contains outer inner ≡ false
 contains-false outer inner h = false_from_ne_true (contains outer inner) (λ e. h (contains-tells outer inner e))
 
--- if inner does not lie inside outer, the skew Schur polynomial is 0
 skew_none : (outer inner : List ℕ) (n : ℕ) → contains outer inner ≡ false → skew_schur outer inner n ≡ []
 skew_none outer inner n h = ap (λ (b : Bool). map (λ (T : List (List ℕ)). (content n (letters_of T), pos 1)) (cond b (filter (semistandard inner) (fillings_of n (row_lengths outer inner))) [])) h
 
@@ -300,9 +258,7 @@ outside_fits variables outer inner h past =
     has_none_past m [] (λ ν. 0) (λ ν q l. coefficient_pair (times (alternant (staircase m)) []) (join ν (staircase m)) ∙ pair_times (alternant (staircase m)) [] (at_only (join ν (staircase m))) ∙ pair_zero (alternant (staircase m)))
     (λ ν q l. omega arith) (subst (λ (f : Poly). HasPast (IsSchurCoefficientOf f m)) (skew_none outer inner m h) past)
 
--- ---- one coefficient of a product, as computed by `coef`
-
--- if the size of outer is not that of left plus that of right, the count of outer in the product of left and right is 0
+-- if the size of outer is not the sum of the sizes of left and right, the coefficient `product_count` of outer in the product of left and right is 0
 pub product_count-other_size : (outer left right : List ℕ) → IsPartition outer → IsPartition left → IsPartition right → (size left + size right ≡ size outer → ⊥) → product_count (rows outer) left right outer ≡ 0
 product_count-other_size outer left right o p q other =
     let n = rows outer in
@@ -317,14 +273,7 @@ product_count-other_size outer left right o p q other =
     omega (arith, ints)
 
 pub coef_past : (outer left right : List ℕ) → IsPartition outer → IsPartition left → IsPartition right → 2 ^ 127 ≤ product_count (rows outer) left right outer → HasPast (IsProductCoefficientOf outer left right)
-coef_past outer left right o p q h = (
-  pos (product_count (rows outer) left right outer),
-  sym (product_counts (rows outer) left right p q outer o (omega arith)),
-  le-leb (2 ^ 127) (product_count (rows outer) left right outer) h,
-)
+coef_past outer left right o p q h = search (rules, product_counts, le-leb)
 
 pub coef_fits : (outer left right : List ℕ) → IsPartition outer → IsPartition left → IsPartition right → product_count (rows outer) left right outer < 2 ^ 127 → HasPast (IsProductCoefficientOf outer left right) → ⊥
-coef_fits outer left right o p q h (c, d, past) =
-    let is : c ≡ pos (product_count (rows outer) left right outer) = d ∙ product_counts (rows outer) left right p q outer o (omega arith) in
-    let l = leb-true (2 ^ 127) (product_count (rows outer) left right outer) (sym (ap is_past is) ∙ past) in
-    absurd (omega arith)
+coef_fits outer left right o p q h (c, d, past) = search (rules, product_counts, leb-true)

@@ -1,6 +1,7 @@
--- The lines of the columns of a skew shape (specs/ColumnLine): the number of lines, and the number of places of each line.
-use Rattle.std.proofs.Common.{◌≡◌, ℕ, zero, suc, ◌+◌, ◌-◌, ◌<◌, ◌≤◌, ◌⊎◌, inl, inr, nat_le, nat_lt, Bool, true, false, cond, List, [], ◌∷◌, ◌++◌, length, replicate, take, drop, get_or, refl, sym, ap, ap₂, ◌∙◌, arith}
-use Rattle.std.proofs.lemmas.Bool.{cases_lt, le-leb, lt-leb, lt-ltb, le-ltb}
+-- The *line* of a column of a skew shape says for each place of the column whether it is a cell of the shape (specs/ColumnLine). The number of lines
+-- of a shape, and the number of places of each line.
+use Rattle.std.proofs.Common.{◌≡◌, ℕ, zero, suc, ◌+◌, ◌-◌, ◌<◌, ◌≤◌, nat_le, nat_lt, Bool, true, cond, List, [], ◌∷◌, ◌++◌, length, replicate, drop, get_or, refl, sym, ap, ap₂, ◌∙◌, arith, rules}
+use Rattle.std.proofs.lemmas.Bool.{lt-leb, lt-ltb}
 use Rattle.std.proofs.Math.Seq.{drop-cons}
 use Rattle.sym_model.specs.Partition.{Falls, size, columns, part}
 use Rattle.sym_model.specs.Schur.{contains}
@@ -14,42 +15,22 @@ use Rattle.tableau_laws.proofs.Grids.{length-put}
 use Rattle.tableau_laws.proofs.ColumnReadings.{line_at-put, at_place}
 
 leb-up : (a b c d : ℕ) → c ≡ suc a → d ≡ suc b → nat_le a b ≡ nat_le c d
-leb-up a b c d p q = by (cases_lt b a)
-  where
-    by : (b < a) ⊎ (a ≤ b) → nat_le a b ≡ nat_le c d
-    by (inl l) = lt-leb a b l ∙ sym (lt-leb c d (omega arith))
-    by (inr l) = le-leb a b l ∙ sym (le-leb c d (omega arith))
+leb-up a b c d p q = search rules
 
 at_place-cells : (i k : ℕ) → at_place i (replicate k true) ≡ cond (nat_le (i + 1) k) (true ∷ []) []
 at_place-cells zero zero = sym (ap (λ t. cond t (true ∷ []) []) (lt-leb 1 0 (omega arith)))
 at_place-cells (suc i) zero = sym (ap (λ t. cond t (true ∷ []) []) (lt-leb (suc i + 1) 0 (omega arith)))
-at_place-cells zero (suc k) = by (replicate k true) ∙ sym (ap (λ t. cond t (true ∷ []) []) (le-leb 1 (suc k) (omega arith)))
-  where
-    by : (l : List Bool) → take 1 (true ∷ l) ≡ true ∷ []
-    by [] = refl
-    by (x ∷ l) = refl
+at_place-cells zero (suc k) = search rules
 at_place-cells (suc i) (suc k) = at_place-cells i k ∙ ap (λ t. cond t (true ∷ []) []) (leb-up (i + 1) k (suc i + 1) (suc k) (omega arith) (omega arith))
 
 ltb-up : (a b c d : ℕ) → c ≡ suc a → d ≡ suc b → nat_lt a b ≡ nat_lt c d
-ltb-up a b c d p q = by (cases_lt a b)
-  where
-    by : (a < b) ⊎ (b ≤ a) → nat_lt a b ≡ nat_lt c d
-    by (inl l) = lt-ltb a b l ∙ sym (lt-ltb c d (omega arith))
-    by (inr l) = le-ltb a b l ∙ sym (le-ltb c d (omega arith))
+ltb-up a b c d p q = search rules
 
 at_place-line : (i b k : ℕ) → at_place i (line_of b k) ≡ cond (nat_le (i + 1) (b + k)) (nat_lt b (i + 1) ∷ []) []
 at_place-line i zero k =
     at_place-cells i k ∙ ap₂ (λ (t u : Bool). cond t (u ∷ []) []) (ap (nat_le (i + 1)) (let e : k ≡ 0 + k = omega arith in e)) (sym (lt-ltb 0 (i + 1) (omega arith)))
-at_place-line zero (suc b) k =
-    by (replicate b false ++ replicate k true)
-    ∙ sym (ap₂ (λ (t u : Bool). cond t (u ∷ []) []) (le-leb 1 (suc b + k) (omega arith)) (le-ltb (suc b) 1 (omega arith)))
-  where
-    by : (l : List Bool) → take 1 (false ∷ l) ≡ false ∷ []
-    by [] = refl
-    by (x ∷ l) = refl
-at_place-line (suc i) (suc b) k =
-    at_place-line i b k
-    ∙ ap₂ (λ (t u : Bool). cond t (u ∷ []) []) (leb-up (i + 1) (b + k) (suc i + 1) (suc b + k) (omega arith) (omega arith)) (ltb-up b (i + 1) (suc b) (suc i + 1) refl (omega arith))
+at_place-line zero (suc b) k = search rules
+at_place-line (suc i) (suc b) k = search (rules, leb-up, ltb-up, (at_place-line i b k))
 
 pub line-at : (i : ℕ) (outer inner : List ℕ) → contains outer inner ≡ true → get_or (column_lines outer inner) i [] ≡ column_line (i + 1) outer inner
 line-at zero [] inner h = refl
@@ -62,9 +43,7 @@ line-at i (a ∷ outer) inner h =
 
 pub length-lines : (outer inner : List ℕ) → Falls outer → contains outer inner ≡ true → length (column_lines outer inner) ≡ columns outer
 length-lines [] inner f h = refl
-length-lines (a ∷ []) inner f h =
-    let r = contains_rest a [] inner h in
-    length-put (line_of (part inner 1) (a - part inner 1)) [] (omega arith) ∙ length_line a (part inner 1) r.0
+length-lines (a ∷ []) inner f h = search (rules, contains_rest, length-put, length_line)
 length-lines (a ∷ b ∷ outer) inner f h =
     let r = contains_rest a (b ∷ outer) inner h in
     let i = length-lines (b ∷ outer) (drop 1 inner) f.1 r.1 in
@@ -92,7 +71,6 @@ places-drop zero (l ∷ lines) = omega arith
 places-drop (suc i) [] = omega arith
 places-drop (suc i) (l ∷ lines) = let r = places-drop i lines in omega arith
 
--- for i < columns outer, the list of the column lines without the first i is the line of column i + 1, followed by the list without the first i + 1
 pub column-cons : (outer inner : List ℕ) (i : ℕ) → Falls outer → contains outer inner ≡ true → i < columns outer → drop i (column_lines outer inner) ≡ column_line (i + 1) outer inner ∷ drop (i + 1) (column_lines outer inner)
 column-cons outer inner i f c h =
     let e : suc i ≡ i + 1 = omega arith in

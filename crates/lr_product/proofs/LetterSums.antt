@@ -1,5 +1,5 @@
 -- Sums over the letters allowed at a place of a column.
-use Rattle.std.proofs.Common.{◌≡◌, ℕ, zero, suc, ◌+◌, ◌-◌, ◌*◌, ◌<◌, ◌≤◌, ◌⊎◌, inl, inr, sym, ap, ◌∙◌, arith}
+use Rattle.std.proofs.Common.{◌≡◌, ℕ, zero, suc, ◌+◌, ◌-◌, ◌*◌, ◌<◌, ◌≤◌, ◌⊎◌, inl, inr, sym, ap, ◌∙◌, arith, rules}
 use Rattle.std.proofs.lemmas.Bool.{cases_lt}
 use Rattle.lr_product.specs.Capped.{Agree}
 use Rattle.lr_product.specs.Extension.{numbers_from}
@@ -16,22 +16,7 @@ sum-end X low end h = let e : end - low ≡ 0 = omega arith in ap (λ k. sum_by 
 -- if X is 0 at low, .., low + d - 1, the sum of X over the numbers from low to end - 1 is that over the numbers from low + d to end - 1
 pub numbers-skipped : (X : ℕ → ℕ) (low end d : ℕ) → ((x : ℕ) → low ≤ x → x < low + d → X x ≡ 0) → sum_by X (numbers_from low (end - low)) ≡ sum_by X (numbers_from (low + d) (end - (low + d)))
 numbers-skipped X low end zero none = let e : low + 0 ≡ low = omega arith in ap (λ x. sum_by X (numbers_from x (end - x))) (sym e)
-numbers-skipped X low end (suc d) none = by (cases_lt low end) (numbers-skipped X (low + 1) end d (λ x g h. none x (omega arith) (omega arith)))
-  where
-    same : low + 1 + d ≡ low + suc d
-    same = omega arith
-
-    by : (low < end) ⊎ (end ≤ low) → sum_by X (numbers_from (low + 1) (end - (low + 1))) ≡ sum_by X (numbers_from (low + 1 + d) (end - (low + 1 + d)))
-        → sum_by X (numbers_from low (end - low)) ≡ sum_by X (numbers_from (low + suc d) (end - (low + suc d)))
-    by (inl l) rest =
-        let z = none low (omega arith) (omega arith) in
-        let s = sum-step X low end l in
-        let m = ap (λ x. sum_by X (numbers_from x (end - x))) same in
-        omega arith
-    by (inr l) rest =
-        let s = sum-end X low end l in
-        let t = sum-end X (low + suc d) end (omega arith) in
-        omega arith
+numbers-skipped X low end (suc d) none = search (rules, cases_lt, sum-step, sum-end, (numbers-skipped X (low + 1) end d))
 
 -- let first ≤ end, and let low ≤ first unless first = end: if X is 0 at the numbers from low to first - 1, the sum of X over the numbers from low to
 -- end - 1 is that over the numbers from `first` to end - 1
@@ -46,9 +31,9 @@ sum-from X low end first within least none = by (cases_lt first low) (cases_lt f
     by (inl l) (inl h) = let g = least h in absurd (omega arith)
     by (inl l) (inr h) = sum-end X low end (omega arith) ∙ sym (sum-end X first end h)
 
--- one pass of a loop over the letters less than `end`, which adds ways·X(letter) to `now` and gets a number that agrees (`Agree`) with `next`. If
--- `now` plus ways·(the sum of X over the letters from `letter` on) agrees with `all`, then `next` plus ways·(the sum of X over the letters from
--- letter + 1 on) agrees with `all`
+-- one pass of a loop over the letters less than `end`: the pass adds ways·X(letter) to `now`, and `next` agrees (`Agree`) with the result. If `now`
+-- plus ways·(the sum of X over the letters from `letter` on) agrees with `all`, then `next` plus ways·(the sum of X over the letters from letter + 1
+-- on) agrees with `all`.
 pub agree_step : (now next all ways : ℕ) (X : ℕ → ℕ) (letter end : ℕ) → letter < end
     → Agree (now + ways * sum_by X (numbers_from letter (end - letter))) all
     → Agree next (now + ways * X letter)
@@ -62,6 +47,4 @@ agree_step now next all ways X letter end h p q =
 
 pub agree_end : (now all ways : ℕ) (X : ℕ → ℕ) (letter end : ℕ) → end ≤ letter
     → Agree (now + ways * sum_by X (numbers_from letter (end - letter))) all → Agree now all
-agree_end now all ways X letter end h p =
-    let s : sum_by X (numbers_from letter (end - letter)) ≡ 0 = sum-end X letter end h in
-    agree_then _ _ _ (agree_same _ _ ((let e : now ≡ now + ways * 0 = omega arith in e) ∙ ap (λ x. now + ways * x) (sym s))) p
+agree_end now all ways X letter end h p = search rules

@@ -1,13 +1,14 @@
--- A table whose starts are all labels of a list: the counts of the table are the coefficients of the product of the list and one more factor.
-use Rattle.std.proofs.Common.{◌≡◌, ℕ, ◌+◌, ◌*◌, ◌^◌, ◌<◌, ◌≤◌, ◌⊎◌, inl, inr, min, nat_abs, true, false, List, [], ◌∷◌, ◌++◌, refl, sym, ap, ap₂, ◌∙◌, subst, arith, ℤ, pos, negsuc, ◌+ℤ◌, ◌*ℤ◌}
-use Rattle.std.specs.Prelude.{◌≤ℤ◌, ◌<ℤ◌, Result, IfOk, OnOk}
+-- The product of a list of terms and one more factor `next`, computed with one table: the columns of `next` are added to each partition that is the
+-- label of a term (a *start*), and the ways to do so are counted |c| times if c is the coefficient of the term. The counts of the table are the
+-- coefficients of the product.
+use Rattle.std.proofs.Common.{◌≡◌, ℕ, ◌+◌, ◌*◌, ◌^◌, ◌<◌, ◌≤◌, inl, inr, min, nat_abs, List, [], ◌∷◌, ◌++◌, refl, sym, ap, ap₂, ◌∙◌, subst, arith, ℤ, pos, negsuc, ◌+ℤ◌, ◌*ℤ◌, rules}
+use Rattle.std.specs.Prelude.{◌≤ℤ◌, Result, IfOk, OnOk}
 use Rattle.std.proofs.lemmas.Bool.{cases_lt, cases_Bool, both_ways}
 use Rattle.std.proofs.lemmas.Int.{ints}
 use Rattle.sym_model.specs.Sum.{Among}
 use Rattle.sym_model.specs.Partition.{IsPartition, rows, size}
 use Rattle.sym_model.specs.Polynomial.{Term, Same, coefficient, resize, scale}
 use Rattle.sym_model.specs.GoodTableau.{product_count}
-use Rattle.sym_model.specs.LabelLimits.{is_partition}
 use Rattle.sym_model.specs.Products.{classical_product}
 use Rattle.sym_model.specs.WholeTerms.{WholeTerms}
 use Rattle.sym_model.proofs.Orders.{is_partition-tells, is_partition-from}
@@ -30,16 +31,12 @@ use Rattle.lr_product.proofs.Rounds.{start_within}
 use Rattle.std.proofs.lemmas.Result.{on_ok_weaker}
 use Rattle.product_laws.proofs.CountLists.{no_label}
 
--- if the term t is appended to the list, the sum `started` increases by |coefficient of t| times f of its label
 pub started-push : (n : ℕ) (f : List ℕ → List ℕ → ℕ) (done : WholeTerms) (t : Term)
     → started n f done + nat_abs t.1 * f (resize n t.0) [] ≡ started n f (done ++ t ∷ [])
-started-push n f done t =
-    let e = sum_by-append (λ (u : List ℕ × ℤ). nat_abs u.1 * f (resize n u.0) []) done (t ∷ []) in
-    omega arith
+started-push n f done t = search (rules, sum_by-append)
 
 module _ (n k : ℕ) (next : List ℕ) (product : WholeTerms) (q : IsPartition next) (may : AllMayMeet k next product) (most : n ≤ k)
     (enough : (t : Term) → Among t product → (rows t.0 ≤ n) × (min k (rows t.0 + rows next) ≤ n)) where
-  -- if m + size next = 4096, each label of the list, written with n numbers, is weakly decreasing and has size at most m
   pub starts_within : (m : ℕ) → m + size next ≤ 4096 → 4096 ≤ m + size next → started n (unreached n m) product ≡ 0
   starts_within m l g =
       sum_by-none (λ (t : List ℕ × ℤ). nat_abs t.1 * unreached n m (resize n t.0) []) product
@@ -49,8 +46,8 @@ module _ (n k : ℕ) (next : List ℕ) (product : WholeTerms) (q : IsPartition n
       let z = start_within n m t.0 [] h.partition (omega arith) in
       ap (λ x. nat_abs t.1 * x) z ∙ (let o : nat_abs t.1 * 0 ≡ 0 = omega arith in o))
 
-  -- the sum, over the terms of the list `product`, of the absolute value of the coefficient times the good count of ν; for each term, the label is
-  -- the start, and `next` is the shape
+  -- the sum, over the terms c·λ of the list `product`, of |c| times the number of ways to add the columns of the shape `next` to λ such that the sum
+  -- reached is ν
   abbrev pub good_sum : List ℕ → ℕ
   good_sum ν = started n (over_states n (column_lines next []) (comes_to ν)) product
 
@@ -71,8 +68,6 @@ module _ (n k : ℕ) (next : List ℕ) (product : WholeTerms) (q : IsPartition n
         (λ t a. ap (λ x. nat_abs t.1 * x) ((at_label t a).none_past ν p l g) ∙ (let o : nat_abs t.1 * 0 ≡ 0 = omega arith in o));
   }
 
--- for a partition ν with at most k rows, the coefficient of ν in the product of the list and `next` is the sum, over the terms, of the coefficient
--- times the count of ν in the product of the label and `next`
 multiplied-counted : (k : ℕ) (next : List ℕ) (product : WholeTerms) → IsPartition next → AllMayMeet k next product → (ν : List ℕ) → IsPartition ν → rows ν ≤ k
     → coefficient (multiplied k next product) ν ≡ pos (sum_by (λ (t : List ℕ × ℤ). nat_abs t.1 * product_count k t.0 next ν) product)
 multiplied-counted k next [] q may ν p l = refl
@@ -88,7 +83,6 @@ multiplied-counted k next (t ∷ product) q may ν p l =
     positive (pos a) h c = refl
     positive (negsuc a) h c = absurd (omega (arith, ints))
 
--- if ν is not a partition with at most k rows, its coefficient in the product of the list and `next` in k variables is 0
 multiplied-outside : (k : ℕ) (next : List ℕ) (product : WholeTerms) (ν : List ℕ) → (IsPartition ν → rows ν ≤ k → ⊥) → coefficient (multiplied k next product) ν ≡ pos 0
 multiplied-outside k next product ν out =
     no_label (multiplied k next product) ν (λ t m e.
@@ -102,14 +96,8 @@ module _ (k : ℕ) (next : List ℕ) (product : WholeTerms) (q : IsPartition nex
   counts : List ℕ → ℕ
   counts ν = sum_by (λ (t : List ℕ × ℤ). nat_abs t.1 * product_count k t.0 next ν) product
 
-  -- if P holds for all partitions with at most k rows, and for all other lists of numbers, it holds for each list ν
   by_label : (P : List ℕ → Type 0) → ((ν : List ℕ) → IsPartition ν → rows ν ≤ k → P ν) → ((ν : List ℕ) → (IsPartition ν → rows ν ≤ k → ⊥) → P ν) → (ν : List ℕ) → P ν
-  by_label P inside outside ν = by (cases_Bool (is_partition ν)) (cases_lt k (rows ν))
-    where
-      by : (is_partition ν ≡ true) ⊎ (is_partition ν ≡ false) → (k < rows ν) ⊎ (rows ν ≤ k) → P ν
-      by (inl e) (inr l) = inside ν (is_partition-tells ν e) l
-      by (inl e) (inl l) = outside ν (λ p h. omega arith)
-      by (inr e) l = outside ν (λ p h. both_ways (is_partition ν) e (is_partition-from ν p))
+  by_label P inside outside ν = search (rules, cases_Bool, cases_lt, is_partition-tells, both_ways, is_partition-from)
 
   pub is_multiplied : (terms : WholeTerms)
       → HasCounts k (λ ν. sum_by (λ (t : List ℕ × ℤ). nat_abs t.1 * product_count k t.0 next ν) product) terms → Same terms (multiplied k next product)
@@ -122,27 +110,11 @@ module _ (k : ℕ) (next : List ℕ) (product : WholeTerms) (q : IsPartition nex
 
   pub multiplied-small : ((ν : List ℕ) → IsPartition ν → rows ν ≤ k → sum_by (λ (t : List ℕ × ℤ). nat_abs t.1 * product_count k t.0 next ν) product < 2 ^ 127)
       → AreSmallCounts (multiplied k next product)
-  multiplied-small fits =
-      by_label (λ ν. (pos 0 ≤ℤ coefficient (multiplied k next product) ν) × (coefficient (multiplied k next product) ν <ℤ pos (2 ^ 127)))
-      (λ ν p l.
-      let e = multiplied-counted k next product q may ν p l in
-      let f = fits ν p l in
-      (omega (arith, ints), omega (arith, ints)))
-      (λ ν out. let e = multiplied-outside k next product ν out in (omega (arith, ints), omega (arith, ints)))
+  multiplied-small fits = search (rules, by_label, multiplied-counted, ints, multiplied-outside)
 
   pub multiplied-past : IsPastSomewhere k (λ ν. sum_by (λ (t : List ℕ × ℤ). nat_abs t.1 * product_count k t.0 next ν) product)
       → Reaches k (2 ^ 127) (multiplied k next product)
-  multiplied-past past = record {
-    parts = past.parts;
-    partition = past.partition;
-    within = past.within;
-    reaches =
-        let e = multiplied-counted k next product q may past.parts past.partition past.within in
-        let l = past.past in
-        omega (arith, ints);
-  }
-
--- ---- the table after all columns of the factor `next` are added
+  multiplied-past past = search (rules, multiplied-counted, ints)
 
 module _ (n k : ℕ) (next : List ℕ) (product : WholeTerms) (es : List (List ℕ × ℕ)) (q : IsPartition next) (may : AllMayMeet k next product) (most : n ≤ k)
     (enough : (t : Term) → Among t product → (rows t.0 ≤ n) × (min k (rows t.0 + rows next) ≤ n))
@@ -161,6 +133,4 @@ module _ (n k : ℕ) (next : List ℕ) (product : WholeTerms) (es : List (List �
         on_ok_weaker r (λ small. multiplied-small k next product q may (fits_in n k _ _ same small)) (fits_agree (λ ν. weighed n (comes_to ν) es) (good_sum n k next product q may most enough) r agree fits)
 
   pub product_past : IsPastSomewhere n (λ ν. weighed n (comes_to ν) es) → Reaches k (2 ^ 127) (multiplied k next product)
-  product_past past =
-      multiplied-past k next product q may
-      (past_in n k _ _ same (past_agree n (λ ν. weighed n (comes_to ν) es) (good_sum n k next product q may most enough) agree past))
+  product_past past = search (rules, multiplied-past, past_in, same, past_agree)

@@ -1,5 +1,6 @@
--- If the columns of a skew shape have no room for the small letters of a content (`IsOverfull`), it has no good tableau with this content.
-use Rattle.std.proofs.Common.{◌≡◌, ℕ, zero, suc, ◌+◌, ◌-◌, ◌<◌, ◌≤◌, ◌⊎◌, inl, inr, nat_le, min, true, cond, List, [], ◌∷◌, length, get_or, refl, sym, ap, ◌∙◌, subst, arith}
+-- If a content has, for some k, more letters from 1 to k than the columns of a skew shape can hold (`IsOverfull`), then no tableau of the shape has
+-- this content. So the coefficient that counts such tableaux in a product of two Schur polynomials (`product_count`) is 0.
+use Rattle.std.proofs.Common.{◌≡◌, ℕ, zero, suc, ◌+◌, ◌-◌, ◌<◌, ◌≤◌, ◌⊎◌, inl, inr, min, true, cond, List, [], ◌∷◌, length, get_or, refl, sym, ap, ◌∙◌, subst, arith, rules}
 use Rattle.std.proofs.lemmas.Bool.{cases_lt, lt-ltb, le-ltb}
 use Rattle.std.proofs.lemmas.Int.{ints}
 use Rattle.sym_model.specs.Sum.{Among}
@@ -17,8 +18,6 @@ use Rattle.lr_product.specs.LetterRoom.{room_in_row, letter_room, letters_within
 use Rattle.sym_model.proofs.Conjugates.{one_at_most}
 use Rattle.std.proofs.lemmas.List.{get_or_past}
 
--- ---- sums of f(i) over ranges of numbers (`add_up`)
-
 add_up-plus : (f g : ℕ → ℕ) (a k : ℕ) → add_up (λ i. f i + g i) a k ≡ add_up f a k + add_up g a k
 add_up-plus f g a zero = omega arith
 add_up-plus f g a (suc k) = let e = add_up-plus f g (suc a) k in omega arith
@@ -33,24 +32,13 @@ add_up-exchange f a m b (suc k) =
     ap (λ n. add_up (f b) a m + n) (add_up-exchange f a m (suc b) k)
     ∙ sym (add_up-plus (f b) (λ r. add_up (λ i. f i r) (suc b) k) a m)
 
--- ---- the letters from 1 to k in the rows of a tableau
-
 up_to_most : (k : ℕ) (w : List ℕ) → up_to_letter k w ≤ length w
 up_to_most k [] = omega arith
-up_to_most k (a ∷ w) = by (cases_lt k a) (up_to_most k w)
-  where
-    by : (k < a) ⊎ (a ≤ k) → up_to_letter k w ≤ length w → cond {A = ℕ} (nat_le a k) 1 0 + up_to_letter k w ≤ suc (length w)
-    by l e = let o = one_at_most (nat_le a k) in omega arith
+up_to_most k (a ∷ w) = search (rules, cases_lt, up_to_letter, one_at_most, (up_to_most k w))
 
 module _ (n : ℕ) (ν λ' μ : List ℕ) (P : List (List ℕ)) (T : IsTableau n [] ν λ' μ P) where
-  -- row k + r of the tableau P has at most λ'_r letters from 1 to k
   below : (k r s : ℕ) → s ≡ k + r → up_to_letter k (row P s) ≤ get_or λ' r 0
-  below zero r s e =
-      let d : s ≡ r = omega arith in
-      let z = zeros_up_to (row P s) in
-      let t = T.zeros s in
-      let g = ap (λ i. get_or λ' i 0) d in
-      omega arith
+  below zero r s e = search (rules, zeros_up_to, row)
   below (suc k) r zero e = absurd (omega arith)
   below (suc k) r (suc s) e = let h = below k r s (omega arith) in let c = T.columns s k in omega arith
 
@@ -90,34 +78,15 @@ module _ (n : ℕ) (ν λ' μ : List ℕ) (P : List (List ℕ)) (T : IsTableau n
 -- ---- the loops of letter_room.rt: one more row, and one more letter
 
 pub room_next : (k : ℕ) (outer inner : List ℕ) (row room next : ℕ) → room ≡ letter_room k outer inner row → next ≡ room_in_row k outer inner row → room + next ≡ letter_room k outer inner (row + 1)
-room_next k outer inner row room next e f =
-    let l = add_up-last (room_in_row k outer inner) 0 row in
-    let s : row + 1 ≡ suc row = omega arith in
-    let t = ap (letter_room k outer inner) s in
-    let z : 0 + row ≡ row = omega arith in
-    let u = ap (room_in_row k outer inner) z in
-    omega arith
+room_next k outer inner row room next e f = search (rules, add_up-last, row)
 
 pub letters_next : (content : List ℕ) (at letters next : ℕ) → letters ≡ letters_within content at → next ≡ get_or content at 0 → letters + next ≡ letters_within content (at + 1)
-letters_next content at letters next e f =
-    let l = add_up-last (λ i. get_or content i 0) 0 at in
-    let s : at + 1 ≡ suc at = omega arith in
-    let t = ap (letters_within content) s in
-    let z : 0 + at ≡ at = omega arith in
-    let u = ap (λ i. get_or content i 0) z in
-    omega arith
+letters_next content at letters next e f = search (rules, add_up-last)
 
--- if outer/inner has room for the letters of the content from 1 to k for each k ≤ at, and for k = at + 1, it has room for each k ≤ at + 1
 pub enough_next : (outer inner content : List ℕ) (at : ℕ) → ((k : ℕ) → k ≤ at → letters_within content k ≤ letter_room k outer inner (length outer))
     → letters_within content (at + 1) ≤ letter_room (at + 1) outer inner (length outer)
     → (k : ℕ) → k ≤ at + 1 → letters_within content k ≤ letter_room k outer inner (length outer)
-enough_next outer inner content at h here k l = by (cases_lt k (at + 1))
-  where
-    by : (k < at + 1) ⊎ (at + 1 ≤ k) → letters_within content k ≤ letter_room k outer inner (length outer)
-    by (inl m) = h k (omega arith)
-    by (inr m) = let e : at + 1 ≡ k = omega arith in subst (λ j. letters_within content j ≤ letter_room j outer inner (length outer)) e here
-
--- ---- if `IsOverfull` holds for a skew shape and a content, the count of good tableaux is 0
+enough_next outer inner content at h here k l = search rules
 
 pub no_room : (ν λ' μ : List ℕ) → IsPartition λ' → IsPartition μ → IsPartition ν → contains ν λ' ≡ true → IsOverfull ν λ' μ → product_count (rows ν) λ' μ ν ≡ 0
 no_room ν λ' μ p q r h over =
@@ -134,10 +103,10 @@ no_room ν λ' μ p q r h over =
         let g = over.2 in
         absurd (omega arith)
 
--- if a, b and c are equal to outer, inner and content, and `IsOverfull a b c` holds, so does `IsOverfull outer inner content`
 pub overfull_tells : (outer inner content a b c : List ℕ) → a ≡ outer → b ≡ inner → c ≡ content → IsOverfull a b c → IsOverfull outer inner content
 overfull_tells outer inner content a b c e f g h = subst (λ x. IsOverfull x inner content) e (subst (λ y. IsOverfull a y content) f (subst (λ z. IsOverfull a b z) g h))
 
--- if μ lies inside ν, and the skew shape ν/μ has no room for the small letters of the content λ', the count of ν in the product of λ' and μ is 0
+-- if μ lies inside ν, and the content λ' has, for some k, more letters from 1 to k than the columns of ν/μ can hold (`IsOverfull`), the coefficient
+-- `product_count` of ν in the product of λ' and μ is 0
 pub no_room_exchanged : (ν λ' μ : List ℕ) → IsPartition λ' → IsPartition μ → IsPartition ν → contains ν μ ≡ true → IsOverfull ν μ λ' → product_count (rows ν) λ' μ ν ≡ 0
 no_room_exchanged ν λ' μ p q r h over = product_exchanged λ' μ ν p q r ∙ no_room ν μ λ' q p r h over

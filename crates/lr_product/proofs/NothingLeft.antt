@@ -1,5 +1,5 @@
 -- If a factor has more than k rows, the product in k variables is 0.
-use Rattle.std.proofs.Common.{◌≡◌, ◌<◌, ◌≤◌, ◌⊎◌, inl, inr, ℕ, max, List, [], ◌∷◌, length, map, true, false, sym, ◌∙◌, ap, subst, arith, ℤ, pos, Option, Some, None}
+use Rattle.std.proofs.Common.{◌≡◌, ◌<◌, ◌≤◌, ◌⊎◌, inl, inr, ℕ, max, List, [], ◌∷◌, length, map, true, false, sym, ◌∙◌, ap, subst, arith, ℤ, pos, Option, Some, None, rules}
 use Rattle.std.specs.Prelude.{IfSome}
 use Rattle.std.proofs.lemmas.Bool.{cases_lt, cases_Bool, both_ways}
 use Rattle.std.specs.Option.{unwrap_or}
@@ -11,7 +11,6 @@ use Rattle.sym_model.specs.Alternant.{alternant, staircase, schur_coefficient}
 use Rattle.sym_model.specs.LabelLimits.{is_partition}
 use Rattle.sym_model.specs.WholeTerms.{WholeTerms, as_fractions}
 use Rattle.sym_model.specs.Products.{schur_product, classical_product}
-use Rattle.sym_model.specs.PastLimit.{is_past}
 use Rattle.sym_model.proofs.Polynomials.{at_only, coefficient_pair, pair_times, pair_zero, Same_refl, Same_sym, times_respects}
 use Rattle.sym_model.proofs.WholeTerms.{represents-whole}
 use Rattle.sym_model.proofs.Orders.{is_partition-tells, is_partition-from}
@@ -72,11 +71,4 @@ classical_given (Some n) k m factors terms e same = subst (λ (j : ℕ). Same te
 pub nothing_fits : (given : Option ℕ) (k : ℕ) (factors : List (List ℕ)) → k ≡ unwrap_or given (max (size (map rows factors)) 1)
     → ((parts : List ℕ) → Among parts factors → IsPartition parts) → HasLong k factors → HasPast (IsCoefficientOfProduct given factors) → ⊥
 nothing_fits None k factors e are h past = let l = among_rows factors h.0 h.1 in let m = h.2 in omega arith
-nothing_fits (Some n) k factors e are h past =
-    let s = past.1 in
-    let zero : past.0 ≡ pos 0 =
-    s.is ∙ product_zero n factors s.parts are (h.0, h.1, let m = h.2 in omega arith) in
-    small past.0 zero past.2
-  where
-    small : (z : ℤ) → z ≡ pos 0 → is_past z ≡ true → ⊥
-    small z e h = let none : is_past z ≡ is_past (pos 0) = ap is_past e in cc
+nothing_fits (Some n) k factors e are h past = search (rules, product_zero)

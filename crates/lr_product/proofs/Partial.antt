@@ -1,5 +1,7 @@
--- The list of the product of the first i factors, and the step from i to i + 1 factors.
-use Rattle.std.proofs.Common.{◌≡◌, ◌≤◌, ◌+◌, ◌^◌, inl, inr, ℕ, zero, suc, List, [], ◌∷◌, ◌++◌, append-nil, map, take, drop, refl, sym, ◌∙◌, ap, subst, arith, ℤ, pos, ◌*ℤ◌, Option, Some, None}
+-- The *list for* some factors is the expansion of the product of their Schur polynomials in Schur polynomials, as a list of terms (`IsPartial`). The
+-- *classical product* of the factors in k variables (`classical_product`) is the list of the partitions with at most k rows and a coefficient other
+-- than 0 in this product. Here are the list for the first i factors, and the step to the list for the first i + 1 factors.
+use Rattle.std.proofs.Common.{◌≡◌, ◌≤◌, ◌+◌, ◌^◌, inl, inr, ℕ, zero, suc, List, [], ◌∷◌, ◌++◌, append-nil, map, take, drop, refl, sym, ◌∙◌, ap, subst, arith, ℤ, pos, ◌*ℤ◌, Option, Some, None, rules}
 use Rattle.std.specs.Prelude.{◌≤ℤ◌, slice_get, nat_eq}
 use Rattle.std.specs.Cmp.Lexicographic.{pointwise}
 use Rattle.std.proofs.lemmas.Bool.{and_parts}
@@ -43,10 +45,8 @@ small_same xs ys e small parts = let s = small parts in let x = e parts in (omeg
 Reaches-same : (k c : ℕ) (xs ys : WholeTerms) → Same xs ys → Reaches k c xs → Reaches k c ys
 Reaches-same k c xs ys e r = record { parts = r.parts; partition = r.partition; within = r.within; reaches = let x = e r.parts in let g = r.reaches in omega (arith, ints) }
 
--- ---- the conditions on the list of the product of the first factors
-
--- the list has the coefficients of the classical product of the factors `front` in k variables; these coefficients are from 0 to 2^127 - 1; and the
--- list expands the product of the factors for each given number of variables for which k variables suffice (`IsShownIn`)
+-- the list has the coefficients of the classical product of the factors `front` in k variables, and these coefficients are from 0 to 2^127 - 1. The
+-- list expands the product of the factors in k variables, and in every number of variables if k is at least the total number of rows of the factors
 pub record IsPartial (k : ℕ) (front : List (List ℕ)) (product : WholeTerms) : Type 0 where
   pub table : IsCombination (pointwise nat_eq) is_label whole product
   pub classical : Same product (classical_product k front)
@@ -110,12 +110,8 @@ multiplied_respects k next xs ys e =
 -- of `front` and `next`
 pub step_same : (k : ℕ) (front : List (List ℕ)) (next : List ℕ) (product : WholeTerms) → ArePartitions front → IsPartition next → IsPartial k front product
     → Same (multiplied k next product) (classical_product k (front ++ next ∷ []))
-step_same k front next product p q h =
-    Same_trans (multiplied k next product) (multiplied k next (classical_product k front)) (classical_product k (front ++ next ∷ []))
-    (multiplied_respects k next product (classical_product k front) h.classical)
-    (Same_sym (classical_product k (front ++ next ∷ [])) (multiplied k next (classical_product k front)) (classical_step k front next p q))
+step_same k front next product p q h = search (rules, multiplied_respects, classical_step)
 
--- if a ≤ b, and k variables suffice for products with row bound b (`IsShownIn`), they suffice for products with row bound a
 shown_before : (given : Option ℕ) (a b k : ℕ) → a ≤ b → IsShownIn given b k → IsShownIn given a k
 shown_before None a b k h s = omega arith
 shown_before (Some n) a b k h s = s
@@ -144,8 +140,6 @@ partial_next k first rest next product after p q h is e small = record {
     classical =
         Same_trans after (multiplied k next product) (classical_product k ((first ∷ rest) ++ next ∷ [])) e
         (step_same k (first ∷ rest) next product p q h)
-
--- ---- the list of the product of the first two factors
 
 once_itself : (f : Poly) → Same (scale (pos 1) f ++ []) f
 once_itself f α = ap (λ (l : Poly). coefficient l α) (append-nil (scale (pos 1) f) ∙ scale_one f)
@@ -196,9 +190,7 @@ partial_two k left right product p q h is e small = record {
 pub take_next : (xs : List (List ℕ)) (i : ℕ) (x : List ℕ) → slice_get xs i ≡ Some x → take (i + 1) xs ≡ take i xs ++ x ∷ []
 take_next [] i x h = cc
 take_next (y ∷ ys) zero x h = let e : y ≡ x = cc in ap (λ z. z ∷ []) e ∙ refl
-take_next (y ∷ ys) (suc i) x h =
-    let k : suc i + 1 ≡ suc (i + 1) = omega arith in
-    ap (λ j. take j (y ∷ ys)) k ∙ ap (λ l. y ∷ l) (take_next ys i x h)
+take_next (y ∷ ys) (suc i) x h = search (rules, (take_next ys i x h))
 
 pub among_at : (xs : List (List ℕ)) (i : ℕ) (x : List ℕ) → slice_get xs i ≡ Some x → Among x xs
 among_at [] i x h = cc
@@ -215,13 +207,12 @@ cells_within : (xs ys : List (List ℕ)) → size (map size xs) ≤ size (map si
 cells_within [] ys = omega arith
 cells_within (x ∷ xs) ys = let h = cells_within xs ys in omega arith
 
--- if a list has an entry at the index j ≥ 1, the list of its first j entries is not empty
 some_before : (j : ℕ) (ys : List (List ℕ)) (y : List ℕ) → 1 ≤ j → slice_get ys j ≡ Some y → take j ys ≡ [] → ⊥
 some_before zero ys y l s d = omega arith
 some_before (suc j) [] y l s d = cc
 some_before (suc j) (z ∷ ys) y l s d = cc
 
--- if `next` is the factor at the index i, each term of the list for the first i factors satisfies `MayMeet` for `next`
+-- if `next` is the factor at the index i, each term of the list for the first i factors can be multiplied by `next` (`MayMeet`)
 pub may_meet_at : (k i : ℕ) (factors : List (List ℕ)) (next : List ℕ) (product : WholeTerms) → AreFactors factors → 1 ≤ i → slice_get factors i ≡ Some next
     → IsPartial k (take i factors) product → AllMayMeet k next product
 may_meet_at k i factors next product f one at h = by (take i factors) refl h
@@ -275,8 +266,6 @@ large_at k i factors next product f one at few h r = by (take i factors) refl h
         (reaches_more k (2 ^ 127) first (rest ++ next ∷ []) (drop (i + 1) factors) (are_more (first ∷ rest) next are_front q)
         (λ x m. f.small.partitions x (among_dropped (i + 1) factors x m)) (λ x m. few x (among_dropped (i + 1) factors x m)) (omega arith) here)
 
--- ---- the first two factors of the list of factors
-
 pub record BeginWith (factors : List (List ℕ)) (left right : List ℕ) : Type 0 where
   pub taken : take 2 factors ≡ left ∷ right ∷ []
   pub sizes : size left + size right ≤ 4096
@@ -286,15 +275,7 @@ pub record BeginWith (factors : List (List ℕ)) (left right : List ℕ) : Type 
 pub begin_with : (factors : List (List ℕ)) (left right : List ℕ) → AreFactors factors → slice_get factors 0 ≡ Some left → slice_get factors 1 ≡ Some right → BeginWith factors left right
 begin_with [] left right f a b = cc
 begin_with (x ∷ []) left right f a b = cc
-begin_with (x ∷ y ∷ factors) left right f a b =
-    let d : x ≡ left = cc in
-    let e : y ≡ right = cc in
-    record {
-      taken = ap (λ z. z ∷ y ∷ []) d ∙ ap (λ z. left ∷ z ∷ []) e;
-      sizes = let g = f.small.cells in let j = ap size d in let m = ap size e in omega arith;
-      left_among = inl (sym d);
-      right_among = inr (inl (sym e));
-    }
+begin_with (x ∷ y ∷ factors) left right f a b = search rules
 
 -- if each factor has at most k rows, and the product of the first two factors has a coefficient of 2^127 or more, so has the product of all factors
 pub large_first : (k : ℕ) (factors : List (List ℕ)) (left right : List ℕ) → AreFactors factors → BeginWith factors left right → ((parts : List ℕ) → Among parts factors → rows parts ≤ k)

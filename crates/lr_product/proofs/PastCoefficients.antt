@@ -1,6 +1,7 @@
--- Coefficients of a product that exceed 2^127 - 1: in its list of terms, and by its definition.
-use Rattle.std.proofs.Common.{◌≡◌, ◌≤◌, ◌<◌, ◌^◌, ◌⊎◌, inl, inr, ℕ, max, List, [], ◌∷◌, map, refl, sym, ◌∙◌, ap, subst, arith, ℤ, pos, negsuc, Option, Some, None}
-use Rattle.std.specs.Prelude.{◌≤ℤ◌, ◌<ℤ◌, IsTrue}
+-- A product of Schur polynomials has a Schur coefficient that exceeds 2^127 - 1 if and only if its list of terms `classical_product` has such a
+-- coefficient.
+use Rattle.std.proofs.Common.{◌≡◌, ◌≤◌, ◌<◌, ◌^◌, ◌⊎◌, inl, inr, ℕ, max, List, [], ◌∷◌, map, refl, sym, ◌∙◌, ap, subst, arith, ℤ, pos, negsuc, Option, Some, None, rules}
+use Rattle.std.specs.Prelude.{◌<ℤ◌, IsTrue}
 use Rattle.std.specs.Option.{unwrap_or}
 use Rattle.std.proofs.lemmas.Bool.{cases_lt}
 use Rattle.std.proofs.lemmas.Int.{ints}
@@ -29,22 +30,10 @@ abbrev pub IsPastIn : ℕ → List (List ℕ) → Type 0
 IsPastIn k factors = (c : ℤ) × IsSchurCoefficientOf (schur_product factors k) k c × IsTrue (is_past c)
 
 pub past_reaches : (k : ℕ) (factors : List (List ℕ)) → IsPastIn k factors → Reaches k (2 ^ 127) (classical_product k factors)
-past_reaches k factors h =
-    let s = h.1 in
-    record {
-      parts = s.parts;
-      partition = s.partition;
-      within = s.within;
-      reaches = subst (λ (z : ℤ). pos (2 ^ 127) ≤ℤ z) (s.is ∙ sym (classical_product-coefficient k factors s.parts s.partition s.within)) (is_past-tells h.0 h.2);
-    }
+past_reaches k factors h = search (rules, classical_product-coefficient, is_past-tells)
 
 pub reaches_past : (k : ℕ) (factors : List (List ℕ)) → Reaches k (2 ^ 127) (classical_product k factors) → IsPastIn k factors
-reaches_past k factors r = (
-  schur_coefficient k r.parts (schur_product factors k),
-  record { parts = r.parts; partition = r.partition; within = r.within; is = refl },
-  is_past-from (schur_coefficient k r.parts (schur_product factors k))
-      (subst (λ (z : ℤ). pos (2 ^ 127) ≤ℤ z) (classical_product-coefficient k factors r.parts r.partition r.within) r.reaches),
-)
+reaches_past k factors r = search (rules, is_past-from, classical_product-coefficient)
 
 pub small_not_past : (k : ℕ) (factors : List (List ℕ)) → AreSmallCounts (classical_product k factors) → IsPastIn k factors → ⊥
 small_not_past k factors small h =
@@ -76,8 +65,6 @@ not_past_small k first rest p h parts =
     below (pos n) e = subst (λ (z : ℤ). z <ℤ pos (2 ^ 127)) (sym e) (by n e (cases_lt n (2 ^ 127)))
     below (negsuc n) e = omega (arith, ints)
 
--- ---- products of two factors, with counts of good tableaux
-
 pub counts_reach : (k : ℕ) (left right : List ℕ) → IsPartition left → IsPartition right → IsPastSomewhere k (product_count k left right)
     → Reaches k (2 ^ 127) (classical_product k (left ∷ right ∷ []))
 counts_reach k left right p q past =
@@ -104,13 +91,7 @@ one_in_one ([] ∷ next ∷ factors) e = ap (λ f. times (schur [] 1) f) (one_in
 one_in_one ((a ∷ parts) ∷ factors) e = absurd (omega arith)
 
 none_past : (factors : List (List ℕ)) → size (map rows factors) ≡ 0 → IsPastIn 0 factors → ⊥
-none_past factors e h =
-    let s = h.1 in
-    let value : h.0 ≡ pos 1 =
-    s.is ∙ ap (λ parts. schur_coefficient 0 parts (schur_product factors 0)) (nil_from_length s.parts (let few = s.within in omega arith))
-    ∙ ap (λ f. schur_coefficient 0 [] f) (one_in_none factors e) in
-    let l = is_past-tells h.0 h.2 in
-    omega (arith, ints)
+none_past factors e h = search (rules, nil_from_length, one_in_none, is_past-tells, ints)
 
 none_reached : (first : List ℕ) (rest : List (List ℕ)) → ArePartitions (first ∷ rest) → size (map rows (first ∷ rest)) ≡ 0 → Reaches 1 (2 ^ 127) (classical_product 1 (first ∷ rest)) → ⊥
 none_reached first rest p e r =

@@ -1,7 +1,7 @@
--- The list of pairs that sorted_pairs.rt makes: the entries of a table in the order of a list of sorted indices, and the list of terms made from
--- them.
-use Rattle.std.proofs.Common.{◌≡◌, ℕ, zero, suc, ◌+◌, ◌*◌, ◌^◌, ◌<◌, ◌≤◌, ◌⊎◌, inl, inr, Bool, true, false, cond, List, [], ◌∷◌, ◌++◌, length, take, drop, refl, sym, ap, ◌∙◌, subst, arith, ℤ, pos, ◌+ℤ◌}
-use Rattle.std.specs.Prelude.{Some, None, slice_get, nat_eq, ◌<ℤ◌}
+-- The list of pairs that sorted_pairs.rt makes: the entries (state, count) of a table in the order of a list of sorted indices, and the list of terms
+-- made from them. The *weighed sum* of some entries, for a function f of states, is the sum of count·f(state) over them.
+use Rattle.std.proofs.Common.{◌≡◌, ℕ, zero, suc, ◌+◌, ◌*◌, ◌^◌, ◌<◌, ◌≤◌, ◌⊎◌, inl, inr, cond, List, [], ◌∷◌, ◌++◌, length, take, drop, refl, sym, ap, ◌∙◌, arith, ℤ, pos, ◌+ℤ◌, rules}
+use Rattle.std.specs.Prelude.{Some, None, slice_get, nat_eq}
 use Rattle.std.specs.Cmp.Lexicographic.{pointwise}
 use Rattle.std.specs.List as lists
 use Rattle.std.proofs.lemmas.Bool.{cases_lt, and_parts}
@@ -9,7 +9,7 @@ use Rattle.std.proofs.lemmas.Int.{ints}
 use Rattle.std.proofs.lemmas.List.Sums.{sum_by_push}
 use Rattle.sym_model.specs.Sum.{Among}
 use Rattle.sym_model.specs.Partition.{without_last_zeros}
-use Rattle.sym_model.specs.Polynomial.{same, coefficient}
+use Rattle.sym_model.specs.Polynomial.{coefficient}
 use Rattle.sym_model.specs.WholeTerms.{WholeTerms}
 use Rattle.sym_model.specs.LabelLimits.{is_label}
 use Rattle.sym_model.specs.PrintedOrder.{printed_order}
@@ -19,8 +19,7 @@ use Rattle.sym_model.proofs.Polynomials.{coefficient_plus}
 use Rattle.sym_model.proofs.Parts.{length-without_last_zeros}
 use Rattle.sym_model.proofs.SortedParts.{IsPartition-without_last_zeros}
 use Rattle.coeff_rings.specs.Fractions.{whole}
-use Rattle.linear_combinations.specs.Entries.{is_ordered, IsCanonicalList, IsCombination}
-use Rattle.linear_combinations.specs.Labels.{same_partition}
+use Rattle.linear_combinations.specs.Entries.{IsCanonicalList, IsCombination}
 use Rattle.linear_combinations.proofs.Found.{coefficient_found, coefficient_of_term}
 use Rattle.linear_combinations.proofs.Ordered.{canonical-ordered, distinct-ordered}
 use Rattle.alternant_laws.proofs.FallingAlternants.{falls_from_test}
@@ -55,8 +54,8 @@ past_at_end [] (suc at) h = refl
 past_at_end (e ∷ es) zero h = absurd (omega arith)
 past_at_end (e ∷ es) (suc at) h = past_at_end es at (omega arith)
 
--- let the sum of `count_at` over the indices `places` be the weighed sum of the first `at` entries: if `at` is appended to `places`, the sum of
--- `count_at` becomes the weighed sum of the first at + 1 entries
+-- if the entries with the indices `places` have the same weighed sum as the first `at` entries, then the entries with the indices `places` and `at`
+-- have the same weighed sum as the first at + 1 entries
 pub sums_next : (n : ℕ) (es : List (List ℕ × ℕ)) (f : List ℕ → List ℕ → ℕ) (at : ℕ) (places : List ℕ) → at < length es → lists.sum_by (count_at n es f) places ≡ weighed n f (take at es)
     → lists.sum_by (count_at n es f) (places ++ at ∷ []) ≡ weighed n f (take (at + 1) es)
 sums_next n es f at places h e =
@@ -66,43 +65,21 @@ sums_next n es f at places h e =
 -- ---- the term that is added for one index
 
 pub nothing_counted : (n : ℕ) (es : List (List ℕ × ℕ)) (f : List ℕ → List ℕ → ℕ) (at : ℕ) (z : ℤ) → (entry_at es at).1 ≡ 0 → z ≡ z +ℤ pos (count_at n es f at)
-nothing_counted n es f at z e =
-    let c : count_at n es f at ≡ 0 * at_state n f (entry_at es at).0 = ap (λ w. w * at_state n f (entry_at es at).0) e in
-    let d : 0 * at_state n f (entry_at es at).0 ≡ 0 = omega arith in
-    omega (arith, ints)
+nothing_counted n es f at z e = search rules
 
 pub pushed_counts : (n : ℕ) (es : List (List ℕ × ℕ)) (at : ℕ) (key : List ℕ) (w : ℕ) (old new : WholeTerms) (label : List ℕ) (z : ℤ) (parts : List ℕ)
     → slice_get es at ≡ Some (key, w) → new ≡ old ++ (label, z) ∷ [] → label ≡ without_last_zeros (take n key) → z ≡ pos w
     → coefficient new parts ≡ coefficient old parts +ℤ pos (count_at n es (comes_to parts) at)
-pushed_counts n es at key w old new label z parts h e l c =
-    ap (λ (t : WholeTerms). coefficient t parts) e ∙ coefficient_plus old ((label, z) ∷ []) parts
-    ∙ ap (λ x. coefficient old parts +ℤ x) (one ∙ sym (ap (λ (x : List ℕ × ℕ). pos (x.1 * at_state n (comes_to parts) x.0)) (some_at es at key w h)))
-  where
-    by : (t : Bool) → cond t (pos w) (pos 0) +ℤ pos 0 ≡ pos (w * cond t 1 0)
-    by true = let m : w * 1 ≡ w = omega arith in omega (arith, ints)
-    by false = let m : w * 0 ≡ 0 = omega arith in omega (arith, ints)
-
-    one : coefficient ((label, z) ∷ []) parts ≡ pos (w * at_state n (comes_to parts) key)
-    one = ap (λ (x : List ℕ). cond (same x parts) z (pos 0) +ℤ pos 0) l ∙ ap (λ y. cond (same (without_last_zeros (take n key)) parts) y (pos 0) +ℤ pos 0) c ∙ by (same (without_last_zeros (take n key)) parts)
+pushed_counts n es at key w old new label z parts h e l c = search (rules, coefficient_plus, some_at, ints)
 
 among_pushed : (old : WholeTerms) (x t : List ℕ × ℤ) → Among t (old ++ x ∷ []) → Among t old ⊎ (t ≡ x)
 among_pushed [] x t (inl e) = inr e
 among_pushed [] x t (inr m) = absurd m
 among_pushed (y ∷ old) x t (inl e) = inl (inl e)
-among_pushed (y ∷ old) x t (inr m) = by (among_pushed old x t m)
-  where
-    by : Among t old ⊎ (t ≡ x) → Among t (y ∷ old) ⊎ (t ≡ x)
-    by (inl k) = inl (inr k)
-    by (inr e) = inr e
+among_pushed (y ∷ old) x t (inr m) = search (rules, (among_pushed old x t m))
 
 pub pushed_small : (old new : WholeTerms) (label : List ℕ) (z : ℤ) (w : ℕ) → new ≡ old ++ (label, z) ∷ [] → z ≡ pos w → w < 2 ^ 127 → AreSmallTerms old → AreSmallTerms new
-pushed_small old new label z w e c l small t m = by (among_pushed old (label, z) t (subst (λ (l : WholeTerms). Among t l) e m))
-  where
-    by : Among t old ⊎ (t ≡ (label, z)) → t.1 <ℤ pos (2 ^ 127)
-    by (inl k) = small t k
-    by (inr d) = let q : t.1 ≡ z = ap (λ (x : List ℕ × ℤ). x.1) d in omega (arith, ints)
-
--- ---- tables with a count of 2^127 or more
+pushed_small old new label z w e c l small t m = search (rules, among_pushed, ints)
 
 pub reached_at : (n : ℕ) (es : List (List ℕ × ℕ)) (i : ℕ) (key : List ℕ) (w : ℕ) → weighed n (unreached n 4096) es ≡ 0 → slice_get es i ≡ Some (key, w) → 0 < w → IsReached n 4096 (take n key)
 reached_at n es i key w z h some = reached-tells n 4096 (take n key) (drop n key) (weighed-none n (unreached n 4096) es i key w z h some)
@@ -131,13 +108,8 @@ past_at n es at z l = by (cases_lt at (length es))
     by (inl h) = there (here_at es at h)
     by (inr h) = let e = ap (λ (x : List ℕ × ℕ). x.1) (past_at_end es at h) in absurd (omega arith)
 
--- ---- canonical lists as tables of terms
-
 pub table_of : (terms : WholeTerms) → IsCanonicalList printed_order is_label whole terms → IsCombination (pointwise nat_eq) is_label whole terms
-table_of terms c = record {
-  distinct = distinct-ordered printed_order printed_order-total same_partition terms (canonical-ordered printed_order is_label whole printed_order-total.trans terms c);
-  proper = (and_parts (is_ordered printed_order terms) _ c).1;
-}
+table_of terms c = search (rules, distinct-ordered, printed_order-total, canonical-ordered, and_parts)
 
 pub canonical_counts : (n : ℕ) (es : List (List ℕ × ℕ)) (terms : WholeTerms) → IsCanonicalList printed_order is_label whole terms
     → ((parts : List ℕ) → coefficient terms parts ≡ pos (weighed n (comes_to parts) es)) → HasCounts n (λ parts. weighed n (comes_to parts) es) terms
@@ -147,15 +119,4 @@ canonical_counts n es terms c e =
 
 pub canonical_small : (n : ℕ) (es : List (List ℕ × ℕ)) (terms : WholeTerms) → IsCanonicalList printed_order is_label whole terms → AreSmallTerms terms
     → ((parts : List ℕ) → coefficient terms parts ≡ pos (weighed n (comes_to parts) es)) → (parts : List ℕ) → weighed n (comes_to parts) es < 2 ^ 127
-canonical_small n es terms c small e parts = by (cases_lt (weighed n (comes_to parts) es) (2 ^ 127))
-  where
-    by : (weighed n (comes_to parts) es < 2 ^ 127) ⊎ (2 ^ 127 ≤ weighed n (comes_to parts) es) → weighed n (comes_to parts) es < 2 ^ 127
-    by (inl l) = l
-    by (inr l) =
-        let is = table_of terms c in
-        let here = e parts in
-        let found = some_term terms parts (λ z. omega (arith, ints)) in
-        let k = small found.0 found.1 in
-        let d = coefficient_of_term terms is.distinct found.0 found.1 in
-        let g : coefficient terms found.0.0 ≡ coefficient terms parts = ap (λ x. coefficient terms x) found.2 in
-        absurd (omega (arith, ints))
+canonical_small n es terms c small e parts = search (rules, cases_lt, table_of, some_term, ints, coefficient_of_term)

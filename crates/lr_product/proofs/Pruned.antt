@@ -1,6 +1,10 @@
--- Letters after which no column can be completed, and sums that stay weakly decreasing when a number is raised.
-use Rattle.std.proofs.Common.{◌≡◌, ℕ, zero, suc, ◌+◌, ◌-◌, ◌<◌, ◌≤◌, ◌==◌, ◌⊎◌, inl, inr, nat_le, nat_lt, Bool, true, false, cond, ◌&&◌, ◌||◌, List, [], ◌∷◌, ◌++◌, length, take, drop, get_or, length-append, refl, sym, ap, ap₂, ◌∙◌, arith}
-use Rattle.std.proofs.lemmas.Bool.{ne_eqb, lt-leb, le-leb, lt-ltb, le-ltb, cases_lt, and_parts, and_from, or_parts, or_cases, eqb-true, leb-true, leb-false, ltb-true, ltb-false, eqb-false, and_cases}
+-- Letters after which no column can be completed, and sums that stay weakly decreasing when a number is raised. Here a *sum* is a list of n numbers,
+-- and a *state* is a sum followed by letters of the column. Adding the letter b ≥ 1 raises the number of the sum at the index b - 1 by 1. If the
+-- remaining places of a column are filled in all ways, `extended` is the sum of f over the states that are reached and have a weakly decreasing sum.
+-- A function f *vanishes outside* a bound, which is a list of numbers, if it is 0 at each sum in which some number is greater than the number of the
+-- bound at the same index.
+use Rattle.std.proofs.Common.{◌≡◌, ℕ, zero, suc, ◌+◌, ◌-◌, ◌<◌, ◌≤◌, ◌==◌, ◌⊎◌, inl, inr, nat_le, nat_lt, Bool, true, false, cond, ◌&&◌, ◌||◌, List, [], ◌∷◌, ◌++◌, length, take, drop, get_or, length-append, refl, sym, ap, ap₂, ◌∙◌, arith, rules}
+use Rattle.std.proofs.lemmas.Bool.{ne_eqb, lt-leb, lt-ltb, le-ltb, cases_lt, and_parts, and_from, or_parts, or_cases, eqb-true, leb-false, ltb-true, ltb-false, eqb-false, and_cases}
 use Rattle.sym_model.specs.GoodTableau.{is_falling}
 use Rattle.tableau_laws.specs.Grid.{pass_by_place}
 use Rattle.lr_product.specs.WeighedSum.{at_state, VanishesOutside}
@@ -32,14 +36,13 @@ length-marked kept b s = let l = length-append (raised b s) (mark kept b) in let
 pub numbers-zero : (X : ℕ → ℕ) (low k : ℕ) → ((b : ℕ) → low ≤ b → b < low + k → X b ≡ 0) → sum_by X (numbers_from low k) ≡ 0
 numbers-zero X low k e = numbers-ext X (λ b. 0) low k e ∙ sum_by-zero (numbers_from low k)
 
--- if the first remaining place is outside the shape and the letter above it is not 0, the column cannot be completed, and the sum `extended` is 0
 none_outside : (kept : Bool) (n : ℕ) (line : List Bool) (right : List ℕ) (above : ℕ) (f : List ℕ → List ℕ → ℕ) (s : List ℕ) → 0 < above → extended kept n (false ∷ line) right above f s ≡ 0
 none_outside kept n line right above f s h =
     ap (λ t. sum_by (λ b. extended kept n line (drop 1 right) b f (raised b s ++ mark kept b)) (numbers_from 0 (cond t 1 0 - 0))) (ne_eqb above 0 (λ e. absurd (omega arith)))
 
--- ---- states for which the sum `extended` is 0
+-- ---- states for which `extended` is 0
 
--- f is 0 at every state t whose sum is weakly decreasing and whose first `above` numbers are those of s
+-- f is 0 at every state t that has a weakly decreasing sum and the same first `above` numbers as s
 abbrev pub Hopeless : ℕ → (List ℕ → List ℕ → ℕ) → ℕ → List ℕ → Type 0
 Hopeless n f above s = (t : List ℕ) → n ≤ length t → ((j : ℕ) → j < above → get_or t j 0 ≡ get_or s j 0) → cond (is_falling (take n t)) (at_state n f t) 0 ≡ 0
 
@@ -64,22 +67,14 @@ not_falling i (suc zero) t h l g = absurd (omega arith)
 not_falling i (suc (suc n)) [] h l g = absurd (omega arith)
 not_falling i (suc (suc n)) (a ∷ []) h l g = absurd (omega arith)
 not_falling zero (suc (suc n)) (a ∷ b ∷ t) h l g = ap (λ x. x && is_falling (b ∷ take n t)) (lt-leb b a g)
-not_falling (suc i) (suc (suc n)) (a ∷ b ∷ t) h l g = by (nat_le b a) (not_falling i (suc n) (b ∷ t) (omega arith) (omega arith) g)
-  where
-    by : (x : Bool) → is_falling (b ∷ take n t) ≡ false → x && is_falling (b ∷ take n t) ≡ false
-    by true e = e
-    by false e = refl
+not_falling (suc i) (suc (suc n)) (a ∷ b ∷ t) h l g = search (rules, (not_falling i (suc n) (b ∷ t) (omega arith) (omega arith) g))
 
 pub not_within : (i : ℕ) (ν bound : List ℕ) → i < length bound → get_or bound i 0 < get_or ν i 0 → pass_by_place nat_le ν bound ≡ false
 not_within i [] [] h g = absurd (omega arith)
 not_within i [] (b ∷ bound) h g = absurd (omega arith)
 not_within i (a ∷ ν) [] h g = absurd (omega arith)
 not_within zero (a ∷ ν) (b ∷ bound) h g = ap (λ x. x && pass_by_place nat_le ν bound) (lt-leb a b g)
-not_within (suc i) (a ∷ ν) (b ∷ bound) h g = by (nat_le a b) (not_within i ν bound (omega arith) g)
-  where
-    by : (x : Bool) → pass_by_place nat_le ν bound ≡ false → x && pass_by_place nat_le ν bound ≡ false
-    by true e = e
-    by false e = refl
+not_within (suc i) (a ∷ ν) (b ∷ bound) h g = search (rules, (not_within i ν bound (omega arith) g))
 
 -- if the number at the index i of s cannot be raised by 1 (`can_rise`), and f vanishes outside the bound, the state after the letter i + 1 is
 -- hopeless (`Hopeless`)
@@ -123,7 +118,7 @@ stuck kept n bound f i s vanishes h l m e t long same =
     by (inr b) = outside (or_parts (nat_le (length bound) i) (nat_lt (get_or s i 0) (get_or bound i 0)) b)
 
 -- let 0 < above ≤ n: if the number of remaining places exceeds the number n - above of letters greater than `above`, the column cannot be completed,
--- and the sum `extended` is 0
+-- and `extended` is 0
 pub too_few : (kept : Bool) (n : ℕ) (line : List Bool) (right : List ℕ) (above : ℕ) (f : List ℕ → List ℕ → ℕ) (s : List ℕ) → 0 < above → above ≤ n → n < above + length line
     → extended kept n line right above f s ≡ 0
 too_few kept n [] right above f s h k l = absurd (omega arith)
@@ -134,8 +129,7 @@ too_few kept n (true ∷ line) right above f s h k l =
     let e = end-within n true right above in
     too_few kept n line (drop 1 right) b f (raised b s ++ mark kept b) (omega arith) (omega arith) (omega arith))
 
--- the sum `extended` does not change if the letters of the first place are restricted to those that leave a greater letter up to n for each place
--- below
+-- `extended` does not change if the letters of the first place are restricted to those that leave a greater letter up to n for each place below
 pub fewer_letters : (kept : Bool) (n : ℕ) (cell : Bool) (line : List Bool) (right : List ℕ) (above : ℕ) (f : List ℕ → List ℕ → ℕ) (s : List ℕ)
     → sum_by (λ b. extended kept n line (drop 1 right) b f (raised b s ++ mark kept b)) (numbers_from (least_letter cell above) (letters_end (n - length line) cell right above - least_letter cell above))
     ≡ extended kept n (cell ∷ line) right above f s
@@ -177,18 +171,13 @@ fewer_letters kept n true line right above f s = by (letters_end (n - length lin
 raised-falls_first : (s : List ℕ) → is_falling s ≡ true → is_falling (raised 1 s) ≡ true
 raised-falls_first [] h = refl
 raised-falls_first (a ∷ []) h = refl
-raised-falls_first (a ∷ b ∷ s) h =
-    let p = and_parts (nat_le b a) (is_falling (b ∷ s)) h in
-    let q = leb-true b a p.0 in
-    and_from (nat_le b (a + 1)) (is_falling (b ∷ s)) (le-leb b (a + 1) (omega arith)) p.1
+raised-falls_first (a ∷ b ∷ s) h = search rules
 
 raised-falls_next : (i : ℕ) (s : List ℕ) → is_falling s ≡ true → get_or s (suc i) 0 < get_or s i 0 → is_falling (raised (suc (suc i)) s) ≡ true
 raised-falls_next i [] h g = refl
 raised-falls_next zero (a ∷ []) h g = refl
 raised-falls_next (suc i) (a ∷ []) h g = refl
-raised-falls_next zero (a ∷ b ∷ s) h g =
-    let p = and_parts (nat_le b a) (is_falling (b ∷ s)) h in
-    and_from (nat_le (b + 1) a) (is_falling ((b + 1) ∷ s)) (le-leb (b + 1) a (omega arith)) (raised-falls_first (b ∷ s) p.1)
+raised-falls_next zero (a ∷ b ∷ s) h g = search rules
 raised-falls_next (suc i) (a ∷ b ∷ s) h g =
     let p = and_parts (nat_le b a) (is_falling (b ∷ s)) h in
     and_from (nat_le b a) (is_falling (b ∷ raised (suc i) s)) p.0 (raised-falls_next i (b ∷ s) p.1 g)
@@ -228,8 +217,6 @@ falls-raised n bound (suc i) s w h l e falls =
 
 pub falls-unraised : (n : ℕ) (s w : List ℕ) → n ≤ length s → is_falling (take n s) ≡ true → is_falling (take n (s ++ w)) ≡ true
 falls-unraised n s w l falls = ap is_falling (take-raised n zero s w l) ∙ falls
-
--- ---- a letter that cannot be added to the sum, and one that can
 
 pub no_room : (kept : Bool) (n : ℕ) (line : List Bool) (right : List ℕ) (f : List ℕ → List ℕ → ℕ) (bound : List ℕ) (b : ℕ) (s : List ℕ) → VanishesOutside bound f → b ≤ n → n ≤ length s → length bound ≤ n
     → ((b == 0) || can_rise bound (b - 1) s) ≡ false → extended kept n line right b f (raised b s ++ mark kept b) ≡ 0

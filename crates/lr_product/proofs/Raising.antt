@@ -1,5 +1,5 @@
 -- A number of a list raised by 1, and the sum of the first n numbers.
-use Rattle.std.proofs.Common.{◌≡◌, ℕ, zero, suc, ◌+◌, ◌-◌, ◌<◌, ◌≤◌, Bool, true, false, cond, List, [], ◌∷◌, ◌++◌, length, take, get_or, set, length-append, refl, ap, ◌∙◌, arith}
+use Rattle.std.proofs.Common.{◌≡◌, ℕ, zero, suc, ◌+◌, ◌-◌, ◌<◌, ◌≤◌, Bool, true, false, cond, List, [], ◌∷◌, ◌++◌, length, take, get_or, set, length-append, refl, ap, ◌∙◌, arith, rules}
 use Rattle.sym_model.specs.Partition.{size}
 use Rattle.lr_product.specs.Extension.{raised, mark}
 use Rattle.std.proofs.Math.Seq.{take-append_seam}
@@ -35,19 +35,13 @@ size-appended zero (a ∷ s) w h = refl
 size-appended (suc n) [] w h = absurd (omega arith)
 size-appended (suc n) (a ∷ s) w h = ap (λ x. a + x) (size-appended n s w (omega arith))
 
--- raising a number of the list s by 1 (`raised`) increases the sum of its first n numbers by at most 1
 pub size-raised : (n b : ℕ) (s w : List ℕ) → n ≤ length s → size (take n (raised b s ++ w)) ≤ size (take n s) + 1
 size-raised n zero s w h = let e = size-appended n s w h in omega arith
-size-raised zero (suc b) s w h = by (raised (suc b) s ++ w)
-  where
-    by : (l : List ℕ) → size (take 0 l) ≤ size (take 0 s) + 1
-    by [] = omega arith
-    by (x ∷ l) = omega arith
+size-raised zero (suc b) s w h = search rules
 size-raised (suc n) (suc b) [] w h = absurd (omega arith)
 size-raised (suc n) (suc zero) (a ∷ s) w h = let e = size-appended n s w (omega arith) in omega arith
 size-raised (suc n) (suc (suc b)) (a ∷ s) w h = let i = size-raised n (suc b) s w (omega arith) in omega arith
 
--- if t is s with 1 added to the number at the index b - 1, for b > 0, t is `raised b s`
 pub placed : (b : ℕ) (s t : List ℕ) → 0 < b → t ≡ set s (b - 1) (get_or s (b - 1) 0 + 1) → t ≡ raised b s
 placed zero s t h e = absurd (omega arith)
 placed (suc b) s t h e = let p : suc b - 1 ≡ b = omega arith in e ∙ ap (λ i. set s i (get_or s i 0 + 1)) p ∙ raised-set b s
@@ -65,7 +59,8 @@ raised-none (suc b) s h = absurd (omega arith)
 pub length-placed : (b : ℕ) (s w : List ℕ) → length (raised b s ++ w) ≡ length s + length w
 length-placed b s w = length-append (raised b s) w ∙ ap (λ k. k + length w) (length-raised b s)
 
--- when a letter is placed, the length of the state plus the number of letters still to be kept in it remains equal to `width`
+-- letters of a column are placed one by one, and appended to the list s if `kept` is true. If a letter b is placed, then the length of the list plus
+-- the number of letters still to be appended remains equal to `width`
 pub width_placed : (kept : Bool) (b : ℕ) (s : List ℕ) (rest line width : ℕ) → line ≡ rest + 1 → length s + cond kept line 0 ≡ width → length (raised b s ++ mark kept b) + cond kept rest 0 ≡ width
 width_placed true b s rest line width e h = let l = length-placed b s (b ∷ []) in omega arith
 width_placed false b s rest line width e h = let l = length-placed b s [] in omega arith

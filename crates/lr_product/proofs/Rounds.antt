@@ -1,5 +1,8 @@
--- The loop of `with_columns`: its start, one pass, in which one column of the shape is added, and its end.
-use Rattle.std.proofs.Common.{◌≡◌, ℕ, zero, suc, ◌+◌, ◌-◌, ◌^◌, ◌<◌, ◌≤◌, ◌⊎◌, inl, inr, nat_le, nat_lt, Bool, true, false, ◌&&◌, cond, List, [], ◌∷◌, ◌++◌, length, take, drop, refl, sym, subst, ap, ap₂, ◌∙◌, arith}
+-- The loop of `with_columns`: its start, one pass, in which one column of the shape is added, and its end. The loop works on a table of states with
+-- counts; a *state* is a *sum*, which is a list of n numbers, followed by the column added last. The *weighed sum* of a table, for a function f, is
+-- the sum of count·f(state). Two numbers *agree* if they are equal or both at least 2^127. A function f *vanishes outside* a bound, which is a list
+-- of numbers, if it is 0 at each sum in which some number is greater than the number of the bound at the same index.
+use Rattle.std.proofs.Common.{◌≡◌, ℕ, zero, suc, ◌+◌, ◌-◌, ◌<◌, ◌≤◌, ◌⊎◌, inl, inr, nat_le, nat_lt, Bool, true, false, ◌&&◌, cond, List, [], ◌∷◌, ◌++◌, length, take, drop, refl, sym, subst, ap, ap₂, ◌∙◌, arith, rules}
 use Rattle.std.proofs.lemmas.Bool.{cases_lt, lt-ltb, le-ltb, lt-leb, le-leb, and_right}
 use Rattle.std.proofs.Math.Seq.{take-length, drop-length}
 use Rattle.sym_model.specs.Partition.{Falls, IsPartition, size, columns}
@@ -21,11 +24,7 @@ use Rattle.sym_model.proofs.Lists.{drop-none}
 use Rattle.sym_model.proofs.Numbers.{second_false, zero_either}
 
 pub agree_zero : (a b : ℕ) → Agree a b → b ≡ 0 → a ≡ 0
-agree_zero a b p e = by (cases_lt a (2 ^ 127))
-  where
-    by : (a < 2 ^ 127) ⊎ (2 ^ 127 ≤ a) → a ≡ 0
-    by (inl l) = p.below l ∙ e
-    by (inr l) = let q = p.past l in absurd (omega arith)
+agree_zero a b p e = search rules
 
 size-resize : (n : ℕ) (s : List ℕ) → size (resize n s) ≤ size s
 size-resize zero s = omega arith
@@ -33,13 +32,7 @@ size-resize (suc n) [] = let i = size-resize n [] in omega arith
 size-resize (suc n) (a ∷ s) = let i = size-resize n s in omega arith
 
 pub start_within : (n m : ℕ) (start right : List ℕ) → IsPartition start → size start ≤ m → unreached n m (resize n start) right ≡ 0
-start_within n m start right p room =
-    let small = size-resize n start in
-    reached n m (resize n start) right (record {
-      long = length-resize n start;
-      small = omega arith;
-      falls = falling-resize n start p.falls;
-    })
+start_within n m start right p room = search (rules, size-resize, reached, length-resize, falling-resize)
 
 pub resize-zero : (n : ℕ) (s : List ℕ) → length s < n → resize n (s ++ 0 ∷ []) ≡ resize n s
 resize-zero zero s h = absurd (omega arith)
@@ -51,8 +44,6 @@ resize-full zero [] h l = refl
 resize-full zero (a ∷ s) h l = absurd (omega arith)
 resize-full (suc n) [] h l = absurd (omega arith)
 resize-full (suc n) (a ∷ s) h l = ap (λ x. a ∷ x) (resize-full n s (omega arith) (omega arith))
-
--- ---- sums with a number that exceeds that of the bound
 
 within-more : (ν κ bound : List ℕ) → pass_by_place nat_le ν bound ≡ false → pass_by_place nat_le (join ν κ) bound ≡ false
 within-more [] κ [] h = absurd (cc)
@@ -74,15 +65,14 @@ vanishes-next n line bound kept f v ν right h =
     seen_zero true ν' r e = v ν' r e
     seen_zero false ν' r e = v ν' [] e
 
--- if f vanishes outside the bound, so does `seen kept f`, which is f itself if the column is kept, and otherwise f with the empty column
 vanishes-seen : (kept : Bool) (bound : List ℕ) (f : List ℕ → List ℕ → ℕ) → VanishesOutside bound f → VanishesOutside bound (seen kept f)
 vanishes-seen true bound f v ν right h = v ν right h
 vanishes-seen false bound f v ν right h = v ν [] h
 
 -- ---- the table at the start of the loop, and after one more column is added
 
--- if at = columns outer, the list of the column lines after the first `at` is empty, and the sum over the ways to add these columns to the states of
--- `starts` agrees with the weighed sum of `starts`
+-- before the first pass, `at` is the number of columns, and no column has been added: the weighed sum of the table `starts` agrees with the sum over
+-- all ways to add the columns after the first `at`, that is, no columns
 pub start_counts : (n : ℕ) (outer inner : List ℕ) (starts : List (List ℕ × ℕ)) (at : ℕ) → Falls outer
     → contains outer inner ≡ true → at ≡ columns outer → (f : List ℕ → List ℕ → ℕ)
     → Agree (weighed n (seen (nat_lt 0 at) f) starts)
@@ -106,12 +96,9 @@ pub first_reached : (n m : ℕ) (start : List ℕ) (es : List (List ℕ × ℕ))
 first_reached n m start es p room agree =
     agree_zero _ _ (agree (unreached n m)) (start_within n m start [] p room)
 
--- for 0 < at ≤ columns outer, the lines of the columns from `at` on are that of column `at`, followed by those of the columns after it
 last_column : (outer inner : List ℕ) (at : ℕ) → Falls outer → contains outer inner ≡ true → 0 < at → at ≤ columns outer
     → drop (at - 1) (column_lines outer inner) ≡ column_line at outer inner ∷ drop at (column_lines outer inner)
-last_column outer inner at fall c h k =
-    let one : at - 1 + 1 ≡ at = omega arith in
-    column-cons outer inner (at - 1) fall c (omega arith) ∙ ap (λ j. column_line j outer inner ∷ drop j (column_lines outer inner)) one
+last_column outer inner at fall c h k = search (rules, column-cons)
 
 places_last : (outer inner : List ℕ) (at : ℕ) (line : List Bool) → Falls outer → contains outer inner ≡ true → 0 < at → at ≤ columns outer → line ≡ column_line at outer inner
     → places (drop (at - 1) (column_lines outer inner)) ≡ length line + places (drop at (column_lines outer inner))

@@ -1,6 +1,9 @@
--- Equal letters of a row added to the sum and taken back, and rows that lead to sums outside a bound.
-use Rattle.std.proofs.Common.{◌≡◌, ◌==◌, ℕ, zero, suc, ◌+◌, ◌-◌, ◌<◌, ◌≤◌, ◌⊎◌, inl, inr, nat_le, nat_lt, Bool, true, false, ◌&&◌, cond, List, [], ◌∷◌, ◌++◌, length, take, drop, get_or, set, max, length-append, refl, sym, ap, ap₂, ◌∙◌, arith}
-use Rattle.std.proofs.lemmas.Bool.{ne_eqb, cases_lt, lt-leb, le-leb, and_parts, and_from, leb-true, lt-ltb, le-ltb, both_ways}
+-- A row is added to a *sum*, a list of n numbers: i letters t + 1 of the row raise the number at the index t by i. If the places of a row are filled
+-- in all ways with letters up to t, `filled` is the sum of f over the results. Here are equal letters that are added and taken back, and rows after
+-- which some number of the sum is greater than the number of a bound, a list of numbers, at the same index. A function f *vanishes outside* the bound
+-- if it is 0 at each such sum.
+use Rattle.std.proofs.Common.{◌≡◌, ◌==◌, ℕ, zero, suc, ◌+◌, ◌-◌, ◌<◌, ◌≤◌, ◌⊎◌, inl, inr, nat_le, nat_lt, Bool, true, false, ◌&&◌, cond, List, [], ◌∷◌, ◌++◌, length, take, drop, get_or, set, max, length-append, refl, sym, ap, ◌∙◌, arith, rules}
+use Rattle.std.proofs.lemmas.Bool.{ne_eqb, cases_lt, and_parts, and_from, lt-ltb, le-ltb, both_ways}
 use Rattle.sym_model.specs.Sum.{sum_by}
 use Rattle.sym_model.specs.Partition.{size}
 use Rattle.sym_model.specs.GoodTableau.{is_falling}
@@ -53,21 +56,15 @@ size-added (suc t) i (a ∷ s) = let e = size-added t i s in omega arith
 pub size-put : (n t i : ℕ) (s w : List ℕ) → n ≤ length s → size (take n (added t i s ++ w)) ≤ size (take n s) + i
 size-put n t i s w h = let e = ap size (take-added n t i s w h) in let f = size-added t i (take n s) in omega arith
 
--- if the list s is weakly decreasing, it remains so if i is added to its first number
 falls_first : (i : ℕ) (s : List ℕ) → is_falling s ≡ true → is_falling (added 0 i s) ≡ true
 falls_first i [] h = refl
 falls_first i (a ∷ []) h = refl
-falls_first i (a ∷ b ∷ s) h =
-    let p = and_parts (nat_le b a) (is_falling (b ∷ s)) h in
-    let q = leb-true b a p.0 in
-    and_from (nat_le b (a + i)) (is_falling (b ∷ s)) (le-leb b (a + i) (omega arith)) p.1
+falls_first i (a ∷ b ∷ s) h = search rules
 
 falls_next : (t i : ℕ) (s : List ℕ) → is_falling s ≡ true → suc t < length s → get_or s (suc t) 0 + i ≤ get_or s t 0 → is_falling (added (suc t) i s) ≡ true
 falls_next t i [] h l g = refl
 falls_next t i (a ∷ []) h l g = absurd (omega arith)
-falls_next zero i (a ∷ b ∷ s) h l g =
-    let p = and_parts (nat_le b a) (is_falling (b ∷ s)) h in
-    and_from (nat_le (b + i) a) (is_falling ((b + i) ∷ s)) (le-leb (b + i) a (omega arith)) (falls_first i (b ∷ s) p.1)
+falls_next zero i (a ∷ b ∷ s) h l g = search rules
 falls_next (suc t) i (a ∷ b ∷ s) h l g =
     let p = and_parts (nat_le b a) (is_falling (b ∷ s)) h in
     and_from (nat_le b a) (is_falling (b ∷ added t i s)) p.0 (falls_next t i (b ∷ s) p.1 (omega arith) g)
@@ -78,12 +75,7 @@ MayAdd t i s = (k : ℕ) → t ≡ suc k → get_or s t 0 + i ≤ get_or s k 0
 
 pub falls-put : (n t i : ℕ) (s w : List ℕ) → t < n → n ≤ length s → is_falling (take n s) ≡ true → MayAdd t i s → is_falling (take n (added t i s ++ w)) ≡ true
 falls-put n zero i s w l h f may = ap is_falling (take-added n 0 i s w h) ∙ falls_first i (take n s) f
-falls-put n (suc t) i s w l h f may =
-    let a = get_or-take n s (suc t) 0 l in
-    let b = get_or-take n s t 0 (omega arith) in
-    let m = may t refl in
-    let k = length-take-le n s h in
-    ap is_falling (take-added n (suc t) i s w h) ∙ falls_next t i (take n s) f (omega arith) (omega arith)
+falls-put n (suc t) i s w l h f may = search (rules, get_or-take, length-take-le, take-added, falls_next)
 
 pub width_put : (kept : Bool) (t i left : ℕ) (s : List ℕ) (up_to width : ℕ) → up_to ≡ t + 1 → length s + cond kept up_to 0 ≡ width → length (added t i s ++ mark kept left) + cond kept t 0 ≡ width
 width_put true t i left s up_to width e h = let l = length-append (added t i s) (left ∷ []) in let k = length-added t i s in omega arith
@@ -105,11 +97,7 @@ still_false false true e f g = absurd (let z = f refl in cc)
 still_false false false e f g = refl
 
 smaller : (a i b : ℕ) → nat_le a b ≡ false → nat_le (a + i) b ≡ false
-smaller a i b e = by (cases_lt b a)
-  where
-    by : (b < a) ⊎ (a ≤ b) → nat_le (a + i) b ≡ false
-    by (inl l) = lt-leb (a + i) b (omega arith)
-    by (inr l) = absurd (both_ways (nat_le a b) e (le-leb a b l))
+smaller a i b e = search rules
 
 within-longer : (n : ℕ) (s w bound : List ℕ) → pass_by_place nat_le (take n s) bound ≡ false → pass_by_place nat_le (take n (s ++ w)) bound ≡ false
 within-longer zero s w bound h = absurd (both_ways (pass_by_place nat_le (take 0 s) bound) h (ap (λ l. pass_by_place nat_le l bound) (take_none s) ∙ nothing-within bound))
@@ -142,8 +130,8 @@ filled-outside kept n out (suc t) k above bound f s v o =
     (numbers_from (least_left out t k s) (most_left out t k above + 1 - least_left out t k s))
     ∙ sum_by-zero (numbers_from (least_left out t k s) (most_left out t k above + 1 - least_left out t k s))
 
--- if f vanishes outside the bound, and the number at the index t, raised by k - left, exceeds that of the bound, the sum `filled` over the rest of
--- the row is 0
+-- if f vanishes outside the bound, and the number at the index t, raised by k - left, exceeds that of the bound, `filled` for the rest of the row is
+-- 0
 pub over_bound : (kept : Bool) (n out t k left : ℕ) (above bound : List ℕ) (f : List ℕ → List ℕ → ℕ) (s : List ℕ) → VanishesOutside bound f → t < n → n ≤ length s
     → t < length bound → get_or bound t 0 < get_or s t 0 + (k - left) → filled kept n out t left above f (added t (k - left) s ++ mark kept left) ≡ 0
 over_bound kept n out t k left above bound f s v l h b g =
@@ -156,8 +144,8 @@ over_bound kept n out t k left above bound f s v l h b g =
     here zero (a ∷ v') q = refl
     here (suc j) (a ∷ v') q = here j v' (omega arith)
 
--- let f vanish outside the bound: the sum over x, the number of places that are left for letters up to t, may begin at `low`, the least x that the
--- sum s and the bound allow
+-- let f vanish outside the bound. In the recursion of `filled`, the sum over the number x of places that are left for letters up to t may begin with
+-- x = `low`, the least x that the list s and the bound allow
 pub bounded_low : (kept : Bool) (n out t k : ℕ) (above bound : List ℕ) (f : List ℕ → List ℕ → ℕ) (s : List ℕ) (low : ℕ) → VanishesOutside bound f → t < n → n ≤ length s
     → low ≡ max (max out (cond (t == 0) 0 (k - (get_or s (t - 1) 0 - get_or s t 0)))) (cond (nat_lt t (length bound)) (k - (get_or bound t 0 - get_or s t 0)) 0)
     → sum_by (λ x. filled kept n out t x (drop 1 above) f (added t (k - x) s ++ mark kept x)) (numbers_from low (most_left out t k above + 1 - low))
@@ -199,35 +187,14 @@ bounded_low kept n out t k above bound f s low v l h is =
 -- t may be raised by k - x (`MayAdd`)
 pub may_add : (out t k x low : ℕ) (s : List ℕ) (rest : ℕ) → low ≡ max (max out (cond (t == 0) 0 (k - (get_or s (t - 1) 0 - get_or s t 0)))) rest
     → low ≤ x → ((j : ℕ) → get_or s (suc j) 0 ≤ get_or s j 0 ⊎ (t ≡ suc j → ⊥)) → MayAdd t (k - x) s
-may_add out t k x low s rest is g falls j e = by (falls j)
-  where
-    two : (t' : ℕ) → t' ≡ suc j → cond {A = ℕ} (t' == 0) 0 (k - (get_or s (t' - 1) 0 - get_or s t' 0)) ≡ k - (get_or s j 0 - get_or s (suc j) 0)
-    two zero q = absurd (omega arith)
-    two (suc t') q =
-        let i : t' ≡ j = omega arith in let z : suc t' - 1 ≡ t' = omega arith in
-        ap (λ u. cond {A = ℕ} u 0 (k - (get_or s (suc t' - 1) 0 - get_or s (suc t') 0))) (ne_eqb (suc t') 0 (λ e'. absurd (omega arith)))
-        ∙ ap₂ (λ x' y. k - (get_or s x' 0 - get_or s (suc y) 0)) (z ∙ i) i
-
-    by : get_or s (suc j) 0 ≤ get_or s j 0 ⊎ (t ≡ suc j → ⊥) → get_or s t 0 + (k - x) ≤ get_or s j 0
-    by (inl l) = let d = two t e in let m = ap (λ y. get_or s y 0) e in omega arith
-    by (inr n) = absurd (n e)
-
--- ---- rows that lead to sums outside the bound
+may_add out t k x low s rest is g falls j e = search rules
 
 pub vanishes-row : (n : ℕ) (kept : Bool) (out k : ℕ) (bound : List ℕ) (f : List ℕ → List ℕ → ℕ) → length bound ≤ n → VanishesOutside bound f → VanishesOutside bound (next_row n kept out k f)
 vanishes-row n kept out k bound f l v ν above h = zero_either (may_precede nat_le k above) (filled-outside kept n out n k (drop 1 above) bound f ν v (within-take n ν bound l ∙ h))
 
 pub may_put : (n out t k x low : ℕ) (s : List ℕ) (rest : ℕ) → low ≡ max (max out (cond (t == 0) 0 (k - (get_or s (t - 1) 0 - get_or s t 0)))) rest
     → low ≤ x → t < n → is_falling (take n s) ≡ true → MayAdd t (k - x) s
-may_put n out t k x low s rest is g l falls = may_add out t k x low s rest is g (λ j. by j (cases_lt (suc j) n))
-  where
-    by : (j : ℕ) → (suc j < n) ⊎ (n ≤ suc j) → get_or s (suc j) 0 ≤ get_or s j 0 ⊎ (t ≡ suc j → ⊥)
-    by j (inl h) =
-        let a = get_or-take n s (suc j) 0 h in
-        let b = get_or-take n s j 0 (omega arith) in
-        let c = falls_places (take n s) falls j in
-        inl (omega arith)
-    by j (inr h) = inr (λ e. absurd (omega arith))
+may_put n out t k x low s rest is g l falls = search (rules, may_add, cases_lt, get_or-take, falls_places)
 
 pub most_within : (out t k : ℕ) (above : List ℕ) → out ≤ k → most_left out t k above ≤ k
 most_within out zero k above h = h

@@ -1,5 +1,6 @@
--- The sum of f over the ways to add the rows of a shape is that over the ways to add its columns.
-use Rattle.std.proofs.Common.{◌≡◌, ℕ, suc, ◌+◌, ◌-◌, ◌<◌, ◌≤◌, nat_le, nat_lt, Bool, true, false, cond, ◌&&◌, List, [], ◌∷◌, length, drop, get_or, refl, sym, ap, ap₂, ◌∙◌, arith, ℤ, pos}
+-- Tableaux of a shape are built row by row or column by column: the sum of f over all ways to add the rows of the shape to ν is equal to the sum of f
+-- over all ways to add its columns.
+use Rattle.std.proofs.Common.{◌≡◌, ℕ, suc, ◌+◌, ◌-◌, ◌<◌, ◌≤◌, nat_le, nat_lt, Bool, true, false, cond, ◌&&◌, List, [], ◌∷◌, length, drop, get_or, refl, sym, ap, ap₂, ◌∙◌, arith, ℤ, pos, rules}
 use Rattle.std.proofs.lemmas.Bool.{lt-ltb}
 use Rattle.std.proofs.lemmas.Int.{ints}
 use Rattle.sym_model.specs.Sum.{total}
@@ -26,21 +27,16 @@ use Rattle.lr_product.proofs.ColumnsOfCounts.{over-states}
 use Rattle.lr_product.proofs.RowWords.{kept_row, row_test, places_down, over_row_words, join-none}
 use Rattle.lr_product.proofs.RowTableaux.{rows_test, row_descends, test_same}
 
--- the summand of a filling with the first row w and the other rows P: w must be weakly increasing and pass `row_test`, and P must pass `rows_test`
--- with ν plus the content of w as the sum and with w as the row above
 below_row : (n : ℕ) (f : List ℕ → ℕ) (ν above w : List ℕ) (P : List (List ℕ))
     → cond (rows_test n ν above (w ∷ P)) (pos (f (join ν (content n (letters_of (w ∷ P)))))) (pos 0)
     ≡ cond ((is_chain nat_le w && row_test n ν above w) && rows_test n (join ν (content n w)) (places_down n 0 w) P) (pos (f (join (join ν (content n w)) (content n (letters_of P))))) (pos 0)
 below_row n f ν above w P =
     ap (λ (s : List ℕ). cond (rows_test n ν above (w ∷ P)) (pos (f s)) (pos 0)) (ap (join ν) (content-append n w (letters_of P)) ∙ sym (join_assoc ν (content n w) (content n (letters_of P))))
 
--- `over_rows` is the sum, over the fillings P of outer/inner that pass `rows_test`, of f at ν plus the content of P
 fold_rows : (n : ℕ) (outer inner : List ℕ) (f : List ℕ → ℕ) (ν above : List ℕ) → 0 < n → contains outer inner ≡ true → length ν ≡ n → ((i : ℕ) → get_or ν (suc i) 0 ≤ get_or ν i 0)
     → total (λ (P : List (List ℕ)). cond (rows_test n ν above P) (pos (f (join ν (content n (letters_of P))))) (pos 0)) (fillings_over n (pattern_of outer inner))
     ≡ pos (over_rows n outer inner (λ ν' r. f ν') ν above)
-fold_rows n [] inner f ν above some holds long falls =
-    let z = ap (λ (κ : List ℕ). f (join ν κ)) (content-none n) ∙ ap f (join-none n ν long) in
-    (let e : pos (f (join ν (content n []))) ≡ pos (f ν) = ap pos z in let g : f (join ν (content n [])) + 0 ≡ f (join ν (content n [])) = omega arith in ap pos g ∙ e)
+fold_rows n [] inner f ν above some holds long falls = search (rules, content-none, join-none)
 fold_rows n (a ∷ outer) inner f ν above some holds long falls =
     fillings_sum n (line_of b (a - b)) (pattern_of outer (drop 1 inner)) (λ (P : List (List ℕ)). cond (rows_test n ν above P) (pos (f (join ν (content n (letters_of P))))) (pos 0))
     ∙ total_ext (λ (w : List ℕ). total (λ (P : List (List ℕ)). cond (rows_test n ν above (w ∷ P)) (pos (f (join ν (content n (letters_of (w ∷ P)))))) (pos 0)) (fillings_over n (pattern_of outer (drop 1 inner))))
@@ -82,8 +78,8 @@ fold_rows n (a ∷ outer) inner f ν above some holds long falls =
         (λ e. rec w e
         ∙ ap pos (seen_row outer (join ν (content n w)) w))
 
--- the sum of f over all ways to add the rows of outer/inner, one after another, to the weakly decreasing sum ν is that over all ways to add its
--- columns
+-- the sum of f over all ways to add the rows of outer/inner, one after another, to the weakly decreasing sum ν is equal to the sum of f over all ways
+-- to add its columns
 pub rows_columns : (n : ℕ) (outer inner : List ℕ) (f : List ℕ → ℕ) (ν : List ℕ) → 0 < n → Falls outer → contains outer inner ≡ true → length ν ≡ n → is_falling ν ≡ true
     → over_rows n outer inner (λ ν' r. f ν') ν [] ≡ over_states n (column_lines outer inner) (λ ν' r. f ν') ν []
 rows_columns n outer inner f ν some falls holds long descends =

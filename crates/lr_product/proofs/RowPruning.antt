@@ -1,5 +1,7 @@
--- Rows after which some number of the sum cannot reach that of the bound any more, and the number of cells of the rows below.
-use Rattle.std.proofs.Common.{◌≡◌, ℕ, zero, suc, ◌+◌, ◌-◌, ◌<◌, ◌≤◌, ◌⊎◌, inl, inr, nat_le, nat_lt, min, Bool, cond, List, [], ◌∷◌, ◌++◌, length, take, drop, get_or, refl, sym, ap, ◌∙◌, arith}
+-- Rows are added to a *sum*, a list of n numbers. If the places of a row are filled in all ways with letters up to t, `filled` is the sum of f over
+-- the results. Here are rows after which some number of the sum is too small to become as great as the number of a bound (a list of numbers) at the
+-- same index, whatever rows follow. Also the number of cells of the rows below.
+use Rattle.std.proofs.Common.{◌≡◌, ℕ, zero, suc, ◌+◌, ◌-◌, ◌<◌, ◌≤◌, ◌⊎◌, inl, inr, nat_le, nat_lt, min, Bool, cond, List, [], ◌∷◌, ◌++◌, length, take, drop, get_or, refl, sym, ap, ◌∙◌, arith, rules}
 use Rattle.std.proofs.lemmas.Bool.{cases_lt, lt-ltb, le-ltb}
 use Rattle.sym_model.specs.Sum.{sum_by}
 use Rattle.sym_model.specs.Partition.{part}
@@ -11,8 +13,6 @@ use Rattle.lr_product.proofs.RowFilling.{length_put, most_within}
 use Rattle.std.proofs.lemmas.List.{get_or_append_left, get_or-take, length-take-le}
 use Rattle.sym_model.proofs.Lists.{drop-none}
 use Rattle.sym_model.proofs.Numbers.{zero_either}
-
--- ---- the numbers of a state after equal letters t + 1 are added
 
 get-added_other : (t i j : ℕ) (s w : List ℕ) → t < j → j < length s → get_or (added t i s ++ w) j 0 ≡ get_or s j 0
 get-added_other t i j [] w h l = absurd (omega arith)
@@ -33,11 +33,9 @@ get-added_most zero i (suc j) (a ∷ s) w l = let e = get_or_append_left s w 0 j
 get-added_most (suc t) i zero (a ∷ s) w l = omega arith
 get-added_most (suc t) i (suc j) (a ∷ s) w l = get-added_most t i j s w (omega arith)
 
--- ---- rows that leave a number of the sum too small to reach that of the bound
-
 -- let f be 0 at each sum in which some number, plus m, is less than the number of the bound at the same index (`VanishesBelow`). If t ≤ j, and the
--- number at the index j, plus m, is less than that of the bound, then the sum `filled` over letters up to t is 0, since these letters do not change
--- this number
+-- number at the index j, plus m, is less than that of the bound, then `filled` for letters up to t is 0, since these letters do not change this
+-- number
 below_fixed : (kept : Bool) (n out t k m j : ℕ) (above bound : List ℕ) (f : List ℕ → List ℕ → ℕ) (s : List ℕ) → VanishesBelow n m bound f → t ≤ j → j < n → n ≤ length s
     → j < length bound → get_or s j 0 + m < get_or bound j 0 → filled kept n out t k above f s ≡ 0
 below_fixed kept n out zero k m j above bound f s v h l g b q = v (take n s) (drop n s) j (length-take-le n s g) b (let e = get_or-take n s j 0 l in omega arith)
@@ -48,8 +46,6 @@ below_fixed kept n out (suc t) k m j above bound f s v h l g b q =
     let d = get-added_other t (k - left) j s (mark kept left) (omega arith) (omega arith) in
     below_fixed kept n out t left m j (drop 1 above) bound f (added t (k - left) s ++ mark kept left) v (omega arith) l (omega arith) b (omega arith))
 
--- let f be 0 at each sum in which some number, plus m, is less than the number of the bound at the same index (`VanishesBelow`). If the number at the
--- index j, plus m and the k - out cells of the row, is less than that of the bound, then the sum `filled` is 0
 below_filled : (kept : Bool) (n out t k m j : ℕ) (above bound : List ℕ) (f : List ℕ → List ℕ → ℕ) (s : List ℕ) → VanishesBelow n m bound f → j < n → n ≤ length s → j < length bound
     → get_or s j 0 + (m + (k - out)) < get_or bound j 0 → filled kept n out t k above f s ≡ 0
 below_filled kept n out zero k m j above bound f s v l g b q = v (take n s) (drop n s) j (length-take-le n s g) b (let e = get_or-take n s j 0 l in omega arith)
@@ -75,13 +71,9 @@ below_rows n [] inner bound F l v = v
 below_rows n (a ∷ outer) inner bound F l v =
     below_row n (nat_lt 0 (length outer)) (part inner 1) a (cell_count outer (drop 1 inner)) bound (over_rows n outer (drop 1 inner) F) l (below_rows n outer (drop 1 inner) bound F l v)
 
--- `VanishesBelow` holds for the empty bound and every f
 pub none_below : (n m : ℕ) (f : List ℕ → List ℕ → ℕ) → VanishesBelow n m [] f
 none_below n m f ν right j e b h = absurd (omega arith)
 
--- ---- the greatest numbers of places with letters up to t for which the bound can still be reached
-
--- if X is 0 at the last d of the a + d numbers from low on, the sum of X over all of them is that over the first a
 numbers-cut : (X : ℕ → ℕ) (low a d : ℕ) → ((x : ℕ) → low + a ≤ x → x < low + a + d → X x ≡ 0) → sum_by X (numbers_from low (a + d)) ≡ sum_by X (numbers_from low a)
 numbers-cut X low zero d none = numbers-zero X low (0 + d) (λ x g h. none x (omega arith) (omega arith))
 numbers-cut X low (suc a) d none =
@@ -89,8 +81,9 @@ numbers-cut X low (suc a) d none =
     ap (λ k. sum_by X (numbers_from low k)) e
     ∙ ap (λ y. X low + y) (numbers-cut X (low + 1) a d (λ x g h. none x (omega arith) (omega arith)))
 
--- let f be 0 at each sum in which some number, plus m, is less than the number of the bound at the same index (`VanishesBelow`). The sum over x, the
--- number of places that are left for letters up to t, may be restricted to x < end, since for x ≥ end the number at the index t stays too small
+-- let f be 0 at each sum in which some number, plus m, is less than the number of the bound at the same index (`VanishesBelow`). In the recursion of
+-- `filled`, the number x of places that are left for letters up to t may be restricted to x < end: for x ≥ end the number at the index t stays too
+-- small
 pub bounded_end : (kept : Bool) (n out t k m : ℕ) (above bound : List ℕ) (f : List ℕ → List ℕ → ℕ) (s : List ℕ) (low most end : ℕ) → VanishesBelow n m bound f → out ≤ k → t < n → n ≤ length s
     → most ≡ most_left out t k above
     → end ≡ min (cond (nat_lt t (length bound)) ((k + 1) - ((get_or bound t 0 - get_or s t 0) - m)) (k + 1)) (most + 1)
@@ -116,8 +109,6 @@ bounded_end kept n out t k m above bound f s low most end v o l g is e =
         let c = ap (λ u. cond {A = ℕ} u ((k + 1) - ((get_or bound t 0 - get_or s t 0) - m)) (k + 1)) (le-ltb t (length bound) b) in
         absurd (omega arith)
 
--- ---- the number of cells of the rows from a given row on
-
 pub cells_front : (row : ℕ) (outer inner : List ℕ) → row < length outer
     → cell_count (drop row outer) (drop row inner) ≡ cell_count (drop (row + 1) outer) (drop (row + 1) inner) + (get_or outer row 0 - get_or inner row 0)
 cells_front row [] inner l = absurd (omega arith)
@@ -136,7 +127,4 @@ cells_front (suc row) (a ∷ outer) [] l =
     nothing' : (k : ℕ) → drop {A = ℕ} k [] ≡ []
     nothing' zero = refl
     nothing' (suc k) = refl
-cells_front (suc row) (a ∷ outer) (b ∷ inner) l =
-    let e : suc row + 1 ≡ suc (row + 1) = omega arith in
-    cells_front row outer inner (omega arith)
-    ∙ ap (λ k. cell_count (drop k (a ∷ outer)) (drop k (b ∷ inner)) + (get_or outer row 0 - get_or inner row 0)) (sym e)
+cells_front (suc row) (a ∷ outer) (b ∷ inner) l = search (rules, (cells_front row outer inner (omega arith)))

@@ -1,6 +1,7 @@
--- The loop of `with_rows`: its start, and one pass, in which one row of the shape is added.
-use Rattle.std.proofs.Common.{◌≡◌, ℕ, zero, suc, ◌+◌, ◌-◌, ◌*◌, ◌<◌, ◌≤◌, ◌⊎◌, inl, inr, nat_lt, Bool, true, List, [], ◌∷◌, length, take, drop, get_or, nat_abs, refl, sym, ap, ap₂, subst, ◌∙◌, arith}
-use Rattle.std.proofs.lemmas.Bool.{cases_lt, lt-ltb, le-ltb}
+-- The loop of `with_rows`: its start, and one pass, in which one row of the shape is added. The loop works on a table of states with counts; a
+-- *state* is a *sum*, which is a list of n numbers, followed by a description of the row added last.
+use Rattle.std.proofs.Common.{◌≡◌, ℕ, zero, suc, ◌+◌, ◌-◌, ◌*◌, ◌<◌, ◌≤◌, nat_lt, Bool, true, List, [], ◌∷◌, length, take, drop, get_or, nat_abs, refl, sym, ap, ap₂, subst, ◌∙◌, arith, rules}
+use Rattle.std.proofs.lemmas.Bool.{lt-ltb}
 use Rattle.sym_model.specs.Partition.{Falls, size, part}
 use Rattle.sym_model.specs.Schur.{contains}
 use Rattle.sym_model.specs.WholeTerms.{WholeTerms}
@@ -19,8 +20,6 @@ use Rattle.std.proofs.lemmas.List.{drop_all}
 use Rattle.sym_model.proofs.Lists.{drop-none}
 use Rattle.sym_model.proofs.Parts.{size-drop}
 use Rattle.std.proofs.Math.Seq.{drop-nil}
-
--- ---- the sums by rows and by columns are equal for starts, that is, for states with no row or column added yet (`begun` is 0)
 
 fresh_tells : (ν right : List ℕ) → begun ν right ≡ 0 → right ≡ []
 fresh_tells ν [] e = refl
@@ -55,11 +54,7 @@ nothing zero = refl
 nothing (suc k) = refl
 
 later : (row m : ℕ) → nat_lt (row + 1) m ≡ nat_lt (suc row + 1) (suc m)
-later row m = by (cases_lt (row + 1) m)
-  where
-    by : (row + 1 < m) ⊎ (m ≤ row + 1) → nat_lt (row + 1) m ≡ nat_lt (suc row + 1) (suc m)
-    by (inl l) = lt-ltb (row + 1) m l ∙ sym (lt-ltb (suc row + 1) (suc m) (omega arith))
-    by (inr l) = le-ltb (row + 1) m l ∙ sym (le-ltb (suc row + 1) (suc m) (omega arith))
+later row m = search rules
 
 has_more : (o : List ℕ) → nat_lt 0 (length o) ≡ nat_lt 1 (suc (length o))
 has_more [] = refl
@@ -91,7 +86,8 @@ size_front row [] l = absurd (omega arith)
 size_front zero (a ∷ outer) l = ap (λ o. a + size o) (sym (drop-none outer))
 size_front (suc row) (a ∷ outer) l = let e : suc row + 1 ≡ suc (row + 1) = omega arith in size_front row outer (omega arith) ∙ ap (λ k. get_or outer row 0 + size (drop k (a ∷ outer))) (sym e)
 
--- there is room for a row of a - b cells: b ≤ a ≤ 4096, and the states of positive count have sums of size at most 4096 - (a - b)
+-- a row of a - b cells can be added without a sum of size over 4096: b ≤ a ≤ 4096, and the states of positive count have sums of size at most
+-- 4096 - (a - b)
 pub record RowRoom (n row a b : ℕ) (es : List (List ℕ × ℕ)) : Type 0 where
   pub cells : b ≤ a
   pub short : a ≤ 4096
@@ -99,22 +95,12 @@ pub record RowRoom (n row a b : ℕ) (es : List (List ℕ × ℕ)) : Type 0 wher
 
 pub row_room : (n row : ℕ) (outer inner : List ℕ) (es : List (List ℕ × ℕ)) → row < length outer → contains outer inner ≡ true → size outer ≤ 4096
     → weighed n (unreached n (4096 - size (drop row outer))) es ≡ 0 → RowRoom n row (get_or outer row 0) (get_or inner row 0) es
-row_room n row outer inner es l holds room z =
-    let f = size_front row outer l in
-    let d = size-drop row outer in
-    record {
-      cells = contains_places outer inner holds row;
-      short = omega arith;
-      reached = weighed-weaker n (4096 - size (drop row outer)) (4096 - (get_or outer row 0 - get_or inner row 0)) es (omega arith) z;
-    }
+row_room n row outer inner es l holds room z = search (rules, size_front, size-drop, contains_places, weighed-weaker)
 
 pub row_reached : (n row : ℕ) (outer inner : List ℕ) (new : List (List ℕ × ℕ)) → row < length outer → size outer ≤ 4096
     → weighed n (unreached n (4096 - size (drop row outer) + (get_or outer row 0 - get_or inner row 0))) new ≡ 0
     → weighed n (unreached n (4096 - size (drop (row + 1) outer))) new ≡ 0
-row_reached n row outer inner new l room z =
-    let f = size_front row outer l in
-    let d = size-drop row outer in
-    weighed-weaker n (4096 - size (drop row outer) + (get_or outer row 0 - get_or inner row 0)) (4096 - size (drop (row + 1) outer)) new (omega arith) z
+row_reached n row outer inner new l room z = search (rules, size_front, size-drop, weighed-weaker)
 
 pub row_counts : (n row : ℕ) (outer inner bound : List ℕ) (starts es new : List (List ℕ × ℕ)) (a b later : ℕ) (kept : Bool) → row < length outer → length bound ≤ n
     → a ≡ get_or outer row 0 → b ≡ get_or inner row 0 → kept ≡ nat_lt (row + 1) (length outer)

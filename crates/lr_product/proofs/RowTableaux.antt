@@ -1,5 +1,7 @@
--- The test for good tableaux by rows gives the same result as that by columns.
-use Rattle.std.proofs.Common.{◌≡◌, ℕ, zero, suc, ◌+◌, ◌-◌, ◌<◌, ◌≤◌, ◌⊎◌, inl, inr, nat_le, Bool, true, ◌&&◌, List, [], ◌∷◌, map, length, drop, get_or, refl, sym, ap, ap₂, subst, ◌∙◌, arith}
+-- The test for good tableaux by rows gives the same result as that by columns. A tableau is good for ν if, for each k, ν plus the content of its
+-- last k columns is weakly decreasing. Here a row is described by a list of numbers (`above`): for t = n - 1, n - 2, .., 0, the number of letters of
+-- the row that are at most t.
+use Rattle.std.proofs.Common.{◌≡◌, ℕ, zero, suc, ◌+◌, ◌-◌, ◌<◌, ◌≤◌, ◌⊎◌, inl, inr, nat_le, Bool, true, ◌&&◌, List, [], ◌∷◌, map, length, drop, get_or, refl, sym, ap, ap₂, subst, ◌∙◌, arith, rules}
 use Rattle.std.proofs.lemmas.Bool.{cases_lt, le-leb, leb-true, and_parts, and_from}
 use Rattle.std.proofs.lemmas.List.{get_or_past, length-map}
 use Rattle.sym_model.specs.Partition.{Falls, without_last_zeros}
@@ -34,7 +36,7 @@ abbrev pub rows_test : ℕ → List ℕ → List ℕ → List (List ℕ) → Boo
 rows_test n ν above [] = true
 rows_test n ν above (w ∷ P) = (is_chain nat_le w && row_test n ν above w) && rows_test n (join ν (content n w)) (places_down n 0 w) P
 
--- ---- the numbers of ν plus the content of a row
+-- ---- comparing ν plus the letters of the first rows of a tableau P, entry by entry
 
 -- for all k and r, ν_(k+1) plus the number of letters k + 2 in the rows 0, .., r of P is at most ν_k plus the number of letters k + 1 in the rows 0,
 -- .., r - 1
@@ -46,15 +48,8 @@ Compares ν P =
 abbrev HasLetters : ℕ → List (List ℕ) → Type 0
 HasLetters n P = (r k : ℕ) → n < k → times_in k (row P r) ≡ 0
 
--- if w has no letter greater than n, the number at the index k of ν plus the content of w is ν_k plus the number of letters k + 1 in w
 sum_with : (n : ℕ) (ν w : List ℕ) → ((k : ℕ) → n < k → times_in k w ≡ 0) → (k : ℕ) → get_or (join ν (content n w)) k 0 ≡ get_or ν k 0 + times_in (suc k) w
-sum_with n ν w h k = get_or-join ν (content n w) k ∙ ap (λ x. get_or ν k 0 + x) (by (cases_lt k n))
-  where
-    by : (k < n) ⊎ (n ≤ k) → get_or (content n w) k 0 ≡ times_in (suc k) w
-    by (inl l) = at_content n k w l
-    by (inr l) = let e = length_content n w in get_or_past (content n w) k 0 (omega arith) ∙ sym (h (suc k) (omega arith))
-
--- ---- the test `row_test` of one row
+sum_with n ν w h k = search (rules, get_or-join, cases_lt, at_content, length_content, get_or_past)
 
 strip_back : (t : ℕ) (ν : List ℕ) (i : ℕ) → ((k : ℕ) → t ≡ suc k → get_or ν (suc k) 0 + i ≤ get_or ν k 0) → strip_at t ν i ≡ true
 strip_back zero ν i h = refl
@@ -113,7 +108,6 @@ row_tells (suc t) ν above w e =
         let i : k ≡ t' = omega arith in
         subst (λ j. get_or ν (suc j) 0 + times_in (suc (suc j)) w ≤ get_or ν j 0) (sym i) (leb-true (get_or ν (suc t') 0 + times_in (suc (suc t')) w) (get_or ν t' 0) q)
 
--- for i < d, the entry of `places_down d 0 w` at the index d - 1 - i is the number of letters of w up to i
 drop_places : (d i : ℕ) (x : ℕ) (w : List ℕ) → i < d → may_precede nat_le x (drop (d - suc i) (places_down d 0 w)) ≡ nat_le x (up_to_letter i w)
 drop_places zero i x w l = absurd (omega arith)
 drop_places (suc d) i x w l = by (cases_lt i d) (λ h. drop_places d i x w h)
@@ -127,14 +121,13 @@ drop_places (suc d) i x w l = by (cases_lt i d) (λ h. drop_places d i x w h)
         let z : 0 + d ≡ i = omega arith in
         ap (λ k. may_precede nat_le x (drop k (places_down (suc d) 0 w))) e ∙ ap (λ k. nat_le x (up_to_letter k w)) z
 
--- if there is no row above, any number of places is allowed
 drop_nothing : (k x : ℕ) → may_precede nat_le x (drop k []) ≡ true
 drop_nothing zero x = refl
 drop_nothing (suc k) x = refl
 
 -- ---- the test of all rows of a filling
 
--- the first row of P fits below the row described by `above`, if there is one
+-- the first row of P fits below the row described by `above`; always true if `above` is empty
 abbrev FirstBelow : ℕ → List ℕ → List (List ℕ) → Type 0
 FirstBelow n above P = (j : ℕ) → j < n → may_precede nat_le (up_to_letter (suc j) (row P 0)) (drop (n - suc j) above) ≡ true
 

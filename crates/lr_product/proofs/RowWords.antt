@@ -1,4 +1,5 @@
--- Rows as weakly increasing words, and the sum over all rows computed letter by letter, from the greatest letter down.
+-- Rows as weakly increasing words, and the sum over all rows computed letter by letter, from the greatest letter down. The row above is described by
+-- a list `above`: the numbers of its letters that are at most n - 1, n - 2, .., 0.
 use Rattle.std.proofs.Common.{◌≡◌, ℕ, zero, suc, ◌+◌, ◌-◌, ◌<◌, ◌≤◌, nat_le, Bool, true, false, cond, ◌&&◌, ◌==◌, List, [], ◌∷◌, ◌++◌, map, length, replicate, take, drop, get_or, refl, sym, ap, ap₂, subst, ◌∙◌, arith, ℤ, pos, ◌+ℤ◌, append_assoc, append-nil}
 use Rattle.std.proofs.lemmas.Bool.Decides.{nat_tests}
 use Rattle.std.proofs.lemmas.Bool.{le-leb, lt-leb, and_right}
@@ -58,8 +59,6 @@ up_to-padded k b w = let e = up_to-append k (replicate b 0) w in let f = up_to-r
 times-padded : (k b : ℕ) (w : List ℕ) → 0 < k → times_in k (padded b w) ≡ times_in k w
 times-padded k b w l = let e = times_in-append k (replicate b 0) w in let f = times_in-zeros k b l in omega arith
 
--- ---- the numbers of places of a row with letters up to t, for each t
-
 -- for each of the letters t + d - 1, t + d - 2, .., t, the number of letters of w that are at most this letter
 abbrev pub places_down : ℕ → ℕ → List ℕ → List ℕ
 places_down zero t w = []
@@ -91,7 +90,7 @@ counts-content : (d t : ℕ) (w : List ℕ) → map (λ k. times_in k w) (after 
 counts-content zero t w = refl
 counts-content (suc d) t w = let e : t + 1 ≡ suc t = omega arith in ap₂ ◌∷◌ (ap (λ k. times_in k w) e) (ap (λ k. map (λ j. times_in j w) (after k d)) e ∙ counts-content d (suc t) w)
 
--- ---- the state while a row is filled
+-- ---- the state while a row is filled: the sum reached, and the numbers of places that are left
 
 -- the list ν with the numbers of κ added to those of ν from the index t on
 abbrev joined : ℕ → List ℕ → List ℕ → List ℕ
@@ -116,8 +115,6 @@ joined-none (a ∷ ν) = ap (λ s. a ∷ s) (joined-none ν)
 
 at-parts : (n : ℕ) (f : List ℕ → List ℕ → ℕ) (s w : List ℕ) → length s ≡ n → at_state n f (s ++ w) ≡ f s w
 at-parts n f s w e = ap₂ f (ap (λ k. take k (s ++ w)) (sym e) ∙ take-append_seam s w) (ap (λ k. drop k (s ++ w)) (sym e) ∙ drop-append_seam s w)
-
--- ---- the test of a row
 
 -- whether i letters t + 1 may be added to ν as a part of a horizontal strip: ν_t + i ≤ ν_(t-1) (always true for t = 0)
 abbrev pub strip_at : ℕ → List ℕ → ℕ → Bool
@@ -149,7 +146,6 @@ pos-tests true true r x = refl
 pos-tests true false r x = refl
 pos-tests false q r x = refl
 
--- the sum of x(i) over i = m, .., 0 is the sum of x(b + m - left) over left = b, .., b + m
 down-numbers : (b m : ℕ) (x : ℕ → ℕ) → total (λ (i : ℕ). pos (x i)) (down_from m) ≡ pos (sum_by (λ left. x (b + m - left)) (numbers_from b (m + 1)))
 down-numbers b zero x = let e : b + 0 - b ≡ 0 = omega arith in ap (λ i. pos (x i + 0)) (sym e)
 down-numbers b (suc m) x =
@@ -168,16 +164,13 @@ sum-tested false x low (suc k) = let e = sum-tested false x (low + 1) k in let z
 -- ---- the sum over all rows, from the greatest letter down
 
 module _ (n b : ℕ) (kept : Bool) (f : List ℕ → List ℕ → ℕ) (ν : List ℕ) (long : length ν ≡ n) (falls : (i : ℕ) → get_or ν (suc i) 0 ≤ get_or ν i 0) where
-  -- f applied to ν plus the content of w and, if the row is kept, to the numbers that describe w, otherwise to the empty list
+  -- f(ν + content(w), r); here r describes the row w (`kept_row`) if the row is kept, and is the empty list otherwise
   value : List ℕ → ℕ
   value w = f (join ν (content n w)) (kept_row kept n 0 w)
 
-  -- the state after the letters greater than t (d of them, t + 1, .., t + d) have been placed as the word `tail`, while k places are left for letters
-  -- up to t
   state : ℕ → ℕ → ℕ → List ℕ → List ℕ
   state d t k tail = joined t ν (counts d t tail) ++ kept_row kept d t (padded k tail)
 
-  -- if left + i = k, adding i letters t + 1 to the state with k places left gives the state with `left` places left
   state-next : (d t left i k : ℕ) (tail : List ℕ) → t < n → left + i ≡ k → up_to_letter (suc t) tail ≡ 0
       → added t i (state d (suc t) k tail) ++ mark kept left ≡ state (suc d) t left (replicate i (suc t) ++ tail)
   unfolding state
@@ -221,8 +214,6 @@ module _ (n b : ℕ) (kept : Bool) (f : List ℕ → List ℕ → ℕ) (ν : Lis
           ap₂ (λ (m : List ℕ) (x : ℕ). m ++ (x ∷ [])) (places-ext d (suc t) (padded k tail) (padded left (replicate i (suc t) ++ tail)) after_t) (sym at_t)
           ∙ sym (places-last d t (padded left (replicate i (suc t) ++ tail)))
 
-  -- whether k - left letters t + 1 may be added to ν, and a row in which `left` of the k places then remain for letters up to t is allowed below the
-  -- row described by `above`
   may_leave : ℕ → ℕ → List ℕ → ℕ → Bool
   may_leave t k above left = strip_at t ν (k - left) && some_row t b (left - b) above
 
@@ -271,8 +262,6 @@ module _ (n b : ℕ) (kept : Bool) (f : List ℕ → List ℕ → ℕ) (ν : Lis
           by [] z = absurd (omega arith)
           by (a ∷ r) z = lt-leb (b + (x - b)) a (omega arith)
 
-  -- the sum over the rows that pass `row_test` and consist of b zeros, m letters up to t, and the letters `tail`, is the sum `filled` from the state
-  -- in which `tail` has been placed
   row_sum : (t d m : ℕ) (tail above : List ℕ) → t + d ≡ n → up_to_letter t tail ≡ 0
       → over_rising t m (λ v. cond (row_test t ν above (padded b (v ++ tail))) (pos (value (padded b (v ++ tail)))) (pos 0))
       ≡ pos (cond (some_row t b m above) (filled kept n b t (b + m) (drop 1 above) f (state d t (b + m) tail)) 0)

@@ -1,20 +1,17 @@
--- The loop of `with_column`: one more column added to each entry of a table.
-use Rattle.std.proofs.Common.{◌≡◌, ℕ, zero, suc, ◌+◌, ◌*◌, ◌^◌, ◌<◌, ◌≤◌, ◌⊎◌, inl, inr, ◌==◌, nat_le, Bool, true, false, ◌&&◌, cond, List, [], ◌∷◌, length, take, drop, refl, sym, ap, ap₂, ◌∙◌, arith}
+-- The loop of `with_column`, which adds one more column in all ways to each entry of a table. An entry is a state with its count, and a state is a
+-- sum, which is a list of n numbers, followed by the column added last.
+use Rattle.std.proofs.Common.{◌≡◌, ℕ, zero, suc, ◌+◌, ◌*◌, ◌<◌, ◌≤◌, Bool, true, ◌&&◌, cond, List, [], ◌∷◌, length, take, drop, refl, sym, ap, ◌∙◌, arith, rules}
 use Rattle.std.specs.Prelude.{Some, slice_get}
-use Rattle.std.proofs.lemmas.Bool.{leb-true, eqb-true, cases_lt}
 use Rattle.sym_model.specs.Partition.{size}
 use Rattle.sym_model.specs.GoodTableau.{is_falling}
 use Rattle.lr_product.specs.WeighedSum.{at_state, weighed, unreached}
 use Rattle.lr_product.specs.Capped.{Agree}
 use Rattle.lr_product.proofs.Agreeing.{agree_same, agree_then, agree_sum, agree_times}
-use Rattle.sym_model.proofs.Lists.{drop-none}
 
 pub weighed-drop : (n : ℕ) (g : List ℕ → List ℕ → ℕ) (es : List (List ℕ × ℕ)) (i : ℕ) (p : List ℕ × ℕ) → slice_get es i ≡ Some p
     → weighed n g (drop i es) ≡ p.1 * at_state n g p.0 + weighed n g (drop (i + 1) es)
 weighed-drop n g [] i p h = cc
-weighed-drop n g (e ∷ es) zero p h =
-    let here : e ≡ p = cc in
-    ap₂ (λ (x : List ℕ × ℕ) (ds : List (List ℕ × ℕ)). x.1 * at_state n g x.0 + weighed n g ds) here (sym (drop-none es))
+weighed-drop n g (e ∷ es) zero p h = search rules
 weighed-drop n g (e ∷ es) (suc i) p h =
     let k : suc i + 1 ≡ suc (i + 1) = omega arith in
     weighed-drop n g es i p h ∙ ap (λ j. p.1 * at_state n g p.0 + weighed n g (drop j (e ∷ es))) (sym k)
@@ -26,9 +23,7 @@ positive_factor (suc w) (suc x) h e = absurd (omega arith)
 
 pub weighed-none : (n : ℕ) (g : List ℕ → List ℕ → ℕ) (es : List (List ℕ × ℕ)) (i : ℕ) (key : List ℕ) (w : ℕ) → weighed n g es ≡ 0 → slice_get es i ≡ Some (key, w) → 0 < w → at_state n g key ≡ 0
 weighed-none n g [] i key w z h l = cc
-weighed-none n g (e ∷ es) zero key w z h l =
-    let here : e ≡ (key, w) = cc in
-    positive_factor w (at_state n g key) l (ap (λ (x : List ℕ × ℕ). x.1 * at_state n g x.0) (sym here) ∙ (let q : e.1 * at_state n g e.0 ≡ 0 = omega arith in q))
+weighed-none n g (e ∷ es) zero key w z h l = search (rules, positive_factor)
 weighed-none n g (e ∷ es) (suc i) key w z h l = weighed-none n g es i key w (omega arith) h l
 
 -- 0 if p, q and r are true, otherwise 1
@@ -42,13 +37,7 @@ pub record IsReached (n m : ℕ) (ν : List ℕ) : Type 0 where
   pub falls : is_falling ν ≡ true
 
 pub reached-tells : (n m : ℕ) (ν right : List ℕ) → unreached n m ν right ≡ 0 → IsReached n m ν
-reached-tells n m ν right h = by (length ν == n) (nat_le (size ν) m) (is_falling ν) refl refl refl h
-  where
-    by : (p q r : Bool) → (length ν == n) ≡ p → nat_le (size ν) m ≡ q → is_falling ν ≡ r → no_of p q r ≡ 0 → IsReached n m ν
-    by true true true e d g k = record { long = eqb-true (length ν) n e; small = leb-true (size ν) m d; falls = g }
-    by true true false e d g k = absurd (omega arith)
-    by true false r e d g k = absurd (omega arith)
-    by false q r e d g k = absurd (omega arith)
+reached-tells n m ν right h = search rules
 
 pub agree_entry : (now next rest all rest' ways counted x : ℕ) → Agree (now + rest) all → rest ≡ ways * x + rest' → Agree counted ways → Agree next (now + counted * x) → Agree (next + rest') all
 agree_entry now next rest all rest' ways counted x p e a q =
@@ -63,11 +52,7 @@ length_taken (suc n) (a ∷ s) h = let i = length_taken n s (omega arith) in ome
 
 pub agree_positive : (a w : ℕ) → Agree a w → 0 < a → 0 < w
 agree_positive a (suc w) p h = omega arith
-agree_positive a zero p h = by (cases_lt a (2 ^ 127))
-  where
-    by : (a < 2 ^ 127) ⊎ (2 ^ 127 ≤ a) → 0 < 0
-    by (inl l) = let e = p.below l in omega arith
-    by (inr l) = let e = p.past l in omega arith
+agree_positive a zero p h = search rules
 
 pub weighed-past : (n : ℕ) (g : List ℕ → List ℕ → ℕ) (es : List (List ℕ × ℕ)) (i : ℕ) → length es ≤ i → weighed n g (drop i es) ≡ 0
 weighed-past n g [] zero h = refl

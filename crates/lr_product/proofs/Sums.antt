@@ -1,5 +1,6 @@
--- The count of one partition in a table, and the counts of products.
-use Rattle.std.proofs.Common.{◌≡◌, ℕ, zero, suc, ◌+◌, ◌*◌, ◌^◌, ◌<◌, ◌≤◌, ◌==◌, ◌⊎◌, inl, inr, nat_le, Bool, true, false, cond, ◌&&◌, List, [], ◌∷◌, min, length, take, get_or, refl, sym, ap, ap₂, ◌∙◌, arith, pos}
+-- A *state* is a *sum*, which is a list of numbers, followed by the column added last. The count of one partition in a table of states with counts,
+-- that is, the total count of the states whose sum is this partition (with zeros added at its end); and the counts of products.
+use Rattle.std.proofs.Common.{◌≡◌, ℕ, zero, suc, ◌+◌, ◌*◌, ◌^◌, ◌<◌, ◌≤◌, ◌==◌, ◌⊎◌, inl, inr, nat_le, Bool, true, false, cond, ◌&&◌, List, [], ◌∷◌, min, length, take, get_or, refl, sym, ap, ap₂, ◌∙◌, arith, pos, rules}
 use Rattle.std.specs.Prelude.{nat_eq}
 use Rattle.std.specs.Cmp.Lexicographic.{pointwise}
 use Rattle.std.proofs.lemmas.Bool.{ne_eqb, le-leb, cases_lt, and_right}
@@ -15,7 +16,6 @@ use Rattle.lr_product.specs.WeighedSum.{at_state, weighed, over_states, comes_to
 use Rattle.lr_product.specs.RowExtension.{VanishesBelow}
 use Rattle.lr_product.specs.Capped.{Agree}
 use Rattle.lr_product.proofs.Agreeing.{agree_same, agree_then}
-use Rattle.lr_product.proofs.Steps.{agree_entry}
 use Rattle.lr_product.proofs.ColumnsOfCounts.{over-states, over-ext}
 use Rattle.sym_model.proofs.Numbers.{second_false}
 use Rattle.sym_model.proofs.Integers.{pos-cond}
@@ -25,13 +25,7 @@ same-whole [] [] h p = refl
 same-whole [] (b ∷ ν) h p = refl
 same-whole (a ∷ s) [] h p = absurd (omega arith)
 same-whole (suc a ∷ s) (b ∷ ν) h p = ap (λ t. (suc a == b) && t) (same-whole s ν (omega arith) p.1)
-same-whole (zero ∷ s) (b ∷ ν) h p =
-    let n = ne_eqb 0 b (λ e. let q = p.0 in absurd (omega arith)) in
-    ap (λ t. t && pointwise nat_eq s ν) n ∙ sym (by (without_last_zeros s) n)
-  where
-    by : (l : List ℕ) → (0 == b) ≡ false → same (in_front 0 l) (b ∷ ν) ≡ false
-    by [] n = refl
-    by (x ∷ l) n = ap (λ t. t && same (x ∷ l) ν) n
+same-whole (zero ∷ s) (b ∷ ν) h p = search rules
 
 pub length_take : (n : ℕ) (s : List ℕ) → length (take n s) ≤ n
 length_take zero [] = omega arith
@@ -53,9 +47,7 @@ agree_skipped now rest all rest' ways x p e z = agree_then _ _ _ (agree_same _ (
 
 pub agree_counted : (now rest all rest' ways x saturated next : ℕ) → Agree (now + rest) all → rest ≡ ways * x + rest' → x ≡ 1
     → saturated ≡ min (now + ways) 340282366920938463463374607431768211455 → Agree next saturated → Agree (next + rest') all
-agree_counted now rest all rest' ways x saturated next p e o s a =
-    agree_entry now next rest all rest' ways ways x p e (agree_same ways ways refl)
-    (agree_then _ _ _ a (record { below = λ h. let q = ap (λ y. ways * y) o in omega arith; past = λ h. let q = ap (λ y. ways * y) o in omega arith }))
+agree_counted now rest all rest' ways x saturated next p e o s a = search rules
 
 in_front-rest : (a : ℕ) (l : List ℕ) (b : ℕ) (outer : List ℕ) → same l outer ≡ false → same (in_front a l) (b ∷ outer) ≡ false
 in_front-rest zero [] b outer e = refl
@@ -80,7 +72,6 @@ comes-inside outer ν right h = ap (λ t. cond t 1 0) (by_places ν outer h)
         split (inl l) rec = front a (without_last_zeros ν') b outer' l
         split (inr l) rec = in_front-rest a (without_last_zeros ν') b outer' (rec (second_false (nat_le a b) (le-leb a b l) g))
 
--- if some number of a sum is less than the part of `outer` at the same index, the sum without the zeros at its end is not `outer`
 comes-below : (n : ℕ) (outer : List ℕ) → VanishesBelow n 0 outer (comes_to outer)
 comes-below n outer ν right j e h g = ap (λ t. cond t 1 0) (short ν outer j h (omega arith))
   where
@@ -95,8 +86,8 @@ comes-below n outer ν right j e h g = ap (λ t. cond t 1 0) (short ν outer j h
     short (a ∷ ν') (b ∷ outer') zero l q = first a (without_last_zeros ν') b outer' q
     short (a ∷ ν') (b ∷ outer') (suc i) l q = in_front-rest a (without_last_zeros ν') b outer' (short ν' outer' i (omega arith) q)
 
--- if inner lies inside outer, the number of ways to reach the sum `content` from the empty start by the columns of outer/inner is the count of outer
--- in the product of inner and content
+-- if inner lies inside outer, the number of ways to reach the sum `content` from the empty start by the columns of outer/inner is the coefficient of
+-- outer in the product of inner and content
 pub states-shape : (inner content outer : List ℕ) → IsPartition inner → IsPartition content → IsPartition outer → contains outer inner ≡ true
     → over_states (rows content) (column_lines outer inner) (comes_to content) (resize (rows content) []) [] ≡ product_count (rows outer) inner content outer
 states-shape inner content outer p q r h =

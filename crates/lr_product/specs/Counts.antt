@@ -24,8 +24,8 @@ pub record IsPastSomewhere (n : ℕ) (count : List ℕ → ℕ) : Type 0 where
   pub within : rows parts ≤ n
   pub past : 2 ^ 127 ≤ count parts
 
--- each label of the terms occurs once, is a partition with at most k rows, and has a nonzero coefficient; and for each partition with at most k rows
--- the coefficient (0 if it is not a label) is its count
+-- The label of each term is a partition with at most k rows, no label occurs twice, and no coefficient is 0. The coefficient of each partition with
+-- at most k rows (0 if it is not a label) is given by `count`.
 pub record HasCounts (k : ℕ) (count : List ℕ → ℕ) (terms : WholeTerms) : Type 0 where
   pub table : IsCombination (pointwise nat_eq) is_label whole terms
   pub labels : (t : List ℕ × ℤ) → Among t terms → IsPartition t.0 × (rows t.0 ≤ k)

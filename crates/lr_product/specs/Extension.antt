@@ -40,8 +40,8 @@ abbrev pub mark : Bool → ℕ → List ℕ
 mark true b = b ∷ []
 mark false b = []
 
--- whether the number at the index i, raised by 1, is at most the number before it (if i > 0) and at most that of the bound at i (if the bound has
--- one)
+-- whether the number at the index i, raised by 1, is at most the number before it (if i > 0), and at most the number of `bound` at the index i (if
+-- there is one)
 abbrev pub can_rise : List ℕ → ℕ → List ℕ → Bool
 can_rise bound i numbers =
     ((i == 0) || nat_lt (slice_index numbers i) (slice_index numbers (i - 1)))

@@ -1,5 +1,6 @@
--- Good tableaux built row by row, from the first row on (Gelfand and Tsetlin). Places outside the shape have the letter 0. A state is a list: the sum
--- reached (n numbers), and then, for t = n - 1, n - 2, .., 0, the number of places with a letter of at most t in the row added last.
+-- Tableaux T that are good for a start (start plus the content of the last k columns of T is weakly decreasing for each k), built row by row, from
+-- the first row on (Gelfand and Tsetlin). Places outside the shape have the letter 0. A state is a list: the sum reached (n numbers), and then, for
+-- t = n - 1, n - 2, .., 0, the number of places with a letter of at most t in the row added last.
 use Rattle.std.specs.Prelude.{◌≡◌, ℕ, zero, suc, ◌+◌, ◌-◌, ◌<◌, nat_le, nat_lt, max, Bool, cond, List, []}
 use Rattle.std.specs.Prelude.{◌∷◌, ◌++◌, length, drop, get_or, slice_index}
 use Rattle.sym_model.specs.Sum.{sum_by}

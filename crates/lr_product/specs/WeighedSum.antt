@@ -41,7 +41,7 @@ over_states n (line ∷ lines) f ν right = over_states n lines (next_states n l
 abbrev pub unreached : ℕ → ℕ → List ℕ → List ℕ → ℕ
 unreached n m ν right = cond ((length ν == n) && (nat_le (size ν) m && is_falling ν)) 0 1
 
--- f is 0 at each sum in which some number is greater than that of the bound at the same index; the bound may be shorter than the sum
+-- f is 0 at each sum in which some number is greater than the number of `bound` at the same index; `bound` may be shorter than the sum
 abbrev pub VanishesOutside : List ℕ → (List ℕ → List ℕ → ℕ) → Type 0
 VanishesOutside bound f = (ν right : List ℕ) → pass_by_place nat_le ν bound ≡ false → f ν right ≡ 0
 

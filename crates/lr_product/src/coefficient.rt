@@ -1,4 +1,6 @@
-//! One coefficient of a product of two Schur polynomials.
+//! One coefficient of a product of two Schur polynomials, from a table of states with counts. A
+//! tableau is good for a partition, the start, if start plus the content of its last k columns is a
+//! partition for each k.
 ghost use Rattle.std.specs.Prelude.{◌≡◌, ℕ, ◌+◌, ◌^◌, ◌<◌, ◌≤◌, List, pos, length, take, nat_eq};
 ghost use Rattle.std.specs.Prelude.{IfOk, OnOk, IsErrOf};
 ghost use Rattle.std.specs.Cmp.Lexicographic.{pointwise};
@@ -93,8 +95,8 @@ fn count_inside(
     Ok(Int::new(count as i128))
 }
 
-/// The sum of the counts of those states of the table that begin with `parts`, or 2^127 if the sum
-/// is greater.
+/// The total count of those states of the table that begin with the numbers of `parts`, or 2^127 if
+/// it is greater.
 fn count_of(table: &States, parts: &[u16]) -> u128
     requires { ArePositive parts.now }
     ensures agrees { Agree result

@@ -1,5 +1,7 @@
 //! The columns of a shape added one by one to the states of a table, from the rightmost column to
-//! the leftmost.
+//! the leftmost. A state is a sum, that is, a start partition plus the content of the columns added
+//! so far, followed by the column added last; its count is the number of ways to reach it. A
+//! tableau is good for the start if the sum is a partition after each of its columns.
 ghost use Rattle.std.specs.Prelude.{◌≡◌, ℕ, ◌+◌, ◌-◌, ◌*◌, ◌^◌, ◌≤◌, true, List, [], length, IfOk};
 ghost use Rattle.std.specs.Prelude.{OnOk};
 ghost use Rattle.sym_model.specs.Partition.{IsPartition, size, rows};
@@ -52,8 +54,8 @@ pub(crate) fn ways_by_columns(
 }
 
 /// The table of the states reached from those of `starts` by adding all columns of outer/inner,
-/// with letters from 1 to `letters`. Its counts, capped at 2^127, are correct for the sums of which
-/// no number exceeds that of `bound` at the same index.
+/// with letters from 1 to `letters`. Its counts, capped at 2^127, are correct for the sums in which
+/// each number is at most the number of `bound` at the same index, if there is one.
 pub(crate) fn with_columns(
     alloc: Global,
     starts: States,

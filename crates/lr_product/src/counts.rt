@@ -1,4 +1,7 @@
-//! Counts of good tableaux, as lists of terms.
+//! Counts of good tableaux, as lists of terms. A tableau is good for a partition `start` if `start`
+//! plus the content of its last k columns is a partition for each k. A table has states: a state is
+//! such a sum, followed by the numbers of the column or row added last, and has a count, the number
+//! of ways to reach it.
 ghost use Rattle.std.specs.Prelude.{◌≡◌, ℕ, ◌+◌, ◌^◌, ◌<◌, ◌≤◌, ◌+ℤ◌, List, [], true, pos, length};
 ghost use Rattle.std.specs.Prelude.{nat_eq, IfOk, OnOk, IsErrOf};
 ghost use Rattle.std.specs.Cmp.Lexicographic.{pointwise};

@@ -1,4 +1,6 @@
-//! A column of a tableau filled letter by letter, from top to bottom.
+//! A column of a tableau filled letter by letter, from top to bottom. A state begins with the sum,
+//! which is the start partition plus the content of the letters so far: the letter b adds 1 to the
+//! entry b of the sum, counted from 1.
 ghost use Rattle.std.specs.Prelude.{◌≡◌, ℕ, ◌+◌, ◌*◌, ◌^◌, ◌≤◌, List, ◌∷◌, length, take};
 ghost use Rattle.std.specs.Prelude.{cond, true};
 ghost use Rattle.std.specs.Prelude.{OnOk};
@@ -28,11 +30,11 @@ pub(crate) struct Column {
     pub(crate) ways: u128,
 }
 
-/// Adds to the table the states reached by completing a column in all ways, like `extend`. Unlike
-/// `extend`, it computes the set `free` itself, and does not restore `state` at the end. `line` has
-/// the remaining places of the column, below the letter `above` and left of the column `right`. If
-/// the first place of `line` is a cell and the letter at the right of it is `above` + 1, then this
-/// is the only letter possible there, and it is placed at once.
+/// Adds to the table the states reached by completing a column in all ways: `line` has the
+/// remaining places of the column, below the letter `above` and left of the column `right`. If the
+/// first place of `line` is a cell and the letter at the right of it is `above` + 1, then this is
+/// the only letter possible there, and it is placed at once. Otherwise the function calls `extend`
+/// with the set of the letters that can be added to the sum. `state` is not restored at the end.
 pub(crate) fn extend_first(
     table: &mut Table,
     state: &mut Vec<u16>,

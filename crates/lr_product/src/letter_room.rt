@@ -8,9 +8,9 @@ ghost use Rattle.lr_product.specs.LetterRoom.{IsOverfull, MayHaveContent};
 
 use partitions::Partition;
 
-/// Whether the sizes, the containment of the shapes or the room for small letters show that
-/// outer/inner has no lattice tableau with this content. Exchanging `inner` and `content` does not
-/// change the number of these tableaux, so the test is made for both orders.
+/// Whether the sizes, the containment of the shapes, or too many small letters in the content show
+/// that outer/inner has no lattice tableau with this content. Exchanging `inner` and `content` does
+/// not change the number of these tableaux, so the test is made for both orders.
 pub(crate) fn has_no_room(outer: &Partition, inner: &Partition, content: &Partition) -> bool
     ensures none { IsTrue result
         → product_count (rows outer.now) inner.now content.now outer.now ≡ 0 }

@@ -1,4 +1,6 @@
-//! The letters that can be placed in a column, and their effect on a state.
+//! The letters that can be placed in a column, and their effect on a state. A state begins with a
+//! sum, a list of numbers; the letter b adds 1 to the entry b of the sum, counted from 1. A list
+//! `bound` has the greatest value that is allowed for each of the first numbers of the sum.
 ghost use Rattle.std.specs.Prelude.{◌≡◌, ◌+◌, ◌-◌, ◌^◌, ◌<◌, ◌≤◌, ◌==◌, ◌||◌, List, ℕ, true};
 ghost use Rattle.std.specs.Prelude.{◌++◌, ◌∷◌, false, nat_le, nat_lt};
 ghost use Rattle.std.specs.Prelude.{length, take, drop, slice_index, OnOk, IfOk, IfSome};

@@ -1,5 +1,7 @@
-//! A list of terms multiplied by one more factor. The table begins with one state for each label of
-//! the list, and the shape of the factor is filled from all these states at once.
+//! A list of terms multiplied by one more factor. The label of a term is a partition. A state of a
+//! table is a sum, which is a partition plus the content of letters, followed by the column or row
+//! added last. The table begins with one state for each label; then the shape of the factor is
+//! filled with letters in all ways, for all these states at once.
 ghost use Rattle.std.specs.Prelude.{◌≡◌, ℕ, ◌^◌, ◌≤◌, ℤ, pos, ◌≤ℤ◌, nat_eq, List, IfOk, OnOk};
 ghost use Rattle.std.specs.Prelude.{IsErrOf};
 ghost use Rattle.std.specs.Cmp.Lexicographic.{pointwise};

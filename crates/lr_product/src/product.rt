@@ -1,4 +1,5 @@
-//! The product of two Schur polynomials, expanded in Schur polynomials.
+//! The product of two Schur polynomials, expanded in Schur polynomials. A tableau is good for a
+//! partition, the start, if start plus the content of its last k columns is a partition for each k.
 ghost use Rattle.std.specs.Prelude.{◌≡◌, ◌+◌, ◌^◌, ◌<◌, ◌≤◌, ℕ, List, [], ◌∷◌, false, IfOk, OnOk};
 ghost use Rattle.std.specs.Prelude.{IfSome, IsErrOf};
 ghost use Rattle.std.specs.Option.{ForSome};

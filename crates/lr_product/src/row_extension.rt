@@ -1,4 +1,6 @@
-//! A row of a tableau filled letter by letter, from the greatest letter to the least.
+//! A row of a tableau filled letter by letter, from the greatest letter to the least. A state
+//! begins with the sum, which is the start partition plus the content of the letters so far: the
+//! letter b adds 1 to the entry b of the sum, counted from 1.
 ghost use Rattle.std.specs.Prelude.{◌≡◌, ℕ, ◌+◌, ◌-◌, ◌*◌, ◌^◌, ◌≤◌, List, length, take, cond, true};
 ghost use Rattle.std.specs.Prelude.{OnOk};
 ghost use Rattle.sym_model.specs.GoodTableau.{is_falling};

@@ -1,4 +1,6 @@
-//! Equal letters added to a row: their effect on a state, and bounds for their number.
+//! Equal letters added to a row: their effect on a state, and bounds for their number. A state
+//! begins with a sum, a list of numbers; a letter b adds 1 to the entry b of the sum, counted from
+//! 1.
 ghost use Rattle.std.specs.Prelude.{◌≡◌, ◌+◌, ◌-◌, ◌<◌, ◌≤◌, ◌==◌, List, ℕ, ◌++◌, cond, max};
 ghost use Rattle.std.specs.Prelude.{length, nat_lt, slice_index, OnOk, IfOk};
 ghost use Rattle.lr_product.specs.Extension.{mark};

@@ -1,4 +1,5 @@
-//! One more row added to each state of a table.
+//! One more row added to each state of a table. A state is the sum reached, a list of numbers,
+//! followed by numbers that describe the row added last.
 ghost use Rattle.std.specs.Prelude.{◌≡◌, ℕ, ◌+◌, ◌-◌, ◌*◌, ◌^◌, ◌<◌, ◌≤◌, List, length, take};
 ghost use Rattle.std.specs.Prelude.{cond, true, nat_le, OnOk, IfOk};
 ghost use Rattle.sym_model.specs.GoodTableau.{is_falling};
@@ -18,8 +19,8 @@ use std::alloc::Global;
 /// The table of the states reached from those of `table` by adding one row with letters up to
 /// `letters`. The row ends in column `end`, its first `outside` places are outside the shape, and
 /// the rows below it have `later` cells. New states keep the row if `is_kept`. The counts, capped
-/// at 2^127, are correct for the sums within `bound` whose numbers, raised by `later`, reach those
-/// of `bound`. Fails only if memory runs out.
+/// at 2^127, are correct for the sums in which, at each index of `bound`, the number is at most the
+/// number b of `bound` and at least b - `later`. Fails only if memory runs out.
 pub(crate) fn with_row(
     alloc: Global,
     table: &States,

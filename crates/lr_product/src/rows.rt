@@ -1,5 +1,6 @@
 //! The rows of a shape added one by one to the states of a table, from the first to the last, and
-//! the choice between filling a shape by rows and by columns.
+//! the choice between filling a shape by rows and by columns. A state begins with the sum reached,
+//! a list of numbers; its count is the number of ways to reach it.
 ghost use Rattle.std.specs.Prelude.{◌≡◌, ℕ, ◌+◌, ◌-◌, ◌≤◌, true, List, length, IfOk, OnOk};
 ghost use Rattle.sym_model.specs.Partition.{IsPartition, size};
 ghost use Rattle.sym_model.specs.Schur.{contains};
@@ -52,12 +53,12 @@ pub(crate) fn with_shape(
     with_columns(alloc, starts, outer, inner, letters, bound)
 }
 
-/// Whether a shape is probably filled faster by rows than by columns. If the sums have a bound,
-/// this is assumed for shapes of at most five rows, since states are left out if one of their
-/// numbers can no longer reach that of the bound. If the sums have no bound, it is assumed only if
-/// two conditions hold: the number of columns is at least three times the number of rows; and
-/// either rows and letters together are at most six, or there are at most four rows, all of the
-/// same length. For other shapes the table by rows usually has more states.
+/// Whether a shape is probably filled faster by rows than by columns. If `is_bounded`, only sums
+/// that begin with given numbers are to be counted, and the answer is yes for shapes of at most
+/// five rows: a state is left out as soon as a number of its sum is too small to become the given
+/// number. Otherwise two conditions must hold: the number of columns is at least three times the
+/// number of rows; and either rows and letters together are at most six, or there are at most four
+/// rows, all of the same length. For other shapes the table by rows usually has more states.
 fn is_faster_by_rows(outer: &Partition, letters: u16, is_bounded: bool) -> bool
     ensures shape { IsPartition outer.now }
 {

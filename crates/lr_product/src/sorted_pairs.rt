@@ -1,6 +1,6 @@
-//! Terms made from a table of states: the label of a term is the sum of a state, and its
-//! coefficient is the count of this state. The terms are sorted into the printed order; no counts
-//! are added up.
+//! Terms made from a table of states: the label of a term is the sum of a state (its first numbers)
+//! without the zeros at its end, and its coefficient is the count of this state. The terms are
+//! sorted into the printed order; no counts are added up.
 ghost use Rattle.std.specs.Prelude.{◌≡◌, ℕ, ◌+◌, ◌^◌, ◌≤◌, ◌+ℤ◌, List, pos, IfOk, OnOk};
 ghost use Rattle.std.specs.Prelude.{IsErrOf};
 ghost use Rattle.std.specs.List.{sum_by};

@@ -1,4 +1,5 @@
-//! One more column added to each state of a table.
+//! One more column added to each state of a table. A state is the sum reached, a list of numbers,
+//! followed by the column added last.
 ghost use Rattle.std.specs.Prelude.{◌≡◌, ℕ, ◌+◌, ◌-◌, ◌*◌, ◌^◌, ◌<◌, ◌≤◌, List, length, take};
 ghost use Rattle.std.specs.Prelude.{cond, true, OnOk, IfOk};
 ghost use Rattle.sym_model.specs.GoodTableau.{is_falling};
@@ -15,7 +16,8 @@ use std::alloc::Global;
 
 /// The table of the states reached from those of `table` by adding one column with letters from 1
 /// to `letters`; `line` says which of its places are cells. Its counts, capped at 2^127, are
-/// correct for the sums of which no number exceeds that of `bound` at the same index.
+/// correct for the sums in which each number is at most the number of `bound` at the same index, if
+/// there is one.
 pub(crate) fn with_column(
     alloc: Global,
     table: &States,

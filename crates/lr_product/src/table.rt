@@ -1,4 +1,4 @@
-//! A hash table from states to counts.
+//! A hash table from states, which are lists of numbers, to counts.
 ghost use Rattle.std.specs.Prelude.{◌≡◌, ℕ, ◌+◌, ◌*◌, ◌^◌, ◌<◌, ◌≤◌, List, ◌∷◌, [], ◌++◌};
 ghost use Rattle.std.specs.Prelude.{length, slice_get, OnOk, IfOk, Some};
 ghost use Rattle.std.specs.Map.{keys_of};

@@ -1,4 +1,5 @@
--- The terms that are added to a list when x_r·S_w is computed by Monk's rule, and the product of a list of Schubert polynomials and x_r.
+-- A list of terms here is a sum of Schubert polynomials S_w with integer coefficients. Lemmas on the terms that Monk's rule adds to such a list for
+-- x_r·S_w, and on the product of such a list and x_r.
 use Rattle.std.proofs.Common.{◌≡◌, ℕ, ◌+◌, ◌*◌, ◌^◌, ◌≤◌, max, Bool, true, false, cond, List, [], ◌∷◌, ◌++◌, length, refl, sym, ap, ap₂, ◌∙◌, inl, inr, arith, ℤ, pos, negsuc, ◌*ℤ◌}
 use Rattle.std.specs.Prelude.{nat_abs, neg_ℤ, nat_eq}
 use Rattle.std.specs.Cmp.Lexicographic.{pointwise, nat_list_eq_equiv}
@@ -57,8 +58,6 @@ once_terms r w x o h =
     let one = one_cover r w x o h in
     omega arith
 
--- ---- the product of a list of Schubert polynomials and x_r
-
 module _ (r : ℕ) (first : 1 ≤ r) (list : WholeTerms) where
   pub over_product : (φ : List ℕ → ℤ) → over φ (replaced (monk_terms r) list) ≡ over (over_covers r φ) list
   over_product φ =
@@ -93,8 +92,8 @@ module _ (r : ℕ) (first : 1 ≤ r) (list : WholeTerms) where
         let d = mass_at_replaced (monk_terms r) (pointwise nat_eq) o.0 list (λ t m. once_terms r t.0 o.0 (one_line is t m) first) in
         omega arith
 
-  -- if each w in a table of terms c·S_w is replaced by the terms of x_r·S_w in Monk's rule, the value of the resulting list is x_r times the value of
-  -- the table
+  -- in n variables, x_r times a sum of terms c·S_w is the sum in which each S_w is replaced by the terms of x_r·S_w in Monk's rule; two polynomials
+  -- are compared by the sums of c·φ(α) over their terms c·x^α (`pair`)
   pub pair_product : (n : ℕ) (φ : List ℕ → ℤ) → IsPermutationTable list → over (over_covers r (λ w. pair (schubert_in w n) φ)) list ≡ pair (times (variable_in r n) (combined (λ w. schubert_in w n) list)) φ
   pair_product n φ is =
       sym (pair_times (variable_in r n) (combined (λ w. schubert_in w n) list) φ

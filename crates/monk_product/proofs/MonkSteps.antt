@@ -1,4 +1,5 @@
--- Monk's rule in n variables, for the sum of c·φ(α) over the terms c·x^α of x_r·S_w (`over_covers` of specs/Monk).
+-- Monk's rule in n variables, stated with any function φ of exponents: the sum of c·φ(α) over the terms c·x^α of x_r·S_w is a signed sum over the
+-- covers of w (`over_covers` of specs/Monk).
 use Rattle.std.proofs.Common.{◌≡◌, ℕ, ◌≤◌, List, arith, ℤ}
 use Rattle.std.proofs.lemmas.Int.{ints}
 use Rattle.sym_model.specs.Polynomial.{pair, plus, times, negate}

@@ -45,8 +45,6 @@ letter_second i j w h l =
     ∙ get_or_default (with_fixed j w) (i - 1) j i a
     ∙ letter_added (j - length w) w i h
 
--- ---- letters at different places differ
-
 entries_apart : (w : List ℕ) (a b p q : ℕ) → Once w → a < b → b < length w → get_or w a p ≡ get_or w b q → ⊥
 entries_apart [] a b p q o h l e = omega arith
 entries_apart (x ∷ w) zero zero p q o h l e = omega arith

@@ -1,4 +1,5 @@
--- The 32 letters of a short permutation, and its letters without the fixed ones at the end.
+-- A short permutation is stored as 32 letters: its own letters, followed by *fixed* letters, which are equal to their places. Lemmas on these 32
+-- letters, and on the letters without the fixed ones at the end (`kept`).
 use Rattle.std.proofs.Common.{◌≡◌, ℕ, zero, suc, ◌+◌, ◌-◌, ◌<◌, ◌≤◌, ◌==◌, Bool, cond, List, [], ◌∷◌, ◌++◌, length, take, drop, sym, ap, ap₂, ◌∙◌, subst, arith, length-append}
 use Rattle.std.specs.Prelude.{nat_eq}
 use Rattle.std.specs.List.{swap}
@@ -46,8 +47,6 @@ shown u =
     let t = kept_whole u in
     ap (take (length (kept u))) t.1 ∙ take-append_seam (kept u) (after (length (kept u)) t.0)
 
--- ---- the test whether two short permutations are equal
-
 pub same_letters : (u v : List ℕ) → length u ≡ 32 → length v ≡ 32 → kept u ≡ kept v → u ≡ v
 same_letters u v l m e = sym (filled u l) ∙ ap (with_fixed 32) e ∙ filled v m
 
@@ -56,8 +55,6 @@ same_test u v l m =
     let d = bytes_eq-Decides u v in
     let e = bytes_eq-Decides (kept u) (kept v) in
     tests_agree (pointwise nat_eq u v) (pointwise nat_eq (kept u) (kept v)) (λ h. e.1 (ap kept (d.0 h))) (λ h. d.1 (same_letters u v l m (e.0 h)))
-
--- ---- the short permutation equal to a given permutation
 
 drop-after : (n a k : ℕ) → drop n (after a k) ≡ after (a + n) (k - n)
 drop-after zero a k =
@@ -83,8 +80,6 @@ filled_of w u n e l s c =
       long = omega (arith, length-with_fixed 32 w);
       count_is = c ∙ sym (same_inversions w 32 (omega arith) l);
     })
-
--- ---- the exchange of two letters of a short permutation
 
 pub swapped : (u v : List ℕ) (n a b : ℕ) → IsFilled u n → v ≡ swap u a b → length v ≡ length u → a < b → b < 32
     → inversions (swap u a b) ≡ inversions u + 1 → IsFilled v (n + 1)

@@ -1,4 +1,4 @@
--- Lists of permutations with integer coefficients, and Monk's rule on them.
+-- Lists of permutations with integer coefficients, and Monk's rule on them. A letter of a permutation is *fixed* if it is equal to its place.
 use Rattle.std.specs.Prelude.{ℕ, ◌+◌, ◌≤◌, ℤ, pos, negsuc, ◌-ℤ◌, nat_eq, cond, max, List, [], ◌∷◌}
 use Rattle.std.specs.Prelude.{◌++◌, length}
 use Rattle.std.specs.Cmp.Lexicographic.{pointwise}
@@ -11,15 +11,16 @@ use Rattle.linear_combinations.specs.Entries.{IsCombination}
 pub use Rattle.linear_combinations.specs.Gains.{over, mass, each_with}
 use Rattle.sym_model.specs.WholeTerms.{WholeTerms}
 
--- each permutation occurs once and is within the limits of a label (`is_permutation_label`), and no coefficient is 0
+-- each permutation of the list of terms occurs once, and it has at most 255 letters and no fixed letter at the end
+-- (`is_permutation_label`); no coefficient is 0
 abbrev pub IsPermutationTable : WholeTerms → Type 0
 IsPermutationTable terms = IsCombination (pointwise nat_eq) is_permutation_label whole terms
 
--- each label has at most `most` letters
+-- each permutation of the list of terms has at most `most` letters
 abbrev pub AreShort : ℕ → WholeTerms → Type 0
 AreShort most terms = (t : List ℕ × ℤ) → Among t terms → length t.0 ≤ most
 
--- Σ_{j>r} w·t_rj − Σ_{i<r} w·t_ir over the covers of w: the product of S_w and x_r
+-- the terms of x_r·S_w in Monk's rule: each cover w·t_rj of w with j > r has the coefficient 1, and each cover w·t_ir with i < r the coefficient -1
 abbrev pub monk_terms : ℕ → List ℕ → WholeTerms
 monk_terms r w = each_with (pos 1) (covers_up r w) ++ each_with (negsuc 0) (covers_down r w)
 
@@ -27,7 +28,7 @@ monk_terms r w = each_with (pos 1) (covers_up r w) ++ each_with (negsuc 0) (cove
 abbrev pub over_covers : ℕ → (List ℕ → ℤ) → List ℕ → ℤ
 over_covers r φ w = total φ (covers_up r w) -ℤ total φ (covers_down r w)
 
--- the greatest number of letters of a label, 0 for the empty list
+-- the greatest number of letters of a permutation in the list of terms, 0 for the empty list
 abbrev pub greatest_length : WholeTerms → ℕ
 greatest_length [] = 0
 greatest_length (t ∷ terms) = max (length t.0) (greatest_length terms)

@@ -1,5 +1,5 @@
--- Lemmas for the implementations of the traits `Factor` and `Rule` by `TimesVar`: the transition rule for a product
--- of two Schubert polynomials, and the terms of x_r·S_w by Monk's rule.
+-- Lemmas for `TimesVar`, the multiplication by a variable x_r: the products of two Schubert polynomials in the transition rule, and the terms of
+-- x_r·S_w by Monk's rule. For a polynomial f and a function φ of exponent lists, `pair f φ` is the sum of c·φ(α) over the terms c·x^α of f.
 use Rattle.std.proofs.Common.{◌≡◌, ℕ, ◌+◌, ◌≤◌, max, true, List, [], ◌∷◌, length, refl, sym, ap, ◌∙◌}
 use Rattle.std.proofs.Common.{arith, ℤ}
 use Rattle.std.proofs.Common.{pos, negsuc, ◌+ℤ◌}
@@ -49,7 +49,7 @@ mass_terms r w h =
 
 -- ---- the product of two Schubert polynomials, with the transition rule applied to the first
 
--- for the identity id, the product S_id·S_label in n variables has the same pairing (`pair`) with φ as S_label in n
+-- for the identity id, `pair` has the same value on the product S_id·S_label in n variables as on S_label in n
 -- variables
 pub monk_start : (n : ℕ) (φ : List ℕ → ℤ) (label : List ℕ)
     → pair (times (schubert_in (1 ∷ []) n) (schubert_in label n)) φ ≡ pair (schubert_in label n) φ
@@ -147,8 +147,8 @@ monk_grows k r v label short first last place small few = record {
   few = let m = mass_terms r label first in omega arith;
 }
 
--- for k ≤ 31 and r ≤ k, Monk's rule for x_r turns a label of at most k letters into at most k labels of at most k + 1
--- letters
+-- for k ≤ 31 and r ≤ k, Monk's rule for x_r replaces a permutation of at most k letters by a list of permutations of at
+-- most k + 1 letters, with coefficients whose absolute values have a sum of at most k
 pub monk_grows_short : (k r : ℕ) (v label : List ℕ) → IsShort k v → 1 ≤ r → r ≤ k → r ≤ 255
     → k ≤ 31 → length label ≤ k
     → GrowsBy length (λ w. (1 ≤ r) × (r ≤ 31) × (length w ≤ 31)) (monk_terms r) k 0 label

@@ -1,4 +1,5 @@
--- The fields of a short permutation: its letters, followed by fixed letters up to the place 32, and the number of its inversions.
+-- A short permutation stores 32 letters and the number of its inversions. Its own letters are followed by *fixed* letters, which are equal to their
+-- places.
 use Rattle.std.specs.Prelude.{◌≡◌, ℕ, List, length}
 use Rattle.sym_model.specs.PlaceOrders.{inversions}
 use Rattle.sym_model.specs.Permutation.{IsOneLine}

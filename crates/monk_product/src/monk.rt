@@ -70,11 +70,11 @@ impl Factor<Perm> for TimesVar {
 }
 
 /// The product of a sum of Schubert polynomials and the variable x_r, by Monk's rule. The place r
-/// is from 1 to 254, and each label has at most 254 letters.
+/// is from 1 to 254, and each permutation of the sum has at most 254 letters.
 ///
-/// The weight of a list is the sum of the absolute values of its coefficients, or 1 for the empty
-/// list. The weight of the product is at most W·max(r, n), for the weight W of `list` and the
-/// greatest number n of letters of its labels. Returns `Large` only if W is 2^127 or more.
+/// The weight of a sum is the sum of the absolute values of its coefficients, or 1 for the empty
+/// sum. The weight of the product is at most W·max(r, n), for the weight W of `list` and the
+/// greatest number n of letters of its permutations. Returns `Large` only if W is 2^127 or more.
 pub fn times_var(alloc: Global, list: Sum, r: u16) -> Result<Sum, SumFault>
     requires first { 1 ≤ r }
     requires last { r ≤ 254 }

@@ -22,9 +22,9 @@ use perm_codes::Perm;
 use std::alloc::Global;
 use transition_walk::product_of;
 
-/// The product of the Schubert polynomials of two permutations, as a sum of Schubert polynomials in
-/// the printed order of their permutations. The greater number of letters and the smaller number of
-/// inversions must add up to at most 255.
+/// The product of the Schubert polynomials of two permutations, as a sum of Schubert polynomials.
+/// Permutations with fewer inversions come first, those with equally many in lexicographic order.
+/// The greater number of letters and the smaller number of inversions must add up to at most 255.
 ///
 /// Let w be the one of the two permutations that has fewer inversions (`u` if both have the same
 /// number), let l be its number of inversions, and let n be the greater of the two numbers of

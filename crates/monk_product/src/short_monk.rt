@@ -18,7 +18,7 @@ use transition_walk::Factor;
 type ShortSum = Lin<ShortPerm, Int>;
 
 /// For each cover of w that exchanges the letters at `place`, counted from 0, and at a greater
-/// place, adds `c` to its coefficient in `sum`. Returns `Large` only if, at some label, the
+/// place, adds `c` to its coefficient in `sum`. Returns `Large` only if, for some permutation, the
 /// absolute values of the old coefficient and of the added ones have a sum of 2^127 or more.
 fn add_covers_up(w: &ShortPerm, place: usize, c: Int, sum: &mut ShortSum) -> Result<(), SumFault>
     requires place { place + 1 ≤ 31 }
@@ -36,8 +36,9 @@ fn add_covers_up(w: &ShortPerm, place: usize, c: Int, sum: &mut ShortSum) -> Res
 }
 
 /// For each cover of w that exchanges the letters at `place`, counted from 0, and at a smaller
-/// place, subtracts `c` from its coefficient in `sum`. Returns `Large` only if, at some label, the
-/// absolute values of the old coefficient and of the subtracted ones have a sum of 2^127 or more.
+/// place, subtracts `c` from its coefficient in `sum`. Returns `Large` only if, for some
+/// permutation, the absolute values of the old coefficient and of the subtracted ones have a sum of
+/// 2^127 or more.
 fn subtract_covers_down(
     w: &ShortPerm,
     place: usize,

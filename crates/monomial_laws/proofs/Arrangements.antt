@@ -1,10 +1,11 @@
--- The number `arrangements l r ν` of ways to write ν as an arrangement of l plus an arrangement of r (specs/MonomialProduct), counted part by
--- part of ν: each part x of ν is the sum of a number b from l and x - b from r.
+-- The number `arrangements l r ν` of ways to write ν = β + γ, place by place, where β has the parts of l and zeros in some order, and γ has the
+-- parts of r and zeros in some order (specs/MonomialProduct). It is computed part by part of ν: each part x of ν is the sum of an entry b of β and
+-- the entry x - b of γ.
 --     arrangements-cons     the number for x ∷ ν as a sum over b, which is 0 or one of the different parts of l
 --     arrangements-lacking  the number is 0 if l has a part greater than all parts of ν
 --     arrangements-sizes    the number is 0 if |l| + |r| is not |ν|
 --     arrangements-comm     the number does not change if l and r are exchanged
-use Rattle.std.proofs.Common.{◌+◌, ◌≡◌, ◌⊎◌, ℕ, zero, suc, ◌-◌, Bool, true, false, ◌&&◌, cond, eqb, leb, List, [], ◌∷◌, length, sym, ◌∙◌, ap, ap₂, refl, inl, inr, arith, ℤ, pos, ◌*ℤ◌, map}
+use Rattle.std.proofs.Common.{◌+◌, ◌≡◌, ℕ, zero, suc, ◌-◌, Bool, true, false, ◌&&◌, cond, eqb, leb, List, [], ◌∷◌, length, sym, ◌∙◌, ap, ap₂, refl, inl, inr, arith, ℤ, pos, ◌*ℤ◌, map, rules}
 use Rattle.std.proofs.lemmas.Bool.{cases_eq, eq-eqb, ne_eqb, eqb-true, leb-true, and_parts, and_from, cond-true}
 use Rattle.sym_model.specs.Sum.{total, Among}
 use Rattle.sym_model.specs.Polynomial.{same, coefficient, times}
@@ -29,12 +30,8 @@ sorts_to_both l r s = cond (same (sorted_parts s.0) l && same (sorted_parts s.1)
 count : (l r ν : List ℕ) → pos (arrangements l r ν) ≡ total (sorts_to_both l r) (splits ν)
 count l r ν = length-select (λ (s : List ℕ × List ℕ). same (sorted_parts s.0) l && same (sorted_parts s.1) r) (splits ν)
 
--- inserting b into a partition p gives l if and only if b is 0 or a part of l, and p is l without one b
 inserted : (b : ℕ) (p l : List ℕ) → IsPartition p → IsPartition l → same (insert_part b p) l ≡ (has b (0 ∷ l) && same p (without_one b l))
-inserted zero p l h k =
-    tests_agree (same p l) (has 0 (0 ∷ l) && same p (without_one 0 l))
-    (λ t. same_from p (without_one 0 l) (same_true p l t ∙ sym (without_one-zero l k.positive)))
-    (λ t. same_from p l (same_true p (without_one 0 l) t ∙ without_one-zero l k.positive))
+inserted zero p l h k = search (rules, tests_agree, same_from, same_true, without_one-zero)
 inserted (suc b) p l h k =
     tests_agree (same (insert_part (suc b) p) l) (has (suc b) (0 ∷ l) && same p (without_one (suc b) l))
     (λ t.
@@ -48,7 +45,6 @@ inserted (suc b) p l h k =
     same_from (insert_part (suc b) p) l
     (ap (insert_part (suc b)) (same_true p (without_one (suc b) l) u.1) ∙ insert_part-without_one (suc b) l (omega arith) k.falls m))
 
--- the sum of f over the numbers up to x that occur in a list is the sum of f over the different numbers of the list that are at most x
 among_up_to : (f : ℕ → ℤ) (x : ℕ) (numbers : List ℕ) → total (λ (b : ℕ). cond (has b numbers) (f b) (pos 0)) (down_from x) ≡ total (λ (c : ℕ). cond (leb c x) (f c) (pos 0)) (distinct numbers)
 among_up_to f x numbers =
     total_ext (λ (b : ℕ). cond (has b numbers) (f b) (pos 0)) (λ (b : ℕ). total (λ (c : ℕ). cond (eqb c b) (f c) (pos 0)) (distinct numbers)) (λ b. sym (total_distinct-only f b numbers)) (down_from x)
@@ -63,8 +59,8 @@ among_up_to f x numbers =
     ∙ total_down_from-only (λ b. f c) c x)
     (distinct numbers)
 
--- for partitions l and r, `arrangements l r (x ∷ ν)` is the sum, over the different b ≤ x that are 0 or a part of l and for which x - b is 0 or a
--- part of r, of `arrangements` of l without b, r without x - b, and ν
+-- for partitions l and r, `arrangements l r (x ∷ ν)` is a sum over the different numbers b ≤ x such that b is 0 or a part of l, and x - b is 0 or a
+-- part of r. The summand for b is `arrangements p q ν`, where p is l without one b, and q is r without one x - b (0 is no part: l without 0 is l)
 pub arrangements-cons : (x : ℕ) (ν l r : List ℕ) → IsPartition l → IsPartition r
     → pos (arrangements l r (x ∷ ν))
     ≡ total (λ (b : ℕ). cond (leb b x) (cond (has (x - b) (0 ∷ r)) (pos (arrangements (without_one b l) (without_one (x - b) r) ν)) (pos 0)) (pos 0)) (distinct (0 ∷ l))
@@ -104,16 +100,9 @@ arrangements-cons x ν l r p q =
         (total_cond (has (x - b) (0 ∷ r)) (sorts_to_both (without_one b l) (without_one (x - b) r)) (splits ν)
         ∙ ap (λ z. cond (has (x - b) (0 ∷ r)) z (pos 0)) (sym (count (without_one b l) (without_one (x - b) r) ν)))
 
--- ---- if l has a part greater than all parts of ν, ν is not the sum of an arrangement of l and an arrangement of r
-
 has-without_one : (k b : ℕ) (numbers : List ℕ) → (b ≡ k → ⊥) → has k numbers ≡ true → has k (without_one b numbers) ≡ true
 has-without_one k b [] n h = h
-has-without_one k b (c ∷ numbers) n h = by (cases_eq c b) (cases_eq c k) (has-without_one k b numbers n)
-  where
-    by : (c ≡ b) ⊎ (c ≡ b → ⊥) → (c ≡ k) ⊎ (c ≡ k → ⊥) → (has k numbers ≡ true → has k (without_one b numbers) ≡ true) → has k (cond (eqb c b) numbers (c ∷ without_one b numbers)) ≡ true
-    by (inl e) j r = rw (eq-eqb c b e) (sym (has_past k c numbers (λ i. n (sym e ∙ i))) ∙ h)
-    by (inr i) (inl e) r = rw (ne_eqb c b i, eq-eqb c k e) refl
-    by (inr i) (inr j) r = rw (ne_eqb c b i, ne_eqb c k j) (r (sym (has_past k c numbers j) ∙ h))
+has-without_one k b (c ∷ numbers) n h = search (rules, cases_eq, eq-eqb, has_past, ne_eqb, (has-without_one k b numbers n))
 
 -- if l has a part k greater than all parts of ν, `arrangements l r ν` is 0
 pub arrangements-lacking : (k : ℕ) (ν l r : List ℕ) → IsPartition l → IsPartition r → has k l ≡ true → AreBelow k ν → arrangements l r ν ≡ 0
@@ -155,8 +144,6 @@ pub arrangements-comm : (l r ν : List ℕ) → arrangements l r ν ≡ arrangem
 arrangements-comm l r ν =
     pos_equal (sym (coefficient-product l r ν) ∙ times_comm (monomial l (length ν)) (monomial r (length ν)) ν ∙ coefficient-product r l ν)
 
--- ---- if ν is the sum of an arrangement of l and an arrangement of r, then |l| + |r| = |ν|
-
 pub sizes-splits : (ν : List ℕ) (s : List ℕ × List ℕ) → Among s (splits ν) → size s.0 + size s.1 ≡ size ν
 sizes-splits [] s (inl e) = omega (arith, ap (λ (p : List ℕ × List ℕ). size p.0) e, ap (λ (p : List ℕ × List ℕ). size p.1) e)
 sizes-splits [] s (inr m) = absurd m
@@ -167,7 +154,6 @@ sizes-splits (c ∷ ν) s m =
     let b = down_from-below c r.0 r.1 in
     omega (arith, ap (λ (p : List ℕ × List ℕ). size p.0) u.2, ap (λ (p : List ℕ × List ℕ). size p.1) u.2)
 
--- if |l| + |r| is not |ν|, `arrangements l r ν` is 0
 pub arrangements-sizes : (l r ν : List ℕ) → (size l + size r ≡ size ν → ⊥) → arrangements l r ν ≡ 0
 arrangements-sizes l r ν n =
     pos_equal

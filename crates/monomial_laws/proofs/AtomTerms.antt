@@ -1,17 +1,17 @@
--- e_k, h_k and p_k as lists of terms in m (`elementary_terms`, `complete_terms`, `power_sum_terms_of`).
-use Rattle.std.proofs.Common.{◌≡◌, ◌⊎◌, ℕ, zero, suc, ◌+◌, ◌<◌, ◌≤◌, Bool, true, false, cond, eqb, leb, List, [], ◌∷◌, length, replicate, sym, ◌∙◌, ap, ap₂, subst, refl, inl, inr, arith, ℤ, pos}
+-- e_k, h_k and p_k as lists of terms c·m_λ of the monomial basis (`elementary_terms`, `complete_terms`, `power_sum_terms_of`).
+use Rattle.std.proofs.Common.{◌≡◌, ◌⊎◌, ℕ, zero, suc, ◌+◌, ◌<◌, ◌≤◌, Bool, true, cond, eqb, leb, List, [], ◌∷◌, length, replicate, sym, ◌∙◌, ap, ap₂, refl, inl, inr, arith, ℤ, pos, rules}
 use Rattle.std.proofs.lemmas.Bool.{cases_eq, cases_lt, eq-eqb, ne_eqb, eqb-true, le-leb, leb-true, and_parts, and_from, and_right}
 use Rattle.std.proofs.lemmas.List.{length-replicate}
 use Rattle.sym_model.specs.Sum.{total}
 use Rattle.sym_model.specs.Polynomial.{Term, same, Same}
 use Rattle.sym_model.specs.Partition.{Falls, size, insert_part, sorted_parts}
-use Rattle.sym_model.specs.Bases.{monomials, monomial, at_most_one, has, elementary_of, complete_of, power_sum_of}
+use Rattle.sym_model.specs.Bases.{monomials, at_most_one, has, elementary_of, complete_of, power_sum_of}
 use Rattle.sym_model.specs.PartitionList.{partitions_of}
 use Rattle.sym_model.specs.Schur.{times_in}
 use Rattle.monomial_laws.specs.ExpressionTerms.{in_monomials, IsList, elementary_terms, complete_terms, power_sum_terms_of}
 use Rattle.sym_model.proofs.Sums.{total_map, total_only, total_none}
 use Rattle.sym_model.proofs.Exponents.{tests_agree, same_true, same_from, same_apart}
-use Rattle.sym_model.proofs.Polynomials.{Same_trans, same_in}
+use Rattle.sym_model.proofs.Polynomials.{same_in}
 use Rattle.sym_model.proofs.SortedParts.{insert_part-front, rows-insert_part, size-sorted_parts, IsPartition-sorted_parts, times_in-sorted_parts, has_from-times_in, has_past}
 use Rattle.sym_model.proofs.PartitionLists.{partitions_of-tells, Among-partitions_of, Once-FallsLexicographically, FallsLexicographically-partitions_within}
 use Rattle.sym_model.proofs.Monomials.{is_exponent_list, coefficient-monomials, In-monomials, has_above_size}
@@ -20,24 +20,13 @@ use Rattle.monomial_laws.proofs.PowerSumCoefficients.{coefficient-monomial_terms
 use Rattle.monomial_laws.proofs.Splits.{In-monomial_terms}
 use Rattle.monomial_laws.proofs.ExpressionTerms.{list-monomial}
 
--- if two tests agree on all exponent lists with the sum d, the sums of the monomials of degree d that pass them are the same polynomial
 monomials_agree : (test other : List ℕ → Bool) (n d : ℕ) → ((γ : List ℕ) → size γ ≡ d → test γ ≡ other γ) → Same (monomials test n d) (monomials other n d)
-monomials_agree test other n d h γ = coefficient-monomials test n d γ ∙ by (is_exponent_list n d γ) refl ∙ sym (coefficient-monomials other n d γ)
-  where
-    by : (b : Bool) → is_exponent_list n d γ ≡ b → cond b (cond (test γ) (pos 1) (pos 0)) (pos 0) ≡ cond b (cond (other γ) (pos 1) (pos 0)) (pos 0)
-    by true e = ap (λ t. cond t (pos 1) (pos 0)) (h γ (eqb-true (size γ) d (and_parts (eqb (length γ) n) (eqb (size γ) d) e).1))
-    by false e = refl
+monomials_agree test other n d h γ = search (rules, coefficient-monomials, is_exponent_list, eqb-true, and_parts)
 
--- let `parts` have the sum d. If the exponent lists γ with the sum d that pass `test` are those that sort to `parts`, then the list with the label
--- `parts` and the coefficient 1 is the list in m of the sum of the x^γ
 list-one : (parts : List ℕ) (d : ℕ) (test : List ℕ → Bool) → size parts ≡ d → ((γ : List ℕ) → size γ ≡ d → same (sorted_parts γ) parts ≡ test γ) → IsList ((parts, pos 1) ∷ []) (λ n. monomials test n d)
-list-one parts d test s h n =
-    Same_trans (in_monomials ((parts, pos 1) ∷ []) n) (monomial parts n) (monomials test n d)
-    (list-monomial parts n)
-    (subst (λ k. Same (monomials (λ α. same (sorted_parts α) parts) n k) (monomials test n d)) (sym s)
-    (monomials_agree (λ α. same (sorted_parts α) parts) test n d h))
+list-one parts d test s h n = search (rules, list-monomial, monomials_agree)
 
--- ---- k ones are a decreasing list, and e_k is m_λ for the partition λ of k ones
+-- ---- e_k is m_λ for the partition λ of k ones
 
 pub Falls-ones : (k : ℕ) → Falls (replicate k 1)
 Falls-ones zero = tt
@@ -69,14 +58,9 @@ at_most_one-from (suc a ∷ γ) h =
     and_from (leb (suc a) 1) (at_most_one γ) (le-leb (suc a) 1 (omega arith)) (at_most_one-from γ (omega arith))
 
 pub list-elementary : (k : ℕ) → IsList (elementary_terms k) (elementary_of k)
-list-elementary k =
-    list-one (replicate k 1) k at_most_one (size-ones k)
-    (λ γ e.
-    tests_agree (same (sorted_parts γ) (replicate k 1)) (at_most_one γ)
-    (λ t. at_most_one-from γ (let i = ap length (same_true (sorted_parts γ) (replicate k 1) t) ∙ length-replicate k 1 in omega arith))
-    (λ t. same_from (sorted_parts γ) (replicate k 1) (sorted-at_most_one γ t ∙ ap (λ j. replicate j 1) e)))
+list-elementary k = search (rules, list-one, size-ones, tests_agree, at_most_one-from, same_true, length-replicate, same_from, sorted-at_most_one)
 
--- ---- exponents with the sum 0 sort to the empty partition; p_k is m_λ for the partition λ = (k)
+-- ---- p_k is m_λ for the partition λ = (k)
 
 sorted-none : (γ : List ℕ) → size γ ≡ 0 → sorted_parts γ ≡ []
 sorted-none [] e = refl
@@ -84,11 +68,7 @@ sorted-none (zero ∷ γ) e = sorted-none γ (omega arith)
 sorted-none (suc a ∷ γ) e = absurd (omega arith)
 
 has-within_size : (k : ℕ) (γ : List ℕ) → has k γ ≡ true → k ≤ size γ
-has-within_size k γ h = by (cases_lt (size γ) k)
-  where
-    by : (size γ < k) ⊎ (k ≤ size γ) → k ≤ size γ
-    by (inl l) = absurd (let e = has_above_size k γ l in cc)
-    by (inr l) = l
+has-within_size k γ h = search (rules, cases_lt, has_above_size)
 
 sorted-has : (k : ℕ) (γ : List ℕ) → 0 < k → size γ ≡ k → has k γ ≡ true → sorted_parts γ ≡ k ∷ []
 sorted-has k [] h e m = absurd (cc)
@@ -117,8 +97,6 @@ list-power_sum k h =
 
     positive : (γ : List ℕ) → sorted_parts γ ≡ k ∷ [] → 0 < times_in k γ
     positive γ e = omega (arith, times_in-sorted_parts k γ h, ap (times_in k) e, once)
-
--- ---- h_k is the sum of m_λ over all partitions λ of k
 
 pub list-complete : (k : ℕ) → IsList (complete_terms k) (complete_of k)
 list-complete k n =

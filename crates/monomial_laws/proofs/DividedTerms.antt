@@ -1,12 +1,14 @@
--- Lists of terms with fractions as coefficients, each of which is equal to a list with integer coefficients divided by D (`IsDivided`).
---     value-divided           the value of the list of fractions is that of the integer list divided by D, for any polynomials in place of the labels
---     expansion_divided       if the integer list is the list of f in m, the list of fractions expands f divided by D
-use Rattle.std.proofs.Common.{◌≡◌, ◌⊎◌, ℕ, ◌*◌, ◌/◌, ◌%◌, ◌<◌, cond, List, [], ◌∷◌, map, sym, ◌∙◌, ap, ap₂, subst, refl, inl, inr, arith, ℤ, pos, ◌+ℤ◌, ◌*ℤ◌, ◌++◌}
+-- Lists of terms whose coefficients are fractions. Such a list is described by a list with integer coefficients and a number D by which they are
+-- divided (`IsDivided`). The label of a term is a partition. If the labels denote polynomials, the value of a list is the sum of its coefficients
+-- times the polynomials of their labels.
+--     value-divided           the value of the list of fractions is that of the integer list divided by D, whatever polynomials the labels denote
+--     expansion_divided       if the sum of the terms c·m_λ of the integer list is f, the list of fractions is the expansion of f/D in the basis m
+use Rattle.std.proofs.Common.{◌≡◌, ◌⊎◌, ℕ, ◌*◌, ◌/◌, ◌%◌, ◌<◌, cond, List, [], ◌∷◌, map, sym, ◌∙◌, ap, ap₂, subst, refl, inl, inr, arith, ℤ, pos, ◌+ℤ◌, ◌*ℤ◌, ◌++◌, rules}
 use Rattle.std.specs.Int.{◌∣◌}
 use Rattle.std.proofs.Math.Nat.{div-mul_cancel, dvd-mul_right, dvd-mul_left}
 use Rattle.std.proofs.lemmas.Nat.Gcd.{dvd_trans, dvd_of_mod-eq-zero}
 use Rattle.sym_model.specs.Sum.{Among, Once}
-use Rattle.sym_model.specs.Polynomial.{Term, Poly, same, coefficient, Same, plus, scale}
+use Rattle.sym_model.specs.Polynomial.{Poly, coefficient, Same, plus, scale}
 use Rattle.sym_model.specs.Bases.{monomial}
 use Rattle.sym_model.specs.Expansion.{Basis, Terms, Fraction, denominators, cleared, value_by, IsExpansionOf}
 use Rattle.sym_model.specs.WholeTerms.{WholeTerms, combined}
@@ -24,29 +26,20 @@ use Rattle.std.proofs.lemmas.List.{map-append}
 abbrev pub labels_of : Terms (List ℕ) → List (List ℕ)
 labels_of terms = map (λ (t : List ℕ × Fraction). t.0) terms
 
--- ---- the coefficients of `over q terms`, in which the coefficients num/den are written over a common denominator q
+-- ---- `over q terms`: the coefficients of a list of terms as integers over a common denominator q
 
 pub over-missing : (q : ℕ) (terms : Terms (List ℕ)) (label : List ℕ) → (Among label (labels_of terms) → ⊥) → coefficient (over q terms) label ≡ pos 0
-over-missing q terms label h =
-    total_map (λ (t : Term). cond (same t.0 label) t.1 (pos 0)) (λ (t : List ℕ × Fraction). (t.0, t.1.0 *ℤ pos (q / t.1.1))) terms
-    ∙ total_none (λ (t : List ℕ × Fraction). cond (same t.0 label) (t.1.0 *ℤ pos (q / t.1.1)) (pos 0)) terms
-    (λ t m. ap (λ b. cond b (t.1.0 *ℤ pos (q / t.1.1)) (pos 0)) (same_apart t.0 label (λ e. h (subst (λ l. Among l (labels_of terms)) e (Among-map (λ (u : List ℕ × Fraction). u.0) t terms m)))))
+over-missing q terms label h = search (rules, total_map, total_none, same_apart, Among-map)
 
 pub over-there : (q : ℕ) (terms : Terms (List ℕ)) → Once (labels_of terms) → (t : List ℕ × Fraction) → Among t terms → coefficient (over q terms) t.0 ≡ t.1.0 *ℤ pos (q / t.1.1)
 over-there q [] o t m = absurd m
-over-there q (u ∷ terms) o t (inl e) =
-    ap₂ ◌+ℤ◌
-    (ap (λ b. cond b (u.1.0 *ℤ pos (q / u.1.1)) (pos 0)) (same_from u.0 t.0 (ap (λ (v : List ℕ × Fraction). v.0) (sym e))))
-    (over-missing q terms t.0 (λ m. o.0 (subst (λ l. Among l (labels_of terms)) (ap (λ (v : List ℕ × Fraction). v.0) e) m)))
-    ∙ +ℤ_idr (u.1.0 *ℤ pos (q / u.1.1))
-    ∙ ap (λ (v : List ℕ × Fraction). v.1.0 *ℤ pos (q / v.1.1)) (sym e)
+over-there q (u ∷ terms) o t (inl e) = search (rules, same_from, over-missing, +ℤ_idr)
 over-there q (u ∷ terms) o t (inr m) =
     ap₂ ◌+ℤ◌
     (ap (λ b. cond b (u.1.0 *ℤ pos (q / u.1.1)) (pos 0)) (same_apart u.0 t.0 (λ e. o.0 (subst (λ l. Among l (labels_of terms)) (sym e) (Among-map (λ (v : List ℕ × Fraction). v.0) t terms m)))))
     (over-there q terms o.1 t m)
     ∙ +ℤ_idl (t.1.0 *ℤ pos (q / t.1.1))
 
--- a label occurs in a list of terms, or it does not
 pub among_or_not : (label : List ℕ) (terms : Terms (List ℕ)) → ((t : List ℕ × Fraction) × Among t terms × (t.0 ≡ label)) ⊎ (Among label (labels_of terms) → ⊥)
 among_or_not label [] = inr (λ m. m)
 among_or_not label (t ∷ terms) = by (same_or_not t.0 label) (among_or_not label terms)
@@ -61,16 +54,14 @@ among_or_not label (t ∷ terms) = by (same_or_not t.0 label) (among_or_not labe
         not_here (inl e) = n (sym e)
         not_here (inr m) = none m
 
--- each denominator of a list of terms divides the product of all denominators
 pub divides-denominators : (terms : Terms (List ℕ)) (t : List ℕ × Fraction) → Among t terms → t.1.1 ∣ denominators terms
 divides-denominators [] t m = absurd m
 divides-denominators (u ∷ terms) t (inl e) = subst (λ (v : List ℕ × Fraction). v.1.1 ∣ (u.1.1 * denominators terms)) (sym e) (dvd-mul_right u.1.1 (denominators terms))
 divides-denominators (u ∷ terms) t (inr m) = dvd_trans t.1.1 (divides-denominators terms t m) (dvd-mul_left (denominators terms) u.1.1)
 
--- ---- lists of fractions that are a list with integer coefficients divided by D
-
--- `terms` is the integer list `whole` divided by D: each coefficient is that of its label in `whole` divided by D, and labels that do not occur in
--- `terms` have the coefficient 0 in `whole`; no label occurs twice in `terms`, and its denominators are positive
+-- `terms` is the integer list `whole` divided by D: the coefficient of each term of `terms` is the coefficient of the same label in `whole` divided
+-- by D, and a label that does not occur in `terms` has the coefficient 0 in `whole`. Moreover no label occurs twice in `terms`, and no denominator
+-- is 0
 pub record IsDivided (D : ℕ) (whole : WholeTerms) (terms : Terms (List ℕ)) : Type 0 where
   pub once : Once (labels_of terms)
   pub positive : 0 < denominators terms
@@ -109,8 +100,8 @@ cleared-combined polynomial q (t ∷ terms) = ap (plus (scale (t.1.0 *ℤ pos (q
 pub cleared-over : (q n : ℕ) (terms : Terms (List ℕ)) → cleared (λ label. monomial label n) q terms ≡ in_monomials (over q terms) n
 cleared-over q n terms = cleared-combined (λ label. monomial label n) q terms
 
--- let the labels stand for any polynomials, and let v be the value of the list of fractions, and q the product of its denominators: D·(q·v) is q
--- times the value of the integer list W (`value_by` is q·v)
+-- let the labels denote any polynomials. If `terms` is the integer list W divided by D, then the value of `terms` is the value of W divided by D.
+-- Here both sides are multiplied by D and by the product of the denominators of `terms` (`value_by` is the value times this product)
 pub value-divided : (polynomial : List ℕ → Poly) (D : ℕ) (W : WholeTerms) (terms : Terms (List ℕ)) → IsDivided D W terms → (α : List ℕ)
     → pos D *ℤ coefficient (value_by polynomial terms) α ≡ pos (denominators terms) *ℤ coefficient (combined polynomial W) α
 value-divided polynomial D W terms d α =
@@ -126,19 +117,10 @@ value-divided polynomial D W terms d α =
 
 -- if no label occurs twice in `terms`, and each denominator is positive and divides m, then `terms` is the integer list `over m terms` divided by m
 pub IsDivided-over : (m : ℕ) (terms : Terms (List ℕ)) → 0 < denominators terms → Once (labels_of terms) → ((t : List ℕ × Fraction) → Among t terms → m % t.1.1 ≡ 0) → IsDivided m (over m terms) terms
-IsDivided-over m terms positive is w = record {
-  once = is;
-  positive = positive;
-  there = λ t n.
-      let e = div-mul_cancel t.1.1 (dvd_of_mod-eq-zero t.1.1 (w t n)) in
-      sym (ap (λ z. z *ℤ pos t.1.1) (over-there m terms is t n)
-      ∙ product_assoc t.1.0 (pos (m / t.1.1)) (pos t.1.1)
-      ∙ ap (λ k. t.1.0 *ℤ pos k) e);
-  missing = λ label n. over-missing m terms label n;
-}
+IsDivided-over m terms positive is w = search (rules, div-mul_cancel, dvd_of_mod-eq-zero, over-there, product_assoc, over-missing)
 
--- if the list of fractions is the integer list `whole` divided by D, and `whole` is the list of f in m, then the fractions are the expansion of f
--- divided by D in m, in every number of variables
+-- if `terms` is the integer list `whole` divided by D, and the sum of the terms c·m_λ of `whole` is f, then `terms` is the expansion of f/D in the
+-- basis m, in every number of variables
 pub expansion_divided : (D : ℕ) (whole : WholeTerms) (terms : Terms (List ℕ)) (f : ℕ → Poly) → IsDivided D whole terms → IsList whole f → (n : ℕ) → IsExpansionOf Basis.monomials terms n (f n) D
 expansion_divided D whole terms f d h n =
     let q = denominators terms in
@@ -158,5 +140,4 @@ expansion_divided D whole terms f d h n =
     }
 
 pub over-append : (m : ℕ) (xs ys : Terms (List ℕ)) → over m (xs ++ ys) ≡ over m xs ++ over m ys
-over-append m xs ys = map-append (λ (t : List ℕ × Fraction). let term : List ℕ × ℤ =
-    (t.0, t.1.0 *ℤ pos (m / t.1.1)) in term) xs ys
+over-append m xs ys = search (rules, map-append)

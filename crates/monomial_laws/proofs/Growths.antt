@@ -1,12 +1,11 @@
--- Factorials are positive and increasing; and `growth` (specs/Weight), a factor in the weight of a conversion into a basis, is greatest for the basis
--- p: at the degree d it is d!·(2d)^d for p, h and e, and d^d for m and s, if d > 0.
-use Rattle.std.proofs.Common.{◌≡◌, ℕ, zero, suc, ◌+◌, ◌-◌, ◌*◌, ◌^◌, ◌<◌, ◌≤◌, subst, arith, ap, sym}
+-- Factorials are positive and increasing. The number `growth target d` (specs/Weight) bounds the factor by which a conversion into the basis `target`
+-- increases the coefficients of a list of terms of degree d. If d > 0, it is d!·(2d)^d for p, h and e, and d^d for m and s. No basis has a greater
+-- one than p.
+use Rattle.std.proofs.Common.{◌≡◌, ℕ, zero, suc, ◌+◌, ◌-◌, ◌*◌, ◌^◌, ◌<◌, ◌≤◌, subst, arith, ap, sym, rules}
 use Rattle.std.proofs.lemmas.Nat.{mul-le}
 use Rattle.std.proofs.Math.Nat.{one-le-pow, pow-le-pow_left}
 use Rattle.sym_model.specs.Expansion.{Basis, elementaries, completes, power_sums, schurs}
 use Rattle.sym_model.specs.Weight.{factorial, growth}
-
--- ---- factorials are positive and increasing
 
 pub factorial-positive : (d : ℕ) → 0 < factorial d
 factorial-positive zero = omega arith
@@ -22,13 +21,8 @@ factorial-far d (suc j) = let e : suc j + d ≡ suc (j + d) = omega arith in let
 pub factorial-mono : (d e : ℕ) → d ≤ e → factorial d ≤ factorial e
 factorial-mono d e h = let i : (e - d) + d ≡ e = omega arith in subst (λ k. factorial d ≤ factorial k) i (factorial-far d (e - d))
 
--- ---- `growth` of p at the degree d is at least `growth` of every other basis, and at least 1
-
 plain-growth : (d : ℕ) → suc d ^ suc d ≤ factorial (suc d) * (2 * suc d) ^ suc d
-plain-growth d =
-    let p = pow-le-pow_left (let o : suc d ≤ 2 * suc d = omega arith in o) (suc d) in
-    let q = mul-le 1 (suc d ^ suc d) (factorial (suc d)) ((2 * suc d) ^ suc d) (factorial-positive (suc d)) p in
-    omega arith
+plain-growth d = search (rules, pow-le-pow_left, mul-le, factorial-positive)
 
 -- `growth` of the basis `target` at the degree d is at most that of p
 pub growth-most : (target : Basis) (d : ℕ) → growth target d ≤ growth power_sums d

@@ -1,13 +1,15 @@
--- Majorants of polynomials (specs/Majorant), and bounds for the value of an expression. A polynomial in n variables is bounded by N at the degree d
--- (`IsBounded`) if a sum of at most N powers of x_1 + .. + x_n, with exponents up to d, is a majorant of it.
+-- Majorants of polynomials (specs/Majorant), and bounds for the value of an expression. F is a majorant of f if each coefficient of F is at least
+-- the absolute value of the same coefficient of f. A polynomial f in n variables is bounded by N at the degree d (`IsBounded`) if a sum of at most
+-- N powers of x_1 + .. + x_n, with exponents up to d, is a majorant of f.
 --     majorant-times                       majorants of products and multiples
---     majorant-monomials, -product_over    (x_1 + .. + x_n)^d is a majorant of the atoms of degree d
+--     majorant-monomials, -product_over    (x_1 + .. + x_n)^d is a majorant of the basis polynomials of degree d
 --     bounded_value                        the cleared value of an expression e, which is the value of e times its common denominator, is bounded by
 --                                          `numerator e` at the degree of e
 --     coefficient_bound                    if f is bounded by N (at any degree), the coefficient of x^α is at most N·|α|!/Π α_i! in absolute value
-use Rattle.std.proofs.Common.{◌≡◌, ◌⊎◌, ℕ, map, zero, suc, ◌<◌, ◌+◌, ◌*◌, ◌/◌, ◌≤◌, max, Bool, true, false, cond, eqb, List, [], ◌∷◌, ◌++◌, length, sym, ◌∙◌, ap, subst, refl, inl, inr, arith, ℤ, pos, negsuc, ◌+ℤ◌, ◌*ℤ◌}
+use Rattle.std.proofs.lemmas.Grind.{common_steps}
+use Rattle.std.proofs.Common.{◌≡◌, ◌⊎◌, ℕ, map, zero, suc, ◌<◌, ◌+◌, ◌*◌, ◌/◌, ◌≤◌, max, Bool, true, false, cond, eqb, List, [], ◌∷◌, ◌++◌, length, sym, ◌∙◌, ap, subst, refl, inl, inr, arith, ℤ, pos, negsuc, ◌+ℤ◌, ◌*ℤ◌, rules}
 use Rattle.std.specs.Prelude.{◌≤ℤ◌, nat_abs}
-use Rattle.std.proofs.lemmas.Int.{ints, unsigned_abs-mul}
+use Rattle.std.proofs.lemmas.Int.{ints}
 use Rattle.std.proofs.lemmas.Nat.{mul-le}
 use Rattle.std.proofs.lemmas.Bool.{cases_eq, eq-eqb, eqb-true, and_parts}
 use Rattle.std.proofs.lemmas.List.{length-append}
@@ -31,23 +33,12 @@ use native.Mathlib.Nat.{mul-le-mul_left}
 use lib.IntN.{+ℤ_idr}
 use Rattle.sym_model.proofs.Integers.{le_trans_ℤ}
 
--- ---- upper bounds for the absolute value of a sum of integers
-
 pub total_within_total : {A : Type 0} (f g : A → ℤ) (xs : List A) → ((x : A) → Among x xs → pos (nat_abs (f x)) ≤ℤ g x) → pos (nat_abs (total f xs)) ≤ℤ total g xs
 total_within_total f g [] h = omega (arith, ints)
-total_within_total f g (x ∷ xs) h =
-    sum (f x) (total f xs) (g x) (total g xs) (h x (inl refl)) (total_within_total f g xs (λ y m. h y (inr m)))
-  where
-    sum : (a b c d : ℤ) → pos (nat_abs a) ≤ℤ c → pos (nat_abs b) ≤ℤ d → pos (nat_abs (a +ℤ b)) ≤ℤ (c +ℤ d)
-    sum a b c d h k = omega (arith, ints)
+total_within_total f g (x ∷ xs) h = search (rules, ints, (total_within_total f g xs))
 
 product_within : (a b c d : ℤ) → pos (nat_abs a) ≤ℤ c → pos (nat_abs b) ≤ℤ d → pos (nat_abs (a *ℤ b)) ≤ℤ (c *ℤ d)
-product_within a b (pos c) (pos d) h k =
-    let p : nat_abs a ≤ c = omega (arith, ints) in
-    let q : nat_abs b ≤ d = omega (arith, ints) in
-    let r = mul-le (nat_abs a) (nat_abs b) c d p q in
-    let s = unsigned_abs-mul a b in
-    omega (arith, ints)
+product_within a b (pos c) (pos d) h k = grind (arith, common_steps)
 product_within a b (negsuc c) d h k = absurd (omega (arith, ints))
 product_within a b (pos c) (negsuc d) h k = absurd (omega (arith, ints))
 
@@ -83,7 +74,6 @@ majorant-append : (n : ℕ) (ds es : List ℕ) (f g : Poly) → IsMajorant (powe
 majorant-append n ds es f g h k α =
     omega (arith, ints, powers-append ds es n α, coefficient_plus f g α, h α, k α)
 
--- if (x_1 + .. + x_n)^d is a majorant of f, so is the sum of powers with d as its only exponent
 majorant-one : (d n : ℕ) (f : Poly) → IsMajorant (power d n) f → IsMajorant (powers (d ∷ []) n) f
 majorant-one d n f h α = subst (λ z. pos (nat_abs (coefficient f α)) ≤ℤ z) (sym (coefficient-powers (d ∷ []) n α ∙ +ℤ_idr (coefficient (power d n) α))) (h α)
 
@@ -112,7 +102,7 @@ majorant-product_over f n i h (k ∷ parts) =
     (Same_refl (times (f k n) (product_over f parts n)))
     (majorant-times n (power k n) (power (size parts) n) (f k n) (product_over f parts n) (In-power k n) (In-power (size parts) n) (i k) (In-product_over f parts n i) (h k) (majorant-product_over f n i h parts))
 
--- ---- basis polynomials are in n variables; a bound for the cleared value of an expression, which is its value times its common denominator
+-- ---- a bound for the value of an expression times its common denominator
 
 pub In-atom : (basis : Basis) (parts : List ℕ) (n : ℕ) → In n (basis_polynomial basis parts n)
 In-atom Basis.monomials parts n = In-monomials (λ α. same (sorted_parts α) parts) n (size parts)
@@ -145,7 +135,6 @@ In-cleared_value (difference e f) n =
     (In_negate n (scale (pos (q / denominator f)) (cleared_value f n)) (In_scale n (pos (q / denominator f)) (cleared_value f n) (In-cleared_value f n)))
 In-cleared_value (product e f) n = In_times n (cleared_value e n) (cleared_value f n) (In-cleared_value e n) (In-cleared_value f n)
 
--- if no exponent of the list ds is above d, neither is any exponent of ds repeated q times
 low-copies : (d q : ℕ) (ds : List ℕ) → ((k : ℕ) → Among k ds → k ≤ d) → (k : ℕ) → Among k (copies q ds) → k ≤ d
 low-copies d zero ds h k m = absurd m
 low-copies d (suc q) ds h k m = by (Among_from_append k ds (copies q ds) m) (low-copies d q ds h k)
@@ -227,25 +216,11 @@ bounded-weaken N M d e n f h k b = record {
   majorant = b.majorant;
 }
 
--- if F is a majorant of f, and F is bounded by N at the degree d (`IsBounded`), then f is bounded by N at the degree d
 pub bounded-majorant : (N d n : ℕ) (F f : Poly) → IsMajorant F f → IsBounded N d n F → IsBounded N d n f
-bounded-majorant N d n F f m b = record {
-  exponents = b.exponents;
-  few = b.few;
-  low = b.low;
-  majorant = λ α. through (coefficient f α) (coefficient F α) (coefficient (powers b.exponents n) α) (m α) (b.majorant α);
-}
-  where
-    through : (x y z : ℤ) → pos (nat_abs x) ≤ℤ y → pos (nat_abs y) ≤ℤ z → pos (nat_abs x) ≤ℤ z
-    through x y z h k = omega (arith, ints)
+bounded-majorant N d n F f m b = search rules
 
 pub bounded_respects : (N d n : ℕ) (f g : Poly) → Same f g → IsBounded N d n f → IsBounded N d n g
-bounded_respects N d n f g e b = record {
-  exponents = b.exponents;
-  few = b.few;
-  low = b.low;
-  majorant = majorant_respects (powers b.exponents n) (powers b.exponents n) f g (Same_refl (powers b.exponents n)) e b.majorant;
-}
+bounded_respects N d n f g e b = search rules
 
 -- the cleared value of an expression e, which is the value of e times its common denominator, is bounded by `numerator e` at the degree of e
 -- (`IsBounded`), in every number of variables
@@ -254,24 +229,10 @@ bounded_value (number a) n = bounded-number a n
 bounded_value (fraction a b) n = bounded-number a n
 bounded_value (atom basis parts) n = bounded-atom basis parts n
 bounded_value (negation e) n = bounded-negate (numerator e) (degree e) n (cleared_value e n) (bounded_value e n)
-bounded_value (sum e f) n =
-    let q = lcm (denominator e) (denominator f) in
-    bounded-plus
-    (numerator e * (q / denominator e)) (numerator f * (q / denominator f)) (degree e) (degree f) n
-    (scale (pos (q / denominator e)) (cleared_value e n)) (scale (pos (q / denominator f)) (cleared_value f n))
-    (bounded-scale (numerator e) (degree e) (q / denominator e) n (cleared_value e n) (bounded_value e n))
-    (bounded-scale (numerator f) (degree f) (q / denominator f) n (cleared_value f n) (bounded_value f n))
-bounded_value (difference e f) n =
-    let q = lcm (denominator e) (denominator f) in
-    bounded-plus
-    (numerator e * (q / denominator e)) (numerator f * (q / denominator f)) (degree e) (degree f) n
-    (scale (pos (q / denominator e)) (cleared_value e n)) (negate (scale (pos (q / denominator f)) (cleared_value f n)))
-    (bounded-scale (numerator e) (degree e) (q / denominator e) n (cleared_value e n) (bounded_value e n))
-    (bounded-negate (numerator f * (q / denominator f)) (degree f) n (scale (pos (q / denominator f)) (cleared_value f n)) (bounded-scale (numerator f) (degree f) (q / denominator f) n (cleared_value f n) (bounded_value f n)))
+bounded_value (sum e f) n = search (rules, bounded-plus, bounded-scale, (bounded_value e n), (bounded_value f n))
+bounded_value (difference e f) n = search (rules, bounded-plus, bounded-scale, bounded-negate, (bounded_value e n), (bounded_value f n))
 bounded_value (product e f) n =
     bounded-times (numerator e) (numerator f) (degree e) (degree f) n (cleared_value e n) (cleared_value f n) (In-cleared_value e n) (In-cleared_value f n) (bounded_value e n) (bounded_value f n)
-
--- ---- if f is bounded by N at the degree d, the coefficient of x^α times Π α_i! is at most N·|α|! in absolute value
 
 within_multiple : (c l N : ℕ) (P : ℤ) (F D : ℕ) → pos c ≤ℤ (pos l *ℤ P) → l ≤ N → pos 0 ≤ℤ P → P *ℤ pos F ≡ pos D → c * F ≤ N * D
 within_multiple c l N (pos p) F D h k s e =

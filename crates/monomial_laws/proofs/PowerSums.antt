@@ -4,7 +4,7 @@
 -- The coefficient of x^α in p_a·m_λ is the number of places of α from which a can be subtracted so that the list then sorts to λ
 -- (`coefficient-power_sum_times`). At such a place the entry of α is a + b with b a part of λ or 0, and α sorts to λ with one b
 -- replaced by a + b. If there is one such place, every place with the same entry is another one.
-use Rattle.std.proofs.Common.{◌≡◌, ◌⊎◌, ℕ, zero, suc, ◌+◌, ◌-◌, ◌<◌, ◌≤◌, Bool, true, false, ◌&&◌, ◌||◌, cond, eqb, leb, List, [], ◌∷◌, map, length, replicate, sym, ◌∙◌, ap, ap₂, refl, inl, inr, arith, ℤ, pos, ◌+ℤ◌, ◌*ℤ◌}
+use Rattle.std.proofs.Common.{◌≡◌, ◌⊎◌, ℕ, zero, suc, ◌+◌, ◌-◌, ◌<◌, ◌≤◌, Bool, true, false, ◌&&◌, cond, eqb, leb, List, [], ◌∷◌, map, length, replicate, sym, ◌∙◌, ap, ap₂, refl, inl, inr, arith, ℤ, pos, ◌+ℤ◌, ◌*ℤ◌, rules}
 use Rattle.std.proofs.lemmas.Int.{ints}
 use Rattle.std.proofs.lemmas.Bool.{cases_lt, cases_eq, le-leb, lt-leb, leb-true, eq-eqb, ne_eqb, eqb-true, and_parts, and_from}
 use Rattle.sym_model.specs.Sum.{total, Among}
@@ -26,8 +26,6 @@ use Rattle.sym_model.proofs.Ring.{product-one}
 use lib.IntN.{+ℤ_idl, +ℤ_idr, *ℤ-zero}
 use Rattle.sym_model.proofs.Integers.{nested_tests}
 
--- ---- the entries of a list, each paired with the list of the other entries
-
 -- for each entry of α, the pair of this entry and the list of the other entries
 abbrev pub spots : List ℕ → List (ℕ × List ℕ)
 spots [] = []
@@ -43,7 +41,6 @@ length-lowered a (c ∷ α) γ m = by (leb a c) (Among_from_append γ (cond (leb
     by false (inl u) r = absurd u
     by b (inr u) r = let s = Among_from_map (λ (δ : List ℕ). c ∷ δ) γ (lowered a α) u in ap length s.2 ∙ ap suc (r s.0 s.1)
 
--- no list obtained from α by subtracting a from one entry is empty
 total_lowered-empty : (a : ℕ) (α : List ℕ) → total (λ (γ : List ℕ). at_only γ []) (lowered a α) ≡ pos 0
 total_lowered-empty a [] = refl
 total_lowered-empty a (c ∷ α) =
@@ -54,8 +51,8 @@ total_lowered-empty a (c ∷ α) =
     by true = refl
     by false = refl
 
--- if β has n places, the number of exponent lists ε with one a and zeros for which ε + β = α is the number of places at which subtracting a from α
--- gives β
+-- let β have the length n. The number of exponent lists ε = (0, .., 0, a, 0, .., 0) with ε + β = α is the number of places at which subtracting a
+-- from α gives β
 pub total_one_place-join : (a n : ℕ) (β α : List ℕ) → length β ≡ n → total (λ (ε : List ℕ). at_only α (join ε β)) (one_place a n) ≡ total (λ (γ : List ℕ). at_only γ β) (lowered a α)
 total_one_place-join a zero [] α l = sym (total_lowered-empty a α)
 total_one_place-join a zero (b ∷ β) α l = absurd (omega arith)
@@ -104,8 +101,6 @@ coefficient-power_sum_times a n g α h i =
     ∙ pair_total g (λ (γ : List ℕ) (β : List ℕ). at_only γ β) (lowered a α)
     ∙ total_ext (λ (γ : List ℕ). pair g (at_only γ)) (coefficient g) (λ γ. sym (coefficient_pair g γ)) (lowered a α)
 
--- the sum of χ(γ sorted), over the lists γ obtained from α by subtracting a from one entry, is a sum over the entries c ≥ a of α: the sum of the
--- values of χ at the list that has the other entries and c - a, sorted
 total_lowered-sorted : (a : ℕ) (χ : List ℕ → ℤ) (α : List ℕ) → total (λ (γ : List ℕ). χ (sorted_parts γ)) (lowered a α) ≡ total (λ (s : ℕ × List ℕ). cond (leb a s.0) (χ (insert_part (s.0 - a) (sorted_parts s.1))) (pos 0)) (spots α)
 total_lowered-sorted a χ [] = refl
 total_lowered-sorted a χ (c ∷ α) =
@@ -125,7 +120,6 @@ total_lowered-sorted a χ (c ∷ α) =
     by true = +ℤ_idr (χ (insert_part (c - a) (sorted_parts α)))
     by false = refl
 
--- inserting an entry of α into the sorted list of the other entries gives α sorted; here in a sum of ψ(entry, sorted list) over the entries
 total_spots-sorted : (ψ : ℕ → List ℕ → ℤ) (α : List ℕ) → total (λ (s : ℕ × List ℕ). ψ s.0 (insert_part s.0 (sorted_parts s.1))) (spots α) ≡ total (λ (c : ℕ). ψ c (sorted_parts α)) α
 total_spots-sorted ψ [] = refl
 total_spots-sorted ψ (c ∷ α) =
@@ -163,8 +157,6 @@ lowered_here a k ρ parts h q p = by (leb a k) refl
         (lowered_from_raised a (k - a) ρ parts h p r.0 (ap (λ n. insert_part n ρ) back ∙ same_true (insert_part k ρ) (raise a (k - a) parts) r.1))))
         ∙ sym (nested_tests (has (k - a) (0 ∷ parts)) (same (insert_part k ρ) (raise a (k - a) parts)) (pos 1))
 
--- if a > 0, the number of lists obtained from α by subtracting a from one entry that sort to the partition `parts` is the sum of `raised_here` over
--- the entries of α
 total_lowered-is : (a : ℕ) (parts α : List ℕ) → 0 < a → IsPartition parts → total (λ (γ : List ℕ). cond (same (sorted_parts γ) parts) (pos 1) (pos 0)) (lowered a α) ≡ total (λ (k : ℕ). raised_here a parts k (sorted_parts α)) α
 total_lowered-is a parts α h p =
     total_lowered-sorted a (λ l. cond (same l parts) (pos 1) (pos 0)) α
@@ -175,48 +167,19 @@ total_lowered-is a parts α h p =
     (spots α)
     ∙ total_spots-sorted (raised_here a parts) α
 
--- ---- the terms of p_a·m_λ
-
--- the sum of g, over the different numbers of a list that are equal to k, is g(k) if k is in the list, and 0 otherwise
 pub total_distinct-only : (g : ℕ → ℤ) (k : ℕ) (numbers : List ℕ) → total (λ (b : ℕ). cond (eqb b k) (g b) (pos 0)) (distinct numbers) ≡ cond (has k numbers) (g k) (pos 0)
 total_distinct-only g k [] = refl
-total_distinct-only g k (c ∷ numbers) = by (has c numbers) refl (cases_eq c k) (total_distinct-only g k numbers)
-  where
-    by : (t : Bool) → has c numbers ≡ t → (c ≡ k) ⊎ (c ≡ k → ⊥) → total (λ (b : ℕ). cond (eqb b k) (g b) (pos 0)) (distinct numbers) ≡ cond (has k numbers) (g k) (pos 0)
-        → total (λ (b : ℕ). cond (eqb b k) (g b) (pos 0)) (cond t (distinct numbers) (c ∷ distinct numbers)) ≡ cond (eqb c k || has k numbers) (g k) (pos 0)
-    by true e (inl i) r = r ∙ ap (λ t. cond t (g k) (pos 0)) (ap (λ n. has n numbers) (sym i) ∙ e) ∙ rw (eq-eqb c k i) refl
-    by true e (inr n) r = r ∙ rw (ne_eqb c k n) refl
-    by false e (inl i) r =
-        let none = r ∙ ap (λ t. cond t (g k) (pos 0)) (ap (λ n. has n numbers) (sym i) ∙ e) in
-        rw (eq-eqb c k i) (omega (arith, ints, ap g i))
-    by false e (inr n) r = rw (ne_eqb c k n) (+ℤ_idl (total (λ (b : ℕ). cond (eqb b k) (g b) (pos 0)) (distinct numbers)) ∙ r)
+total_distinct-only g k (c ∷ numbers) = search (rules, cases_eq, eq-eqb, ne_eqb, ints, +ℤ_idl, (total_distinct-only g k numbers))
 
--- the number of times that k occurs in α is the sum of 1 over the entries of α equal to k
 pub total_times_in : (k : ℕ) (α : List ℕ) → total (λ (c : ℕ). cond (eqb c k) (pos 1) (pos 0)) α ≡ pos (times_in k α)
 total_times_in k [] = refl
-total_times_in k (c ∷ α) = by (eqb c k) (total_times_in k α)
-  where
-    by : (b : Bool) → total (λ (c : ℕ). cond (eqb c k) (pos 1) (pos 0)) α ≡ pos (times_in k α) → cond b (pos 1) (pos 0) +ℤ total (λ (c : ℕ). cond (eqb c k) (pos 1) (pos 0)) α ≡ pos (cond b 1 0 + times_in k α)
-    by true e = omega (arith, ints)
-    by false e = omega (arith, ints)
+total_times_in k (c ∷ α) = search (rules, ints, (total_times_in k α))
 
--- ---- p_a·m_λ is the sum of the terms `raised_terms a λ`
-
--- c = a + b if and only if a ≤ c and b = c - a; here for a number x that is counted under this condition
 taken : (a b c : ℕ) (x : ℤ) → cond (eqb c (a + b)) x (pos 0) ≡ cond (leb a c) (cond (eqb b (c - a)) x (pos 0)) (pos 0)
-taken a b c x = by (cases_lt c a)
-  where
-    by : (c < a) ⊎ (a ≤ c) → cond (eqb c (a + b)) x (pos 0) ≡ cond (leb a c) (cond (eqb b (c - a)) x (pos 0)) (pos 0)
-    by (inl h) = rw (ne_eqb c (a + b) (λ e. omega arith), lt-leb a c h) refl
-    by (inr h) =
-        let e : eqb c (a + b) ≡ eqb b (c - a) =
-        tests_agree (eqb c (a + b)) (eqb b (c - a))
-        (λ t. let u = eqb-true c (a + b) t in eq-eqb b (c - a) (omega arith))
-        (λ t. let u = eqb-true b (c - a) t in eq-eqb c (a + b) (omega arith)) in
-        rw (e, le-leb a c h) refl
+taken a b c x = search rules
 
--- let μ be `parts` with one b replaced by a + b. The multiplicity of a + b in μ times the coefficient of x^α in m_μ is, if α has n places, the number
--- of entries a + b of α if α sorts to μ, and otherwise 0
+-- let μ be `parts` with one b replaced by a + b. The multiplicity of a + b in μ times the coefficient of x^α in m_μ is the number of entries a + b of
+-- α, if α has n places and sorts to μ. Otherwise this product is 0
 term_at : (a b n : ℕ) (parts α : List ℕ) → 0 < a
     → pos (times_in (a + b) (raise a b parts)) *ℤ coefficient (monomial (raise a b parts) n) α
     ≡ cond (eqb (length α) n) (total (λ (c : ℕ). cond (leb a c) (cond (eqb b (c - a)) (cond (same (sorted_parts α) (raise a b parts)) (pos 1) (pos 0)) (pos 0)) (pos 0)) α) (pos 0)

@@ -1,21 +1,21 @@
--- The powers of x_1 + .. + x_n (specs/Majorant).
+-- Powers of x_1 + .. + x_n (specs/Majorant). Here *the power d* is (x_1 + .. + x_n)^d.
 --     power-add                   the product of the powers d and e is the power d + e
 --     coefficient_power           the coefficient of x^α in the power d, times Π α_i!, is d! if α has the sum d, and 0 otherwise
 --     powers-product              the product of two sums of powers is the sum of the powers d + e, for each exponent d of the first sum and each
 --                                 exponent e of the second
-use Rattle.std.proofs.Common.{◌≡◌, ◌⊎◌, ℕ, zero, suc, ◌+◌, ◌-◌, ◌*◌, ◌<◌, ◌≤◌, Bool, true, false, ◌&&◌, cond, eqb, leb, List, [], ◌∷◌, ◌++◌, map, length, replicate, sym, ◌∙◌, ap, ap₂, subst, refl, inl, inr, arith, ℤ, pos, negsuc, ◌+ℤ◌, ◌*ℤ◌, flat_map}
+use Rattle.std.proofs.Common.{◌≡◌, ◌⊎◌, ℕ, zero, suc, ◌+◌, ◌-◌, ◌*◌, ◌<◌, ◌≤◌, Bool, true, false, cond, eqb, leb, List, [], ◌∷◌, ◌++◌, map, length, replicate, sym, ◌∙◌, ap, ap₂, subst, refl, inl, inr, arith, ℤ, pos, negsuc, ◌+ℤ◌, ◌*ℤ◌, flat_map, rules}
 use Rattle.std.specs.Prelude.{◌≤ℤ◌}
 use Rattle.std.proofs.lemmas.Int.{ints}
-use Rattle.std.proofs.lemmas.Bool.{cases_eq, eq-eqb, ne_eqb, eqb-true, leb-true, le-leb}
+use Rattle.std.proofs.lemmas.Bool.{cases_eq, eq-eqb, ne_eqb, eqb-true, leb-true}
 use Rattle.std.proofs.lemmas.List.{length-append, length-map}
 use Rattle.sym_model.proofs.Exponents.{tests_agree}
 use Rattle.sym_model.specs.Sum.{total, Among}
-use Rattle.sym_model.specs.Polynomial.{Poly, same, coefficient, Same, In, one, join, pair, times}
+use Rattle.sym_model.specs.Polynomial.{Poly, coefficient, Same, In, one, join, pair, times}
 use Rattle.sym_model.specs.Partition.{size, insert_part, sorted_parts}
 use Rattle.sym_model.specs.Bases.{power_sum_of, product_over}
 use Rattle.sym_model.specs.Weight.{factorial}
 use Rattle.monomial_laws.specs.Majorant.{power, powers}
-use Rattle.sym_model.proofs.Ring.{one-product, product_assoc, distributes_right, negation-product}
+use Rattle.sym_model.proofs.Ring.{one-product, product_assoc, distributes_right}
 use Rattle.sym_model.proofs.Sums.{total_ext, total_append, total_map, total_scale, total_each, Among_from_append, Among-map, Among_from_map}
 use Rattle.sym_model.proofs.Polynomials.{at_only, coefficient_pair, pair_ext, pair_each, pair_times, pair_total, pair_determined, same_from_pair, Same_refl, Same_sym, Same_trans, times_respects, In_one, In_times, In_each, coefficient_outside}
 use Rattle.sym_model.proofs.PolynomialLaws.{times_assoc, one-times}
@@ -45,9 +45,7 @@ pub In-powers : (exponents : List ℕ) (n : ℕ) → In n (powers exponents n)
 In-powers exponents n = In_each n (λ (d : ℕ). power d n) exponents (λ d m. In-power d n)
 
 pub power-add : (d e n : ℕ) → Same (power (d + e) n) (times (power d n) (power e n))
-power-add zero e n =
-    let k : 0 + e ≡ e = omega arith in
-    rw k (Same_sym (times (one n) (power e n)) (power e n) (one-times n (power e n) (In-power e n)))
+power-add zero e n = search (rules, one-times, In-power)
 power-add (suc d) e n =
     let k : suc d + e ≡ suc (d + e) = omega arith in
     let p = power_sum_of 1 n in
@@ -58,7 +56,6 @@ power-add (suc d) e n =
 
 -- ---- the coefficient of x^α in (x_1 + .. + x_n)^d
 
--- if γ is α with 1 subtracted from one entry, the sum of γ is 1 less than that of α
 size-lowered : (α γ : List ℕ) → Among γ (lowered 1 α) → suc (size γ) ≡ size α
 size-lowered [] γ m = absurd m
 size-lowered (c ∷ α) γ m = by (leb 1 c) refl (Among_from_append γ (cond (leb 1 c) (((c - 1) ∷ α) ∷ []) []) (map (λ (δ : List ℕ). c ∷ δ) (lowered 1 α)) m) (size-lowered α)
@@ -70,12 +67,8 @@ size-lowered (c ∷ α) γ m = by (leb 1 c) refl (Among_from_append γ (cond (le
     by b e (inr u) r = let s = Among_from_map (λ (δ : List ℕ). c ∷ δ) γ (lowered 1 α) u in omega (arith, ap size s.2, r s.0 s.1)
 
 lowered-suc : (c : ℕ) (α : List ℕ) → lowered 1 (suc c ∷ α) ≡ (c ∷ α) ∷ map (λ (γ : List ℕ). suc c ∷ γ) (lowered 1 α)
-lowered-suc c α =
-    ap (λ b. cond b (((suc c - 1) ∷ α) ∷ []) [] ++ map (λ (γ : List ℕ). suc c ∷ γ) (lowered 1 α)) (le-leb 1 (suc c) (omega arith))
-    ∙ ap (λ n. (n ∷ α) ∷ map (λ (γ : List ℕ). suc c ∷ γ) (lowered 1 α)) (let e : suc c - 1 ≡ c = omega arith in e)
+lowered-suc c α = search rules
 
--- let γ run over the lists that are α with one entry c replaced by c - 1; then Π γ_i! is Π α_i!/c. So if f(γ)·Π γ_i! = k for all these γ, the sum of
--- the f(γ), times Π α_i!, is |α|·k
 factorials-lowered : (α : List ℕ) (f : List ℕ → ℤ) (k : ℤ) → ((γ : List ℕ) → Among γ (lowered 1 α) → f γ *ℤ pos (factorials γ) ≡ k)
     → total f (lowered 1 α) *ℤ pos (factorials α) ≡ pos (size α) *ℤ k
 factorials-lowered [] f k h = zero-*ℤ (pos 1) ∙ sym (zero-*ℤ k)
@@ -119,14 +112,8 @@ factorials-lowered (suc c ∷ α) f k h =
 -- the coefficient of x^α in the polynomial 1, times Π α_i!, is 1 if all α_i are 0, and 0 otherwise
 coefficient-one : (α : List ℕ) → coefficient (one (length α)) α *ℤ pos (factorials α) ≡ cond (eqb (size α) 0) (pos 1) (pos 0)
 coefficient-one [] = refl
-coefficient-one (zero ∷ α) =
-    ap (λ n. coefficient (one (length α)) α *ℤ pos n) (let e : 1 * factorials α ≡ factorials α = omega arith in e)
-    ∙ coefficient-one α
-    ∙ ap (λ n. cond (eqb n 0) (pos 1) (pos 0)) (let e : size α ≡ 0 + size α = omega arith in e)
-coefficient-one (suc c ∷ α) =
-    ap (λ b. (cond (b && same (replicate (length α) 0) α) (pos 1) (pos 0) +ℤ pos 0) *ℤ pos (factorials (suc c ∷ α))) (ne_eqb 0 (suc c) (λ e. omega arith))
-    ∙ zero-*ℤ (pos (factorials (suc c ∷ α)))
-    ∙ ap (λ b. cond b (pos 1) (pos 0)) (sym (ne_eqb (suc c + size α) 0 (λ e. omega arith)))
+coefficient-one (zero ∷ α) = search (rules, (coefficient-one α))
+coefficient-one (suc c ∷ α) = search rules
 
 -- if α has n entries with the sum d, the coefficient of x^α in (x_1 + .. + x_n)^d times Π α_i! is d!; if the sum of α is not d, the coefficient is 0
 pub coefficient_power : (d n : ℕ) (α : List ℕ) → length α ≡ n → coefficient (power d n) α *ℤ pos (factorials α) ≡ cond (eqb (size α) d) (pos (factorial d)) (pos 0)
@@ -153,20 +140,15 @@ pub factorials-positive : (α : List ℕ) → 0 < factorials α
 factorials-positive [] = omega arith
 factorials-positive (a ∷ α) = let p = mul-le-mul_left (factorial a) (factorials-positive α) in omega (arith, p, factorial-positive a)
 
--- if z·a = b for natural numbers a > 0 and b, then z is not negative, at least 1 if b is positive, and 0 if b is 0
 factor : (z : ℤ) (a b : ℕ) → 0 < a → z *ℤ pos a ≡ pos b → (pos 0 ≤ℤ z) × (0 < b → pos 1 ≤ℤ z) × (b ≡ 0 → z ≡ pos 0)
 factor (pos zero) a b h e = (omega (arith, ints), λ l. absurd (omega (arith, ints)), λ i. refl)
 factor (pos (suc k)) a b h e =
     (omega (arith, ints), λ l. omega (arith, ints), λ i. let p = mul-le-mul_left (suc k) h in let q : suc k * a ≡ b = omega (arith, ints) in absurd (omega arith))
-factor (negsuc k) a b h e =
-    let p = mul-le-mul_left (suc k) h in
-    let q : pos b +ℤ pos (suc k * a) ≡ pos 0 = ap (λ z. z +ℤ pos (suc k * a)) (sym e ∙ negation-product (pos (suc k)) (pos a)) ∙ omega (arith, ints) in
-    absurd (omega (arith, ints))
+factor (negsuc k) a b h e = search rules
 
 whole_coefficient : (d n : ℕ) (α : List ℕ) → length α ≡ n → coefficient (power d n) α *ℤ pos (factorials α) ≡ pos (cond (eqb (size α) d) (factorial d) 0)
 whole_coefficient d n α long = coefficient_power d n α long ∙ sym (pos-cond (eqb (size α) d) (factorial d))
 
--- no coefficient of (x_1 + .. + x_n)^d is negative
 pub power-nonnegative : (d n : ℕ) (α : List ℕ) → pos 0 ≤ℤ coefficient (power d n) α
 power-nonnegative d n α = by (cases_eq (length α) n)
   where
@@ -180,7 +162,6 @@ power-positive d n α e i =
     (factor (coefficient (power d n) α) (factorials α) (cond (eqb (size α) d) (factorial d) 0) (factorials-positive α) (whole_coefficient d n α e)).1
     (rw (eq-eqb (size α) d i) (factorial-positive d))
 
--- a monomial of a degree other than d has the coefficient 0 in (x_1 + .. + x_n)^d
 pub power-elsewhere : (d n : ℕ) (α : List ℕ) → length α ≡ n → (size α ≡ d → ⊥) → coefficient (power d n) α ≡ pos 0
 power-elsewhere d n α e i =
     (factor (coefficient (power d n) α) (factorials α) (cond (eqb (size α) d) (factorial d) 0) (factorials-positive α) (whole_coefficient d n α e)).2
@@ -192,10 +173,7 @@ pub pair-powers : (exponents : List ℕ) (n : ℕ) (φ : List ℕ → ℤ) → p
 pair-powers exponents n φ = pair_each (λ (d : ℕ). power d n) exponents φ
 
 pub coefficient-powers : (exponents : List ℕ) (n : ℕ) (α : List ℕ) → coefficient (powers exponents n) α ≡ total (λ (d : ℕ). coefficient (power d n) α) exponents
-coefficient-powers exponents n α =
-    coefficient_pair (powers exponents n) α
-    ∙ pair-powers exponents n (at_only α)
-    ∙ total_ext (λ (d : ℕ). pair (power d n) (at_only α)) (λ (d : ℕ). coefficient (power d n) α) (λ d. sym (coefficient_pair (power d n) α)) exponents
+coefficient-powers exponents n α = search (rules, coefficient_pair, pair-powers, at_only, total_ext)
 
 -- the sums d + e for each exponent d of the first list and each exponent e of the second: the exponents of a product of two sums of powers
 abbrev pub sums : List ℕ → List ℕ → List ℕ
@@ -237,22 +215,14 @@ length-copies zero ds = omega arith
 length-copies (suc q) ds = omega (arith, length-append ds (copies q ds), length-copies q ds)
 
 pub powers-append : (ds es : List ℕ) (n : ℕ) (α : List ℕ) → coefficient (powers (ds ++ es) n) α ≡ coefficient (powers ds n) α +ℤ coefficient (powers es n) α
-powers-append ds es n α =
-    coefficient-powers (ds ++ es) n α ∙ total_append (λ (d : ℕ). coefficient (power d n) α) ds es
-    ∙ ap₂ ◌+ℤ◌ (sym (coefficient-powers ds n α)) (sym (coefficient-powers es n α))
+powers-append ds es n α = search (rules, coefficient-powers, total_append)
 
 pub powers-copies : (q : ℕ) (ds : List ℕ) (n : ℕ) (α : List ℕ) → coefficient (powers (copies q ds) n) α ≡ pos q *ℤ coefficient (powers ds n) α
 powers-copies zero ds n α = sym (zero-*ℤ (coefficient (powers ds n) α))
-powers-copies (suc q) ds n α =
-    powers-append ds (copies q ds) n α
-    ∙ ap (λ z. coefficient (powers ds n) α +ℤ z) (powers-copies q ds n α)
-    ∙ more (coefficient (powers ds n) α)
-  where
-    more : (z : ℤ) → z +ℤ pos q *ℤ z ≡ pos (suc q) *ℤ z
-    more z = ap (λ y. y +ℤ pos q *ℤ z) (sym (one-product z)) ∙ sym (distributes_right (pos 1) (pos q) z) ∙ ap (λ k. pos k *ℤ z) (let e : 1 + q ≡ suc q = omega arith in e)
+powers-copies (suc q) ds n α = search (rules, powers-append, one-product, distributes_right, (powers-copies q ds n α))
 
--- if α has the sum d, the coefficient of x^α in the sum of the powers of x_1 + .. + x_n with the exponents ds is at most that in the power d, times
--- the number of the exponents
+-- if α has the sum d, the coefficient of x^α in the sum of the powers of x_1 + .. + x_n with the exponents ds is at most `length ds` times the
+-- coefficient of x^α in (x_1 + .. + x_n)^d
 pub powers-few : (ds : List ℕ) (n d : ℕ) (α : List ℕ) → length α ≡ n → size α ≡ d → coefficient (powers ds n) α ≤ℤ (pos (length ds) *ℤ coefficient (power d n) α)
 powers-few ds n d α e i = rw (coefficient-powers ds n α) (by ds)
   where
@@ -273,12 +243,7 @@ powers-few ds n d α e i = rw (coefficient-powers ds n α) (by ds)
 pub factorials-insert : (a : ℕ) (parts : List ℕ) → factorials (insert_part a parts) ≡ factorial a * factorials parts
 factorials-insert zero parts = omega arith
 factorials-insert (suc a) [] = refl
-factorials-insert (suc a) (b ∷ parts) = by (leb b (suc a)) (factorials-insert (suc a) parts)
-  where
-    by : (t : Bool) → factorials (insert_part (suc a) parts) ≡ factorial (suc a) * factorials parts
-        → factorials (cond t (suc a ∷ b ∷ parts) (b ∷ insert_part (suc a) parts)) ≡ factorial (suc a) * factorials (b ∷ parts)
-    by true r = refl
-    by false r = ap (λ k. factorial b * k) r ∙ mul_left_comm (factorial b) (factorial (suc a)) (factorials parts)
+factorials-insert (suc a) (b ∷ parts) = search (rules, mul_left_comm, (factorials-insert (suc a) parts))
 
 pub factorials-sorted : (α : List ℕ) → factorials (sorted_parts α) ≡ factorials α
 factorials-sorted [] = refl

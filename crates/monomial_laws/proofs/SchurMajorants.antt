@@ -1,6 +1,7 @@
--- (x_1 + .. + x_n)^d is the sum of x^content over all words of d letters, and a filling of λ, read row by row, is a word of |λ| letters: so (x_1 + ..
--- + x_n)^|λ| is a majorant of s_λ.
-use Rattle.std.proofs.Common.{◌≡◌, ℕ, zero, suc, ◌+◌, ◌<◌, Bool, true, false, cond, eqb, List, [], ◌∷◌, ◌++◌, map, sym, ◌∙◌, ap, ap₂, subst, refl, inl, inr, arith, ℤ, pos, ◌+ℤ◌, filter}
+-- The *content* of a word lists, for each letter 1, .., n, how often it occurs in the word. (x_1 + .. + x_n)^d is the sum of x^content over all
+-- words of d letters. A filling of the diagram of λ, read row by row, is a word of |λ| letters. So (x_1 + .. + x_n)^|λ| is a majorant of s_λ: no
+-- coefficient of s_λ is greater.
+use Rattle.std.proofs.Common.{◌≡◌, ℕ, zero, suc, ◌+◌, ◌<◌, Bool, cond, eqb, List, [], ◌∷◌, ◌++◌, map, sym, ◌∙◌, ap, ap₂, subst, refl, inl, inr, arith, ℤ, pos, ◌+ℤ◌, filter, rules}
 use Rattle.std.specs.Prelude.{◌≤ℤ◌, nat_abs}
 use Rattle.std.proofs.lemmas.Int.{ints}
 use Rattle.std.proofs.lemmas.Bool.{eq-eqb, ne_eqb}
@@ -20,13 +21,10 @@ use Rattle.sym_model.proofs.Tableaux.{row_lengths-none}
 use Rattle.sym_model.proofs.Lists.{map-among, map-map}
 use Rattle.sym_model.proofs.Contents.{map-zeros, content-none}
 
--- ---- words of letters and their contents
-
 -- for each of the letters m + 1, .., m + n, the number of times that it occurs in the word w
 abbrev content_after : ℕ → ℕ → List ℕ → List ℕ
 content_after m n w = map (λ (k : ℕ). times_in k w) (after m n)
 
--- the letters m + j + 2, .., m + j + 1 + n, which `after (m + suc j) n` lists, are greater than m
 letters_past : (m n j a : ℕ) → Among a (after (m + suc j) n) → m < a
 letters_past m zero j a h = absurd h
 letters_past m (suc n) j a (inl e) = omega arith
@@ -37,8 +35,6 @@ past m zero a u = absurd u
 past m (suc n) a (inl e) = omega arith
 past m (suc n) a (inr u) = letters_past (m + 1) n zero a u
 
--- the contents, for the letters m + 1, .., m + n, of the words that consist of one of these letters: each has one 1, and they are listed as by
--- `one_place`
 one_place-letters : (m n : ℕ) → one_place 1 n ≡ map (λ (a : ℕ). content_after m n (a ∷ [])) (after m n)
 one_place-letters m zero = refl
 one_place-letters m (suc n) =
@@ -54,7 +50,6 @@ one_place-letters m (suc n) =
     (map-among (λ (a : ℕ). content_after m (suc n) (a ∷ [])) (λ (a : ℕ). 0 ∷ content_after (m + 1) n (a ∷ [])) (after (m + 1) n)
     (λ a h. let l = past m n a h in ap (λ b. (cond b 1 0 + 0) ∷ content_after (m + 1) n (a ∷ [])) (ne_eqb a (m + 1) (λ e. omega arith)))))
 
--- the content of the word a ∷ w is the content of a plus that of w, place by place
 content-cons : (m n a : ℕ) (w : List ℕ) → content_after m n (a ∷ w) ≡ join (content_after m n (a ∷ [])) (content_after m n w)
 content-cons m zero a w = refl
 content-cons m (suc n) a w = ap₂ ◌∷◌ (let e : cond (eqb a (m + 1)) 1 0 + times_in (m + 1) w ≡ cond (eqb a (m + 1)) 1 0 + 0 + times_in (m + 1) w = omega arith in e) (content-cons (m + 1) n a w)
@@ -79,7 +74,6 @@ pair-power (suc d) n φ =
 
 -- ---- fillings, read row by row, are words
 
--- the sum of h(v w), over the words v of j letters and the words w of k letters, is the sum of h over the words of j + k letters
 total_words-add : (n j k : ℕ) (h : List ℕ → ℤ) → total (λ (v : List ℕ). total (λ (w : List ℕ). h (v ++ w)) (words n k)) (words n j) ≡ total h (words n (j + k))
 total_words-add n zero k h = +ℤ_idr (total h (words n k)) ∙ ap (λ i. total h (words n i)) (let e : k ≡ 0 + k = omega arith in e)
 total_words-add n (suc j) k h =
@@ -95,37 +89,18 @@ total_words-add n (suc j) k h =
     ∙ sym (total_each h (λ (a : ℕ). map (λ (w : List ℕ). a ∷ w) (words n (j + k))) (after 0 n))
     ∙ ap (λ i. total h (words n i)) (let e : suc (j + k) ≡ suc j + k = omega arith in e)
 
--- the sum of h(filling read row by row), over the fillings with rows of the given lengths, is the sum of h over the words whose number of letters is
--- the sum of the lengths
 total_fillings : (n : ℕ) (lengths : List ℕ) (h : List ℕ → ℤ) → total (λ (filling : List (List ℕ)). h (letters_of filling)) (fillings_of n lengths) ≡ total h (words n (size lengths))
 total_fillings n [] h = refl
-total_fillings n (k ∷ lengths) h =
-    total_each (λ (filling : List (List ℕ)). h (letters_of filling)) (λ (row : List ℕ). map (λ (rest : List (List ℕ)). row ∷ rest) (fillings_of n lengths)) (words n k)
-    ∙ total_ext
-    (λ (row : List ℕ). total (λ (filling : List (List ℕ)). h (letters_of filling)) (map (λ (rest : List (List ℕ)). row ∷ rest) (fillings_of n lengths)))
-    (λ (row : List ℕ). total (λ (w : List ℕ). h (row ++ w)) (words n (size lengths)))
-    (λ row.
-    total_map (λ (filling : List (List ℕ)). h (letters_of filling)) (λ (rest : List (List ℕ)). row ∷ rest) (fillings_of n lengths)
-    ∙ total_fillings n lengths (λ w. h (row ++ w)))
-    (words n k)
-    ∙ total_words-add n k (size lengths) h
-
--- ---- s_λ is a polynomial in n variables, and (x_1 + .. + x_n)^|λ| is a majorant of s_λ
+total_fillings n (k ∷ lengths) h = search (rules, total_each, total_ext, total_map, total_words-add, (total_fillings n lengths))
 
 pub In-schur : (parts : List ℕ) (n : ℕ) → In n (schur parts n)
 In-schur parts n =
     In_map n (λ (filling : List (List ℕ)). (content n (letters_of filling), pos 1)) (tableaux n parts [])
     (λ filling m. length-map (after 0 n) (λ (k : ℕ). times_in k (letters_of filling)) ∙ length_after 0 n)
 
--- if no value of f is negative, the sum of f over the elements that pass a test is at least 0, and at most the sum of f over all elements
 total_select-within : {A : Type 0} (f : A → ℤ) (test : A → Bool) (xs : List A) → ((x : A) → pos 0 ≤ℤ f x) → (pos 0 ≤ℤ total f (filter test xs)) × (total f (filter test xs) ≤ℤ total f xs)
 total_select-within f test [] h = (omega (arith, ints), omega (arith, ints))
-total_select-within {A} f test (x ∷ xs) h = by (test x) (h x) (total_select-within f test xs h)
-  where
-    by : (b : Bool) → pos 0 ≤ℤ f x → (pos 0 ≤ℤ total f (filter test xs)) × (total f (filter test xs) ≤ℤ total f xs)
-        → (pos 0 ≤ℤ total f (cond b (x ∷ filter test xs) (filter test xs))) × (total f (cond b (x ∷ filter test xs) (filter test xs)) ≤ℤ (f x +ℤ total f xs))
-    by true p r = (omega (arith, ints, r.0, r.1), omega (arith, ints, r.0, r.1))
-    by false p r = (r.0, omega (arith, ints, r.0, r.1))
+total_select-within {A} f test (x ∷ xs) h = search (rules, ints, (total_select-within f test xs h))
 
 pub majorant-schur : (parts : List ℕ) (n : ℕ) → IsMajorant (power (size parts) n) (schur parts n)
 majorant-schur parts n α =

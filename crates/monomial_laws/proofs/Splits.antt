@@ -1,7 +1,8 @@
--- The coefficients of a product f·g, and of m_λ·m_μ.
+-- The coefficients of a product f·g, and of m_λ·m_μ. The number `arrangements λ μ ν` counts the pairs (β, γ) of exponent lists with β + γ = ν such
+-- that β sorts to λ and γ sorts to μ.
 --     coefficient_times        the coefficient of x^α in f·g as a sum over the pairs (β, γ) with β + γ = α
---     monomial_product         if the coefficient of a list of terms in m at each partition ν is `arrangements λ μ ν`, its polynomial is m_λ·m_μ
-use Rattle.std.proofs.Common.{◌≡◌, ◌⊎◌, ℕ, zero, suc, ◌+◌, ◌-◌, ◌<◌, ◌≤◌, Bool, true, false, ◌&&◌, cond, eqb, leb, List, [], ◌∷◌, map, length, sym, ◌∙◌, ap, ap₂, refl, inl, inr, arith, ℤ, pos, ◌+ℤ◌, ◌*ℤ◌}
+--     monomial_product         if a list of terms has at each partition ν the coefficient `arrangements λ μ ν`, the sum of its terms c·m_ν is m_λ·m_μ
+use Rattle.std.proofs.Common.{◌≡◌, ◌⊎◌, ℕ, zero, suc, ◌+◌, ◌-◌, ◌<◌, ◌≤◌, Bool, true, false, ◌&&◌, cond, eqb, leb, List, [], ◌∷◌, map, length, sym, ◌∙◌, ap, ap₂, refl, inl, inr, arith, ℤ, pos, ◌+ℤ◌, ◌*ℤ◌, rules}
 use Rattle.std.proofs.lemmas.Bool.{cases_lt, le-leb, lt-leb, eq-eqb, ne_eqb, eqb-true}
 use Rattle.sym_model.specs.Sum.{total, Among}
 use Rattle.sym_model.specs.Polynomial.{Poly, same, coefficient, Same, In, join, pair, times, scale}
@@ -20,29 +21,18 @@ use Rattle.sym_model.proofs.Monomials.{total_down_from-only, In-monomials}
 use lib.IntN.{+ℤ_idr, zero-*ℤ, *ℤ_comm}
 use Rattle.sym_model.proofs.Integers.{nested_tests}
 
--- ---- the number that is 1 if two tests pass, and 0 otherwise
-
 pub tests-product : (p q : Bool) → cond (p && q) (pos 1) (pos 0) ≡ cond p (pos 1) (pos 0) *ℤ cond q (pos 1) (pos 0)
 tests-product true true = refl
 tests-product true false = refl
 tests-product false q = sym (zero-*ℤ (cond q (pos 1) (pos 0)))
-
--- ---- pairs of exponent lists that add up to ν (`splits ν`)
 
 -- the sum of φ over the pairs of lists that add up to c ∷ ν is a double sum: over b ≤ c, and over the pairs that add up to ν, with b in front of the
 -- first list and c - b in front of the second
 pub total_splits : (φ : List ℕ → List ℕ → ℤ) (c : ℕ) (ν : List ℕ)
     → total (λ (s : List ℕ × List ℕ). φ s.0 s.1) (splits (c ∷ ν))
     ≡ total (λ (b : ℕ). total (λ (s : List ℕ × List ℕ). φ (b ∷ s.0) ((c - b) ∷ s.1)) (splits ν)) (down_from c)
-total_splits φ c ν =
-    total_each (λ (s : List ℕ × List ℕ). φ s.0 s.1) (λ (b : ℕ). map (λ (s : List ℕ × List ℕ). (b ∷ s.0, (c - b) ∷ s.1)) (splits ν)) (down_from c)
-    ∙ total_ext
-    (λ (b : ℕ). total (λ (s : List ℕ × List ℕ). φ s.0 s.1) (map (λ (s : List ℕ × List ℕ). (b ∷ s.0, (c - b) ∷ s.1)) (splits ν)))
-    (λ (b : ℕ). total (λ (s : List ℕ × List ℕ). φ (b ∷ s.0) ((c - b) ∷ s.1)) (splits ν))
-    (λ b. total_map (λ (s : List ℕ × List ℕ). φ s.0 s.1) (λ (s : List ℕ × List ℕ). (b ∷ s.0, (c - b) ∷ s.1)) (splits ν))
-    (down_from c)
+total_splits φ c ν = search (rules, total_each, total_ext, total_map)
 
--- both lists of a pair in `splits ν` have the length of ν
 pub length-splits : (ν : List ℕ) (s : List ℕ × List ℕ) → Among s (splits ν) → (length s.0 ≡ length ν) × (length s.1 ≡ length ν)
 length-splits [] s (inl e) = (ap (λ (p : List ℕ × List ℕ). length p.0) e, ap (λ (p : List ℕ × List ℕ). length p.1) e)
 length-splits [] s (inr m) = absurd m
@@ -134,7 +124,7 @@ coefficient_times n f g α i j long =
     ∙ *ℤ_comm (coefficient g s.1) (coefficient f s.0))
     (splits α)
 
--- ---- sums, over the pairs (β, γ) with β + γ = ν, of functions of β sorted and γ sorted: they depend only on ν sorted
+-- ---- sums over the pairs (β, γ) with β + γ = ν: if the summand depends only on β sorted and γ sorted, the sum depends only on ν sorted
 
 -- the sum of ψ(β sorted, γ sorted) over the pairs (β, γ) with β + γ = ν
 abbrev pub sorted_total : (List ℕ → List ℕ → ℤ) → List ℕ → ℤ
@@ -151,27 +141,13 @@ sorted_total-cons ψ c ν = total_splits (λ x y. ψ (sorted_parts x) (sorted_pa
 sorted_total-zero : (ψ : List ℕ → List ℕ → ℤ) (ν : List ℕ) → sorted_total ψ (0 ∷ ν) ≡ sorted_total ψ ν
 sorted_total-zero ψ ν = sorted_total-cons ψ 0 ν ∙ +ℤ_idr (sorted_total ψ ν)
 
--- if `sorted_total ψ` has the same value at ν and ρ for every ψ, then also at c ∷ ν and c ∷ ρ
 sorted_total-rest : (ν ρ : List ℕ) → ((ψ : List ℕ → List ℕ → ℤ) → sorted_total ψ ν ≡ sorted_total ψ ρ) → (ψ : List ℕ → List ℕ → ℤ) (c : ℕ) → sorted_total ψ (c ∷ ν) ≡ sorted_total ψ (c ∷ ρ)
-sorted_total-rest ν ρ e ψ c =
-    sorted_total-cons ψ c ν
-    ∙ total_ext
-    (λ (b : ℕ). sorted_total (λ x y. ψ (insert_part b x) (insert_part (c - b) y)) ν)
-    (λ (b : ℕ). sorted_total (λ x y. ψ (insert_part b x) (insert_part (c - b) y)) ρ)
-    (λ b. e (λ x y. ψ (insert_part b x) (insert_part (c - b) y)))
-    (down_from c)
-    ∙ sym (sorted_total-cons ψ c ρ)
+sorted_total-rest ν ρ e ψ c = search (rules, sorted_total-cons, total_ext)
 
 sorted_total-two : (ψ : List ℕ → List ℕ → ℤ) (a b : ℕ) (ν : List ℕ)
     → sorted_total ψ (a ∷ b ∷ ν)
     ≡ total (λ (x : ℕ). total (λ (y : ℕ). sorted_total (λ p q. ψ (insert_part x (insert_part y p)) (insert_part (a - x) (insert_part (b - y) q))) ν) (down_from b)) (down_from a)
-sorted_total-two ψ a b ν =
-    sorted_total-cons ψ a (b ∷ ν)
-    ∙ total_ext
-    (λ (x : ℕ). sorted_total (λ p q. ψ (insert_part x p) (insert_part (a - x) q)) (b ∷ ν))
-    (λ (x : ℕ). total (λ (y : ℕ). sorted_total (λ p q. ψ (insert_part x (insert_part y p)) (insert_part (a - x) (insert_part (b - y) q))) ν) (down_from b))
-    (λ x. sorted_total-cons (λ p q. ψ (insert_part x p) (insert_part (a - x) q)) b ν)
-    (down_from a)
+sorted_total-two ψ a b ν = search (rules, sorted_total-cons, total_ext)
 
 sorted_total-exchange : (ψ : List ℕ → List ℕ → ℤ) (a b : ℕ) (ν : List ℕ) → sorted_total ψ (a ∷ b ∷ ν) ≡ sorted_total ψ (b ∷ a ∷ ν)
 sorted_total-exchange ψ a b ν =
@@ -208,22 +184,14 @@ sorted_total-sorted : (ν : List ℕ) (ψ : List ℕ → List ℕ → ℤ) → s
 sorted_total-sorted [] ψ = refl
 sorted_total-sorted (a ∷ ν) ψ = sorted_total-insert a (sorted_parts ν) ψ ∙ sorted_total-rest (sorted_parts ν) ν (sorted_total-sorted ν) ψ a
 
--- ---- the coefficients of the product of two lists of terms in m, by `arrangements`
+-- ---- the coefficients of the product of two lists of terms in the monomial basis m, by `arrangements`
 
 pub arrangements-total : (left right ν : List ℕ)
     → pos (arrangements left right ν) ≡ total (λ (s : List ℕ × List ℕ). at_only (sorted_parts s.0) left *ℤ at_only (sorted_parts s.1) right) (splits ν)
-arrangements-total left right ν =
-    length-select (λ (s : List ℕ × List ℕ). same (sorted_parts s.0) left && same (sorted_parts s.1) right) (splits ν)
-    ∙ total_ext
-    (λ (s : List ℕ × List ℕ). cond (same (sorted_parts s.0) left && same (sorted_parts s.1) right) (pos 1) (pos 0))
-    (λ (s : List ℕ × List ℕ). at_only (sorted_parts s.0) left *ℤ at_only (sorted_parts s.1) right)
-    (λ s.
-    tests-product (same (sorted_parts s.0) left) (same (sorted_parts s.1) right)
-    ∙ ap₂ (λ (p q : Bool). cond p (pos 1) (pos 0) *ℤ cond q (pos 1) (pos 0)) (same_sym (sorted_parts s.0) left) (same_sym (sorted_parts s.1) right))
-    (splits ν)
+arrangements-total left right ν = search (rules, length-select, total_ext, at_only, tests-product, same_sym)
 
--- the coefficient at ν of the product of two lists of terms in m is the sum, over the labels l of the first list and r of the second, of the product
--- of the coefficients of l and r and `arrangements l r ν`
+-- the coefficient at ν of the product of two lists of terms in the monomial basis m is the sum, over the labels l of the first list and r of the
+-- second, of the product of the coefficients of l and r and `arrangements l r ν`
 pub product_coefficient-arrangements : (left right : WholeTerms) (ν : List ℕ)
     → product_coefficient left right ν ≡ pair left (λ l. pair right (λ r. pos (arrangements l r ν)))
 product_coefficient-arrangements left right ν =
@@ -258,8 +226,8 @@ In-monomial_terms terms n =
     In_each n (λ (t : List ℕ × ℤ). scale t.1 (monomial t.0 n)) terms
     (λ t m. In_scale n t.1 (monomial t.0 n) (In-monomials (λ α. same (sorted_parts α) t.0) n (size t.0)))
 
--- if the coefficient of `terms` at every partition ν is `product_coefficient left right ν`, then `terms` is the product of the lists `left` and
--- `right` in m, in every number of variables
+-- if the coefficient of `terms` at every partition ν is `product_coefficient left right ν`, then the sum of the terms c·m_ν of `terms` is the
+-- product of the corresponding sums for the lists `left` and `right`, in every number of variables
 pub terms_product : (left right terms : WholeTerms) → ((ν : List ℕ) → IsPartition ν → coefficient terms ν ≡ product_coefficient left right ν)
     → (n : ℕ) → Same (times (combined (λ label. monomial label n) left) (combined (λ label. monomial label n) right)) (combined (λ label. monomial label n) terms)
 terms_product left right terms h n =
@@ -279,7 +247,6 @@ terms_product left right terms h n =
     ∙ sym (h (sorted_parts α) (IsPartition-sorted_parts α))
     ∙ sym (coefficient-monomial_terms terms n α long))
 
--- the polynomial of the list in m with the one label λ and the coefficient 1 is m_λ
 single : (label : List ℕ) (n : ℕ) → Same (combined (λ l. monomial l n) ((label, pos 1) ∷ [])) (monomial label n)
 single label n =
     same_from_pair (combined (λ l. monomial l n) ((label, pos 1) ∷ [])) (monomial label n)

@@ -1,11 +1,11 @@
--- The weight of an expression bounds every number that its conversion into m computes (specs/ExpressionTerms). Let f be bounded by N at the degree d
--- (`IsBounded`): a sum of at most N powers of x_1 + .. + x_n, with exponents up to d, is a majorant of f. Let B(d) be `growth` of m at d, which is
--- d^d, or 1 if d = 0.
+-- The weight of an expression e bounds every number that the conversion of e into m computes (specs/ExpressionTerms). It is `numerator e` times the
+-- denominator of e times B(d), with d the degree of e. Here B(d) is d^d, or 1 if d = 0 (`growth` of m at d). Let f be bounded by N at the degree d
+-- (`IsBounded`): a sum of at most N powers of x_1 + .. + x_n, with exponents up to d, is a majorant of f.
 --     coefficient_within_factorial   no coefficient of f exceeds N·d! in absolute value
 --     coefficient_within_growth      no coefficient of f exceeds N·B(d) in absolute value
---     product_within_growth          if g is bounded by M at e, no coefficient of the product of f and g, both with the absolute values of their
---                                    coefficients, exceeds N·M·B(d + e)
-use Rattle.std.proofs.Common.{◌≡◌, ◌⊎◌, ℕ, zero, suc, ◌+◌, ◌-◌, ◌*◌, ◌/◌, ◌^◌, ◌<◌, ◌≤◌, cond, List, [], ◌∷◌, length, sym, ◌∙◌, ap, ap₂, subst, refl, inl, inr, arith, ℤ, pos, ◌+ℤ◌, ◌*ℤ◌}
+--     product_within_growth          if g is bounded by M at the degree e, and the coefficients of f and g in m are replaced by their absolute
+--                                    values, no coefficient of the product of f and g in m exceeds N·M·B(d + e)
+use Rattle.std.proofs.Common.{◌≡◌, ◌⊎◌, ℕ, zero, suc, ◌+◌, ◌-◌, ◌*◌, ◌/◌, ◌^◌, ◌<◌, ◌≤◌, List, [], ◌∷◌, length, sym, ◌∙◌, ap, subst, refl, inl, inr, arith, ℤ, pos, ◌+ℤ◌, rules}
 use Rattle.std.specs.Prelude.{nat_abs, ◌≤ℤ◌}
 use Rattle.std.proofs.lemmas.Int.{ints}
 use Rattle.std.proofs.lemmas.Nat.{mul-le}
@@ -18,7 +18,7 @@ use Rattle.sym_model.specs.Expansion.{Basis}
 use Rattle.sym_model.specs.Expression.{Tree, number, fraction, atom, negation, sum, difference, product, degree, lcm, denominator}
 use Rattle.sym_model.specs.Weight.{factorial, growth, numerator, weight}
 use Rattle.sym_model.specs.WholeTerms.{WholeTerms, labels}
-use Rattle.monomial_laws.specs.MonomialProduct.{splits, product_coefficient}
+use Rattle.monomial_laws.specs.MonomialProduct.{product_coefficient}
 use Rattle.monomial_laws.specs.Majorant.{IsBounded, powers}
 use Rattle.monomial_laws.specs.ExpressionTerms.{in_monomials, absolute, HasDenominators}
 use Rattle.sym_model.proofs.Sums.{total_among}
@@ -46,7 +46,6 @@ factorial-within (suc d) =
     let r = mul-le (suc d) (factorial d) (suc (suc d)) (suc (suc d) ^ d) (omega arith) (omega arith) in
     rw (pow-suc (suc (suc d)) d) (omega arith)
 
--- d! is at most `growth` of m at the degree d
 pub factorial-within_growth : (d : ℕ) → factorial d ≤ growth Basis.monomials d
 factorial-within_growth zero = omega arith
 factorial-within_growth (suc d) =
@@ -70,8 +69,6 @@ growth-mono d e h = let i : (e - d) + d ≡ e = omega arith in subst (λ k. grow
 
 pub growth-positive : (d : ℕ) → 0 < growth Basis.monomials d
 growth-positive d = let h = growth-mono 0 d (omega arith) in omega arith
-
--- ---- upper bounds for the coefficients of a bounded polynomial (`IsBounded`)
 
 -- if f is bounded by N at the degree d (`IsBounded`), no coefficient of f exceeds N·d! in absolute value
 pub coefficient_within_factorial : (N d n : ℕ) (f : Poly) → IsBounded N d n f → (α : List ℕ) → length α ≡ n → nat_abs (coefficient f α) ≤ N * factorial d
@@ -100,29 +97,17 @@ coefficient_within_growth N d n f b α e = by (cases_lt d (size α))
         let u = mul-le-mul_left (nat_abs (coefficient f α)) (factorials-positive α) in
         omega arith
 
--- if a label does not occur in a list of terms, its coefficient is 0 in this list and in the list of absolute values
 absolute-missing : (terms : WholeTerms) (label : List ℕ) → (Among label (labels terms) → ⊥) → (coefficient terms label ≡ pos 0) × (coefficient (absolute terms) label ≡ pos 0)
 absolute-missing [] label h = (refl, refl)
-absolute-missing (t ∷ terms) label h =
-    let r = absolute-missing terms label (λ m. h (inr m)) in
-    let z = same_apart t.0 label (λ e. h (inl (sym e))) in (
-      ap (λ b. cond b t.1 (pos 0) +ℤ coefficient terms label) z ∙ +ℤ_idl (coefficient terms label) ∙ r.0,
-      ap (λ b. cond b (pos (nat_abs t.1)) (pos 0) +ℤ coefficient (absolute terms) label) z ∙ +ℤ_idl (coefficient (absolute terms) label) ∙ r.1,
-    )
+absolute-missing (t ∷ terms) label h = search (rules, same_apart, +ℤ_idl, (absolute-missing terms label))
 
 pub coefficient-absolute : (terms : WholeTerms) (label : List ℕ) → Once (labels terms) → coefficient (absolute terms) label ≡ pos (nat_abs (coefficient terms label))
 coefficient-absolute [] label o = refl
-coefficient-absolute (t ∷ terms) label o = by (same_or_not t.0 label) (coefficient-absolute terms label o.1)
-  where
-    by : (t.0 ≡ label) ⊎ (t.0 ≡ label → ⊥) → coefficient (absolute terms) label ≡ pos (nat_abs (coefficient terms label)) → coefficient (absolute (t ∷ terms)) label ≡ pos (nat_abs (coefficient (t ∷ terms) label))
-    by (inl e) r =
-        let m = absolute-missing terms label (λ m. o.0 (subst (λ l. Among l (labels terms)) (sym e) m)) in
-        rw (same_from t.0 label e, m.0, m.1) (omega (arith, ints))
-    by (inr n) r =
-        rw (same_apart t.0 label n, +ℤ_idl (coefficient terms label), +ℤ_idl (coefficient (absolute terms) label)) r
+coefficient-absolute (t ∷ terms) label o =
+    search (rules, same_or_not, absolute-missing, same_from, ints, same_apart, +ℤ_idl, (coefficient-absolute terms label o.1))
 
--- if the polynomial of a list in m is bounded by N at the degree d (`IsBounded`), so is the polynomial of the list that has the absolute values of
--- the coefficients
+-- if the polynomial of a list in the monomial basis m is bounded by N at the degree d (`IsBounded`), so is the polynomial of the list that has the
+-- absolute values of the coefficients
 pub bounded-absolute : (N d n : ℕ) (terms : WholeTerms) → Once (labels terms) → IsBounded N d n (in_monomials terms n) → IsBounded N d n (in_monomials (absolute terms) n)
 bounded-absolute N d n terms o b = record {
   exponents = b.exponents;
@@ -147,16 +132,8 @@ bounded-absolute N d n terms o b = record {
         (sym (coefficient_outside n (in_monomials (absolute terms) n) α (In-monomial_terms (absolute terms) n) e))
         (nonnegative (coefficient (in_monomials terms n) α) (coefficient (powers b.exponents n) α) (b.majorant α))
 
--- the coefficient of x^ν in the product of the polynomials of two lists A and B is `product_coefficient A B ν`
 pub coefficient-list_product : (A B : WholeTerms) (ν : List ℕ) → coefficient (times (in_monomials A (length ν)) (in_monomials B (length ν))) ν ≡ product_coefficient A B ν
-coefficient-list_product A B ν =
-    let n = length ν in
-    coefficient_times n (in_monomials A n) (in_monomials B n) ν (In-monomial_terms A n) (In-monomial_terms B n) refl
-    ∙ total_among
-    (λ (s : List ℕ × List ℕ). coefficient (in_monomials A n) s.0 *ℤ coefficient (in_monomials B n) s.1)
-    (λ (s : List ℕ × List ℕ). coefficient A (sorted_parts s.0) *ℤ coefficient B (sorted_parts s.1))
-    (splits ν)
-    (λ s m. let k = length-splits ν s m in ap₂ ◌*ℤ◌ (coefficient-monomial_terms A n s.0 k.0) (coefficient-monomial_terms B n s.1 k.1))
+coefficient-list_product A B ν = search (rules, coefficient_times, In-monomial_terms, total_among, length-splits, coefficient-monomial_terms)
 
 -- let the polynomials of the lists A and B be bounded by N at the degree d and by M at the degree e (`IsBounded`). If the coefficients of A and B are
 -- replaced by their absolute values, no coefficient of the product exceeds N·M times `growth` of m at d + e
@@ -171,9 +148,8 @@ product_within_growth N M d e A B o p h k ν =
     (bounded-absolute N d n A o (h n)) (bounded-absolute M e n B p (k n)))
     ν refl)
 
--- ---- the weight of e is at least `numerator e` times `growth` of m at the degree of e, and at least `denominator e`
+-- ---- the weight of an expression e is at least `numerator e` times `growth` of m at the degree of e, and at least `denominator e`
 
--- (lcm(a, b)/a)·a is lcm(a, b)
 pub lcm-left : (a b : ℕ) → 0 < a → lcm a b / a * a ≡ lcm a b
 lcm-left a b h =
     let g = IsGcd-gcd a b in
@@ -203,16 +179,13 @@ denominator-positive (difference e f) h = lcm-positive (denominator e) (denomina
 denominator-positive (product e f) h =
     let r = mul-le (suc zero) (suc zero) (denominator e) (denominator f) (denominator-positive e h.0) (denominator-positive f h.1) in omega arith
 
--- if all denominators of e and f are positive, the least common multiple of the denominators of e and f, divided by that of e, is positive
 pub complement_left : (e f : Tree) → HasDenominators e → HasDenominators f → 0 < lcm (denominator e) (denominator f) / denominator e
 complement_left e f h k =
     positive_factor (lcm (denominator e) (denominator f) / denominator e) (denominator e) (lcm (denominator e) (denominator f))
     (lcm-left (denominator e) (denominator f) (denominator-positive e h)) (lcm-positive (denominator e) (denominator f) (denominator-positive e h) (denominator-positive f k))
 
 pub complement_right : (e f : Tree) → HasDenominators e → HasDenominators f → 0 < lcm (denominator e) (denominator f) / denominator f
-complement_right e f h k =
-    positive_factor (lcm (denominator e) (denominator f) / denominator f) (denominator f) (lcm (denominator e) (denominator f))
-    (lcm-right (denominator e) (denominator f)) (lcm-positive (denominator e) (denominator f) (denominator-positive e h) (denominator-positive f k))
+complement_right e f h k = search (rules, positive_factor, lcm-right, lcm-positive, denominator-positive)
 
 pub numerator-positive : (e : Tree) → HasDenominators e → 0 < numerator e
 numerator-positive (number a) h = omega arith
@@ -233,7 +206,4 @@ pub growth-within_weight : (e : Tree) → HasDenominators e → numerator e * gr
 growth-within_weight e h = mul-le (numerator e) (growth Basis.monomials (degree e)) (numerator e * denominator e) (growth Basis.monomials (degree e)) (times-more (numerator e) (denominator e) (denominator-positive e h)) (omega arith)
 
 pub denominator-within_weight : (e : Tree) → HasDenominators e → denominator e ≤ weight Basis.monomials e
-denominator-within_weight e h =
-    let p = times-more (denominator e) (numerator e) (numerator-positive e h) in
-    let q = times-more (numerator e * denominator e) (growth Basis.monomials (degree e)) (growth-positive (degree e)) in
-    omega arith
+denominator-within_weight e h = search (rules, times-more, numerator-positive, growth-positive)

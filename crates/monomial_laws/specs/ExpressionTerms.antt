@@ -1,14 +1,14 @@
--- Expressions as lists of terms in m with integer coefficients.
+-- Expressions as lists of terms in the monomial basis m with integer coefficients.
 --
 -- Let D be the common denominator of an expression E, and V its cleared value, which is D·E, a polynomial
 -- with integer coefficients. A conversion into m computes D and a list of terms in m with the value V:
 --   a number, a fraction     the one term of the empty label
---   an atom                  the lists of e_k, h_k or p_k, multiplied over the parts k of the label
+--   a basis element          the lists of e_k, h_k or p_k, multiplied over the parts k of the label
 --   a negation               each coefficient negated
 --   a sum, a difference      both lists multiplied so that the denominator is the least common multiple, then added or subtracted
 --   a product                `product_coefficient` of the two lists
 -- At the end each coefficient is divided by D, and the fraction reduced to lowest terms. So every number that is computed is a
--- coefficient of the cleared value of a subexpression, and the weight bounds it.
+-- coefficient of the cleared value of a subexpression, and the weight of E (specs/Weight) is a bound for it.
 use Rattle.std.specs.Prelude.{ℕ, ◌*◌, ◌/◌, ◌<◌, ℤ, pos, nat_abs, ◌*ℤ◌, List, [], ◌∷◌, map}
 use Rattle.std.specs.Prelude.{replicate}
 use Rattle.sym_model.specs.Polynomial.{Poly, Same}
@@ -19,11 +19,11 @@ use Rattle.sym_model.specs.Expression.{Tree, number, fraction, atom, negation, s
 use Rattle.sym_model.specs.Expression.{product, cleared_value}
 use Rattle.sym_model.specs.WholeTerms.{WholeTerms, combined}
 
--- the polynomial in n variables that a list of terms in m stands for: the sum of the c·m_λ over its terms c, λ
+-- the polynomial in n variables that a list of terms in the monomial basis m denotes: the sum of c·m_λ over its terms (λ, c)
 abbrev pub in_monomials : WholeTerms → ℕ → Poly
 in_monomials terms n = combined (λ label. monomial label n) terms
 
--- for every n, the polynomial in n variables of this list of terms in m is f n
+-- for every n, the polynomial in n variables of this list of terms c·m_λ is f n
 abbrev pub IsList : WholeTerms → (ℕ → Poly) → Type 0
 IsList terms f = (n : ℕ) → Same (in_monomials terms n) (f n)
 

@@ -1,7 +1,8 @@
--- Bounds of all coefficients of a polynomial at once: majorants (Cauchy), here sums of powers of x_1 + .. + x_n. The coefficient of x^α in (x_1 + ..
--- + x_n)^d is the multinomial d!/Π α_i! if α has the sum d, and 0 otherwise. A sum of majorants is a majorant of the sum, and a product of majorants
--- one of the product. A sum of powers is given by the list of their exponents: for the sum of two such majorants the lists are appended, for the
--- product each exponent of one list is added to each exponent of the other.
+-- Bounds for all coefficients of a polynomial at once. A polynomial F is a majorant of f (Cauchy) if each coefficient of F is at least the absolute
+-- value of the same coefficient of f. Here the majorants are sums of powers of x_1 + .. + x_n. The coefficient of x^α in (x_1 + .. + x_n)^d is the
+-- multinomial d!/Π α_i! if α has the sum d, and 0 otherwise. A sum of majorants is a majorant of the sum, and a product of majorants is a majorant
+-- of the product. A sum of powers is given by the list of its exponents: for the sum of two such majorants the lists are appended, for the product
+-- each exponent of one list is added to each exponent of the other.
 use Rattle.std.specs.Prelude.{ℕ, ◌≤◌, pos, nat_abs, ◌≤ℤ◌, List, length, replicate, flat_map}
 use Rattle.sym_model.specs.Sum.{Among}
 use Rattle.sym_model.specs.Polynomial.{Poly, coefficient}

@@ -6,7 +6,7 @@
 //!
 //! `monomial_product_law`: the coefficients of m_λ·m_μ, and of products of sums of such functions,
 //! in the monomial basis. `expression_bound_law`: bounds for the coefficients of the value of an
-//! expression, by its weight.
+//! expression, computed from its degree and its numbers.
 #![tactic(auto)]
 
 mod bounds;

@@ -1,4 +1,5 @@
--- The arrangements of a list of numbers, in decreasing lexicographic order: the first one, and the one that follows a given one.
+-- An arrangement of a list has the same numbers in any order; arrangements are listed in decreasing lexicographic order. Here: the first arrangement
+-- of a list, and the arrangement that follows a given one.
 use Rattle.std.proofs.Common.{◌≡◌, ◌⊎◌, ℕ, zero, suc, ◌+◌, ◌-◌, ◌<◌, ◌≤◌, cond, eqb, List, [], ◌∷◌, ◌++◌, map, length, replicate, refl, sym, ap, ap₂, subst, ◌∙◌, inl, inr, arith, reverse, take, drop, get_or, length-append, length-drop, length-take, append_assoc, filter, flat_map}
 use Rattle.std.proofs.Math.Nat.{eq-or-lt_of_le}
 use Rattle.std.proofs.lemmas.List.{length-reverse, length-replicate, reverse-append, take-append-drop, get_or-take, get_or-append-add, take_more}
@@ -21,9 +22,6 @@ use Rattle.sym_model.proofs.Lists.{select-each, select-map, select-none, select-
 use Rattle.partitions.specs.Arranging.{beginning_with, beginning_below, arrangements_after, Rises}
 use Rattle.sym_model.specs.Bounded.{AreAtLeast}
 
--- ---- lists f(c) joined for c = a, .., 1
-
--- if f(c) is empty for each c from b + 1 to a, joining the lists f(c) for c = a, .., 1 gives the same as joining them for c = b, .., 1
 each-skip :
     (f : ℕ → List (List ℕ)) (a b : ℕ) → b ≤ a → ((c : ℕ) → b < c → c ≤ a → f c ≡ [])
     → flat_map f (down_from a) ≡ flat_map f (down_from b)
@@ -40,8 +38,6 @@ each-none f zero none = ap (λ xs. xs ++ []) (none 0 (omega arith))
 each-none f (suc a) none =
     ap₂ (λ xs ys. xs ++ ys) (none (suc a) (omega arith)) (each-none f a (λ c h. none c (omega arith)))
 
--- ---- lists that sort to the same partition
-
 -- inserting b into two lists σ and τ gives equal lists if and only if σ and τ are equal
 pub same-insert_part : (b : ℕ) (σ τ : List ℕ) → same (insert_part b σ) (insert_part b τ) ≡ same σ τ
 same-insert_part b σ τ = by (same_or_not σ τ)
@@ -57,9 +53,6 @@ sorted-from_counts α β h =
     partition_from_counts (sorted_parts α) (sorted_parts β) (IsPartition-sorted_parts α) (IsPartition-sorted_parts β)
     (λ k p. times_in-sorted_parts k α p ∙ h k p ∙ sym (times_in-sorted_parts k β p))
 
--- ---- the arrangements that begin with a given number
-
--- if c > 0 is not among the numbers of α, no arrangement of α begins with c
 absent : (c : ℕ) (α : List ℕ) (n d : ℕ) → 0 < c → times_in c α ≡ 0 → beginning_with c (sorted_parts α) n d ≡ []
 absent c α n d p none =
     ap (map (λ β. c ∷ β))
@@ -70,7 +63,6 @@ absent c α n d p none =
     times_in-insert_part c c (sorted_parts β) p ∙ ap (λ b. cond b 1 0 + times_in c (sorted_parts β)) (eq-eqb c c refl) in
     omega (arith, ap (times_in c) e, times_in-sorted_parts c α p))))
 
--- if all numbers of α are positive, `sorted_parts α` has the length of α
 ArePositive-rows : (α : List ℕ) → ArePositive α → length (sorted_parts α) ≡ length α
 ArePositive-rows [] p = refl
 ArePositive-rows (a ∷ α) p = one_more a (sorted_parts α) p.0 ∙ ap suc (ArePositive-rows α p.1)
@@ -103,7 +95,6 @@ sorting_to-each parts n d =
     ∙ each-ext (λ a. filter test (map (λ α. a ∷ α) (exponent_lists n (d - a)))) (λ b. beginning_with b parts n d) (down_from d)
     (λ a. select-map test (λ α. a ∷ α) (exponent_lists n (d - a)))
 
--- if g is the first arrangement of its numbers, the arrangements of b ∷ g that begin with b are b ∷ g and then b ∷ α for the arrangements α after g
 beginning_with-head :
     (b : ℕ) (g : List ℕ) → sorting_to (sorted_parts g) (length g) (size g) ≡ g ∷ arrangements_after g
     → beginning_with b (sorted_parts (b ∷ g)) (length g) (b + size g) ≡ (b ∷ g) ∷ map (λ α. b ∷ α) (arrangements_after g)
@@ -124,7 +115,6 @@ head zero g first = ap (λ xs. xs ++ []) (beginning_with-head zero g first)
 head (suc b) g first =
     ap (λ xs. xs ++ beginning_below (suc b) (sorted_parts (suc b ∷ g)) (length g) (suc b + size g)) (beginning_with-head (suc b) g first)
 
--- a number c greater than the first number b of a weakly decreasing list does not occur in the list
 greater_absent : (c b : ℕ) (g : List ℕ) → Falls (b ∷ g) → b < c → times_in c (b ∷ g) ≡ 0
 greater_absent c b [] f h = ap (λ t. cond t 1 0 + 0) (ne_eqb b c (omega arith))
 greater_absent c b (d ∷ g) f h =
@@ -180,8 +170,8 @@ arrangements_after-rising (a ∷ s) r =
         each_number (suc c) h z =
             absent (suc c) (suc b ∷ s) (length s) (suc b + size s) (omega arith) (smaller_absent (suc c) (suc b) s r (omega arith))
 
--- let s be weakly increasing, b the greatest number of a ∷ s that is below a, and g the other numbers of a ∷ s in weakly decreasing order: the
--- arrangement that follows a ∷ s is b ∷ g
+-- let s be weakly increasing, let b be the greatest number of s that is less than a, and let g have the other numbers of a ∷ s in weakly decreasing
+-- order. Then the arrangement that follows a ∷ s is b ∷ g.
 pub arrangements_after-step :
     (a b : ℕ) (s g : List ℕ) → Rises s → Falls g → b < a → length s ≡ length g
     → ((k : ℕ) → times_in k (a ∷ s) ≡ times_in k (b ∷ g)) → ((c : ℕ) → b < c → c < a → times_in c (a ∷ s) ≡ 0)
@@ -276,8 +266,8 @@ Falls-reverse (a ∷ s) r =
     subst Falls (sym (reverse-cons a s))
     (Falls-push (reverse s) a (Falls-reverse s (Rises_tail a s r)) (AtLeast-reverse a s (AtLeast-rising a a s (omega arith) r)))
 
--- if s is weakly increasing and b is the first number of the reversed s that is smaller than a, the arrangement that follows before ++ a ∷ s is
--- before ++ b ∷ t, for t the reversed s with this b replaced by a
+-- let s be weakly increasing, and let b be the first number less than a in the reversed list s. Then the arrangement that follows before ++ a ∷ s is
+-- obtained by reversing s and then exchanging a with this b.
 pub next_arrangement :
     (before s front back : List ℕ) (a b : ℕ) → Rises s → reverse s ≡ front ++ b ∷ back → AreAtLeast a front → b < a
     → arrangements_after (before ++ a ∷ s)
@@ -298,7 +288,7 @@ next_arrangement before s front back a b r e m h =
     arrangements_after-append before (a ∷ s) (b ∷ (front ++ a ∷ back)) step
     (sorted-from_counts (a ∷ s) (b ∷ (front ++ a ∷ back)) (λ k p. counts k)) (ap suc places)
 
--- ---- the next arrangement, stated by indices of the numbers in the buffer
+-- ---- the next arrangement, stated by the indices of the two numbers that are exchanged
 
 Rises-short : (xs : List ℕ) → length xs ≤ 1 → Rises xs
 Rises-short [] h = tt
@@ -418,8 +408,6 @@ next_by_places old turned new behind low p h r e l m below above f =
     let smaller : b < a = omega (arith, low_is) in
     ap arrangements_after whole ∙ next_arrangement before s front back a b r tail least smaller
     ∙ ap (λ l. l ∷ arrangements_after l) (sym new_is)
-
--- ---- a partition followed by zeros is the first arrangement
 
 Falls-padded : (parts : List ℕ) (n : ℕ) → Falls parts → Falls (parts ++ replicate n 0)
 Falls-padded [] n f = Falls-zeros n

@@ -1,4 +1,4 @@
--- Lists of factors with one more factor appended.
+-- The factors of a product are a list of 2 to 8 partitions. Here one more factor is appended to such a list.
 use Rattle.std.proofs.Common.{◌≡◌, ℕ, ◌+◌, ◌≤◌, ◌<◌, ◌⊎◌, inl, inr, List, [], ◌∷◌, ◌++◌, length, length-append, sym, subst, arith}
 use Rattle.sym_model.specs.Sum.{Among}
 use Rattle.sym_model.specs.Partition.{IsPartition, size, rows}
@@ -17,8 +17,8 @@ more_partitions (shape ∷ shapes) next are is parts (inr later) =
 pub not_more : (a b : ℕ) → (b < a → ⊥) → a ≤ b
 not_more a b h = omega (arith, h)
 
--- let fewer than 8 factors `shapes` have `cells` cells and `many` rows in all; if they are not too big (`AreTooBig`) with the partition `next`
--- appended, they have, with `next`, cells + size next cells and many + rows next rows in all
+-- let `shapes` be fewer than 8 factors that have `cells` cells and `many` rows in all. If they are not too big (`AreTooBig`) after the partition
+-- `next` is appended, the new list is a list of factors with cells + size next cells and many + rows next rows in all.
 pub HasSums-grown : (shapes items : List (List ℕ)) (next : List ℕ) (cells many a b : ℕ) → HasSums shapes cells many → IsPartition next
     → length shapes < 8 → (AreTooBig (shapes ++ next ∷ []) → ⊥) → items ≡ shapes ++ next ∷ [] → a ≡ size next → b ≡ rows next
     → HasSums items (cells + a) (many + b)
@@ -36,8 +36,8 @@ HasSums-grown shapes items next cells many a b had is room small e cells_are row
   rows_are = let e = size-map_push rows shapes next in omega (arith, had.rows_are);
 })
 
--- if `shapes` have `cells` cells and `many` rows in all, they are too big (`AreTooBig`) with `next` appended if and only if cells + size next exceeds
--- 4096 or many + rows next exceeds 512
+-- let `shapes` have `cells` cells and `many` rows in all. After `next` is appended, they are too big (`AreTooBig`) if and only if cells + size next
+-- exceeds 4096 or many + rows next exceeds 512.
 pub AreTooBig-grown : (shapes : List (List ℕ)) (next : List ℕ) (cells many a b : ℕ) → HasSums shapes cells many
     → a ≡ size next → b ≡ rows next
     → (AreTooBig (shapes ++ next ∷ []) → (4096 < cells + a) ⊎ (512 < many + b))

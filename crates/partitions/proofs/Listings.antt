@@ -44,7 +44,7 @@ greatest_within-step (suc d) most (suc rows) h g =
     let e : suc rows - 1 ≡ rows = omega arith in
     ap (λ r. min most (suc d) ∷ greatest_within (suc d - min most (suc d)) (min most (suc d)) r) (sym e)
 
--- ---- the lexicographically greatest partition is the first one of the list
+-- ---- in the list of the partitions of a number, the lexicographically greatest one is the first
 
 partitions_within-none : (rows d : ℕ) → 0 < d → partitions_within d 0 rows ≡ []
 unfolding partitions_within
@@ -57,8 +57,6 @@ partitions_within-none (suc rows) (suc d) h =
 same_size : (d e m n : ℕ) → d ≡ e → m ≡ n → partitions_within d m d ≡ partitions_within e n e
 same_size d e m n p q = ap₂ (λ x y. partitions_within x y x) p q
 
--- let 0 < a ≤ d + 1; if the first of the partitions of d + 1 - a with parts up to a is g, the first of the partitions of d + 1 with parts up to a is
--- a ∷ g, and after it come `partitions_after (a ∷ g)`
 starts :
     (rows d a : ℕ) (g : List ℕ) → 0 < a → a ≤ suc d → d ≤ rows → size g ≡ suc d - a
     → partitions_within (suc d - a) a rows ≡ g ∷ partitions_after g

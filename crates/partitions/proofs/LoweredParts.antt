@@ -37,8 +37,8 @@ pub lowered_kept :
     → without_last_zeros (lowered_at (suc i) xs) ≡ lowered_at (suc i) xs
 lowered_kept xs i p h = without_last_zeros-positive (lowered_at (suc i) xs) (ArePositive-lowered xs i p h)
 
--- if all numbers of xs are positive, and the one at the index i is 1 and greater than the next (0 after the last), it is the last one, and lowering
--- it by 1 and removing the zeros at the end removes it
+-- if all numbers of xs are positive, and the number at the index i is 1 and greater than the next number (0 after the last), then it is the last
+-- number; lowering it by 1 and then removing the zeros at the end removes it
 pub lowered_dropped :
     (xs : List ℕ) (i : ℕ) → ArePositive xs → get_or xs (suc i) 0 < get_or xs i 0 → get_or xs i 0 ≡ 1
     → without_last_zeros (lowered_at (suc i) xs) ≡ take (length xs - 1) (lowered_at (suc i) xs)
@@ -58,7 +58,8 @@ lowered_dropped (a ∷ b ∷ xs) (suc i) p h e =
         ap (λ m. a ∷ take m (lowered_at (suc i) (b ∷ xs))) e
         ∙ ap (λ m. take m (a ∷ lowered_at (suc i) (b ∷ xs))) f
 
--- if a part that is greater than the next one is lowered by 1, the partition has one cell less, and is still within the limits
+-- if a part that is greater than the next one is lowered by 1, and is removed if it is then 0, the result is a partition with one cell less, and it
+-- has at most 512 rows and at most 4096 cells if the old one does
 pub HasCells-lowered :
     (parts new : List ℕ) (i cells : ℕ) → HasCells parts cells → get_or parts (suc i) 0 < get_or parts i 0
     → new ≡ without_last_zeros (lowered_at (suc i) parts) → HasCells new (cells - 1)

@@ -1,4 +1,4 @@
--- The printed order on partitions, by comparisons of sizes and of lists.
+-- The printed order of partitions (greater sizes first, then decreasing lexicographic order), computed by comparing sizes and lists of parts.
 use Rattle.std.proofs.Common.{◌≡◌, ℕ, ◌<◌, List, [], ◌∷◌, refl, sym, ap}
 use Rattle.std.specs.Ordering.{nat_cmp, ordering_then}
 use Rattle.std.specs.Cmp.{nat_cmp_is}
@@ -14,7 +14,7 @@ zero-nat_cmp : (b : ℕ) → 0 < b → nat_cmp 0 b ≡ Less
 zero-nat_cmp b h = sym (nat_cmp_is 0 b Less h)
 
 -- for lists xs and ys of positive numbers, comparing xs with ys in decreasing lexicographic order, with 0 for missing numbers, has the same result as
--- comparing ys with xs in the order of lists
+-- comparing ys with xs in increasing lexicographic order, in which a proper prefix is less than the list
 pub falling_lexicographic-slice_cmp :
     (xs ys : List ℕ) → ArePositive xs → ArePositive ys → falling_lexicographic xs ys ≡ slice_cmp nat_cmp ys xs
 falling_lexicographic-slice_cmp [] [] p q = refl
@@ -25,7 +25,7 @@ falling_lexicographic-slice_cmp (x ∷ xs) [] p q =
 falling_lexicographic-slice_cmp (x ∷ xs) (y ∷ ys) p q =
     ap (ordering_then (nat_cmp y x)) (falling_lexicographic-slice_cmp xs ys p.1 q.1)
 
--- for lists xs and ys of positive numbers: comparing size ys with size xs and, if these are equal, ys with xs in the order of lists, gives the result
+-- for lists xs and ys of positive numbers: comparing size ys with size xs and, if these are equal, ys with xs in lexicographic order, has the result
 -- of the printed order for xs and ys
 pub printed_order-slice_cmp :
     (xs ys : List ℕ) → ArePositive xs → ArePositive ys

@@ -13,7 +13,6 @@ in_front-push : (a : ℕ) (xs : List ℕ) (b : ℕ) → in_front a (xs ++ b ∷ 
 in_front-push a [] b = in_front-more a b []
 in_front-push a (x ∷ xs) b = in_front-more a x (xs ++ b ∷ [])
 
--- a list whose last number is positive has no zeros at its end to remove
 pub without_last_zeros-positive :
     (xs : List ℕ) (b : ℕ) → 0 < b → without_last_zeros (xs ++ b ∷ []) ≡ xs ++ b ∷ []
 without_last_zeros-positive [] zero h = absurd (omega arith)
@@ -54,7 +53,7 @@ Falls-take xs n m h =
     let here : k < n = omega arith in
     rw (get_or-take n xs (suc k) 0, get_or-take n xs k 0) (h k below))
 
--- in a weakly decreasing list, no number is greater than the one before it, so no place is the first such place (`RisesFirstAt`)
+-- a weakly decreasing list has no place that is the first with a number greater than the one before it (`RisesFirstAt`)
 pub Falls-rises : (xs : List ℕ) (at : ℕ) → Falls xs → RisesFirstAt xs at → ⊥
 Falls-rises xs zero f r = omega (arith, r.later)
 Falls-rises xs (suc k) f r =
@@ -62,7 +61,6 @@ Falls-rises xs (suc k) f r =
     let up : get_or xs k 0 < get_or xs (suc k) 0 = subst (λ i. get_or xs i 0 < get_or xs (suc k) 0) e r.rises in
     omega (arith, falls_get xs f k)
 
--- of two places a < b, at most one is the first at which a number is greater than the one before it
 rises-first :
     (xs : List ℕ) (a b : ℕ) → RisesFirstAt xs a → RisesFirstAt xs b → a < b → ⊥
 rises-first xs zero b r s h = omega (arith, r.later)
@@ -81,8 +79,6 @@ rises-first xs (suc k) b r s h =
 pub rises-same : (xs : List ℕ) (a b : ℕ) → RisesFirstAt xs a → RisesFirstAt xs b → a ≡ b
 rises-same xs a b r s = omega (arith, rises-first xs a b r s, rises-first xs b a s r)
 
--- suppose that the numbers of xs are positive if xs is weakly decreasing; then the same holds for `in_front a xs` (a ∷ xs, or [] if a = 0 and xs =
--- [])
 in_front-positive : (a : ℕ) (xs : List ℕ) → (Falls xs → ArePositive xs) → Falls (in_front a xs) → ArePositive (in_front a xs)
 in_front-positive zero [] p f = tt
 in_front-positive (suc a) [] p f = (omega arith, tt)

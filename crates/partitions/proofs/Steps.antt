@@ -10,13 +10,12 @@ use Rattle.sym_model.proofs.Parts.{size-append}
 use Rattle.partitions.specs.Listing.{greatest_within, partitions_after, AreOnes, HoldsParts}
 use Rattle.partitions.proofs.Listings.{greatest_within-step, size-AreOnes, partitions_after-part, partitions_after-append, ArePositive-append, size-greatest_within, ArePositive-greatest_within, partitions_within-first}
 
--- if the n numbers xs are written over the first n numbers of ys, the first n numbers of the result are xs
 pub all_written : (n : ℕ) (xs ys : List ℕ) → length xs ≡ n → take n (xs ++ drop (length xs) ys) ≡ xs
 all_written n xs ys e =
     subst (λ k. take k (xs ++ drop (length xs) ys) ≡ xs) e (take-append_seam xs (drop (length xs) ys))
 
--- the first `at` numbers of the buffer xs, then p = min(part, left), then the greatest partition of left - p with parts up to p, are the same list as
--- the first `at` numbers, then the greatest partition of `left` with parts up to `part`
+-- let p = min(part, left). The first `at` numbers of the buffer xs, followed by the greatest partition of `left` with parts up to `part`, are the
+-- first `at` numbers of xs, followed by p and by the greatest partition of left - p with parts up to p.
 pub fill-step :
     (xs : List ℕ) (at left part p : ℕ) → at < length xs → 0 < left → p ≡ min part left
     → take (at + 1) (set xs at p) ++ greatest_within (left - p) p (length (set xs at p) - (at + 1))

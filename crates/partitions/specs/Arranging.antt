@@ -1,4 +1,4 @@
--- Arrangements of numbers in places, and those that follow a given one in decreasing lexicographic order.
+-- An arrangement of a list has the same numbers in any order. Here: the arrangements that follow a given one in decreasing lexicographic order.
 use Rattle.std.specs.Prelude.{ℕ, zero, suc, ◌+◌, ◌-◌, ◌≤◌, List, [], ◌∷◌, ◌++◌, map, length, filter}
 use Rattle.std.specs.Prelude.{flat_map}
 use Rattle.sym_model.specs.Polynomial.{same}
@@ -7,13 +7,14 @@ use Rattle.sym_model.specs.Bases.{down_from, exponent_lists}
 use Rattle.partitions.specs.declared.listing.Stage.{Stage}
 use Rattle.partitions.specs.declared.listing.Stage.TheVariants.{New, Listing, Ended}
 
--- the lists that consist of b and n further numbers, have the sum d in all, and sort to the partition `parts`
+-- for a partition `parts` of size d: the lists b ∷ α of n + 1 numbers whose positive numbers, in decreasing order, are `parts`
 abbrev pub beginning_with : ℕ → List ℕ → ℕ → ℕ → List (List ℕ)
 beginning_with b parts n d =
     map (λ α. b ∷ α) (filter (λ α. same (insert_part b (sorted_parts α)) parts)
     (exponent_lists n (d - b)))
 
--- the lists that consist of a number b < a and n further numbers, have the sum d in all, and sort to the partition `parts`, by decreasing b
+-- for a partition `parts` of size d: the lists b ∷ α of n + 1 numbers with b < a whose positive numbers, in decreasing order, are `parts`; those with
+-- a greater b come first
 abbrev pub beginning_below : ℕ → List ℕ → ℕ → ℕ → List (List ℕ)
 beginning_below zero parts n d = []
 beginning_below (suc a) parts n d = flat_map (λ b. beginning_with b parts n d) (down_from a)

@@ -1,4 +1,4 @@
--- The lists of numbers that are values of the type `Partition`, and the lists for which it returns errors.
+-- The lists of numbers that the type `Partition` allows, and the first place at which a list of numbers is not weakly decreasing.
 use Rattle.std.specs.Prelude.{◌≡◌, ℕ, ◌-◌, ◌<◌, ◌≤◌, List, length, take, slice_index}
 use Rattle.sym_model.specs.Partition.{IsPartition, Falls, size, rows}
 

@@ -1,5 +1,6 @@
--- The covers of a permutation that exchange a given letter, found by trying one place after another for the other letter; fixed letters are added to
--- the list of letters of the permutation.
+-- A cover of a permutation w at a place is w with the letter at this place and another letter exchanged, if this has exactly one inversion more than
+-- w. The covers are found by trying the places of the other letter one after another. Before that, *fixed letters*, which are equal to their places,
+-- are added at the end of w.
 use Rattle.std.proofs.Common.{◌≡◌, ℕ, zero, suc, ◌+◌, ◌-◌, ◌<◌, ◌≤◌, ◌==◌, max, Bool, true, false, cond, List, [], ◌∷◌, ◌++◌, map, length, refl, sym, ap, ap₂, ◌∙◌, arith, add-one, filter}
 use Rattle.std.specs.List.{swap}
 use Rattle.std.proofs.lemmas.List.{append-nil, map_push}

@@ -1,6 +1,7 @@
--- The printed order of permutations without fixed letters at the end is the lexicographic order of their lists of
--- letters: if one list is a prefix of the other, the first letter after the prefix that is not fixed is greater than
--- its place.
+-- In the printed order, permutations with the same number of inversions are compared letter by letter, with *fixed
+-- letters*, which are equal to their places, added to the shorter list. Without fixed letters at the end, this is the
+-- lexicographic order of the lists of letters: if one list is a prefix of the other, the first letter after the prefix
+-- that is not fixed is greater than its place.
 use Rattle.std.proofs.Common.{◌≡◌, ℕ, ◌+◌, ◌<◌, ◌≤◌, ◌==◌, List, [], ◌∷◌, ◌++◌, length, refl, sym, ap, ◌∙◌, subst, arith, inl, inr, ◌⊎◌, Bool, true, false, cond, eq-eqb, length-append, append_assoc}
 use Rattle.std.specs.Cmp.{nat_cmp_is}
 use Rattle.std.specs.Cmp.Lexicographic.{slice_cmp}
@@ -153,8 +154,6 @@ pub permutation_order-slice_cmp :
     (v w : List ℕ) → IsWithinLimits v → IsWithinLimits w
     → ordering_then (nat_cmp (inversions v) (inversions w)) (slice_cmp nat_cmp v w) ≡ permutation_order v w
 permutation_order-slice_cmp v w l m = ap (ordering_then (nat_cmp (inversions v) (inversions w))) (sym (letters_order v w l m))
-
--- ---- lists that compare as equal are equal
 
 slice_cmp-equal : (v w : List ℕ) → slice_cmp nat_cmp v w ≡ Equal → v ≡ w
 slice_cmp-equal [] [] h = refl

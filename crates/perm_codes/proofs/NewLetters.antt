@@ -49,7 +49,6 @@ new_letter w k o l =
     let r = o.letters (get_or w k 0) (among_get k 0 w l) in
     record { positive = r.0; within = r.1; new = new_once w o.once k l }
 
--- if some letter of w equals a, a is among w
 pub among_from_any : (a : ℕ) (w : List ℕ) → list_any (λ b. b == a) w ≡ true → Among a w
 among_from_any a [] h = cc
 among_from_any a (b ∷ w) h = elim (cases_eq b a) [
@@ -70,8 +69,6 @@ short_letter w k d s l =
     let few = s.few in
     let r = (s.one_line.letters (get_or w k d) (among_get k d w l)).1 in
     omega arith
-
--- ---- a list of numbers is a code if and only if each entry is at most the number of entries after it
 
 pub is_code_from : (cs : List ℕ) → ((k : ℕ) → k < length cs → get_or cs k 0 + k + 1 ≤ length cs) → IsCode cs
 is_code_from [] h = tt

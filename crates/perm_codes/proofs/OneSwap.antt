@@ -29,8 +29,6 @@ below_both low high a h = ap (λ s. cond {A = ℕ} (s && nat_lt a high) 1 0) (le
 above_both : (low high a : ℕ) → low < a → high ≤ a → cond {A = ℕ} (lies_between low high a) 1 0 ≡ 0
 above_both low high a h l = ap₂ (λ s t. cond {A = ℕ} (s && t) 1 0) (lt-ltb low a h) (le-ltb a high l)
 
--- let low < high, and let a be a letter other than these; the number of inversions in the list high, a, low that involve a exceeds that in low, a,
--- high by 2 if a is between low and high in value, and by 0 otherwise
 one_letter : (low high a : ℕ) → low < high → (low ≡ a → ⊥) → (a ≡ high → ⊥)
     → cond {A = ℕ} (nat_lt a high) 1 0 + cond {A = ℕ} (nat_lt low a) 1 0
     ≡ cond {A = ℕ} (nat_lt a low) 1 0 + cond {A = ℕ} (nat_lt high a) 1 0 + 2 * cond {A = ℕ} (lies_between low high a) 1 0
@@ -60,8 +58,6 @@ one_letter low high a h n m = elim (cases_lt low a) [
       omega arith
 ]
 
--- if x is smaller than the letter at the index b of w, exchanging x with it in x ∷ w adds 1 to the number of inversions, and 2 for each letter
--- between them both in place and in value
 first_swapped : (x b : ℕ) (w : List ℕ) → b < length w → Once (x ∷ w) → x < get_or w b x
     → smaller (get_or w b x) (set w b x) + inversions (set w b x)
     ≡ smaller x w + inversions w + 1 + 2 * between x (get_or w b x) b w
@@ -77,8 +73,6 @@ first_swapped x (suc b) (z ∷ w) l o h =
     let k = sum_by-cons (λ a. cond (lies_between x (get_or w b x) a) 1 0) z (take b w) in
     omega arith
 
--- if the letter of w at a is smaller than that at b > a, exchanging them adds 1 to the number of inversions, and 2 for each letter between them both
--- in place and in value
 swapped_rising : (a b n d : ℕ) (w : List ℕ) → b ≡ suc a + n → b < length w → Once w → get_or w a d < get_or w b d
     → inversions (swap_at a b w) ≡ inversions w + 1 + 2 * between (get_or w a d) (get_or w b d) n (drop (suc a) w)
 swapped_rising a b n d [] e l o h = absurd (omega arith)
@@ -95,15 +89,12 @@ swapped_rising (suc a) (suc b) n d (x ∷ w) e l o h =
     let s = smaller_swap x a b w in
     omega arith
 
--- exchanging the letters at the indices a < b does not change the letters at the indices between a and b
 same_between : (a b n : ℕ) (w : List ℕ) → b ≡ suc a + n → take n (drop (suc a) (swap_at a b w)) ≡ take n (drop (suc a) w)
 same_between a b n [] e = refl
 same_between a zero n (x ∷ w) e = absurd (omega arith)
 same_between zero (suc b) n (x ∷ w) e = take-set-le n w b x (omega arith)
 same_between (suc a) (suc b) n (x ∷ w) e = same_between a b n w (omega arith)
 
--- if the letter of w at a is greater than that at b > a, exchanging them takes 1 from the number of inversions, and 2 for each letter between them
--- both in place and in value
 swapped_falling : (a b n d : ℕ) (w : List ℕ) → b ≡ suc a + n → b < length w → Once w → get_or w b d < get_or w a d
     → inversions w ≡ inversions (swap_at a b w) + 1 + 2 * between (get_or w b d) (get_or w a d) n (drop (suc a) w)
 swapped_falling a b n d w e l o f =
@@ -115,8 +106,6 @@ swapped_falling a b n d w e l o f =
     ∙ swapped_rising a b n d (swap_at a b w) e (omega (arith, length-swap_at a b w)) (once_swap a b w inside l o) (omega arith)
     ∙ ap₂ (λ low high. inversions (swap_at a b w) + 1 + 2 * between low high n (drop (suc a) (swap_at a b w))) x y
     ∙ ap (λ v. inversions (swap_at a b w) + 1 + 2 * count_by (lies_between (get_or w b d) (get_or w a d)) v) (same_between a b n w e)
-
--- ---- the number of letters between the exchanged ones as a `count_by`
 
 -- if the letter of w at a is smaller than that at b > a, exchanging them adds 1 to the number of inversions, and 2 for each letter between them both
 -- in place and in value, stated with `count_by`

@@ -1,5 +1,5 @@
 -- Lists of letters: the number of letters smaller than a given one as a `count_by`, and the first n letters of a list without the fixed letters at
--- their end.
+-- their end. A letter is *fixed* if it is equal to its place, counted from 1.
 use Rattle.std.proofs.Common.{◌≡◌, ℕ, ◌+◌, ◌-◌, ◌<◌, ◌≤◌, nat_lt, List, [], ◌∷◌, ◌++◌, length, take, get_or, refl, sym, ap, ◌∙◌, arith, cond, true, false, inl, inr, Bool, length-take, count_by}
 use Rattle.std.proofs.lemmas.List.{take_more}
 use Rattle.std.proofs.lemmas.List.Recursion.{is_count_by}
@@ -8,16 +8,12 @@ use Rattle.sym_model.specs.PlaceOrders.{smaller}
 use Rattle.sym_model.specs.Permutation.{kept, without_fixed_from, in_front_unless_fixed}
 use Rattle.schubert_laws.proofs.FixedTails.{kept_added}
 
--- ---- the number of letters of a list that are smaller than a given one, as a `count_by`
-
 pub one_more : (t : Bool) (n : ℕ) → cond t 1 0 + n ≡ cond t (1 + n) n
 one_more true n = refl
 one_more false n = omega arith
 
 pub smaller-count_by : (a : ℕ) (w : List ℕ) → smaller a w ≡ count_by (λ b. nat_lt b a) w
 smaller-count_by a w = is_count_by (smaller a) (λ b. nat_lt b a) refl (λ b v. one_more (nat_lt b a) (smaller a v)) w
-
--- ---- the first n letters of a list without the fixed letters at their end
 
 stays_in_front : (i a b : ℕ) (v : List ℕ) → in_front_unless_fixed i a (v ++ b ∷ []) ≡ a ∷ (v ++ b ∷ [])
 stays_in_front i a b [] = refl

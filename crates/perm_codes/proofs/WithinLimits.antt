@@ -1,5 +1,5 @@
 -- A permutation of at most 255 letters still has at most 255 letters after two letters are exchanged, and satisfies `IsWithinLimits` after the fixed
--- letters at its end are removed. The permutation of a code of at most 255 entries has at most 255 letters.
+-- letters at its end (letters that are equal to their places) are removed. The permutation of a code of at most 255 entries has at most 255 letters.
 use Rattle.std.proofs.Common.{◌≡◌, ℕ, ◌+◌, ◌-◌, ◌<◌, ◌≤◌, List, [], ◌∷◌, length, sym, ap, ◌∙◌, subst, arith, length-append}
 use Rattle.std.specs.List.{swap}
 use Rattle.sym_model.specs.Partition.{after}

@@ -1,4 +1,5 @@
--- The permutations that are values of the type `Perm`, and the lists of letters and codes for which it returns errors.
+-- The permutations that are values of the type `Perm`, and the lists of letters and the codes for which `Perm` returns errors. A letter of a
+-- permutation is *fixed* if it is equal to its place, counted from 1.
 use Rattle.std.specs.Prelude.{◌≡◌, ℕ, ◌+◌, ◌<◌, ◌≤◌, List, length, take, slice_index}
 use Rattle.sym_model.specs.Sum.{Among}
 use Rattle.sym_model.specs.PlaceOrders.{inversions}

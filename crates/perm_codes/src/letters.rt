@@ -1,4 +1,5 @@
-//! Functions on lists of letters: tests, counts, and permutations from letters or codes.
+//! Functions on lists of letters: tests, counts, and permutations from letters or codes. A letter
+//! is fixed if it is equal to its place, counted from 1.
 ghost use Rattle.std.specs.Prelude.{◌≡◌, ℕ, ◌+◌, ◌<◌, ◌≤◌, ◌==◌, ◌&&◌, nat_lt, length, take, swap};
 ghost use Rattle.std.specs.Prelude.{IsOk, IfOk, MatchOption};
 ghost use Rattle.std.specs.List.{count_by, list_any};
@@ -108,8 +109,7 @@ pub(crate) fn makes_one_inversion(letters: &[u8], first: usize, second: usize) -
 /// The number of inversions after exchanging the letters at the places `first` < `second`, counted
 /// from 0, if `count` is the number before. Let d be 1 plus twice the number of letters that are
 /// between these two letters both in place and in value. The result is `count` + d if the letter at
-/// `first` is smaller, otherwise `count`
-/// - d.
+/// `first` is smaller than that at `second`, and otherwise `count` - d.
 pub(crate) fn inversions_exchanged(letters: &[u8], first: usize, second: usize, count: u16) -> u16
     requires permutation { IsShortPermutation letters.now }
     requires order { first < second }

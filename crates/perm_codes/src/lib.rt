@@ -1,4 +1,5 @@
-//! Permutations in one-line form, their codes and their covers.
+//! Permutations in one-line form, their codes and their covers. A letter of a permutation is fixed
+//! if it is equal to its place.
 //!
 //! What is proved:
 //!

@@ -1,4 +1,4 @@
-//! The type of a permutation.
+//! The type of a permutation. A letter of a permutation is fixed if it is equal to its place.
 ghost use Rattle.std.specs.Prelude.{◌≡◌, ℕ, ◌+◌, ◌<◌, ◌≤◌, ◌↔◌, [], ◌∷◌, length, nat_eq, swap};
 ghost use Rattle.std.specs.Prelude.{IsOk, IfOk, OnOk, IsErrOf};
 ghost use Rattle.std.specs.Cmp.{partial_equiv_from_equiv};

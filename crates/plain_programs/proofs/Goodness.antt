@@ -19,14 +19,12 @@ every_more test k =
     let e : 0 + k + 1 ≡ k + 1 = omega arith in
     ap (every test) (after-more 0 k) ∙ every-append test (after 0 k) (0 + k + 1) ∙ ap (λ n. every test (after 0 k) && test n) e
 
--- if the numbers 0, .., k and the number k + 1 pass the test, all of the numbers 0, .., k + 1 pass it
 pub every_on : (test : ℕ → Bool) (k : ℕ) → every test (0 ∷ after 0 k) ≡ true → test (k + 1) ≡ true → every test (0 ∷ after 0 (k + 1)) ≡ true
 every_on test k h e =
     ap (λ p. test 0 && p) (every_more test k)
     ∙ sym (and_assoc (test 0) (every test (after 0 k)) (test (k + 1)))
     ∙ ap₂ ◌&&◌ h e
 
--- if the test fails at j + 1, and j + 1 is at most k, not all of the numbers 1, .., k pass it
 every_fails_in : (test : ℕ → Bool) (j k : ℕ) → j < k → test (j + 1) ≡ false → every test (after 0 k) ≡ false
 every_fails_in test j zero h e = absurd (omega arith)
 every_fails_in test j (suc k) h e = let n : suc k ≡ k + 1 = omega arith in ap (λ n. every test (after 0 n)) n ∙ every_more test k ∙ by (cases_eq j k) (λ l. every_fails_in test j k l e)

@@ -1,4 +1,4 @@
--- The degrees of the polynomials of the bases, and products of sums of monomials.
+-- The degrees of the polynomials e_k, h_k and p_k and of products of polynomials, and products of sums of monomials.
 use Rattle.std.proofs.Common.{◌≡◌, ℕ, zero, suc, ◌+◌, ◌-◌, ◌<◌, ◌≤◌, ◌^◌, Bool, true, false, cond, eqb, List, [], ◌∷◌, ◌++◌, map, length, get_or, take, drop, pos, ◌*ℤ◌, refl, sym, ap, ◌∙◌, subst, inl, inr, arith, filter, flat_map}
 use Rattle.std.specs.Global.{Vec}
 use Rattle.std.proofs.lemmas.Bool.{eqb-true}
@@ -39,7 +39,6 @@ have_size-select d test (α ∷ αs) h = by (have_size-select d test αs h.1) (t
     by rest true = (h.0, rest)
     by rest false = rest
 
--- each list of `exponent_lists n d` has the sum d
 pub exponent_lists-size : (n d : ℕ) → HaveSize d (exponent_lists n d)
 exponent_lists-size zero d = by (eqb d 0) refl
   where
@@ -101,7 +100,6 @@ part_polynomial-is PowerSum k n = refl
 pub part_polynomial-degree : (basis : PlainBasis) (k n : ℕ) → HasDegree k (part_polynomial basis k n)
 part_polynomial-degree basis k n = subst (HasDegree k) (sym (part_polynomial-is basis k n)) (monomials-degree (keeps basis k) n k)
 
--- the sum of the monomials αs times the sum of the monomials βs is the sum of all products of one of αs and one of βs
 pub sum_of-times : (αs βs : List (List ℕ)) → sum_of (flat_map (λ α. map (λ β. join α β) βs) αs) ≡ times (sum_of αs) (sum_of βs)
 sum_of-times [] βs = refl
 sum_of-times (α ∷ αs) βs =
@@ -115,7 +113,6 @@ sum_of-times (α ∷ αs) βs =
     row [] = refl
     row (β ∷ βs) = ap (λ zs. (join α β, pos 1) ∷ zs) (row βs)
 
--- if x is the vector at the place i of xs, the list of the numbers of x is among the lists of the vectors of xs
 pub among-item : (xs : List (Vec ℕ)) (i : ℕ) (x : Vec ℕ) → i < length xs → x ≡ get_or xs i x → Among x.items (map (λ (y : Vec ℕ). y.items) xs)
 among-item [] i x h e = absurd (omega arith)
 among-item (y ∷ xs) zero x h e = inl (ap (λ (z : Vec ℕ). z.items) e)
@@ -133,18 +130,14 @@ pub size-first : (parts : List ℕ) → 1 ≤ length parts → size parts ≡ ge
 size-first [] h = absurd (omega arith)
 size-first (a ∷ parts) h = ap (λ ps. a + size ps) (sym (take_rest (a ∷ parts) 1))
 
--- the polynomial of the first part times the product over the other parts is the product over all parts
 pub product_over-first : (f : ℕ → ℕ → Poly) (parts : List ℕ) (n : ℕ) → 1 ≤ length parts → times (f (get_or parts 0 0) n) (product_over f (take (length parts - 1) (drop 1 parts)) n) ≡ product_over f parts n
 product_over-first f [] n h = absurd (omega arith)
 product_over-first f (k ∷ parts) n h = ap (λ ps. times (f k n) (product_over f ps n)) (take_rest (k ∷ parts) 1)
 
--- if αs are the monomials of the first part, βs those of the product over the other parts, and `all` the products of each of αs with each of βs, then
--- the sum of `all` is the product over all parts
 pub product-is : (f : ℕ → ℕ → Poly) (parts : List ℕ) (n : ℕ) (αs βs all : List (List ℕ)) → 1 ≤ length parts → sum_of αs ≡ f (get_or parts 0 0) n → sum_of βs ≡ product_over f (take (length parts - 1) (drop 1 parts)) n → all ≡ flat_map (λ α. map (λ β. join α β) βs) αs → sum_of all ≡ product_over f parts n
 product-is f parts n αs βs all h p q e =
     ap sum_of e ∙ (sum_of-times αs βs ∙ (ap (λ g. times g (sum_of βs)) p ∙ (ap (λ g. times (f (get_or parts 0 0) n) g) q ∙ product_over-first f parts n h)))
 
--- the polynomial of a partition is the product of the polynomials of its parts
 pub product_polynomial-is : (basis : PlainBasis) (parts : List ℕ) (n : ℕ) → product_polynomial basis parts n ≡ product_over (part_polynomial basis) parts n
 product_polynomial-is Elementary parts n = refl
 product_polynomial-is Complete parts n = refl

@@ -1,4 +1,4 @@
--- Invariants of the loops of the plain program for blocks.
+-- Invariants of the loops of blocks.rt, the program that writes the printed block of a list of terms by the definition.
 use Rattle.std.proofs.Common.{◌≡◌, ℕ, suc, ◌-◌, ◌≤◌, length, take, get_or, arith, List, [], ◌∷◌, ◌++◌, drop, sym, ap, ◌∙◌, decimal, append_assoc, append-nil}
 use Rattle.std.proofs.Math.Seq.{take-length}
 use Rattle.sym_model.specs.PrintedBlock.{numbers_text}

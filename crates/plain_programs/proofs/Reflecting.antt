@@ -1,4 +1,5 @@
--- One reflection of a list whose first entry exceeds its last by more than n, and the result of all reflections.
+-- One reflection of a list whose first entry exceeds its last by more than n (n is subtracted from the first entry and added to the last), and the
+-- result of all reflections.
 use Rattle.std.proofs.Common.{◌≡◌, ℕ, ◌<◌, ◌≤◌, false, List, sym, ◌∙◌, ap, ap₂, arith, ℤ, Option}
 use Rattle.sym_model.specs.BetaList.{has_equal_entries, sorted_falling, sorting_sign}
 use Rattle.sym_model.specs.AlcoveReduction.{spread, squares, reflected, with_sign, reflected_into_alcove}

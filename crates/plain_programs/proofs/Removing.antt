@@ -1,6 +1,6 @@
 -- The removal of a rim hook with the rows first, .., last, counted from 0.
 --     removal_found      if the conditions `Fits` hold, a removal leaves the partition with the parts `left_part`
---     none_in_rows       if they do not hold, no rim hook with the rows first, .., last can be removed
+--     none_in_rows       if no number of cells left in row last satisfies these conditions, no rim hook with the rows first, .., last can be removed
 use Rattle.std.proofs.Common.{◌≡◌, ℕ, ◌+◌, ◌-◌, ◌<◌, ◌≤◌, ◌⊎◌, List, length, get_or, sym, ◌∙◌, ap, subst, refl, inl, inr, arith}
 use Rattle.std.proofs.lemmas.Bool.{cases_lt, cases_eq}
 use Rattle.std.proofs.lemmas.Bool.Decides.{nat_tests}
@@ -14,8 +14,6 @@ use Rattle.strip_laws.proofs.HookSizes.{hook_size}
 use Rattle.sym_model.proofs.SortedParts.{IsPartition-without_last_zeros}
 use Rattle.sym_model.proofs.Parts.{get_or-without_last_zeros, at_least_one, part-get_or, Falls_from_places}
 use Rattle.plain_programs.specs.Removed.{left_part, HasNoneInRows}
-
--- ---- the parts of a partition, with places counted from 0
 
 -- ---- the parts `left_part` of the partition that is left after a removal
 
@@ -107,7 +105,6 @@ partition_left n shape numbers first last rest h v =
     let c = left_falls n shape first last rest i h in
     omega (arith, a, b, c)))
 
--- each number i ≥ 1 (a row, counted from 1) is k + 1 for some k (the row, counted from 0)
 row_before : (i : ℕ) → 1 ≤ i → (k : ℕ) × (i ≡ k + 1)
 row_before i h = (i - 1, omega arith)
 
@@ -169,8 +166,6 @@ removal_found n shape numbers first last rest h v =
       };
       height = omega (arith, t, o);
     }
-
--- ---- the cases in which no rim hook with the rows first, .., last can be removed
 
 -- the conditions on the number `rest` of cells left in row last after a rim hook of n cells with the rows first, .., last, counted from 0, is removed
 record Bounds (n : ℕ) (shape : List ℕ) (first last rest : ℕ) : Type 0 where

@@ -1,7 +1,9 @@
--- The search for a rim hook that can be removed, through all first and last rows, and the result of all removals.
---     search_on       if no removal has a first row up to `done`, and none has the first row done + 1, none has a first row up to done + 1
---     no_removal      if no removal has its first row among the rows of the shape, no rim hook can be removed
---     goes_on         if a removal from `shape` leaves `left`, and the removals from `left` end with `end` (`GoesTo`), so do those from `shape`
+-- The search for a rim hook that can be removed, through all first and last rows, and the result of all removals. The first row of a removal is that
+-- of the rim hook that is removed.
+--     search_on       if no removal has one of the rows up to `done` as its first row, and no removal has the first row done + 1, then no removal has
+--                     one of the rows up to done + 1 as its first row
+--     no_removal      if no removal has a first row among the rows of the shape, no rim hook can be removed
+--     goes_on         if a removal from `shape` leaves `left`, and `left` leads to `end` by removals (`GoesTo`), `shape` leads to `end`
 use Rattle.std.proofs.Common.{◌≡◌, ℕ, suc, ◌+◌, ◌-◌, ◌<◌, ◌≤◌, ◌⊎◌, false, Option, Some, None, is_some, List, length, sym, ◌∙◌, ap, subst, inl, inr, arith, ℤ, ◌*ℤ◌}
 use Rattle.std.proofs.lemmas.Bool.{cases_lt}
 use Rattle.sym_model.specs.Partition.{IsPartition}

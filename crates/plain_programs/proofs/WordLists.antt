@@ -14,7 +14,6 @@ each_after-more f k =
     let e : 0 + k + 1 ≡ k + 1 = omega arith in
     ap (flat_map f) (after-more 0 k) ∙ flat_map-append f (after 0 k) ((0 + k + 1) ∷ []) ∙ ap (λ z. flat_map f (after 0 k) ++ z) (each-one f (0 + k + 1) ∙ ap f e)
 
--- the flat map of f over the first i + 1 elements is that over the first i, followed by f of the element at i
 pub each_take-more : {A B C : Type 0} (f : B → List C) (g : A → B) (xs : List A) (i : ℕ) (x : A) → i < length xs → x ≡ get_or xs i x
     → flat_map f (map g (take (i + 1) xs)) ≡ flat_map f (map g (take i xs)) ++ f (g x)
 each_take-more f g xs i x h e =
@@ -23,7 +22,6 @@ each_take-more f g xs i x h e =
     ∙ flat_map-append f (map g (take i xs)) (g x ∷ [])
     ∙ ap (λ l. flat_map f (map g (take i xs)) ++ l) (each-one f (g x))
 
--- the flat map over j + k, .., j + 1 is f(j + k), followed by the flat map over j + k - 1, .., j + 1
 pub each_reverse-after : {B : Type 0} (f : ℕ → List B) (j k : ℕ) → k ≢ 0 → flat_map f (reverse (after j k)) ≡ f (j + k) ++ flat_map f (reverse (after j (k - 1)))
 each_reverse-after f j k h =
     let e : k ≡ k - 1 + 1 = omega arith in

@@ -1,4 +1,4 @@
--- The polynomials that the plain programs return as lists of the exponents of their monomials.
+-- The polynomials that the programs of bases.rt return, as lists of the exponents of their monomials.
 use Rattle.std.specs.Prelude.{ℕ, ◌+◌, ◌^◌, ◌<◌, Bool, true, pos, List, map}
 use Rattle.std.specs.Global.{Vec}
 use Rattle.sym_model.specs.Sum.{Among}

@@ -1,4 +1,4 @@
--- Terms of the plain program for blocks, as labels with fractions.
+-- The terms of the type `PlainTerm`, read as labels with fractions.
 use Rattle.std.specs.Prelude.{ℕ, List}
 use Rattle.sym_model.specs.Expansion.{Fraction}
 use Rattle.plain_programs.specs.declared.blocks.PlainTerm.{PlainTerm}

@@ -1,5 +1,5 @@
-//! Plain programs for the arrangements of the parts of a partition in n places, and for the
-//! conjugate of a partition.
+//! Slow programs that follow the definitions, for the arrangements of the parts of a partition in n
+//! places, and for the conjugate of a partition.
 
 ghost use Rattle.std.specs.Prelude.{◌≡◌, ◌^◌, ◌<◌, ◌≤◌, IfOk, length};
 ghost use Rattle.sym_model.specs.Partition.{size};

@@ -1,4 +1,4 @@
-//! Plain programs for the bases m, e, h and p in few variables, by their definitions.
+//! Slow programs that follow the definitions, for the bases m, e, h and p in few variables.
 //!
 //! Each returns the polynomial, a formal sum in which all coefficients are 1, as a list of the
 //! exponent lists of its monomials, one for each term. A monomial that the sum has twice is listed

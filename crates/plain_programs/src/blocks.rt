@@ -1,4 +1,4 @@
-//! A plain program, by the definition, for the printed block of a list of terms.
+//! A slow program that follows the definition, for the printed block of a list of terms.
 
 ghost use Rattle.std.specs.Prelude.{◌≡◌, ◌++◌, codes, decimal, map, IfOk, OnOk, string_bytes};
 ghost use Rattle.std.specs.Fmt.{signed_decimal};

@@ -1,5 +1,5 @@
-//! Plain programs for the fillings of a skew shape, and for its semistandard tableaux, which are
-//! found by testing all fillings.
+//! Slow programs that follow the definitions, for the fillings of a skew shape, and for its
+//! semistandard tableaux, which are found by testing all fillings.
 
 ghost use Rattle.std.specs.Prelude.{◌≡◌, ◌∷◌, ◌++◌, map, IfOk, OnOk, filter, flat_map};
 ghost use Rattle.sym_model.specs.Schur.{row_lengths, fillings_of, semistandard, tableaux};

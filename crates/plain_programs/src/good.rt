@@ -1,4 +1,7 @@
-//! Plain programs for the good tableaux of a skew shape, which are found by testing all tableaux.
+//! Slow programs that follow the definitions, for the good tableaux of a skew shape, which are
+//! found by testing all tableaux. A tableau is good for a list `start` if, for each j from 0 to the
+//! last column, `start` plus the content of the columns to the right of column j is weakly
+//! decreasing.
 
 ghost use Rattle.std.specs.Prelude.{◌≡◌, [], ◌∷◌, ◌++◌, ◌+◌, ◌<◌, ◌≤◌, ◌^◌, IfOk, OnOk, cond};
 ghost use Rattle.std.specs.Prelude.{length, map, filter};

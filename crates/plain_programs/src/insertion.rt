@@ -1,5 +1,5 @@
-//! Plain programs for row insertion: the tableau after a letter is inserted, and the insertion and
-//! recording tableaux of a word.
+//! Slow programs that follow the definitions, for row insertion: the tableau after a letter is
+//! inserted, and the insertion and recording tableaux of a word.
 
 ghost use Rattle.std.specs.Prelude.{◌≡◌, ◌+◌, ◌<◌, ◌^◌, ◌++◌, Some, IfOk, OnOk, length};
 ghost use Rattle.sym_model.specs.Insertion.{row_with, bumped, inserted, with_step, inserted_from};

@@ -1,12 +1,13 @@
-//! Plain programs for the bases, printed blocks and orders, fillings and lists of tableaux,
-//! insertion, removals of rim hooks, reflections and permutations, each with its definition as its
-//! contract. They are slow. They are meant to be read, and to be compared with the results of the
-//! other crates.
+//! Slow programs that follow the definitions, for the bases, printed blocks and orders, fillings
+//! and lists of tableaux, insertion, removals of rim hooks, reflections and permutations, each with
+//! its definition as its contract. They are meant to be read, and to be compared with the results
+//! of the other crates.
 //!
 //! What is proved:
 //!
-//! Plain programs for the bases, blocks, fillings, tableaux, readings, arrangements, row insertion,
-//! removals of rim hooks, reflections, inversions and codes: each gives what its definition says.
+//! Slow programs that follow the definitions, for the bases, blocks, fillings, tableaux, readings,
+//! arrangements, row insertion, removals of rim hooks, reflections, inversions and codes: each
+//! gives what its definition says.
 #![tactic(auto)]
 
 mod arrangements;

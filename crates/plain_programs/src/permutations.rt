@@ -1,4 +1,4 @@
-//! Plain programs for the inversions and the code of a list of letters.
+//! Slow programs that follow the definitions, for the inversions and the code of a list of letters.
 
 ghost use Rattle.std.specs.Prelude.{◌≡◌, ◌*◌, ◌^◌, ◌<◌, ◌≤◌, ◌++◌, length, IfOk, OnOk};
 ghost use Rattle.sym_model.specs.PlaceOrders.{smaller, inversions};
@@ -6,8 +6,8 @@ ghost use Rattle.sym_model.specs.Permutation.{code};
 
 use std::alloc::{AllocError, Global};
 
-/// The number of inversions: the pairs of letters of which the one further left is the greater.
-/// There are fewer than 2^31 letters.
+/// The number of inversions: the pairs of letters in which the left letter is greater than the
+/// right one. There are fewer than 2^31 letters.
 pub fn plain_inversions(letters: &[u64]) -> u64
     requires { length letters.now < 2 ^ 31 }
     ensures count { result ≡ inversions letters.now }

@@ -1,4 +1,4 @@
-//! A plain program, by the definition, for the order in which terms are printed.
+//! A slow program that follows the definition, for the order in which terms are printed.
 
 ghost use Rattle.std.specs.Prelude.{◌≡◌, ◌^◌, ◌<◌};
 ghost use Rattle.sym_model.specs.Partition.{size};

@@ -1,4 +1,4 @@
-//! Plain programs for the column readings of fillings of skew shapes.
+//! Slow programs that follow the definitions, for the column readings of fillings of skew shapes.
 
 ghost use Rattle.std.specs.Prelude.{◌≡◌, ◌++◌, ◌+◌, ◌<◌, ◌≤◌, ◌^◌, IfOk, OnOk, length, reverse};
 ghost use Rattle.std.specs.Prelude.{flat_map};

@@ -1,5 +1,5 @@
-//! Plain programs for the reduction of partitions into the alcove, by reflections of their beta
-//! lists.
+//! Slow programs that follow the definitions, for the reduction of partitions into the alcove, by
+//! reflections of their beta lists.
 
 ghost use Rattle.std.specs.Prelude.{◌≡◌, ℕ, ◌++◌, ◌+◌, ◌-◌, ◌≤◌, ◌<◌, ◌^◌, IfOk, OnOk, length};
 ghost use Rattle.std.specs.Prelude.{slice_index};
@@ -48,9 +48,11 @@ pub fn plain_alcove(
     }))
 }
 
-/// Reflects a list until its first entry exceeds its last by less than n, which is at least 1.
-/// Returns the list that is reached, with a sign; None if the reduction is 0. Fails only if memory
-/// runs out.
+/// Reflects a list and sorts it in decreasing order, again and again, until its first entry exceeds
+/// its last by less than n, which is at least 1. A reflection subtracts n from the first entry and
+/// adds n to the last. Returns the list that is reached, with the sign of the sortings. Returns
+/// None, for the result 0, if a first entry exceeds the last by exactly n, or if a reflected list
+/// has two equal entries. Fails only if memory runs out.
 pub fn plain_reflect(alloc: Global, n: u64, list: &[u64]) -> Result<Option<Signed>, AllocError>
     requires { 1 ≤ n }
     ensures { IfOk result (λ answer. signed_of answer ≡ reflected_into_alcove n list.now) }

@@ -1,4 +1,5 @@
-//! Plain programs for the reduction of partitions by removals of rim hooks.
+//! Slow programs that follow the definitions, for the reduction of partitions by removals of rim
+//! hooks.
 
 ghost use Rattle.std.specs.Prelude.{◌≡◌, ℕ, ◌+◌, ◌-◌, ◌≤◌, ◌<◌, ◌^◌, IfOk, length, slice_index};
 ghost use Rattle.sym_model.specs.Partition.{IsPartition, size};

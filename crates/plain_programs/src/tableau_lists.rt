@@ -1,5 +1,5 @@
-//! Plain programs for lists of tableaux, in which a tableau is given by its column reading, and for
-//! the part of such a list after a given tableau.
+//! Slow programs that follow the definitions, for lists of tableaux, in which a tableau is given by
+//! its column reading, and for the part of such a list after a given tableau.
 
 ghost use Rattle.std.specs.Prelude.{◌≡◌, ◌<◌, ◌^◌, IfOk, length, filter};
 ghost use Rattle.sym_model.specs.Polynomial.{same};

@@ -1,4 +1,5 @@
-//! A plain program for all words of a given length, in lexicographic order.
+//! A slow program that follows the definition, for all words of a given length, in lexicographic
+//! order.
 
 ghost use Rattle.std.specs.Prelude.{◌≡◌, ◌+◌, ◌∷◌, ◌++◌, map, IfOk, OnOk, flat_map};
 ghost use Rattle.sym_model.specs.Partition.{after};

@@ -1,4 +1,5 @@
--- If the empty partition is the only label of the outer list F, the plethysm F[G] is a number that does not depend on G.
+-- The plethysm F[G] of two lists in m, that is, lists of terms c·m_λ: if the empty partition is the only label of F, then F[G] is a number that does
+-- not depend on G.
 use Rattle.std.proofs.Common.{◌≡◌, ℕ, ◌/◌, ◌≤◌, List, [], ◌∷◌, length, refl, sym, ◌∙◌, ap, ap₂, inl, inr, arith, ℤ, pos, ◌+ℤ◌, ◌*ℤ◌}
 use Rattle.sym_model.specs.Sum.{total, Among}
 use Rattle.sym_model.specs.Partition.{ArePositive, size}
@@ -30,7 +31,6 @@ pair-empty k φ =
     ∙ pair_determined (in_monomials (([], pos 1) ∷ []) k) (one k) φ (list-no_factor power_sum_of k)
     ∙ pair_one k φ
 
--- if each label of a list W in m is the empty partition, the polynomial of W is the sum of the coefficients of W, a number
 pair-number : (W : WholeTerms) (k : ℕ) (φ : List ℕ → ℤ) → ((t : List ℕ × ℤ) → Among t W → t.0 ≡ [])
     → pair (in_monomials W k) φ ≡ total (λ (t : List ℕ × ℤ). t.1) W *ℤ φ (no_exponents k)
 pair-number W k φ empty = pair_of_combined (λ label. monomial label k) W φ ∙ by W empty
@@ -48,7 +48,7 @@ no_cells : (parts : List ℕ) → ArePositive parts → size parts ≤ 0 → par
 no_cells [] p h = refl
 no_cells (a ∷ parts) p h = absurd (let s = p.0 in omega arith)
 
--- `outer` is a list in m with no label except the empty partition; in every number k of variables it expands f(k), divided by q
+-- `outer` is a list in the monomial basis m with no label except the empty partition; in every number k of variables it expands f(k), divided by q
 module _ (outer : Terms (List ℕ)) (f : ℕ → Poly) (q : ℕ) (is : IsFractionTable outer) (none : AreWithin 0 outer)
     (x : (k : ℕ) → IsExpansionOf Basis.monomials outer k (f k) q) where
   abbrev Q : ℕ
@@ -87,8 +87,6 @@ module _ (outer : Terms (List ℕ)) (f : ℕ → Poly) (q : ℕ) (is : IsFractio
       product_cancel (pair A φ) (pair B φ) Q ((x 0).positive)
       (*ℤ_comm (pair A φ) (pos Q) ∙ sym (pair-substituted n γs φ h) ∙ pair-substituted n δs φ k ∙ *ℤ_comm (pos Q) (pair B φ)))
 
-  -- if a list expands f(k), with k monomials γs in place of the variables, divided by q, then the list also expands f(l), with any l monomials δs in
-  -- place of the variables, divided by q
   pub constant-expansion : (target : Basis) (list : Terms (List ℕ)) (n : ℕ) (γs δs : List (List ℕ)) → HavePlaces n γs → HavePlaces n δs
       → IsExpansionOf target list n (substitute n γs (f (length γs))) q → IsExpansionOf target list n (substitute n δs (f (length δs))) q
   constant-expansion target list n γs δs h k y = record {

@@ -1,4 +1,5 @@
--- The plethysms p_k[G] and p_λ[G] for a list G in m, one factor p_k[G] of p_λ[G] after another.
+-- The plethysms p_k[G] and p_λ[G] for a list G in m, that is, a list of terms c·m_μ. The product p_λ[G] is computed by multiplying by one factor
+-- p_k[G] after another, for the parts k of λ.
 use Rattle.std.proofs.Common.{◌≡◌, ℕ, ◌+◌, ◌*◌, ◌^◌, ◌<◌, ◌≤◌, List, [], ◌∷◌, ◌++◌, length, sym, ap, subst, arith, ℤ, pos}
 use Rattle.std.proofs.lemmas.Int.{ints}
 use Rattle.std.proofs.lemmas.List.{map-append}
@@ -65,8 +66,6 @@ IsWithinLimits-multiplied k parts h p low =
       few = omega arith;
       small = omega arith;
     }
-
--- ---- the list of p_k[G] in m
 
 pub list-dilated : (k : ℕ) (W V : WholeTerms) → 0 < k → Same V (dilated k W) → IsList V (λ n. dilated k (in_monomials W n))
 list-dilated k W V h e =
@@ -139,16 +138,12 @@ within-dilated k inner list is same =
     let h = size-multiplied k u.0.0 in
     omega arith)
 
--- ---- the labels that a loop over the terms of a list visits
-
--- the label of each term of a list of fractions is a partition whose size is at most the greatest size of a label
 pub label_of : (terms : Terms (List ℕ)) (label : List ℕ) (c : Fraction) → IsFractionTable terms → Among (label, c) terms → IsPartition label × (size label ≤ greatest_size terms)
 label_of terms label c is m = (
   (is_label-tells label (term-tests terms is (label, c) m).1).partition,
   greatest_size-among terms (label, c) m,
 )
 
--- the label of the next term of a table of integers is a partition whose size is at most the greatest size of a label
 pub next_label : (terms done rest : WholeTerms) (label : List ℕ) (c : ℤ) → IsWholeTable terms → done ++ (label, c) ∷ rest ≡ terms → IsPartition label × (size label ≤ greatest_size terms)
 next_label terms done rest label c is e =
     let m = subst (λ (ts : WholeTerms). Among (label, c) ts) e (next_among done (label, c) rest) in

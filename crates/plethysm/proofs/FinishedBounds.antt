@@ -1,4 +1,5 @@
--- Bounds for the coefficients and for the sizes of the labels of a plethysm in m, from the bounds of its two lists.
+-- Bounds for the coefficients and for the sizes of the labels of a plethysm F[G] in m, from the bounds of the lists F and G in m. A list in m is a
+-- list of terms c·m_λ.
 use Rattle.std.proofs.Common.{ℕ, ◌+◌, ◌*◌, ◌^◌, List, length}
 use Rattle.sym_model.specs.Polynomial.{Same}
 use Rattle.sym_model.specs.Plethysm.{plethysm, repeated_monomials}

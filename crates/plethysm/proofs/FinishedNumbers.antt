@@ -1,4 +1,5 @@
--- The bound of a plethysm in m is at least 1, and the labels of the plethysm are within the limit of sizes of every target.
+-- Inequalities for the computation of a plethysm: N·(a + 1)·(K·(b + 1))^a ≥ 1 if N and K are at least 1; the greatest degree that is allowed for a
+-- target basis (`degree_limit`) is at least 10 for every basis; and x·y ≤ most if x ≤ a, y ≤ b and a·b ≤ most.
 use Rattle.std.proofs.Common.{ℕ, ◌+◌, ◌*◌, ◌^◌, ◌≤◌, arith}
 use Rattle.std.proofs.lemmas.Nat.{mul-le}
 use Rattle.std.proofs.Math.Nat.{one-le-pow}
@@ -10,7 +11,6 @@ positive-bound N a K b n k =
     let s = mul-le 1 1 N (a + 1) n (omega arith) in
     mul-le 1 1 (N * (a + 1)) ((K * (b + 1)) ^ a) (omega arith) (one-le-pow a (K * (b + 1)) (mul-le 1 1 K (b + 1) k (omega arith)))
 
--- the limit of the degree (`degree_limit`) is at least 10 for every target
 pub degree_limit-ten : (target : Basis) → 10 ≤ degree_limit target
 degree_limit-ten Basis.monomials = omega arith
 degree_limit-ten elementaries = omega arith

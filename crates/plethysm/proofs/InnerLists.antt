@@ -1,4 +1,4 @@
--- Lists in m with integer coefficients that are not negative, as lists of their numerators.
+-- Lists in m (lists of terms c·m_λ) whose coefficients are fractions c/1 with integers c ≥ 0, and the lists of the numerators of such lists.
 use Rattle.std.proofs.Common.{◌≡◌, ℕ, ◌+◌, ◌*◌, ◌/◌, ◌%◌, ◌<◌, ◌≤◌, List, [], ◌∷◌, length, sym, ◌∙◌, ap, ap₂, subst, refl, inl, inr, arith, ℤ, pos, ◌*ℤ◌}
 use Rattle.std.specs.Prelude.{◌≤ℤ◌}
 use Rattle.std.specs.List.{IsDistinct}
@@ -59,7 +59,6 @@ module _ (terms : Terms (List ℕ)) (W : WholeTerms) (same : Same W (numerators 
   same_in : (n : ℕ) → Same (in_monomials W n) (in_monomials (numerators terms) n)
   same_in n = combined_respects (λ label. monomial label n) W (numerators terms) same
 
-  -- if the list `terms` expands g, and all its coefficients have the denominator 1, g is the polynomial of W, the list of its numerators
   pub inner-value : HaveOne terms → (n : ℕ) (g : Poly) → IsExpansionOf Basis.monomials terms n g 1 → Same g (in_monomials W n)
   inner-value one n g x α =
       sym
@@ -75,7 +74,6 @@ module _ (terms : Terms (List ℕ)) (W : WholeTerms) (same : Same W (numerators 
       ∙ one-product (coefficient g α))
 
 module _ (terms : Terms (List ℕ)) (W : WholeTerms) (same : Same W (numerators terms)) (is : IsFractionTable terms) (also : IsWholeTable W) where
-  -- the size of each label of W, the list of the numerators of `terms`, is at most the greatest size of a label of `terms`
   pub within-inner : AreWithin (greatest_size terms) W
   within-inner =
       labels-same (λ (label : List ℕ). size label ≤ greatest_size terms) W (numerators terms) also same
@@ -85,8 +83,6 @@ module _ (terms : Terms (List ℕ)) (W : WholeTerms) (same : Same W (numerators 
       let g = greatest_size-among terms u.0 u.1 in
       omega arith)
 
-  -- if K and the denominator 1 bound `terms` (`listed.IsBounded`), whose labels have at most b cells and whose coefficients are not negative, then
-  -- K·(b + 1) bounds W, the list of its numerators, at the degree b (`IsBoundedSum`)
   pub bounded_sum : (K D b : ℕ) → 1 ≤ K → D ≡ 1 → AreNaturalNumbers terms → AreWithin b terms → listed.IsBounded K D terms → IsBoundedSum (K * (b + 1)) b W
   bounded_sum K D b k e natural w bounded = record {
     some = omega (arith, mul-pos k (let s : 0 < b + 1 = omega arith in s));
@@ -101,7 +97,8 @@ module _ (terms : Terms (List ℕ)) (W : WholeTerms) (same : Same W (numerators 
         (bounded-list K 1 b n terms (Once-keys terms is) w (subst (λ d. listed.IsBounded K d terms) e bounded)));
   }
 
--- if an expression has no minus signs and no fractions (`HasNoSigns`), the coefficients of its list in m are integers and not negative
+-- if an expression has no minus signs and no fractions (`HasNoSigns`), the coefficients of its list in the monomial basis m are integers and not
+-- negative
 pub natural-expansion : (e : Tree) (terms : Terms (List ℕ)) → HasNoSigns e → IsFractionTable terms → listed.IsBounded (numerator e) (denominator e) terms
     → ((n : ℕ) → IsExpansionOf Basis.monomials terms n (cleared_value e n) (denominator e)) → AreNaturalNumbers terms
 natural-expansion e terms h is bounded x t m = (ones t m, subst (λ z. pos 0 ≤ℤ z) (sym at) (coefficient-nonnegative (cleared_value e (length t.0)) (nonnegative-value e (length t.0) h) t.0))

@@ -1,4 +1,4 @@
--- A list of terms with each coefficient replaced by an integer.
+-- A list of terms with each coefficient c replaced by an integer h(c).
 use Rattle.std.proofs.Common.{◌≡◌, cond, ℕ, List, [], ◌∷◌, ◌++◌, map, refl, sym, ◌∙◌, ap, subst, ℤ, pos}
 use Rattle.std.specs.Map.{keys_of}
 use Rattle.std.proofs.lemmas.List.{map-append}
@@ -21,7 +21,6 @@ module _ {X : Type 0} (h : X → ℤ) where
   keys-mapped [] = refl
   keys-mapped (t ∷ terms) = ap (λ ks. t.0 ∷ ks) (keys-mapped terms)
 
-  -- if the labels of a list are different, and `done` are the terms before its term x, then the coefficient of the label of x in `mapped done` is 0
   pub none_before : (terms done rest : List (List ℕ × X)) (x : List ℕ × X) → Once (keys_of terms) → done ++ x ∷ rest ≡ terms → coefficient (mapped done) x.0 ≡ pos 0
   none_before terms done rest x is e =
       total_none (λ (t : List ℕ × ℤ). cond (same t.0 x.0) t.1 (pos 0)) (mapped done)

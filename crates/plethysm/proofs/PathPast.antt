@@ -1,4 +1,5 @@
--- If computing the sum of c·p_λ[W] over the terms c·p_λ of a list returns `Large`, the plethysm weight is 2^127 or more.
+-- For a list W in m, that is, a list of terms c·m_μ: if the computation of the sum of c·p_λ[W] over the terms c·p_λ of a list returns `Large`, then
+-- the plethysm weight (`plethysm_weight`), a bound of the numbers in the computation, is 2^127 or more.
 use Rattle.std.proofs.Common.{ℕ, ◌+◌, ◌*◌, ◌^◌, ◌≤◌, length, refl, inl, inr, arith}
 use Rattle.sym_model.specs.Partition.{size}
 use Rattle.sym_model.specs.Expansion.{power_sums}
@@ -17,9 +18,9 @@ use Rattle.plethysm.specs.PathSums.{IsPastPath}
 use Rattle.plethysm.proofs.FactorLists.{places, sums}
 use native.Mathlib.Nat.{mul-le-mul_right}
 
--- let the labels of the list `terms` in p have at most a cells, let the absolute values of its coefficients add up to at most N times `growth` of p
--- at a, and let K·(b + 1) bound the list W in m at the degree b (`IsBoundedSum`): if a number that occurs when the sum of c·p_λ[W] over `terms` is
--- computed is 2^127 or more (`IsPastPath`), so is the plethysm weight
+-- let the labels of the list `terms` in p have at most a cells, let the absolute values of its coefficients add up to at most N times
+-- `growth power_sums a`, and let K·(b + 1) bound the list W in m at the degree b (`IsBoundedSum`). If the computation of the sum of c·p_λ[W] over
+-- `terms` has a number of 2^127 or more (`IsPastPath`), then the plethysm weight is 2^127 or more
 pub past-weight : (N D a K b : ℕ) (terms W : WholeTerms) → 1 ≤ N → 1 ≤ D → 1 ≤ K → IsWholeTable terms → AreWithin a terms → absolute_total terms ≤ N * growth power_sums a
     → IsBoundedSum (K * (b + 1)) b W → IsPastPath (K * (b + 1)) b W terms → 2 ^ 127 ≤ plethysm_weight N D a K b
 past-weight N D a K b terms W n d k is w few h (inl (t, m, l)) = let x = weight-product N D a K b n d k (size t.0) (w t m) in omega arith

@@ -1,4 +1,5 @@
--- For a list W in m: the sum of c·p_λ[W] over the terms c·p_λ of a list, and the sum after one more term of this list is added.
+-- For a list W in m, that is, a list of terms c·m_μ: the sum of c·p_λ[W] over the terms c·p_λ of a list, and the sum after one more term of this list
+-- is added.
 use Rattle.std.proofs.Common.{◌≡◌, ℕ, ◌+◌, ◌*◌, ◌^◌, ◌≤◌, List, [], ◌∷◌, ◌++◌, length, sym, ◌∙◌, ap, ap₂, subst, inl, inr, arith, ℤ, pos, ◌+ℤ◌, ◌*ℤ◌, append-nil, append_assoc}
 use Rattle.std.specs.Prelude.{nat_abs}
 use Rattle.std.proofs.lemmas.Int.{ints, unsigned_abs-mul}

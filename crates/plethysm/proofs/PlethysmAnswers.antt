@@ -1,4 +1,5 @@
--- If a list in p is k times a list F in m, then the sum of c·p_λ[W] over the terms c·p_λ of the list in p is k times the plethysm F[W].
+-- For a list W in m, that is, a list of terms c·m_μ: if a list in p is k times a list F in m, then the sum of c·p_λ[W] over the terms c·p_λ of the
+-- list in p is k times the plethysm F[W].
 use Rattle.std.proofs.Common.{◌≡◌, ℕ, ◌*◌, ◌<◌, ◌*ℤ◌, pos, List, [], ◌∷◌, ◌++◌, length, replicate, sym, ◌∙◌, ap, ap₂, refl, flat_map}
 use Rattle.std.specs.Prelude.{nat_abs}
 use Rattle.sym_model.specs.Bases.{monomial, power_sum}
@@ -48,8 +49,9 @@ composed k K b outer terms W S is h multiple same_sum n α =
     ∙ substitute_respects n γs (combined (λ label. power_sum label m) terms) (scale (pos k) (in_monomials outer m)) (multiple m) α
     ∙ substitute-scale n γs (pos k) (in_monomials outer m) α
 
--- let V be D times the list `outer` in m, `list` be V with the monomials γs in place of its variables, E be q·`list` in the target, and `answer` be E
--- divided by D·q: if `outer` expands f divided by p, then `answer` expands f with the monomials γs in place of its variables, divided by p
+-- let V be D times the list `outer` in m, `list` be V with the monomials γs in place of its variables, E be q·`list` in the target basis, and
+-- `answer` be E divided by D·q: if `outer` expands f divided by p, then `answer` expands f with the monomials γs in place of its variables, divided
+-- by p
 pub expansion-composed : (target : Basis) (N D q p n : ℕ) (γs : List (List ℕ)) (outer answer : Terms (List ℕ)) (V list E : WholeTerms) (f : Poly) → 0 < D → 0 < q
     → IsFractionTable outer → IsBounded N D outer → Same V (over D outer) → Same (in_monomials list n) (substitute n γs (in_monomials V (length γs)))
     → IsMultipleIn target q list E → IsFractionTable answer → Quotients (D * q) answer E

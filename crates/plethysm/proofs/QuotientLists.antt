@@ -1,4 +1,4 @@
--- A list with integer coefficients, each divided by a number that divides them all.
+-- A list of terms with integer coefficients, each divided by a number that divides them all. A list in m is a list of terms c·m_λ.
 use Rattle.std.proofs.Common.{◌≡◌, ℕ, ◌<◌, List, [], ◌∷◌, length, sym, ◌∙◌, ap, ap₂, subst, refl, inl, inr, ℤ, pos, ◌*ℤ◌, int_div, unsigned_abs}
 use Rattle.std.specs.Int.{◌∣◌}
 use Rattle.std.proofs.Math.Nat.{dvd-mul_right}
@@ -28,7 +28,7 @@ times-divided k [] h = refl
 times-divided k (t ∷ W) h =
     ap₂ ◌∷◌ (ap (λ (z : ℤ). (t.0, z)) (*ℤ_comm (pos k) (int_div t.1 (pos k)) ∙ h t (inl refl))) (times-divided k W (λ u m. h u (inr m)))
 
--- if the list W in m is k times the polynomials f(n), the list of the quotients of its coefficients by k is f(n)
+-- if the list W in m is k times the polynomial f(n) in every number n of variables, then the list of the quotients of its coefficients by k is f(n)
 pub list-divided : (k : ℕ) (W V : WholeTerms) (f : ℕ → Poly) → 0 < k → IsWholeTable W → Same V (mapped (divided_by k) W) → IsList W (λ n. scale (pos k) (f n)) → IsList V f
 list-divided k W V f some is same h n α =
     product_cancel (coefficient (in_monomials V n) α) (coefficient (f n) α) k some

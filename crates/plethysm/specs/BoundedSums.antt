@@ -1,4 +1,4 @@
--- Lists in m without negative coefficients, whose polynomials are bounded by sums of powers of x_1 + .. + x_n.
+-- Lists in m, that is, lists of terms c·m_λ, without negative coefficients, whose polynomials are bounded by sums of powers of x_1 + .. + x_n.
 use Rattle.std.specs.Prelude.{ℕ, ℤ, pos, ◌≤◌, ◌≤ℤ◌, List}
 use Rattle.sym_model.specs.Sum.{Among}
 use Rattle.sym_model.specs.WholeTerms.{WholeTerms}

@@ -1,4 +1,4 @@
--- The plethysm of two lists in m with integer coefficients.
+-- The plethysm of two lists in the monomial basis m, that is, of two lists of terms c·m_λ, with integer coefficients.
 use Rattle.std.specs.Prelude.{ℕ, ◌+◌, ◌*◌, ◌^◌, ◌≤◌}
 use Rattle.sym_model.specs.Plethysm.{plethysm, plethysm_weight}
 use Rattle.sym_model.specs.WholeTerms.{WholeTerms}
@@ -13,7 +13,7 @@ IsComposition outer inner list =
     (K b : ℕ) → IsBoundedSum K b inner
     → IsList list (λ n. plethysm (in_monomials outer) b n (in_monomials inner n))
 
--- for all N, D, K ≥ 1 and each b for which N bounds the list `outer` (`IsBoundedBy`) and K·(b + 1) bounds the list `inner` at the degree b
+-- whenever N, D and K are at least 1, N bounds the list `outer` (`IsBoundedBy`), and K·(b + 1) bounds the list `inner` at the degree b
 -- (`IsBoundedSum`), the plethysm weight of N, D, a, K and b is 2^127 or more; a is meant to be the degree of `outer`
 abbrev pub IsPastWeight : ℕ → WholeTerms → WholeTerms → Type 0
 IsPastWeight a outer inner =

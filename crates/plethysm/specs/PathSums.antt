@@ -1,5 +1,5 @@
--- The numbers that occur when the sum of c·p_λ[W] over the terms c·p_λ of a list is computed, for a list W in m whose monomials replace the
--- variables.
+-- The numbers that occur when the sum of c·p_λ[W] over the terms c·p_λ of a list is computed. Here W is a list in the monomial basis m, that is, a
+-- list of terms c·m_μ, and its monomials replace the variables of p_λ.
 use Rattle.std.specs.Prelude.{ℕ, ◌*◌, ◌^◌, ◌≤◌, ◌⊎◌, ℤ, List, length}
 use Rattle.sym_model.specs.Sum.{Among}
 use Rattle.sym_model.specs.Partition.{IsPartition, size}

@@ -1,4 +1,5 @@
-//! The plethysm of two lists in m, computed by power sums.
+//! The plethysm of two lists in the monomial basis m, that is, of two lists of terms c·m_λ; it is
+//! computed by power sums.
 ghost use Rattle.std.specs.Prelude.{◌≡◌, ℕ, ◌*◌, ◌≤◌, ◌^◌, IfOk, IsErrOf};
 ghost use Rattle.sym_model.specs.Expansion.{monomials, IsExpansionOf};
 ghost use Rattle.sym_model.specs.ListWeight.{IsBounded};

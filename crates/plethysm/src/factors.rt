@@ -1,6 +1,6 @@
-//! The plethysms p_k[G] and p_λ[G] for a list G in m with integer coefficients: p_k[G] is G with
-//! each variable replaced by its k-th power, and p_λ[G] is the product of the p_k[G] over the parts
-//! k of λ.
+//! The plethysms p_k[G] and p_λ[G] for a list G in m, that is, a list of terms c·m_μ, with integer
+//! coefficients: p_k[G] is G with each variable replaced by its k-th power, and p_λ[G] is the
+//! product of the p_k[G] over the parts k of λ.
 ghost use Rattle.std.specs.Prelude.{◌≡◌, ℕ, ◌*◌, ◌<◌, ◌≤◌, ◌^◌, IfOk, IsErrOf};
 ghost use Rattle.sym_model.specs.Expansion.{monomials};
 ghost use Rattle.sym_model.specs.Partition.{ArePositive, size};

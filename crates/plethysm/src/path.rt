@@ -1,5 +1,5 @@
-//! The sum of c·p_λ[G] over the terms c·p_λ of a list in power sums, for a list G in m whose
-//! monomials replace the variables.
+//! The sum of c·p_λ[G] over the terms c·p_λ of a list in power sums, for a list G in m, that is, a
+//! list of terms c·m_μ, whose monomials replace the variables.
 ghost use Rattle.std.specs.Prelude.{ℕ, ◌*◌, ◌≤◌, IfOk, IsErrOf};
 ghost use Rattle.sym_model.specs.Polynomial.{Same};
 ghost use Rattle.sym_model.specs.WholeTerms.{combined};

@@ -1,5 +1,5 @@
 -- For k > 0, m_λ with each variable replaced by its k-th power is m_{kλ}.
-use Rattle.std.proofs.Common.{◌≡◌, ◌⊎◌, ℕ, zero, suc, ◌*◌, ◌/◌, ◌<◌, ◌≤◌, true, false, Bool, cond, eqb, List, [], ◌∷◌, map, length, sym, ◌∙◌, ap, ap₂, subst, refl, inl, inr, arith, pos}
+use Rattle.std.proofs.Common.{◌≡◌, ◌⊎◌, ℕ, zero, suc, ◌*◌, ◌/◌, ◌<◌, ◌≤◌, true, false, Bool, cond, eqb, List, [], ◌∷◌, map, length, sym, ◌∙◌, ap, ap₂, subst, refl, inl, inr, arith, pos, rules}
 use Rattle.std.proofs.lemmas.Bool.{cases_lt}
 use Rattle.std.proofs.Math.Nat.{mul-div_cancel_left, mul-le-mul_left}
 use Rattle.sym_model.specs.Polynomial.{same, coefficient, Same, pair}
@@ -27,7 +27,7 @@ divided-multiplied k (a ∷ α) h = ap₂ ◌∷◌ (mul-div_cancel_left a h) (d
 multiplied_cancel : (k : ℕ) (α β : List ℕ) → 0 < k → multiplied k α ≡ multiplied k β → α ≡ β
 multiplied_cancel k α β h e = sym (divided-multiplied k α h) ∙ ap (divided k) e ∙ divided-multiplied k β h
 
--- ---- a part inserted into a sorted list; multiplying all entries by k > 0 and then sorting gives the sorted list with each part multiplied by k
+-- ---- sorting and multiplying all entries by k > 0 can be exchanged
 
 insert_front : (x b : ℕ) (parts : List ℕ) → 0 < x → b ≤ x → insert_part x (b ∷ parts) ≡ x ∷ b ∷ parts
 insert_front zero b parts h k = absurd (omega arith)
@@ -80,15 +80,7 @@ multiplied-divided k (a ∷ α) m = ap₂ ◌∷◌ m.0 (multiplied-divided k α
 inserted_multiples : (k a : ℕ) (parts : List ℕ) → 0 < k → AreMultiples k (insert_part a parts) → (k * (a / k) ≡ a) × AreMultiples k parts
 inserted_multiples k zero parts h m = (ap (λ x. k * x) (ap (λ x. x / k) (let e : 0 ≡ k * 0 = omega arith in e) ∙ mul-div_cancel_left 0 h) ∙ (let e : k * 0 ≡ 0 = omega arith in e), m)
 inserted_multiples k (suc a) [] h m = m
-inserted_multiples k (suc a) (b ∷ parts) h m = by (cases_lt (suc a) b) (inserted_multiples k (suc a) parts h)
-  where
-    by : (suc a < b) ⊎ (b ≤ suc a) → (AreMultiples k (insert_part (suc a) parts) → (k * (suc a / k) ≡ suc a) × AreMultiples k parts)
-        → (k * (suc a / k) ≡ suc a) × AreMultiples k (b ∷ parts)
-    by (inl l) rest =
-        let n = subst (AreMultiples k) (insert_part_below a b parts l) m in
-        let r = rest n.1 in
-        (r.0, (n.0, r.1))
-    by (inr l) rest = subst (AreMultiples k) (insert_part_above a b parts l) m
+inserted_multiples k (suc a) (b ∷ parts) h m = search (rules, cases_lt, insert_part_below, insert_part_above, (inserted_multiples k (suc a) parts h))
 
 sorted_multiples : (k : ℕ) (α : List ℕ) → 0 < k → AreMultiples k (sorted_parts α) → AreMultiples k α
 sorted_multiples k [] h m = tt
@@ -96,7 +88,7 @@ sorted_multiples k (a ∷ α) h m =
     let r = inserted_multiples k a (sorted_parts α) h m in
     (r.0, sorted_multiples k α h r.1)
 
--- ---- m_λ and lists of terms in m, with each variable replaced by its k-th power
+-- ---- m_λ and lists of terms in the monomial basis m, with each variable replaced by its k-th power
 
 pub dilated-monomial : (k : ℕ) (parts : List ℕ) (n : ℕ) → 0 < k → Same (dilated k (monomial parts n)) (monomial (multiplied k parts) n)
 dilated-monomial k parts n h β =
@@ -142,7 +134,8 @@ dilated-monomial k parts n h β =
         (λ e. d (multiplied-divided k β (sorted_multiples k β h (subst (AreMultiples k) (sym e) (AreMultiples-multiplied k parts h))))))
         ∙ nothing_there (eqb (length β) n))
 
--- for k > 0, multiplying each part of each label of a list in m by k replaces each variable of its polynomial by its k-th power
+-- for k > 0 and a list of terms c·m_λ: if each part of each label is multiplied by k, then each variable of the polynomial of the list is replaced by
+-- its k-th power
 pub dilated-list : (k : ℕ) (terms : WholeTerms) (n : ℕ) → 0 < k → Same (dilated k (in_monomials terms n)) (in_monomials (dilated k terms) n)
 dilated-list k terms n h =
     same_from_pair (dilated k (in_monomials terms n)) (in_monomials (dilated k terms) n)
@@ -154,7 +147,8 @@ dilated-list k terms n h =
     ∙ sym (pair-dilated k terms (λ label. pair (monomial label n) φ))
     ∙ sym (pair-combined (λ label. monomial label n) (dilated k terms) φ))
 
--- for k > 0, in the list W in m with each part of each label multiplied by k, the coefficient of k·λ is that of λ in W
+-- for k > 0 and a list W of terms c·m_λ: if each part of each label of W is multiplied by k, then the new coefficient of the label k·λ is the
+-- coefficient of λ in W
 pub coefficient-dilated : (k : ℕ) (W : WholeTerms) (label : List ℕ) → 0 < k → coefficient (dilated k W) (multiplied k label) ≡ coefficient W label
 coefficient-dilated k W label h =
     coefficient_pair (dilated k W) (multiplied k label)

@@ -1,5 +1,6 @@
--- If the coefficients of a list of terms in m are bounded (`IsBounded` of specs/ListWeight), then the polynomial of the list, multiplied by a common
--- denominator, is bounded in every number of variables (`IsBounded` of monomial_laws).
+-- Let D be a common denominator of the coefficients of a list of terms c·m_λ, and let |c|·D·Π λ_i! ≤ N·|λ|! for each term (`IsBounded` of
+-- specs/ListWeight). Then the polynomial of the list, multiplied by D, is bounded in every number of variables (`IsBounded` of monomial_laws): in
+-- absolute value its coefficients are at most those of a sum of powers of x_1 + .. + x_n.
 use Rattle.std.proofs.Common.{◌≡◌, ◌⊎◌, ℕ, zero, suc, ◌+◌, ◌*◌, ◌/◌, ◌<◌, ◌≤◌, cond, List, [], ◌∷◌, length, sym, ◌∙◌, ap, subst, refl, inl, inr, arith, ℤ, pos, negsuc, ◌+ℤ◌, ◌*ℤ◌}
 use Rattle.std.specs.Prelude.{nat_abs, ◌≤ℤ◌}
 use Rattle.std.proofs.lemmas.Int.{ints, unsigned_abs-mul}
@@ -25,7 +26,6 @@ use Rattle.sym_model.specs.ListWeight.{factorials}
 use Rattle.sym_model.proofs.Sums.{among_down_from, total_not_negative, down_from-below}
 use native.Mathlib.Nat.{mul-le-mul_left}
 
--- if no value of f is negative, the sum of f over the elements of a list is at least f(x) for each element x
 member_within : {A : Type 0} (f : A → ℤ) (x : A) (xs : List A) → ((y : A) → pos 0 ≤ℤ f y) → Among x xs → f x ≤ℤ total f xs
 member_within f x [] h m = absurd m
 member_within f x (y ∷ xs) h (inl e) = let n = total_not_negative f xs h in subst (λ z. f z ≤ℤ (f y +ℤ total f xs)) (sym e) (omega (arith, ints))
@@ -38,9 +38,6 @@ length-down_from (suc a) = omega (arith, length-down_from a)
 powers-nonnegative : (ds : List ℕ) (n : ℕ) (α : List ℕ) → pos 0 ≤ℤ coefficient (powers ds n) α
 powers-nonnegative ds n α = subst (λ z. pos 0 ≤ℤ z) (sym (coefficient-powers ds n α)) (total_not_negative (λ (d : ℕ). coefficient (power d n) α) ds (λ d. power-nonnegative d n α))
 
--- ---- bounds for the polynomials of lists of terms in m
-
--- for F > 0 and P ≥ 0: if |z|·F ≤ N·s, P·F = s and P ≤ S, then |z| ≤ N·S
 within-power : (z P S : ℤ) (F N s : ℕ) → nat_abs z * F ≤ N * s → P *ℤ pos F ≡ pos s → 0 < F → pos 0 ≤ℤ P → P ≤ℤ S → pos (nat_abs z) ≤ℤ (pos N *ℤ S)
 within-power z (pos p) (pos t) F N s h e k o l =
     let f : p * F ≡ s = omega (arith, ints) in

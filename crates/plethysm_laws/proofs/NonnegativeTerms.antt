@@ -1,5 +1,5 @@
 -- The value of an expression without negation, difference and fraction (`HasNoSigns`) has no negative coefficient.
-use Rattle.std.proofs.Common.{◌≡◌, ℕ, ◌/◌, Bool, true, false, cond, List, [], ◌∷◌, map, sym, subst, inl, inr, refl, arith, ℤ, pos, ◌+ℤ◌, ◌*ℤ◌, filter}
+use Rattle.std.proofs.Common.{◌≡◌, ℕ, Bool, true, false, cond, List, [], ◌∷◌, map, sym, subst, inl, inr, refl, arith, ℤ, pos, ◌+ℤ◌, ◌*ℤ◌, filter, rules}
 use Rattle.std.specs.Prelude.{◌≤ℤ◌}
 use Rattle.std.proofs.lemmas.Int.{ints}
 use Rattle.sym_model.specs.Sum.{Among}
@@ -8,7 +8,7 @@ use Rattle.sym_model.specs.Partition.{sorted_parts, size}
 use Rattle.sym_model.specs.Bases.{exponent_lists, monomials, monomial, has, at_most_one, product_over, elementary_of, complete_of, power_sum_of}
 use Rattle.sym_model.specs.Schur.{tableaux, content, letters_of}
 use Rattle.sym_model.specs.Expansion.{Basis, elementaries, completes, power_sums, schurs, basis_polynomial}
-use Rattle.sym_model.specs.Expression.{Tree, number, fraction, atom, negation, sum, difference, product, cleared_value, denominator, lcm}
+use Rattle.sym_model.specs.Expression.{Tree, number, fraction, atom, negation, sum, difference, product, cleared_value, denominator}
 use Rattle.sym_model.proofs.Sums.{Among_from_append, Among_from_map, Among_from_each}
 use Rattle.sym_model.specs.WholeTerms.{WholeTerms}
 use Rattle.monomial_laws.specs.ExpressionTerms.{in_monomials}
@@ -64,15 +64,10 @@ nonnegative-value (number a) n h = nonnegative-scale a (one n) (nonnegative-one 
 nonnegative-value (fraction a b) n h = absurd h
 nonnegative-value (atom basis parts) n h = nonnegative-atom basis parts n
 nonnegative-value (negation e) n h = absurd h
-nonnegative-value (sum e f) n h =
-    let q = lcm (denominator e) (denominator f) in
-    nonnegative-plus (scale (pos (q / denominator e)) (cleared_value e n)) (scale (pos (q / denominator f)) (cleared_value f n))
-    (nonnegative-scale (q / denominator e) (cleared_value e n) (nonnegative-value e n h.0))
-    (nonnegative-scale (q / denominator f) (cleared_value f n) (nonnegative-value f n h.1))
+nonnegative-value (sum e f) n h = search (rules, nonnegative-plus, nonnegative-scale, (nonnegative-value e n h.0), (nonnegative-value f n h.1))
 nonnegative-value (difference e f) n h = absurd h
 nonnegative-value (product e f) n h = nonnegative-times (cleared_value e n) (cleared_value f n) (nonnegative-value e n h.0) (nonnegative-value f n h.1)
 
--- if an expression has no negation, difference and fraction, its denominator is 1
 pub denominator-one : (e : Tree) → HasNoSigns e → denominator e ≡ 1
 denominator-one (number a) h = refl
 denominator-one (fraction a b) h = absurd h
@@ -82,7 +77,6 @@ denominator-one (sum e f) h = rw (denominator-one e h.0, denominator-one f h.1) 
 denominator-one (difference e f) h = absurd h
 denominator-one (product e f) h = rw (denominator-one e h.0, denominator-one f h.1) refl
 
--- if no coefficient of a list in m is negative, no term of its polynomial has a negative coefficient
 pub nonnegative-monomial_terms : (W : WholeTerms) (n : ℕ) → AreNonnegative W → AreNonnegative (in_monomials W n)
 nonnegative-monomial_terms W n h t m =
     let r = Among_from_each (λ (t : List ℕ × ℤ). scale t.1 (monomial t.0 n)) t W m in

@@ -45,9 +45,9 @@ path-coefficient K b a n γs g parts o s p h e i r α l =
     (pow-le-pow_right o s) (mul-le (size parts) b a b s (omega arith)) (bounded-path K b n γs g parts p h e i r))
     α l
 
--- let g be bounded by K at the degree b, and let the lists A and B in m have as their polynomials p_k[g] and p_λ[g], for λ = `rest`. If the
--- coefficients of A and B are replaced by their absolute values, no coefficient of the product exceeds K^(k + |λ|) times `growth` of m at the degree
--- (k + |λ|)·b
+-- let g be bounded by K at the degree b, and let A and B be lists of terms c·m_μ with the polynomials p_k[g] and p_λ[g], for λ = `rest`. If the
+-- coefficients of A and B are replaced by their absolute values, no coefficient of the product of the two lists exceeds K^(k + |λ|) times `growth`
+-- of m at the degree (k + |λ|)·b
 pub path-product : (K b k : ℕ) (rest : List ℕ) (A B : WholeTerms) (γs : ℕ → List (List ℕ)) (g : ℕ → Poly) → 0 < k → ArePositive rest
     → ((n : ℕ) → HavePlaces n (γs n)) → ((n : ℕ) → Same (monomial_sum (γs n)) (g n)) → ((n : ℕ) → In n (g n)) → ((n : ℕ) → IsBounded K b n (g n))
     → Once (labels A) → Once (labels B) → IsList A (λ n. dilated k (g n)) → IsList B (λ n. product_over (λ k m. dilated k (g n)) rest n)
@@ -62,8 +62,8 @@ path-product K b k rest A B γs g l p h e i r o q x y ν =
     (bounded-path K b n (γs n) (g n) rest p (h n) (e n) (i n) (r n)))
     ν
 
--- for any polynomials in place of the labels of W: the coefficient of x^α in the sum of the terms of W is at most, in absolute value, the sum of the
--- absolute values of the coefficients of x^α in the terms (`met`)
+-- the coefficient of x^α in the sum of c·polynomial(λ) over the terms (λ, c) of W is at most, in absolute value, the sum of |c| times the absolute
+-- value of the coefficient of x^α in polynomial(λ) (`met`)
 pub coefficient-met : (polynomial : List ℕ → Poly) (W : WholeTerms) (α : List ℕ) → nat_abs (coefficient (combined polynomial W) α) ≤ met W (λ label. coefficient (polynomial label) α)
 coefficient-met polynomial W α = subst (λ z. nat_abs z ≤ met W (λ label. coefficient (polynomial label) α)) (sym (coefficient_of_combined polynomial W α)) (by W)
   where
@@ -84,8 +84,8 @@ met-within B f (t ∷ W) h =
     let p = mul-le-mul_left (nat_abs t.1) (h t (inl refl)) in
     omega arith
 
--- let g be bounded by K ≥ 1 at the degree b, and let all labels λ of the terms c, λ of W have at most a cells: for each α, the sum of |c| times the
--- absolute value of the coefficient of x^α in p_λ[g] is at most K^a·(a·b)! times the sum of the |c|
+-- let g be bounded by K ≥ 1 at the degree b, and let each label λ of W have at most a cells: for each α, the sum, over the terms (λ, c) of W, of |c|
+-- times the absolute value of the coefficient of x^α in p_λ[g] is at most K^a·(a·b)! times the sum of the |c|
 pub path-met : (K b a n : ℕ) (γs : List (List ℕ)) (g : Poly) (W : WholeTerms) → 1 ≤ K → ((t : List ℕ × ℤ) → Among t W → ArePositive t.0 × (size t.0 ≤ a))
     → HavePlaces n γs → Same (monomial_sum γs) g → In n g → IsBounded K b n g
     → (α : List ℕ) → length α ≡ n → met W (λ label. coefficient (product_over (λ k m. dilated k g) label n) α) ≤ absolute_total W * (K ^ a * factorial (a * b))

@@ -26,14 +26,11 @@ module _ (N D a K b : ℕ) (n : 1 ≤ N) (d : 1 ≤ D) (k : 1 ≤ K) where
   power-one : 1 ≤ (K * (b + 1)) ^ a
   power-one = one-le-pow a (K * (b + 1)) some
 
-  -- the bound for the sum of the absolute values of all terms at one label, when the multiples of the p_λ[g] are added up, is at most the weight of
-  -- the plethysm
   pub weight-met : N * growth power_sums a * ((K * (b + 1)) ^ a * factorial (a * b)) ≤ plethysm_weight N D a K b
   weight-met =
       let w = wide N D (a + 1) ((K * (b + 1)) ^ a) (max (growth power_sums a * factorial (a * b)) (growth power_sums (a * b))) (growth power_sums a * factorial (a * b)) d (omega arith) (omega arith) in
       omega arith
 
-  -- the bound for the product of the p_k[g] over the parts k of a label of s ≤ a cells is at most the weight of the plethysm
   pub weight-product : (s : ℕ) → s ≤ a → (K * (b + 1)) ^ s * growth Basis.monomials (s * b) ≤ plethysm_weight N D a K b
   weight-product s l =
       let x : (K * (b + 1)) ^ s ≤ (K * (b + 1)) ^ a = pow-le-pow_right some l in
@@ -44,14 +41,12 @@ module _ (N D a K b : ℕ) (n : 1 ≤ N) (d : 1 ≤ D) (k : 1 ≤ K) where
       let t = times_more N ((K * (b + 1)) ^ a * growth power_sums (a * b)) n in
       omega arith
 
-  -- the bound for the conversion of f[g] into the basis `target` is at most the weight of the plethysm
   pub weight-finished : (target : Basis) → N * (a + 1) * (K * (b + 1)) ^ a * D * growth target (a * b) ≤ plethysm_weight N D a K b
   weight-finished target =
       let z = growth-most target (a * b) in
       let p = mul-le-mul_left (N * D * (a + 1) * (K * (b + 1)) ^ a) (let o : growth target (a * b) ≤ max (growth power_sums a * factorial (a * b)) (growth power_sums (a * b)) = omega arith in o) in
       omega arith
 
-  -- the bound for the conversion of the outer expression f into p is at most the weight of the plethysm
   pub weight-outer : N * D * growth power_sums a ≤ plethysm_weight N D a K b
   weight-outer =
       let f = mul-le (growth power_sums a) 1 (growth power_sums a) (factorial (a * b)) (omega arith) (factorial-positive (a * b)) in
@@ -60,8 +55,6 @@ module _ (N D a K b : ℕ) (n : 1 ≤ N) (d : 1 ≤ D) (k : 1 ≤ K) where
       (let r = mul-le-mul_left (N * D) (let o : 1 ≤ (a + 1) * (K * (b + 1)) ^ a = omega arith in o) in omega arith)
       (omega arith) in
       omega arith
-
--- ---- `growth` of p, and the weight of a plethysm, are increasing in the degrees
 
 growth-rises : (d e : ℕ) → d ≤ e → growth power_sums d ≤ growth power_sums e
 growth-rises zero e h = growth-one e

@@ -12,9 +12,7 @@ use Rattle.plethysm_laws.specs.PowerSumPlethysm.{dilated}
 use Rattle.plethysm_laws.specs.SumsOfMonomials.{HavePlaces, monomial_sum}
 use Rattle.plethysm_laws.proofs.Substitutions.{pair-substitute, substitute-power_sum}
 
--- ---- the monomials of g substituted for the variables of a list of terms c·p_λ
-
--- the sum of c·p_λ[g] over the terms c, λ of a list
+-- the sum of c·p_λ[g] over the terms (λ, c) of the list W
 abbrev pub plethysm_of_power_sums : WholeTerms → Poly → ℕ → Poly
 plethysm_of_power_sums W g n = combined (λ label. product_over (λ k m. dilated k g) label n) W
 

@@ -1,5 +1,5 @@
 -- A polynomial without negative coefficients is the sum of its monomials, each repeated as often as its coefficient says (`repeated_monomials`).
-use Rattle.std.proofs.Common.{◌≡◌, ◌⊎◌, ℕ, zero, suc, ◌+◌, ◌-◌, ◌<◌, ◌≤◌, Bool, true, false, ◌&&◌, cond, eqb, leb, List, [], ◌∷◌, map, length, replicate, sym, ◌∙◌, ap, refl, inl, inr, arith, ℤ, pos, ◌+ℤ◌, ◌*ℤ◌}
+use Rattle.std.proofs.Common.{◌≡◌, ◌⊎◌, ℕ, zero, suc, ◌+◌, ◌-◌, ◌<◌, ◌≤◌, Bool, true, false, ◌&&◌, cond, eqb, leb, List, [], ◌∷◌, map, length, replicate, sym, ◌∙◌, ap, refl, inl, inr, arith, ℤ, pos, ◌+ℤ◌, ◌*ℤ◌, rules}
 use Rattle.std.specs.Prelude.{nat_abs}
 use Rattle.std.proofs.lemmas.Int.{ints}
 use Rattle.std.proofs.lemmas.Bool.{cases_lt, cases_eq, le-leb, lt-leb, leb-true, eq-eqb, ne_eqb, eqb-true, and_parts, and_from}
@@ -24,13 +24,7 @@ is_within n d γ = eqb (length γ) n && leb (size γ) d
 total_within-only : (φ : List ℕ → ℤ) (γ : List ℕ) (n d : ℕ) → total (λ (α : List ℕ). cond (same α γ) (φ α) (pos 0)) (exponent_lists_within n d) ≡ cond (is_within n d γ) (φ γ) (pos 0)
 total_within-only φ [] zero d = rw (le-leb 0 d (omega arith)) (+ℤ_idr (φ []))
 total_within-only φ (c ∷ γ) zero d = rw (ne_eqb (suc (length γ)) 0 (λ e. omega arith)) refl
-total_within-only φ [] (suc n) d =
-    total_each (λ (α : List ℕ). cond (same α []) (φ α) (pos 0)) (λ (a : ℕ). map (λ (α : List ℕ). a ∷ α) (exponent_lists_within n (d - a))) (down_from d)
-    ∙ total_none
-    (λ (a : ℕ). total (λ (α : List ℕ). cond (same α []) (φ α) (pos 0)) (map (λ (α : List ℕ). a ∷ α) (exponent_lists_within n (d - a))))
-    (down_from d)
-    (λ a m. total_map (λ (α : List ℕ). cond (same α []) (φ α) (pos 0)) (λ (α : List ℕ). a ∷ α) (exponent_lists_within n (d - a)) ∙ total_zero (exponent_lists_within n (d - a)))
-    ∙ rw (ne_eqb 0 (suc n) (λ e. omega arith)) refl
+total_within-only φ [] (suc n) d = search (rules, total_each, total_none, total_map, total_zero, ne_eqb)
 total_within-only φ (c ∷ γ) (suc n) d =
     total_each F (λ (a : ℕ). map (λ (α : List ℕ). a ∷ α) (exponent_lists_within n (d - a))) (down_from d)
     ∙ total_ext
@@ -74,11 +68,7 @@ total_within-only φ (c ∷ γ) (suc n) d =
 
 total-replicate : {A : Type 0} (f : A → ℤ) (k : ℕ) (x : A) → total f (replicate k x) ≡ pos k *ℤ f x
 total-replicate f zero x = sym (zero-*ℤ (f x))
-total-replicate f (suc k) x =
-    ap (λ z. f x +ℤ z) (total-replicate f k x)
-    ∙ ap (λ y. y +ℤ pos k *ℤ f x) (sym (one-product (f x)))
-    ∙ sym (distributes_right (pos 1) (pos k) (f x))
-    ∙ ap (λ j. pos j *ℤ f x) (let e : 1 + k ≡ suc k = omega arith in e)
+total-replicate f (suc k) x = search (rules, one-product, distributes_right, (total-replicate f k x))
 
 coefficient_repeated : (d n : ℕ) (g : Poly) (β : List ℕ) → coefficient (monomial_sum (repeated_monomials d n g)) β ≡ cond (is_within n d β) (pos (nat_abs (coefficient g β))) (pos 0)
 coefficient_repeated d n g β =
@@ -99,8 +89,6 @@ repeated-sum d n g h β = coefficient_repeated d n g β ∙ by (cases_eq (length
     by (inr o) u = rw (ne_eqb (length β) n o) (sym (coefficient_outside n g β h.places o))
     by (inl e) (inl l) = rw (eq-eqb (length β) n e, lt-leb (size β) d l) (sym (h.low β e l))
     by (inl e) (inr l) = rw (eq-eqb (length β) n e, le-leb (size β) d l) (let p = h.natural β in omega (arith, ints))
-
--- ---- the listed exponent lists have n places
 
 length-within : (n d : ℕ) (α : List ℕ) → Among α (exponent_lists_within n d) → length α ≡ n
 length-within zero d α (inl e) = ap length e

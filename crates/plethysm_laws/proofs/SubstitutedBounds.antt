@@ -1,11 +1,10 @@
 -- Substituting monomials for the variables turns majorants into majorants, and so bounds into bounds. A polynomial in n variables is bounded by K at
 -- the degree b if a sum of at most K powers of x_1 + .. + x_n, with exponents up to b, is a majorant of it.
-use Rattle.std.proofs.Common.{◌≡◌, ℕ, zero, suc, ◌+◌, ◌*◌, ◌^◌, ◌<◌, ◌≤◌, max, List, [], ◌∷◌, length, replicate, sym, ◌∙◌, subst, refl, inl, inr, arith, pos}
-use Rattle.std.specs.Prelude.{◌≤ℤ◌, nat_abs}
+use Rattle.std.proofs.Common.{ℕ, zero, suc, ◌+◌, ◌*◌, ◌^◌, ◌<◌, ◌≤◌, max, List, [], ◌∷◌, length, replicate, refl, inl, inr, arith, rules}
 use Rattle.std.proofs.lemmas.Int.{ints}
 use Rattle.std.proofs.lemmas.Nat.{mul-le}
 use Rattle.sym_model.specs.Sum.{Among}
-use Rattle.sym_model.specs.Polynomial.{Poly, coefficient, Same, In, one, plus, times, pair}
+use Rattle.sym_model.specs.Polynomial.{Poly, Same, In, one, plus, times}
 use Rattle.sym_model.specs.Partition.{size}
 use Rattle.sym_model.specs.Bases.{has, power_sum, power_sum_of, product_over}
 use Rattle.sym_model.specs.Expansion.{completes, power_sums}
@@ -15,27 +14,18 @@ use Rattle.monomial_laws.proofs.Powers.{In-product_over}
 use Rattle.std.proofs.Math.Nat.{pow-le-pow_right}
 use Rattle.monomial_laws.proofs.MajorantPairs.{majorant-pair}
 use Rattle.monomial_laws.proofs.Majorants.{bounded-weaken, bounded-majorant, majorant-monomials, majorant-atom, bounded-atom, bounded-plus, bounded-times, bounded_respects}
-use Rattle.sym_model.specs.Plethysm.{replaced, substitute}
+use Rattle.sym_model.specs.Plethysm.{substitute}
 use Rattle.plethysm_laws.specs.PowerSumPlethysm.{dilated}
 use Rattle.plethysm_laws.specs.SumsOfMonomials.{HavePlaces, monomial_sum}
 use Rattle.plethysm_laws.proofs.Substitutions.{pair-substitute, substitute-plus, substitute-power_sum, substitute-power_sum_of, In-dilated, dilated-once}
 use Rattle.sym_model.proofs.Parts.{ArePositive-ones}
 use native.Mathlib.Nat.{pow-suc, pow-zero}
 
--- ---- if F is a majorant of f, then F with monomials substituted for its variables is a majorant of f with the same monomials substituted
-
 pub majorant-substitute : (n : ℕ) (γs : List (List ℕ)) (F f : Poly) → IsMajorant F f → IsMajorant (substitute n γs F) (substitute n γs f)
-majorant-substitute n γs F f m α =
-    subst (λ z. pos (nat_abs z) ≤ℤ coefficient (substitute n γs F) α) (sym (at f))
-    (subst (λ z. pos (nat_abs (pair f (λ β. at_only α (replaced n γs β)))) ≤ℤ z) (sym (at F))
-    (majorant-pair F f (λ β. at_only α (replaced n γs β)) m (λ β. at_only-nonnegative α (replaced n γs β))))
-  where
-    at : (h : Poly) → coefficient (substitute n γs h) α ≡ pair h (λ β. at_only α (replaced n γs β))
-    at h = coefficient_pair (substitute n γs h) α ∙ pair-substitute n γs h (at_only α)
+majorant-substitute n γs F f m α = search (rules, at_only, majorant-pair, at_only-nonnegative, coefficient_pair, pair-substitute)
 
 -- ---- bounds for polynomials in which monomials are substituted for the variables
 
--- if g is bounded by K at the degree b, g^s is bounded by K^s at the degree s·b
 bounded-product : (K b s n : ℕ) (g : Poly) → In n g → IsBounded K b n g → IsBounded (K ^ s) (s * b) n (product_over (λ k m. dilated k g) (replicate s 1) n)
 bounded-product K b zero n g i h = bounded-weaken 1 (K ^ 0) 0 (0 * b) n (one n) (rw (pow-zero K) (omega arith)) (omega arith) (bounded-atom completes [] n)
 bounded-product K b (suc s) n g i h =
@@ -48,8 +38,6 @@ bounded-product K b (suc s) n g i h =
     (bounded_respects K b n g (dilated 1 g) (Same_sym (dilated 1 g) g (dilated-once g)) h)
     (bounded-product K b s n g i h))
 
--- let g be the sum of m monomials, and let it be bounded by K at the degree b. Substituting these monomials for x_1, .., x_m in (x_1 + .. + x_m)^s
--- gives g^s, which is bounded by K^s at the degree s·b
 bounded-power : (K b s n : ℕ) (γs : List (List ℕ)) (g : Poly) → HavePlaces n γs → Same (monomial_sum γs) g → In n g → IsBounded K b n g
     → IsBounded (K ^ s) (s * b) n (substitute n γs (power s (length γs)))
 bounded-power K b s n γs g h e i k =

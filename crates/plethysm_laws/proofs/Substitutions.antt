@@ -1,6 +1,6 @@
 -- Substituting monomials for the variables of a polynomial is compatible with sums and products, and turns p_k into the sum of the k-th powers of the
 -- monomials.
-use Rattle.std.proofs.Common.{◌≡◌, ℕ, zero, suc, ◌+◌, ◌*◌, ◌<◌, List, [], ◌∷◌, length, replicate, sym, ◌∙◌, ap, ap₂, refl, inl, inr, arith, ℤ, ◌+ℤ◌, ◌*ℤ◌}
+use Rattle.std.proofs.Common.{◌≡◌, ℕ, zero, suc, ◌+◌, ◌*◌, ◌<◌, List, [], ◌∷◌, length, replicate, sym, ◌∙◌, ap, ap₂, refl, inl, inr, arith, ℤ, ◌+ℤ◌, ◌*ℤ◌, rules}
 use Rattle.std.proofs.lemmas.List.{length-map, length-replicate}
 use Rattle.sym_model.specs.Sum.{total}
 use Rattle.sym_model.specs.Polynomial.{Term, Poly, Same, In, no_exponents, one, join, plus, scale, times, pair}
@@ -8,7 +8,7 @@ use Rattle.sym_model.specs.Partition.{ArePositive}
 use Rattle.sym_model.specs.Bases.{power_sum_of, product_over, power_sum}
 use Rattle.sym_model.proofs.Sums.{total_ext, total_map}
 use Rattle.sym_model.proofs.Exponents.{join_comm, join_assoc, length-join_same, join_zeros}
-use Rattle.sym_model.proofs.Polynomials.{pair_ext, pair_plus, pair_scale, pair_times, pair_one, pair_monomials, pair_determined, same_from_pair, Same_trans, times_respects, In_map}
+use Rattle.sym_model.proofs.Polynomials.{pair_ext, pair_plus, pair_scale, pair_times, pair_one, pair_monomials, pair_determined, same_from_pair, times_respects, In_map}
 use Rattle.sym_model.proofs.Monomials.{one_place, pair-power_sum_of}
 use Rattle.sym_model.specs.Plethysm.{multiplied, replaced, substitute}
 use Rattle.plethysm_laws.specs.SumsOfMonomials.{HavePlaces, monomial_sum}
@@ -40,29 +40,17 @@ length-replaced n (γ ∷ γs) [] h = length-replicate n 0
 length-replaced n (γ ∷ γs) (a ∷ α) h =
     length-join_same n (multiplied a γ) (replaced n γs α) (length-multiplied a γ ∙ h γ (inl refl)) (length-replaced n γs α (λ δ m. h δ (inr m)))
 
--- (α + β) + (γ + δ) = (α + γ) + (β + δ) for exponent lists
 regroup : (α β γ δ : List ℕ) → join (join α β) (join γ δ) ≡ join (join α γ) (join β δ)
-regroup α β γ δ =
-    join_assoc α β (join γ δ)
-    ∙ ap (join α) (sym (join_assoc β γ δ) ∙ ap (λ x. join x δ) (join_comm β γ) ∙ join_assoc γ β δ)
-    ∙ sym (join_assoc α γ (join β δ))
+regroup α β γ δ = search (rules, join_assoc, join_comm)
 
 pub replaced-join : (n : ℕ) (γs : List (List ℕ)) (α β : List ℕ) → HavePlaces n γs → replaced n γs (join α β) ≡ join (replaced n γs α) (replaced n γs β)
 replaced-join n [] α β h = sym (zeros_in_front n (no_exponents n) (length-replicate n 0))
 replaced-join n (γ ∷ γs) [] β h = sym (zeros_in_front n (replaced n (γ ∷ γs) β) (length-replaced n (γ ∷ γs) β h))
-replaced-join n (γ ∷ γs) (a ∷ α) [] h =
-    sym
-    (join_comm (replaced n (γ ∷ γs) (a ∷ α)) (no_exponents n)
-    ∙ zeros_in_front n (replaced n (γ ∷ γs) (a ∷ α)) (length-replaced n (γ ∷ γs) (a ∷ α) h))
-replaced-join n (γ ∷ γs) (a ∷ α) (b ∷ β) h =
-    ap₂ join (multiplied-add a b γ) (replaced-join n γs α β (λ δ m. h δ (inr m)))
-    ∙ regroup (multiplied a γ) (multiplied b γ) (replaced n γs α) (replaced n γs β)
+replaced-join n (γ ∷ γs) (a ∷ α) [] h = search (rules, join_comm, zeros_in_front, length-replaced)
+replaced-join n (γ ∷ γs) (a ∷ α) (b ∷ β) h = search (rules, multiplied-add, regroup, (replaced-join n γs α β))
 
--- if x_1 has the exponent 0, the monomial γ substituted for x_1 does not occur in the result
 replaced-zero : (n : ℕ) (γ : List ℕ) (γs : List (List ℕ)) (α : List ℕ) → HavePlaces n (γ ∷ γs) → replaced n (γ ∷ γs) (0 ∷ α) ≡ replaced n γs α
-replaced-zero n γ γs α h =
-    ap (λ x. join x (replaced n γs α)) (multiplied-none γ ∙ ap no_exponents (h γ (inl refl)))
-    ∙ zeros_in_front n (replaced n γs α) (length-replaced n γs α (λ δ m. h δ (inr m)))
+replaced-zero n γ γs α h = search (rules, multiplied-none, zeros_in_front, length-replaced)
 
 pub replaced-zeros : (n k : ℕ) (γs : List (List ℕ)) → HavePlaces n γs → replaced n γs (no_exponents k) ≡ no_exponents n
 replaced-zeros n k [] h = refl
@@ -78,27 +66,13 @@ pub pair-dilated : (k : ℕ) (f : Poly) (φ : List ℕ → ℤ) → pair (dilate
 pair-dilated k f φ = total_map (λ (t : Term). t.1 *ℤ φ t.0) (λ (t : Term). (multiplied k t.0, t.1)) f
 
 pub substitute_respects : (n : ℕ) (γs : List (List ℕ)) (f g : Poly) → Same f g → Same (substitute n γs f) (substitute n γs g)
-substitute_respects n γs f g e =
-    same_from_pair (substitute n γs f) (substitute n γs g)
-    (λ φ. pair-substitute n γs f φ ∙ pair_determined f g (λ α. φ (replaced n γs α)) e ∙ sym (pair-substitute n γs g φ))
+substitute_respects n γs f g e = search (rules, same_from_pair, pair-substitute, pair_determined)
 
 pub substitute-plus : (n : ℕ) (γs : List (List ℕ)) (f g : Poly) → Same (substitute n γs (plus f g)) (plus (substitute n γs f) (substitute n γs g))
-substitute-plus n γs f g =
-    same_from_pair (substitute n γs (plus f g)) (plus (substitute n γs f) (substitute n γs g))
-    (λ φ.
-    pair-substitute n γs (plus f g) φ
-    ∙ pair_plus f g (λ α. φ (replaced n γs α))
-    ∙ ap₂ ◌+ℤ◌ (sym (pair-substitute n γs f φ)) (sym (pair-substitute n γs g φ))
-    ∙ sym (pair_plus (substitute n γs f) (substitute n γs g) φ))
+substitute-plus n γs f g = search (rules, same_from_pair, pair-substitute, pair_plus)
 
 pub substitute-scale : (n : ℕ) (γs : List (List ℕ)) (c : ℤ) (f : Poly) → Same (substitute n γs (scale c f)) (scale c (substitute n γs f))
-substitute-scale n γs c f =
-    same_from_pair (substitute n γs (scale c f)) (scale c (substitute n γs f))
-    (λ φ.
-    pair-substitute n γs (scale c f) φ
-    ∙ pair_scale c f (λ α. φ (replaced n γs α))
-    ∙ ap (λ z. c *ℤ z) (sym (pair-substitute n γs f φ))
-    ∙ sym (pair_scale c (substitute n γs f) φ))
+substitute-scale n γs c f = search (rules, same_from_pair, pair-substitute, pair_scale)
 
 pub substitute-times : (n : ℕ) (γs : List (List ℕ)) (f g : Poly) → HavePlaces n γs → Same (substitute n γs (times f g)) (times (substitute n γs f) (substitute n γs g))
 substitute-times n γs f g h =
@@ -116,11 +90,7 @@ substitute-times n γs f g h =
     ∙ sym (pair_times (substitute n γs f) (substitute n γs g) φ))
 
 pub substitute-one : (n k : ℕ) (γs : List (List ℕ)) → HavePlaces n γs → Same (substitute n γs (one k)) (one n)
-substitute-one n k γs h =
-    same_from_pair (substitute n γs (one k)) (one n)
-    (λ φ. pair-substitute n γs (one k) φ ∙ pair_one k (λ α. φ (replaced n γs α)) ∙ ap φ (replaced-zeros n k γs h) ∙ sym (pair_one n φ))
-
--- ---- monomials substituted for the variables of power sums
+substitute-one n k γs h = search (rules, same_from_pair, pair-substitute, pair_one, replaced-zeros)
 
 total-one_place : (k n : ℕ) (γs : List (List ℕ)) (φ : List ℕ → ℤ) → HavePlaces n γs
     → total (λ (α : List ℕ). φ (replaced n γs α)) (one_place k (length γs)) ≡ total (λ (γ : List ℕ). φ (multiplied k γ)) γs
@@ -156,18 +126,7 @@ pub substitute-power_sum : (parts : List ℕ) (n : ℕ) (γs : List (List ℕ)) 
     → Same (substitute n γs (power_sum parts (length γs))) (product_over (λ k m. dilated k g) parts n)
 substitute-power_sum [] n γs g p h e = substitute-one n (length γs) γs h
 substitute-power_sum (k ∷ parts) n γs g p h e =
-    Same_trans
-    (substitute n γs (times (power_sum_of k (length γs)) (power_sum parts (length γs))))
-    (times (substitute n γs (power_sum_of k (length γs))) (substitute n γs (power_sum parts (length γs))))
-    (times (dilated k g) (product_over (λ k m. dilated k g) parts n))
-    (substitute-times n γs (power_sum_of k (length γs)) (power_sum parts (length γs)) h)
-    (times_respects
-    (substitute n γs (power_sum_of k (length γs))) (dilated k g)
-    (substitute n γs (power_sum parts (length γs))) (product_over (λ k m. dilated k g) parts n)
-    (substitute-power_sum_of k n γs g p.0 h e)
-    (substitute-power_sum parts n γs g p.1 h e))
-
--- ---- `dilated k g`, the polynomial g with all exponents multiplied by k, is in n variables if g is in n variables, and is g if k = 1
+    search (rules, substitute-times, times_respects, substitute-power_sum_of, (substitute-power_sum parts n γs g p.1 h e))
 
 pub In-dilated : (k n : ℕ) (g : Poly) → In n g → In n (dilated k g)
 In-dilated k n g i = In_map n (λ (t : Term). (multiplied k t.0, t.1)) g (λ t m. length-multiplied k t.0 ∙ i t m)

@@ -23,12 +23,12 @@ ghost use Rattle.plethysm_laws.specs.PowerSumPlethysm.{power_sum_plethysm, met};
 /// Let g have degree at most b and no negative coefficient, and let it be bounded by K ≥ 1 at the
 /// degree b. If f is bounded by N at the degree a, in every number of variables, then f[g] is
 /// bounded by N·K^a at the degree ab. For a list of terms c·p_λ, with all labels λ of at most a
-/// cells, and any exponents α, the sum of |c| times the absolute value of the coefficient of x^α in
-/// p_λ[g] is at most K^a·(ab)! times the sum of the |c|.
+/// cells, and any exponents α, the sum, over the terms, of |c| times the absolute value of the
+/// coefficient of x^α in p_λ[g] is at most K^a·(ab)! times the sum of the |c|.
 ///
 /// Let a list of terms c·m_λ have each label once, and let each label have at most a cells. Let D
 /// be a common denominator of the coefficients, and let |c|·D·Π λ_i! ≤ N·|λ|! for each term. Then D
-/// times its polynomial is bounded by N·(a+1) at the degree a.
+/// times the polynomial of the list is bounded by N·(a+1) at the degree a.
 pub fn plethysm_bounds_law()
     ensures plethysm { (N a K b n : ℕ) (f : ℕ → Poly) (g : Poly)
         → 1 ≤ K → IsMonomialSum b n g → IsBounded K b n g

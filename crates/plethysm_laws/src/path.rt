@@ -13,8 +13,8 @@ ghost use Rattle.plethysm_laws.specs.PowerSumPlethysm.{power_sum_plethysm};
 /// and if f is the sum of the c·p_λ over the terms of a list, then f[g] is the sum of the c·p_λ[g],
 /// in every number of variables.
 ///
-/// Examples: h_2[h_2] = s_4 + s_(2,2) and e_2[h_2] = s_(3,1), by coefficients in two variables;
-/// h_2[3] = 6.
+/// Examples, tested on some coefficients in two variables: h_2[h_2] = s_4 + s_(2,2) and
+/// e_2[h_2] = s_(3,1). A constant: h_2[3] = 6.
 pub fn power_sum_path_law()
     ensures power_sum { (parts : List ℕ) (d n : ℕ) (g : Poly)
         → ArePositive parts → IsMonomialSum d n g

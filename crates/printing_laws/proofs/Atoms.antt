@@ -1,8 +1,9 @@
--- The text of a term without its sign, such as 3*s[2,1], is read back as its label and the absolute value of its coefficient.
-use Rattle.std.proofs.Common.{◌≡◌, ℕ, ◌<◌, ◌≤◌, Bool, true, false, List, [], ◌∷◌, ◌++◌, length, cond, eqb, pos, nat_abs, refl, sym, ap, ◌∙◌, append_assoc, length-append, decimal, arith}
-use Rattle.std.proofs.lemmas.Bool.{eqb-true, and_parts}
+-- The text of a term without its sign, such as 3*s[2,1], is read back as the label (2,1) of the term and the absolute value 3 of its coefficient. The
+-- part s[2,1], a basis with the numbers of a label, is an *atom*.
+use Rattle.std.proofs.lemmas.Grind.{common_steps}
+use Rattle.std.proofs.Common.{◌≡◌, ℕ, ◌<◌, ◌≤◌, Bool, true, false, List, [], ◌∷◌, ◌++◌, length, cond, eqb, pos, nat_abs, refl, sym, ap, ◌∙◌, append_assoc, decimal, arith, rules}
 use Rattle.sym_model.specs.Expansion.{Basis, monomials, elementaries, completes, power_sums, schurs, Fraction}
-use Rattle.sym_model.specs.NumberText.{fraction_text, numbers_text, fraction_of, numbers_of}
+use Rattle.sym_model.specs.NumberText.{fraction_text, numbers_text, fraction_of}
 use Rattle.sym_model.specs.OneLine.{atom_text, without_sign, is_unit, unsigned_text, numbers_in_atom, term_of_cut, unsigned_term}
 use Rattle.printing_laws.proofs.Decimals.{lacks-append, decimal-lacks}
 use Rattle.printing_laws.proofs.NumberTexts.{AreShort, IsShortFraction, numbers_text-lacks, numbers_of-text, without_last-push, fraction_of-text}
@@ -17,7 +18,6 @@ pub record IsReadable (t : List ℕ × Fraction) : Type 0 where
 
 -- ---- the texts of atoms, such as s[2,1]
 
--- if the numbers of an atom are below 10^64, its text has no byte below 44 (the comma)
 atom-lacks : (byte : ℕ) (basis : Basis) (numbers : List ℕ) → byte < 44 → AreShort numbers → Lacks byte (atom_text basis numbers)
 atom-lacks byte basis numbers low h = by basis
   where
@@ -31,7 +31,6 @@ atom-lacks byte basis numbers low h = by basis
     by power_sums = ((λ e. omega arith), rest)
     by schurs = ((λ e. omega arith), rest)
 
--- if the numbers of an atom are below 10^64, its text does not have the byte 45 (`-`)
 atom-lacks_minus : (basis : Basis) (numbers : List ℕ) → AreShort numbers → Lacks 45 (atom_text basis numbers)
 atom-lacks_minus basis numbers h = by basis
   where
@@ -45,38 +44,9 @@ atom-lacks_minus basis numbers h = by basis
     by power_sums = ((λ e. omega arith), rest)
     by schurs = ((λ e. omega arith), rest)
 
--- if the numbers of an atom are below 10^64, they are read back from its text
 numbers_in-atom : (basis : Basis) (numbers : List ℕ) → AreShort numbers → numbers_in_atom (atom_text basis numbers) ≡ numbers
-numbers_in-atom basis numbers h = by basis
-  where
-    inner : numbers_in_atom (0 ∷ 91 ∷ (numbers_text numbers ++ (93 ∷ []))) ≡ numbers
-    inner = ap numbers_of (without_last-push (numbers_text numbers) 93) ∙ numbers_of-text numbers h
+numbers_in-atom basis numbers h = search (rules, without_last-push, numbers_of-text)
 
-    by : (basis : Basis) → numbers_in_atom (atom_text basis numbers) ≡ numbers
-    by monomials = inner
-    by elementaries = inner
-    by completes = inner
-    by power_sums = inner
-    by schurs = inner
-
--- the text of an atom has at least three bytes
-pub atom-long : (basis : Basis) (numbers : List ℕ) → 3 ≤ length (atom_text basis numbers)
-atom-long basis numbers = by basis
-  where
-    inner : 3 ≤ length (0 ∷ 91 ∷ (numbers_text numbers ++ (93 ∷ [])))
-    inner = simp length-append (omega arith)
-
-    by : (basis : Basis) → 3 ≤ length (atom_text basis numbers)
-    by monomials = inner
-    by elementaries = inner
-    by completes = inner
-    by power_sums = inner
-    by schurs = inner
-
--- ---- the texts of coefficients without their signs
-
--- if the absolute value of the numerator of a coefficient and its denominator are below 10^64, the text of the coefficient without the sign has no
--- byte below 47 (`/`), and so no `+` or `-`
 unsigned-lacks : (byte : ℕ) (c : Fraction) → byte < 47 → IsShortFraction (without_sign c) → Lacks byte (fraction_text (without_sign c))
 unsigned-lacks byte c low h = by (eqb c.1 1)
   where
@@ -84,13 +54,8 @@ unsigned-lacks byte c low h = by (eqb c.1 1)
     by true = decimal-lacks byte (nat_abs c.0) (omega arith) h.num
     by false = lacks-append byte (decimal (nat_abs c.0)) _ (decimal-lacks byte (nat_abs c.0) (omega arith) h.num) ((λ e. omega arith), decimal-lacks byte c.1 (omega arith) h.den)
 
--- if the text of a term omits the absolute value of the coefficient (`is_unit`), this value is 1
 unit-is : (c : Fraction) → is_unit c ≡ true → without_sign c ≡ (pos 1, 1)
-unit-is c h =
-    let p = and_parts (eqb (nat_abs c.0) 1) (eqb c.1 1) h in
-    ap (λ n. (pos n, c.1)) (eqb-true (nat_abs c.0) 1 p.0) ∙ ap (λ d. (pos 1, d)) (eqb-true c.1 1 p.1)
-
--- ---- the texts of terms without their signs
+unit-is c h = search rules
 
 module _ (basis : Basis) (t : List ℕ × Fraction) (h : IsReadable t) where
   pub unsigned_text-lacks_signs : LacksSigns (unsigned_text basis t)
@@ -108,10 +73,7 @@ module _ (basis : Basis) (t : List ℕ × Fraction) (h : IsReadable t) where
       }
 
   pub unsigned_text-long : 3 ≤ length (unsigned_text basis t)
-  unsigned_text-long = behind (cond (is_unit t.1) [] (fraction_text (without_sign t.1) ++ (42 ∷ []))) (atom_text basis t.0) (atom-long basis t.0)
-    where
-      behind : (front atom : List ℕ) → 3 ≤ length atom → 3 ≤ length (front ++ atom)
-      behind front atom long = let e = length-append front atom in omega arith
+  unsigned_text-long = grind (arith, common_steps)
 
   pub unsigned_term-text : unsigned_term (unsigned_text basis t) ≡ (t.0, without_sign t.1)
   unsigned_term-text = by (is_unit t.1) refl

@@ -1,5 +1,6 @@
--- Let a canonical list have numbers of at most 128 bits. Its block, the text that has one line for each term, is read back as this list if each label
--- is read back from its text (`IsLegible`).
+-- A list of terms is *canonical* if its labels are within the limits, each once and in the printed order, and its coefficients are in lowest terms
+-- and not 0. Its *block* is the text that has one line for each term. If the numbers of a canonical list have at most 128 bits, its block is read
+-- back as this list, provided that each label is read back from its text (`IsLegible`).
 use Rattle.std.proofs.Common.{◌≡◌, ℕ, ◌^◌, Bool, true, false, ◌&&◌, List, [], ◌∷◌, ◌++◌, cond, eqb, ltb, ℤ, pos, negsuc, nat_abs, Some, None, refl, ap, ◌∙◌, subst, append_assoc, arith}
 use Rattle.std.proofs.lemmas.Bool.{ltb-true, cond-true, and_parts, and_from}
 use Rattle.sym_model.specs.Polynomial.{same}
@@ -31,7 +32,6 @@ line_front rules t = fraction_text t.1 ++ rules.text t.0
 line_by-front : {Label : Type 0} (rules : LabelRules Label) (t : Label × Fraction) (rest : List ℕ) → line_by rules t ++ rest ≡ line_front rules t ++ (10 ∷ rest)
 line_by-front rules t rest = simp append_assoc
 
--- if labels are read back from their texts (`IsLegible`) and a term satisfies `IsShortTerm`, its line without the LF is read as this term
 pub term_of-line : {Label : Type 0} (rules : LabelRules Label) → IsLegible rules → (t : Label × Fraction) → IsShortTerm rules t → term_of_line rules (cut_at 32 (line_front rules t)) ≡ t ∷ []
 term_of-line rules legible t h =
     ap (term_of_line rules) (cut_at-space (fraction_text t.1) (rules.text t.0) (fraction_text-lacks 32 t.1 (omega arith) h.fraction) (legible.apart t.0 h.label))
@@ -43,7 +43,6 @@ line_front-lacks : {Label : Type 0} (rules : LabelRules Label) → IsLegible rul
 line_front-lacks rules legible t h =
     lacks-append 10 (fraction_text t.1) _ (fraction_text-lacks 10 t.1 (omega arith) h.fraction) (legible.one_line t.0 h.label)
 
--- if labels are read back from their texts (`IsLegible`) and each term satisfies `IsShortTerm`, the lines of the terms are read as these terms
 pub terms_of-lines : {Label : Type 0} (rules : LabelRules Label) → IsLegible rules → (terms : Terms Label) → AreShortTerms rules terms → terms_of rules (lines_by rules terms) ≡ terms
 terms_of-lines rules legible [] h = refl
 terms_of-lines rules legible (t ∷ terms) h =
@@ -52,7 +51,6 @@ terms_of-lines rules legible (t ∷ terms) h =
     ∙ (ap (λ front. front ++ terms_of rules (lines_by rules terms)) (term_of-line rules legible t h.0)
     ∙ ap (λ ts. t ∷ ts) (terms_of-lines rules legible terms h.1)))
 
--- if labels are read back from their texts (`IsLegible`) and each term satisfies `IsShortTerm`, the block of the terms is read as these terms
 pub terms_of-block : {Label : Type 0} (rules : LabelRules Label) → IsLegible rules → (terms : Terms Label) → AreShortTerms rules terms → terms_of rules (block_by rules terms) ≡ terms
 terms_of-block rules legible [] h = refl
 terms_of-block rules legible (t ∷ terms) h = terms_of-lines rules legible (t ∷ terms) h
@@ -61,12 +59,11 @@ is_short-from_bits : (z : ℤ) → fits_128_bits z ≡ true → IsShort z
 is_short-from_bits (pos n) h = let e = ltb-true n (2 ^ 127) h in omega arith
 is_short-from_bits (negsuc n) h = let e = ltb-true n (2 ^ 127) h in omega arith
 
--- a fraction that passes the test `is_coefficient` is not 0
 is_coefficient-counts : (has_fractions : Bool) (c : Fraction) → is_coefficient has_fractions c ≡ true → ltb 0 (nat_abs c.0) ≡ true
 is_coefficient-counts has_fractions c h = (and_parts (ltb 0 c.1) _ (and_parts _ (eqb (gcd (nat_abs c.0) c.1) 1) (and_parts _ (is_reduced c) h).1).0).1
 
--- if each coefficient passes `is_coefficient`, each label is within the limits and all numerators and denominators have at most 128 bits, each term
--- satisfies `IsShortTerm`
+-- if each coefficient passes `is_coefficient`, each label is within the limits, and all numerators and denominators have at most 128 bits, then each
+-- term satisfies `IsShortTerm`
 pub are_short-from_tests : {Label : Type 0} (rules : LabelRules Label) (terms : Terms Label) → each_term (λ (t : Label × Fraction). is_coefficient rules.has_fractions t.1 && rules.is_within_limits t.0) terms ≡ true → is_printable terms ≡ true → AreShortTerms rules terms
 are_short-from_tests rules [] h k = tt
 are_short-from_tests rules (t ∷ terms) h k =

@@ -13,16 +13,14 @@ pub value_from-append : (n : ℕ) (xs ys : List ℕ) → value_from n (xs ++ ys)
 value_from-append n [] ys = refl
 value_from-append n (x ∷ xs) ys = value_from-append (10 * n + (x - 48)) xs ys
 
--- if the digit d is appended to xs, the value of the digits of n followed by the digits xs (`value_from n xs`) is multiplied by 10 and increased by d
--- - 48, the value of d
+-- appending a digit with the code d to xs multiplies `value_from n xs`, the value of the digits of n followed by the digits xs, by 10 and adds the
+-- value d - 48 of the digit
 pub value_from-push : (n : ℕ) (xs : List ℕ) (d : ℕ) → value_from n (xs ++ (d ∷ [])) ≡ 10 * value_from n xs + (d - 48)
 value_from-push n xs d = value_from-append n xs (d ∷ [])
 
--- the value of the first i + 1 digits of xs is 10 times that of the first i digits plus that of the digit at the index i
 pub decimal_value_more : (xs : List ℕ) (i : ℕ) → i < length xs → decimal_value (take (i + 1) xs) ≡ 10 * decimal_value (take i xs) + (get_or xs i 0 - 48)
 decimal_value_more xs i h = ap decimal_value (take_more xs i 0 h) ∙ value_from-push 0 (take i xs) (get_or xs i 0)
 
--- `value_from n xs`, the value of the digits of n followed by the digits xs, is at least n
 pub value_from-ge : (n : ℕ) (xs : List ℕ) → n ≤ value_from n xs
 value_from-ge n [] = omega arith
 value_from-ge n (x ∷ xs) = let h = value_from-ge (10 * n + (x - 48)) xs in omega arith
@@ -64,7 +62,6 @@ pub lacks-append : (byte : ℕ) (xs ys : List ℕ) → Lacks byte xs → Lacks b
 lacks-append byte [] ys h k = k
 lacks-append byte (x ∷ xs) ys h k = (h.0, lacks-append byte xs ys h.1 k)
 
--- a byte that is not a digit does not occur in a list of digits
 pub lacks-from_digits : (byte : ℕ) (xs : List ℕ) → (IsDigit byte → ⊥) → AreDigits xs → Lacks byte xs
 lacks-from_digits byte [] other h = tt
 lacks-from_digits byte (x ∷ xs) other h =
@@ -84,7 +81,6 @@ pub signed_decimal-lacks : (byte : ℕ) (z : ℤ) → byte < 48 → (45 ≡ byte
 signed_decimal-lacks byte (pos n) low other h = decimal-lacks byte n low h
 signed_decimal-lacks byte (negsuc n) low other h = (other, decimal-lacks byte (suc n) low (omega arith))
 
--- a text of digits is read as a nonnegative integer, their decimal value
 pub signed_value-digits : (xs : List ℕ) → AreDigits xs → signed_value xs ≡ pos (decimal_value xs)
 signed_value-digits [] h = refl
 signed_value-digits (x ∷ xs) h = cond-false (eqb x 45) _ _ (ne_eqb x 45 (λ e. omega (arith, h.0)))

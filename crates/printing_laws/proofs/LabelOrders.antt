@@ -1,5 +1,6 @@
--- The order of the labels is total for each kind of answer, and labels within the limits that compare as equal are equal.
-use Rattle.std.proofs.Common.{◌≡◌, ℕ, zero, suc, ◌+◌, ◌≤◌, true, List, [], ◌∷◌, length, eqb, ltb, refl, sym, ap, ap₂, ◌∙◌, arith}
+-- The labels of the terms of an answer are, for example, partitions or permutations, depending on the kind of answer. For each kind the order of the
+-- labels is total, and labels within the limits that compare as equal are equal.
+use Rattle.std.proofs.Common.{◌≡◌, ℕ, zero, suc, ◌+◌, ◌≤◌, true, List, [], ◌∷◌, length, eqb, ltb, refl, sym, ap, ap₂, ◌∙◌, arith, rules}
 use Rattle.std.specs.Cmp.{IsTotalOrder}
 use Rattle.std.specs.Cmp.Lexicographic.{slice_cmp}
 use Rattle.std.specs.Ordering.{nat_cmp, ordering_then, ordering_reverse}
@@ -17,13 +18,11 @@ use Rattle.sym_model.proofs.Exponents.{same_true}
 
 -- ---- the order of the labels of each kind is total
 
--- the letters at the places i + 1, .., i + n of a permutation whose letters from the place i + 1 on are w: the letters after the end of w are fixed
 padded : ℕ → ℕ → List ℕ → List ℕ
 padded zero i w = []
 padded (suc n) i [] = (i + 1) ∷ padded n (i + 1) []
 padded (suc n) i (a ∷ w) = a ∷ padded n (i + 1) w
 
--- if v and w have at most n letters, their order as permutations is the lexicographic order of these lists, both extended to n letters by `padded`
 rising_letters-padded : (n i : ℕ) (v w : List ℕ) → length v ≤ n → length w ≤ n → rising_letters i v w ≡ slice_cmp nat_cmp (padded n i v) (padded n i w)
 unfolding padded
 rising_letters-padded zero i [] [] h k = refl
@@ -52,7 +51,6 @@ rising_letters-total i = record { antisymm = antisymm; trans = trans; congr = co
         let n : ℕ = length x + (length y + length z) in
         rising_letters-padded n i x z (omega arith) (omega arith) ∙ (nat_list_cmp_total.congr (padded n i x) (padded n i y) (padded n i z) (sym (rising_letters-padded n i x y (omega arith) (omega arith)) ∙ h) ∙ sym (rising_letters-padded n i y z (omega arith) (omega arith)))
 
--- the order of labels is total for the kind `number`, which has only one label
 one_label-total : IsTotalOrder (label_rules number).order
 one_label-total = record { antisymm = λ x y. refl; trans = λ x y z h k. h; congr = λ x y z h. refl }
 
@@ -76,15 +74,12 @@ partitions-tie x y h k e =
     let q = is_partition-tells y (and_parts _ _ (and_parts _ _ k).0).0 in
     printed_order-equal x y p.positive q.positive e
 
--- if two lists compare as equal in decreasing lexicographic order, they are equal up to zeros at their ends
 falling_lexicographic-ties : (x y : List ℕ) → falling_lexicographic x y ≡ Equal → without_last_zeros x ≡ without_last_zeros y
 falling_lexicographic-ties [] [] e = refl
 falling_lexicographic-ties [] (b ∷ y) e =
     let p = then-equal (nat_cmp b 0) (falling_lexicographic [] y) e in
     ap₂ in_front (sym (nat_cmp-equal b 0 p.0)) (falling_lexicographic-ties [] y p.1)
-falling_lexicographic-ties (a ∷ x) [] e =
-    let p = then-equal (nat_cmp 0 a) (falling_lexicographic x []) e in
-    ap₂ in_front (sym (nat_cmp-equal 0 a p.0)) (falling_lexicographic-ties x [] p.1)
+falling_lexicographic-ties (a ∷ x) [] e = search (rules, then-equal, nat_cmp-equal, (falling_lexicographic-ties x))
 falling_lexicographic-ties (a ∷ x) (b ∷ y) e =
     let p = then-equal (nat_cmp b a) (falling_lexicographic x y) e in
     ap₂ in_front (sym (nat_cmp-equal b a p.0)) (falling_lexicographic-ties x y p.1)
@@ -98,16 +93,12 @@ monomials-tie x y h k e =
 fixed-nothing : (i a : ℕ) → a ≡ i → in_front_unless_fixed i a [] ≡ []
 fixed-nothing i a e = cond-true (eqb a i) [] (a ∷ []) (eq-eqb a i e)
 
--- if two lists of letters, from place i + 1 on, compare as equal, they are equal once the letters at their ends that are equal to their places are
--- removed
 rising_letters-ties : (i : ℕ) (x y : List ℕ) → rising_letters i x y ≡ Equal → without_fixed_from (i + 1) x ≡ without_fixed_from (i + 1) y
 rising_letters-ties i [] [] e = refl
 rising_letters-ties i [] (b ∷ y) e =
     let p = then-equal (nat_cmp (i + 1) b) (rising_letters (i + 1) [] y) e in
     sym (ap (in_front_unless_fixed (i + 1) b) (sym (rising_letters-ties (i + 1) [] y p.1)) ∙ fixed-nothing (i + 1) b (sym (nat_cmp-equal (i + 1) b p.0)))
-rising_letters-ties i (a ∷ x) [] e =
-    let p = then-equal (nat_cmp a (i + 1)) (rising_letters (i + 1) x []) e in
-    ap (in_front_unless_fixed (i + 1) a) (rising_letters-ties (i + 1) x [] p.1) ∙ fixed-nothing (i + 1) a (nat_cmp-equal a (i + 1) p.0)
+rising_letters-ties i (a ∷ x) [] e = search (rules, then-equal, fixed-nothing, nat_cmp-equal, (rising_letters-ties (i + 1) x))
 rising_letters-ties i (a ∷ x) (b ∷ y) e =
     let p = then-equal (nat_cmp a b) (rising_letters (i + 1) x y) e in
     ap₂ (in_front_unless_fixed (i + 1)) (nat_cmp-equal a b p.0) (rising_letters-ties (i + 1) x y p.1)
@@ -115,9 +106,7 @@ rising_letters-ties i (a ∷ x) (b ∷ y) e =
 kept-ties : (x y : List ℕ) → ltb 0 (length x) ≡ true → ltb 0 (length y) ≡ true → rising_letters 0 x y ≡ Equal → kept x ≡ kept y
 kept-ties [] y h k e = cc
 kept-ties (a ∷ x) [] h k e = cc
-kept-ties (a ∷ x) (b ∷ y) h k e =
-    let p = then-equal (nat_cmp a b) (rising_letters 1 x y) e in
-    ap₂ ◌∷◌ (nat_cmp-equal a b p.0) (rising_letters-ties 1 x y p.1)
+kept-ties (a ∷ x) (b ∷ y) h k e = search (rules, then-equal, nat_cmp-equal, rising_letters-ties)
 
 permutations-tie : (x y : List ℕ) → is_permutation_label x ≡ true → is_permutation_label y ≡ true → permutation_order x y ≡ Equal → x ≡ y
 permutations-tie x y h k e =

@@ -1,17 +1,15 @@
--- For every kind of answer, each label within the limits is read back from its text (`IsLegible`).
-use Rattle.std.proofs.Common.{◌≡◌, ℕ, ◌^◌, ◌<◌, ◌≤◌, Bool, true, false, ◌&&◌, List, [], ◌∷◌, length, leb, ltb, refl, ap, ◌∙◌, decimal, arith}
+-- The label of a term of an answer, for example a partition or a permutation, is read back from its text if it is within the limits for its kind
+-- (`IsLegible`).
+use Rattle.std.proofs.Common.{◌≡◌, ℕ, ◌^◌, ◌<◌, ◌≤◌, Bool, true, false, ◌&&◌, List, [], ◌∷◌, leb, ltb, refl, ap, ◌∙◌, decimal, arith, rules}
 use Rattle.std.specs.declared.cmp.Ordering.{Ordering}
 use Rattle.std.proofs.lemmas.Bool.{leb-true, ltb-true, and_parts}
-use Rattle.sym_model.specs.Partition.{size, rows}
 use Rattle.sym_model.specs.NumberText.{label_text, decimal_value, label_of}
-use Rattle.sym_model.specs.LabelLimits.{is_partition, is_label, is_pair_label, is_power_label, are_letters, is_permutation_label, is_monomial_label, is_shifted_label}
+use Rattle.sym_model.specs.LabelLimits.{is_label, is_pair_label, is_power_label, are_letters, is_permutation_label, is_monomial_label, is_shifted_label}
 use Rattle.sym_model.specs.Kind.{Kind, number, expansion, product, pairs, powers, permutations, polynomial, shifts, LabelRules, after_one, list_text, list_of, pair_text, pair_of, power_text, power_of, list_rules, label_rules, IsLegible}
 use Rattle.printing_laws.proofs.Decimals.{lacks-append, decimal-lacks, decimal_value-decimal}
 use Rattle.printing_laws.proofs.NumberTexts.{cut_at-space, AreShort, are_short-from_size, label_of-text, label_text-lacks}
 use Rattle.sym_model.specs.Bounded.{Lacks}
 
--- for labels that are lists of numbers: if all numbers in labels within the limits are below 10^64, these labels are read back from their texts
--- (`IsLegible`)
 list_rules-legible : (order : List ℕ → List ℕ → Ordering) (limits : List ℕ → Bool) (has_fractions : Bool)
     → ((numbers : List ℕ) → limits numbers ≡ true → AreShort numbers) → IsLegible (list_rules order limits has_fractions)
 list_rules-legible order limits has_fractions short = record {
@@ -20,19 +18,13 @@ list_rules-legible order limits has_fractions short = record {
   reads = λ numbers h. label_of-text numbers (short numbers h);
 }
 
--- ---- the numbers of labels within the limits are below 10^64
+-- ---- labels within the limits have only numbers below 10^64
 
 pub is_label-short : (label : List ℕ) → is_label label ≡ true → AreShort label
-is_label-short label h =
-    let p = and_parts (is_partition label && leb (rows label) 512) (leb (size label) 4096) h in
-    let cells : size label ≤ 4096 = leb-true (size label) 4096 p.1 in
-    are_short-from_size label (omega arith)
+is_label-short label h = search (rules, and_parts, leb-true, are_short-from_size)
 
 is_monomial-short : (exponents : List ℕ) → is_monomial_label exponents ≡ true → AreShort exponents
-is_monomial-short exponents h =
-    let p = and_parts _ (leb (size exponents) 32385) h in
-    let degree : size exponents ≤ 32385 = leb-true (size exponents) 32385 p.1 in
-    are_short-from_size exponents (omega arith)
+is_monomial-short exponents h = search (rules, and_parts, leb-true, are_short-from_size)
 
 are_letters-short : (n : ℕ) (w : List ℕ) → n ≤ 255 → are_letters n w ≡ true → AreShort w
 are_letters-short n [] low h = tt
@@ -42,13 +34,7 @@ are_letters-short n (a ∷ w) low h =
     (omega arith, are_letters-short n w low p.1)
 
 is_permutation-short : (w : List ℕ) → is_permutation_label w ≡ true → AreShort w
-is_permutation-short w h =
-    let p = and_parts _ (leb (length w) 255) h in
-    let low : length w ≤ 255 = leb-true (length w) 255 p.1 in
-    let letters = (and_parts _ _ (and_parts _ _ (and_parts _ _ p.0).0).0).0 in
-    are_letters-short (length w) w low letters
-
--- ---- labels that are pairs of lists of numbers
+is_permutation-short w h = search (rules, and_parts, leb-true, are_letters-short)
 
 -- the rules for labels that are pairs of lists of numbers, with the order `in_order` and the limits `in_limits`
 abbrev pair_rules : (List ℕ × List ℕ → List ℕ × List ℕ → Ordering) → (List ℕ × List ℕ → Bool) → LabelRules (List ℕ × List ℕ)
@@ -60,8 +46,6 @@ pair_rules in_order in_limits = record {
   has_fractions = false;
 }
 
--- for labels that are pairs of lists of numbers: if all numbers in labels within the limits are below 10^64, these labels are read back from their
--- texts (`IsLegible`)
 pair_rules-legible : (order : List ℕ × List ℕ → List ℕ × List ℕ → Ordering) (limits : List ℕ × List ℕ → Bool)
     → ((pair : List ℕ × List ℕ) → limits pair ≡ true → AreShort pair.0 × AreShort pair.1) → IsLegible (pair_rules order limits)
 pair_rules-legible order limits short = record { one_line = one_line; apart = λ pair h. refl; reads = reads }
@@ -86,8 +70,6 @@ is_pair-short pair h = let p = and_parts _ _ h in (is_label-short pair.0 p.0, is
 
 is_shifted-short : (label : List ℕ × List ℕ) → is_shifted_label label ≡ true → AreShort label.0 × AreShort label.1
 is_shifted-short label h = let p = and_parts _ _ h in (is_permutation-short label.0 p.0, is_monomial-short label.1 p.1)
-
--- ---- labels of quantum products: a power of q and a partition
 
 powers-legible : IsLegible (label_rules powers)
 powers-legible = record { one_line = one_line; apart = λ label h. refl; reads = reads }

@@ -1,4 +1,5 @@
--- The one-line form of a canonical list whose labels are partitions is an expression, and this expression denotes the list.
+-- The one-line form of a canonical list of terms (in the printed order, coefficients in lowest terms and not 0), such as s[3]-3*s[2,1], is an
+-- expression that denotes the list, if the labels are partitions.
 use Rattle.std.proofs.Common.{◌≡◌, ℕ, Bool, true, ◌&&◌, List, [], ◌∷◌, refl}
 use Rattle.std.proofs.lemmas.Bool.{and_parts}
 use Rattle.sym_model.specs.Expansion.{Basis, Fraction, Terms}

@@ -1,16 +1,15 @@
--- If a canonical list has numbers of at most 128 bits, and no numerator is -2^127, then no number in its one-line form exceeds 2^127 - 1.
-use Rattle.std.proofs.Common.{◌≡◌, ℕ, suc, ◌+◌, ◌^◌, ◌<◌, nat_lt, Bool, true, false, cond, eqb, ◌&&◌, List, [], ◌∷◌, ◌++◌, length, map, ℤ, pos, negsuc, nat_abs, neg_ℤ, Option, Some, None, inl, inr, refl, sym, ap, ◌∙◌, subst, decimal, arith, flat_map}
-use Rattle.std.proofs.lemmas.Bool.{lt-leb, ltb-true, and_parts, cases_eq}
+-- If a canonical list of terms (in the printed order, coefficients in lowest terms and not 0) has numbers of at most 128 bits, and no numerator is
+-- -2^127, then no number in its one-line form exceeds 2^127 - 1. A *phrase* is the syntax tree of an expression.
+use Rattle.std.proofs.Common.{◌≡◌, ℕ, ◌+◌, ◌^◌, ◌<◌, Bool, true, false, ◌&&◌, List, [], ◌∷◌, length, map, ℤ, pos, negsuc, nat_abs, neg_ℤ, Option, Some, None, inl, inr, refl, sym, ap, ◌∙◌, subst, decimal, arith, flat_map, rules}
+use Rattle.std.proofs.lemmas.Bool.{lt-leb, ltb-true, and_parts}
 use Rattle.sym_model.specs.Sum.{Among}
 use Rattle.sym_model.specs.Partition.{size}
 use Rattle.sym_model.specs.Expansion.{Basis, Fraction, Terms}
-use Rattle.sym_model.specs.Expression.{degree}
 use Rattle.sym_model.specs.Canonical.{is_coefficient, each_term, fits_128_bits, is_printable}
 use Rattle.sym_model.specs.LabelLimits.{is_label}
 use Rattle.sym_model.specs.NumberText.{decimal_value}
-use Rattle.sym_model.specs.Phrase.{Phrase, numeral, ratio, label, brackets, minus_first, operation, times, spelling, tree}
-use Rattle.sym_model.specs.ExpressionOffence.{OffenceKind, literal, range, shape, Mark, is_offence, entry_marks, marks, WordOffence, offence_at, offences_at, offences_of_whole, degree_limit, offences, rank}
-use Rattle.sym_model.specs.OneLine.{is_unit}
+use Rattle.sym_model.specs.Phrase.{Phrase, numeral, ratio, label, brackets, minus_first, operation, spelling}
+use Rattle.sym_model.specs.ExpressionOffence.{literal, Mark, is_offence, entry_marks, marks, WordOffence, offences_at, offences_of_whole, offences}
 use Rattle.sym_model.proofs.Sums.{Among_from_append, Among_from_each}
 use Rattle.sym_model.proofs.Orders.{is_label-tells}
 use Rattle.printing_laws.proofs.Decimals.{decimal_value-decimal}
@@ -55,34 +54,11 @@ marks-narrow depth byte (operation operator left right) h m a =
     elim (Among_from_append m (marks depth byte left) (marks depth (byte + length (spelling left) + 1) right) a)
     [ inl b ↦ marks-narrow depth byte left h.0 m b | inr b ↦ marks-narrow depth (byte + length (spelling left) + 1) right h.1 m b ]
 
--- ---- the errors of phrases in which all numbers are below 2^127
-
-of_test : (b : Bool) (at : ℕ) (kind : OffenceKind) (o : WordOffence) → Among o (cond b ((at, kind) ∷ []) []) → (b ≡ true) × (o.1 ≡ kind)
-of_test true at kind o (inl e) = (refl, ap (λ (p : WordOffence). p.1) e)
-of_test true at kind o (inr a) = absurd a
-of_test false at kind o a = absurd a
-
-apart : (kind : OffenceKind) (o : WordOffence) → 0 < rank kind → o.1 ≡ kind → o.1 ≡ literal → ⊥
-apart kind o h e is = let clash : 0 ≡ rank kind = ap rank (sym is ∙ e) in absurd (omega arith)
-
 at_mark : (m : ℕ × Mark) (o : WordOffence) → is_literal m ≡ false → Among o (offences_at m) → o.1 ≡ literal → ⊥
-at_mark m o e a is =
-    elim (Among_from_append o (offence_at literal m) (offence_at range m ++ offence_at shape m) a) [
-      | inl b ↦ (let clash : true ≡ false = sym (of_test (is_literal m) m.0 literal o b).0 ∙ e in cc)
-      | inr b ↦ elim (Among_from_append o (offence_at range m) (offence_at shape m) b) [
-        | inl c ↦ apart range o (omega arith) (of_test (is_offence m.1 range) m.0 range o c).1 is
-        | inr c ↦ apart shape o (omega arith) (of_test (is_offence m.1 shape) m.0 shape o c).1 is
-      ]
-    ]
+at_mark m o e a is = search rules
 
 of_whole : (target : Basis) (phrase : Phrase) (o : WordOffence) → Among o (offences_of_whole target phrase) → o.1 ≡ literal → ⊥
-of_whole target phrase o a is =
-    let long = nat_lt 4096 (length (spelling phrase)) in
-    let high = nat_lt (degree_limit target) (degree (tree phrase)) in
-    elim (Among_from_append o (cond long ((4096, range) ∷ []) []) (cond high ((length (spelling phrase), range) ∷ []) []) a) [
-      | inl b ↦ apart range o (omega arith) (of_test long 4096 range o b).1 is
-      | inr b ↦ apart range o (omega arith) (of_test high (length (spelling phrase)) range o b).1 is
-    ]
+of_whole target phrase o a is = search rules
 
 none-literal : (target : Basis) (phrase : Phrase) → IsNarrow phrase → (o : WordOffence) → Among o (offences target phrase) → o.1 ≡ literal → ⊥
 none-literal target phrase h o a is =
@@ -109,15 +85,7 @@ record IsNarrowTerm (t : List ℕ × Fraction) : Type 0 where
   den : t.1.1 < 2 ^ 127
 
 narrow-term : (basis : Basis) (t : List ℕ × Fraction) → IsNarrowTerm t → IsNarrow (term_phrase basis t)
-narrow-term basis t h = by (is_unit t.1)
-  where
-    coefficient : (b : Bool) → IsNarrow (cond b (numeral (decimal (nat_abs t.1.0))) (ratio (decimal (nat_abs t.1.0)) (decimal t.1.1)))
-    coefficient true = narrow-decimal (nat_abs t.1.0) h.num
-    coefficient false = (narrow-decimal (nat_abs t.1.0) h.num, narrow-decimal t.1.1 h.den)
-
-    by : (b : Bool) → IsNarrow (cond b (atom_phrase basis t.0) (operation times (coefficient_phrase t.1) (atom_phrase basis t.0)))
-    by true = narrow-numbers t.0 h.label
-    by false = (coefficient (eqb t.1.1 1), narrow-numbers t.0 h.label)
+narrow-term basis t h = search (rules, narrow-decimal, atom_phrase, coefficient_phrase, narrow-numbers)
 
 abbrev AreNarrowTerms : Terms (List ℕ) → Type 0
 AreNarrowTerms [] = Unit {0}
@@ -135,13 +103,9 @@ narrow-line : (basis : Basis) (terms : Terms (List ℕ)) → AreNarrowTerms term
 narrow-line basis [] h = omega arith
 narrow-line basis (t ∷ terms) h = narrow-later basis (first_phrase basis t) terms (narrow-first basis t h.0) h.1
 
--- ---- in a list with numbers of at most 128 bits and without -2^127, all absolute values are below 2^127
-
 below : (z : ℤ) → fits_128_bits z ≡ true → (z ≡ neg_ℤ (pos (2 ^ 127)) → ⊥) → nat_abs z < 2 ^ 127
 below (pos n) h other = ltb-true n (2 ^ 127) h
-below (negsuc n) h other =
-    let e = ltb-true n (2 ^ 127) h in
-    elim (cases_eq (suc n) (2 ^ 127)) [ inl l ↦ absurd (other (ap (λ k. neg_ℤ (pos k)) l)) | inr d ↦ omega arith ]
+below (negsuc n) h other = search rules
 
 narrow-terms : (has_fractions : Bool) (terms : Terms (List ℕ))
     → each_term (λ (t : List ℕ × Fraction). is_coefficient has_fractions t.1 && is_label t.0) terms ≡ true → is_printable terms ≡ true → LacksLowest terms

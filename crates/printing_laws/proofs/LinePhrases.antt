@@ -1,5 +1,6 @@
--- The phrase that a one-line form spells: it is in the grammar, and its spelling is the one-line form without the LF.
-use Rattle.std.proofs.Common.{◌≡◌, ℕ, ◌^◌, ◌<◌, Bool, true, false, List, [], ◌∷◌, ◌++◌, map, cond, eqb, pos, negsuc, nat_abs, refl, sym, ap, ◌∙◌, append_assoc, append-nil, decimal, arith}
+-- The one-line form of a list of terms, such as s[3]-3*s[2,1], spells a *phrase*, which is the syntax tree of an expression. The phrase is in the
+-- grammar, and its spelling is the one-line form without the LF.
+use Rattle.std.proofs.Common.{◌≡◌, ℕ, ◌^◌, ◌<◌, List, [], ◌∷◌, ◌++◌, map, cond, eqb, pos, negsuc, nat_abs, refl, sym, ap, ◌∙◌, append_assoc, append-nil, decimal, arith, rules}
 use Rattle.std.specs.Prelude.{codes}
 use Rattle.sym_model.specs.Expansion.{Basis, Fraction, Terms}
 use Rattle.sym_model.specs.NumberWord.{IsNumberWord, AreNumberWords, comma_separated}
@@ -19,7 +20,7 @@ atom_phrase basis numbers = label basis (map decimal numbers)
 abbrev pub coefficient_phrase : Fraction → Phrase
 coefficient_phrase c = cond (eqb c.1 1) (numeral (decimal (nat_abs c.0))) (ratio (decimal (nat_abs c.0)) (decimal c.1))
 
--- the phrase of a term without its sign: the label with the absolute value of its coefficient
+-- the phrase of a term without its sign: its atom (a basis element), multiplied by the absolute value of its coefficient if this value is not 1
 abbrev pub term_phrase : Basis → List ℕ × Fraction → Phrase
 term_phrase basis t = cond (is_unit t.1) (atom_phrase basis t.0) (operation times (coefficient_phrase t.1) (atom_phrase basis t.0))
 
@@ -49,18 +50,10 @@ number_words [] h = tt
 number_words (a ∷ numbers) h = (number_word a h.0, number_words numbers h.1)
 
 coefficient_is : (level : Level) (c : Fraction) → IsShortFraction (without_sign c) → Is level (coefficient_phrase c)
-coefficient_is level c h = by (eqb c.1 1)
-  where
-    by : (b : Bool) → Is level (cond b (numeral (decimal (nat_abs c.0))) (ratio (decimal (nat_abs c.0)) (decimal c.1)))
-    by true = number_word (nat_abs c.0) h.num
-    by false = (number_word (nat_abs c.0) h.num, number_word c.1 h.den)
+coefficient_is level c h = search (rules, number_word)
 
 term_is : (level : Level) → Covers level term → (basis : Basis) (t : List ℕ × Fraction) → IsReadable t → Is level (term_phrase basis t)
-term_is level covers basis t h = by (is_unit t.1)
-  where
-    by : (b : Bool) → Is level (cond b (atom_phrase basis t.0) (operation times (coefficient_phrase t.1) (atom_phrase basis t.0)))
-    by true = number_words t.0 h.numbers
-    by false = (covers, coefficient_is term t.1 h.fraction, number_words t.0 h.numbers)
+term_is level covers basis t h = search (rules, number_words, coefficient_is)
 
 joined_is : (basis : Basis) (left : Phrase) (t : List ℕ × Fraction) → Is expression left → IsReadable t → Is expression (joined basis left t)
 joined_is basis left (numbers, (pos n, den)) h r = (tt, h, term_is term tt basis (numbers, (pos n, den)) r)
@@ -89,32 +82,15 @@ atom_spelled : (basis : Basis) (numbers : List ℕ) → spelling (atom_phrase ba
 atom_spelled basis numbers = ap (λ t. letter basis ++ (codes "[" ++ (t ++ codes "]"))) (commas numbers)
 
 coefficient_spelled : (c : Fraction) → spelling (coefficient_phrase c) ≡ fraction_text (without_sign c)
-coefficient_spelled c = by (eqb c.1 1)
-  where
-    by : (b : Bool) → spelling (cond b (numeral (decimal (nat_abs c.0))) (ratio (decimal (nat_abs c.0)) (decimal c.1)))
-        ≡ cond b (decimal (nat_abs c.0)) (decimal (nat_abs c.0) ++ (47 ∷ decimal c.1))
-    by true = refl
-    by false = refl
+coefficient_spelled c = search rules
 
 term_spelled : (basis : Basis) (t : List ℕ × Fraction) → spelling (term_phrase basis t) ≡ unsigned_text basis t
-term_spelled basis t = by (is_unit t.1)
-  where
-    by : (b : Bool) → spelling (cond b (atom_phrase basis t.0) (operation times (coefficient_phrase t.1) (atom_phrase basis t.0)))
-        ≡ cond b [] (fraction_text (without_sign t.1) ++ (42 ∷ [])) ++ atom_text basis t.0
-    by true = atom_spelled basis t.0
-    by false =
-        ap (λ s. s ++ (42 ∷ spelling (atom_phrase basis t.0))) (coefficient_spelled t.1)
-        ∙ ap (λ s. fraction_text (without_sign t.1) ++ (42 ∷ s)) (atom_spelled basis t.0)
-        ∙ sym (append_assoc (fraction_text (without_sign t.1)) (42 ∷ []) (atom_text basis t.0))
+term_spelled basis t = search (rules, atom_spelled, coefficient_spelled, append_assoc)
 
 joined_spelled : (basis : Basis) (left : Phrase) (t : List ℕ × Fraction) (rest : List ℕ)
     → spelling (joined basis left t) ++ rest ≡ spelling left ++ (cond (is_negative t.1.0) (codes "-") (codes "+") ++ (unsigned_text basis t ++ rest))
-joined_spelled basis left (numbers, (pos n, den)) rest =
-    append_assoc (spelling left) (43 ∷ spelling (term_phrase basis (numbers, (pos n, den)))) rest
-    ∙ ap (λ s. spelling left ++ (43 ∷ (s ++ rest))) (term_spelled basis (numbers, (pos n, den)))
-joined_spelled basis left (numbers, (negsuc n, den)) rest =
-    append_assoc (spelling left) (45 ∷ spelling (term_phrase basis (numbers, (negsuc n, den)))) rest
-    ∙ ap (λ s. spelling left ++ (45 ∷ (s ++ rest))) (term_spelled basis (numbers, (negsuc n, den)))
+joined_spelled basis left (numbers, (pos n, den)) rest = search (rules, append_assoc, term_spelled)
+joined_spelled basis left (numbers, (negsuc n, den)) rest = search (rules, append_assoc, term_spelled)
 
 later_spelled : (basis : Basis) (left : Phrase) (terms : Terms (List ℕ)) → spelling (later_phrase basis left terms) ≡ spelling left ++ later_text basis terms
 later_spelled basis left [] = sym (append-nil (spelling left))
@@ -126,7 +102,4 @@ first_spelled basis (numbers, (negsuc n, den)) = ap (λ s. 45 ∷ s) (term_spell
 
 pub line_spelled : (basis : Basis) (terms : Terms (List ℕ)) → one_line basis terms ≡ spelling (line_phrase basis terms) ++ codes "\n"
 line_spelled basis [] = refl
-line_spelled basis (t ∷ terms) = sym (
-    ap (λ s. s ++ codes "\n") (later_spelled basis (first_phrase basis t) terms ∙ ap (λ s. s ++ later_text basis terms) (first_spelled basis t))
-    ∙ append_assoc (cond (is_negative t.1.0) (codes "-") [] ++ unsigned_text basis t) (later_text basis terms) (codes "\n")
-    ∙ append_assoc (cond (is_negative t.1.0) (codes "-") []) (unsigned_text basis t) (later_text basis terms ++ codes "\n"))
+line_spelled basis (t ∷ terms) = search (rules, later_spelled, first_spelled, append_assoc)

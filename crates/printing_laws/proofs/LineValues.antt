@@ -1,16 +1,16 @@
--- The expression that a one-line form spells denotes the list whose form it is.
-use Rattle.std.proofs.Common.{◌≡◌, ℕ, suc, ◌*◌, ◌/◌, ◌<◌, Bool, true, false, List, [], ◌∷◌, map, cond, eqb, ℤ, pos, negsuc, nat_abs, neg_ℤ, ◌+ℤ◌, ◌*ℤ◌, refl, sym, ap, ap₂, ◌∙◌, subst, decimal, arith}
+-- The expression that the one-line form of a list of terms spells denotes this list.
+use Rattle.std.proofs.Common.{◌≡◌, ℕ, suc, ◌*◌, ◌/◌, ◌<◌, Bool, true, false, List, [], ◌∷◌, map, cond, eqb, ℤ, pos, negsuc, nat_abs, neg_ℤ, ◌+ℤ◌, ◌*ℤ◌, refl, sym, ap, ap₂, ◌∙◌, subst, decimal, arith, rules}
 use Rattle.std.proofs.lemmas.Int.{ints}
 use Rattle.std.proofs.lemmas.Bool.{eqb-true, and_parts}
 use Rattle.std.proofs.Math.Nat.{mul-div_cancel}
-use Rattle.sym_model.specs.Polynomial.{coefficient, one, scale, negate, times as product_of}
+use Rattle.sym_model.specs.Polynomial.{coefficient, one, scale, times as product_of}
 use Rattle.sym_model.specs.Partition.{ArePositive, without_last_zeros}
 use Rattle.sym_model.specs.Expansion.{Basis, Fraction, Terms, basis_polynomial, denominators, cleared, IsExpansionOf}
-use Rattle.sym_model.specs.Expression.{Tree, number, fraction, atom, negation, sum, difference, product, lcm, denominator, cleared_value}
+use Rattle.sym_model.specs.Expression.{Tree, number, fraction, atom, negation, sum, difference, product, denominator, cleared_value}
 use Rattle.sym_model.specs.NumberText.{decimal_value}
 use Rattle.sym_model.specs.Phrase.{Phrase, numeral, ratio, operation, times, tree}
 use Rattle.sym_model.specs.OneLine.{is_unit}
-use Rattle.sym_model.proofs.Ring.{ring, one-product}
+use Rattle.sym_model.proofs.Ring.{ring}
 use Rattle.sym_model.proofs.Polynomials.{coefficient_plus, coefficient_scale, coefficient_negate}
 use Rattle.sym_model.proofs.PolynomialLaws.{one-times, scale-times}
 use Rattle.sym_model.proofs.Parts.{without_last_zeros-positive}
@@ -29,28 +29,18 @@ of_term : (d r a c q : ℤ) → r *ℤ d ≡ q → d *ℤ ((a *ℤ r) *ℤ c) �
 of_term d r a c q e = subst (λ z. d *ℤ ((a *ℤ r) *ℤ c) ≡ z *ℤ (a *ℤ c)) e (simp ring (omega (arith, ints)))
 
 of_part : (l m d s q v : ℤ) → m *ℤ d ≡ l → d *ℤ s ≡ q *ℤ v → l *ℤ s ≡ q *ℤ (m *ℤ v)
-of_part l m d s q v e h =
-    ap (λ z. z *ℤ s) (sym e)
-    ∙ (let turn : (m *ℤ d) *ℤ s ≡ m *ℤ (d *ℤ s) = simp ring (omega (arith, ints)) in turn)
-    ∙ ap (λ z. m *ℤ z) h
-    ∙ (let back : m *ℤ (q *ℤ v) ≡ q *ℤ (m *ℤ v) = simp ring (omega (arith, ints)) in back)
+of_part l m d s q v e h = search (rules, ring, ints)
 
 of_sum : (l s r q x y : ℤ) → l *ℤ s ≡ q *ℤ x → l *ℤ r ≡ q *ℤ y → l *ℤ (s +ℤ r) ≡ q *ℤ (x +ℤ y)
-of_sum l s r q x y e h =
-    (let split : l *ℤ (s +ℤ r) ≡ l *ℤ s +ℤ l *ℤ r = simp ring (omega (arith, ints)) in split)
-    ∙ ap₂ ◌+ℤ◌ e h
-    ∙ (let back : q *ℤ x +ℤ q *ℤ y ≡ q *ℤ (x +ℤ y) = simp ring (omega (arith, ints)) in back)
+of_sum l s r q x y e h = search (rules, ring, ints)
 
 of_negation : (l s q x : ℤ) → l *ℤ s ≡ q *ℤ x → l *ℤ neg_ℤ s ≡ q *ℤ neg_ℤ x
-of_negation l s q x e =
-    (let out : l *ℤ neg_ℤ s ≡ neg_ℤ (l *ℤ s) = simp ring (omega (arith, ints)) in out)
-    ∙ ap neg_ℤ e
-    ∙ (let back : neg_ℤ (q *ℤ x) ≡ q *ℤ neg_ℤ x = simp ring (omega (arith, ints)) in back)
+of_negation l s q x e = search rules
 
 of_sign : (a r c : ℤ) → (neg_ℤ a *ℤ r) *ℤ c ≡ neg_ℤ ((a *ℤ r) *ℤ c)
 of_sign a r c = simp ring (omega (arith, ints))
 
--- ---- the trees (expressions) of the phrases of one-line forms
+-- ---- the expression of an atom, such as s[2,1]
 
 values : (numbers : List ℕ) → AreShort numbers → map decimal_value (map decimal numbers) ≡ numbers
 values [] h = refl
@@ -89,16 +79,13 @@ module _ (basis : Basis) (n : ℕ) (α : List ℕ) where
 
   pub coefficient-cleared : (q : ℕ) (terms : Terms (List ℕ)) → coefficient (cleared (λ label. basis_polynomial basis label n) q terms) α ≡ shares q terms
   coefficient-cleared q [] = refl
-  coefficient-cleared q (t ∷ terms) =
-      coefficient_plus (scale (t.1.0 *ℤ pos (q / t.1.1)) (basis_polynomial basis t.0 n)) (cleared (λ label. basis_polynomial basis label n) q terms) α
-      ∙ ap₂ ◌+ℤ◌ (coefficient_scale (t.1.0 *ℤ pos (q / t.1.1)) (basis_polynomial basis t.0 n) α) (coefficient-cleared q terms)
+  coefficient-cleared q (t ∷ terms) = search (rules, coefficient_plus, coefficient_scale, (coefficient-cleared q terms))
 
   -- s is q times the coefficient of x^α in the value of the expression e, and the denominator of e is positive
   pub record Stands (q : ℕ) (e : Tree) (s : ℤ) : Type 0 where
     pub positive : 0 < denominator e
     pub equal : pos (denominator e) *ℤ s ≡ pos q *ℤ coefficient (cleared_value e n) α
 
-  -- the coefficient of x^α in a·P, for P the polynomial of an atom, is a times the coefficient of x^α in P
   scaled_atom : (a : ℕ) (numbers : List ℕ) → coefficient (product_of (scale (pos a) (one n)) (basis_polynomial basis numbers n)) α ≡ pos a *ℤ at_label numbers
   scaled_atom a numbers =
       sym (scale-times (pos a) (one n) (basis_polynomial basis numbers n) α)
@@ -106,10 +93,7 @@ module _ (basis : Basis) (n : ℕ) (α : List ℕ) where
       ∙ ap (λ z. pos a *ℤ z) (one-times n (basis_polynomial basis numbers n) (In-atom basis numbers n) α)
 
   stands-unit : (q : ℕ) (numbers : List ℕ) → Stands q (atom basis numbers) ((pos 1 *ℤ pos (q / 1)) *ℤ at_label numbers)
-  stands-unit q numbers = record {
-    positive = omega arith;
-    equal = of_term (pos 1) (pos (q / 1)) (pos 1) (at_label numbers) (pos q) (ap pos (let e : q / 1 * 1 ≡ q = omega arith in e)) ∙ ap (λ z. pos q *ℤ z) (one-product (at_label numbers));
-  }
+  stands-unit q numbers = search rules
 
   stands-product : (q a d : ℕ) (numbers : List ℕ) (e : Tree) → 0 < d → q / d * d ≡ q → denominator e ≡ d → cleared_value e n ≡ scale (pos a) (one n)
       → Stands q (product e (atom basis numbers)) ((pos a *ℤ pos (q / d)) *ℤ at_label numbers)
@@ -152,41 +136,14 @@ module _ (basis : Basis) (n : ℕ) (α : List ℕ) where
           subst (λ f. Stands q (product (tree (coefficient_phrase t.1)) f) (unsigned_share q t)) (sym is_atom) (with_coefficient (eqb t.1.1 1) refl)
 
   stands-sum : (q : ℕ) (e f : Tree) (s r : ℤ) → Stands q e s → Stands q f r → Stands q (sum e f) (s +ℤ r)
-  stands-sum q e f s r h k =
-      let l = lcm (denominator e) (denominator f) in
-      let a = l / denominator e in
-      let b = l / denominator f in
-      record {
-        positive = lcm-positive (denominator e) (denominator f) h.positive k.positive;
-        equal =
-            of_sum (pos l) s r (pos q) (pos a *ℤ coefficient (cleared_value e n) α) (pos b *ℤ coefficient (cleared_value f n) α)
-            (of_part (pos l) (pos a) (pos (denominator e)) s (pos q) (coefficient (cleared_value e n) α) (ap pos (lcm-left (denominator e) (denominator f) h.positive)) h.equal)
-            (of_part (pos l) (pos b) (pos (denominator f)) r (pos q) (coefficient (cleared_value f n) α) (ap pos (lcm-right (denominator e) (denominator f))) k.equal)
-            ∙ ap (λ z. pos q *ℤ z) (sym (coefficient_plus (scale (pos a) (cleared_value e n)) (scale (pos b) (cleared_value f n)) α
-            ∙ ap₂ ◌+ℤ◌ (coefficient_scale (pos a) (cleared_value e n) α) (coefficient_scale (pos b) (cleared_value f n) α)));
-      }
+  stands-sum q e f s r h k = search (rules, lcm-positive, of_sum, of_part, lcm-left, lcm-right, coefficient_plus, coefficient_scale)
 
   stands-difference : (q : ℕ) (e f : Tree) (s r : ℤ) → Stands q e s → Stands q f r → Stands q (difference e f) (s +ℤ neg_ℤ r)
   stands-difference q e f s r h k =
-      let l = lcm (denominator e) (denominator f) in
-      let a = l / denominator e in
-      let b = l / denominator f in
-      record {
-        positive = lcm-positive (denominator e) (denominator f) h.positive k.positive;
-        equal =
-            of_sum (pos l) s (neg_ℤ r) (pos q) (pos a *ℤ coefficient (cleared_value e n) α) (neg_ℤ (pos b *ℤ coefficient (cleared_value f n) α))
-            (of_part (pos l) (pos a) (pos (denominator e)) s (pos q) (coefficient (cleared_value e n) α) (ap pos (lcm-left (denominator e) (denominator f) h.positive)) h.equal)
-            (of_negation (pos l) r (pos q) (pos b *ℤ coefficient (cleared_value f n) α)
-            (of_part (pos l) (pos b) (pos (denominator f)) r (pos q) (coefficient (cleared_value f n) α) (ap pos (lcm-right (denominator e) (denominator f))) k.equal))
-            ∙ ap (λ z. pos q *ℤ z) (sym (coefficient_plus (scale (pos a) (cleared_value e n)) (negate (scale (pos b) (cleared_value f n))) α
-            ∙ ap₂ ◌+ℤ◌ (coefficient_scale (pos a) (cleared_value e n) α) (coefficient_negate (scale (pos b) (cleared_value f n)) α ∙ ap neg_ℤ (coefficient_scale (pos b) (cleared_value f n) α))));
-      }
+      search (rules, lcm-positive, of_sum, neg_ℤ, of_part, lcm-left, of_negation, lcm-right, coefficient_plus, coefficient_scale, coefficient_negate)
 
   stands-negation : (q : ℕ) (e : Tree) (s : ℤ) → Stands q e s → Stands q (negation e) (neg_ℤ s)
-  stands-negation q e s h = record {
-    positive = h.positive;
-    equal = of_negation (pos (denominator e)) s (pos q) (coefficient (cleared_value e n) α) h.equal ∙ ap (λ z. pos q *ℤ z) (sym (coefficient_negate (cleared_value e n) α));
-  }
+  stands-negation q e s h = search (rules, of_negation, coefficient_negate)
 
   stands-joined : (q : ℕ) (left : Phrase) (s : ℤ) (t : List ℕ × Fraction) → IsProper t → q / t.1.1 * t.1.1 ≡ q → Stands q (tree left) s
       → Stands q (tree (joined basis left t)) (s +ℤ (t.1.0 *ℤ pos (q / t.1.1)) *ℤ at_label t.0)
@@ -211,16 +168,8 @@ module _ (basis : Basis) (n : ℕ) (α : List ℕ) where
       (stands-negation q (tree (term_phrase basis (numbers, (negsuc m, den)))) (unsigned_share q (numbers, (negsuc m, den))) (stands-term q (numbers, (negsuc m, den)) h divides))
 
   pub stands-line : (q : ℕ) (terms : Terms (List ℕ)) → AreProper terms → AreDivisors q terms → Stands q (tree (line_phrase basis terms)) (shares q terms)
-  stands-line q [] h divides = record {
-    positive = omega arith;
-    equal = one-product (pos 0) ∙ sym (ap (λ z. pos q *ℤ z) (coefficient_scale (pos 0) (one n) α) ∙ none (pos q) (coefficient (one n) α));
-  }
-    where
-      none : (q c : ℤ) → q *ℤ (pos 0 *ℤ c) ≡ pos 0
-      none q c = simp ring (omega (arith, ints))
+  stands-line q [] h divides = search rules
   stands-line q (t ∷ terms) h divides = stands-later q (first_phrase basis t) ((t.1.0 *ℤ pos (q / t.1.1)) *ℤ at_label t.0) terms h.1 divides.1 (stands-first q t h.0 divides.0)
-
--- ---- a common denominator of the coefficients of a list of terms
 
 divisors : (k : ℕ) (terms : Terms (List ℕ)) → AreProper terms → AreDivisors (k * denominators terms) terms
 divisors k [] h = tt

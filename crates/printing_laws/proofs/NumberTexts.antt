@@ -10,19 +10,17 @@ use Rattle.sym_model.specs.Kind.{BeginsWithSpace}
 use Rattle.printing_laws.proofs.Decimals.{lacks-append, decimal-lacks, decimal-nonempty, decimal_value-decimal, IsShort, signed_decimal-lacks, signed_value-signed_decimal}
 use Rattle.sym_model.specs.Bounded.{Lacks}
 
--- if the separator s does not occur in a text, splitting the text at s gives the text itself as the one piece
 pub split_at-whole : (s : ℕ) (text : List ℕ) → Lacks s text → split_at s text ≡ text ∷ []
 split_at-whole s [] h = refl
 split_at-whole s (b ∷ text) h =
     cond-false (eqb b s) _ _ (ne_eqb b s h.0) ∙ ap (before_first b) (split_at-whole s text h.1)
 
--- if the separator s does not occur in `piece`, splitting `piece`, s and `rest` at s gives `piece` and then the pieces of `rest`
 pub split_at-piece : (s : ℕ) (piece rest : List ℕ) → Lacks s piece → split_at s (piece ++ (s ∷ rest)) ≡ piece ∷ split_at s rest
 split_at-piece s [] rest h = cond-true (eqb s s) _ _ (eq-eqb s s refl)
 split_at-piece s (b ∷ piece) rest h =
     cond-false (eqb b s) _ _ (ne_eqb b s h.0) ∙ ap (before_first b) (split_at-piece s piece rest h.1)
 
--- if `front` has no space and `rest` is empty or begins with one, cutting `front ++ rest` at its first space gives `front` and `rest`
+-- if `front` has no space, and `rest` is empty or begins with a space, cutting `front ++ rest` at its first space gives `front` and `rest`
 pub cut_at-space : (front rest : List ℕ) → Lacks 32 front → BeginsWithSpace rest → cut_at 32 (front ++ rest) ≡ (front, rest)
 cut_at-space [] [] h k = refl
 cut_at-space [] (b ∷ rest) h k = cond-true (eqb b 32) _ _ (eq-eqb b 32 k)
@@ -70,7 +68,6 @@ numbers_of-text [] h = refl
 numbers_of-text (a ∷ numbers) h =
     numbers_of-nonempty (numbers_text (a ∷ numbers)) (numbers_text-nonempty a numbers h) ∙ split_at-numbers a numbers h
 
--- if the numbers of a label are below 10^64, its text is read as these numbers
 pub label_of-text : (numbers : List ℕ) → AreShort numbers → label_of (label_text numbers) ≡ numbers
 label_of-text numbers h =
     ap numbers_of (without_last-push (numbers_text numbers) 41) ∙ numbers_of-text numbers h

@@ -1,12 +1,12 @@
--- The one-line form of a list of terms is read back as this list.
-use Rattle.std.proofs.Common.{◌≡◌, ℕ, ◌^◌, ◌<◌, Bool, true, false, ◌&&◌, List, [], ◌∷◌, ◌++◌, length, map, cond, eqb, ℤ, pos, negsuc, nat_abs, Some, None, refl, sym, ap, ap₂, ◌∙◌, subst, append_assoc, append-nil, length-append, arith}
+-- The one-line form of a list of terms, such as s[3]-3*s[2,1], is read back as this list. A list is *canonical* if its labels are within the limits,
+-- each once and in the printed order, and its coefficients are in lowest terms and not 0.
+use Rattle.std.proofs.Common.{◌≡◌, ℕ, ◌^◌, ◌<◌, Bool, true, false, ◌&&◌, List, [], ◌∷◌, ◌++◌, length, map, cond, eqb, ℤ, pos, negsuc, nat_abs, Some, None, refl, sym, ap, ap₂, ◌∙◌, subst, append_assoc, append-nil, length-append, arith, rules}
 use Rattle.std.specs.Prelude.{codes}
 use Rattle.std.proofs.lemmas.Bool.{ltb-true, and_parts, and_from, cond-true, cond-false, ne_eqb}
 use Rattle.sym_model.specs.Polynomial.{same}
 use Rattle.sym_model.specs.Expansion.{Basis, Fraction, Terms}
 use Rattle.sym_model.specs.Kind.{LabelRules}
 use Rattle.sym_model.specs.Canonical.{is_coefficient, each_term, fits_128_bits, is_canonical_by, is_printable}
-use Rattle.sym_model.specs.NumberText.{without_last}
 use Rattle.sym_model.specs.OneLine.{without_sign, unsigned_text, is_negative, later_text, one_line, is_sign, cut_at_signs, pieces_of, unsigned_term, negated, term_of_piece, terms_on_line, accepted_line, read_one_line}
 use Rattle.sym_model.proofs.Exponents.{same_refl, same_true, same_apart}
 use Rattle.printing_laws.proofs.NumberTexts.{AreShort, IsShortFraction, without_last-push}
@@ -29,8 +29,6 @@ is_sign-byte (negsuc n) = refl
 abbrev later_piece : Basis → List ℕ × Fraction → List ℕ
 later_piece basis t = sign_byte t.1.0 ∷ unsigned_text basis t
 
--- let t be the first of some terms that do not begin a line: the text of these terms is the sign of t, the text of t without its sign, and the text
--- of the terms after t
 later_text-more : (basis : Basis) (t : List ℕ × Fraction) (terms : Terms (List ℕ)) → later_text basis (t ∷ terms) ≡ sign_byte t.1.0 ∷ (unsigned_text basis t ++ later_text basis terms)
 later_text-more basis (label, (pos n, den)) terms = refl
 later_text-more basis (label, (negsuc n, den)) terms = refl
@@ -40,8 +38,6 @@ later_text-more basis (label, (negsuc n, den)) terms = refl
 abbrev later_pieces : Basis → Terms (List ℕ) → List (List ℕ)
 later_pieces basis terms = map (later_piece basis) terms
 
--- let `front` be a text without signs, and let the terms be such that they can be read back (`IsReadable`): if `front`, followed by the text of the
--- terms, is cut before each sign, the pieces are `front` and then the text of each term
 pieces-later : (basis : Basis) (front : List ℕ) (terms : Terms (List ℕ)) → LacksSigns front → AreReadable terms
     → cut_at_signs (front ++ later_text basis terms) ≡ front ∷ later_pieces basis terms
 pieces-later basis front terms lacks h =
@@ -84,7 +80,6 @@ later-term : (basis : Basis) (t : List ℕ × Fraction) → IsReadable t → ter
 later-term basis (label, (pos n, den)) r = unsigned_term-text basis (label, (pos n, den)) r
 later-term basis (label, (negsuc n, den)) r = ap negated (unsigned_term-text basis (label, (negsuc n, den)) r)
 
--- a text that is not empty and has no sign is read as a term (`term_of_piece`) in the same way as a term without its sign is read (`unsigned_term`)
 unsigned-piece : (piece : List ℕ) → 0 < length piece → LacksSigns piece → term_of_piece piece ≡ unsigned_term piece
 unsigned-piece [] some lacks = refl
 unsigned-piece (b ∷ piece) some lacks =
@@ -100,9 +95,6 @@ later-terms : (basis : Basis) (terms : Terms (List ℕ)) → AreReadable terms �
 later-terms basis [] h = refl
 later-terms basis (t ∷ terms) h = ap₂ ◌∷◌ (later-term basis t h.0) (later-terms basis terms h.1)
 
--- ---- the one-line form is read back as the list of terms
-
--- the one-line form consists of the text of the first term, the texts of the other terms and a line feed
 one_line-front : (basis : Basis) (t : List ℕ × Fraction) (terms : Terms (List ℕ)) → one_line basis (t ∷ terms) ≡ (first_piece basis t ++ later_text basis terms) ++ (10 ∷ [])
 one_line-front basis t terms = simp append_assoc refl
 
@@ -119,11 +111,7 @@ not_nothing basis t terms r e =
 pub terms_on-line : (basis : Basis) (terms : Terms (List ℕ)) → AreReadable terms → terms_on_line (one_line basis terms) ≡ terms
 terms_on-line basis [] h = refl
 terms_on-line basis (t ∷ terms) h =
-    cond-false (same (one_line basis (t ∷ terms)) (codes "0\n")) _ _ (same_apart (one_line basis (t ∷ terms)) (codes "0\n") (not_nothing basis t terms h.0))
-    ∙ (ap (λ text. map {B = List ℕ × Fraction} term_of_piece (pieces_of (without_last text))) (one_line-front basis t terms)
-    ∙ (ap (λ text. map {B = List ℕ × Fraction} term_of_piece (pieces_of text)) (without_last-push (first_piece basis t ++ later_text basis terms) 10)
-    ∙ (ap (λ pieces. map {B = List ℕ × Fraction} term_of_piece pieces) (pieces-line basis t terms h.0 h.1)
-    ∙ ap₂ ◌∷◌ (first-term basis t h.0) (later-terms basis terms h.1))))
+    search (rules, cond-false, same_apart, not_nothing, one_line-front, without_last-push, pieces-line, first-term, later-terms)
 
 -- ---- the terms of a canonical list with numbers of at most 128 bits can be read back
 
@@ -134,8 +122,8 @@ short-abs (negsuc n) h = let e = ltb-true n (2 ^ 127) h in omega arith
 short-den : (d : ℕ) → fits_128_bits (pos d) ≡ true → d < 10 ^ 64
 short-den d h = let e = ltb-true d (2 ^ 127) h in omega arith
 
--- if a list is canonical with numbers of at most 128 bits, and the numbers of labels within the limits are below 10^64, each term satisfies
--- `IsReadable`
+-- let each label within the limits have only numbers below 10^64. If a list is canonical, and its numerators and denominators have at most 128 bits,
+-- then each of its terms satisfies `IsReadable`
 pub are_readable : (rules : LabelRules (List ℕ)) → ((label : List ℕ) → rules.is_within_limits label ≡ true → AreShort label) → (terms : Terms (List ℕ))
     → each_term (λ (t : List ℕ × Fraction). is_coefficient rules.has_fractions t.1 && rules.is_within_limits t.0) terms ≡ true → is_printable terms ≡ true → AreReadable terms
 are_readable rules short [] h k = tt
@@ -149,8 +137,8 @@ are_readable rules short (t ∷ terms) h k =
 abbrev pub is_line_of : Basis → LabelRules (List ℕ) → List ℕ → Terms (List ℕ) → Bool
 is_line_of basis rules text terms = is_canonical_by rules terms && is_printable terms && same (one_line basis terms) text
 
--- if the terms are canonical and printable, and the numbers of labels within the limits are below 10^64, their one-line form
--- is read as these terms
+-- let each label within the limits have only numbers below 10^64. If a list of terms is canonical and printable, its one-line form is read as this
+-- list
 pub read_one_line-line : (basis : Basis) (rules : LabelRules (List ℕ)) → ((label : List ℕ) → rules.is_within_limits label ≡ true → AreShort label) → (terms : Terms (List ℕ))
     → is_canonical_by rules terms ≡ true → is_printable terms ≡ true → read_one_line basis rules (one_line basis terms) ≡ Some terms
 read_one_line-line basis rules short terms h k =

@@ -1,5 +1,6 @@
--- A canonical and printable list has a text in each of the two printed forms: the block, with a line for each term, and the one-line form. Each of
--- these texts is read back as that list.
+-- Each of the two printed forms of a list of terms, the block, with a line for each term, and the one-line form, is read back as that list. The list
+-- must be *canonical* (labels within the limits, each once and in the printed order; coefficients in lowest terms, not 0) and *printable* (numbers of
+-- at most 128 bits).
 use Rattle.std.proofs.Common.{◌≡◌, ℕ, List, Some, true}
 use Rattle.sym_model.specs.Expansion.{Terms}
 use Rattle.sym_model.specs.Kind.{Kind, Label, number, expansion, product, pairs, powers, permutations, polynomial, shifts, label_rules}
@@ -33,7 +34,8 @@ block_tells kind text terms h =
     let r = read_by-tells (label_rules kind) text terms h in
     record { canonical = r.canonical; printable = r.printable; text_is = r.block }
 
--- if `text` is read in the printed form `form` as the list `terms`, then `text` is their text in this form, and they are canonical and printable
+-- if `text` is read in the printed form `form` as the list `terms`, then `text` is the text of these terms in this form, and the terms are canonical
+-- and printable
 pub read_in-tells : (form : PrintedForm) (kind : Kind) (text : List ℕ) (terms : Terms (Label kind)) → read_in form kind text ≡ Some terms → ReadsIn form kind text terms
 read_in-tells as_block kind text terms h = block_tells kind text terms h
 read_in-tells (as_line basis) expansion text terms h =

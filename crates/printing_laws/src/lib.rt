@@ -1,6 +1,7 @@
 //! Laws of the two printed forms of lists of terms, a block (a line for each term) and one line:
-//! each canonical list has one text in each form, which is read back as this list only; and the
-//! text in one line is an expression that denotes the list.
+//! each canonical list (labels in the printed order; coefficients in lowest terms, not 0) has one
+//! text in each form, which is read back as this list only; and the text in one line is an
+//! expression that denotes the list.
 //!
 //! A law function has an empty body: its contract is the law.
 //!

@@ -1,5 +1,6 @@
--- Lists of terms whose coefficients are not negative (`AreCounts`), and terms at labels whose coefficient is not 0.
-use Rattle.std.proofs.Common.{◌≡◌, ◌⊎◌, inl, inr, cond, ℕ, List, [], ◌∷◌, map, refl, sym, ◌∙◌, ap, ap₂, subst, arith, ℤ, pos, ◌+ℤ◌, ◌*ℤ◌, flat_map}
+-- Lists of terms, each a label (a partition) with an integer coefficient. `AreCounts` means that no coefficient is negative. If the sum of the
+-- coefficients of a label in a list is not 0, some term of the list has this label.
+use Rattle.std.proofs.Common.{◌≡◌, ◌⊎◌, inl, inr, cond, ℕ, List, [], ◌∷◌, map, refl, sym, ◌∙◌, ap, ap₂, subst, arith, ℤ, pos, ◌+ℤ◌, ◌*ℤ◌, flat_map, rules}
 use Rattle.std.specs.Prelude.{◌≤ℤ◌}
 use Rattle.std.proofs.lemmas.Int.{ints}
 use Rattle.sym_model.specs.Sum.{Among, Once}
@@ -11,8 +12,6 @@ use Rattle.sym_model.proofs.Polynomials.{coefficient_plus}
 use Rattle.sym_model.proofs.Integers.{product-nonnegative, cond-nonnegative}
 use Rattle.sym_model.specs.WholeTerms.{AreCounts}
 use lib.IntN.{+ℤ_idl, +ℤ_idr}
-
--- ---- if no term of a list has a negative coefficient, the sum of the coefficients of the terms with the label α is not negative
 
 pub counts-coefficient : (terms : WholeTerms) (α : List ℕ) → AreCounts terms → pos 0 ≤ℤ coefficient terms α
 counts-coefficient [] α h = omega (arith, ints)
@@ -29,7 +28,8 @@ counts-scale c terms h k t m =
 pub counts-each : {A : Type 0} (h : A → WholeTerms) (xs : List A) → ((x : A) → Among x xs → AreCounts (h x)) → AreCounts (flat_map h xs)
 counts-each h xs c t m = let s = Among_from_each h t xs m in c s.0 s.1 t s.2
 
--- if no h(y) has a negative coefficient, and x is in xs, the coefficient of α in the list h(x) is at most that in all lists h(y), y in xs, together
+-- if no list h(y) has a negative coefficient, and x is in xs, the coefficient of α in h(x) is at most the coefficient of α in the lists h(y) of all y
+-- in xs together
 pub coefficient-each : {A : Type 0} (h : A → WholeTerms) (xs : List A) (x : A) (α : List ℕ) → ((y : A) → Among y xs → AreCounts (h y)) → Among x xs
     → coefficient (h x) α ≤ℤ coefficient (flat_map h xs) α
 coefficient-each h [] x α c m = absurd m
@@ -44,13 +44,10 @@ coefficient-each h (y ∷ xs) x α c (inr m) =
     let d = counts-coefficient (h y) α (c y (inl refl)) in
     omega (arith, ints)
 
--- ---- labels that occur in a list of terms, and labels that do not
-
 pub no_label : (terms : WholeTerms) (α : List ℕ) → ((t : Term) → Among t terms → t.0 ≡ α → ⊥) → coefficient terms α ≡ pos 0
 no_label terms α h =
     total_none (λ (t : Term). cond (same t.0 α) t.1 (pos 0)) terms (λ t m. ap (λ b. cond b t.1 (pos 0)) (same_apart t.0 α (h t m)))
 
--- if the coefficient of a label in a list of terms is not 0, some term has this label
 pub some_term : (terms : WholeTerms) (α : List ℕ) → (coefficient terms α ≡ pos 0 → ⊥) → (t : Term) × Among t terms × (t.0 ≡ α)
 some_term [] α h = absurd (h refl)
 some_term (t ∷ terms) α h = by (same_or_not t.0 α) (some_term terms α)
@@ -62,14 +59,10 @@ some_term (t ∷ terms) α h = by (same_or_not t.0 α) (some_term terms α)
         let found = later (λ z. h (ap₂ ◌+ℤ◌ (ap (λ b. cond b t.1 (pos 0)) (same_apart t.0 α n)) z ∙ +ℤ_idl (pos 0))) in
         (found.0, inr found.1, found.2)
 
--- if no label occurs twice in a list, the coefficient of the label of each term is that of the term
+-- if no label occurs twice in a list of terms, the coefficient of each term is the coefficient of its label in the whole list
 pub coefficient_of_once : (terms : WholeTerms) → Once (map (λ (t : Term). t.0) terms) → (t : Term) → Among t terms → coefficient terms t.0 ≡ t.1
 coefficient_of_once [] once t m = absurd m
-coefficient_of_once (u ∷ terms) once t (inl e) =
-    ap₂ ◌+ℤ◌ (ap (λ b. cond b u.1 (pos 0)) (same_from u.0 t.0 (ap (λ (v : Term). v.0) (sym e)))
-    ∙ ap (λ (v : Term). v.1) (sym e))
-    (no_label terms t.0 (λ v n d. once.0 (subst (λ label. Among label (map (λ (w : Term). w.0) terms)) (d ∙ ap (λ (w : Term). w.0) e) (Among-map (λ (w : Term). w.0) v terms n))))
-    ∙ +ℤ_idr t.1
+coefficient_of_once (u ∷ terms) once t (inl e) = search (rules, same_from, no_label, Among-map, +ℤ_idr)
 coefficient_of_once (u ∷ terms) once t (inr m) =
     ap₂ ◌+ℤ◌ (ap (λ b. cond b u.1 (pos 0)) (same_apart u.0 t.0 (λ d. once.0 (subst (λ label. Among label (map (λ (w : Term). w.0) terms)) (sym d) (Among-map (λ (w : Term). w.0) t terms m)))))
     (coefficient_of_once terms once.1 t m)

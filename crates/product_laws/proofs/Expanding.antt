@@ -1,9 +1,10 @@
--- If a list expands a product of factors in Schur polynomials, then the product with one more factor is expanded by a sum of classical products:
--- those of the labels of the list with this factor.
-use Rattle.std.proofs.Common.{◌≡◌, ℕ, ◌+◌, ◌≤◌, ◌<◌, inl, inr, List, [], ◌∷◌, ◌++◌, map, flat_map}
+-- If a list of terms c·s_λ expands a product of Schur polynomials, then the product with one more factor s_ν is expanded by the sum of c times the
+-- classical product of λ and ν. Here the *classical product* of some partitions in k variables is the list of terms that expands the product of their
+-- Schur polynomials.
+use Rattle.std.proofs.Common.{◌≡◌, ℕ, ◌+◌, ◌≤◌, ◌<◌, inl, inr, List, [], ◌∷◌, ◌++◌, map, flat_map, rules}
 use Rattle.std.proofs.Common.{Option, Some, None, pos, refl, sym, ◌∙◌, ap, ap₂, subst, arith}
 use Rattle.sym_model.specs.Sum.{Among}
-use Rattle.sym_model.specs.Polynomial.{Poly, Term, Same, nothing, scale, times}
+use Rattle.sym_model.specs.Polynomial.{Poly, Term, Same, nothing, times}
 use Rattle.sym_model.specs.Partition.{IsPartition, rows, size}
 use Rattle.sym_model.specs.Schur.{schur}
 use Rattle.sym_model.specs.GoodTableau.{product_count}
@@ -22,8 +23,6 @@ use Rattle.product_laws.specs.FactorSteps.{multiplied, products_of}
 use Rattle.product_laws.proofs.Expansions.{every_step, limited_step}
 use Rattle.product_laws.specs.CountedProducts.{IsShownIn}
 use Rattle.product_laws.proofs.Growing.{two_rows}
-
--- ---- the classical product of two factors expands their product
 
 pub two_listed : (k m : ℕ) (left right : List ℕ) → IsPartition left → IsPartition right → m ≤ k
     → ((t : Term) → Among t (classical_product k (left ∷ right ∷ [])) → rows t.0 ≤ m)
@@ -45,7 +44,7 @@ two_expand (Some given) k left right p q h shown =
     mult_meets (Some given) left right (as_fractions (classical_product k (left ∷ right ∷ []))) p q
     (two_listed k given left right p q (omega (arith, shown)) (λ t m. let c = classical_product-term k (left ∷ right ∷ []) t m in let f = c.few in omega (arith, shown)))
 
--- ---- an expansion of a product of factors, multiplied label by label with one more factor
+-- ---- an expansion of a product of factors, multiplied term by term with one more factor
 
 each_same : {A : Type 0} (f g : A → WholeTerms) (xs : List A) → ((x : A) → f x ≡ g x)
     → flat_map f xs ≡ flat_map g xs
@@ -53,11 +52,9 @@ each_same f g [] e = refl
 each_same f g (x ∷ xs) e = ap₂ ◌++◌ (e x) (each_same f g xs e)
 
 by_products : (k : ℕ) (next : List ℕ) (terms : WholeTerms) → products_of (λ label. as_fractions (classical_product k (label ∷ next ∷ []))) terms ≡ multiplied k next terms
-by_products k next terms =
-    each_same (λ (t : Term). scale t.1 (numerators (as_fractions (classical_product k (t.0 ∷ next ∷ []))))) (λ (t : Term). scale t.1 (classical_product k (t.0 ∷ next ∷ []))) terms
-    (λ t. ap (λ (l : WholeTerms). scale t.1 l) (numerators-as_fractions (classical_product k (t.0 ∷ next ∷ []))))
+by_products k next terms = search (rules, each_same, numerators-as_fractions)
 
--- if a number of variables is given, no label of the terms has more rows
+-- if a number of variables is given, no label of the terms has more rows than this number
 abbrev HasFewRows : Option ℕ → Terms (List ℕ) → Type 0
 HasFewRows None terms = Unit {0}
 HasFewRows (Some given) terms = (t : List ℕ × Fraction) → Among t terms → rows t.0 ≤ given
@@ -110,8 +107,6 @@ expands_whole given k front next product after q labels few e is shown =
         let f = few u.0 u.1 in
         let d = ap (λ (v : List ℕ × Fraction). rows v.0) u.2 in
         omega (arith, s)
-
--- ---- a product with a factor that has more rows than there are variables is 0
 
 times-nothing_left : (f g : Poly) → Same f nothing → Same (times f g) nothing
 times-nothing_left f g e = times_respects f nothing g g e (Same_refl g)

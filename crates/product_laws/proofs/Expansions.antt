@@ -1,6 +1,6 @@
--- Expansions of products in Schur polynomials, one factor after another.
---     whole_value       if a list with integer coefficients expands f, its polynomial is f
---     expansion_step    if a list expands a product, the sum of the products of its labels with one more factor expands the product with this factor
+-- Expansions in Schur polynomials of products, multiplied by one factor after another.
+--     whole_value       if a list with integer coefficients expands f, the polynomial of the list is f
+--     expansion_step    if a list expands a product, its terms, each multiplied by one more factor, expand the product with this factor
 use Rattle.std.proofs.Common.{◌≤◌, ℕ, List, [], ◌∷◌, ◌++◌, sym, ◌∙◌, ap, pos, ◌*ℤ◌, Some, None}
 use Rattle.sym_model.specs.Sum.{Among}
 use Rattle.sym_model.specs.Polynomial.{Poly, Term, Same, coefficient, join, pair, scale, times}

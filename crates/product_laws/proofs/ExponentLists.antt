@@ -1,5 +1,5 @@
 -- `exponent_lists n d` has exactly the lists of n numbers with the sum d, each once.
-use Rattle.std.proofs.Common.{◌≡◌, ℕ, zero, suc, ◌-◌, Bool, true, false, cond, ◌==◌, List, [], ◌∷◌, map, length, drop, get_or, refl, sym, ◌∙◌, ap, subst, inl, arith}
+use Rattle.std.proofs.Common.{◌≡◌, ℕ, zero, suc, ◌-◌, Bool, cond, List, [], ◌∷◌, map, length, drop, get_or, refl, sym, ◌∙◌, ap, subst, inl, arith, rules}
 use Rattle.std.proofs.lemmas.Bool.{eq-eqb}
 use Rattle.sym_model.specs.Sum.{Among, Once}
 use Rattle.sym_model.specs.Partition.{size}
@@ -19,11 +19,7 @@ among_exponent_lists (a ∷ α) (suc n) d l s =
     (Among-map (λ (β : List ℕ). a ∷ β) α (exponent_lists n (d - a)) (among_exponent_lists α n (d - a) (omega arith) (omega arith)))
 
 pub once_exponent_lists : (n d : ℕ) → Once (exponent_lists n d)
-once_exponent_lists zero d = by (d == 0)
-  where
-    by : (b : Bool) → Once (cond {A = List (List ℕ)} b ([] ∷ []) [])
-    by true = (λ m. m, tt)
-    by false = tt
+once_exponent_lists zero d = search rules
 once_exponent_lists (suc n) d =
     Once-each (λ (c : ℕ). map (λ (β : List ℕ). c ∷ β) (exponent_lists n (d - c))) (down_from d) (once_down_from d)
     (λ a m. Once-map (λ (β : List ℕ). a ∷ β) (exponent_lists n (d - a)) (λ x y p q e. ap (drop 1) e) (once_exponent_lists n (d - a)))

@@ -1,10 +1,12 @@
--- Products of factors that are reflected into the alcove after each factor.
+-- Fusion products: the terms of a product are reflected into the alcove after each factor (Kac and Walton). The beta list of a partition with at most
+-- k rows is λ + (k - 1, .., 1, 0); the partition is in the alcove if the first entry of this list minus the last is less than n. A reflection
+-- subtracts n from the first entry, adds n to the last, and sorts the list, with the sign of sorting. The alternant a_b is det(x_i^(b_j)).
 --     window_value          the coefficient at a label if an alternant a_b is reflected into the alcove, computed from the sum of b and from the
 --                           remainders of its entries
---     window_unique         the reflections of the terms of a_b have the coefficient `window_value` at the label
+--     window_unique         if the terms of a_b are reflected, the sum of their coefficients at the label is `window_value`
 --     reflected_early       reflecting a partition before it is multiplied by a factor does not change the reflected product
 --     fusion_step           reflecting after each factor gives the result of reflecting the whole product once
-use Rattle.std.proofs.Common.{◌≡◌, ◌⊎◌, ℕ, zero, suc, ◌+◌, ◌%◌, ◌<◌, ◌≤◌, ◌==◌, Bool, true, false, cond, List, [], ◌∷◌, ◌++◌, map, length, drop, refl, sym, ◌∙◌, ap, ap₂, subst, inl, inr, arith, ℤ, pos, neg_ℤ, ◌*ℤ◌, Option, Some, None}
+use Rattle.std.proofs.Common.{◌≡◌, ◌⊎◌, ℕ, zero, suc, ◌+◌, ◌%◌, ◌<◌, ◌≤◌, ◌==◌, Bool, true, false, cond, List, [], ◌∷◌, ◌++◌, map, length, drop, refl, sym, ◌∙◌, ap, ap₂, subst, inl, inr, arith, ℤ, pos, neg_ℤ, ◌*ℤ◌, Option, Some, None, rules}
 use Rattle.std.proofs.lemmas.Bool.{cases_eq, eq-eqb, eqb-true, le-leb, or_cases}
 use Rattle.std.proofs.lemmas.List.{length-map, map-append}
 use Rattle.std.proofs.Math.Nat.{mod-mod, mod-add-mod}
@@ -39,8 +41,6 @@ use Rattle.product_laws.proofs.Straightened.{IsShape, on_strict, pair-value, at_
 use Rattle.product_laws.proofs.ManyFactors.{sums-schur, added, join-beta, pair_shapes, two_value, step_value}
 use Rattle.alternant_laws.proofs.FailingColumns.{at_sum}
 use Rattle.strip_laws.proofs.Reflections.{last_of}
-
--- ---- lists in which each entry is replaced by the number with the same remainder in a window of n numbers
 
 -- each entry of the list replaced by the number of the window [t, t + n) with the same remainder modulo n
 abbrev pub ups : ℕ → ℕ → List ℕ → List ℕ
@@ -83,7 +83,7 @@ value-negated false true true sign = refl
 value-negated false true false sign = refl
 value-negated false false there sign = refl
 
--- if u has no equal entries, sorts to the beta list of the label, and has the sum `sum`: the sign of sorting u; otherwise 0
+-- the sign of sorting u, if u has no equal entries, has the sum `sum` and, when sorted, is the beta list of the label; otherwise 0
 abbrev sorted_value : List ℕ → List ℕ → ℕ → ℤ
 sorted_value label u sum = value (has_equal_entries u) (size u == sum) (same (from_beta (sorted_falling u)) label) (sorting_sign u)
 
@@ -91,30 +91,12 @@ abbrev pub window_value : ℕ → ℕ → List ℕ → List ℕ → ℤ
 window_value n t label b = sorted_value label (ups n t b) (size b)
 
 sorted_value-exchange : (label left : List ℕ) (x y : ℕ) (right : List ℕ) (sum : ℕ) → sorted_value label (left ++ (x ∷ y ∷ right)) sum ≡ neg_ℤ (sorted_value label (left ++ (y ∷ x ∷ right)) sum)
-sorted_value-exchange label left x y right sum = by (cases_eq x y)
-  where
-    of : List ℕ → Bool → ℤ → ℤ
-    of u equal sign = value equal (size u == sum) (same (from_beta (sorted_falling u)) label) sign
-
-    by : (x ≡ y) ⊎ (x ≡ y → ⊥) → sorted_value label (left ++ (x ∷ y ∷ right)) sum ≡ neg_ℤ (sorted_value label (left ++ (y ∷ x ∷ right)) sum)
-    by (inl e) =
-        ap (λ v. value v (size (left ++ (x ∷ y ∷ right)) == sum) (same (from_beta (sorted_falling (left ++ (x ∷ y ∷ right)))) label) (sorting_sign (left ++ (x ∷ y ∷ right)))) (equal_inside left x y right e)
-        ∙ sym (ap (λ v. neg_ℤ (value v (size (left ++ (y ∷ x ∷ right)) == sum) (same (from_beta (sorted_falling (left ++ (y ∷ x ∷ right)))) label) (sorting_sign (left ++ (y ∷ x ∷ right))))) (equal_inside left y x right (sym e)))
-    by (inr n) =
-        ap (λ v. value v (size (left ++ (x ∷ y ∷ right)) == sum) (same (from_beta (sorted_falling (left ++ (x ∷ y ∷ right)))) label) (sorting_sign (left ++ (x ∷ y ∷ right)))) (equal-exchange left x y right)
-        ∙ ap (λ v. value (has_equal_entries (left ++ (y ∷ x ∷ right))) (v == sum) (same (from_beta (sorted_falling (left ++ (x ∷ y ∷ right)))) label) (sorting_sign (left ++ (x ∷ y ∷ right)))) (size-exchange left x y right)
-        ∙ ap (λ v. value (has_equal_entries (left ++ (y ∷ x ∷ right))) (size (left ++ (y ∷ x ∷ right)) == sum) (same (from_beta v) label) (sorting_sign (left ++ (x ∷ y ∷ right)))) (sorted-exchange left x y right)
-        ∙ ap (λ v. value (has_equal_entries (left ++ (y ∷ x ∷ right))) (size (left ++ (y ∷ x ∷ right)) == sum) (same (from_beta (sorted_falling (left ++ (y ∷ x ∷ right)))) label) v) (sorting_sign-exchange left x y right n)
-        ∙ value-negated (has_equal_entries (left ++ (y ∷ x ∷ right))) (size (left ++ (y ∷ x ∷ right)) == sum) (same (from_beta (sorted_falling (left ++ (y ∷ x ∷ right)))) label) (sorting_sign (left ++ (y ∷ x ∷ right)))
+sorted_value-exchange label left x y right sum =
+    search (rules, cases_eq, neg_ℤ, equal_inside, equal-exchange, size-exchange, sorted-exchange, sorting_sign-exchange, value-negated)
 
 window_value-exchange : (n t : ℕ) (label left : List ℕ) (x y : ℕ) (right : List ℕ) → window_value n t label (left ++ (x ∷ y ∷ right)) ≡ neg_ℤ (window_value n t label (left ++ (y ∷ x ∷ right)))
-window_value-exchange n t label left x y right =
-    ap (λ u. sorted_value label u (size (left ++ (x ∷ y ∷ right)))) (map-append (up n t) left (x ∷ y ∷ right))
-    ∙ sorted_value-exchange label (ups n t left) (up n t x) (up n t y) (ups n t right) (size (left ++ (x ∷ y ∷ right)))
-    ∙ ap (λ s. neg_ℤ (sorted_value label (ups n t left ++ (up n t y ∷ up n t x ∷ ups n t right)) s)) (size-exchange left x y right)
-    ∙ ap (λ u. neg_ℤ (sorted_value label u (size (left ++ (y ∷ x ∷ right))))) (sym (map-append (up n t) left (y ∷ x ∷ right)))
+window_value-exchange n t label left x y right = search (rules, map-append, sorted_value-exchange, neg_ℤ, size-exchange)
 
--- `window_value n t label b` depends only on the sum of b and on the remainders of its entries modulo n
 window_value-periodic : (n t : ℕ) (label b c : List ℕ) → remainders n b ≡ remainders n c → size b ≡ size c → window_value n t label b ≡ window_value n t label c
 window_value-periodic n t label b c e s =
     ap₂ (sorted_value label) (sym (ups_of_remainders n t b) ∙ ap (ups n t) e ∙ ups_of_remainders n t c) s
@@ -122,7 +104,7 @@ window_value-periodic n t label b c e s =
 window_value-equal : (n t : ℕ) (label b : List ℕ) → has_equal_entries (ups n t b) ≡ true → window_value n t label b ≡ pos 0
 window_value-equal n t label b e = ap (λ v. value v (size (ups n t b) == size b) (same (from_beta (sorted_falling (ups n t b))) label) (sorting_sign (ups n t b))) e
 
--- ---- `window_value` for a strictly decreasing list of exponents is the coefficient at the label of its reduction into the alcove
+-- ---- strictly decreasing exponents b: `window_value` is the coefficient of the label in the reflection of a_b into the alcove
 
 -- the least entry of the beta list of the label, at which the window of n numbers begins
 abbrev pub start_of : ℕ → List ℕ → ℕ
@@ -142,9 +124,6 @@ window_value-strict k n label b h l f = by (reflected_into_alcove n b) (alcove_r
     by None r = window_value-equal n (start_of k label) label b (equal_ups n (start_of k label) b r)
     by (Some a) (distinct, end, s, lies, sign) = here (same_or_not (from_beta a.0) label)
       where
-        w : ℕ
-        w = start_of k label
-
         here : (from_beta a.0 ≡ label) ⊎ (from_beta a.0 ≡ label → ⊥) → window_value n (start_of k label) label b ≡ cond (same (from_beta a.0) label) a.1 (pos 0)
         here (inl e) =
             let long : length a.0 ≡ k = length-end n b a.0 end ∙ l in
@@ -170,8 +149,6 @@ window_value-strict k n label b h l f = by (reflected_into_alcove n b) (alcove_r
             none false true e (inl there) =
                 absurd (other (ap from_beta (alcove_only n b a.0 (sorted_falling (ups n (start_of k label) b)) h end (end_found n (start_of k label) b h distinct (eqb-true _ _ e))) ∙ there))
             none false true e (inr n') = ap (λ v. cond v (sorting_sign (ups n (start_of k label) b)) (pos 0)) (same_apart (from_beta (sorted_falling (ups n (start_of k label) b))) label n')
-
--- ---- the reflections of an alternant a_b for any list b of k exponents
 
 window_unique : (k n : ℕ) (label b : List ℕ) → 1 ≤ n → length b ≡ k → pair (alternant b) (on_strict (alcove_share k n label)) ≡ window_value n (start_of k label) label b
 window_unique k n label b h = sort_back P b kept sorted
@@ -202,8 +179,6 @@ window_unique k n label b h = sort_back P b kept sorted
             alternant-equal (sorted_falling b) (on_strict (alcove_share k n label)) e
             ∙ sym (window_value-equal n (start_of k label) label (sorted_falling b) (equal_map (up n (start_of k label)) (sorted_falling b) e))
         by false e = at_strict_list (sorted_falling b) l (sorted_strict b (sym (equal-sorted b) ∙ e))
-
--- ---- the coefficient at a label if the terms of a_b·s_next are reflected into the alcove
 
 -- the coefficient at `label` of the list that results if the terms of a_b·s_next are reflected into the alcove
 abbrev multiplied_value : ℕ → ℕ → List ℕ → List ℕ → List ℕ → ℤ
@@ -239,7 +214,6 @@ multiplied-periodic k n next label b c h q l m e s =
 
 -- ---- lists b in which two entries leave the same remainder modulo n: `multiplied_value` is 0
 
--- if r is the remainder modulo n of some entry of b, then b is a list `middle`, followed by an entry y with the remainder r, and by a list `right`
 place_of : (n r : ℕ) (b : List ℕ) → has r (remainders n b) ≡ true → (middle : List ℕ) × (y : ℕ) × (right : List ℕ) × (b ≡ middle ++ (y ∷ right)) × (y % n ≡ r)
 place_of n r [] e = absurd (cc)
 place_of n r (c ∷ b) e = by (or_cases (c % n == r) (has r (remainders n b)) e) (λ t. place_of n r b t)
@@ -354,8 +328,6 @@ reflected_early k n next label parts h q p =
     (sym (le-leb (rows parts) k p.few))
     (subst (λ z. IsReducedEarly k n next label z (as_partition (reflected_into_alcove n (beta k parts))))
     (sym (ap (λ b. pair (alternant b) (added k next (on_strict (alcove_share k n label)))) (join-beta k parts p))) r)
-
--- ---- the reflected product with one more factor, computed from the reflected product of the earlier factors
 
 pair-reflected : (k n : ℕ) (terms : WholeTerms) (χ : List ℕ → ℤ) → pair (reflected_terms k n terms) χ ≡ pair terms (λ parts. at_reduced χ (alcove_reduction k n parts))
 pair-reflected k n terms χ =

@@ -1,10 +1,11 @@
--- Reflecting into the alcove after each factor gives the same as reflecting the whole product once.
---     fusion_steps_meet    the result of multiplying and reflecting, factor by factor, is the whole classical product, reflected once
---     fusion_steps_answer  this result satisfies the definition of the answer of the command `fusion`
+-- Fusion products: reflecting into the alcove after each factor gives the same as reflecting the whole product once. The *classical product* of the
+-- factors is the list of terms that expands the product of their Schur polynomials.
+--     fusion_steps_meet    the result of multiplying and reflecting, factor by factor, is the classical product of all factors, reflected once
+--     fusion_steps_answer  so this result is a reduction of the classical product into the alcove (`IsAlcoveReductionOf`)
 --     fusion_in_steps      a collected list (`AreCollected`) that is the classical product, reflected once, results from multiplying and reflecting
 --                          factor by factor
-use Rattle.std.proofs.Common.{◌≡◌, ℕ, ◌+◌, ◌≤◌, List, [], ◌∷◌, ◌++◌, length, append-nil}
-use Rattle.std.proofs.Common.{append_assoc, ℤ, pos, inl, refl, sym, ◌∙◌, ap, subst, arith}
+use Rattle.std.proofs.Common.{◌≡◌, ℕ, ◌+◌, ◌≤◌, List, [], ◌∷◌, ◌++◌, length, append-nil, rules}
+use Rattle.std.proofs.Common.{append_assoc, pos, inl, refl, sym, ◌∙◌, ap, subst, arith}
 use Rattle.sym_model.specs.Polynomial.{Same, same, coefficient, scale}
 use Rattle.sym_model.specs.WholeTerms.{WholeTerms, as_fractions}
 use Rattle.sym_model.specs.Products.{classical_product}
@@ -21,8 +22,7 @@ use Rattle.product_laws.proofs.LeadingSteps.{last_changed, last_is, some_lead}
 use Rattle.sym_model.specs.Partition.{ArePartitions}
 use Rattle.sym_model.specs.Reductions.{IsAlcoveReductionOf}
 
--- ---- if all lists of front ++ back are partitions, so are those of `front`; products that are reflected after each factor are the whole product,
--- reflected once
+-- ---- products that are reflected after each factor are the whole product, reflected once
 
 pub are_front : (front back : List (List ℕ)) → ArePartitions (front ++ back) → ArePartitions front
 are_front front back p parts m = p parts (Among-append_left parts front back m)
@@ -30,10 +30,7 @@ are_front front back p parts m = p parts (Among-append_left parts front back m)
 later_steps : (k n : ℕ) (front factors : List (List ℕ)) (terms last : WholeTerms) → 1 ≤ n → ArePartitions (front ++ factors)
     → Same terms (reflected_terms k n (classical_product k front)) → StepsLead (IsFusionStep k n) terms factors last
     → Same last (reflected_terms k n (classical_product k (front ++ factors)))
-later_steps k n front [] terms last h p e lead label =
-    ap (λ (l : WholeTerms). coefficient l label) (sym lead)
-    ∙ e label
-    ∙ ap (λ (l : List (List ℕ)). coefficient (reflected_terms k n (classical_product k l)) label) (sym (append-nil front))
+later_steps k n front [] terms last h p e lead label = search rules
 later_steps k n front (factor ∷ factors) terms last h p e lead label =
     let whole : (front ++ (factor ∷ [])) ++ factors ≡ front ++ (factor ∷ factors) = append_assoc front (factor ∷ []) factors in
     let q : ArePartitions ((front ++ (factor ∷ [])) ++ factors) = subst ArePartitions (sym whole) p in
@@ -44,12 +41,9 @@ later_steps k n front (factor ∷ factors) terms last h p e lead label =
     lead.2 label
     ∙ ap (λ (l : List (List ℕ)). coefficient (reflected_terms k n (classical_product k l)) label) whole
 
--- multiplying a list of terms by 1 does not change it
 pub scale_one : (xs : WholeTerms) → scale (pos 1) xs ≡ xs
 scale_one [] = refl
-scale_one (x ∷ xs) =
-    let term : ℤ → WholeTerms → WholeTerms = λ c l. (x.0, c) ∷ l in
-    ap (λ c. term c (scale (pos 1) xs)) (one-product x.1) ∙ ap (term x.1) (scale_one xs)
+scale_one (x ∷ xs) = search (rules, one-product, (scale_one xs))
 
 first_step : (k n : ℕ) (first second : List ℕ) → fused k n second ((first, pos 1) ∷ []) ≡ reflected_terms k n (classical_product k (first ∷ second ∷ []))
 first_step k n first second =
@@ -64,18 +58,13 @@ fusion_steps_meet k n (first ∷ second ∷ factors) terms h l p s =
     (λ label. s.1.sums label ∙ ap (λ (xs : WholeTerms). coefficient xs label) (first_step k n first second))
     s.2
 
--- if a list of terms with integer coefficients results from multiplying and reflecting, factor by factor (`IsReflectedInSteps`), it satisfies the
--- definition of the answer of `fusion`
+-- if a list of terms with integer coefficients results from multiplying and reflecting, factor by factor (`IsReflectedInSteps`), it is the classical
+-- product of all factors, reduced into the alcove (`IsAlcoveReductionOf`)
 pub fusion_steps_answer : (k level : ℕ) (factors : List (List ℕ)) (terms : WholeTerms)
     → 1 ≤ k + level → 2 ≤ length factors → ArePartitions factors
     → IsReflectedInSteps k (k + level) factors terms
     → IsAlcoveReductionOf k (k + level) (classical_product k factors) (as_fractions terms)
-fusion_steps_answer k level factors terms h l p s =
-    let reflected = reflected_terms k (k + level) (classical_product k factors) in
-    subst (λ (list : WholeTerms). Same list reflected) (sym (numerators-as_fractions terms))
-    (fusion_steps_meet k (k + level) factors terms h l p s)
-
--- ---- a collected list (`AreCollected`) that is the whole product, reflected once, results from multiplying and reflecting factor by factor
+fusion_steps_answer k level factors terms h l p s = search (rules, numerators-as_fractions, fusion_steps_meet)
 
 pub fusion_step_some : (k n : ℕ) (factor : List ℕ) (terms : WholeTerms) → (next : WholeTerms) × IsFusionStep k n factor terms next
 fusion_step_some k n factor terms = (

@@ -1,7 +1,6 @@
 -- A list of terms with the terms of equal labels collected: the resulting list has each label once, no coefficient 0, and the same coefficients.
-use Rattle.std.proofs.Common.{◌≡◌, ◌⊎◌, zero, suc, Bool, true, false, cond, [], ◌∷◌, sym, ◌∙◌, ap, refl, inl, inr, arith, ℤ, pos, negsuc, ◌+ℤ◌}
+use Rattle.std.proofs.Common.{◌≡◌, ◌⊎◌, zero, suc, Bool, true, false, cond, [], ◌∷◌, ◌∙◌, ap, refl, inl, inr, arith, ℤ, pos, negsuc, ◌+ℤ◌, rules}
 use Rattle.std.proofs.lemmas.Int.{ints}
-use Rattle.std.proofs.Math.IntN.{+ℤ_idl}
 use Rattle.sym_model.specs.Sum.{Among}
 use Rattle.sym_model.specs.WholeTerms.{WholeTermsOf, coefficient_by}
 use Rattle.sym_model.specs.ReductionSteps.{AreCollected}
@@ -24,41 +23,18 @@ module _ {L : Type 0} (test : L → L → Bool) (test_true : (a b : L) → test 
   gathered [] = []
   gathered (x ∷ xs) = put x.0 x.1 (gathered xs)
 
-  -- ---- collecting the terms of a list does not change its coefficients
-
   coefficient-kept : (label : L) (c : ℤ) (xs : WholeTermsOf L) (other : L) → coefficient_by test (kept label c xs) other ≡ cond (test label other) c (pos 0) +ℤ coefficient_by test xs other
-  coefficient-kept label (pos zero) xs other = by (test label other)
-    where
-      by : (b : Bool) → coefficient_by test xs other ≡ cond b (pos 0) (pos 0) +ℤ coefficient_by test xs other
-      by true = sym (+ℤ_idl (coefficient_by test xs other))
-      by false = sym (+ℤ_idl (coefficient_by test xs other))
+  coefficient-kept label (pos zero) xs other = search rules
   coefficient-kept label (pos (suc n)) xs other = refl
   coefficient-kept label (negsuc n) xs other = refl
 
   coefficient-put : (label : L) (c : ℤ) (xs : WholeTermsOf L) (other : L) → coefficient_by test (put label c xs) other ≡ cond (test label other) c (pos 0) +ℤ coefficient_by test xs other
   coefficient-put label c [] other = coefficient-kept label c [] other
-  coefficient-put label c (x ∷ xs) other = by (test x.0 label) refl (coefficient-put label c xs other)
-    where
-      joined : (b : Bool) (y z r : ℤ) → cond b (y +ℤ z) (pos 0) +ℤ r ≡ cond b z (pos 0) +ℤ (cond b y (pos 0) +ℤ r)
-      joined true y z r = omega (arith, ints)
-      joined false y z r = omega (arith, ints)
-
-      by : (b : Bool) → test x.0 label ≡ b → coefficient_by test (put label c xs) other ≡ cond (test label other) c (pos 0) +ℤ coefficient_by test xs other
-          → coefficient_by test (cond b (kept x.0 (x.1 +ℤ c) xs) (x ∷ put label c xs)) other
-          ≡ cond (test label other) c (pos 0) +ℤ (cond (test x.0 other) x.1 (pos 0) +ℤ coefficient_by test xs other)
-      by true e r =
-          coefficient-kept x.0 (x.1 +ℤ c) xs other
-          ∙ joined (test x.0 other) x.1 c (coefficient_by test xs other)
-          ∙ ap (λ (l : L). cond (test l other) c (pos 0) +ℤ (cond (test x.0 other) x.1 (pos 0) +ℤ coefficient_by test xs other)) (test_true x.0 label e)
-      by false e r =
-          ap (λ z. cond (test x.0 other) x.1 (pos 0) +ℤ z) r
-          ∙ sum_left_comm (cond (test x.0 other) x.1 (pos 0)) (cond (test label other) c (pos 0)) (coefficient_by test xs other)
+  coefficient-put label c (x ∷ xs) other = search (rules, ints, coefficient-kept, sum_left_comm, (coefficient-put label c xs other))
 
   pub coefficient-gathered : (xs : WholeTermsOf L) (other : L) → coefficient_by test (gathered xs) other ≡ coefficient_by test xs other
   coefficient-gathered [] other = refl
   coefficient-gathered (x ∷ xs) other = coefficient-put x.0 x.1 (gathered xs) other ∙ ap (λ z. cond (test x.0 other) x.1 (pos 0) +ℤ z) (coefficient-gathered xs other)
-
-  -- ---- the collected list has each label once, and no coefficient 0
 
   collected-kept : (label : L) (c : ℤ) (xs : WholeTermsOf L) → ((u : L × ℤ) → Among u xs → test label u.0 ≡ false) → AreCollected test xs → AreCollected test (kept label c xs)
   collected-kept label (pos zero) xs apart h = h
@@ -72,7 +48,6 @@ module _ {L : Type 0} (test : L → L → Bool) (test_true : (a b : L) → test 
   among-kept label (negsuc n) xs u (inl e) = inl (ap (λ (v : L × ℤ). v.0) e)
   among-kept label (negsuc n) xs u (inr m) = inr m
 
-  -- each label of the list `put label c xs` is `label` or a label of xs
   among-put : (label : L) (c : ℤ) (xs : WholeTermsOf L) (u : L × ℤ) → Among u (put label c xs) → (u.0 ≡ label) ⊎ ((v : L × ℤ) × Among v xs × (u.0 ≡ v.0))
   among-put label c [] u m = elim (among-kept label c [] u m) [ inl e ↦ inl e | inr n ↦ absurd n ]
   among-put label c (x ∷ xs) u m = by (test x.0 label) (among-put label c xs u) m

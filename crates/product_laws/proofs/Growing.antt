@@ -1,6 +1,7 @@
 -- Classical products with one more factor: no coefficient is negative, no label has more rows than all factors together, and if the product of the
--- earlier factors has a coefficient of at least c, so has the product with one more factor.
-use Rattle.std.proofs.Common.{◌≡◌, ℕ, ◌+◌, ◌≤◌, ◌<◌, ◌⊎◌, inl, inr, Bool, true, false, cond, List, [], ◌∷◌, ◌++◌, append_assoc, append-nil, map, refl, sym, ◌∙◌, ap, subst, arith, ℤ, pos, ◌*ℤ◌, filter}
+-- earlier factors has a coefficient of at least c, so has the product with one more factor. The *classical product* of some partitions in k variables
+-- is the list of terms that expands the product of their Schur polynomials; its labels are partitions with at most k rows.
+use Rattle.std.proofs.Common.{◌≡◌, ℕ, ◌+◌, ◌≤◌, ◌<◌, ◌⊎◌, inl, inr, Bool, true, false, cond, List, [], ◌∷◌, ◌++◌, append_assoc, append-nil, map, refl, sym, ◌∙◌, ap, subst, arith, ℤ, pos, ◌*ℤ◌, filter, rules}
 use Rattle.std.specs.Prelude.{◌≤ℤ◌, nat_abs, nat_le, nat_lt}
 use Rattle.std.proofs.lemmas.Bool.{cases_lt}
 use Rattle.std.proofs.lemmas.Int.{ints}
@@ -28,13 +29,10 @@ use Rattle.product_laws.proofs.CountLists.{counts-coefficient, counts-scale, cou
 use Rattle.product_laws.proofs.SomeLabel.{some_label}
 use Rattle.sym_model.proofs.Parts.{size-map_push}
 
--- the coefficient of a term of the classical product is the Schur coefficient of the product of the factors at the label of the term
+-- the coefficient c of each term c·s_ν of the classical product is the Schur coefficient at ν of the product of the factors
 pub term_is : (k : ℕ) (factors : List (List ℕ)) (t : Term) → Among t (classical_product k factors) → t.1 ≡ schur_coefficient k t.0 (schur_product factors k)
-term_is k factors t m =
-    let c = classical_product-term k factors t m in
-    sym (coefficient_of_once (classical_product k factors) (classical_product-once k factors) t m) ∙ classical_product-coefficient k factors t.0 c.partition c.few
+term_is k factors t m = search (rules, classical_product-term, coefficient_of_once, classical_product-once, classical_product-coefficient)
 
--- the size of each label of a classical product is the sum of the sizes of the factors
 pub label_size : (k : ℕ) (factors : List (List ℕ)) (t : Term) → Among t (classical_product k factors) → size t.0 ≡ size (map size factors)
 label_size k factors t m =
     let few : List (List ℕ) = filter (λ (parts : List ℕ). nat_le (rows parts) k) (partitions_of (size (map size factors))) in
@@ -42,8 +40,6 @@ label_size k factors t m =
     let b = Among_from_map (λ (parts : List ℕ). let term : Term = (parts, schur_coefficient k parts (schur_product factors k)) in term) t few a.0 in
     let c = Among_from_select (λ (parts : List ℕ). nat_le (rows parts) k) b.0 (partitions_of (size (map size factors))) b.1 in
     ap (λ (u : Term). size u.0) b.2 ∙ (partitions_of-tells (size (map size factors)) b.0 c.0).1
-
--- ---- the classical product of two factors has no negative coefficient
 
 pub two_counts : (k : ℕ) (left right : List ℕ) → IsPartition left → IsPartition right → AreCounts (classical_product k (left ∷ right ∷ []))
 two_counts k left right p q t m =
@@ -64,8 +60,6 @@ two_rows k left right p q h t m = by (cases_lt (rows left + rows right) (rows t.
         (term_is k (left ∷ right ∷ []) t m
         ∙ coefficient_counts k k left right [] t.0 (omega arith) p q IsPartition-none c.partition c.few
         ∙ no_long_labels k left right [] t.0 p q IsPartition-none (contains_nothing right) h l))
-
--- ---- classical products without negative coefficients, and with bounded numbers of rows
 
 -- no coefficient of the classical product of the factors is negative, and no label has more rows than all factors together
 pub record IsCounted (k : ℕ) (factors : List (List ℕ)) : Type 0 where
@@ -93,14 +87,12 @@ counted-one k parts p = record {
 
 pub multiplied_counts : (k : ℕ) (next : List ℕ) (terms : WholeTerms) → ((t : Term) → Among t terms → IsPartition t.0) → IsPartition next → AreCounts terms
     → AreCounts (multiplied k next terms)
-multiplied_counts k next terms is q c =
-    counts-each (λ (t : Term). scale t.1 (classical_product k (t.0 ∷ next ∷ []))) terms
-    (λ t m. counts-scale t.1 (classical_product k (t.0 ∷ next ∷ [])) (c t m) (two_counts k t.0 next (is t m) q))
+multiplied_counts k next terms is q c = search (rules, counts-each, counts-scale, two_counts)
 
 labels_are : (k : ℕ) (front : List (List ℕ)) (t : Term) → Among t (classical_product k front) → IsPartition t.0
 labels_are k front t m = let c = classical_product-term k front t m in c.partition
 
--- `label` is a label of the classical product, in k variables, of `next` and the label of some term of `terms`
+-- some term of `terms` has a label λ such that `label` is a label of the classical product of λ and `next` in k variables
 record ComesFrom (k : ℕ) (next : List ℕ) (terms : WholeTerms) (label : List ℕ) : Type 0 where
   from : Term
   among : Among from terms
@@ -115,13 +107,9 @@ comes_from k next terms label h =
     let w = Among_from_map (λ (v : Term). let scaled : Term = (v.0, s.0.1 *ℤ v.1) in scaled) u.0 (classical_product k (s.0.0 ∷ next ∷ [])) s.2 in
     record { from = s.0; among = s.1; term = w.0; made = w.1; is = sym (ap (λ (v : Term). v.0) w.2) ∙ u.2 }
 
--- each term of the classical product of the factors `front` and `next` has the coefficient that its label has in the list `multiplied`: the sum of
--- the c·(classical product of λ and `next`) over the terms c, λ of the classical product of `front`
 step_coefficient : (k : ℕ) (front : List (List ℕ)) (next : List ℕ) → ArePartitions front → IsPartition next → (t : Term)
     → Among t (classical_product k (front ++ (next ∷ []))) → t.1 ≡ coefficient (multiplied k next (classical_product k front)) t.0
-step_coefficient k front next p q t m =
-    sym (coefficient_of_once (classical_product k (front ++ (next ∷ []))) (classical_product-once k (front ++ (next ∷ []))) t m)
-    ∙ classical_step k front next p q t.0
+step_coefficient k front next p q t m = search (rules, coefficient_of_once, classical_product-once, classical_step)
 
 pub counted-push : (k : ℕ) (front : List (List ℕ)) (next : List ℕ) → ArePartitions front → IsPartition next → IsCounted k front → IsCounted k (front ++ (next ∷ []))
 counted-push k front next p q h = record {
@@ -139,8 +127,8 @@ counted-push k front next p q h = record {
       omega arith;
 }
 
--- if the classical product of `front` has a coefficient c or more at a partition with at most k rows, so has the classical product of `front` and one
--- more factor `next` of at most k rows
+-- if the classical product of `front` has a coefficient of at least c at some partition with at most k rows, so has the classical product of `front`
+-- and one more factor `next`, provided that `next` has at most k rows and c is at least 1
 
 step_reaches : (k c : ℕ) (front : List (List ℕ)) (next : List ℕ) → ArePartitions front → IsPartition next → rows next ≤ k → 1 ≤ c → IsCounted k front
     → Reaches k c (classical_product k front) → Reaches k c (classical_product k (front ++ (next ∷ [])))

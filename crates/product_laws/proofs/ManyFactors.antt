@@ -1,8 +1,9 @@
--- The classical product of several factors, multiplied one after another.
---     classical_pairing    the sum of c·a_(ν + ρ) over the terms c, ν of the classical product is a_ρ times the product of the Schur polynomials
---     classical_step       the classical product with one more factor is the sum, over the terms c, ν of the classical product without it, of c times
+-- The *classical product* of some partitions in k variables is the list of terms that expands the product of their Schur polynomials. Here it is
+-- multiplied by one factor after another.
+--     classical_pairing    the sum of c·a_(ν + ρ) over the terms c·s_ν of the classical product is a_ρ times the product of the Schur polynomials
+--     classical_step       the classical product with one more factor is the sum, over the terms c·s_ν of the product without it, of c times
 --                          the classical product of ν and this factor
-use Rattle.std.proofs.Common.{◌≡◌, ℕ, List, [], ◌∷◌, ◌++◌, length, refl, sym, ◌∙◌, ap, subst, inl, inr, arith, ℤ, ◌*ℤ◌}
+use Rattle.std.proofs.Common.{◌≡◌, ℕ, List, [], ◌∷◌, ◌++◌, length, refl, sym, ◌∙◌, ap, subst, inl, inr, arith, ℤ, ◌*ℤ◌, rules}
 use Rattle.sym_model.specs.Polynomial.{Poly, Term, In, Same, join, one, times, pair, no_exponents, scale}
 use Rattle.sym_model.specs.Partition.{IsPartition, ArePartitions}
 use Rattle.sym_model.specs.Schur.{schur}
@@ -12,7 +13,7 @@ use Rattle.sym_model.specs.Products.{schur_product, classical_product}
 use Rattle.sym_model.proofs.Sums.{total_ext, total_among}
 use Rattle.sym_model.proofs.Exponents.{length-join_same, join_assoc, join_comm, join_zeros}
 use Rattle.sym_model.proofs.SortedParts.{IsPartition-none}
-use Rattle.sym_model.proofs.Polynomials.{at_only, coefficient_pair, pair_ext, pair_in, pair_one, pair_times, pair_each, pair_scale, pair_determined, same_from_pair, Same_refl, Same_sym, Same_trans, times_respects, In_one, In_times}
+use Rattle.sym_model.proofs.Polynomials.{at_only, coefficient_pair, pair_ext, pair_in, pair_one, pair_times, pair_each, pair_scale, pair_determined, same_from_pair, Same_refl, Same_sym, times_respects, In_one, In_times}
 use Rattle.sym_model.proofs.PolynomialLaws.{times_assoc, one-times, times-one}
 use Rattle.sym_model.proofs.Parts.{length-staircase}
 use Rattle.alternant_laws.proofs.TableauInvolution.{symmetric-skew_schur}
@@ -72,8 +73,6 @@ sums-product k (parts ∷ []) p = sums-schur k parts (p parts (inl refl))
 sums-product k (parts ∷ next ∷ factors) p =
     sums-times k (schur parts k) (schur_product (next ∷ factors) k) (sums-schur k parts (p parts (inl refl))) (sums-product k (next ∷ factors) (λ x m. p x (inr m)))
 
--- ---- the classical product is the straightened sum of the alternants a_(ρ + α) over the terms of the product
-
 classical_straightened : (k : ℕ) (factors : List (List ℕ)) → ArePartitions factors → Same (classical_product k factors) (straightened_sum (staircase k) (schur_product factors k))
 classical_straightened k factors p =
     same_shapes k (classical_product k factors) (straightened_sum (staircase k) f)
@@ -104,10 +103,7 @@ classical_pairing k factors φ p =
 pub product-last : (k : ℕ) (front : List (List ℕ)) (next : List ℕ) → Same (schur_product (front ++ (next ∷ [])) k) (times (schur_product front k) (schur next k))
 product-last k [] next = Same_sym _ _ (one-times k (schur next k) (In-skew_schur k next []))
 product-last k (parts ∷ []) next = Same_refl (times (schur parts k) (schur next k))
-product-last k (parts ∷ second ∷ front) next =
-    Same_trans _ (times (schur parts k) (times (schur_product (second ∷ front) k) (schur next k))) _
-    (times_respects (schur parts k) (schur parts k) _ _ (Same_refl (schur parts k)) (product-last k (second ∷ front) next))
-    (Same_sym _ _ (times_assoc (schur parts k) (schur_product (second ∷ front) k) (schur next k)))
+product-last k (parts ∷ second ∷ front) next = search (rules, times_respects, times_assoc, (product-last k (second ∷ front) next))
 
 -- the sum of c·φ(γ + δ) over the terms c·x^δ of s_next in k variables
 abbrev pub added : ℕ → List ℕ → (List ℕ → ℤ) → List ℕ → ℤ
@@ -147,7 +143,7 @@ two_pairing k parts next φ p q =
     are_two x (inr (inl e)) = subst IsPartition (sym e) q
     are_two x (inr (inr m)) = absurd m
 
--- ---- the list λ + ρ is the beta list of λ; pairings of alternants with functions that depend on partitions
+-- ---- λ + ρ, with k entries, is the beta list of λ
 
 pub join-beta : (k : ℕ) (parts : List ℕ) → IsShape k parts → join parts (staircase k) ≡ beta k parts
 join-beta k parts p =
@@ -157,16 +153,11 @@ join-beta k parts p =
     ∙ b
 
 pub at_shape-value : (k : ℕ) (χ : List ℕ → ℤ) (parts : List ℕ) → IsShape k parts → at_sum k (on_strict χ) parts ≡ χ parts
-at_shape-value k χ parts p =
-    ap (λ b. pair (alternant b) (on_strict χ)) (join-beta k parts p)
-    ∙ pair-value (beta k parts) χ (beta_strict k parts p.partition.falls)
-    ∙ ap χ (from_beta-beta k parts p.partition p.few)
+at_shape-value k χ parts p = search (rules, on_strict, join-beta, pair-value, beta_strict, from_beta-beta)
 
 pub pair_shapes : (k : ℕ) (factors : List (List ℕ)) (χ ψ : List ℕ → ℤ) → ((parts : List ℕ) → IsShape k parts → χ parts ≡ ψ parts)
     → pair (classical_product k factors) χ ≡ pair (classical_product k factors) ψ
-pair_shapes k factors χ ψ e =
-    total_among (λ (t : Term). t.1 *ℤ χ t.0) (λ (t : Term). t.1 *ℤ ψ t.0) (classical_product k factors)
-    (λ t m. let c = classical_product-term k factors t m in ap (λ z. t.1 *ℤ z) (e t.0 (record { partition = c.partition; few = c.few })))
+pair_shapes k factors χ ψ e = search (rules, total_among, classical_product-term)
 
 pub two_value : (k : ℕ) (parts next : List ℕ) (χ : List ℕ → ℤ) → IsShape k parts → IsPartition next
     → pair (classical_product k (parts ∷ next ∷ [])) χ ≡ at_sum k (added k next (on_strict χ)) parts

@@ -1,6 +1,6 @@
--- Pieri's rules: in the sum of the alternants a_(μ + ρ + α), the terms for which μ + α is not μ with a strip added cancel in pairs, or have two equal
--- exponents.
-use Rattle.std.proofs.Common.{◌≡◌, ◌⊎◌, ℕ, zero, suc, ◌+◌, ◌-◌, ◌<◌, ◌≤◌, Bool, true, false, ◌&&◌, ◌||◌, not, cond, nat_le, List, [], ◌∷◌, ◌++◌, map, length, drop, refl, sym, ◌∙◌, ap, ap₂, subst, inl, inr, arith, ℤ, pos, ◌+ℤ◌, neg_ℤ, filter}
+-- Pieri's rules: in the sum of the alternants a_(μ + ρ + α) over lists α of exponents, each term is of one of three kinds. Either μ + α is μ with a
+-- strip added, or the term cancels against another term, or it is 0 since two exponents are equal.
+use Rattle.std.proofs.Common.{◌≡◌, ◌⊎◌, ℕ, zero, suc, ◌+◌, ◌-◌, ◌<◌, ◌≤◌, Bool, true, false, ◌&&◌, ◌||◌, not, cond, nat_le, List, [], ◌∷◌, ◌++◌, map, length, drop, refl, sym, ◌∙◌, ap, ap₂, subst, inl, inr, arith, ℤ, pos, ◌+ℤ◌, neg_ℤ, filter, rules}
 use Rattle.std.proofs.lemmas.Bool.{cases_lt, and_parts, le-leb, leb-true, lt-leb, or_right}
 use Rattle.sym_model.specs.Sum.{total, Among}
 use Rattle.sym_model.specs.Partition.{Falls, size}
@@ -27,48 +27,28 @@ alternants_turn φ left p q right =
     pair_determined (alternant (left ++ (p ∷ q ∷ right))) (negate (alternant (left ++ (q ∷ p ∷ right)))) φ (alternant_exchange left [] right p q)
     ∙ pair_negate (alternant (left ++ (q ∷ p ∷ right))) φ
 
--- ---- the exponents with the first two changed so that their sums with a + n + 1 and b + n are exchanged
+-- ---- the exponents α changed so that the first two entries of μ + ρ + α are exchanged (`changed`); terms cancel in pairs by this exchange
 
 abbrev changed : ℕ → ℕ → List ℕ → List ℕ
 changed a b [] = []
 changed a b (x ∷ []) = x ∷ []
 changed a b (x ∷ y ∷ α) = (b + y - (a + 1)) ∷ (a + 1 + x - b) ∷ α
 
--- whether `keeps_below` holds does not depend on the first exponent of α
 first_free : (b : ℕ) (m : List ℕ) (y z : ℕ) (α : List ℕ) → keeps_below (b ∷ m) (y ∷ α) ≡ keeps_below (b ∷ m) (z ∷ α)
 first_free b [] y z α = refl
 first_free b (c ∷ m) y z [] = refl
 first_free b (c ∷ m) y z (w ∷ α) = refl
 
 above : (a b y : ℕ) (t : Bool) → t ≡ true → not (nat_le (b + y) a && t) ≡ true → a < b + y
-above a b y t e h = by (cases_lt a (b + y))
-  where
-    by : (a < b + y) ⊎ (b + y ≤ a) → a < b + y
-    by (inl l) = l
-    by (inr l) = absurd (both (nat_le (b + y) a) t (le-leb (b + y) a l) e h)
-      where
-        both : (s t : Bool) → s ≡ true → t ≡ true → not (s && t) ≡ true → ⊥
-        both true true e f h = absurd (cc)
-        both true false e f h = absurd (cc)
-        both false t e f h = absurd (cc)
+above a b y t e h = search rules
 
 not_above : (a b y : ℕ) (t : Bool) → a < b + y → not (nat_le (b + y) a && t) ≡ true
 not_above a b y t h = ap (λ (s : Bool). not (s && t)) (lt-leb (b + y) a h)
 
--- ---- a sum over the elements that pass a narrow test does not change if the elements are first restricted to those that pass a wider test; the
--- tests are `keeps_below` with and without the first place
+-- ---- a sum over the elements that pass a narrow test does not change if only the elements that pass a wider test are considered
 
 narrowed : {A : Type 0} (f : A → ℤ) (wide narrow : A → Bool) (xs : List A) → ((x : A) → Among x xs → narrow x ≡ true → wide x ≡ true) → total f (filter narrow (filter wide xs)) ≡ total f (filter narrow xs)
-narrowed {A} f wide narrow xs h =
-    total_select f narrow (filter wide xs)
-    ∙ total_select (λ (x : A). cond (narrow x) (f x) (pos 0)) wide xs
-    ∙ total_among (λ (x : A). cond (wide x) (cond (narrow x) (f x) (pos 0)) (pos 0)) (λ (x : A). cond (narrow x) (f x) (pos 0)) xs (λ x m. by (wide x) (narrow x) (f x) (h x m))
-    ∙ sym (total_select f narrow xs)
-  where
-    by : (w n : Bool) (z : ℤ) → (n ≡ true → w ≡ true) → cond w (cond n z (pos 0)) (pos 0) ≡ cond n z (pos 0)
-    by true n z h = refl
-    by false true z h = absurd (let e = h refl in cc)
-    by false false z h = refl
+narrowed {A} f wide narrow xs h = search (rules, total_select, total_among)
 
 record IsOver (a b : ℕ) (m : List ℕ) (n d : ℕ) (α : List ℕ) : Type 0 where
   first : ℕ
@@ -192,8 +172,6 @@ strips_remain (suc (suc n)) (a ∷ b ∷ m) U l f t d =
         ∙ sym (total_map kept (λ (α : List ℕ). c ∷ α) (exponent_lists (suc n) (d - c)))) (down_from d)
         ∙ sym (total_each kept rows_of (down_from d))
         ∙ sym (total_select F wide lists)
-
--- ---- exponents of at most 1: if μ + α is not weakly decreasing, μ + ρ + α has two equal entries
 
 pub equal_found : (n : ℕ) (m α : List ℕ) → length m ≡ n → length α ≡ n → Falls m → at_most_one α ≡ true → is_falling (join m α) ≡ false
     → has_equal_entries (join (join m (staircase n)) α) ≡ true

@@ -1,5 +1,6 @@
--- Pieri's rules, by alternants: a_(μ + ρ)·h_k is the sum of a_(μ + ρ + α) over all exponents α with the sum k, and the terms for which μ + α is not μ
--- with a horizontal strip added cancel; for e_k likewise, with exponents of at most 1 and vertical strips.
+-- Pieri's rules, by alternants. The product a_(μ + ρ)·h_k is the sum of a_(μ + ρ + α) over all lists α of exponents with the sum k; the terms for
+-- which μ + α is not μ with a horizontal strip added cancel. The product a_(μ + ρ)·e_k is the sum over those α whose exponents are at most 1; here
+-- only the terms are left for which μ + α is μ with a vertical strip added.
 use Rattle.std.proofs.Common.{◌≡◌, ℕ, ◌+◌, ◌≤◌, Bool, true, false, ◌&&◌, cond, nat_le, List, length, refl, sym, ◌∙◌, ap, ℤ, pos, ◌*ℤ◌, filter, flat_map}
 use Rattle.std.proofs.lemmas.Bool.{leb-true}
 use Rattle.sym_model.specs.Sum.{total}
@@ -25,13 +26,14 @@ use Rattle.product_laws.proofs.Overlaps.{alternants_turn, strips_remain, equal_f
 use Rattle.sym_model.proofs.Ring.{one-product}
 use Rattle.schur_laws.proofs.SymmetricPolynomials.{symmetric-monomials, at_most_one-exchange}
 
--- ---- (μ + ρ) + α = (μ + α) + ρ; sums over exponent lists as sums over the partitions that are obtained by adding a strip
+-- ---- sums over lists α of exponents as sums over the partitions μ + α that are obtained by adding a strip
 
 turned_sum : (n : ℕ) (m α : List ℕ) → join (join m (staircase n)) α ≡ join (join m α) (staircase n)
 turned_sum n m α = join_assoc m (staircase n) α ∙ ap (join m) (join_comm (staircase n) α) ∙ sym (join_assoc m α (staircase n))
 
--- let μ be `parts`, and let `list` have the partitions ν for which ν/μ is a strip. If an exponent list α passes the test if and only if μ + α is such
--- a ν, then the sum of a function of μ + α over these α is the sum of this function over the ν of `list`
+-- let μ be `parts`, and let `list` have exactly the partitions ν of |μ| + k cells with the property S (for example: ν/μ is a horizontal strip). If an
+-- exponent list α passes the test if and only if μ + α is a partition with the property S, then the sum of a_(μ + ρ + α) over these α is the sum of
+-- a_(ν + ρ) over the ν of `list` with at most n rows
 pub strips_total : (n k : ℕ) (parts : List ℕ) → IsPartition parts → rows parts ≤ n → (test : List ℕ → Bool) (S : List ℕ → Type 0)
     → ((α : List ℕ) → length α ≡ n → test α ≡ true → Falls (join (resize n parts) α) × S (without_last_zeros (join (resize n parts) α)))
     → ((α : List ℕ) → length α ≡ n → Falls (join (resize n parts) α) → S (without_last_zeros (join (resize n parts) α)) → test α ≡ true)

@@ -1,11 +1,12 @@
--- Products of factors that are reduced by rim hooks after each factor.
+-- Quantum products: the product of partitions in which each label is reduced after each factor. A label, a partition with at most k rows, is reduced
+-- by removing rim hooks of n cells; each removal gives a factor q and a sign. The alternant a_b is det(x_i^(b_j)).
 --     ends_value        the coefficient at a label and a power of q if an alternant a_b is reduced, computed from the sum of b and from the
 --                       remainders of its entries
---     ends_unique       the reductions of the terms of a_b have the coefficient `ends_value` at the label and the power
+--     ends_unique       if the terms of a_b are reduced, the sum of their coefficients at the label and the power is `ends_value`
 --     lowered_early     reducing a partition before it is multiplied by a factor does not change the reduced product
 --     quantum_step      reducing after each factor gives the result of reducing the whole product once
-use Rattle.std.proofs.Common.{◌≡◌, ◌⊎◌, ℕ, zero, suc, ◌+◌, ◌-◌, ◌*◌, ◌%◌, ◌<◌, ◌≤◌, ◌==◌, ◌&&◌, nat_le, Bool, true, false, cond, List, [], ◌∷◌, ◌++◌, map, length, refl, sym, ◌∙◌, ap, ap₂, subst, inl, inr, arith, ℤ, pos, neg_ℤ, ◌+ℤ◌, ◌*ℤ◌, Some, None}
-use Rattle.std.proofs.lemmas.Bool.{cases_eq, cases_lt, eq-eqb, or_cases, or_parts, ne_eqb}
+use Rattle.std.proofs.Common.{◌≡◌, ◌⊎◌, ℕ, zero, suc, ◌+◌, ◌-◌, ◌*◌, ◌%◌, ◌<◌, ◌≤◌, ◌==◌, ◌&&◌, nat_le, Bool, true, false, cond, List, [], ◌∷◌, ◌++◌, map, length, refl, sym, ◌∙◌, ap, ap₂, subst, inl, inr, arith, ℤ, pos, neg_ℤ, ◌+ℤ◌, ◌*ℤ◌, Some, None, rules}
+use Rattle.std.proofs.lemmas.Bool.{cases_eq, eq-eqb, or_cases, or_parts, ne_eqb}
 use Rattle.std.proofs.lemmas.Bool.Decides.{nat_tests}
 use Rattle.std.proofs.lemmas.List.{length-map, map-append}
 use Rattle.std.proofs.Math.Nat.{mod-le, mod-lt, mod-mod, mul-le-mul_left}
@@ -48,7 +49,7 @@ use Rattle.alternant_laws.proofs.FailingColumns.{at_sum}
 use Rattle.sym_model.specs.ReductionSteps.{with_power}
 use Rattle.sym_model.proofs.Integers.{times_chosen}
 
--- ---- lists in which no two entries leave the same remainder modulo n: the lowest list has the remainders as its entries
+-- ---- if no two entries of b leave the same remainder modulo n, the list `lowest n b` consists of the remainders
 
 lowest-distinct : (n : ℕ) (b : List ℕ) → has_equal_entries (remainders n b) ≡ false → lowest n b ≡ remainders n b
 lowest-distinct n [] d = refl
@@ -70,14 +71,10 @@ remainders_below n (x ∷ b) h = (mod-lt x h, remainders_below n b h)
 
 narrow_columns : (k n : ℕ) (l : List ℕ) → 1 ≤ n → length l ≡ k → FallsStrictly l → AreBelow n l → k + columns (from_beta l) ≤ n
 narrow_columns k n [] h e f u = omega arith
-narrow_columns k n (a ∷ l) h e f u =
-    let g : a < n = u.0 in
-    let w = rest_within a l f in
-    let c : columns (from_beta (a ∷ l)) ≡ a - length l = part-from_beta (a ∷ l) 1 in
-    omega arith
+narrow_columns k n (a ∷ l) h e f u = search (rules, rest_within, part-from_beta)
 
--- `parts` reduces to the partition whose beta list has the remainders of the beta list of `parts`, sorted; power·n is the number of cells that are
--- removed
+-- the reduction of `parts` is the partition whose beta list consists of the remainders modulo n of the beta list of `parts`, sorted; power·n is the
+-- number of cells that are removed
 record IsDistinctEnd (k n : ℕ) (parts : List ℕ) : Type 0 where
   power : ℕ
   sum : size (beta k parts) ≡ size (remainders n (beta k parts)) + power * n
@@ -142,10 +139,7 @@ high_first m a (c ∷ l) f (inr x) = let r = high_first m c l f.1 x in let g : c
 
 wide_end : (k n : ℕ) (l : List ℕ) → length l ≡ k → Falls l → HasAtLeast n l → n < k + columns (from_beta l)
 wide_end k n [] e f x = absurd x
-wide_end k n (a ∷ l) e f x =
-    let g = high_first n a l f x in
-    let c : columns (from_beta (a ∷ l)) ≡ a - length l = part-from_beta (a ∷ l) 1 in
-    omega arith
+wide_end k n (a ∷ l) e f x = search (rules, high_first, part-from_beta)
 
 pub length-lowest : (n : ℕ) (b : List ℕ) → length (lowest n b) ≡ length b
 length-lowest n [] = refl
@@ -159,8 +153,8 @@ repeated_end k n parts h p e =
 
 -- ---- the coefficient at a label and a power of q if an alternant a_b is reduced (`ends_value`)
 
--- if u has no equal entries and sorts to the beta list of the label, and s is the sum of u plus power·n: (-1)^(power·(k + 1)) times the sign of
--- sorting u; otherwise 0
+-- (-1)^(power·(k + 1)) times the sign of sorting u, if u has no equal entries and, when sorted, is the beta list of the label, and if s is the sum of
+-- u plus power·n; otherwise 0
 abbrev sorted_value : ℕ → ℕ → ℕ → List ℕ → List ℕ → ℕ → ℤ
 sorted_value k n power label u s =
     value (has_equal_entries u) (s == size u + power * n) (same (from_beta (sorted_falling u)) label) (minus_one_to (power * (k + 1)) *ℤ sorting_sign u)
@@ -170,44 +164,18 @@ ends_value k n power label b = sorted_value k n power label (remainders n b) (si
 
 sorted_value-exchange : (k n power : ℕ) (label left : List ℕ) (x y : ℕ) (right : List ℕ) (s : ℕ)
     → sorted_value k n power label (left ++ (x ∷ y ∷ right)) s ≡ neg_ℤ (sorted_value k n power label (left ++ (y ∷ x ∷ right)) s)
-sorted_value-exchange k n power label left x y right s = by (cases_eq x y)
-  where
-    c : ℤ
-    c = minus_one_to (power * (k + 1))
-
-    u : List ℕ
-    u = left ++ (x ∷ y ∷ right)
-
-    v : List ℕ
-    v = left ++ (y ∷ x ∷ right)
-
-    by : (x ≡ y) ⊎ (x ≡ y → ⊥) → sorted_value k n power label (left ++ (x ∷ y ∷ right)) s ≡ neg_ℤ (sorted_value k n power label (left ++ (y ∷ x ∷ right)) s)
-    by (inl e) =
-        ap (λ t. value t (s == size u + power * n) (same (from_beta (sorted_falling u)) label) (c *ℤ sorting_sign u)) (equal_inside left x y right e)
-        ∙ sym (ap (λ t. neg_ℤ (value t (s == size v + power * n) (same (from_beta (sorted_falling v)) label) (c *ℤ sorting_sign v))) (equal_inside left y x right (sym e)))
-    by (inr m) =
-        ap (λ t. value t (s == size u + power * n) (same (from_beta (sorted_falling u)) label) (c *ℤ sorting_sign u)) (equal-exchange left x y right)
-        ∙ ap (λ t. value (has_equal_entries v) (s == t + power * n) (same (from_beta (sorted_falling u)) label) (c *ℤ sorting_sign u)) (size-exchange left x y right)
-        ∙ ap (λ t. value (has_equal_entries v) (s == size v + power * n) (same (from_beta t) label) (c *ℤ sorting_sign u)) (sorted-exchange left x y right)
-        ∙ ap (λ t. value (has_equal_entries v) (s == size v + power * n) (same (from_beta (sorted_falling v)) label) t) (ap (λ z. c *ℤ z) (sorting_sign-exchange left x y right m) ∙ product-negation c (sorting_sign v))
-        ∙ value-negated (has_equal_entries v) (s == size v + power * n) (same (from_beta (sorted_falling v)) label) (c *ℤ sorting_sign v)
+sorted_value-exchange k n power label left x y right s =
+    search (rules, cases_eq, neg_ℤ, value, equal_inside, equal-exchange, size-exchange, sorted-exchange, sorting_sign-exchange, product-negation, value-negated)
 
 ends_value-exchange : (k n power : ℕ) (label left : List ℕ) (x y : ℕ) (right : List ℕ) → ends_value k n power label (left ++ (x ∷ y ∷ right)) ≡ neg_ℤ (ends_value k n power label (left ++ (y ∷ x ∷ right)))
-ends_value-exchange k n power label left x y right =
-    ap (λ u. sorted_value k n power label u (size (left ++ (x ∷ y ∷ right)))) (map-append (λ z. z % n) left (x ∷ y ∷ right))
-    ∙ sorted_value-exchange k n power label (remainders n left) (x % n) (y % n) (remainders n right) (size (left ++ (x ∷ y ∷ right)))
-    ∙ ap (λ s. neg_ℤ (sorted_value k n power label (remainders n left ++ (y % n ∷ x % n ∷ remainders n right)) s)) (size-exchange left x y right)
-    ∙ ap (λ u. neg_ℤ (sorted_value k n power label u (size (left ++ (y ∷ x ∷ right))))) (sym (map-append (λ z. z % n) left (y ∷ x ∷ right)))
+ends_value-exchange k n power label left x y right = search (rules, map-append, sorted_value-exchange, neg_ℤ, size-exchange)
 
 ends_value-equal : (k n power : ℕ) (label b : List ℕ) → has_equal_entries (remainders n b) ≡ true → ends_value k n power label b ≡ pos 0
 ends_value-equal k n power label b e =
     ap (λ v. value v (size b == size (remainders n b) + power * n) (same (from_beta (sorted_falling (remainders n b))) label) (minus_one_to (power * (k + 1)) *ℤ sorting_sign (remainders n b))) e
 
 powers_differ : (n p q : ℕ) → 1 ≤ n → p * n ≡ q * n → p ≡ q
-powers_differ n p q h e = elim (cases_lt p q) [
-  | inl l ↦ (let m = mul-le-mul_left n l in absurd (omega arith))
-  | inr l ↦ elim (cases_lt q p) [ inl l' ↦ (let m = mul-le-mul_left n l' in absurd (omega arith)) | inr l' ↦ omega arith ]
-]
+powers_differ n p q h e = search rules
 
 ends_value-shape : (k n power : ℕ) (label parts : List ℕ) → 1 ≤ n → IsShape k parts → ends_value k n power label (beta k parts) ≡ reduced_share k n (power, label) parts
 ends_value-shape k n power label parts h p = by (has_equal_entries (remainders n (beta k parts))) refl
@@ -237,8 +205,6 @@ ends_value-shape k n power label parts h p = by (has_equal_entries (remainders n
             (ne_eqb (size b) (size r + power * n) (λ e'. m (powers_differ n q power h (omega arith))))
             ∙ sym (ap (λ v. cond (v && same (from_beta (sorted_falling r)) label) (minus_one_to (q * (k + 1)) *ℤ sorting_sign r) (pos 0)) (ne_eqb q power m))
 
--- ---- the reductions of an alternant a_b for any list b of k exponents
-
 ends_unique : (k n power : ℕ) (label b : List ℕ) → 1 ≤ n → length b ≡ k → pair (alternant b) (on_strict (reduced_share k n (power, label))) ≡ ends_value k n power label b
 ends_unique k n power label b h = sort_back P b kept sorted
   where
@@ -266,8 +232,6 @@ ends_unique k n power label b h = sort_back P b kept sorted
             alternant-equal (sorted_falling b) (on_strict (reduced_share k n (power, label))) e
             ∙ sym (ends_value-equal k n power label (sorted_falling b) (equal_map (λ z. z % n) (sorted_falling b) e))
         by false e = at_strict_list (sorted_falling b) l (sorted_strict b (sym (equal-sorted b) ∙ e))
-
--- ---- the coefficient at a label and a power of q if the terms of a_b·s_next are reduced
 
 -- the coefficient at `label` and q^power of the list that results if the terms of a_b·s_next are reduced by rim hooks of n cells
 abbrev multiplied_value : ℕ → ℕ → List ℕ → ℕ → List ℕ → List ℕ → ℤ
@@ -305,7 +269,7 @@ multiplied-repeated k n next power label b h q l e =
     ap (multiplied_value k n next power label) r.is
     ∙ opposite_is_zero (multiplied_value k n next power label first) (turned ∙ ap neg_ℤ (sym same_value))
 
--- ---- `multiplied_value` for a list b, computed from that for the remainders of its entries modulo n: the sign and the power of q change
+-- ---- replacing the entries of b by their remainders modulo n changes the sign and the power of q in `multiplied_value`
 
 scaled_value : (c : ℤ) (equal sum there : Bool) (x : ℤ) → value equal sum there (c *ℤ x) ≡ c *ℤ value equal sum there x
 scaled_value c true sum there x = sym (*ℤ-zero c)
@@ -346,16 +310,7 @@ no_value true there x = refl
 no_value false there x = refl
 
 past_value : (k n q power : ℕ) (label b α : List ℕ) → 1 ≤ n → power < q → size b ≡ size (remainders n b) + q * n → ends_value k n power label (join b α) ≡ pos 0
-past_value k n q power label b α h l s =
-    ap (λ v. value (has_equal_entries (remainders n (join b α))) v (same (from_beta (sorted_falling (remainders n (join b α)))) label) (minus_one_to (power * (k + 1)) *ℤ sorting_sign (remainders n (join b α))))
-    (ne_eqb (size (join b α)) (size (remainders n (join b α)) + power * n) (λ e.
-    let low = remainders_low n (join (remainders n b) α) in
-    let is = ap size (joined_remainders n b α) in
-    let x = size-join b α in
-    let y = size-join (remainders n b) α in
-    let m = mul-le-mul_left n l in
-    omega arith))
-    ∙ no_value (has_equal_entries (remainders n (join b α))) (same (from_beta (sorted_falling (remainders n (join b α)))) label) (minus_one_to (power * (k + 1)) *ℤ sorting_sign (remainders n (join b α)))
+past_value k n q power label b α h l s = search (rules, value, ne_eqb, remainders_low, joined_remainders, size-join, mul-le-mul_left, no_value)
 
 multiplied-lowered : (k n : ℕ) (next : List ℕ) (q power : ℕ) (label b : List ℕ) → 1 ≤ n → IsPartition next → length b ≡ k → has_equal_entries (remainders n b) ≡ false → size b ≡ size (remainders n b) + q * n
     → multiplied_value k n next (q + power) label b ≡ (minus_one_to (q * (k + 1)) *ℤ sorting_sign (remainders n b)) *ℤ multiplied_value k n next power label (sorted_falling (remainders n b))
@@ -381,7 +336,7 @@ multiplied-past k n next q power label b h p l less s =
 abbrev within : ℕ → ℕ → (ℕ → ℤ) → ℤ
 within power q f = cond (nat_le q power) (f (power - q)) (pos 0)
 
--- `at_power power f r`: if the reduction r consists of a sign, a partition ν and a power q ≤ `power`, the sign times f(power - q, ν); otherwise 0
+-- `at_power power f r`: if the reduction r is a partition ν with a sign and with a power q ≤ `power`, the sign times f(power - q, ν); otherwise 0
 abbrev at_power : ℕ → (ℕ → List ℕ → ℤ) → Reduction → ℤ
 at_power power f None = pos 0
 at_power power f (Some a) = a.1 *ℤ within power a.2 (λ p. f p a.0)
@@ -424,8 +379,6 @@ lowered_early k n next power label parts h q p = by (has_equal_entries (remainde
             let past : power < m = grind (arith, nat_tests) in
             *ℤ-zero (minus_one_to (m * (k + 1)) *ℤ sorting_sign r)
             ∙ sym (multiplied-past k n next m power label b h q (length-beta k parts) past s)
-
--- ---- labels with powers of q, written as one list of numbers
 
 -- the terms with each label (power, partition) written as one list, which has the power in front
 abbrev coded : WholeTermsOf (ℕ × List ℕ) → WholeTerms
@@ -491,8 +444,6 @@ reduced_pairing k n power f (t ∷ terms) = by (reduction_by_remainders k n t.0)
         ≡ t.1 *ℤ at_power power f r +ℤ pair terms (λ parts. at_power power f (reduction_by_remainders k n parts))
     by None e = e ∙ sym (ap (λ z. z +ℤ rest) (*ℤ-zero t.1) ∙ +ℤ_idl rest)
     by (Some a) e = ap₂ ◌+ℤ◌ (product_assoc t.1 a.1 (within power a.2 (λ p. f p a.0))) e
-
--- ---- the reduced product with one more factor, computed from the reduced product of the earlier factors
 
 pub quantum_step : (k n : ℕ) (front : List (List ℕ)) (next : List ℕ) (terms : WholeTermsOf (ℕ × List ℕ)) → 1 ≤ n → ArePartitions front → IsPartition next
     → ((label : ℕ × List ℕ) → coefficient_by same_power terms label ≡ coefficient_by same_power (reduced_product k n front) label)

@@ -1,17 +1,16 @@
--- Reducing by rim hooks after each factor gives the same as reducing the whole product once.
---     quantum_step_made       a collected list (`AreCollected`) with the coefficients of `quantized` is the result of a step, which is to multiply
---                             by a factor and to reduce by rim hooks
+-- Quantum products: reducing by rim hooks after each factor gives the same as reducing the whole product once. A *step* multiplies a list of terms by
+-- a factor and reduces the labels by rim hooks. A list is collected (`AreCollected`) if each label occurs once, with a coefficient other than 0.
+--     quantum_step_made       a collected list with the coefficients of `quantized` is the result of a step
 --     quantum_step_is         the result of each step is collected and has the coefficients of `quantized`
---     quantum_steps_meet      the result of the steps for all factors is the whole classical product, reduced once
---     quantum_steps_answer    this result satisfies the definition of the answer of the command `quantum`
+--     quantum_steps_meet      the result of the steps for all factors is the classical product of all factors, reduced once
+--     quantum_steps_answer    so this result is a reduction of the classical product by rim hooks (`IsRimHookReduction`)
 --     quantum_in_steps        a collected list that is the classical product, reduced once, is the result of the steps for all factors
-use Rattle.std.proofs.Common.{◌≡◌, ℕ, ◌+◌, ◌≤◌, true, List, [], ◌∷◌, ◌++◌, map, length, refl, sym, ◌∙◌, ap, ap₂, subst, inl, arith, append-nil, append_assoc, ℤ, pos}
+use Rattle.std.proofs.Common.{◌≡◌, ℕ, ◌+◌, ◌≤◌, true, List, [], ◌∷◌, ◌++◌, map, length, refl, sym, ◌∙◌, ap, ap₂, subst, inl, arith, append-nil, append_assoc, ℤ, pos, rules}
 use Rattle.std.proofs.lemmas.Bool.{and_parts, and_from, eq-eqb, eqb-true}
 use Rattle.sym_model.specs.Expansion.{Terms}
 use Rattle.sym_model.specs.WholeTerms.{coefficient_by, same_power, numerators, as_fractions}
 use Rattle.sym_model.specs.Reductions.{Reduction, IsRimHookReduction}
 use Rattle.sym_model.specs.Products.{classical_product}
-use Rattle.sym_model.specs.Reductions.{reduced_terms}
 use Rattle.sym_model.specs.ReductionSteps.{AreCollected, ReduceEach, reduced_each, IsQuantumStep, StepsLead, IsReducedInSteps, with_power}
 use Rattle.sym_model.proofs.Ring.{one-product}
 use Rattle.sym_model.proofs.Sums.{Among-append_right}
@@ -37,8 +36,6 @@ power_true a b e =
 
 pub power_self : (a : ℕ × List ℕ) → same_power a a ≡ true
 power_self a = and_from _ _ (eq-eqb a.0 a.0 refl) (same_refl a.1)
-
--- ---- the reductions of the classical product of each term with one more factor
 
 abbrev reductions_each : ℕ → ℕ → List ℕ → PowerTerms → List (List Reduction)
 reductions_each k n factor terms = map (λ (t : (ℕ × List ℕ) × ℤ). reductions_of k n (classical_product k (t.0.1 ∷ factor ∷ []))) terms
@@ -75,12 +72,7 @@ quantum_step_made k n factor terms next h c e = record {
 
 pub quantum_step_is : (k n : ℕ) (factor : List ℕ) (terms next : PowerTerms) → 1 ≤ n → IsQuantumStep k n factor terms next
     → (label : ℕ × List ℕ) → coefficient_by same_power next label ≡ coefficient_by same_power (quantized k n factor terms) label
-quantum_step_is k n factor terms next h s label =
-    s.sums label
-    ∙ ap (λ (r : List (List Reduction)). coefficient_by same_power (reduced_each k factor terms r) label) (each_only k n factor terms s.reductions h s.reduce)
-    ∙ ap (λ (l : PowerTerms). coefficient_by same_power l label) (reduced_each-quantized k n factor terms)
-
--- ---- products that are reduced after each factor are the whole product, reduced once
+quantum_step_is k n factor terms next h s label = search (rules, each_only, reduced_each-quantized)
 
 later_steps : (k n : ℕ) (front factors : List (List ℕ)) (terms last : PowerTerms) → 1 ≤ n → ArePartitions (front ++ factors)
     → ((label : ℕ × List ℕ) → coefficient_by same_power terms label ≡ coefficient_by same_power (reduced_product k n front) label)
@@ -100,13 +92,9 @@ later_steps k n front (factor ∷ factors) terms last h p e lead label =
     lead.2 label
     ∙ ap (λ (l : List (List ℕ)). coefficient_by same_power (reduced_product k n l) label) whole
 
--- adding 0 to the powers of all labels and multiplying by 1 does not change a list of terms
 raised_itself : (xs : PowerTerms) → with_power 0 (pos 1) xs ≡ xs
 raised_itself [] = refl
-raised_itself (x ∷ xs) =
-    let zero_more : 0 + x.0.0 ≡ x.0.0 = omega arith in
-    let term : ℕ → ℤ → (ℕ × List ℕ) × ℤ = λ p c. ((p, x.0.1), c) in
-    ap₂ ◌∷◌ (ap₂ term zero_more (one-product x.1)) (raised_itself xs)
+raised_itself (x ∷ xs) = search (rules, one-product, (raised_itself xs))
 
 first_step : (k n : ℕ) (first second : List ℕ) → quantized k n second (((0, first), pos 1) ∷ []) ≡ reduced_product k n (first ∷ second ∷ [])
 first_step k n first second =
@@ -131,17 +119,13 @@ quantum_steps_meet k n factors terms h l p s = record {
   sums = steps_whole k n factors (numerators terms) h l p s;
 }
 
--- if a list of terms with integer coefficients results from multiplying and reducing, factor by factor (`IsReducedInSteps`), it satisfies the
--- definition of the answer of `quantum`
+-- if a list of terms with integer coefficients results from multiplying and reducing, factor by factor (`IsReducedInSteps`), it is a reduction of the
+-- classical product of all factors by rim hooks
 pub quantum_steps_answer : (k width : ℕ) (factors : List (List ℕ)) (terms : PowerTerms)
     → 1 ≤ k + width → 2 ≤ length factors → ArePartitions factors
     → IsReducedInSteps k (k + width) factors terms
     → IsRimHookReduction k (k + width) (classical_product k factors) (as_fractions terms)
-quantum_steps_answer k width factors terms h l p s =
-    quantum_steps_meet k (k + width) factors (as_fractions terms) h l p
-    (subst (IsReducedInSteps k (k + width) factors) (sym (numerators-as_fractions terms)) s)
-
--- ---- a collected list (`AreCollected`) that is the whole product, reduced once, results from multiplying and reducing factor by factor
+quantum_steps_answer k width factors terms h l p s = search (rules, quantum_steps_meet, numerators-as_fractions)
 
 pub quantum_step_some : (k n : ℕ) → 1 ≤ n → (factor : List ℕ) (terms : PowerTerms) → (next : PowerTerms) × IsQuantumStep k n factor terms next
 quantum_step_some k n h factor terms =
@@ -176,9 +160,4 @@ quantum_in_steps k n (first ∷ second ∷ factors) terms h l p c e =
 
 pub rim_hooks_in_steps : (k n : ℕ) (factors : List (List ℕ)) (terms : Terms (ℕ × List ℕ)) → 1 ≤ n → 2 ≤ length factors → ArePartitions factors
     → AreCollected same_power (numerators terms) → IsRimHookReduction k n (classical_product k factors) terms → IsReducedInSteps k n factors (numerators terms)
-rim_hooks_in_steps k n factors terms h l p c r =
-    quantum_in_steps k n factors (numerators terms) h l p c
-    (λ label.
-    r.sums label
-    ∙ ap (λ (list : List Reduction). coefficient_by same_power (reduced_terms (classical_product k factors) list) label)
-    (classical_only k n factors r.reductions h r.reduce))
+rim_hooks_in_steps k n factors terms h l p c r = search (rules, quantum_in_steps, classical_only)

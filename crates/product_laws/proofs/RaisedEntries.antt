@@ -1,6 +1,7 @@
--- One entry of a strictly decreasing list raised by k: if no two entries are then equal, sorting moves the raised entry in front of some entries, and
--- the sorted list is the beta list of a greater partition.
-use Rattle.std.proofs.Common.{◌≡◌, ◌⊎◌, ℕ, zero, suc, ◌+◌, ◌<◌, ◌≤◌, true, false, ◌==◌, List, [], ◌∷◌, ◌++◌, map, length, replicate, drop, get_or, refl, sym, ◌∙◌, ap, ap₂, subst, inl, inr, arith, ℤ, pos, neg_ℤ, ◌*ℤ◌, append_assoc}
+-- Let one entry of a strictly decreasing list be raised by k. If no two entries are then equal, sorting moves the raised entry in front of some
+-- entries, and the sorted list is the beta list of a greater partition. (`one_place k n` has the n lists of exponents with k at one place and 0 at
+-- the other n - 1 places.)
+use Rattle.std.proofs.Common.{◌≡◌, ◌⊎◌, ℕ, zero, suc, ◌+◌, ◌<◌, ◌≤◌, true, false, ◌==◌, List, [], ◌∷◌, ◌++◌, map, length, replicate, drop, get_or, refl, sym, ◌∙◌, ap, ap₂, subst, inl, inr, arith, ℤ, pos, neg_ℤ, ◌*ℤ◌, append_assoc, rules}
 use Rattle.std.proofs.lemmas.Int.{ints}
 use Rattle.std.proofs.lemmas.Bool.{cases_lt, cases_eq, both_ways, eq-eqb, or_parts, or_right}
 use Rattle.sym_model.specs.Sum.{Among, Once}
@@ -19,8 +20,6 @@ use Rattle.beta_list_laws.proofs.BetaLowerings.{not_below}
 use Rattle.product_laws.proofs.Overlaps.{Turns}
 use Rattle.sym_model.proofs.Ring.{negation-product, one-product}
 use Rattle.std.proofs.Math.Seq.{append_snoc}
-
--- ---- a function of lists whose value does not change if two neighbours are exchanged: one entry moved in front of other entries
 
 pub moved : {A : Type 0} (f : List ℕ → A) → ((left : List ℕ) (a b : ℕ) (right : List ℕ) → f (left ++ (a ∷ b ∷ right)) ≡ f (left ++ (b ∷ a ∷ right)))
     → (left middle right : List ℕ) (z : ℕ) → f (left ++ (z ∷ (middle ++ right))) ≡ f (left ++ (middle ++ (z ∷ right)))
@@ -50,8 +49,6 @@ sign_twice k x = elim (parity_of k) [ inl e ↦ ap (λ s. s *ℤ (s *ℤ x)) e.1
     twice : (x : ℤ) → neg_ℤ (pos 1) *ℤ (neg_ℤ (pos 1) *ℤ x) ≡ x
     twice x = omega (arith, ints)
 
--- ---- strictly decreasing lists with an entry left out or replaced
-
 strict_without : (front : List ℕ) (x : ℕ) (rest : List ℕ) → FallsStrictly (front ++ (x ∷ rest)) → FallsStrictly (front ++ rest)
 strict_without [] x rest f = strict_tail x rest f
 strict_without (a ∷ []) x [] f = tt
@@ -72,7 +69,7 @@ first_apart z (a ∷ front) rest h =
     by g (inl e) r = absurd (both_ways (has a (front ++ (z ∷ rest))) g (stands front z rest a (sym e)))
     by g (inr n) r = has_past z a front n ∙ r
 
--- ---- adding the exponents α of `one_place k n` to a list raises one entry by k: front ++ (x ∷ rest) becomes front ++ ((x + k) ∷ rest)
+-- ---- adding the exponents of a list in `one_place k n` to a list raises one entry of the list by k
 
 raised_at : (k n : ℕ) (b α : List ℕ) → length b ≡ n → Among α (one_place k n)
     → (front : List ℕ) × (x : ℕ) × (rest : List ℕ) × (b ≡ front ++ (x ∷ rest)) × (join b α ≡ front ++ ((x + k) ∷ rest))
@@ -93,11 +90,7 @@ place_found k (c ∷ front) y back =
 
 split : (front : List ℕ) (z x : ℕ) (rest : List ℕ) → x ≤ z → FallsStrictly (front ++ (x ∷ rest)) → has z front ≡ false
     → (left : List ℕ) × (middle : List ℕ) × (front ≡ left ++ middle) × FallsStrictly (left ++ (z ∷ (middle ++ rest)))
-split [] z x rest l f h = ([], [], refl, heads rest f)
-  where
-    heads : (rest : List ℕ) → FallsStrictly (x ∷ rest) → FallsStrictly (z ∷ rest)
-    heads [] f = tt
-    heads (c ∷ rest) f = let g = f.0 in (omega (arith, g, l), f.1)
+split [] z x rest l f h = search rules
 split (a ∷ front) z x rest l f h =
     let p = or_parts (a == z) (has z front) h in
     by p.0 (cases_lt a z) (cases_eq a z) (split front z x rest l (strict_tail a (front ++ (x ∷ rest)) f) p.1)
@@ -146,8 +139,6 @@ length-raised k n b α l m = let q = raised_at k n b α l m in ap length q.4 ∙
     changed : (front : List ℕ) (z x : ℕ) (rest : List ℕ) → length (front ++ (z ∷ rest)) ≡ length (front ++ (x ∷ rest))
     changed [] z x rest = refl
     changed (a ∷ front) z x rest = ap suc (changed front z x rest)
-
--- no list occurs twice in `one_place k n`
 
 pub once_one_place : (k n : ℕ) → 1 ≤ k → Once (one_place k n)
 once_one_place k zero h = tt

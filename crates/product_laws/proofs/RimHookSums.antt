@@ -1,5 +1,6 @@
--- The rule of Murnaghan and Nakayama: p_k·a_b is the sum of the alternants with one exponent of b raised by k; if no two exponents are then equal,
--- they are, sorted, the beta list of the partition of b with a rim hook of k cells added.
+-- The rule of Murnaghan and Nakayama: p_k·a_b is the sum of the alternants with one exponent of b raised by k. If no two exponents are then equal,
+-- they are, when sorted, the beta list of the partition of b with a rim hook of k cells added. (`one_place k n` has the n lists of exponents with k
+-- at one place and 0 at the other n - 1 places.)
 use Rattle.std.proofs.Common.{◌≡◌, ℕ, ◌+◌, ◌-◌, ◌≤◌, Bool, true, false, not, cond, nat_le, List, ◌∷◌, ◌++◌, map, length, refl, sym, ◌∙◌, ap, ap₂, subst, arith, ℤ, pos, ◌*ℤ◌, append_assoc, filter, flat_map}
 use Rattle.std.proofs.lemmas.Bool.{leb-true, le-leb, not-true}
 use Rattle.sym_model.specs.Sum.{total, Among, Within}
@@ -30,7 +31,6 @@ use Rattle.product_laws.proofs.Overlaps.{alternants_turn}
 use Rattle.schur_laws.proofs.SymmetricPolynomials.{symmetric-monomials}
 use Rattle.product_laws.proofs.RaisedEntries.{moved, turned_past, sign_twice, place_found, Raises, raises, length-raised, once_one_place, same_place}
 
--- if the partition μ has at most n rows, μ + ρ in n places is the beta list of μ for n rows
 beta_joined : (n : ℕ) (parts : List ℕ) → IsPartition parts → rows parts ≤ n → join parts (staircase n) ≡ beta n parts
 beta_joined n parts p h =
     ap₂ (λ l k. join l (staircase k)) (sym (from_beta-beta n parts p h)) (sym (length-beta n parts))

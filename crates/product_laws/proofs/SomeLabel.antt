@@ -50,8 +50,6 @@ value_at_ones k parts p h = by (tableaux k parts []) refl
 not_zero : (a b : ℕ) → pos (suc a) *ℤ pos (suc b) ≡ pos 0 → ⊥
 not_zero a b h = let e = mul-suc (suc a) b in omega (arith, ints)
 
--- ---- the product of two Schur polynomials is not 0
-
 product_at_ones : (k : ℕ) (left right : List ℕ) → IsPartition left → IsPartition right → rows left ≤ k → rows right ≤ k
     → pair (times (schur left k) (schur right k)) (λ α. pos 1) ≡ pos 0 → ⊥
 product_at_ones k left right p q h l none =

@@ -19,7 +19,6 @@ use Rattle.alternant_laws.proofs.SchurProducts.{bialternant, schur_few_variables
 use lib.IntN.{*ℤ-zero}
 use Rattle.strip_laws.proofs.Containment.{Holds-get_or}
 
--- let λ be `parts`: a_ρ·f·s_λ is the sum of c·a_(λ + ρ + α) over the terms c·x^α of f; here as an equality of pairings with φ
 staircase_first : (n : ℕ) (parts : List ℕ) (f : Poly) (φ : List ℕ → ℤ) → IsPartition parts → rows parts ≤ n → In n f → Symmetric f
     → pair (times (alternant (staircase n)) (times f (schur parts n))) φ ≡ pair f (λ α. pair (alternant (join (join parts (staircase n)) α)) φ)
 staircase_first n parts f φ p h i s =

@@ -1,8 +1,9 @@
--- A sum of alternants as a sum over partitions, by sorting the exponents (straightening).
+-- A sum of alternants as a sum over partitions, by sorting the exponents (straightening). The pairing of a polynomial with a function φ of exponents
+-- is the sum of c·φ(α) over its terms c·x^α.
 --     `straightened_sum`     the terms of the sum of c·a_(β + α) over the terms c·x^α of f, with partitions as labels
 --     pair-straightened      the sum of c·a_(ν + ρ) over these terms is the given sum of alternants, as an equality of pairings
---     pair-value             the pairing of `on_strict χ` with the alternant of a strictly decreasing list is χ at its partition
-use Rattle.std.proofs.Common.{◌≡◌, ◌⊎◌, ℕ, ◌<◌, ◌≤◌, Bool, true, false, ◌&&◌, cond, nat_lt, List, [], ◌∷◌, length, refl, sym, ◌∙◌, ap, subst, inl, inr, arith, ℤ, pos, ◌+ℤ◌, ◌*ℤ◌, flat_map}
+--     pair-value             the pairing of the alternant of a strictly decreasing list with `on_strict χ` is χ at its partition
+use Rattle.std.proofs.Common.{◌≡◌, ◌⊎◌, ℕ, ◌<◌, ◌≤◌, Bool, true, false, ◌&&◌, cond, nat_lt, List, [], ◌∷◌, length, refl, sym, ◌∙◌, ap, subst, inl, inr, arith, ℤ, pos, ◌+ℤ◌, ◌*ℤ◌, flat_map, rules}
 use Rattle.std.proofs.lemmas.Bool.{and_parts, cond-true, cond-false}
 use Rattle.std.proofs.lemmas.Bool.Decides.{nat_tests}
 use Rattle.std.proofs.Math.IntN.{*ℤ-zero, +ℤ_idl, +ℤ_idr}
@@ -26,7 +27,7 @@ use Rattle.alternant_laws.proofs.SortedAlternants.{alternant-equal, alternant-so
 use Rattle.sym_model.specs.Bounded.{AreBelow}
 use Rattle.alternant_laws.proofs.FailingColumns.{at_sum}
 
--- ---- strictly decreasing lists, as defined and as tested (`is_strict`)
+-- ---- the test `is_strict` and the definition of a strictly decreasing list
 
 below_raise : (a b : ℕ) (l : List ℕ) → b < a → AreBelow b l → AreBelow a l
 below_raise a b [] h u = tt
@@ -53,10 +54,7 @@ is_strict_from [] f = refl
 is_strict_from (a ∷ []) f = refl
 is_strict_from (a ∷ b ∷ l) f = let r = is_strict_from (b ∷ l) f.1 in let h : b < a = f.0 in grind (arith, nat_tests)
 
--- ---- functions of partitions, as functions of lists of exponents
-
--- a function of partitions as a function of lists of exponents: at a strictly decreasing list, its value at the partition with this beta list; 0 at
--- other lists
+-- `on_strict χ b`: χ at the partition with the beta list b, if the list b of exponents is strictly decreasing; otherwise 0
 abbrev pub on_strict : (List ℕ → ℤ) → List ℕ → ℤ
 on_strict χ b = cond (is_strict b) (χ (from_beta b)) (pos 0)
 
@@ -103,8 +101,6 @@ at_shape-only k label parts p q =
     ∙ coefficient_at_partition k (resize k parts) label (length-resize k parts) (falling-resize k parts q.partition.falls) p.partition p.few (falling-resize k label p.partition.falls)
     ∙ ap (λ l. cond (same l label) (pos 1) (pos 0)) (without_last_zeros-resize k parts q.partition.positive q.few)
 
--- ---- the terms, with partitions as labels, of sums of alternants
-
 -- the term of c·a_b: its label is the partition whose beta list is b sorted, its coefficient is c times the sign of sorting b; no term if two entries
 -- of b are equal
 abbrev pub straight : List ℕ → ℤ → WholeTerms
@@ -115,24 +111,12 @@ abbrev pub straightened_sum : List ℕ → Poly → WholeTerms
 straightened_sum β f = flat_map (λ (u : Term). straight (join β u.0) u.1) f
 
 pair-straight : (k : ℕ) (b : List ℕ) (c : ℤ) (φ : List ℕ → ℤ) → length b ≡ k → pair (straight b c) (at_sum k φ) ≡ c *ℤ pair (alternant b) φ
-pair-straight k b c φ e = by (has_equal_entries b) refl
-  where
-    turned : (c s x : ℤ) → (c *ℤ s) *ℤ x +ℤ pos 0 ≡ c *ℤ (s *ℤ x)
-    turned c s x = +ℤ_idr ((c *ℤ s) *ℤ x) ∙ product_assoc c s x
-
-    by : (t : Bool) → has_equal_entries b ≡ t → pair (cond t [] ((from_beta (sorted_falling b), c *ℤ sorting_sign b) ∷ [])) (at_sum k φ) ≡ c *ℤ pair (alternant b) φ
-    by true h = sym (ap (λ z. c *ℤ z) (alternant-equal b φ h) ∙ *ℤ-zero c)
-    by false h =
-        turned c (sorting_sign b) (at_sum k φ (from_beta (sorted_falling b)))
-        ∙ ap (λ z. c *ℤ (sorting_sign b *ℤ z)) (at_strict k (sorted_falling b) φ (length-sorted b ∙ e) (sorted_strict b h))
-        ∙ ap (λ z. c *ℤ z) (sym (alternant-sorted b φ h))
+pair-straight k b c φ e =
+    search (rules, +ℤ_idr, product_assoc, at_sum, alternant-equal, *ℤ-zero, at_strict, length-sorted, sorted_strict, alternant-sorted)
 
 pub pair-straightened : (k : ℕ) (β : List ℕ) (f : Poly) (φ : List ℕ → ℤ) → length β ≡ k → In k f
     → pair (straightened_sum β f) (at_sum k φ) ≡ pair f (λ α. pair (alternant (join β α)) φ)
-pair-straightened k β f φ e i =
-    pair_each (λ (u : Term). straight (join β u.0) u.1) f (at_sum k φ)
-    ∙ total_among (λ (u : Term). pair (straight (join β u.0) u.1) (at_sum k φ)) (λ (u : Term). u.1 *ℤ pair (alternant (join β u.0)) φ) f
-    (λ u m. pair-straight k (join β u.0) u.1 φ (length-join_same k β u.0 e (i u m)))
+pair-straightened k β f φ e i = search (rules, pair_each, at_sum, total_among, pair-straight, length-join_same)
 
 pub straightened-shape : (k : ℕ) (β : List ℕ) (f : Poly) (t : Term) → length β ≡ k → In k f → Among t (straightened_sum β f) → IsShape k t.0
 straightened-shape k β f t e i m =
@@ -152,8 +136,6 @@ coefficient-straightened k β label f e i p =
     (λ t m. ap (λ z. t.1 *ℤ z) (sym (at_shape-only k label t.0 p (straightened-shape k β f t e i m))))
     ∙ pair-straightened k β f (at_only (join label (staircase k))) e i
 
--- ---- lists of terms whose labels are partitions with at most k rows
-
 found : (label : List ℕ) (xs : WholeTerms) → ((t : Term) × Among t xs × (t.0 ≡ label)) ⊎ (coefficient xs label ≡ pos 0)
 found label [] = inr refl
 found label (x ∷ xs) = by (same_or_not x.0 label) (found label xs)
@@ -167,9 +149,4 @@ found label (x ∷ xs) = by (same_or_not x.0 label) (found label xs)
 -- coefficients
 pub same_shapes : (k : ℕ) (f g : WholeTerms) → ((t : Term) → Among t f → IsShape k t.0) → ((t : Term) → Among t g → IsShape k t.0)
     → ((label : List ℕ) → IsShape k label → coefficient f label ≡ coefficient g label) → Same f g
-same_shapes k f g p q e label = by (found label f) (found label g)
-  where
-    by : ((t : Term) × Among t f × (t.0 ≡ label)) ⊎ (coefficient f label ≡ pos 0) → ((t : Term) × Among t g × (t.0 ≡ label)) ⊎ (coefficient g label ≡ pos 0) → coefficient f label ≡ coefficient g label
-    by (inl t) r = e label (subst (IsShape k) t.2 (p t.0 t.1))
-    by (inr a) (inl t) = e label (subst (IsShape k) t.2 (q t.0 t.1))
-    by (inr a) (inr b) = a ∙ sym b
+same_shapes k f g p q e label = search (rules, found)

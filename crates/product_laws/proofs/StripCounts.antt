@@ -1,6 +1,6 @@
 -- Upper bounds for the number of strips and of rim hooks of k cells that can be added to a partition.
-use Rattle.std.proofs.Common.{◌≡◌, ℕ, zero, suc, ◌+◌, ◌-◌, ◌*◌, ◌^◌, ◌≤◌, Bool, cond, List, [], ◌∷◌, map, length, refl, ◌∙◌, ap, subst, arith, length-append, pow-suc, flat_map}
-use Rattle.std.proofs.lemmas.Bool.{ne_eqb}
+use Rattle.std.proofs.lemmas.Grind.{common_steps}
+use Rattle.std.proofs.Common.{◌≡◌, ℕ, zero, suc, ◌+◌, ◌-◌, ◌*◌, ◌^◌, ◌≤◌, List, ◌∷◌, map, length, refl, ◌∙◌, ap, subst, arith, length-append, pow-suc, flat_map, rules}
 use Rattle.std.proofs.lemmas.List.{length-map}
 use Rattle.std.proofs.Math.Nat.{pow-zero, one-le-pow}
 use Rattle.sym_model.specs.Sum.{Among, Within}
@@ -21,46 +21,25 @@ use Rattle.product_laws.specs.StripLists.{ListsEach, AddsHorizontalStrip, AddsVe
 use Rattle.product_laws.proofs.ExponentLists.{among_exponent_lists}
 use Rattle.product_laws.proofs.StripShapes.{join_less, size-padded}
 use Rattle.product_laws.proofs.RimHookSums.{raised_shape, found}
-use native.Mathlib.Nat.{mul-le-mul_right}
 use Rattle.strip_laws.proofs.Containment.{Holds-get_or}
 
--- ---- a bound for a sum of powers; there are at most n^d exponent lists of n places with the sum d
+-- ---- there are at most n^d lists of n exponents with the sum d
 
 next_power : (n p q s t : ℕ) → 1 ≤ p → s ≤ q → t ≤ p * (q * n) → s + t ≤ p * suc n * q
-next_power n p q s t h l m =
-    let a : 1 * q ≤ p * q = mul-le-mul_right q h in
-    let e : p * suc n * q ≡ p * (q * n) + p * q = omega arith in
-    omega (arith, a, l, m, e)
+next_power n p q s t h l m = search rules
 
 abbrev lists_of : ℕ → ℕ → ℕ → List (List ℕ)
 lists_of n d c = map (λ (α : List ℕ). c ∷ α) (exponent_lists n (d - c))
 
 firsts_within : (n : ℕ) → ((j : ℕ) → length (exponent_lists n j) ≤ n ^ j) → (d e whole : ℕ) → whole ≡ d + e
     → length (flat_map (lists_of n whole) (down_from d)) ≤ suc n ^ d * n ^ e
-firsts_within n r zero e whole h =
-    let a = length-append (lists_of n whole 0) [] in
-    let b = length-map (exponent_lists n (whole - 0)) (λ (α : List ℕ). 0 ∷ α) in
-    let c = ap (λ j. length (exponent_lists n j)) (let k : whole - 0 ≡ e = omega arith in k) in
-    let m : suc n ^ 0 * n ^ e ≡ n ^ e = ap (λ x. x * n ^ e) (pow-zero (suc n)) ∙ omega arith in
-    let i = r e in
-    omega (arith, a, b, c, m, i)
+firsts_within n r zero e whole h = grind (arith, common_steps)
 firsts_within n r (suc d) e whole h =
-    let a = length-append (lists_of n whole (suc d)) (flat_map (lists_of n whole) (down_from d)) in
-    let b = length-map (exponent_lists n (whole - suc d)) (λ (α : List ℕ). suc d ∷ α) in
-    let c = ap (λ j. length (exponent_lists n j)) (let k : whole - suc d ≡ e = omega arith in k) in
-    let i = firsts_within n r d (suc e) whole (omega arith) in
-    let j : length (flat_map (lists_of n whole) (down_from d)) ≤ suc n ^ d * (n ^ e * n) = subst (λ x. length (flat_map (lists_of n whole) (down_from d)) ≤ suc n ^ d * x) (pow-suc n e) i in
-    let f = r e in
-    let t = next_power n (suc n ^ d) (n ^ e) (length (lists_of n whole (suc d))) (length (flat_map (lists_of n whole) (down_from d))) (one-le-pow d (suc n) (omega arith)) (omega (arith, b, c, f)) j in
-    let q : suc n ^ suc d * n ^ e ≡ suc n ^ d * suc n * n ^ e = ap (λ x. x * n ^ e) (pow-suc (suc n) d) in
-    omega (arith, a, t, q)
+    search (rules, length-append, length-map, pow-suc, next_power, one-le-pow, (firsts_within n r d (suc e) whole (omega arith)))
 
 pub lists_within : (n d : ℕ) → length (exponent_lists n d) ≤ n ^ d
 lists_within zero zero = omega (arith, pow-zero 0)
-lists_within zero (suc d) =
-    let e : exponent_lists 0 (suc d) ≡ [] = ap (λ (b : Bool). cond {A = List (List ℕ)} b ([] ∷ []) []) (ne_eqb (suc d) 0 (λ e. omega arith)) in
-    let l = ap length e in
-    omega (arith, l)
+lists_within zero (suc d) = search rules
 lists_within (suc n) d =
     let a = firsts_within n (λ j. lists_within n j) d 0 d (omega arith) in
     let e : suc n ^ d * n ^ 0 ≡ suc n ^ d = ap (λ x. suc n ^ d * x) (pow-zero n) ∙ omega arith in
@@ -69,8 +48,6 @@ lists_within (suc n) d =
 length_one_place : (k n : ℕ) → length (one_place k n) ≡ n
 length_one_place k zero = refl
 length_one_place k (suc n) = ap suc (length-map (one_place k n) (λ (α : List ℕ). 0 ∷ α) ∙ length_one_place k n)
-
--- ---- upper bounds for the number of strips and of rim hooks of k cells that can be added to a partition
 
 pub shapes_within : (k : ℕ) (parts : List ℕ) (S : List ℕ → Type 0) (list : List (List ℕ)) → IsPartition parts → ((ν : List ℕ) → S ν → Holds ν parts)
     → ListsEach (λ ν. IsPartition ν × (size ν ≡ size parts + k) × S ν) list → length list ≤ (size parts + k) ^ k

@@ -1,6 +1,6 @@
--- A partition, padded with zeros to n places, plus a list of exponents: the exponents for which the sum is the partition with a horizontal or a
--- vertical strip added.
-use Rattle.std.proofs.Common.{◌≡◌, ℕ, zero, suc, ◌+◌, ◌-◌, ◌≤◌, Bool, true, ◌&&◌, nat_le, List, [], ◌∷◌, length, get_or, refl, sym, ◌∙◌, ap, ap₂, subst, arith, ℤ, filter}
+-- A partition is padded with zeros to n places, and a list of n exponents is added to it. Here are the lists of exponents for which the sum is the
+-- partition with a horizontal or a vertical strip added.
+use Rattle.std.proofs.Common.{◌≡◌, ℕ, zero, suc, ◌+◌, ◌-◌, ◌≤◌, Bool, true, ◌&&◌, nat_le, List, [], ◌∷◌, length, get_or, refl, sym, ◌∙◌, ap, ap₂, subst, arith, ℤ, filter, rules}
 use Rattle.std.proofs.lemmas.Bool.{and_parts, and_from, le-leb, leb-true}
 use Rattle.sym_model.specs.Sum.{total, Among}
 use Rattle.sym_model.specs.Partition.{Falls, ArePositive, IsPartition, Holds, part, rows, size, without_last_zeros}
@@ -22,8 +22,6 @@ use Rattle.alternant_laws.proofs.FallingAlternants.{resize-without_last_zeros, w
 use Rattle.product_laws.specs.StripLists.{ListsEach}
 use Rattle.product_laws.proofs.ExponentLists.{among_exponent_lists, once_exponent_lists}
 
--- ---- the parts of a list padded with zeros, and of a list without the zeros at its end
-
 pub get-padded : (n : ℕ) (parts : List ℕ) (k : ℕ) → length parts ≤ n → get_or (resize n parts) k 0 ≡ get_or parts k 0
 get-padded zero [] k h = refl
 get-padded zero (a ∷ parts) k h = absurd (omega arith)
@@ -34,8 +32,6 @@ get-padded (suc n) (a ∷ parts) (suc k) h = get-padded n parts k (omega arith)
 
 pub size-padded : (n : ℕ) (parts : List ℕ) → ArePositive parts → length parts ≤ n → size (resize n parts) ≡ size parts
 size-padded n parts p h = sym (size-without_last_zeros (resize n parts)) ∙ ap size (without_last_zeros-resize n parts p h)
-
--- ---- the exponents that are the differences of the parts of two partitions
 
 pub join_less : (n : ℕ) (inner outer : List ℕ) → ((k : ℕ) → get_or inner k 0 ≤ get_or outer k 0) → join (resize n inner) (row_lengths (resize n outer) (resize n inner)) ≡ resize n outer
 join_less zero inner outer h = refl
@@ -49,8 +45,6 @@ less_join [] [] e = refl
 less_join [] (x ∷ α) e = absurd (omega arith)
 less_join (a ∷ inner) [] e = absurd (omega arith)
 less_join (a ∷ inner) (x ∷ α) e = ap₂ (λ (y : ℕ) l. y ∷ l) (let d : a + x - a ≡ x = omega arith in d) (less_join inner α (omega arith))
-
--- ---- a sum over lists of exponents as a sum over the partitions that they add up to
 
 pub shapes_total : (n k : ℕ) (parts : List ℕ) → IsPartition parts → rows parts ≤ n → (test : List ℕ → Bool) (S : List ℕ → Type 0)
     → ((α : List ℕ) → length α ≡ n → test α ≡ true → Falls (join (resize n parts) α) × S (without_last_zeros (join (resize n parts) α)))
@@ -166,11 +160,7 @@ below_from (a ∷ b ∷ m) (x ∷ y ∷ α) e h =
     and_from (nat_le (b + y) a) (keeps_below (b ∷ m) (y ∷ α)) (le-leb (b + y) a (h 0)) (below_from (b ∷ m) (y ∷ α) (omega arith) (λ k. h (suc k)))
 
 sum_holds : (n : ℕ) (parts α : List ℕ) → rows parts ≤ n → Holds (without_last_zeros (join (resize n parts) α)) parts
-sum_holds n parts α h i =
-    let a = get-cut (join (resize n parts) α) (i - 1) in
-    let b = get_or-join (resize n parts) α (i - 1) in
-    let c = get-padded n parts (i - 1) h in
-    omega (arith, a, b, c)
+sum_holds n parts α h i = search (rules, get-cut, get_or-join, get-padded)
 
 pub horizontal_sound : (n : ℕ) (parts α : List ℕ) → rows parts ≤ n → length α ≡ n → keeps_below (resize n parts) α ≡ true
     → Falls (join (resize n parts) α) × IsHorizontalStrip (without_last_zeros (join (resize n parts) α)) parts
@@ -226,16 +216,7 @@ falling_from l f = ap is_falling (sym (resize_same (length l) l refl)) ∙ falli
 pub vertical_sound : (n : ℕ) (parts α : List ℕ) → rows parts ≤ n → length α ≡ n → adds_column (resize n parts) α ≡ true
     → Falls (join (resize n parts) α) × IsVerticalStrip (without_last_zeros (join (resize n parts) α)) parts
 vertical_sound n parts α h e t =
-    let p = and_parts (at_most_one α) (is_falling (join (resize n parts) α)) t in (
-      falls_from_test (join (resize n parts) α) p.1,
-      vertical_from_rows (without_last_zeros (join (resize n parts) α)) parts (sum_holds n parts α h)
-          (λ i o.
-          let a = get-cut (join (resize n parts) α) (i - 1) in
-          let b = get_or-join (resize n parts) α (i - 1) in
-          let c = get-padded n parts (i - 1) h in
-          let d = one_tells α p.0 (i - 1) in
-          omega (arith, a, b, c, d)),
-    )
+    search (rules, and_parts, falls_from_test, vertical_from_rows, sum_holds, get-cut, get_or-join, get-padded, one_tells)
 
 pub vertical_complete : (n : ℕ) (parts α : List ℕ) → rows parts ≤ n → length α ≡ n → Falls (join (resize n parts) α)
     → IsVerticalStrip (without_last_zeros (join (resize n parts) α)) parts → adds_column (resize n parts) α ≡ true

@@ -11,8 +11,8 @@ pub record Reaches (k c : ℕ) (terms : WholeTerms) : Type 0 where
   pub within : rows parts ≤ k
   pub reaches : pos c ≤ℤ coefficient terms parts
 
--- k is the number of variables of a product: the given number or, if none is given, some number that is at least `row_count`, a bound for the rows of
--- the labels of the product
+-- k is the number of variables of a product: the given number or, if no number is given, some number that is at least `row_count`, a bound for the
+-- rows of the labels of the product
 abbrev pub IsShownIn : Option ℕ → ℕ → ℕ → Type 0
 IsShownIn None row_count k = row_count ≤ k
 IsShownIn (Some given) row_count k = given ≡ k

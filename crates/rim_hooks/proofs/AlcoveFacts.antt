@@ -1,9 +1,10 @@
--- The reduction into the alcove, as reflections.rt computes it: the entries of the beta list are moved by multiples of n into a window of n numbers.
-use Rattle.std.proofs.Common.{◌≡◌, ℕ, zero, suc, ◌+◌, ◌-◌, ◌*◌, ◌/◌, ◌%◌, ◌<◌, ◌≤◌, ◌||◌, inl, inr, Bool, true, false, cond, nat_le, List, [], ◌∷◌, map, length, get_or, set, drop, replicate, refl, sym, ◌∙◌, ap, ap₂, subst, arith, ℤ, Option, Some, None, Fits, w16}
+-- The reduction of a partition into the alcove, as reflections.rt computes it: each entry of its beta list is moved by a multiple of a number n into
+-- a window of n consecutive numbers.
+use Rattle.std.proofs.lemmas.Grind.{common_steps}
+use Rattle.std.proofs.Common.{◌≡◌, ℕ, zero, suc, ◌+◌, ◌-◌, ◌*◌, ◌/◌, ◌%◌, ◌<◌, ◌≤◌, ◌||◌, inl, inr, Bool, true, false, List, [], ◌∷◌, map, length, get_or, set, drop, replicate, refl, sym, ◌∙◌, ap, ap₂, subst, arith, ℤ, Option, Some, None, Fits, w16, rules}
 use Rattle.std.proofs.lemmas.Bool.{cases_lt}
-use Rattle.std.proofs.lemmas.Bool.Decides.{nat_tests}
 use Rattle.std.proofs.lemmas.List.{length-map, drop_all, drop_more}
-use Rattle.std.proofs.Math.Nat.{div-add-mod, div-le_self, mul-le-mul_left, mul-le-mul_right, mod-lt, mod-mod, mod-add-div', add-mul-mod_self_right, mul-add}
+use Rattle.std.proofs.Math.Nat.{div-add-mod, mul-le-mul_left, mul-le-mul_right, mod-lt, mod-mod, mod-add-div', add-mul-mod_self_right, mul-add}
 use Rattle.std.proofs.Math.Bool.{or-true}
 use Rattle.sym_model.specs.Partition.{size, rows}
 use Rattle.sym_model.specs.Alternant.{staircase}
@@ -80,17 +81,7 @@ pub turned_end : (n : ℕ) (entries counts : List ℕ) (at turns : ℕ) → at �
 turned_end n entries counts at turns e w = subst (λ b. AreTurned n counts b turns) (drop_none entries at e) w
 
 pub turned_bound : (n : ℕ) (entries counts : List ℕ) (at turns x : ℕ) → length entries ≤ 512 → x < 65536 → AreTurned n counts (drop at entries) turns → turns + x / n ≤ 65536 * 513
-turned_bound n entries counts at turns x l f w =
-    let t = w.bound in
-    let d = dropped entries at in
-    let q = div-le_self x n in
-    omega arith
-  where
-    dropped : (xs : List ℕ) (i : ℕ) → length (drop i xs) ≤ length xs
-    dropped [] zero = omega arith
-    dropped [] (suc i) = omega arith
-    dropped (x ∷ xs) zero = omega arith
-    dropped (x ∷ xs) (suc i) = let r = dropped xs i in omega arith
+turned_bound n entries counts at turns x l f w = grind (arith, common_steps)
 
 -- ---- the window of n numbers into which the entries can be moved by multiples of n without changing their sum
 
@@ -109,16 +100,10 @@ window_init n entries counts turns h l w =
     record { sum = omega arith }
 
 pub window_count : (n : ℕ) (entries counts : List ℕ) (turns start : ℕ) → 1 ≤ n → AreTurned n counts entries turns → get_or counts (start % n) 0 ≡ alike n start entries
-window_count n entries counts turns start h w =
-    let l = mod-lt start h in
-    let c = w.counted.counts (start % n) l in
-    c ∙ alike-remainder n (start % n) start entries (mod-mod start n)
+window_count n entries counts turns start h w = search (rules, mod-lt, alike-remainder, mod-mod)
 
 pub window_once : (n : ℕ) (entries counts : List ℕ) (turns start : ℕ) → 1 ≤ n → AreTurned n counts entries turns → get_or counts (start % n) 0 ≤ 1
-window_once n entries counts turns start h w =
-    let c = window_count n entries counts turns start h w in
-    let o = alike_once n start entries w.differ in
-    omega arith
+window_once n entries counts turns start h w = search (rules, window_count, alike_once)
 
 split_left : (n left count : ℕ) → count ≤ left → n * left ≡ n * (left - count) + n * count
 split_left n left count h = let e : left ≡ left - count + count = omega arith in ap (λ m. n * m) e ∙ mul-add n (left - count) count
@@ -147,8 +132,6 @@ pub size_fits : (b : List ℕ) → ((i : ℕ) → Fits w16 (get_or b i 0)) → s
 size_fits [] f = omega arith
 size_fits (x ∷ b) f = let h = f 0 in let r = size_fits b (λ i. f (suc i)) in omega arith
 
--- ---- one entry moved by a multiple of n into the window
-
 pub raised_low : (n start entry : ℕ) → 1 ≤ n → start - start % n + entry % n < start → up n start entry ≡ start - start % n + entry % n + n
 raised_low n start entry h l =
     let a = mod-add-div' start n in
@@ -165,19 +148,12 @@ raised_high n start entry h l =
     let e : start - start % n + entry % n ≡ entry % n + start / n * n = omega arith in
     up_is n start entry (start - start % n + entry % n) h l (omega arith) (ap (λ v. v % n) e ∙ add-mul-mod_self_right (entry % n) (start / n) n ∙ mod-mod entry n)
 
--- ---- the moved entries, sorted into decreasing order
-
 pub raised_start : (n start : ℕ) (entries : List ℕ) (sorted : Sorted) (at : ℕ) → at ≡ length entries → Sorts sorted [] → Sorts sorted (map (up n start) (drop at entries))
-raised_start n start entries sorted at l s =
-    let d : drop at entries ≡ [] = drop_all at entries (omega arith) in
-    subst (λ b. Sorts sorted (map (up n start) b)) (sym d) s
+raised_start n start entries sorted at l s = grind (arith, common_steps)
 
 pub raised_step : (n start : ℕ) (entries : List ℕ) (old new : Sorted) (at value : ℕ) → 0 < at → at ≤ length entries → value ≡ up n start (get_or entries (at - 1) 0)
     → ((list : List ℕ) → Sorts old list → Sorts new (value ∷ list)) → Sorts old (map (up n start) (drop at entries)) → Sorts new (map (up n start) (drop (at - 1) entries))
-raised_step n start entries old new at value p l e put s =
-    let d = drop_more entries (at - 1) 0 (omega arith) ∙ ap (λ k. get_or entries (at - 1) 0 ∷ drop k entries) (let next : (at - 1) + 1 ≡ at = omega arith in next) in
-    subst (λ b. Sorts new (map (up n start) b)) (sym d)
-    (subst (λ v. Sorts new (v ∷ map (up n start) (drop at entries))) e (put (map (up n start) (drop at entries)) s))
+raised_step n start entries old new at value p l e put s = grind (arith, common_steps)
 
 pub raised_end : (n start : ℕ) (entries : List ℕ) (sorted : Sorted) (at : ℕ) → at ≡ 0 → Sorts sorted (map (up n start) (drop at entries)) → Sorts sorted (map (up n start) entries)
 raised_end n start entries sorted at e s = subst (λ b. Sorts sorted (map (up n start) b)) (drop_none entries at e) s
@@ -188,9 +164,7 @@ pub entries_few : (k : ℕ) (shape b : List ℕ) → 1 ≤ k → k ≤ 512 → b
 entries_few k shape b h l e = let d = ap length e in let m = length-beta k shape in (omega arith, omega arith)
 
 alcove_is : (k n : ℕ) (shape : List ℕ) → rows shape ≤ k → alcove_reduction k n shape ≡ as_partition (reflected_into_alcove n (beta k shape))
-alcove_is k n shape r =
-    let t : nat_le (rows shape) k ≡ true = grind (arith, nat_tests) in
-    ap (λ v. cond v (as_partition (reflected_into_alcove n (beta k shape))) None) t
+alcove_is k n shape r = search rules
 
 pub alcove_equal : (k n : ℕ) (shape b : List ℕ) → 1 ≤ n → rows shape ≤ k → IsWithinLimits shape → b ≡ beta k shape → has_equal_entries (remainders n b) ≡ true → None ≡ alcove_reduction k n shape
 alcove_equal k n shape b h r l e d =
@@ -236,13 +210,7 @@ window_small k n start shape b h m p q r l e w =
     ]
 
 pub alcove_few : (k n start : ℕ) (shape b numbers : List ℕ) (odd : Bool) → k ≤ 512 → HoldsWindow k n start shape b numbers odd → length numbers ≤ 512
-alcove_few k n start shape b numbers odd h w =
-    let e = ap length w.numbers_are in
-    let s = length-sorted (map (up n start) b) in
-    let l = length-map b (up n start) in
-    let d = ap length w.entries in
-    let m = length-beta k shape in
-    omega arith
+alcove_few k n start shape b numbers odd h w = search (rules, length-sorted, length-map, length-beta)
 
 pub alcove_limits : (k n start : ℕ) (shape b numbers : List ℕ) (odd : Bool) → 1 ≤ n → k ≤ 512 → rows shape ≤ k → IsWithinLimits shape → HoldsWindow k n start shape b numbers odd
     → IsWithinLimits (from_beta numbers)

@@ -1,14 +1,15 @@
--- Sums of reductions do not depend on the order in which rim hooks are removed.
---     any_reductions         if a list of fractions is the sum of one list of reductions of the classical product, it is the sum of every such list
---     any_whole_reductions   the same for a list of integers
---     any_step_reductions    the same for the product of a list of terms and one more factor
-use Rattle.std.proofs.Common.{ℕ, ◌≤◌, List, sym, ◌∙◌, ap, subst}
+-- A term of a product is reduced by removing rim hooks from its partition. The sum of the reductions of all terms does not depend on the order in
+-- which the rim hooks are removed: if a list of terms is this sum for one choice of the reductions, it is this sum for every choice.
+--     any_reductions         for the classical product, and a list of terms with fractions as coefficients
+--     any_whole_reductions   for the classical product, and a list of terms with integers as coefficients
+--     any_step_reductions    for the product of a list of terms and one more factor
+use Rattle.std.proofs.Common.{ℕ, ◌≤◌, List, sym, ◌∙◌, rules}
 use Rattle.sym_model.specs.Expansion.{Terms}
 use Rattle.sym_model.specs.ReductionSteps.{IsQuantumStep, ReduceEach, reduced_each}
 use Rattle.sym_model.specs.Reductions.{AreReductions, IsRimHookReduction, Reduction}
 use Rattle.sym_model.specs.Products.{classical_product}
 use Rattle.sym_model.specs.Reductions.{reduced_terms}
-use Rattle.sym_model.specs.WholeTerms.{WholeTermsOf, as_fractions, coefficient_by, numerators}
+use Rattle.sym_model.specs.WholeTerms.{WholeTermsOf, as_fractions, numerators}
 use Rattle.sym_model.specs.WholeTerms.{same_power}
 use Rattle.alternant_laws.proofs.WholeLists.{numerators-as_fractions}
 use Rattle.product_laws.proofs.GatheredLists.{gathered, coefficient-gathered, collected-gathered}
@@ -21,26 +22,19 @@ pub any_reductions : (k n : ℕ) (factors : List (List ℕ)) (terms : Terms (ℕ
     → AreReductions k n (classical_product k factors) reductions
     → IsRimHookReduction k n (classical_product k factors) terms
     → HaveSameSums (numerators terms) (reduced_terms (classical_product k factors) reductions)
-any_reductions k n factors terms reductions h a r label =
-    r.sums label
-    ∙ ap (λ (l : List Reduction). coefficient_by same_power
-    (reduced_terms (classical_product k factors) l) label)
-    (classical_only k n factors r.reductions h r.reduce
-    ∙ sym (classical_only k n factors reductions h a))
+any_reductions k n factors terms reductions h a r label = search (rules, classical_only)
 
--- if a list of integers is the sum of one list of reductions of the classical product, it is the sum of every list of reductions of that product
+-- if a list of terms with integer coefficients is the sum of the reductions of the classical product for one choice of the reductions, it is this sum
+-- for every choice
 pub any_whole_reductions : (k n : ℕ) (factors : List (List ℕ)) (terms : WholeTermsOf (ℕ × List ℕ))
     (reductions : List Reduction) → 1 ≤ n
     → AreReductions k n (classical_product k factors) reductions
     → IsRimHookReduction k n (classical_product k factors) (as_fractions terms)
     → HaveSameSums terms (reduced_terms (classical_product k factors) reductions)
-any_whole_reductions k n factors terms reductions h a r =
-    subst (λ (list : WholeTermsOf (ℕ × List ℕ)). HaveSameSums list
-    (reduced_terms (classical_product k factors) reductions)) (numerators-as_fractions terms)
-    (any_reductions k n factors (as_fractions terms) reductions h a r)
+any_whole_reductions k n factors terms reductions h a r = search (rules, numerators-as_fractions, any_reductions)
 
--- if a step of a quantum product with the given factor leads from `terms` to `next`, then `next` is the sum of `reductions`, for every list
--- `reductions` of reductions of the products of the terms with this factor (`ReduceEach`)
+-- let a step of a quantum product with `factor` lead from `terms` to `next`. For every choice of the reductions of the products of the terms with
+-- `factor` (`ReduceEach`), `next` is the sum of these reductions
 pub any_step_reductions : (k n : ℕ) (factor : List ℕ) (terms next : WholeTermsOf (ℕ × List ℕ))
     (reductions : List (List Reduction)) → 1 ≤ n
     → ReduceEach k n factor terms reductions → IsQuantumStep k n factor terms next

@@ -1,5 +1,5 @@
--- In a canonical list each label occurs once, with a coefficient other than 0 (`AreCollected`).
-use Rattle.std.proofs.Common.{◌≡◌, nat_abs, Bool, true, false, ◌&&◌, [], ◌∷◌, map, refl, ap, ◌∙◌}
+-- In a canonical list (labels in order, no coefficient 0) each label occurs once, with a coefficient other than 0 (`AreCollected`).
+use Rattle.std.proofs.Common.{◌≡◌, nat_abs, Bool, true, false, ◌&&◌, [], ◌∷◌, map, ap, rules}
 use Rattle.std.proofs.Common.{inl, inr, arith, ℤ}
 use Rattle.std.proofs.lemmas.Bool.{and_parts}
 use Rattle.sym_model.specs.Sum.{Among, Once}
@@ -14,18 +14,11 @@ use Rattle.sym_model.proofs.Orders.{is_reduced-tells}
 use Rattle.printing_laws.proofs.LabelOrders.{label_order-total}
 
 module _ {L : Type 0} (test : L → L → Bool) (test_true : (a b : L) → test a b ≡ true → a ≡ b) where
-  -- if `label` is not a label of the list, the test of equality of `label` with each label of the list is false
   apart : (label : L) (terms : Terms L) → (Among label (map (λ (t : L × Fraction). t.0) terms) → ⊥)
       → (u : L × ℤ) → Among u (numerators terms) → test label u.0 ≡ false
   apart label [] none u m = absurd m
   apart label (t ∷ terms) none u (inr m) = apart label terms (λ l. none (inr l)) u m
-  apart label (t ∷ terms) none u (inl e) = by (test label u.0) refl
-    where
-      by : (b : Bool) → test label u.0 ≡ b → test label u.0 ≡ false
-      by false h = h
-      by true h =
-          let first : u.0 ≡ t.0 = ap (λ (v : L × ℤ). v.0) e in
-          absurd (none (inl (test_true label u.0 h ∙ first)))
+  apart label (t ∷ terms) none u (inl e) = search rules
 
   collected : (rules : LabelRules L) (terms : Terms L)
       → Once (map (λ (t : L × Fraction). t.0) terms)

@@ -1,13 +1,12 @@
--- The classical product as a list of terms, and its weight.
---     classical_long_left, classical_long_right    the list for two factors is empty if one of them has more rows than there are variables
---     weight_within       the absolute values of a canonical list with the coefficients of the product add up to at most the weight
-use Rattle.std.proofs.Common.{◌≡◌, ℕ, ◌<◌, ◌≤◌, cond, true, arith, nat_le, nat_lt, List, [], ◌∷◌, map, refl, ◌∙◌, ap, subst, ℤ, pos, filter}
-use Rattle.std.specs.Prelude.{nat_abs}
+-- The *classical product* of some partitions in k variables is the list of terms that expands the product of their Schur polynomials. Its weight is
+-- the sum of the absolute values of its coefficients.
+--     classical_long_left, classical_long_right    the list for two factors is empty if one of them has more than k rows
+--     weight_within       if a canonical list has the coefficients of the classical product, their absolute values add up to at most the weight
+use Rattle.std.proofs.Common.{◌≡◌, ℕ, ◌<◌, ◌≤◌, true, arith, List, [], ◌∷◌, map, refl, ◌∙◌, ap, subst, ℤ, pos, rules}
 use Rattle.std.proofs.lemmas.Bool.{and_parts}
 use Rattle.sym_model.specs.Sum.{Once}
 use Rattle.sym_model.specs.Polynomial.{Poly, Same, nothing, times, join}
-use Rattle.sym_model.specs.Partition.{IsPartition, size, rows}
-use Rattle.sym_model.specs.PartitionList.{partitions_of}
+use Rattle.sym_model.specs.Partition.{IsPartition, rows}
 use Rattle.sym_model.specs.Schur.{schur}
 use Rattle.sym_model.specs.Alternant.{schur_coefficient, alternant, staircase}
 use Rattle.sym_model.specs.Expansion.{Fraction}
@@ -27,8 +26,6 @@ use Rattle.sparse_polys.specs.Combination.{is_canonical_list as is_canonical_fra
 use Rattle.sparse_polys.proofs.ValueLists.{canonical_values}
 use Rattle.beta_list_laws.proofs.ReducedSums.{absolute_within}
 
--- ---- lists of integers read as fractions
-
 labels-fractions : (terms : WholeTerms) → map (λ (t : List ℕ × Fraction). t.0) (as_fractions terms) ≡ labels terms
 labels-fractions [] = refl
 labels-fractions (t ∷ terms) = ap (λ l. t.0 ∷ l) (labels-fractions terms)
@@ -41,15 +38,10 @@ once_canonical terms c =
 
 -- ---- the coefficients of the classical product
 
--- if f is 0 at each list of numbers, the list of the terms f(μ)·μ for the μ in `shapes`, without those with the coefficient 0, is empty
 all_zero : (f : List ℕ → ℤ) → ((parts : List ℕ) → f parts ≡ pos 0) → (shapes : List (List ℕ)) → (let pairs : WholeTerms = map (λ (parts : List ℕ). (parts, f parts)) shapes in nonzero pairs) ≡ []
 all_zero f z [] = refl
-all_zero f z (parts ∷ shapes) =
-    let rest : WholeTerms = map (λ (parts : List ℕ). (parts, f parts)) shapes in
-    let chosen : ℤ → WholeTerms = λ c. cond {A = WholeTerms} (nat_lt 0 (nat_abs c)) ((parts, f parts) ∷ nonzero rest) (nonzero rest) in
-    ap chosen (z parts) ∙ all_zero f z shapes
+all_zero f z (parts ∷ shapes) = search (rules, (all_zero f z shapes))
 
--- if all coefficients of the polynomial f are 0, its Schur coefficients are 0
 none_of_nothing : (k : ℕ) (f : Poly) (parts : List ℕ) → Same f nothing → schur_coefficient k parts f ≡ pos 0
 none_of_nothing k f parts s =
     times_respects (alternant (staircase k)) (alternant (staircase k)) f nothing (Same_refl (alternant (staircase k))) s (join parts (staircase k))
@@ -58,9 +50,7 @@ none_of_nothing k f parts s =
     ∙ pair_zero (alternant (staircase k))
 
 pub classical_nothing : (k : ℕ) (factors : List (List ℕ)) → Same (schur_product factors k) nothing → classical_product k factors ≡ []
-classical_nothing k factors s =
-    all_zero (λ parts. schur_coefficient k parts (schur_product factors k)) (λ parts. none_of_nothing k (schur_product factors k) parts s)
-    (filter (λ parts. nat_le (rows parts) k) (partitions_of (size (map size factors))))
+classical_nothing k factors s = search (rules, all_zero, none_of_nothing)
 
 pub classical_long_right : (k : ℕ) (left right : List ℕ) → IsPartition right → k < rows right → classical_product k (left ∷ right ∷ []) ≡ []
 classical_long_right k left right p h =

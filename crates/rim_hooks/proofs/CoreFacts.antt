@@ -1,9 +1,9 @@
 -- The result of removing rim hooks, as removals.rt computes it: the entries of the beta list are lowered by multiples of n as far as they stay
 -- different (`lowest`), and then sorted.
-use Rattle.std.proofs.Common.{◌≡◌, ℕ, ◌+◌, ◌-◌, ◌*◌, ◌/◌, ◌<◌, ◌≤◌, Bool, true, false, List, length, refl, sym, ◌∙◌, ap, ap₂, subst, arith, ℤ, ◌*ℤ◌, Option, Some, None, to_z, of_z, w8}
+use Rattle.std.proofs.Common.{◌≡◌, ℕ, ◌+◌, ◌-◌, ◌*◌, ◌/◌, ◌<◌, ◌≤◌, Bool, true, false, List, length, refl, sym, ◌∙◌, ap, subst, arith, ℤ, ◌*ℤ◌, Some, None, to_z, of_z, w8, rules}
 use Rattle.sym_model.specs.Partition.{size, rows, columns}
 use Rattle.sym_model.specs.PlaceOrders.{minus_one_to}
-use Rattle.sym_model.specs.BetaList.{beta, from_beta, sorted_falling, rising_pairs, sorting_sign}
+use Rattle.sym_model.specs.BetaList.{beta, from_beta, sorted_falling, sorting_sign}
 use Rattle.sym_model.specs.RimHookReduction.{ReducesTo}
 use Rattle.sym_model.specs.Reductions.{Reduction}
 use Rattle.sym_model.proofs.Signs.{minus_one_to_add}
@@ -12,7 +12,7 @@ use Rattle.beta_list_laws.specs.StrictFall.{FallsStrictly}
 use Rattle.beta_list_laws.proofs.BetaLists.{length-beta, beta_strict}
 use Rattle.beta_list_laws.proofs.NeighbourExchanges.{length-sorted}
 use Rattle.beta_list_laws.specs.LowestList.{lowest, end_of, power_of, end_sign, reduction_by_remainders}
-use Rattle.beta_list_laws.proofs.Ends.{goes_to_end, goes_cells, goes_partition, goes_rows, wide, narrow, reduces_by_remainders, reduces_only}
+use Rattle.beta_list_laws.proofs.Ends.{goes_to_end, goes_cells, goes_partition, goes_rows, narrow, reduces_by_remainders, reduces_only}
 use Rattle.product_laws.proofs.Quantum.{length-lowest}
 use Rattle.rim_hooks.specs.Signs.{sign_of}
 use Rattle.rim_hooks.specs.Sorting.{Sorts}
@@ -29,21 +29,13 @@ pub record Holds (k n : ℕ) (shape numbers : List ℕ) (odd : Bool) : Type 0 wh
   pub turns : sign_of odd ≡ sorting_sign (lowest n (beta k shape))
 
 pub holds : (k n : ℕ) (shape b numbers : List ℕ) (sorted : Sorted) → b ≡ beta k shape → Sorts sorted (lowest n b) → numbers ≡ sorted.numbers.items → Holds k n shape numbers sorted.is_odd
-holds k n shape b numbers sorted e s d = record {
-  numbers_are = d ∙ s.numbers ∙ ap (λ l. sorted_falling (lowest n l)) e;
-  turns = s.turns ∙ ap (λ l. sorting_sign (lowest n l)) e;
-}
+holds k n shape b numbers sorted e s d = search rules
 
 pub entries_strict : (k : ℕ) (shape b : List ℕ) → IsWithinLimits shape → b ≡ beta k shape → FallsStrictly b
 entries_strict k shape b l e = subst FallsStrictly (sym e) (beta_strict k shape l.partition.falls)
 
 pub core_few : (k n : ℕ) (shape numbers : List ℕ) (odd : Bool) → k ≤ 512 → Holds k n shape numbers odd → length numbers ≤ 512
-core_few k n shape numbers odd h w =
-    let e = ap length w.numbers_are in
-    let s = length-sorted (lowest n (beta k shape)) in
-    let l = length-lowest n (beta k shape) in
-    let b = length-beta k shape in
-    omega arith
+core_few k n shape numbers odd h w = search (rules, length-sorted, length-lowest, length-beta)
 
 pub core_limits : (k n : ℕ) (shape numbers : List ℕ) (odd : Bool) → 1 ≤ n → rows shape ≤ k → k ≤ 512 → IsWithinLimits shape → Holds k n shape numbers odd → IsWithinLimits (from_beta numbers)
 core_limits k n shape numbers odd h r m l w =
@@ -67,26 +59,12 @@ core_smaller k n shape numbers end odd h r l w e =
     omega arith
 
 pub core_none : (k n : ℕ) (shape numbers end : List ℕ) (odd : Bool) → Holds k n shape numbers odd → end ≡ from_beta numbers → n < k + columns end → reduction_by_remainders k n shape ≡ None
-core_none k n shape numbers end odd w e l =
-    let d = ap columns (e ∙ ap from_beta w.numbers_are) in
-    wide k n shape (omega arith)
+core_none k n shape numbers end odd w e l = search rules
 
 pub core_some : (k n : ℕ) (shape numbers end : List ℕ) (odd : Bool) (power : ℕ) (sign turn : ℤ) → Holds k n shape numbers odd → end ≡ from_beta numbers → k + columns end ≤ n
     → power ≡ (size shape - size end) / n → turn ≡ minus_one_to (power * (k + 1)) → sign ≡ turn *ℤ sign_of odd
     → reduction_by_remainders k n shape ≡ Some (end, sign, power)
-core_some k n shape numbers end odd power sign turn w e l p t s =
-    let same : end ≡ end_of k n shape = e ∙ ap from_beta w.numbers_are in
-    let d = ap columns same in
-    let powers : power ≡ power_of k n shape = p ∙ ap (λ z. (size shape - size z) / n) same in
-    let signs : sign ≡ end_sign k n shape =
-    s
-    ∙ ap₂ ◌*ℤ◌ (t ∙ ap (λ m. minus_one_to (m * (k + 1))) powers) w.turns
-    ∙ sym (minus_one_to_add (power_of k n shape * (k + 1)) (rising_pairs (lowest n (beta k shape)))) in
-    let f : List ℕ → ℤ → ℕ → Option (List ℕ × ℤ × ℕ) = λ x y z. Some (x, y, z) in
-    narrow k n shape (omega arith)
-    ∙ ap (λ z. f (end_of k n shape) (end_sign k n shape) z) (sym powers)
-    ∙ ap (λ y. f (end_of k n shape) y power) (sym signs)
-    ∙ ap (λ x. f x sign power) (sym same)
+core_some k n shape numbers end odd power sign turn w e l p t s = search (rules, minus_one_to_add, narrow)
 
 pub core_reduces : (k n : ℕ) (shape : List ℕ) (answer : Reduction) → 1 ≤ n → IsWithinLimits shape → rows shape ≤ k → reduction_by_remainders k n shape ≡ answer → ReducesTo k n shape answer
 core_reduces k n shape answer h l r e = subst (ReducesTo k n shape) e (reduces_by_remainders k n shape h l.partition r)

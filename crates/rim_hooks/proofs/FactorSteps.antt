@@ -1,4 +1,5 @@
--- Steps from factor to factor, for any kind of step: a relation between a factor, a list of terms and the next list of terms.
+-- A product of several factors, in k variables, is computed step by step. A *step* is a relation between a factor, a list of terms and the next list
+-- of terms; the lemmas hold for any such relation.
 --     vanishes            if a factor has more than k rows, the steps can lead to the empty list
 --     factor_at           the list of factors without the first i is the factor at the index i, followed by the list without the first i + 1
 --     lead_on, heavy_here, heavy_later    the steps through x ∷ rest: a step with x, followed by the steps through `rest`
@@ -32,8 +33,6 @@ module _ {L : Type 0} (step : List ℕ → WholeTermsOf L → WholeTermsOf L →
         by (inr few) (inl e) r = let l = subst (λ parts. k < rows parts) e h.2 in absurd (omega arith)
         by (inr few) (inr m) r = ((some factor terms).0, (some factor terms).1, r m)
 
--- ---- the list of factors from the index i on
-
 pub factor_at : (xs : List (List ℕ)) (i : ℕ) (x : List ℕ) → slice_get xs i ≡ Some x → drop i xs ≡ x ∷ drop (i + 1) xs
 factor_at xs i x e =
     drop-cons xs i x (slice_get_within xs i x e)
@@ -45,8 +44,6 @@ first_two xs x y e d = sym (drop-none xs) ∙ factor_at xs 0 x e ∙ ap (λ (l :
 
 pub long_here : (k : ℕ) (x : List ℕ) (xs rest : List (List ℕ)) → xs ≡ x ∷ rest → k < rows x → HasLong k xs
 long_here k x xs rest e h = subst (HasLong k) (sym e) (x, inl refl, h)
-
--- ---- the steps through x ∷ rest: a step with the factor x, followed by the steps through `rest`
 
 module _ {L : Type 0} (shape : L → List ℕ) (step : List ℕ → WholeTermsOf L → WholeTermsOf L → Type 0) where
   pub lead_on : (xs rest : List (List ℕ)) (x : List ℕ) (terms next last : WholeTermsOf L) → xs ≡ x ∷ rest → step x terms next → StepsLead step next rest last

@@ -1,6 +1,6 @@
--- Fusion products that are reduced after each factor.
+-- Fusion products in k variables that are reduced after each factor.
 --     fusion_none          if there are at least two factors, and one has more than k rows, the steps lead to the empty list
-use Rattle.std.proofs.Common.{◌≡◌, ◌⊎◌, ℕ, ◌<◌, ◌≤◌, List, [], ◌∷◌, ◌++◌, length, refl, sym, ◌∙◌, ap, subst, inl, inr, arith, pos}
+use Rattle.std.proofs.Common.{◌≡◌, ◌⊎◌, ℕ, ◌<◌, ◌≤◌, List, [], ◌∷◌, ◌++◌, length, refl, sym, ap, subst, inl, inr, arith, pos, rules}
 use Rattle.sym_model.specs.Sum.{Among}
 use Rattle.sym_model.specs.Polynomial.{coefficient, scale}
 use Rattle.sym_model.specs.Partition.{IsPartition, rows, ArePartitions}
@@ -12,16 +12,12 @@ use Rattle.product_laws.proofs.FusionSteps.{fusion_step_some}
 use Rattle.rim_hooks.proofs.ClassicalLists.{classical_long_left, classical_long_right}
 use Rattle.rim_hooks.proofs.FactorSteps.{none_stays, vanishes}
 
--- ---- products in which a factor has more than k rows: the steps lead to the empty list
-
 step_none : (k n : ℕ) (factor : List ℕ) → IsFusionStep k n factor [] []
 step_none k n factor = record { collected = tt; sums = λ label. refl }
 
 nothing_fused : (k n : ℕ) (factor : List ℕ) (terms : WholeTerms) → IsPartition factor → k < rows factor → fused k n factor terms ≡ []
 nothing_fused k n factor [] p l = refl
-nothing_fused k n factor (t ∷ terms) p l =
-    ap (λ (xs : WholeTerms). scale t.1 (reflected_terms k n xs) ++ fused k n factor terms) (classical_long_right k t.0 factor p l)
-    ∙ nothing_fused k n factor terms p l
+nothing_fused k n factor (t ∷ terms) p l = search (rules, classical_long_right, (nothing_fused k n factor terms p l))
 
 step_long : (k n : ℕ) (factor : List ℕ) (terms : WholeTerms) → IsPartition factor → k < rows factor → IsFusionStep k n factor terms []
 step_long k n factor terms p l = record {

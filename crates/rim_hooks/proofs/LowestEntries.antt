@@ -1,6 +1,6 @@
--- The list `lowest` (each entry lowered by multiples of n as far as the entries stay different), computed from the last entry to the first with the
--- counts of the remainders.
-use Rattle.std.proofs.Common.{◌≡◌, ℕ, zero, suc, ◌+◌, ◌-◌, ◌*◌, ◌%◌, ◌<◌, ◌≤◌, ◌⊎◌, inl, inr, List, [], ◌∷◌, length, get_or, set, drop, replicate, refl, sym, ◌∙◌, ap, subst, arith}
+-- The list `lowest` (each entry lowered by multiples of n as far as the entries stay different), computed from the last entry to the first with a
+-- table of the number of entries for each remainder modulo n.
+use Rattle.std.proofs.Common.{◌≡◌, ℕ, zero, suc, ◌+◌, ◌-◌, ◌*◌, ◌%◌, ◌<◌, ◌≤◌, List, [], ◌∷◌, length, get_or, set, drop, replicate, refl, sym, ◌∙◌, ap, subst, arith, rules}
 use Rattle.std.proofs.lemmas.Bool.{cases_eq}
 use Rattle.std.proofs.lemmas.List.{get_or-set_same, get_or-set_other, get_or-replicate, length-set, length-replicate, drop_all, drop_more}
 use Rattle.std.proofs.Math.Nat.{mod-lt, mod-mod, mod-eq_of_lt}
@@ -13,8 +13,6 @@ use Rattle.rim_hooks.specs.Counts.{Counts}
 use Rattle.rim_hooks.specs.Sorting.{Sorts}
 use Rattle.rim_hooks.specs.declared.sorted.Sorted.{Sorted}
 
--- ---- the entries of a list from an index on
-
 pub drop_none : (xs : List ℕ) (i : ℕ) → i ≡ 0 → drop i xs ≡ xs
 drop_none [] zero e = refl
 drop_none (x ∷ xs) zero e = refl
@@ -26,8 +24,6 @@ drop_strict [] (suc i) f = tt
 drop_strict (x ∷ xs) zero f = f
 drop_strict (x ∷ xs) (suc i) f = drop_strict xs i (strict_tail x xs f)
 
--- ---- the number of entries for each remainder modulo n
-
 pub no_counts : (n : ℕ) (table : List ℕ) → n ≤ 512 → table ≡ replicate 512 0 → Counts n table []
 no_counts n table h e = record {
   room = ap length e ∙ length-replicate {A = ℕ} 512 0;
@@ -35,32 +31,11 @@ no_counts n table h e = record {
 }
 
 pub count_more : (n : ℕ) (table b : List ℕ) (x at : ℕ) → 1 ≤ n → n ≤ 512 → at ≡ x % n → Counts n table b → Counts n (set table at (get_or table at 0 + 1)) (x ∷ b)
-count_more n table b x at h m e c = record {
-  room = length-set table at (get_or table at 0 + 1) ∙ c.room;
-  counts = λ r l. by r l (cases_eq r at);
-}
-  where
-    below : at < n
-    below = let k = mod-lt x h in omega arith
+count_more n table b x at h m e c =
+    search (rules, length-set, cases_eq, mod-lt, get_or-set_same, alike-here, mod-eq_of_lt, get_or-set_other, alike-past)
 
-    by : (r : ℕ) → r < n → (r ≡ at) ⊎ (r ≡ at → ⊥) → get_or (set table at (get_or table at 0 + 1)) r 0 ≡ alike n r (x ∷ b)
-    by r l (inl d) =
-        let k = below in
-        let room = c.room in
-        let s = get_or-set_same table at (get_or table at 0 + 1) 0 (omega arith) in
-        let t = c.counts at k in
-        let u = alike-here n at x b (sym (e) ∙ sym (mod-eq_of_lt k)) in
-        ap (λ i. get_or (set table at (get_or table at 0 + 1)) i 0) d ∙ s ∙ omega arith ∙ ap (λ i. alike n i (x ∷ b)) (sym d)
-    by r l (inr d) =
-        get_or-set_other table at r (get_or table at 0 + 1) 0 d
-        ∙ c.counts r l
-        ∙ sym (alike-past n r x b (λ g. d (sym (mod-eq_of_lt l) ∙ sym g ∙ sym e)))
-
--- if `table` has the counts of the list b, its number at the index x % n is the number of entries of b with the same remainder modulo n as x
 pub count_found : (n : ℕ) (table b : List ℕ) (x at : ℕ) → 1 ≤ n → at ≡ x % n → Counts n table b → get_or table at 0 ≡ alike n x b
-count_found n table b x at h e c =
-    let k = mod-lt x h in
-    c.counts at (omega arith) ∙ alike-remainder n at x b (ap (λ v. v % n) e ∙ mod-mod x n)
+count_found n table b x at h e c = search (rules, mod-lt, alike-remainder, mod-mod)
 
 -- ---- the loop of `lowest_entries`, which lowers one entry after another
 

@@ -1,6 +1,6 @@
--- Quantum products that are reduced after each factor.
+-- Quantum products in k variables that are reduced after each factor.
 --     quantum_none         if there are at least two factors, and one has more than k rows, the steps lead to the empty list
-use Rattle.std.proofs.Common.{◌≡◌, ◌⊎◌, ℕ, ◌<◌, ◌≤◌, List, [], ◌∷◌, ◌++◌, length, refl, sym, ◌∙◌, ap, subst, inl, inr, arith, pos}
+use Rattle.std.proofs.Common.{◌≡◌, ◌⊎◌, ℕ, ◌<◌, ◌≤◌, List, [], ◌∷◌, ◌++◌, length, refl, sym, ap, subst, inl, inr, arith, pos, rules}
 use Rattle.sym_model.specs.Sum.{Among}
 use Rattle.sym_model.specs.Partition.{IsPartition, rows, ArePartitions}
 use Rattle.sym_model.specs.WholeTerms.{WholeTerms, coefficient_by, same_power}
@@ -12,16 +12,12 @@ use Rattle.product_laws.proofs.QuantumSteps.{quantum_step_made, quantum_step_som
 use Rattle.rim_hooks.proofs.ClassicalLists.{classical_long_left, classical_long_right}
 use Rattle.rim_hooks.proofs.FactorSteps.{none_stays, vanishes}
 
--- ---- products in which a factor has more than k rows: the steps lead to the empty list
-
 step_none : (k n : ℕ) → 1 ≤ n → (factor : List ℕ) → IsQuantumStep k n factor [] []
 step_none k n h factor = quantum_step_made k n factor [] [] h tt (λ label. refl)
 
 nothing_quantized : (k n : ℕ) (factor : List ℕ) (terms : PowerTerms) → IsPartition factor → k < rows factor → quantized k n factor terms ≡ []
 nothing_quantized k n factor [] p l = refl
-nothing_quantized k n factor (t ∷ terms) p l =
-    ap (λ (xs : WholeTerms). with_power t.0.0 t.1 (reduced_terms xs (reductions_of k n xs)) ++ quantized k n factor terms) (classical_long_right k t.0.1 factor p l)
-    ∙ nothing_quantized k n factor terms p l
+nothing_quantized k n factor (t ∷ terms) p l = search (rules, classical_long_right, (nothing_quantized k n factor terms p l))
 
 step_long : (k n : ℕ) → 1 ≤ n → (factor : List ℕ) (terms : PowerTerms) → IsPartition factor → k < rows factor → IsQuantumStep k n factor terms []
 step_long k n h factor terms p l =

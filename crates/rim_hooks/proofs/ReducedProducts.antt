@@ -1,10 +1,12 @@
--- Products that are reduced after each factor, for any reduction.
+-- Products that are reduced after each factor, for any reduction. A *step* multiplies a list of terms by one more factor and reduces each partition
+-- of the product. Its *weight* is the sum of |c|·W over the terms (label, c) of the list; W is the sum of the absolute values of the coefficients of
+-- the classical product of the partition of the label and the factor.
 --     mass_multiplied     the absolute values of the coefficients of the next list add up to at most the weight of the step
 --     gains_classical     the list of a classical product may be replaced by any list with the same coefficients
 --     overflow_taken, overflow_list    overflows when the reduced product of a label and a factor is added
 --     heavy_step          if a step has an overflow, it has a weight of 2^127 or more
---     room_next           the labels of the next list have room for the cells of the factors that remain
-use Rattle.std.proofs.Common.{◌≡◌, ℕ, zero, suc, ◌+◌, ◌*◌, ◌^◌, ◌≤◌, Bool, true, cond, List, [], ◌∷◌, ◌++◌, append-nil, length, map, refl, sym, ◌∙◌, ap, subst, inl, inr, arith, ℤ, pos, ◌*ℤ◌, Some}
+--     room_next           the cells of each label of the next list, with those of the factors that remain, are at most 4096
+use Rattle.std.proofs.Common.{◌≡◌, ℕ, zero, suc, ◌+◌, ◌*◌, ◌^◌, ◌≤◌, Bool, true, cond, List, [], ◌∷◌, ◌++◌, append-nil, length, map, refl, sym, ◌∙◌, ap, subst, inl, inr, arith, ℤ, pos, Some, rules}
 use Rattle.std.specs.Prelude.{nat_abs, slice_get}
 use Rattle.std.specs.Cmp.{IsEquivalence}
 use Rattle.std.proofs.lemmas.Bool.{and_parts}
@@ -24,7 +26,7 @@ use Rattle.alternant_laws.proofs.ClassicalProducts.{classical_product-term}
 use Rattle.product_laws.proofs.Growing.{label_size}
 use Rattle.product_laws.proofs.LeadingSteps.{last_changed}
 use Rattle.linear_combinations.specs.Entries.{IsCombination, IsCanonicalList, is_ordered, are_terms}
-use Rattle.linear_combinations.specs.Gains.{WholeTermsOf, HaveLabels, Gains, Overflows, over, mass, replaced, scaled}
+use Rattle.linear_combinations.specs.Gains.{WholeTermsOf, HaveLabels, Gains, Overflows, mass, replaced, scaled}
 use Rattle.linear_combinations.proofs.Gains.{gains_as, overflows_alone, overflows_both, replaced_append, replaced_over, scaled_append, scaled_over}
 use Rattle.linear_combinations.proofs.Masses.{labels_gained, labels_replaced, mass_append, mass_replaced, mass_scaled, overflow_mass}
 use Rattle.linear_combinations.proofs.Totals.{term-among}
@@ -34,14 +36,12 @@ use Rattle.rim_hooks.proofs.ClassicalLists.{mass_total}
 use native.Mathlib.Nat.{mul-le-mul_left}
 use Rattle.sym_model.proofs.Polynomials.{pair_determined}
 
--- each term of a table has a coefficient other than 0
 pub counted : {L : Type 0} (eq : L → L → Bool) (is_label : L → Bool) (terms : WholeTermsOf L) → IsCombination eq is_label whole terms → (t : L × ℤ) → Among t terms → 1 ≤ nat_abs t.1
 counted eq is_label terms c t m =
     let r = is_reduced-tells (whole t.1) (and_parts (is_reduced (whole t.1)) _ (term-among is_label whole terms c.proper t m)).0 in
     let n = r.nonzero in
     omega arith
 
--- the weight of the step from the list xs ++ ys is the weight of that from xs plus that from ys
 pub weight-append : {L : Type 0} (shape : L → List ℕ) (k : ℕ) (factor : List ℕ) (xs ys : WholeTermsOf L)
     → step_weight shape k factor (xs ++ ys) ≡ step_weight shape k factor xs + step_weight shape k factor ys
 weight-append shape k factor [] ys = omega arith
@@ -52,10 +52,7 @@ module _ {L : Type 0} (k : ℕ) (shape : L → List ℕ) (reduced : L → List �
   mass_list l terms = let m = mass_replaced (reduced l) 1 terms (λ t n. light l t.0) in omega arith
 
   mass_product : (factor : List ℕ) (l : L) → mass (products k shape reduced factor l) ≤ classical_weight k (shape l ∷ factor ∷ [])
-  mass_product factor l =
-      let m = mass_list l (classical_product k (shape l ∷ factor ∷ [])) in
-      let e = mass_total (classical_product k (shape l ∷ factor ∷ [])) in
-      omega arith
+  mass_product factor l = search (rules, mass_list, mass_total)
 
   pub mass_multiplied : (factor : List ℕ) (terms : WholeTermsOf L) → mass (multiplied k shape reduced factor terms) ≤ step_weight shape k factor terms
   mass_multiplied factor [] = omega arith
@@ -66,9 +63,6 @@ module _ {L : Type 0} (k : ℕ) (shape : L → List ℕ) (reduced : L → List �
       let d = mass_multiplied factor terms in
       omega arith
 
-  -- if the absolute values of the coefficients of `list` add up to at most w, and adding c times the reductions of `list` to `old` overflows, then
-  -- `OverflowsWithin` holds for `old` and |c|·w: there is a list for which the absolute values of the coefficients add up to at most |c|·w, and which
-  -- overflows when it is added to `old`
   pub overflow_list : (eq : L → L → Bool) (old : WholeTermsOf L) (l : L) (c : ℤ) (list : WholeTerms) (w : ℕ) → mass list ≤ w
       → Overflows eq old (scaled c (replaced (reduced l) list)) → OverflowsWithin eq old (nat_abs c * w)
   overflow_list eq old l c list w h o =
@@ -77,20 +71,10 @@ module _ {L : Type 0} (k : ℕ) (shape : L → List ℕ) (reduced : L → List �
       let d = mul-le-mul_left (nat_abs c) b in
       (scaled c (replaced (reduced l) list), omega arith, o)
 
-  -- if `list` has the coefficients of the classical product of the shape of l and the factor, adding c times the reductions of `list` is the same as
-  -- adding c times the reduced product of l and the factor
   pub gains_classical : (old new : WholeTermsOf L) (l : L) (c : ℤ) (factor : List ℕ) (list : WholeTerms) → Same list (classical_product k (shape l ∷ factor ∷ []))
       → Gains old (scaled c (replaced (reduced l) list)) new → Gains old (scaled c (products k shape reduced factor l)) new
-  gains_classical old new l c factor list s =
-      let product = classical_product k (shape l ∷ factor ∷ []) in
-      gains_as old (scaled c (replaced (reduced l) list)) (scaled c (products k shape reduced factor l)) new
-      (λ φ.
-      scaled_over c φ (replaced (reduced l) list)
-      ∙ ap (λ z. c *ℤ z) (replaced_over (reduced l) φ list ∙ pair_determined list product (λ μ. over φ (reduced l μ)) s ∙ sym (replaced_over (reduced l) φ product))
-      ∙ sym (scaled_over c φ (products k shape reduced factor l)))
+  gains_classical old new l c factor list s = search (rules, gains_as, scaled_over, replaced_over, pair_determined)
 
-  -- let `cur` be the sum of the reduced products of the terms before p with the factor: if `OverflowsWithin` holds for `cur` and |coefficient of p|
-  -- times the classical weight of p and the factor, the step has a weight of 2^127 or more
   pub heavy_step : (eq : L → L → Bool) (factor : List ℕ) (done : WholeTermsOf L) (p : L × ℤ) (rest terms cur : WholeTermsOf L) → done ++ p ∷ rest ≡ terms
       → Gains [] (multiplied k shape reduced factor done) cur → OverflowsWithin eq cur (nat_abs p.1 * classical_weight k (shape p.0 ∷ factor ∷ []))
       → 2 ^ 127 ≤ step_weight shape k factor terms
@@ -139,7 +123,6 @@ overflow_taken laws same old l a w some large =
     let p : w * 1 ≤ w * a = mul-le-mul_left w some in
     ((l, pos (2 ^ 127)) ∷ [], omega arith, overflows_alone laws same old l (pos (2 ^ 127)) (omega arith))
 
--- if |c| ≥ 2^127, adding the term c·l to `old` overflows
 pub overflow_one : {L : Type 0} (eq : L → L → Bool) (old : WholeTermsOf L) (l : L) (c : ℤ) → eq l l ≡ true → 2 ^ 127 ≤ nat_abs c → Overflows eq old ((l, c) ∷ [])
 overflow_one eq old l c e large = let h = ap (λ b. cond b (nat_abs c) 0) e in (l, omega arith)
 
@@ -148,7 +131,6 @@ overflow_one eq old l c e large = let h = ap (λ b. cond b (nat_abs c) 0) e in (
 pub reductions_append : {K L : Type 0} (c : ℤ) (image : K → WholeTermsOf L) (xs ys : WholeTermsOf K) → scaled c (replaced image (xs ++ ys)) ≡ scaled c (replaced image xs) ++ scaled c (replaced image ys)
 reductions_append c image xs ys = ap (scaled c) (replaced_append image xs ys) ∙ scaled_append c (replaced image xs) (replaced image ys)
 
--- if the labels of a list, with its coefficients read as fractions, have at most k rows, so have the labels of the list itself
 pub rows_listed : (k : ℕ) (list : WholeTerms) → ((t : List ℕ × Fraction) → Among t (as_fractions list) → rows t.0 ≤ k) → HaveLabels (λ μ. rows μ ≤ k) list
 rows_listed k list h t m = h (t.0, (t.1, 1)) (Among-map (λ (u : List ℕ × ℤ). let term : List ℕ × Fraction = (u.0, (u.1, 1)) in term) t list m)
 
@@ -159,8 +141,6 @@ pub few_at : (k : ℕ) (factors : List (List ℕ)) (at : ℕ) (x : List ℕ) →
 few_at k [] at x e f = cc
 few_at k (y ∷ factors) zero x e f = let same : y ≡ x = cc in subst (λ z. rows z ≤ k) same (f y (inl refl))
 few_at k (y ∷ factors) (suc at) x e f = few_at k factors at x e (λ parts m. f parts (inr m))
-
--- ---- the step from the first factor to the product of the first two
 
 -- the step with the factor `second` from the list that has only the term l, with the coefficient 1: the result of the step is the reduced product of
 -- l and `second`, and if the step overflows, its weight is 2^127 or more
@@ -183,7 +163,6 @@ leads_sorted step start [] last other l e s = absurd (omega arith)
 leads_sorted step start (first ∷ []) last other l e s = absurd (omega arith)
 leads_sorted step start (first ∷ second ∷ factors) last other l e s = last_changed step last other e factors second ((start first, pos 1) ∷ []) s
 
--- each label of a canonical list is a partition of size at most 4096
 pub label_small : (terms : WholeTerms) → IsCanonicalList printed_order is_label whole terms → (t : List ℕ × ℤ) → Among t terms → size t.0 ≤ 4096
 label_small terms c t m =
     (is_label-tells t.0 (and_parts (is_reduced (whole t.1)) (is_label t.0) (term-among is_label whole terms (and_parts (is_ordered printed_order terms) (are_terms whole is_label terms) c).1 t m)).1).size

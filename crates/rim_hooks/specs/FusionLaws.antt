@@ -50,7 +50,7 @@ shape_light k n label μ = by (alcove_reduction k n μ) (alcove_is k n μ)
 abbrev pub ShapeFits : ℕ → ℕ → List ℕ → Type 0
 ShapeFits k most shape = (rows shape ≤ k) × (size shape ≤ most)
 
--- if the reduction is not None, its partition has at most k rows and at most `most` cells
+-- if the reduction of a partition into the alcove is not None, the reduced partition has at most k rows and at most `most` cells
 abbrev pub EndFits : ℕ → ℕ → Option (List ℕ × ℤ) → Type 0
 EndFits k most None = Unit {0}
 EndFits k most (Some end) = ShapeFits k most end.0
@@ -127,8 +127,9 @@ shape_made k n factor terms next rule is gains = record {
       φ ∙ ap (λ l. over φ l) (multiplied_fused k n factor terms));
 }
 
--- if `next` is a step of a fusion product from `terms` with the factor, each table `other` that has, for every φ, the same sum of coefficient times
--- φ(label) as `next` is also such a step
+-- let `next` be a result of a step of a fusion product from `terms` with `factor`, and let each label of `other` occur once, with a coefficient other
+-- than 0 (`IsCombination`). If, for every φ, the sum of c·φ(label) over the terms (label, c) of `other` is equal to the same sum for `next`, then
+-- `other` is also a result of this step
 pub shape_other : (k n : ℕ) (factor : List ℕ) (terms next other : WholeTerms)
     → IsCombination (pointwise nat_eq) is_label whole other
     → ((φ : List ℕ → ℤ) → over φ other ≡ over φ next) → IsFusionStep k n factor terms next

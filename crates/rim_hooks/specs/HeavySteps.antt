@@ -1,4 +1,6 @@
--- Products of several factors that are reduced after each factor: some step has a weight of 2^127 or more.
+-- Products of several factors that are reduced after each factor: some step has a weight of 2^127 or more. A step multiplies a list of terms by one
+-- more factor and reduces the product. Its weight is the sum of |c|·W over the terms (label, c) of the list; W is the sum of the absolute values of
+-- the coefficients of the classical product of the partition of the label and the factor.
 use Rattle.std.specs.Prelude.{ℕ, List}
 use Rattle.sym_model.specs.PastLimit.{HasHeavy}
 use Rattle.sym_model.specs.ReductionSteps.{IsStepWeight}

@@ -44,7 +44,7 @@ power_light k n label μ = by (reduction_by_remainders k n μ) (core_is k n μ)
     by None s = omega arith
     by (Some r) s = let l = sign_light r.1 s in omega arith
 
--- ---- the power of q plus the number of cells of a reduced label is at most the number of cells of the partition that is reduced
+-- ---- the power of q and the size of the reduced partition add up to at most the size of the partition that is reduced
 
 power_cells : (k n cells : ℕ) (end : List ℕ) (power : ℕ) → 1 ≤ n → cells ≡ size end + power * n
     → power + size end ≤ cells
@@ -114,8 +114,9 @@ power_made k n factor terms next rule is gains =
     (λ φ. sums_gained (multiplied k shape_of (reduced_power k n) factor terms) next gains φ
     ∙ ap (λ l. over φ l) (multiplied_quantized k n factor terms)))
 
--- if `next` is a step of a quantum product from `terms` with the factor, each table `other` that has, for every φ, the same sum of coefficient times
--- φ(label) as `next` is also such a step
+-- let `next` be a result of a step of a quantum product from `terms` with `factor`, and let each label of `other` occur once, with a coefficient
+-- other than 0 (`IsCombination`). If, for every φ, the sum of c·φ(label) over the terms (label, c) of `other` is equal to the same sum for `next`,
+-- then `other` is also a result of this step
 pub power_other : (k n : ℕ) (factor : List ℕ) (terms next other : PowerTerms)
     → IsCombination (λ a b. nat_eq a.0 b.0 && pointwise nat_eq a.1 b.1) is_power_label whole other
     → ((φ : ℕ × List ℕ → ℤ) → over φ other ≡ over φ next) → IsQuantumStep k n factor terms next

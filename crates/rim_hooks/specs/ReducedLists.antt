@@ -1,5 +1,5 @@
--- The reduction of a partition that occurs in the product of a label and a factor, as a list: it has one term, or no term if the partition reduces to
--- 0.
+-- A product of partitions is reduced by rim hooks (quantum products) or into the alcove (fusion products): each partition of the product becomes
+-- another one with a sign, or 0. Here the reduction of one partition is a list of terms: one term, or no term if it is 0.
 use Rattle.std.specs.Prelude.{ℕ, ◌+◌, ℤ, Option, Some, None, List, [], ◌∷◌}
 use Rattle.sym_model.specs.AlcoveReduction.{alcove_reduction}
 use Rattle.sym_model.specs.WholeTerms.{WholeTerms}
@@ -7,7 +7,8 @@ use Rattle.sym_model.specs.Reductions.{Reduction}
 use Rattle.beta_list_laws.specs.LowestList.{reduction_by_remainders}
 use Rattle.product_laws.specs.FactorSteps.{PowerTerms}
 
--- the term of the reduction r, multiplied by the power of q of `label`, with the sign as its coefficient; no term if the reduction is 0
+-- for the reduction r of a partition by rim hooks: the reduced partition as a term, with the sign as its coefficient, multiplied by the power of q of
+-- `label`; no term if the reduction is 0
 abbrev pub at_power : ℕ × List ℕ → Reduction → PowerTerms
 at_power label None = []
 at_power label (Some r) = ((label.0 + r.2, r.0), r.1) ∷ []

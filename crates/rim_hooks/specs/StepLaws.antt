@@ -1,5 +1,6 @@
--- The results of steps are lists in which each label occurs once, with a coefficient other than 0. The coefficients of a list are determined by its
--- sums of coefficient times φ(label), for all functions φ.
+-- A step of a product of several factors multiplies a list of terms by one factor and reduces the product. In the list that results, each label
+-- occurs once, with a coefficient other than 0. The coefficients of a list are determined by its sums of coefficient times φ(label), for all
+-- functions φ.
 use Rattle.std.proofs.Common.{◌≡◌, Bool, true, false, cond, ◌&&◌, [], ◌∷◌, sym, ◌∙◌, ap, ℤ, pos}
 use Rattle.std.proofs.Common.{◌*ℤ◌, subst, inl, inr, arith}
 use Rattle.std.specs.List.{IsDistinct, AllByRecursion}
@@ -46,7 +47,7 @@ module _ {L : Type 0} (eq test : L → L → Bool) (eq_true : (a b : L) → eq a
         collected is_label terms (IsDistinct-tail eq t.0 (keys_of terms) d) here.1,
       )
 
-  -- in a table of terms each label occurs once, with a coefficient other than 0 (`AreCollected`)
+  -- if a list of terms satisfies `IsCombination`, each label occurs once, with a coefficient other than 0 (`AreCollected`)
   pub collected_table : (is_label : L → Bool) (terms : WholeTermsOf L)
       → IsCombination eq is_label whole terms → AreCollected test terms
   collected_table is_label terms c = collected is_label terms c.distinct c.proper
@@ -67,7 +68,8 @@ same_by {L} test first second e label =
     by_over test first label ∙ e (λ l. cond (test l label) (pos 1) (pos 0))
     ∙ sym (by_over test second label)
 
--- if adding the terms `gained` to the empty table gives `new`, then for each φ the sum of coefficient times φ(label) over `new` is that over `gained`
+-- if `new` is the empty list plus the terms `gained` (`Gains`), then for each φ the sum of c·φ(label) over the terms (label, c) of `new` is equal to
+-- the same sum over the terms of `gained`
 pub sums_gained : {L : Type 0} (gained new : WholeTermsOf L) → Gains [] gained new → (φ : L → ℤ)
     → over φ new ≡ over φ gained
 sums_gained gained new a φ = let s = a.sums φ in omega (arith, ints)

@@ -7,9 +7,10 @@ ghost use Rattle.sym_model.specs.Headline.{ReadsBack};
 ghost use Rattle.rim_hooks.specs.PrintedSteps.{ReadsReducedInSteps, ReadsReflectedInSteps};
 ghost use Rattle.sym_model.specs.Partition.{ArePartitions};
 
-/// The main statements of `quantum` and `fusion`, factor by factor: a text reads back as a
-/// canonical list that is the answer to the command (`ReadsBack`) if and only if it reads back as a
-/// list that results from multiplying by one factor after another and reducing after each factor.
+/// The main statements of the commands `quantum` and `fusion`, with a reduction after each factor:
+/// a text can be read as a list of terms that is the answer to the command (`ReadsBack`) if and
+/// only if it can be read as a list of terms that results from multiplying by one factor after
+/// another and reducing after each factor.
 ///
 /// Example: the answer to `quantum 2 2 1 - 1 - 1 - 1` is the reduction of the classical product,
 /// (4) + 3·(3,1) + 2·(2,2). Reducing after each factor gives (2) + (1,1), then 2·(2,1), since (3)

@@ -12,9 +12,9 @@ use linear_combinations::{Label, Lin};
 use partitions::Partition;
 use std::alloc::Global;
 
-/// A reduction of partitions, with labels of the type `L` for the reduced terms. If the product of
-/// a factor and the partition of a label has a term with the partition μ, then the reduction makes
-/// one new label with a sign from the label and μ, or nothing.
+/// A way to reduce partitions: by rim hooks (quantum products) or into the alcove (fusion
+/// products). A product of a label and a factor has terms with partitions μ; each μ is reduced to
+/// one label of the type `L` with a sign, or to nothing.
 pub(crate) trait Reduction<L: Label> {
     // The parameters of the reduction are within their limits.
     ghost is_rule: { Self → Type 0 };

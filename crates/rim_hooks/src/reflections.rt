@@ -39,8 +39,8 @@ pub fn alcove_of(
     ensures value { IfOk result (λ alcove. signed_partition alcove
         ≡ alcove_reduction k n shape.now) }
 
-    // The reduction is 0 if and only if two entries of the beta list have the same remainder modulo
-    // n; otherwise the remainders of the entries and the sum of the entries determine the reduction
+    // The reduction into the alcove is 0 if and only if two entries of the beta list have the same
+    // remainder modulo n. Otherwise the remainders and the sum of the entries determine the result
     // (`IsAlcoveOf`).
     ensures remainders { IfOk result (λ alcove. MatchOption alcove
         (has_equal_entries (remainders n (beta k shape.now)) ≡ true)
@@ -59,7 +59,7 @@ pub fn alcove_of(
 }
 
 /// For a list of entries with different remainders modulo n: the number of entries for each
-/// remainder (0 or 1), and the sum of the quotients of the entries by n, rounded down.
+/// remainder, which is 0 or 1, and the sum of the quotients of the entries by n, each rounded down.
 struct Turns {
     counts: [u16; MAX_CELLS],
     turns: u32,

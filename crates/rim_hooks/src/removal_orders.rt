@@ -11,12 +11,10 @@ ghost use Rattle.sym_model.specs.Reductions.{reduced_terms};
 ghost use Rattle.sym_model.specs.WholeTerms.{WholeTermsOf, numerators, same_power};
 ghost use Rattle.rim_hooks.specs.AnyOrder.{HaveSameSums};
 
-/// The order in which rim hooks are removed does not matter in a quantum product. Take any
-/// reductions of all terms of the classical product. Then a list of terms is the sum of such
-/// reductions, these or others, if and only if at each label it has the same total coefficient as
-/// the sum of these. The same holds for the step with one more factor in a product that is reduced
-/// after each factor, if each label occurs once in the list of terms, with a coefficient other than
-/// 0.
+/// The order in which rim hooks are removed does not matter in a quantum product. If the terms of
+/// the classical product are reduced in another order, each label has the same total coefficient in
+/// the result. `step` says this for one step: it multiplies a list of terms by one more factor,
+/// reduces each term of the product and adds up the terms with equal labels.
 ///
 /// Example: from (2,2), a rim hook of two cells can be removed in the second column or in the
 /// second row; then the two cells that remain are removed. Both orders end with the empty

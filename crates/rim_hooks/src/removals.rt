@@ -37,8 +37,8 @@ pub fn core_of(alloc: Global, shape: &Partition, k: u16, n: u16) -> Result<Optio
     requires cells { (k < n) × (n ≤ 512) }
     ensures reduces { IfOk result (λ core. ReducesTo k n shape.now (reduction core)) }
 
-    // Removing the rim hooks in any other order gives the same result; it is also the reduction
-    // computed from remainders, `reduction_by_remainders`.
+    // Removing the rim hooks in any other order gives the same result. It is also the result of
+    // `reduction_by_remainders`, which uses the remainders of the beta list modulo n.
     ensures only { IfOk result (λ core. (other : Reduction) → ReducesTo k n shape.now other
         → other ≡ reduction core) }
     ensures remainders { IfOk result
@@ -59,8 +59,8 @@ pub fn core_of(alloc: Global, shape: &Partition, k: u16, n: u16) -> Result<Optio
     }))
 }
 
-/// Whether (-1)^(power·(k + 1)) is -1: the factor that `power` removals contribute to the sign in
-/// addition to the sign of sorting the entries.
+/// Whether (-1)^(power·(k + 1)) is -1. The sign of `power` removals of rim hooks is this power of
+/// -1 times the sign of sorting the lowered entries of the beta list.
 fn turns_the_sign(power: u16, k: u16) -> bool
     ensures { sign_of result ≡ minus_one_to (power * (k + 1)) }
 {

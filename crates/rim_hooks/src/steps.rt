@@ -109,8 +109,8 @@ fn factor_at(factors: &Factors, at: usize) -> &Partition
     factors.get(at).unwrap()
 }
 
-/// The product of the factors, reduced after each factor, as a list in the printed order. Each
-/// factor must have at most as many rows as there are variables.
+/// The product of the factors, reduced after each factor, as a list in the order in which terms are
+/// printed. Each factor must have at most as many rows as there are variables.
 pub(crate) fn product_in_steps<L: Label, R: Reduction<L>>(
     alloc: Global,
     rule: &R,

@@ -1,4 +1,4 @@
--- Row insertion in vectors, as computed by growing.rt.
+-- The row insertion of a letter into a tableau whose rows are vectors, as the code in growing.rt computes it.
 use Rattle.std.proofs.Common.{◌≡◌, ℕ, zero, suc, ◌+◌, ◌<◌, ◌≤◌, List, [], ◌∷◌, ◌++◌, length, take, drop, get_or, Vec, Option, Some, None, ◌∙◌, ap, ap₂, sym, refl, subst, arith, append_assoc}
 use Rattle.std.specs.declared.alloc.Global.{Global}
 use Rattle.std.proofs.Math.ListN.{set}
@@ -11,8 +11,6 @@ use Rattle.insertion_laws.proofs.Removals.{grown-here, grown-below}
 use Rattle.row_insertion.specs.RowLists.{rows_in}
 use Rattle.std.proofs.Math.Seq.{drop-length, take-length}
 use Rattle.std.proofs.lemmas.Grind.{take-set_at}
-
--- ---- a letter inserted into one row
 
 pub put_here :
     (a at x : ℕ) (row : List ℕ) → at < length row → ((k : ℕ) → k < at → get_or row k 0 ≤ a) → x ≡ get_or row at x → a < x
@@ -40,8 +38,6 @@ put_last a (x ∷ row) h =
     let r = put_last a row (λ k n. h (suc k) (omega arith)) in
     (with-more a x row first ∙ ap (λ w. x ∷ w) r.0, bumped-more a x row first ∙ r.1)
 
--- ---- a list of vectors as a list of rows (`rows_in`)
-
 pub rows_in-set : (rows : List (Vec ℕ Global)) (i : ℕ) (row : Vec ℕ Global) → rows_in (set rows i row) ≡ set (rows_in rows) i row.items
 rows_in-set [] i row = refl
 rows_in-set (r ∷ rows) zero row = refl
@@ -68,8 +64,6 @@ pub end-new : (i k : ℕ) (rows : List (List ℕ)) → i ≡ length rows → wit
 end-new i k [] h = refl
 end-new zero k (row ∷ rows) h = absurd (omega arith)
 end-new (suc i) k (row ∷ rows) h = ap (λ (l : List (List ℕ)). row ∷ l) (end-new i k rows (omega arith))
-
--- ---- the insertion of a letter, row by row
 
 -- inserting `first` into the tableau `start` gives the first i rows of `rows`, followed by the other rows of `rows` with `letter` inserted into them,
 -- and the cell added is in the same row of the whole tableau for both insertions

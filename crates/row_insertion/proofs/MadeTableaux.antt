@@ -50,8 +50,6 @@ shape_within rows h l =
       small = omega arith;
     }
 
--- ---- the filling into which the rows are written one by one
-
 pub rows_start :
     (p : List (List ℕ)) (shape : List ℕ × List ℕ) (w : List ℕ) (filled : SkewFilling) → shape ≡ (shape_of p, [])
     → filled ≡ filled_with shape.0 shape.1 w → IsWritingRows p filled.rows filled 0
@@ -81,8 +79,6 @@ is_tableau_then rows t h e =
     let made = tableau_from rows h in
     ap is_tableau e ∙ and_from (are_letters (letters_of rows)) (semistandard [] rows) made.letters made.order
 
--- ---- the rows copied one by one from a tableau
-
 pub row_copied :
     (list after : List (Vec ℕ Global)) (row : Vec ℕ Global) (rows : List (List ℕ)) (at : ℕ) → at < length rows
     → rows_in list ≡ take at rows → after ≡ list ++ row ∷ [] → row.items ≡ row_of rows (at + 1) → rows_in after ≡ take (at + 1) rows
@@ -90,8 +86,6 @@ row_copied list after row rows at h e a f =
     let place : at + 1 - 1 ≡ at = omega arith in
     ap rows_in a ∙ map-append (λ (v : Vec ℕ Global). v.items) list (row ∷ [])
     ∙ ap₂ (λ (l : List (List ℕ)) w. l ++ w ∷ []) e (f ∙ ap (λ n. get_or rows n []) place) ∙ sym (take_more rows at [] h)
-
--- ---- the reading word: the rows from the last to the first
 
 pub read_more :
     (w after row : List ℕ) (rows : List (List ℕ)) (i : ℕ) → 0 < i → i ≤ length rows → w ≡ letters_of (reverse (drop i rows))

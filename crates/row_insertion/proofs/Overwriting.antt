@@ -33,8 +33,6 @@ all_written (suc at) (y ∷ new) (z ∷ old) h l = ap (λ v. y ∷ v) (all_writt
 no_part : (row : ℕ) → part [] row ≡ 0
 no_part row = get_or_past {X = ℕ} [] (row - 1) 0 (omega arith)
 
--- ---- a row of a filling overwritten number by number
-
 -- `now` is the filling `old` with the first `at` numbers of row `row` replaced by the first `at` numbers of `numbers`
 pub record IsWriting (old now : SkewFilling) (row : ℕ) (numbers : List ℕ) (at : ℕ) : Type 0 where
   pub filling : now ≡ with_row old row (take at numbers ++ drop at (row_of old.rows row))

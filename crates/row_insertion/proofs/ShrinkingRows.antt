@@ -1,4 +1,4 @@
--- Row insertion undone in vectors, as computed by shrinking.rt.
+-- The inverse of row insertion in a tableau whose rows are vectors, as the code in shrinking.rt computes it.
 use Rattle.std.proofs.Common.{◌≡◌, ◌≢◌, ◌⊎◌, ℕ, zero, suc, ◌+◌, ◌-◌, ◌<◌, ◌≤◌, List, [], ◌∷◌, ◌++◌, length, take, drop, get_or, Vec, Option, Some, None, IsSome, unwrap_or, ◌∙◌, ap, ap₂, sym, refl, subst, inl, inr, arith}
 use Rattle.std.specs.declared.alloc.Global.{Global}
 use Rattle.std.specs.List.{remove}
@@ -10,8 +10,6 @@ use Rattle.insertion_laws.proofs.InsertedRows.{some_same}
 use Rattle.insertion_laws.proofs.RowsBack.{back-more, back-here, letter-more, letter-here, over-filled}
 use Rattle.insertion_laws.proofs.Removals.{ending-here, ending-below, without-here, without-below}
 use Rattle.row_insertion.specs.RowLists.{rows_in, row_at, without_end}
-
--- ---- a row without its last letter
 
 pub take_front : (row : List ℕ) → take (length row - 1) row ≡ without_last row
 take_front [] = refl
@@ -26,8 +24,6 @@ at_end (a ∷ []) d h = refl
 at_end (a ∷ b ∷ row) d h =
     let e : length (a ∷ b ∷ row) - 1 ≡ suc (length (b ∷ row) - 1) = omega arith in
     ap (λ n. get_or (a ∷ b ∷ row) n d) e ∙ at_end (b ∷ row) d (omega arith)
-
--- ---- the first row that ends with a given number (`row_ending`)
 
 pub ending_at :
     (k i : ℕ) (rows : List (List ℕ)) → i < length rows → ((j : ℕ) → j < i → last_of (row_at rows j) ≢ k) → last_of (row_at rows i) ≡ k
@@ -51,8 +47,6 @@ without_ending k (row ∷ rows) = elim (cases_eq (last_of row) k) [
       ∙ sym (without-below k row rows n)
 ]
 
--- ---- the last number removed from row i (`without_end`)
-
 pub shorter_row :
     (rows : List (Vec ℕ Global)) (i : ℕ) (new : Vec ℕ Global) → i < length rows → new.items ≡ without_last (row_at (rows_in rows) i)
     → 0 < length new.items → rows_in (set rows i new) ≡ without_end i (rows_in rows)
@@ -67,8 +61,6 @@ pub no_row :
 no_row [] i new h e f = absurd (omega arith)
 no_row (r ∷ rows) zero new h e f = ap (λ w. row_over w (rows_in rows)) (sym f ∙ e)
 no_row (r ∷ rows) (suc i) new h e f = ap (λ (l : List (List ℕ)). r.items ∷ l) (no_row rows i new (omega arith) e f)
-
--- ---- the last letter of a row that is smaller than a given letter, and its replacement (`row_back`, `letter_back`)
 
 pub back_at :
     (b i : ℕ) (row : List ℕ) → i < length row → ((k : ℕ) → 1 ≤ k → k ≤ i → get_or row k 0 < b)
@@ -102,7 +94,7 @@ back_at b (suc i) (a ∷ c ∷ row) l h e =
 -- ---- the insertion undone, row by row from row `at` upwards
 
 -- the insertion that ended in row `at` of `start` has been undone in the rows from `above` on: `now` has the first `above` rows of `start`, followed
--- by the rows that `removed` gives for the others, and `letter` is the letter taken from row `above`
+-- by the other rows with the insertion undone, and `letter` is the letter taken from row `above`
 pub record IsRising (start : List (List ℕ)) (at above : ℕ) (now : List (List ℕ)) (letter : ℕ) : Type 0 where
   pub under : above ≤ at
   pub rows : now ≡ take above start ++ (removed (at - above) (drop above start)).0
@@ -144,7 +136,6 @@ set_last i [] rest row h = absurd (omega arith)
 set_last zero (r ∷ start) rest row h = refl
 set_last (suc i) (r ∷ start) rest row h = ap (λ (l : List (List ℕ)). r ∷ l) (set_last i start rest row (omega arith))
 
--- if above = i + 1 and the insertion has been undone in the rows from `above` on, row i of `now` is that of `start`
 pub row_above :
     (start now : List (List ℕ)) (at above letter i : ℕ) → at < length start → above ≡ suc i → IsRising start at above now letter
     → (row_at now i ≡ row_at start i) × (i < length now)

@@ -96,8 +96,6 @@ corner_within (suc i) [] h = absurd h
 corner_within zero (a ∷ shape) h = omega arith
 corner_within (suc i) (a ∷ shape) h = omega (arith, corner_within i shape h)
 
--- for step > 0, let i = `row_ending step after` be the index of the row of the recording tableau `after` that ends with `step`: both `after` and
--- `now` have a row at the index i
 pub unwinding_row :
     (p q : List (List ℕ)) (n step : ℕ) (now after : List (List ℕ)) (letters : List ℕ) → IsUnwinding p q n step now after letters
     → 0 < step → (row_ending step after < length after) × (row_ending step after < length now)
@@ -141,8 +139,6 @@ unwinding_ends p q n step now after letters word e f s =
       only = λ other g.
           sym (word_again other) ∙ ap (λ (r : List (List ℕ) × List (List ℕ)). word_back r.0 r.1) g ∙ ap (λ k. steps_back k p q) count ∙ same;
     }
-
--- ---- the given pair of tableaux, from which the insertions are undone
 
 straight_shape :
     (t : SkewFilling) (rows : List (List ℕ)) → shape_of rows ≡ row_lengths t.outer t.inner → t.inner ≡ [] → shape_of rows ≡ t.outer

@@ -32,14 +32,14 @@ pub fn text(rt: &impl Print, what: &str, bytes: &[u8]) -> Result<()> {
     Ok(println!(rt; "{what}: \"{}\"", str::from_utf8(bytes)?)?)
 }
 
-/// Prints a line with the name `what` and a list of numbers in brackets.
+/// Prints a line with the name `what` and a list of numbers in parentheses.
 pub fn line<T: Display>(rt: &impl Print, what: &str, parts: &[T]) -> Result<()> {
     print!(rt; "{what}: ")?;
     label(rt, parts)?;
     end(rt)
 }
 
-/// Prints a list of numbers in brackets, with commas between them and without a line feed.
+/// Prints a list of numbers in parentheses, with commas between them and without a line feed.
 pub fn label<T: Display>(rt: &impl Print, parts: &[T]) -> Result<()> {
     print!(rt; "(")?;
     for (at, part) in parts.iter().enumerate() {
@@ -54,7 +54,7 @@ pub fn start(rt: &impl Print, what: &str) -> Result<()> {
     Ok(print!(rt; "{what}:")?)
 }
 
-/// Prints a term of a line: its coefficient, and its label in brackets.
+/// Prints a term of a line: its coefficient, and its label in parentheses.
 pub fn term<C: Display, T: Display>(rt: &impl Print, c: &C, parts: &[T]) -> Result<()> {
     print!(rt; "  {c} ")?;
     label(rt, parts)

@@ -1,19 +1,25 @@
-//! Prints the outcomes of runs of the calculator, and of calls of sources and sinks, one row each.
-//! In many of them a call of a source or of a sink fails. The output is compared with `stdout`. The
-//! pieces in which a text is written depend on the printer; the rows show that one fault is
-//! counted, that the status reports it, and that the bytes written are a prefix of the text of the
-//! run without a fault.
+//! Prints rows about runs of the calculator, and about calls of its sources, which give the bytes
+//! of an input, and of its sinks, which take the bytes of an output. In many rows a call of a
+//! source or of a sink fails. The output is compared with the file `stdout`. The rows show that one
+//! failed call is counted, that the status reports it, and that the bytes written are a prefix of
+//! the text of the run without a failed call. The printer writes a text in pieces, which it chooses
+//! itself.
 //!
 //! What is proved:
 //!
-//! A program that prints outcomes, one line each: it is proved safe. In its rows of
-//! `calc_app::run`, a sink fails at one of its first three calls, after the first block of a batch
-//! or at the line `--`, or has too little room; or a source fails at once, in the first or in the
-//! second line of a batch; in one row no call fails. The sources of its other rows are in memory
-//! and over a reader. The sinks are in memory, in a buffer and over a writer, and one sink only
-//! counts. There, a read fails, but loses no byte; a write takes one byte, fails, or takes nothing;
-//! and a buffer is full. The lines were first printed by the program and then checked by reading,
-//! since the pieces depend on the printer.
+//! The program is proved safe.
+//!
+//! In the rows for `calc_app::run`, a sink fails at one of its first three calls, or can take too
+//! few bytes. Other rows run a batch, whose output has a text for each of its commands and the line
+//! `--` between two such texts. In these rows, a sink fails after the first text or at the line
+//! `--`; or a source fails at its first call, in the first line or in the second line of the batch;
+//! in one row no call fails.
+//!
+//! The remaining rows call sources and sinks themselves. The sources are in memory and over a
+//! reader; the sinks are in memory, in a buffer and over a writer, and one sink only counts. In
+//! these rows, a read fails, but loses no byte; a write takes one byte, fails, or takes nothing;
+//! and a buffer is full. The expected lines were first printed by the program and then checked by
+//! reading, since the printer chooses the pieces of a text.
 #![tactic(auto)]
 
 mod narrow;

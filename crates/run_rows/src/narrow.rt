@@ -2,8 +2,8 @@
 use std::io;
 use std::io::{ErrorKind, Read, Write};
 
-/// A reader whose first call gives one byte, whose second call fails, and whose third gives one
-/// byte; then it has ended.
+/// A reader whose first call gives one byte, whose second call fails, and whose third call gives
+/// one byte; then the input has ended.
 #[derive(Drop)]
 pub struct NarrowReader {
     reads: u8,

@@ -6,7 +6,7 @@ use calc_base::{MemSink, MemSource};
 use std::alloc::{AllocError, Global};
 
 /// A run of the calculator: the words of the command, its input, the calls of the source and of the
-/// sink that fail, and the number of bytes for which the sink has room.
+/// sink that fail, and the number of bytes that the sink can take.
 struct Run {
     what: &'static str,
     words: &'static [&'static str],
@@ -30,8 +30,8 @@ const LINES: &str = "schubert 1\nschubert 1\n";
 /// Five lines of a batch, the last of them without its line feed.
 const FIVE_LINES: &str = "mult 1 - 1\n# note\n\nmult 1 2 - 1\nexpand m p[2,1]";
 
-/// Two lines of a batch: the block of the first one is written in one piece, and the second one has
-/// more tableaux than could be listed.
+/// Two lines of a batch: the output for the first one is written in one piece, and the second one
+/// has more tableaux than could be listed.
 const LONG_LINES: &str =
     "mult 1 - 1\ntab 30 29 28 27 26 25 24 23 22 21 20 19 18 17 16 15 14 13 12 11 10 9 8 7 6 5 4 3 2 1 / 29 28 27 26 25 24 23 22 21 20 19 18 17 16 15 14 13 12 11 10 9 8 7 6 5 4 3 2 1\n";
 

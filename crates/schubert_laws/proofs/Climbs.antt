@@ -16,8 +16,6 @@ across φ a b = climb φ a b -ℤ climb φ b a
 abbrev pub stepped : (ℕ → ℕ → ℤ) → ℕ → ℕ → ℤ
 stepped φ a b = φ (suc a) b -ℤ φ a (suc b)
 
--- ---- `climb` of equal functions, of sums and of negatives
-
 pub climb_ext : (φ ψ : ℕ → ℕ → ℤ) → ((a b : ℕ) → φ a b ≡ ψ a b) → (a b : ℕ) → climb φ a b ≡ climb ψ a b
 climb_ext φ ψ e zero b = refl
 climb_ext φ ψ e (suc a) b = ap₂ ◌+ℤ◌ (e a b) (climb_ext φ ψ e a (suc b))
@@ -45,8 +43,6 @@ across_minus φ ψ a b =
     let s = across_add φ (λ c d. neg_ℤ (ψ c d)) a b in
     let n = across_neg ψ a b in
     omega (arith, ints)
-
--- ---- `stepped` of `climb φ` is φ, and `climb` of `stepped φ` at a, b is φ(a, b) - φ(0, a + b)
 
 pub stepped_climb : (φ : ℕ → ℕ → ℤ) (a b : ℕ) → stepped (climb φ) a b ≡ φ a b
 stepped_climb φ a b = omega (arith, ints)

@@ -1,5 +1,6 @@
--- Codes: a permutation and its code determine each other.
-use Rattle.std.proofs.Common.{◌≡◌, ℕ, zero, suc, ◌+◌, ◌<◌, ◌≤◌, List, [], ◌∷◌, ◌++◌, length, get_or, refl, sym, ◌∙◌, ap, ap₂, subst, arith, inl, inr, ◌⊎◌, cond, nat_lt, pos, append_assoc, replicate, None, ◌↔◌}
+-- The code of a list: its entry at each place is the number of later letters that are smaller than the letter there. A permutation and its code
+-- determine each other.
+use Rattle.std.proofs.Common.{◌≡◌, ℕ, zero, suc, ◌+◌, ◌<◌, ◌≤◌, List, [], ◌∷◌, ◌++◌, length, get_or, refl, sym, ◌∙◌, ap, ap₂, subst, arith, inl, inr, ◌⊎◌, cond, nat_lt, pos, append_assoc, replicate, None, ◌↔◌, rules}
 use Rattle.std.specs.List.{remove}
 use Rattle.std.proofs.lemmas.Int.{ints}
 use Rattle.std.proofs.lemmas.List.{append-nil, length-replicate}
@@ -18,8 +19,6 @@ use Rattle.schubert_laws.proofs.Transition.{last_descent_is}
 use Rattle.sym_model.proofs.AfterLists.{length_after, after_among, among_after}
 use Rattle.sym_model.proofs.Numbers.{counts-not_less}
 use Rattle.sym_model.proofs.Lists.{smaller-within}
-
--- ---- the sum, the length and the entries of the code of a list
 
 pub inversions-code : (w : List ℕ) → inversions w ≡ size (code w)
 inversions-code [] = refl
@@ -69,7 +68,6 @@ smaller-remove x (suc c) (y ∷ l) h = let e = smaller-remove x c l (omega arith
 weak : (x : ℕ) (l : List ℕ) → ((y : ℕ) → Among y l → x < y) → (y : ℕ) → Among y l → x ≤ y
 weak x l h y m = let k = h y m in omega arith
 
--- in a strictly increasing list, the entry at place c, counted from 0, has exactly c smaller entries
 smaller_index : (c : ℕ) (l : List ℕ) → Ascends l → c < length l → smaller (get_or l c 0) l ≡ c
 smaller_index c [] a h = absurd (omega arith)
 smaller_index zero (x ∷ l) a h = let n = counts-not_less x x (omega arith) in let e = smaller_of_none x l (weak x l a.0) in omega arith
@@ -78,10 +76,8 @@ smaller_index (suc c) (x ∷ l) a h =
     let n = sym (cond_below {X = ℕ} x (get_or l c 0) 1 0 (a.0 (get_or l c 0) (among_get c 0 l (omega arith)))) in
     omega arith
 
--- ---- the letters that a code chooses from an increasing list (`letters_by_code`), and their code
+-- ---- the letters with a given code, chosen one after another from an increasing list (`letters_by_code`)
 
--- if the code cs has the length of the list l, the list of the letters that cs chooses from l has, for each x, the same number of letters below x as
--- l
 smaller-letters : (x : ℕ) (cs l : List ℕ) → IsCode cs → length l ≡ length cs → smaller x (letters_by_code cs l) ≡ smaller x l
 smaller-letters x [] l i e = refl
 smaller-letters x (c ∷ cs) l i e =
@@ -142,13 +138,7 @@ once-letters (c ∷ cs) l i e a =
     )
 
 pub one_line_letters : (cs : List ℕ) → IsCode cs → IsOneLine (letters_by_code cs (places (length cs)))
-one_line_letters cs i =
-    let e = length_after 0 (length cs) in
-    let n = length-letters cs (places (length cs)) i e in
-    record {
-      letters = λ a m. let r = after_among 0 (length cs) a (among-letters a cs (places (length cs)) i e m) in let p = r.0 in let q = r.1 in (omega arith, omega arith);
-      once = once-letters cs (places (length cs)) i e (ascends_after 0 (length cs));
-    }
+one_line_letters cs i = search (rules, length_after, length-letters, after_among, among-letters, once-letters, ascends_after)
 
 pub one_line_from_code : (cs : List ℕ) → IsCode cs → IsOneLine (from_code cs)
 one_line_from_code cs i = one_line_kept (letters_by_code cs (places (length cs))) (one_line_letters cs i)
@@ -157,11 +147,7 @@ one_line_from_code cs i = one_line_kept (letters_by_code cs (places (length cs))
 
 code_zeros : (k : ℕ) (w : List ℕ) → IsOneLine w → code (w ++ after (length w) k) ≡ code w ++ replicate k 0
 code_zeros zero w o = ap code (append-nil w) ∙ sym (append-nil (code w))
-code_zeros (suc k) w o =
-    ap code (next_after w k)
-    ∙ code_zeros k (w ++ ((length w + 1) ∷ [])) (one_line_next w o)
-    ∙ ap (λ c. c ++ replicate k 0) (code_added (length w + 1) w (below_next w o))
-    ∙ append_assoc (code w) (0 ∷ []) (replicate k 0)
+code_zeros (suc k) w o = search (rules, next_after, one_line_next, code_added, below_next, append_assoc, (code_zeros k))
 
 pub code_from_code : (cs : List ℕ) → IsCode cs → (k : ℕ) × (code (from_code cs) ++ replicate k 0 ≡ cs)
 code_from_code cs i =
@@ -173,14 +159,13 @@ code_from_code cs i =
           ∙ code-letters cs (places (length cs)) i (length_after 0 (length cs)) (ascends_after 0 (length cs)),
     )
 
--- ---- the permutation of the code of a permutation w is w, up to fixed letters at the end
+-- ---- the permutation computed from the code of a permutation w is w, up to fixed letters at the end
 
 -- the lists w and l have the same length and, for each x, the same number of entries below x
 record IsRearranged (w l : List ℕ) : Type 0 where
   pub lengths : length l ≡ length w
   pub counts : (x : ℕ) → smaller x w ≡ smaller x l
 
--- if a is an entry of a strictly increasing list l, it is at the place, counted from 0, that is the number of entries smaller than a
 found : (a : ℕ) (l : List ℕ) → Ascends l → smaller a l < smaller (suc a) l → get_or l (smaller a l) 0 ≡ a
 found a [] s h = absurd (omega arith)
 found a (y ∷ l) s h = elim (cases_lt y a) [
@@ -236,33 +221,21 @@ letters-code (a ∷ w) l s r =
     smaller_below_length : (b : ℕ) (v : List ℕ) → smaller b v < smaller (suc b) v → smaller b v < length v
     smaller_below_length b v h = let m = smaller-within (suc b) v in omega arith
 
--- the number of entries of w that are smaller than x, as a sum over the entries, which does not depend on their order
+-- the number of entries of w that are smaller than x is a sum over the entries of w; so it does not depend on their order
 pub smaller_total : (x : ℕ) (w : List ℕ) → pos (smaller x w) ≡ total (λ b. pos (cond (nat_lt b x) 1 0)) w
 smaller_total x [] = refl
 smaller_total x (b ∷ w) = let e = smaller_total x w in omega (arith, ints)
 
--- the letters of w in one-line notation are among the numbers from 1 to its length
+-- the letters of a permutation w of n letters are among 1, .., n
 pub letters_in_places : (w : List ℕ) → IsOneLine w → Within w (places (length w))
 letters_in_places w o a m = let r = o.letters a m in let p = r.0 in let q = r.1 in among_after 0 (length w) a (omega arith) (omega arith)
 
 pub from_code-code : (w : List ℕ) → IsOneLine w → from_code (code w) ≡ kept w
-from_code-code w o =
-    ap (λ n. kept (letters_by_code (code w) (places n))) (length-code w)
-    ∙ ap kept (letters-code w (places (length w)) (ascends_after 0 (length w)) (record { lengths = length_after 0 (length w); counts = counts }))
-  where
-    counts : (x : ℕ) → smaller x w ≡ smaller x (places (length w))
-    counts x =
-        let e = total_within (λ b. pos (cond (nat_lt b x) 1 0)) (places (length w)) w o.once (letters_in_places w o) (sym (length_after 0 (length w))) in
-        let p = smaller_total x w in
-        let q = smaller_total x (places (length w)) in
-        omega (arith, ints)
+from_code-code w o = search (rules, length-code, letters-code, ascends_after, length_after, total_within, letters_in_places, smaller_total, ints)
 
 pub code_of_letters : (cs : List ℕ) → IsCode cs → code (letters_by_code cs (places (length cs))) ≡ cs
 code_of_letters cs i = code-letters cs (places (length cs)) i (length_after 0 (length cs)) (ascends_after 0 (length cs))
 
--- ---- the permutation whose code has only zeros is the identity
-
--- a code that has only zeros chooses all letters of a list in their order
 letters_by_zeros : (n : ℕ) (left : List ℕ) → length left ≡ n → letters_by_code (replicate n 0) left ≡ left
 letters_by_zeros zero left e = refl
 letters_by_zeros (suc n) [] e = absurd (omega arith)

@@ -1,5 +1,5 @@
 -- The laws of divided differences of polynomials, with the variables counted from 0: `differences_after k` is ∂_(k+1).
-use Rattle.std.proofs.Common.{◌≡◌, ℕ, zero, suc, ◌+◌, ◌-◌, ◌<◌, ◌≤◌, List, [], ◌∷◌, ◌++◌, map, length, replicate, refl, sym, ◌∙◌, ap, ap₂, arith, ℤ, pos, ◌+ℤ◌, ◌-ℤ◌, ◌*ℤ◌, neg_ℤ}
+use Rattle.std.proofs.Common.{◌≡◌, ℕ, zero, suc, ◌+◌, ◌-◌, ◌<◌, ◌≤◌, List, [], ◌∷◌, ◌++◌, map, length, replicate, refl, sym, ◌∙◌, ap, ap₂, arith, ℤ, pos, ◌+ℤ◌, ◌-ℤ◌, ◌*ℤ◌, neg_ℤ, rules}
 use Rattle.std.proofs.lemmas.Int.{ints}
 use Rattle.std.specs.List.{range_with_len}
 use lib.IntN.{+ℤ_idr}
@@ -15,27 +15,11 @@ use Rattle.schubert_laws.proofs.Exchanges.{exchange_at, raise, join_raise}
 pub differences_respect : (k : ℕ) (f g : Poly) → Same f g → Same (differences_after k f) (differences_after k g)
 differences_respect k f g e = same_from_pair (differences_after k f) (differences_after k g) (λ φ. pair_differences k f φ ∙ pair_determined f g (along k φ) e ∙ sym (pair_differences k g φ))
 
-pub differences-plus : (k : ℕ) (f g : Poly) → Same (differences_after k (plus f g)) (plus (differences_after k f) (differences_after k g))
-differences-plus k f g =
-    same_from_pair (differences_after k (plus f g)) (plus (differences_after k f) (differences_after k g)) (λ φ.
-    pair_differences k (plus f g) φ
-    ∙ pair_plus f g (along k φ)
-    ∙ sym (pair_plus (differences_after k f) (differences_after k g) φ ∙ ap₂ ◌+ℤ◌ (pair_differences k f φ) (pair_differences k g φ)))
-
 pub differences-scale : (k : ℕ) (c : ℤ) (f : Poly) → Same (differences_after k (scale c f)) (scale c (differences_after k f))
-differences-scale k c f =
-    same_from_pair (differences_after k (scale c f)) (scale c (differences_after k f)) (λ φ.
-    pair_differences k (scale c f) φ
-    ∙ pair_scale c f (along k φ)
-    ∙ sym (pair_scale c (differences_after k f) φ ∙ ap (λ n. c *ℤ n) (pair_differences k f φ)))
+differences-scale k c f = search (rules, same_from_pair, pair_differences, pair_scale, along)
 
 pub differences_square : (k : ℕ) (f : Poly) → Same (differences_after k (differences_after k f)) nothing
-differences_square k f =
-    same_from_pair (differences_after k (differences_after k f)) nothing (λ φ.
-    pair_differences k (differences_after k f) φ
-    ∙ pair_differences k f (along k φ)
-    ∙ pair_ext f (along k (along k φ)) (λ α. pos 0) (along_square k φ)
-    ∙ pair_zero f)
+differences_square k f = search (rules, same_from_pair, pair_differences, along, pair_ext, along_square, pair_zero)
 
 pub differences_commute : (j k : ℕ) (f : Poly) → j + 2 ≤ k → Same (differences_after j (differences_after k f)) (differences_after k (differences_after j f))
 differences_commute j k f h =
@@ -47,18 +31,7 @@ differences_commute j k f h =
 
 pub differences_braid : (k : ℕ) (f : Poly)
     → Same (differences_after k (differences_after (suc k) (differences_after k f))) (differences_after (suc k) (differences_after k (differences_after (suc k) f)))
-differences_braid k f =
-    same_from_pair
-    (differences_after k (differences_after (suc k) (differences_after k f)))
-    (differences_after (suc k) (differences_after k (differences_after (suc k) f)))
-    (λ φ.
-    pair_differences k (differences_after (suc k) (differences_after k f)) φ
-    ∙ pair_differences (suc k) (differences_after k f) (along k φ)
-    ∙ pair_differences k f (along (suc k) (along k φ))
-    ∙ pair_ext f (along k (along (suc k) (along k φ))) (along (suc k) (along k (along (suc k) φ))) (along_braid k φ)
-    ∙ sym (pair_differences (suc k) (differences_after k (differences_after (suc k) f)) φ
-    ∙ pair_differences k (differences_after (suc k) f) (along (suc k) φ)
-    ∙ pair_differences (suc k) f (along k (along (suc k) φ))))
+differences_braid k f = search (rules, same_from_pair, pair_differences, along, pair_ext, along_braid)
 
 -- ---- if f is in n variables, so are its divided differences
 
@@ -75,8 +48,6 @@ In_difference (suc k) n (a ∷ rest) l =
 
 pub In_differences : (k n : ℕ) (f : Poly) → In n f → In n (differences_after k f)
 In_differences k n f i = In_each n (λ (t : Term). scale t.1 (difference_after k t.0)) f (λ t m. In_scale n t.1 (difference_after k t.0) (In_difference k n t.0 (i t m)))
-
--- ---- polynomials with two neighbouring variables exchanged
 
 -- the polynomial f with the two variables at the places k and k + 1, counted from 0, exchanged
 abbrev pub exchange_variables : ℕ → Poly → Poly
@@ -124,8 +95,6 @@ differences-times k n f g i j h =
         pair_in n g (λ β. along k φ (join α β)) (λ β. along k (λ γ. φ (join γ β)) α +ℤ along k (λ γ. φ (join (exchange_at k α) γ)) β) j (λ β m. along_product k φ α β (l ∙ sym m) (omega arith))
         ∙ pair_add g (λ β. along k (λ γ. φ (join γ β)) α) (along k (λ γ. φ (join (exchange_at k α) γ)))
         ∙ ap (λ x. x +ℤ right φ α) (along_pair k g (λ γ β. φ (join γ β)) α)
-
--- ---- ∂_i f times x_i - x_(i+1) is f minus f with x_i and x_(i+1) exchanged
 
 -- the variable x_(k+1)
 abbrev pub variable_after : ℕ → Poly

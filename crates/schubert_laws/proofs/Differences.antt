@@ -3,25 +3,22 @@
 --     along k φ              at α, the pairing of φ with ∂_(k+1) x^α, the divided difference in the two variables after the first k
 --     pair_differences       the pairing of φ with ∂_(k+1) f is the pairing of `along k φ` with f
 --     along_square, along_braid, along_commute                     the laws of divided differences, as equations of `along`
-use Rattle.std.proofs.Common.{◌≡◌, ℕ, zero, suc, ◌+◌, ◌-◌, ◌≤◌, List, [], ◌∷◌, ◌++◌, refl, sym, ◌∙◌, ap, arith, ℤ, pos, ◌+ℤ◌, ◌*ℤ◌, neg_ℤ, inl, inr}
+use Rattle.std.proofs.Common.{◌≡◌, ℕ, zero, suc, ◌+◌, ◌-◌, ◌≤◌, List, [], ◌∷◌, ◌++◌, refl, sym, ◌∙◌, ap, arith, ℤ, pos, ◌+ℤ◌, ◌*ℤ◌, neg_ℤ, inl, inr, rules}
 use Rattle.std.proofs.lemmas.Int.{ints}
 use Rattle.std.proofs.lemmas.Bool.{cases_lt}
 use Rattle.std.specs.List.{range_with_len}
 use Rattle.sym_model.specs.Sum.{total}
-use Rattle.sym_model.specs.Polynomial.{Term, Poly, scale, pair}
+use Rattle.sym_model.specs.Polynomial.{Poly, pair}
 use Rattle.sym_model.specs.DividedDifference.{powers_between, difference_after, differences_after}
 use Rattle.sym_model.proofs.Sums.{total_ext, total_map, total_scale}
 use Rattle.sym_model.proofs.Polynomials.{pair_plus, pair_each, pair_scale}
 use Rattle.schubert_laws.proofs.Climbs.{climb, across, across_ext, across_add, across_neg, across_across}
 use Rattle.schubert_laws.proofs.TripleClimbs.{front_back}
 
--- ---- the sums of powers in the divided difference of a monomial, as values of `across`
+-- ---- the divided difference of x^a·y^b as a sum of monomials, and the pairing of a function with this sum (`across`)
 
 range_more : (f : ℕ → ℤ) (p m n : ℕ) → total f (range_with_len p (m + n)) ≡ total f (range_with_len p m) +ℤ total f (range_with_len (p + m) n)
-range_more f p zero n =
-    let e : 0 + n ≡ n = omega arith in
-    let d : p + 0 ≡ p = omega arith in
-    rw (e, d) (omega (arith, ints))
+range_more f p zero n = search rules
 range_more f p (suc m) n =
     let e : suc m + n ≡ suc (m + n) = omega arith in
     let d : p + suc m ≡ (p + 1) + m = omega arith in
@@ -41,7 +38,6 @@ climb_range φ (suc a) b s e =
     let k = ap (φ a) d in
     omega (arith, ints)
 
--- if a + b = s and b ≤ a, the sum of φ(c, s - 1 - c) over c = b, .., a - 1 is `across φ a b`
 between : (φ : ℕ → ℕ → ℤ) (a b s : ℕ) → a + b ≡ s → b ≤ a → total (λ c. φ c (s - 1 - c)) (range_with_len b (a - b)) ≡ across φ a b
 between φ a b s e h =
     let f : b + (a - b) ≡ a = omega arith in
@@ -55,9 +51,7 @@ between φ a b s e h =
 
 pair_powers : (sign : ℤ) (a b : ℕ) (rest : List ℕ) (φ : List ℕ → ℤ)
     → pair (powers_between sign a b rest) φ ≡ sign *ℤ total (λ c. φ (c ∷ (a + b - 1 - c) ∷ rest)) (range_with_len b (a - b))
-pair_powers sign a b rest φ =
-    total_map (λ (t : Term). t.1 *ℤ φ t.0) (λ c. (c ∷ (a + b - 1 - c) ∷ rest, sign)) (range_with_len b (a - b))
-    ∙ total_scale sign (λ c. φ (c ∷ (a + b - 1 - c) ∷ rest)) (range_with_len b (a - b))
+pair_powers sign a b rest φ = search (rules, total_map, total_scale)
 
 none_between : (f : ℕ → ℤ) (a b : ℕ) → a ≤ b → total f (range_with_len b (a - b)) ≡ pos 0
 none_between f a b h = let e : a - b ≡ 0 = omega arith in rw e refl
@@ -93,17 +87,10 @@ pair_difference zero [] φ = refl
 pair_difference zero (a ∷ []) φ = refl
 pair_difference zero (a ∷ b ∷ rest) φ = pair_two a b rest φ
 pair_difference (suc k) [] φ = refl
-pair_difference (suc k) (a ∷ rest) φ =
-    total_map (λ (t : Term). t.1 *ℤ φ t.0) (λ (t : Term). (a ∷ t.0, t.1)) (difference_after k rest)
-    ∙ pair_difference k rest (λ β. φ (a ∷ β))
+pair_difference (suc k) (a ∷ rest) φ = search (rules, total_map, (pair_difference k rest))
 
 pub pair_differences : (k : ℕ) (f : Poly) (φ : List ℕ → ℤ) → pair (differences_after k f) φ ≡ pair f (along k φ)
-pair_differences k f φ =
-    pair_each (λ (t : Term). scale t.1 (difference_after k t.0)) f φ
-    ∙ total_ext (λ (t : Term). pair (scale t.1 (difference_after k t.0)) φ) (λ (t : Term). t.1 *ℤ along k φ t.0)
-    (λ t. pair_scale t.1 (difference_after k t.0) φ ∙ ap (λ n. t.1 *ℤ n) (pair_difference k t.0 φ)) f
-
--- ---- `along` of equal functions, of sums and of multiples
+pair_differences k f φ = search (rules, pair_each, total_ext, pair_scale, pair_difference)
 
 pub along_ext : (k : ℕ) (φ ψ : List ℕ → ℤ) → ((α : List ℕ) → φ α ≡ ψ α) → (α : List ℕ) → along k φ α ≡ along k ψ α
 along_ext zero φ ψ e [] = refl
@@ -132,8 +119,6 @@ along_neg zero φ (a ∷ []) = refl
 along_neg zero φ (a ∷ b ∷ rest) = across_neg (λ c d. φ (c ∷ d ∷ rest)) a b
 along_neg (suc k) φ [] = refl
 along_neg (suc k) φ (a ∷ rest) = along_neg k (λ β. φ (a ∷ β)) rest
-
--- ---- the laws of divided differences, as equations of `along`
 
 pub along_square : (k : ℕ) (φ : List ℕ → ℤ) (α : List ℕ) → along k (along k φ) α ≡ pos 0
 along_square zero φ [] = refl

@@ -1,20 +1,16 @@
 -- The laws of divided differences with variables counted from 1, as `divided_difference_law` states them.
-use Rattle.std.proofs.Common.{◌≡◌, ℕ, zero, suc, ◌+◌, ◌-◌, ◌<◌, ◌≤◌, refl, sym, ◌∙◌, ap, ap₂, subst, arith, ℤ, ◌*ℤ◌}
+use Rattle.std.proofs.Common.{◌≡◌, ℕ, zero, suc, ◌+◌, ◌-◌, ◌<◌, ◌≤◌, refl, sym, ◌∙◌, ap, ap₂, arith, ℤ, ◌*ℤ◌, rules}
 use Rattle.sym_model.specs.Polynomial.{Term, Poly, Same, In, nothing, plus, scale, negate, times, coefficient}
 use Rattle.sym_model.specs.Permutation.{exchanged}
 use Rattle.sym_model.specs.DividedDifference.{variable, with_exchanged, divided_difference, differences_after}
 use Rattle.sym_model.proofs.Sums.{total_map}
 use Rattle.sym_model.proofs.Polynomials.{pair_in, same_from_pair, Same_refl, Same_trans, Same_sym, plus_respects, times_respects, negate_respects}
 use Rattle.schubert_laws.proofs.Exchanges.{exchange_at, exchanged_is}
-use Rattle.schubert_laws.proofs.DifferenceLaws.{differences_respect, differences-plus, differences-scale, differences_square, differences_commute, differences_braid, In_differences, exchange_variables, pair_exchange_variables, differences-times, variable_after, difference_quotient}
+use Rattle.schubert_laws.proofs.DifferenceLaws.{differences_respect, differences-scale, differences_square, differences_commute, differences_braid, In_differences, exchange_variables, pair_exchange_variables, differences-times, variable_after, difference_quotient}
 
 pub divided_respects : (i : ℕ) (f g : Poly) → Same f g → Same (divided_difference i f) (divided_difference i g)
 divided_respects zero f g e = λ α. refl
 divided_respects (suc k) f g e = differences_respect k f g e
-
-pub divided-plus : (i : ℕ) (f g : Poly) → Same (divided_difference i (plus f g)) (plus (divided_difference i f) (divided_difference i g))
-divided-plus zero f g = λ α. refl
-divided-plus (suc k) f g = differences-plus k f g
 
 pub divided-scale : (i : ℕ) (c : ℤ) (f : Poly) → Same (divided_difference i (scale c f)) (scale c (divided_difference i f))
 divided-scale zero c f = λ α. refl
@@ -33,9 +29,7 @@ braid_at : (i j : ℕ) (f : Poly) → j ≡ suc i
     → Same (divided_difference i (divided_difference j (divided_difference i f))) (divided_difference j (divided_difference i (divided_difference j f)))
 braid_at i zero f e = absurd (omega arith)
 braid_at zero (suc k) f e = λ α. refl
-braid_at (suc i) (suc k) f e =
-    let d : k ≡ suc i = omega arith in
-    λ α. subst (λ l. coefficient (differences_after i (differences_after l (differences_after i f))) α ≡ coefficient (differences_after l (differences_after i (differences_after l f))) α) (sym d) (differences_braid i f α)
+braid_at (suc i) (suc k) f e = search (rules, differences_braid)
 
 pub divided_braid : (i : ℕ) (f : Poly)
     → Same (divided_difference i (divided_difference (i + 1) (divided_difference i f))) (divided_difference (i + 1) (divided_difference i (divided_difference (i + 1) f)))

@@ -1,7 +1,6 @@
 -- If the letters of a list w are different, and its code is weakly decreasing (w is dominant), then the Schubert polynomial of w is the monomial
 -- whose exponents are the code.
-use Rattle.std.proofs.Common.{◌≡◌, ℕ, zero, suc, ◌+◌, ◌<◌, ◌≤◌, List, [], ◌∷◌, length, refl, sym, ◌∙◌, ap, ap₂, subst, arith, inl, inr, ◌⊎◌, cond, nat_lt, Bool, true, false, None, ℤ}
-use Rattle.std.proofs.lemmas.Int.{ints}
+use Rattle.std.proofs.Common.{◌≡◌, ℕ, zero, suc, ◌+◌, ◌<◌, ◌≤◌, List, [], ◌∷◌, length, refl, sym, ◌∙◌, ap, ap₂, subst, arith, inl, inr, ◌⊎◌, cond, nat_lt, None, ℤ, rules}
 use Rattle.std.proofs.lemmas.Bool.{cases_eq, cases_lt, lt-ltb, ltb-true, ltb-false, cond_below}
 use lib.IntN.{+ℤ_idr}
 use Rattle.sym_model.specs.Sum.{Among, Once}
@@ -17,7 +16,6 @@ use Rattle.sym_model.proofs.Ring.{one-product}
 use Rattle.sym_model.proofs.SortedParts.{Falls_tail}
 use Rattle.sym_model.proofs.Polynomials.{same_from_pair}
 use Rattle.sym_model.proofs.Numbers.{counts-not_less}
-use Rattle.schubert_laws.proofs.Climbs.{across}
 use Rattle.schubert_laws.proofs.Differences.{along, pair_differences}
 use Rattle.schubert_laws.proofs.Exchanges.{exchange_at, Rises, IsFirstAscent, first_ascent_cases, rising_pairs_exchange, length-exchange_at}
 use Rattle.schubert_laws.proofs.DifferenceLaws.{differences_respect}
@@ -26,8 +24,6 @@ use Rattle.std.proofs.Math.Arith.{lt_of_le-ne}
 
 pub pair_x_to : (α : List ℕ) (φ : List ℕ → ℤ) → pair (x_to α) φ ≡ φ α
 pair_x_to α φ = +ℤ_idr _ ∙ one-product (φ α)
-
--- ---- the number of smaller letters, and the letters, of a list after two neighbours are exchanged
 
 pub smaller_exchange : (x k : ℕ) (w : List ℕ) → smaller x (exchange_at k w) ≡ smaller x w
 smaller_exchange x zero [] = refl
@@ -49,27 +45,16 @@ among_exchange x (suc k) (a ∷ w) (inr m) = inr (among_exchange x k w m)
 pub once_exchange : (k : ℕ) (w : List ℕ) → Once w → Once (exchange_at k w)
 once_exchange zero [] o = o
 once_exchange zero (a ∷ []) o = o
-once_exchange zero (a ∷ b ∷ w) o = (apart, (λ m. o.0 (inr m), o.1.1))
-  where
-    apart : Among b (a ∷ w) → ⊥
-    apart (inl e) = o.0 (inl (sym e))
-    apart (inr m) = o.1.0 m
+once_exchange zero (a ∷ b ∷ w) o = search rules
 once_exchange (suc k) [] o = o
 once_exchange (suc k) (a ∷ w) o = (λ m. o.0 (among_exchange a k w m), once_exchange k w o.1)
 
 smaller_step : (a b : ℕ) (w : List ℕ) → a ≤ b → smaller a w ≤ smaller b w
 smaller_step a b [] h = omega arith
-smaller_step a b (c ∷ w) h = by (nat_lt c a) refl (nat_lt c b) refl (smaller_step a b w h)
-  where
-    by : (s : Bool) → nat_lt c a ≡ s → (t : Bool) → nat_lt c b ≡ t → smaller a w ≤ smaller b w → cond s 1 0 + smaller a w ≤ cond t 1 0 + smaller b w
-    by true e true d l = omega arith
-    by true e false d l = absurd (omega (arith, ltb-true c a e, ltb-false c b d))
-    by false e true d l = omega arith
-    by false e false d l = omega arith
+smaller_step a b (c ∷ w) h = search (rules, ltb-true, ltb-false, (smaller_step a b w h))
 
 -- ---- a list of different letters without an ascent has the staircase as its code
 
--- if a is greater than all letters of w, the number of letters of w smaller than a is the length of w
 pub smaller_of_all : (a : ℕ) (w : List ℕ) → ((x : ℕ) → Among x w → x < a) → smaller a w ≡ length w
 smaller_of_all a [] h = refl
 smaller_of_all a (b ∷ w) h =
@@ -99,8 +84,7 @@ first_or d (a ∷ w) = a
 strict : (a b : ℕ) → (a ≡ b → ⊥) → (a < b → ⊥) → b < a
 strict a b d n = elim (cases_lt b a) [ inl l ↦ l | inr l ↦ absurd (n (omega arith)) ]
 
--- ---- let the code of w be weakly decreasing: if w increases at two neighbouring places, the entries of the code there are equal, and exchanging the
--- letters adds 1 to the first of these entries
+-- ---- the code of a list with a weakly decreasing code, after two increasing neighbours are exchanged
 
 -- the entries of c at the places k and k + 1, counted from 0, are equal, and d is c with 1 added to the first of these two entries
 abbrev pub IsOneUp : ℕ → List ℕ → List ℕ → Type 0
@@ -110,35 +94,21 @@ IsOneUp zero (a ∷ b ∷ c) d = (a ≡ b) × (d ≡ suc a ∷ b ∷ c)
 IsOneUp (suc k) (a ∷ c) [] = ⊥
 IsOneUp (suc k) (a ∷ c) (b ∷ d) = (a ≡ b) × IsOneUp k c d
 
-climb_one : (φ : ℕ → ℕ → ℤ) (a n : ℕ) → n ≡ suc a → across φ n a ≡ φ a a
-climb_one φ a n e = rw e (omega (arith, ints))
-
 along_one_up : (k : ℕ) (c d : List ℕ) (φ : List ℕ → ℤ) → IsOneUp k c d → along k φ d ≡ φ c
 along_one_up k [] d φ u = absurd u
 along_one_up zero (a ∷ []) d φ u = absurd u
-along_one_up zero (a ∷ b ∷ c) d φ u =
-    ap (along 0 φ) u.1
-    ∙ climb_one (λ x y. φ (x ∷ y ∷ c)) b (suc a) (ap suc u.0)
-    ∙ ap (λ x. φ (x ∷ b ∷ c)) (sym u.0)
+along_one_up zero (a ∷ b ∷ c) d φ u = search rules
 along_one_up (suc k) (a ∷ c) [] φ u = absurd u
 along_one_up (suc k) (a ∷ c) (b ∷ d) φ u = along_one_up k c d (λ β. φ (b ∷ β)) u.1 ∙ ap (λ x. φ (x ∷ c)) (sym u.0)
 
 pub one_up : (k : ℕ) (w : List ℕ) → Falls (code w) → Rises k w → IsOneUp k (code w) (code (exchange_at k w))
 one_up k [] f r = absurd r
 one_up zero (a ∷ []) f r = absurd r
-one_up zero (a ∷ b ∷ w) f r =
-    let h = f.0 in
-    let s = smaller_step a b w (omega arith) in
-    let d = counts-not_less b a (omega arith) in
-    let u = sym (cond_below {X = ℕ} a b 1 0 r) in
-    (omega arith, ap₂ (λ x y. x ∷ y ∷ code w) (omega arith) (omega arith))
+one_up zero (a ∷ b ∷ w) f r = search (rules, smaller_step, counts-not_less, cond_below)
 one_up (suc k) (a ∷ w) f r = (sym (smaller_exchange a k w), one_up k w (Falls_tail (smaller a w) (code w) f) r)
 
 smaller_below : (a b : ℕ) (w : List ℕ) → b < a → suc (smaller b w) ≤ smaller a (b ∷ w)
-smaller_below a b w h =
-    let e = sym (cond_below {X = ℕ} b a 1 0 h) in
-    let s = smaller_step b a w (omega arith) in
-    omega arith
+smaller_below a b w h = search (rules, cond_below, smaller_step)
 
 pub falls_exchange : (k : ℕ) (w : List ℕ) → Once w → Falls (code w) → Rises k w → ((j : ℕ) → j < k → Rises j w → ⊥) → Falls (code (exchange_at k w))
 falls_exchange k [] o f r n = absurd r
@@ -164,8 +134,6 @@ falls_exchange (suc (suc k)) (a ∷ b ∷ w) o f r n =
     let y = smaller_exchange b k w in
     let h = f.0 in
     (omega arith, rest)
-
--- ---- the Schubert polynomials of lists whose code is weakly decreasing
 
 pub over_exchange : (w : List ℕ) (k : ℕ) → schubert_over (x_to (staircase (length w))) (exchange_at k w) ≡ schubert (exchange_at k w)
 over_exchange w k = ap (λ n. schubert_over (x_to (staircase n)) (exchange_at k w)) (sym (length-exchange_at k w))

@@ -2,9 +2,9 @@
 --     exchange_at k w     w with the entries at the places k and k + 1 exchanged; it is `exchanged (k + 1) w`
 --     raise k α           α with 1 added to the entry at place k: the exponents of x^α times a variable
 --     `Rises k w`         the entry of w at place k is smaller than the next one
-use Rattle.std.proofs.Common.{◌≡◌, ℕ, zero, suc, ◌+◌, ◌-◌, ◌<◌, List, [], ◌∷◌, ◌++◌, length, replicate, set, get_or, refl, ap, ap₂, arith, inl, inr, ◌⊎◌, cond, nat_lt, Bool, true, false, Some, None}
+use Rattle.std.proofs.Common.{◌≡◌, ℕ, zero, suc, ◌+◌, ◌-◌, ◌<◌, List, [], ◌∷◌, ◌++◌, length, replicate, set, get_or, refl, ap, ap₂, arith, inr, ◌⊎◌, cond, nat_lt, Some, None, rules}
 use Rattle.std.specs.List.{swap}
-use Rattle.std.proofs.lemmas.Bool.{lt-ltb, ltb-true, ltb-false, le-ltb}
+use Rattle.std.proofs.lemmas.Bool.{ltb-true, ltb-false}
 use Rattle.sym_model.specs.Polynomial.{join}
 use Rattle.sym_model.specs.BetaList.{greater, rising_pairs}
 use Rattle.sym_model.specs.Permutation.{exchanged, first_ascent}
@@ -52,8 +52,6 @@ join_raise k [] h = absurd (omega arith)
 join_raise zero (a ∷ α) h = let e : 1 + a ≡ suc a = omega arith in ap (λ b. b ∷ α) e
 join_raise (suc k) (a ∷ α) h = let e : 0 + a ≡ a = omega arith in ap₂ ◌∷◌ e (join_raise k α (omega arith))
 
--- ---- `exchange_at k` is `exchanged (k + 1)`
-
 set_two : (k : ℕ) (w : List ℕ) (d : ℕ) → suc k < length w → set (set w k (get_or w (suc k) d)) (suc k) (get_or w k d) ≡ exchange_at k w
 set_two k [] d h = absurd (omega arith)
 set_two zero (a ∷ []) d h = absurd (omega arith)
@@ -65,18 +63,13 @@ swap_neighbours k [] h = absurd (omega arith)
 swap_neighbours k (d ∷ w) h = set_two k (d ∷ w) d h
 
 pub exchanged_is : (k : ℕ) (w : List ℕ) → suc k < length w → exchanged (suc k) w ≡ exchange_at k w
-exchanged_is k w h =
-    let e : suc k - 1 ≡ k = omega arith in
-    let f : suc k + 1 - 1 ≡ suc k = omega arith in
-    rw (e, f) (swap_neighbours k w h)
+exchanged_is k w h = search (rules, swap_neighbours)
 
 pub rises_within : (k : ℕ) (w : List ℕ) → Rises k w → suc k < length w
 rises_within k [] r = absurd r
 rises_within zero (a ∷ []) r = absurd r
 rises_within zero (a ∷ b ∷ w) r = omega arith
 rises_within (suc k) (a ∷ w) r = let h = rises_within k w r in omega arith
-
--- ---- exchanging two increasing neighbours removes one increasing pair
 
 pub greater_exchange : (x k : ℕ) (w : List ℕ) → greater x (exchange_at k w) ≡ greater x w
 greater_exchange x zero [] = refl
@@ -88,16 +81,8 @@ greater_exchange x (suc k) (a ∷ w) = ap (λ n. cond (nat_lt x a) 1 0 + n) (gre
 pub rising_pairs_exchange : (k : ℕ) (w : List ℕ) → Rises k w → rising_pairs w ≡ suc (rising_pairs (exchange_at k w))
 rising_pairs_exchange k [] r = absurd r
 rising_pairs_exchange zero (a ∷ []) r = absurd r
-rising_pairs_exchange zero (a ∷ b ∷ w) r =
-    let e = lt-ltb a b r in
-    let f : nat_lt b a ≡ false = le-ltb b a (omega arith) in
-    rw (e, f) (omega arith)
-rising_pairs_exchange (suc k) (a ∷ w) r =
-    let h = rising_pairs_exchange k w r in
-    let g = greater_exchange a k w in
-    omega arith
-
--- ---- the first ascent of a list (`IsFirstAscent`), and lists without one: they have no ascent at any place
+rising_pairs_exchange zero (a ∷ b ∷ w) r = search rules
+rising_pairs_exchange (suc k) (a ∷ w) r = search (rules, greater_exchange, (rising_pairs_exchange k w r))
 
 -- k + 1 is the first ascent of w, counted from 1: the entries at the places k and k + 1, counted from 0, increase, and no two neighbours before them
 -- do
@@ -108,23 +93,5 @@ pub record IsFirstAscent (w : List ℕ) (k : ℕ) : Type 0 where
 
 pub first_ascent_cases : (w : List ℕ) → ((k : ℕ) × IsFirstAscent w k) ⊎ ((first_ascent w ≡ None) × ((k : ℕ) → Rises k w → ⊥))
 first_ascent_cases [] = inr (refl, λ k r. r)
-first_ascent_cases (a ∷ []) = inr (refl, none)
-  where
-    none : (k : ℕ) → Rises k (a ∷ []) → ⊥
-    none zero r = r
-    none (suc k) r = r
-first_ascent_cases (a ∷ b ∷ w) = by (nat_lt a b) refl (first_ascent_cases (b ∷ w))
-  where
-    by : (t : Bool) → nat_lt a b ≡ t → ((k : ℕ) × IsFirstAscent (b ∷ w) k) ⊎ ((first_ascent (b ∷ w) ≡ None) × ((k : ℕ) → Rises k (b ∷ w) → ⊥))
-        → ((k : ℕ) × IsFirstAscent (a ∷ b ∷ w) k) ⊎ ((first_ascent (a ∷ b ∷ w) ≡ None) × ((k : ℕ) → Rises k (a ∷ b ∷ w) → ⊥))
-    by true e rest = inl (0, record { is = rw e refl; rises = ltb-true a b e; first = λ j h r. absurd (omega arith) })
-    by false e (inl found) = inl (suc found.0, record { is = rw (e, found.1.is) refl; rises = found.1.rises; first = earlier })
-      where
-        earlier : (j : ℕ) → j < suc found.0 → Rises j (a ∷ b ∷ w) → ⊥
-        earlier zero h r = omega (arith, ltb-false a b e)
-        earlier (suc j) h r = found.1.first j (omega arith) r
-    by false e (inr none) = inr (rw (e, none.0) refl, no)
-      where
-        no : (k : ℕ) → Rises k (a ∷ b ∷ w) → ⊥
-        no zero r = omega (arith, ltb-false a b e)
-        no (suc k) r = none.1 k r
+first_ascent_cases (a ∷ []) = search rules
+first_ascent_cases (a ∷ b ∷ w) = search (rules, ltb-true, ltb-false, (first_ascent_cases (b ∷ w)))

@@ -1,5 +1,6 @@
--- A fixed letter added at the end of a permutation does not change its Schubert polynomial.
-use Rattle.std.proofs.Common.{◌≡◌, ℕ, zero, suc, ◌+◌, ◌<◌, List, [], ◌∷◌, ◌++◌, length, refl, sym, ◌∙◌, ap, ap₂, subst, arith, inl, inr, ◌⊎◌, cond, nat_lt, ◌==◌, ◌&&◌, Some, None, Option, ℤ, pos}
+-- A fixed letter added at the end of a permutation does not change its Schubert polynomial. The pairing of a function φ of exponent lists with a
+-- polynomial f (`pair f φ`) is the sum of c·φ(α) over the terms c·x^α of f.
+use Rattle.std.proofs.Common.{◌≡◌, ℕ, zero, suc, ◌+◌, ◌<◌, List, [], ◌∷◌, ◌++◌, length, refl, sym, ◌∙◌, ap, ap₂, subst, arith, inl, inr, ◌⊎◌, cond, nat_lt, ◌==◌, ◌&&◌, Some, None, Option, ℤ, pos, rules}
 use Rattle.sym_model.specs.Sum.{Among, Once}
 use Rattle.sym_model.specs.Polynomial.{Term, Poly, Same, In, pair, coefficient, resize, all_zero, fits_in, restrict}
 use Rattle.sym_model.specs.Partition.{Falls}
@@ -21,8 +22,6 @@ use Rattle.std.specs.Option.{option_map_or}
 use Rattle.sym_model.proofs.Sums.{Among_from_append}
 use Rattle.sym_model.proofs.Parts.{length-staircase}
 use Rattle.sym_model.proofs.Numbers.{counts-not_less}
-
--- ---- the Schubert polynomial of a list of n letters is in n variables
 
 pub In_x_to : (n : ℕ) (α : List ℕ) → length α ≡ n → In n (x_to α)
 In_x_to n α e t (inl d) = ap (λ (s : Term). length s.0) d ∙ e
@@ -61,7 +60,8 @@ along_one_more zero φ (a ∷ []) h = absurd (omega arith)
 along_one_more zero φ (a ∷ b ∷ α) h = refl
 along_one_more (suc k) φ (a ∷ α) h = along_one_more k (λ γ. φ (a ∷ γ)) α (omega arith)
 
--- if f is in n variables and k + 1 < n, then taking the divided difference of f at k and passing to n + 1 variables may be done in either order
+-- if f is in n variables and k + 1 < n, then f can be taken as a polynomial in n + 1 variables before or after ∂_(k+1) is applied, with the same
+-- result
 pub differences_one_more : (k n : ℕ) (f : Poly) → In n f → suc k < n → Same (differences_after k (restrict (suc n) f)) (restrict (suc n) (differences_after k f))
 differences_one_more k n f i h =
     same_from_pair (differences_after k (restrict (suc n) f)) (restrict (suc n) (differences_after k f)) (λ φ.
@@ -109,9 +109,7 @@ falls_staircase (suc zero) = (omega arith, tt)
 falls_staircase (suc (suc n)) = (omega arith, falls_staircase (suc n))
 
 x_to_added : (α : List ℕ) → Same (x_to (α ++ (0 ∷ []))) (restrict (suc (length α)) (x_to α))
-x_to_added α =
-    same_from_pair (x_to (α ++ (0 ∷ []))) (restrict (suc (length α)) (x_to α)) (λ φ.
-    pair_x_to (α ++ (0 ∷ [])) φ ∙ sym (pair_one_more (length α) (x_to α) φ (In_x_to (length α) α refl) ∙ pair_x_to α (λ γ. φ (γ ++ (0 ∷ [])))))
+x_to_added α = search (rules, same_from_pair, pair_x_to, pair_one_more, In_x_to)
 
 fixed_within : (n : ℕ) (m : ℕ) (w : List ℕ) → rising_pairs w < n → Once w → ((a : ℕ) → Among a w → a < m)
     → Same (schubert (w ++ (m ∷ []))) (restrict (suc (length w)) (schubert w))
@@ -149,7 +147,6 @@ last_letter m w o h = fixed_within (suc (rising_pairs w)) m w (omega arith) o h
 
 -- ---- Schubert polynomials of permutations, restricted to any number of variables
 
--- a further exponent 0 at the end of a list of exponents changes neither the tests `all_zero` and `fits_in` nor the list resized to m exponents
 pub all_zero_added : (α : List ℕ) → all_zero (α ++ (0 ∷ [])) ≡ all_zero α
 all_zero_added [] = refl
 all_zero_added (a ∷ α) = ap (λ b. (a == 0) && b) (all_zero_added α)
@@ -164,15 +161,8 @@ resize_added zero α = refl
 resize_added (suc m) [] = refl
 resize_added (suc m) (a ∷ α) = ap (λ β. a ∷ β) (resize_added m α)
 
--- if f is in n variables, then f taken as a polynomial in n + 1 variables has the same restriction to N variables as f
 restrict_one_more : (N n : ℕ) (f : Poly) → In n f → Same (restrict N (restrict (suc n) f)) (restrict N f)
-restrict_one_more N n f i =
-    same_from_pair (restrict N (restrict (suc n) f)) (restrict N f) (λ φ.
-    pair_restrict N (restrict (suc n) f) φ
-    ∙ pair_one_more n f (λ α. cond (fits_in N α) (φ (resize N α)) (pos 0)) i
-    ∙ pair_ext f (λ α. cond (fits_in N (α ++ (0 ∷ []))) (φ (resize N (α ++ (0 ∷ [])))) (pos 0)) (λ α. cond (fits_in N α) (φ (resize N α)) (pos 0)) (λ α.
-    ap₂ (λ b γ. cond b (φ γ) (pos 0)) (fits_in_added N α) (resize_added N α))
-    ∙ sym (pair_restrict N f φ))
+restrict_one_more N n f i = search (rules, same_from_pair, pair_restrict, pair_one_more, pair_ext, fits_in_added, resize_added)
 
 pub last_letter_in : (m : ℕ) (w : List ℕ) (N : ℕ) → Once w → ((a : ℕ) → Among a w → a < m) → Same (schubert_in (w ++ (m ∷ [])) N) (schubert_in w N)
 last_letter_in m w N o h =

@@ -2,7 +2,8 @@
 --     one_line_added     a permutation with fixed letters added is a permutation
 --     schubert_added     adding or dropping fixed letters at the end does not change the Schubert polynomial in n variables
 --     inversions_added   fixed letters at the end do not change the number of inversions
-use Rattle.std.proofs.Common.{◌≡◌, ℕ, zero, suc, ◌+◌, ◌<◌, ◌≤◌, List, [], ◌∷◌, ◌++◌, length, refl, sym, ◌∙◌, ap, ap₂, subst, arith, inl, inr, cond, ◌==◌, Bool, true, false, length-append, append_assoc, eqb-true, eq-eqb}
+use Rattle.std.proofs.lemmas.Grind.{common_steps}
+use Rattle.std.proofs.Common.{◌≡◌, ℕ, zero, suc, ◌+◌, ◌<◌, ◌≤◌, List, [], ◌∷◌, ◌++◌, length, refl, sym, ◌∙◌, ap, ap₂, subst, arith, inl, inr, cond, ◌==◌, Bool, true, false, length-append, eqb-true, eq-eqb, rules}
 use Rattle.std.proofs.lemmas.List.{append-nil}
 use Rattle.std.proofs.lemmas.Bool.{cases_lt, cond_below}
 use Rattle.sym_model.specs.Sum.{Among, Once}
@@ -34,10 +35,7 @@ one_line_next w o = record { letters = letters; once = once_added (length w + 1)
         ]
 
 pub next_after : (w : List ℕ) (k : ℕ) → w ++ after (length w) (suc k) ≡ (w ++ ((length w + 1) ∷ [])) ++ after (length (w ++ ((length w + 1) ∷ []))) k
-next_after w k =
-    let l = length-append w ((length w + 1) ∷ []) in
-    let e : length (w ++ ((length w + 1) ∷ [])) ≡ length w + 1 = omega arith in
-    sym (append_assoc w ((length w + 1) ∷ []) (after (length w + 1) k)) ∙ ap (λ n. (w ++ ((length w + 1) ∷ [])) ++ after n k) (sym e)
+next_after w k = grind (arith, common_steps)
 
 pub one_line_added : (k : ℕ) (w : List ℕ) → IsOneLine w → IsOneLine (w ++ after (length w) k)
 one_line_added zero w o = subst IsOneLine (sym (append-nil w)) o
@@ -45,10 +43,7 @@ one_line_added (suc k) w o = subst IsOneLine (sym (next_after w k)) (one_line_ad
 
 pub schubert_added : (k : ℕ) (w : List ℕ) (n : ℕ) → IsOneLine w → Same (schubert_in (w ++ after (length w) k) n) (schubert_in w n)
 schubert_added zero w n o = λ α. ap (λ v. coefficient (schubert_in v n) α) (append-nil w)
-schubert_added (suc k) w n o = λ α.
-    ap (λ v. coefficient (schubert_in v n) α) (next_after w k)
-    ∙ schubert_added k (w ++ ((length w + 1) ∷ [])) n (one_line_next w o) α
-    ∙ fixed_letter_in w n o α
+schubert_added (suc k) w n o = search (rules, next_after, one_line_next, fixed_letter_in, (schubert_added k))
 
 inversions_next : (m : ℕ) (w : List ℕ) → ((a : ℕ) → Among a w → a < m) → inversions (w ++ (m ∷ [])) ≡ inversions w
 inversions_next m [] h = refl
@@ -56,14 +51,12 @@ inversions_next m (a ∷ w) h = let e = inversions_next m w (λ b i. h b (inr i)
 
 pub inversions_added : (k : ℕ) (w : List ℕ) → IsOneLine w → inversions (w ++ after (length w) k) ≡ inversions w
 inversions_added zero w o = ap inversions (append-nil w)
-inversions_added (suc k) w o =
-    ap inversions (next_after w k)
-    ∙ inversions_added k (w ++ ((length w + 1) ∷ [])) (one_line_next w o)
-    ∙ inversions_next (length w + 1) w (below_next w o)
+inversions_added (suc k) w o = search (rules, next_after, one_line_next, inversions_next, below_next, (inversions_added k))
 
 -- ---- permutations without the fixed letters at their end (`kept`)
 
--- w is v followed by the letters p + length v + 1, p + length v + 2, ..; if w is a permutation without its first p letters, these letters are fixed
+-- w is v followed by the letters p + l + 1, p + l + 2, .., p + l + k for some k; here l is the length of v. If w is a permutation without its first p
+-- letters, then these last letters are fixed letters
 abbrev pub IsTail : ℕ → List ℕ → List ℕ → Type 0
 IsTail p v w = (k : ℕ) × (w ≡ v ++ after (p + length v) k)
 
@@ -136,12 +129,7 @@ pairs (suc n) = n + pairs n
 
 pub greater_or_smaller : (a : ℕ) (w : List ℕ) → (Among a w → ⊥) → greater a w + smaller a w ≡ length w
 greater_or_smaller a [] n = refl
-greater_or_smaller a (b ∷ w) n =
-    let e = greater_or_smaller a w (λ m. n (inr m)) in
-    elim (cases_lt a b) [
-      | inl l ↦ let p = sym (cond_below {X = ℕ} a b 1 0 l) in let q = counts-not_less b a (omega arith) in omega arith
-      | inr l ↦ let q = sym (cond_below {X = ℕ} b a 1 0 (lt_of_le-ne l (λ d. n (inl (sym d))))) in let p = counts-not_less a b l in omega arith
-    ]
+greater_or_smaller a (b ∷ w) n = search (rules, cases_lt, cond_below, counts-not_less, lt_of_le-ne, (greater_or_smaller a w))
 
 rising_or_inversion : (w : List ℕ) → Once w → rising_pairs w + inversions w ≡ pairs (length w)
 unfolding pairs
@@ -155,8 +143,6 @@ one_more_inversion w v o p l e = let a = rising_or_inversion w o in let b = risi
 pub one_less_rising : (w v : List ℕ) → Once w → Once v → length v ≡ length w → inversions v ≡ inversions w + 1 → rising_pairs w ≡ suc (rising_pairs v)
 one_less_rising w v o p l e = let a = rising_or_inversion w o in let b = rising_or_inversion v p in let c = ap pairs l in omega arith
 
--- ---- fixed letters at the end change neither the kept letters (`kept`) nor the permutations w·t_ij (`times_swap`)
-
 dropped_added : (p i k : ℕ) (w : List ℕ) → i ≡ p + 1 → without_fixed_from i (w ++ after (p + length w) k) ≡ without_fixed_from i w
 dropped_added p i zero [] e = refl
 dropped_added p i (suc k) [] e =
@@ -164,9 +150,7 @@ dropped_added p i (suc k) [] e =
     let f : p + 0 + 1 ≡ p + 1 + 0 = omega arith in
     let r = ap (λ n. without_fixed_from (i + 1) (after n k)) f ∙ dropped_added (p + 1) (i + 1) k [] (omega arith) in
     ap (in_front_unless_fixed i (p + 0 + 1)) r ∙ ap (λ t. cond t [] ((p + 0 + 1) ∷ [])) (eq-eqb (p + 0 + 1) i d)
-dropped_added p i k (a ∷ w) e =
-    let f : p + length (a ∷ w) ≡ p + 1 + length w = omega arith in
-    ap (λ n. in_front_unless_fixed i a (without_fixed_from (i + 1) (w ++ after n k))) f ∙ ap (in_front_unless_fixed i a) (dropped_added (p + 1) (i + 1) k w (omega arith))
+dropped_added p i k (a ∷ w) e = search (rules, (dropped_added (p + 1) (i + 1) k w (omega arith)))
 
 pub kept_added : (w : List ℕ) (k : ℕ) → 0 < length w → kept (w ++ after (length w) k) ≡ kept w
 kept_added [] k h = absurd (omega arith)

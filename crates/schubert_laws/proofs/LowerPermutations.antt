@@ -1,9 +1,9 @@
--- The transition rule ends: each permutation on its right side is lower (`IsLower`) than the one on its left side, and for each permutation except
--- the identity there are places r and s to which the rule applies (`IsTransition`).
-use Rattle.std.proofs.Common.{◌≡◌, ℕ, zero, suc, ◌+◌, ◌-◌, ◌<◌, ◌≤◌, List, [], ◌∷◌, ◌++◌, ◌==◌, map, length, get_or, refl, sym, ◌∙◌, ap, ap₂, subst, arith, inl, inr, ◌⊎◌, cond, nat_lt, length-append, eqb-true, Some, None, Option, option_map, unwrap_or, replicate}
+-- The recursion by the transition rule terminates: each permutation on the right side of the rule is lower (`IsLower`) than the one on the left side,
+-- and for each permutation except the identity there are places r and s to which the rule applies (`IsTransition`). Counted from 0, these places are
+-- the last descent q and the last place b whose letter is smaller than that at q (`IsStep`).
+use Rattle.std.proofs.lemmas.Grind.{common_steps}
+use Rattle.std.proofs.Common.{◌≡◌, ℕ, zero, suc, ◌+◌, ◌-◌, ◌<◌, ◌≤◌, List, [], ◌∷◌, ◌++◌, ◌==◌, map, length, get_or, refl, sym, ◌∙◌, ap, ap₂, subst, arith, inl, inr, ◌⊎◌, cond, nat_lt, eqb-true, Some, None, Option, option_map, unwrap_or, replicate, rules}
 use Rattle.std.specs.Option.{option_or}
-use Rattle.std.proofs.Math.ListN.{get_or-append}
-use Rattle.std.proofs.Math.Seq.{get_or-append_seam}
 use Rattle.std.proofs.lemmas.List.{append-nil, get_or_past, get_or_default}
 use Rattle.std.proofs.lemmas.Bool.{cases_eq, cases_lt, le-ltb}
 use Rattle.sym_model.specs.Sum.{Among, Once}
@@ -31,24 +31,12 @@ use Rattle.sym_model.proofs.Parts.{Falls-zeros}
 -- ---- fixed letters at the end change neither the letter at a place nor the last descent
 
 letter_next : (w : List ℕ) (i : ℕ) → 1 ≤ i → letter (w ++ ((length w + 1) ∷ [])) i ≡ letter w i
-letter_next w i h = elim (cases_lt (i - 1) (length w)) [
-  | inl l ↦ get_or-append w ((length w + 1) ∷ []) i (i - 1) l
-  | inr l ↦ elim (cases_eq (i - 1) (length w)) [
-    | inl e ↦
-        let a = ap (λ j. get_or (w ++ ((length w + 1) ∷ [])) j i) e ∙ get_or-append_seam w (length w + 1) [] i in
-        let b = get_or_past w (i - 1) i l in
-        omega arith
-    | inr n ↦
-        let la = length-append w ((length w + 1) ∷ []) in
-        get_or_past (w ++ ((length w + 1) ∷ [])) (i - 1) i (omega arith) ∙ sym (get_or_past w (i - 1) i l)
-  ]
-]
+letter_next w i h = grind (arith, common_steps)
 
 pub letter_added : (k : ℕ) (w : List ℕ) (i : ℕ) → 1 ≤ i → letter (w ++ after (length w) k) i ≡ letter w i
 letter_added zero w i h = ap (λ v. letter v i) (append-nil w)
 letter_added (suc k) w i h = ap (λ v. letter v i) (next_after w k) ∙ letter_added k (w ++ ((length w + 1) ∷ [])) i h ∙ letter_next w i h
 
--- if m is greater than all letters of w, w followed by m has the last descent of w
 last_descent_next : (m : ℕ) (w : List ℕ) → ((a : ℕ) → Among a w → a < m) → last_descent (w ++ (m ∷ [])) ≡ last_descent w
 last_descent_next m [] h = refl
 last_descent_next m (a ∷ []) h = ap (λ t. cond t (Some 1) None) (le-ltb m a (let g = h a (inl refl) in omega arith))
@@ -56,10 +44,7 @@ last_descent_next m (a ∷ b ∷ w) h = ap (λ o. option_or (option_map suc o) (
 
 pub last_descent_added : (k : ℕ) (w : List ℕ) → IsOneLine w → last_descent (w ++ after (length w) k) ≡ last_descent w
 last_descent_added zero w o = ap last_descent (append-nil w)
-last_descent_added (suc k) w o =
-    ap last_descent (next_after w k)
-    ∙ last_descent_added k (w ++ ((length w + 1) ∷ [])) (one_line_next w o)
-    ∙ last_descent_next (length w + 1) w (below_next w o)
+last_descent_added (suc k) w o = search (rules, next_after, one_line_next, last_descent_next, below_next, (last_descent_added k))
 
 pub kept_whole : (w : List ℕ) → (k : ℕ) × (w ≡ kept w ++ after (length (kept w)) k)
 kept_whole w =
@@ -73,55 +58,16 @@ letter_kept w i h = let t = kept_whole w in sym (letter_added t.0 (kept w) i h) 
 pub last_descent_kept : (w : List ℕ) → IsOneLine w → last_descent (kept w) ≡ last_descent w
 last_descent_kept w o = let t = kept_whole w in sym (last_descent_added t.0 (kept w) (one_line_kept w o)) ∙ ap last_descent (sym t.1)
 
--- ---- the list w·t_qb, in which the letters at the places q and b of the transition rule are swapped
-
 fewer : (w : List ℕ) (q b : ℕ) → IsOneLine w → IsStep w q b → inversions (kept (swap_at q b w)) < inversions w
-fewer w q b o s =
-    let order = s.order in
-    let inside = s.inside in
-    let e = one_fewer w q b o s in
-    let k = inversions_kept (swap_at q b w) (one_line_swap q b w (omega arith) inside o) in
-    omega arith
+fewer w q b o s = search (rules, one_fewer, inversions_kept, swap_at, one_line_swap)
 
--- if q and b are the places of the transition rule for w, then the list w·t_qb, which is w with the letters at q and b swapped, is weakly increasing
--- after place q
 still_rises : (w : List ℕ) (q b : ℕ) → IsStep w q b → RisesFrom q (swap_at q b w)
-still_rises w q b s c h l =
-    let order = s.order in
-    let inside = s.inside in
-    let falls = s.falls in
-    let len = length-swap_at q b w in
-    let ub = get_swap_right q b 0 w (omega arith) inside in
-    elim (cases_eq c b) [
-      | inl e ↦
-          let x = ap (λ i. get_or (swap_at q b w) i 0) e in
-          let y = get_swap_other q b (suc c) 0 w (λ z. omega arith) (λ z. omega arith) in
-          let z = s.later (suc c) (omega arith) (omega arith) in
-          omega arith
-      | inr n ↦
-          let x = get_swap_other q b c 0 w (λ z. omega arith) n in
-          elim (cases_eq (suc c) b) [
-            | inl e ↦
-                let y = ap (λ i. get_or (swap_at q b w) i 0) e in
-                let z = rises_chain q c b w s.rises h (omega arith) inside in
-                omega arith
-            | inr m ↦
-                let y = get_swap_other q b (suc c) 0 w (λ z. omega arith) m in
-                let z = s.rises c h (omega arith) in
-                omega arith
-          ]
-    ]
+still_rises w q b s c h l = search (rules, length-swap_at, get_swap_right, cases_eq, swap_at, get_swap_other, rises_chain)
 
 -- ---- the covers of w·t_qb in which the letter at q is swapped with an earlier one
 
 pub cover_falls : (u : List ℕ) (p q : ℕ) → Once u → p < q → q < length u → rising_pairs u ≡ suc (rising_pairs (swap_at p q u)) → get_or u p 0 < get_or u q 0
-cover_falls u p q o h l e = elim (cases_lt (get_or u p 0) (get_or u q 0)) [
-  | inl f ↦ f
-  | inr f ↦ elim (cases_lt (get_or u q 0) (get_or u p 0)) [
-    | inl g ↦ let r = raises p q 0 u h l g in absurd (omega arith)
-    | inr g ↦ let z = once_get u p q o (omega arith) l (omega arith) in absurd (omega arith)
-  ]
-]
+cover_falls u p q o h l e = search (rules, cases_lt, raises, once_get)
 
 -- the last descent of y, counted from 1, is less than q + 1, or it is q + 1 and the letter there is smaller than `top`
 abbrev IsEarlier : List ℕ → ℕ → ℕ → Type 0
@@ -150,12 +96,7 @@ earlier y q top r l t = by (last_descent y) refl
         ]
 
 rises_of_swap : (w : List ℕ) (p q b : ℕ) → IsStep w q b → p < q → RisesFrom q (swap_at p q (swap_at q b w))
-rises_of_swap w p q b s h c i l =
-    let ly = length-swap_at p q (swap_at q b w) in
-    let x = get_swap_other p q c 0 (swap_at q b w) (λ z. omega arith) (λ z. omega arith) in
-    let y = get_swap_other p q (suc c) 0 (swap_at q b w) (λ z. omega arith) (λ z. omega arith) in
-    let r = still_rises w q b s c i (omega arith) in
-    omega arith
+rises_of_swap w p q b s h c i l = search (rules, length-swap_at, swap_at, get_swap_other, still_rises)
 
 lowered_cover : (w : List ℕ) (p q b : ℕ) → IsOneLine w → IsStep w q b → last_descent w ≡ Some (suc q) → p < q
     → inversions (kept (swap_at p q (swap_at q b w))) ≡ inversions (swap_at q b w) + 1 → IsLower (kept (swap_at p q (swap_at q b w))) w
@@ -194,25 +135,11 @@ lowered_cover w p q b o s d h e =
     )
 
 pub transition_lowers : (w : List ℕ) (r s : ℕ) → IsOneLine w → IsTransition w r s → IsLower (times_swap r s w) w
-transition_lowers w r s o t =
-    let p = step_of w r s o t in
-    let g = p.4 in
-    let order = g.order in
-    subst (λ i. IsLower (times_swap i s w) w) (sym p.2) (subst (λ j. IsLower (times_swap (suc p.0) j w) w) (sym p.3)
-    (subst (λ v. IsLower v w) (sym (kept_swap w p.0 p.1 g.order g.inside)) (inl (fewer w p.0 p.1 o g))))
+transition_lowers w r s o t = search (rules, step_of, kept_swap, fewer)
 
 -- if r and s are the places of the transition rule for w, then w has one inversion more than w·t_rs
 pub transition_inversions : (w : List ℕ) (r s : ℕ) → IsOneLine w → IsTransition w r s → inversions w ≡ inversions (times_swap r s w) + 1
-transition_inversions w r s o t =
-    let p = step_of w r s o t in
-    let g = p.4 in
-    let order = g.order in
-    let inside = g.inside in
-    let e = one_fewer w p.0 p.1 o g in
-    let k = inversions_kept (swap_at p.0 p.1 w) (one_line_swap p.0 p.1 w (omega arith) inside o) in
-    let is : times_swap r s w ≡ kept (swap_at p.0 p.1 w) = ap₂ (λ i j. times_swap i j w) p.2 p.3 ∙ kept_swap w p.0 p.1 g.order g.inside in
-    let same = ap inversions is in
-    omega arith
+transition_inversions w r s o t = search (rules, step_of, one_fewer, inversions_kept, swap_at, one_line_swap, kept_swap)
 
 covers_lower : (w : List ℕ) (q b : ℕ) (x : List ℕ) → IsOneLine w → IsStep w q b → last_descent w ≡ Some (suc q) → Among x (covers_down (suc q) (swap_at q b w)) → IsLower x w
 covers_lower w q b x o s d m =
@@ -231,26 +158,14 @@ covers_lower w q b x o s d m =
     subst (λ v. IsLower v w) (sym e) (lowered_cover w (c.0 - 1) q b o s d (omega arith) (sym (ap inversions e) ∙ n))
 
 pub transition_covers_lower : (w : List ℕ) (r s : ℕ) → IsOneLine w → IsTransition w r s → (x : List ℕ) → Among x (covers_down r (times_swap r s w)) → IsLower x w
-transition_covers_lower w r s o t x m =
-    let p = step_of w r s o t in
-    let g = p.4 in
-    let order = g.order in
-    let inside = g.inside in
-    let ou = one_line_swap p.0 p.1 w (omega arith) inside o in
-    let e : times_swap r s w ≡ kept (swap_at p.0 p.1 w) = ap₂ (λ i j. times_swap i j w) p.2 p.3 ∙ kept_swap w p.0 p.1 g.order g.inside in
-    let c : covers_down r (times_swap r s w) ≡ covers_down (suc p.0) (swap_at p.0 p.1 w) = ap₂ covers_down p.2 e ∙ covers_down_kept (suc p.0) (swap_at p.0 p.1 w) ou in
-    covers_lower w p.0 p.1 x o g (t.descent ∙ ap Some p.2) (subst (Among x) c m)
-
--- ---- each permutation except the identity has places r and s to which the transition rule applies (`IsTransition`)
+transition_covers_lower w r s o t x m = search (rules, step_of, one_line_swap, swap_at, kept_swap, covers_down_kept, covers_lower)
 
 -- c is the last of the places l, .., m of w whose entry is smaller than `top`
 abbrev IsLastSmaller : List ℕ → ℕ → ℕ → ℕ → ℕ → Type 0
 IsLastSmaller w top l m c = (l ≤ c) × (c ≤ m) × (get_or w c 0 < top) × ((d : ℕ) → c < d → d ≤ m → top ≤ get_or w d 0)
 
 last_smaller : (w : List ℕ) (top l m : ℕ) → l ≤ m → get_or w l 0 < top → (c : ℕ) × IsLastSmaller w top l m c
-last_smaller w top l zero h f =
-    let e : l ≡ 0 = omega arith in
-    (l, (omega arith, h, f, λ d i j. absurd (omega arith)))
+last_smaller w top l zero h f = search rules
 last_smaller w top l (suc m) h f =
     elim (cases_lt (get_or w (suc m) 0) top) [
       | inl g ↦ (suc m, (h, omega arith, g, λ d i j. absurd (omega arith)))
@@ -303,8 +218,7 @@ transition_exists w r o e =
       },
     )
 
--- ---- if a is at most every letter of w, no letter of w is smaller than a; and a permutation without a descent is the identity, with some number of
--- fixed letters
+-- ---- a permutation without a descent is the identity
 
 pub smaller_of_none : (a : ℕ) (w : List ℕ) → ((b : ℕ) → Among b w → a ≤ b) → smaller a w ≡ 0
 smaller_of_none a [] h = refl

@@ -1,9 +1,9 @@
 -- The permutations on the right side of the transition rule have at most as many letters as the one on the left side.
-use Rattle.std.proofs.Common.{◌≡◌, ℕ, ◌+◌, ◌-◌, ◌<◌, ◌≤◌, List, ◌==◌, map, length, sym, ap, subst, arith, length-append, eqb-true}
+use Rattle.std.proofs.Common.{◌≡◌, ℕ, ◌+◌, ◌-◌, ◌<◌, ◌≤◌, List, ◌==◌, map, length, sym, ap, subst, arith, length-append, eqb-true, rules}
 use Rattle.sym_model.specs.Sum.{Among}
 use Rattle.sym_model.specs.Partition.{after}
 use Rattle.sym_model.specs.PlaceOrders.{inversions}
-use Rattle.sym_model.specs.Permutation.{IsOneLine, IsTransition, with_fixed, kept, times_swap, covers_down}
+use Rattle.sym_model.specs.Permutation.{IsOneLine, IsTransition, kept, times_swap, covers_down}
 use Rattle.sym_model.proofs.AfterLists.{length_after, after_among}
 use Rattle.sym_model.proofs.Sums.{Among_from_map, Among_from_select}
 use Rattle.schubert_laws.proofs.FixedTails.{one_line_added, one_line_kept}
@@ -18,17 +18,7 @@ fewer_kept w = let t = kept_whole w in omega (arith, ap length t.1, length-appen
 
 pub short_swap : (n : ℕ) (w : List ℕ) (i j : ℕ) → IsShort n w → 1 ≤ i → i < j → j ≤ n → IsShort n (times_swap i j w)
 short_swap n w i j s h l m =
-    let few = s.few in
-    let long : List ℕ = with_fixed j w in
-    let e = length-append w (after (length w) (j - length w)) in
-    let f = length_after (length w) (j - length w) in
-    let a : i - 1 < length (with_fixed j w) = omega arith in
-    let b : j - 1 < length (with_fixed j w) = omega arith in
-    let o = one_line_swap (i - 1) (j - 1) (with_fixed j w) a b (one_line_added (j - length w) w s.one_line) in
-    let is = swap_is (with_fixed j w) (i - 1) (j - 1) a b in
-    let k = fewer_kept (swap_at (i - 1) (j - 1) (with_fixed j w)) in
-    let d = length-swap_at (i - 1) (j - 1) (with_fixed j w) in
-    subst (λ x. IsShort n (kept x)) (sym is) (record { one_line = one_line_kept (swap_at (i - 1) (j - 1) (with_fixed j w)) o; few = omega arith })
+    search (rules, length-append, length_after, one_line_swap, one_line_added, swap_is, fewer_kept, swap_at, length-swap_at, one_line_kept)
 
 pub short_transition : (n : ℕ) (w : List ℕ) (r s : ℕ) → IsShort n w → IsTransition w r s → IsShort n (times_swap r s w)
 short_transition n w r s h t =
@@ -41,13 +31,7 @@ short_transition n w r s h t =
     short_swap n w r s h (omega arith) (omega arith) (omega arith)
 
 pub place_within : (w : List ℕ) (r s : ℕ) → IsOneLine w → IsTransition w r s → (1 ≤ r) × (r < length w) × (r < s) × (s ≤ length w)
-place_within w r s o t =
-    let p = step_of w r s o t in
-    let a = p.2 in
-    let b = p.3 in
-    let c = p.4.order in
-    let d = p.4.inside in
-    (omega arith, omega arith, omega arith, omega arith)
+place_within w r s o t = search (rules, step_of)
 
 pub short_cover : (n r : ℕ) (u x : List ℕ) → IsShort n u → r ≤ n → Among x (covers_down r u) → IsShort n x
 short_cover n r u x s h m =

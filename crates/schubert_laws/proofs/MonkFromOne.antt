@@ -1,5 +1,6 @@
--- Monk's rule for permutations, in every number of variables, with places counted from 1.
-use Rattle.std.proofs.Common.{◌≡◌, ℕ, zero, suc, ◌+◌, ◌-◌, ◌<◌, ◌≤◌, max, List, [], ◌∷◌, ◌++◌, map, length, get_or, set, refl, sym, ◌∙◌, ap, ap₂, subst, arith, cond, ◌==◌, ℤ, pos, ◌+ℤ◌, neg_ℤ, length-append, append_assoc, eqb-true, eq-eqb}
+-- Monk's rule for permutations, in every number of variables, with places counted from 1. The pairing of a function φ of exponent lists with a
+-- polynomial f (`pair f φ`) is the sum of c·φ(α) over the terms c·x^α of f.
+use Rattle.std.proofs.Common.{◌≡◌, ℕ, zero, suc, ◌+◌, ◌-◌, ◌<◌, ◌≤◌, max, List, [], ◌∷◌, ◌++◌, map, length, get_or, set, refl, sym, ◌∙◌, ap, ap₂, subst, arith, cond, ◌==◌, ℤ, pos, ◌+ℤ◌, neg_ℤ, length-append, append_assoc, eqb-true, eq-eqb, rules}
 use Rattle.std.specs.List.{swap}
 use Rattle.std.proofs.Math.ListN.{get_or-append}
 use Rattle.std.proofs.lemmas.Int.{ints}
@@ -27,8 +28,6 @@ use Rattle.schubert_laws.proofs.MonkStep.{covered, value, signed_up, signed_down
 use Rattle.schubert_laws.proofs.MonkRule.{no_factors, monk_last, over_swap}
 use Rattle.sym_model.proofs.AfterLists.{length_after, after_among, after-append}
 
--- ---- swapping the letters at two places, by `set` and by `swap_at`
-
 sets_are_swap : (w : List ℕ) (i j d : ℕ) → i < length w → j < length w → set (set w i (get_or w j d)) j (get_or w i d) ≡ swap_at i j w
 sets_are_swap [] i j d h l = absurd (omega arith)
 sets_are_swap (x ∷ w) zero zero d h l = refl
@@ -51,18 +50,11 @@ swap_at_append (suc a) zero (x ∷ w) z h l = one_append w a x z (omega arith)
 swap_at_append (suc a) (suc b) (x ∷ w) z h l = ap (λ v. x ∷ v) (swap_at_append a b w z (omega arith) (omega arith))
 
 pub one_line_swap : (a b : ℕ) (w : List ℕ) → a < length w → b < length w → IsOneLine w → IsOneLine (swap_at a b w)
-one_line_swap a b w h l o = record {
-  letters = λ x m. let r = o.letters x (among_swap x a b w h l m) in (r.0, subst (λ n. x ≤ n) (sym (length-swap_at a b w)) r.1);
-  once = once_swap a b w h l o.once;
-}
-
--- ---- sums over the places 0, .., n - 1 as sums over lists of places counted from 1
+one_line_swap a b w h l o = search (rules, among_swap, length-swap_at, once_swap)
 
 sum_after : (n a : ℕ) (f : ℕ → ℤ) → sum_below n (λ b. f (a + b)) ≡ total (λ i. f (i - 1)) (after a n)
 sum_after zero a f = refl
-sum_after (suc n) a f =
-    let d : a + 0 ≡ a + 1 - 1 = omega arith in
-    ap₂ ◌+ℤ◌ (ap f d) (sum_below_ext n (λ b. f (a + suc b)) (λ b. f (a + 1 + b)) (λ b h. let e : a + suc b ≡ a + 1 + b = omega arith in ap f e) ∙ sum_after n (a + 1) f)
+sum_after (suc n) a f = search (rules, sum_below_ext, (sum_after n (a + 1) f))
 
 pub sum_split : (n q : ℕ) (f : ℕ → ℤ) → q < n
     → sum_below n f ≡ total (λ i. f (i - 1)) (after 0 q) +ℤ (f q +ℤ total (λ i. f (i - 1)) (after (q + 1) (n - (q + 1))))
@@ -77,7 +69,7 @@ sum_split n q f h =
     let g = ap f d in
     omega (arith, ints)
 
--- ---- one term of Monk's rule: S_v, v being w with two letters swapped, if v is a cover of w; otherwise 0
+-- ---- the terms of Monk's rule for w: a list v, which is w with two letters swapped, has the term S_v if it is a cover of w, and 0 otherwise
 
 -- the permutation w with k + 1 fixed letters added at its end
 abbrev pub longer : List ℕ → ℕ → List ℕ
@@ -93,12 +85,7 @@ cover_value n φ w v = cond (inversions v == inversions w + 1) (pair (schubert_i
 cover_tests : (n : ℕ) (φ : List ℕ → ℤ) (g : Poly) (ψ : List ℕ → ℤ) (w long v x : List ℕ) → Once long → Once v → length v ≡ length long
     → inversions long ≡ inversions w → inversions x ≡ inversions v → pair (schubert_over g v) ψ ≡ pair (schubert_in x n) φ
     → cond (rising_pairs long == suc (rising_pairs v)) (pair (schubert_over g v) ψ) (pos 0) ≡ cover_value n φ w x
-cover_tests n φ g ψ w long v x o p l e f q =
-    ap₂ (λ t z. cond t z (pos 0))
-    (tests_agree (rising_pairs long == suc (rising_pairs v)) (inversions x == inversions w + 1)
-    (λ t. let a = one_more_inversion long v o p l (eqb-true (rising_pairs long) (suc (rising_pairs v)) t) in eq-eqb (inversions x) (inversions w + 1) (omega arith))
-    (λ t. let a = eqb-true (inversions x) (inversions w + 1) t in eq-eqb (rising_pairs long) (suc (rising_pairs v)) (one_less_rising long v o p l (omega arith))))
-    q
+cover_tests n φ g ψ w long v x o p l e f q = search (rules, tests_agree, one_more_inversion, eqb-true, eq-eqb, one_less_rising)
 
 pub longer_split : (w : List ℕ) (k m : ℕ) → m ≤ k + 1 → longer w k ≡ (w ++ after (length w) m) ++ after (length (w ++ after (length w) m)) (k + 1 - m)
 longer_split w k m h =
@@ -119,27 +106,12 @@ swap_added u t a b h l = swap_at_append a b u (after (length u) t) h l ∙ ap (�
 pair_within : (n : ℕ) (φ : List ℕ → ℤ) (a b : ℕ) (long : List ℕ) → pair (schubert_over (top_of long) (swap_at a b long)) (restricted_test n φ) ≡ pair (schubert_in (swap_at a b long) n) φ
 pair_within n φ a b long = ap (λ f. pair f (restricted_test n φ)) (over_swap a b long) ∙ sym (pair_restrict n (schubert (swap_at a b long)) φ)
 
--- let u and w have the same number of inversions, let u' be u with t fixed letters added, and v be u with the letters at a and b swapped, without the
--- fixed letters at its end: `covered` for the function `restricted_test n φ`, the list u' and the places a and b is `cover_value n φ w v`
+-- let u' be u with t fixed letters added at its end, and let v be u with the letters at a and b swapped and the fixed letters at the end dropped. If
+-- u and w have the same number of inversions, the term of Monk's rule for u' and the places a, b is the term of v in the rule for w (`cover_value`)
 term_added : (n : ℕ) (φ : List ℕ → ℤ) (w u : List ℕ) (t a b : ℕ) → IsOneLine u → a < length u → b < length u → inversions u ≡ inversions w
     → covered (top_of (u ++ after (length u) t)) (restricted_test n φ) (u ++ after (length u) t) a b ≡ cover_value n φ w (kept (swap u a b))
 term_added n φ w u t a b o h l e =
-    let os = one_line_swap a b u h l o in
-    let ou = one_line_added t u o in
-    let sa = swap_added u t a b h l in
-    let k : kept (swap_at a b u) ≡ kept (swap u a b) = ap kept (sym (swap_is u a b h l)) in
-    let len = length-swap_at a b (u ++ after (length u) t) in
-    cover_tests n φ (top_of (u ++ after (length u) t)) (restricted_test n φ) w (u ++ after (length u) t) (swap_at a b (u ++ after (length u) t)) (kept (swap u a b))
-    ou.once
-    (subst Once (sym sa) (one_line_added t (swap_at a b u) os).once)
-    len
-    (inversions_added t u o ∙ e)
-    (ap inversions (sym k) ∙ inversions_kept (swap_at a b u) os ∙ sym (inversions_added t (swap_at a b u) os) ∙ ap inversions (sym sa))
-    (pair_within n φ a b (u ++ after (length u) t)
-    ∙ ap (λ v. pair (schubert_in v n) φ) sa
-    ∙ pair_determined (schubert_in (swap_at a b u ++ after (length (swap_at a b u)) t) n) (schubert_in (swap_at a b u) n) φ (schubert_added t (swap_at a b u) n os)
-    ∙ sym (pair_determined (schubert_in (kept (swap_at a b u)) n) (schubert_in (swap_at a b u) n) φ (schubert_kept (swap_at a b u) n os))
-    ∙ ap (λ v. pair (schubert_in v n) φ) k)
+    search (rules, one_line_swap, one_line_added, swap_added, swap_at, swap_is, length-swap_at, cover_tests, restricted_test, inversions_added, inversions_kept, pair_within, pair_determined, schubert_added, schubert_kept)
 
 pub cover_term : (n : ℕ) (φ : List ℕ → ℤ) (w : List ℕ) (k i j : ℕ) → IsOneLine w → 1 ≤ i → i < j → j ≤ length w + k + 1
     → covered (top_of (longer w k)) (restricted_test n φ) (longer w k) (i - 1) (j - 1) ≡ cover_value n φ w (times_swap i j w)
@@ -152,36 +124,19 @@ cover_term n φ w k i j o c h l =
     (term_added n φ w (w ++ after (length w) (j - length w)) (k + 1 - (j - length w)) (i - 1) (j - 1)
     (one_line_added (j - length w) w o) (omega arith) (omega arith) (inversions_added (j - length w) w o))
 
--- ---- w with k + 1 fixed letters added, split before the last of them; Monk's rule in n variables
+-- ---- Monk's rule in n variables
 
 pub whole_longer : (w : List ℕ) (k : ℕ) → longer w k ≡ (w ++ after (length w) k) ++ ((length (w ++ after (length w) k) + 1) ∷ [])
-whole_longer w k =
-    let la = length-append w (after (length w) k) in
-    let lb = length_after (length w) k in
-    let d : length w + k + 1 ≡ length (w ++ after (length w) k) + 1 = omega arith in
-    ap (λ t. w ++ t) (after-append (length w) k 1)
-    ∙ sym (append_assoc w (after (length w) k) ((length w + k + 1) ∷ []))
-    ∙ ap (λ t. (w ++ after (length w) k) ++ (t ∷ [])) d
+whole_longer w k = search (rules, length-append, length_after, after-append, append_assoc)
 
 monk_longer : (w : List ℕ) (k q : ℕ) → IsOneLine w → q < length w + k → IsMonk (top_of (longer w k)) no_factors (longer w k) q
-monk_longer w k q o h =
-    let v : List ℕ = w ++ after (length w) k in
-    let ov = one_line_added k w o in
-    let la = length-append w (after (length w) k) in
-    let lb = length_after (length w) k in
-    subst (λ u. IsMonk (top_of u) no_factors u q) (sym (whole_longer w k))
-    (monk_last (length (w ++ after (length w) k) + 1) q (w ++ after (length w) k) ov.once (below_next (w ++ after (length w) k) ov) (omega arith))
+monk_longer w k q o h = search (rules, one_line_added, length-append, length_after, no_factors, whole_longer, monk_last, below_next)
 
 -- the pairing of φ with the sum of S_v over those lists v = f(j) that have one inversion more than w is the sum of `cover_value` over all j
 pub pair_covers : (n : ℕ) (φ : List ℕ → ℤ) (w : List ℕ) (f : ℕ → List ℕ) (js : List ℕ)
     → pair (schuberts_in (covers_among w (map f js)) n) φ ≡ total (λ j. cover_value n φ w (f j)) js
-pair_covers n φ w f js =
-    pair_each (λ (v : List ℕ). schubert_in v n) (covers_among w (map f js)) φ
-    ∙ total_select (λ (v : List ℕ). pair (schubert_in v n) φ) (λ (v : List ℕ). inversions v == inversions w + 1) (map f js)
-    ∙ total_map (cover_value n φ w) f js
+pair_covers n φ w f js = search (rules, pair_each, total_select, total_map)
 
--- x_(q+1)·S_w in n variables is the restriction to n variables of x_(q+1) times the Schubert polynomial of w with k + 1 fixed letters added; here as
--- an equality of pairings
 pair_left : (n : ℕ) (φ : List ℕ → ℤ) (w : List ℕ) (k q : ℕ) → IsOneLine w
     → pair (times (variable_in (suc q) n) (schubert_in w n)) φ ≡ pair (times (plus (variable_after q) nothing) (schubert (longer w k))) (restricted_test n φ)
 pair_left n φ w k q o =

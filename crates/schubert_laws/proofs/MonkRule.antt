@@ -1,7 +1,8 @@
--- Monk's rule for lists w = v ++ (m), whose last letter m is greater than all letters of v.
---     monk_over      if the rule holds for all w in which v has no ascent, it holds for all w; for any polynomial g from which `schubert_over` starts
+-- Monk's rule for lists w = v ++ (m), whose last letter m is greater than all letters of v. Here `schubert_over g w` is g if w has no ascent, and
+-- otherwise it is computed from g by divided differences.
+--     monk_over      for each polynomial g: if the rule for `schubert_over g` holds for all w such that v has no ascent, it holds for all w
 --     monk_last      the rule for Schubert polynomials
-use Rattle.std.proofs.Common.{◌≡◌, ℕ, zero, suc, ◌+◌, ◌<◌, ◌≤◌, List, [], ◌∷◌, ◌++◌, length, get_or, refl, sym, ◌∙◌, ap, ap₂, subst, arith, inl, inr, ◌⊎◌, None, ℤ, pos, neg_ℤ, length-append}
+use Rattle.std.proofs.Common.{◌≡◌, ℕ, zero, suc, ◌+◌, ◌<◌, ◌≤◌, List, [], ◌∷◌, ◌++◌, length, get_or, refl, sym, ◌∙◌, ap, ap₂, subst, arith, inl, inr, ◌⊎◌, None, ℤ, pos, neg_ℤ, length-append, rules}
 use Rattle.std.proofs.Math.ListN.{get_or-append}
 use Rattle.std.proofs.lemmas.Bool.{cases_lt, cond_below}
 use lib.IntN.{+ℤ_idr}
@@ -29,8 +30,6 @@ use Rattle.std.proofs.Math.Nat.{le_of_lt}
 
 abbrev pub HasNoAscent : List ℕ → Type 0
 HasNoAscent v = (k : ℕ) → Rises k v → ⊥
-
--- ---- Monk's rule for all lists v ++ (m), from the rule for those in which v has no ascent
 
 monk_within : (steps : ℕ) (g : Poly) (c : ℕ → Poly) (N m n : ℕ) (P : List ℕ → Type 0) → In N g → suc n ≤ N
     → ((v : List ℕ) → P v → length v ≡ n) → ((v : List ℕ) (k : ℕ) → P v → P (exchange_at k v)) → ((v : List ℕ) → P v → Once (v ++ (m ∷ [])))
@@ -61,8 +60,7 @@ pub monk_over : (g : Poly) (c : ℕ → Poly) (N m n : ℕ) (P : List ℕ → Ty
     → (v : List ℕ) → P v → (r : ℕ) → r < n → IsMonk g c (v ++ (m ∷ [])) r
 monk_over g c N m n P i b len kept once passes base v p r h = monk_within (suc (rising_pairs v)) g c N m n P i b len kept once passes base v (omega arith) p r h
 
--- ---- lists v ++ (m), v having no ascent: of the lists in which the letter at place r of v is swapped with another letter, only the one in which it
--- is swapped with m is a cover
+-- ---- lists v ++ (m) such that v has no ascent: swapping the letter at a place r of v with another letter gives a cover only if this letter is m
 
 abbrev pub IsBelow : ℕ → List ℕ → Type 0
 IsBelow m v = (a : ℕ) → Among a v → a < m
@@ -141,7 +139,6 @@ falls_raised (suc (suc n)) zero h = (omega arith, falls_staircase (suc n))
 falls_raised (suc (suc n)) (suc zero) h = (omega arith, falls_raised (suc n) zero (omega arith))
 falls_raised (suc (suc n)) (suc (suc r)) h = (omega arith, falls_raised (suc n) (suc r) (omega arith))
 
--- in a list of different letters without an ascent, each letter is greater than all letters after it
 falling_pair : (v : List ℕ) (i j d : ℕ) → Once v → HasNoAscent v → i < j → j < length v → get_or v j d < get_or v i d
 falling_pair [] i j d o n h l = absurd (omega arith)
 falling_pair (a ∷ v) i zero d o n h l = absurd (omega arith)
@@ -172,15 +169,8 @@ over_swap a b w = ap (λ n. schubert_over (x_to (staircase n)) (swap_at a b w)) 
 -- let the letters of v be different, v have no ascent, and r and b be places of v: swapping the letters at r and b in the list v ++ (m) gives no
 -- cover of it, so the term of b in Monk's rule is 0
 pub falling_elsewhere : (g : Poly) (φ : List ℕ → ℤ) (m r b : ℕ) (v : List ℕ) → Once v → HasNoAscent v → r < length v → b < length v → value g φ (v ++ (m ∷ [])) r b ≡ pos 0
-falling_elsewhere g φ m r b v o n h l = elim (cases_lt r b) [
-  | inl f ↦ signed_up r b (covered g φ (v ++ (m ∷ [])) r b) f ∙ covered_none g φ (v ++ (m ∷ [])) r b (no_cover m r b v o n f l)
-  | inr f ↦ elim (cases_lt b r) [
-    | inl c ↦
-        signed_down r b (covered g φ (v ++ (m ∷ [])) r b) c
-        ∙ ap neg_ℤ (covered_sym g φ (v ++ (m ∷ [])) r b ∙ covered_none g φ (v ++ (m ∷ [])) b r (no_cover m b r v o n c h))
-    | inr c ↦ let e : r ≡ b = omega arith in signed_same r b (covered g φ (v ++ (m ∷ [])) r b) e
-  ]
-]
+falling_elsewhere g φ m r b v o n h l =
+    search (rules, cases_lt, signed_up, covered, covered_none, no_cover, signed_down, neg_ℤ, covered_sym, signed_same)
 
 falling_here : (m r : ℕ) (v : List ℕ) → Once v → IsBelow m v → HasNoAscent v → r < length v → IsMonk (x_to (staircase (length (v ++ (m ∷ []))))) no_factors (v ++ (m ∷ [])) r
 falling_here m r v o b n h φ =
@@ -199,8 +189,6 @@ falling_here m r v o b n h φ =
     ∙ sym (signed_up r (length v) (covered (x_to (staircase (length (v ++ (m ∷ []))))) φ (v ++ (m ∷ [])) r (length v)) h)
     ∙ sym (sum_below_only (length (v ++ (m ∷ []))) (length v) (value (x_to (staircase (length (v ++ (m ∷ []))))) φ (v ++ (m ∷ [])) r) (omega arith)
     (λ j k d. falling_elsewhere (x_to (staircase (length (v ++ (m ∷ []))))) φ m r j v o n h (omega arith)))
-
--- ---- Monk's rule for the Schubert polynomials of lists whose last letter is greater than all others
 
 record IsStart (m n : ℕ) (v : List ℕ) : Type 0 where
   pub size : length v ≡ n

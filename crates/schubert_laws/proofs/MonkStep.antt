@@ -1,11 +1,12 @@
--- Monk's rule for a list that increases at two neighbouring places follows from the rule for the list with these two letters exchanged, for any
--- polynomial g from which the divided differences start. The factor on the left side is a variable plus a polynomial that commutes with divided
--- differences: 0 for Schubert polynomials, and -y_a, a being a letter, for double Schubert polynomials.
+-- Monk's rule for a list that increases at two neighbouring places follows from the rule for the list with these two letters exchanged. The
+-- polynomial of a list w is `schubert_over g w`, which is computed from any given polynomial g by divided differences. The factor on the left side of
+-- the rule is a variable plus a polynomial that commutes with divided differences: 0 for Schubert polynomials, and -y_a, a being a letter, for double
+-- Schubert polynomials. The pairing of a function φ with a polynomial is the sum of c·φ(α) over the terms c·x^α of the polynomial.
 --     value g φ w r b     the term of place b, paired with φ: if w with the letters at r and b swapped is a cover of w, the
 --                         polynomial of this cover, with the sign + if b is after r and - if b is before r; otherwise 0
 --     IsMonk g c w r      Monk's rule for x_r, as an equation of pairings
 --     monk_step           the rule for a list, from the rule for the list with two neighbours exchanged
-use Rattle.std.proofs.Common.{◌≡◌, ℕ, zero, suc, ◌<◌, ◌≤◌, List, [], ◌∷◌, length, get_or, refl, sym, ◌∙◌, ap, ap₂, subst, arith, inl, inr, ◌⊎◌, cond, nat_lt, ◌==◌, Bool, true, false, ℤ, pos, ◌+ℤ◌, neg_ℤ, eq-eqb, eqb-true}
+use Rattle.std.proofs.Common.{◌≡◌, ℕ, zero, suc, ◌<◌, ◌≤◌, List, [], ◌∷◌, length, get_or, refl, sym, ◌∙◌, ap, ap₂, subst, arith, inl, inr, ◌⊎◌, cond, nat_lt, ◌==◌, Bool, ℤ, pos, ◌+ℤ◌, neg_ℤ, eq-eqb, eqb-true, rules}
 use Rattle.std.proofs.lemmas.Int.{ints}
 use Rattle.std.proofs.lemmas.Bool.{cases_eq, cases_lt, lt-ltb, ne_eqb, le-ltb}
 use lib.IntN.{+ℤ_idr}
@@ -89,8 +90,8 @@ moved_after (suc k) = ap suc (moved_after k)
 
 -- ---- the terms of Monk's rule
 
--- whether w with the entries at the places a and b swapped has one increasing pair less than w; if the entries of w are different, this says that it
--- is a cover of w
+-- whether w has exactly one increasing pair more than the list y, which is w with the entries at a and b swapped; if the entries of w are different,
+-- this says that y is a cover of w
 abbrev pub is_cover : List ℕ → ℕ → ℕ → Bool
 is_cover w a b = rising_pairs w == suc (rising_pairs (swap_at a b w))
 
@@ -122,21 +123,19 @@ covered_none g φ w a b n = ap (λ t. cond t (pair (schubert_over g (swap_at a b
 pub covered_is : (g : Poly) (φ : List ℕ → ℤ) (w : List ℕ) (a b : ℕ) → rising_pairs w ≡ suc (rising_pairs (swap_at a b w)) → covered g φ w a b ≡ pair (schubert_over g (swap_at a b w)) φ
 covered_is g φ w a b e = ap (λ t. cond t (pair (schubert_over g (swap_at a b w)) φ) (pos 0)) (eq-eqb (rising_pairs w) (suc (rising_pairs (swap_at a b w))) e)
 
--- if the entries of w are different, the entries at the places k and k + 1 increase either in w, or in w with these two exchanged
 rises_or : (k : ℕ) (w : List ℕ) → suc k < length w → Once w → Rises k w ⊎ Rises k (exchange_at k w)
 rises_or k [] h o = absurd (omega arith)
 rises_or zero (a ∷ []) h o = absurd (omega arith)
 rises_or zero (a ∷ b ∷ w) h o = elim (cases_lt a b) [ inl l ↦ inl l | inr l ↦ inr (lt_of_le-ne l (λ e. o.0 (inl (sym e)))) ]
 rises_or (suc k) (a ∷ w) h o = rises_or k w (omega arith) o.1
 
--- if the entries of w at the places k and k + 1 increase, the pairing of φ with S_w is that of `along k φ` with S_v, v being w with these entries
--- exchanged; S is `schubert_over g`
+-- if the entries of w at the places k and k + 1 increase, then the pairing of φ with S_w is the pairing of `along k φ` with S_v; here v is w with
+-- these entries exchanged, and S_w is `schubert_over g w`
 pub pair_ascent : (g : Poly) (w : List ℕ) (k : ℕ) (φ : List ℕ → ℤ) → Rises k w → pair (schubert_over g w) φ ≡ pair (schubert_over g (exchange_at k w)) (along k φ)
 pair_ascent g w k φ r =
     pair_determined (schubert_over g w) (differences_after k (schubert_over g (exchange_at k w))) φ (any_ascent g w k r)
     ∙ pair_differences k (schubert_over g (exchange_at k w)) φ
 
--- if the entries of w at the places k and k + 1 increase, the pairing of `along k φ` with S_w is 0; S is `schubert_over g`
 pair_ascent_along : (g : Poly) (w : List ℕ) (k : ℕ) (φ : List ℕ → ℤ) → Rises k w → pair (schubert_over g w) (along k φ) ≡ pos 0
 pair_ascent_along g w k φ r =
     pair_ascent g w k (along k φ) r
@@ -148,23 +147,11 @@ abbrev term : Poly → (List ℕ → ℤ) → ℕ → List ℕ → ℤ
 term g φ p y = cond (p == suc (rising_pairs y)) (pair (schubert_over g y) φ) (pos 0)
 
 term_rises : (g : Poly) (φ : List ℕ → ℤ) (k p : ℕ) (y : List ℕ) → Rises k y → term g φ (suc p) y ≡ term g (along k φ) p (exchange_at k y)
-term_rises g φ k p y r =
-    let e = rising_pairs_exchange k y r in
-    ap₂ (λ t z. cond t z (pos 0))
-    (tests_agree (suc p == suc (rising_pairs y)) (p == suc (rising_pairs (exchange_at k y)))
-    (λ t. let q = eqb-true (suc p) (suc (rising_pairs y)) t in eq-eqb p (suc (rising_pairs (exchange_at k y))) (omega arith))
-    (λ t. let q = eqb-true p (suc (rising_pairs (exchange_at k y))) t in eq-eqb (suc p) (suc (rising_pairs y)) (omega arith)))
-    (pair_ascent g y k φ r)
+term_rises g φ k p y r = search (rules, rising_pairs_exchange, tests_agree, exchange_at, eqb-true, eq-eqb, pair_ascent)
 
 term_along : (g : Poly) (φ : List ℕ → ℤ) (k p : ℕ) (v : List ℕ) → Rises k v → term g (along k φ) p v ≡ pos 0
-term_along g φ k p v r = by (p == suc (rising_pairs v)) (pair_ascent_along g v k φ r)
-  where
-    by : (t : Bool) → pair (schubert_over g v) (along k φ) ≡ pos 0 → cond t (pair (schubert_over g v) (along k φ)) (pos 0) ≡ pos 0
-    by true e = e
-    by false e = refl
+term_along g φ k p v r = search (rules, pair_ascent_along, along)
 
--- let the entries of u at k and k + 1 increase, let v be u with these two exchanged, and a < b with (a, b) other than (k, k + 1): `covered` for φ, u,
--- a and b is `covered` for `along k φ`, v, `moved k a` and `moved k b`
 covered_step : (g : Poly) (φ : List ℕ → ℤ) (k a b : ℕ) (u : List ℕ) → Once u → Rises k u → a < b → b < length u → (a ≡ k → b ≡ suc k → ⊥)
     → covered g φ u a b ≡ covered g (along k φ) (exchange_at k u) (moved k a) (moved k b)
 covered_step g φ k a b u o r l h d =
@@ -206,8 +193,6 @@ covered_step g φ k a b u o r l h d =
               omega arith
         ]
 
--- let the entries of u at k and k + 1 increase, let v be u with these two exchanged, and {r, b} be other than {k, k + 1}: `value` for φ, u, r and b
--- is `value` for `along k φ`, v, `moved k r` and `moved k b`
 value_step : (g : Poly) (φ : List ℕ → ℤ) (k r b : ℕ) (u : List ℕ) → Once u → Rises k u → r < length u → b < length u
     → (r ≡ k → b ≡ suc k → ⊥) → (b ≡ k → r ≡ suc k → ⊥) → value g φ u r b ≡ value g (along k φ) (exchange_at k u) (moved k r) (moved k b)
 value_step g φ k r b u o s h l d e = elim (cases_lt r b) [
@@ -227,27 +212,16 @@ value_step g φ k r b u o s h l d e = elim (cases_lt r b) [
   ]
 ]
 
--- if the entries of u at k and k + 1 increase, the list v with these exchanged is a cover of u, so `covered` for u and the places k, k + 1 is the
--- pairing of φ with the polynomial of v
 covered_pair : (g : Poly) (φ : List ℕ → ℤ) (k : ℕ) (u : List ℕ) → Rises k u → covered g φ u k (suc k) ≡ pair (schubert_over g (exchange_at k u)) φ
-covered_pair g φ k u r =
-    let e = swap_neighbour k u (rises_within k u r) in
-    let f = ap rising_pairs e in
-    let p = rising_pairs_exchange k u r in
-    covered_is g φ u k (suc k) (omega arith) ∙ ap (λ v. pair (schubert_over g v) φ) e
+covered_pair g φ k u r = search (rules, swap_neighbour, rises_within, rising_pairs_exchange, covered_is)
 
--- if the entries of u at k and k + 1 increase, u is not a cover of the list v with these exchanged, so `covered` for v and the places k, k + 1 is 0
 covered_back : (g : Poly) (φ : List ℕ → ℤ) (k : ℕ) (u : List ℕ) → Rises k u → covered g φ (exchange_at k u) k (suc k) ≡ pos 0
 covered_back g φ k u r =
-    let n = length-exchange_at k u in
-    let i = rises_within k u r in
-    let e = swap_neighbour k (exchange_at k u) (omega arith) ∙ exchange_twice k u in
-    let f = ap rising_pairs e in
-    let p = rising_pairs_exchange k u r in
-    covered_none g φ (exchange_at k u) k (suc k) (λ q. omega arith)
+    search (rules, length-exchange_at, rises_within, swap_neighbour, exchange_at, exchange_twice, rising_pairs_exchange, covered_none)
 
--- `correction k r z b`: `jump k r z` if b is `moved k r`, and 0 otherwise. With z the pairing of φ with the polynomial of u with the entries at k and
--- k + 1 exchanged, this is the difference between the terms of b in Monk's rule for u and for that list
+-- `jump k r z` if b is `moved k r`, the place to which r moves if the places k and k + 1 are exchanged; 0 otherwise. With z the pairing of φ with the
+-- polynomial of v, this number is `value g φ u r b` minus `value g (along k φ) v (moved k r) (moved k b)`; here v is u with its increasing entries at
+-- k and k + 1 exchanged
 abbrev correction : ℕ → ℕ → ℤ → ℕ → ℤ
 correction k r z b = cond (b == moved k r) (jump k r z) (pos 0)
 
@@ -262,22 +236,11 @@ IsCorrected g φ k u r b = value g φ u r b ≡ value g (along k φ) (exchange_a
 
 corrected_up : (g : Poly) (φ : List ℕ → ℤ) (k : ℕ) (u : List ℕ) → Rises k u → IsCorrected g φ k u k (suc k)
 corrected_up g φ k u s =
-    let z : ℤ = pair (schubert_over g (exchange_at k u)) φ in
-    let a = signed_up k (suc k) (covered g φ u k (suc k)) (omega arith) ∙ covered_pair g φ k u s in
-    let b = ap₂ (value g (along k φ) (exchange_at k u)) (moved_at k) (moved_after k) ∙ signed_down (suc k) k (covered g (along k φ) (exchange_at k u) (suc k) k) (omega arith) in
-    let c = covered_sym g (along k φ) (exchange_at k u) (suc k) k ∙ covered_back g (along k φ) k u s in
-    let d = correction_there k k z (suc k) (sym (moved_at k)) ∙ jump_at k z in
-    omega (arith, ints)
+    search (rules, exchange_at, signed_up, covered_pair, along, moved_at, moved_after, signed_down, covered_sym, covered_back, correction_there, jump_at, ints)
 
 corrected_down : (g : Poly) (φ : List ℕ → ℤ) (k : ℕ) (u : List ℕ) → Rises k u → IsCorrected g φ k u (suc k) k
 corrected_down g φ k u s =
-    let z : ℤ = pair (schubert_over g (exchange_at k u)) φ in
-    let a = signed_down (suc k) k (covered g φ u (suc k) k) (omega arith) in
-    let e = covered_sym g φ u (suc k) k ∙ covered_pair g φ k u s in
-    let b = ap₂ (value g (along k φ) (exchange_at k u)) (moved_after k) (moved_at k) ∙ signed_up k (suc k) (covered g (along k φ) (exchange_at k u) k (suc k)) (omega arith) in
-    let c = covered_back g (along k φ) k u s in
-    let d = correction_there k (suc k) z k (sym (moved_after k)) ∙ jump_after k z in
-    omega (arith, ints)
+    search (rules, exchange_at, signed_down, covered_sym, covered_pair, along, moved_after, moved_at, signed_up, covered_back, correction_there, jump_after, ints)
 
 value_corrected : (g : Poly) (φ : List ℕ → ℤ) (k r b : ℕ) (u : List ℕ) → Once u → Rises k u → r < length u → b < length u → IsCorrected g φ k u r b
 value_corrected g φ k r b u o s h l = by (cases_eq r k) (cases_eq r (suc k)) (cases_eq b (moved k r))
@@ -306,9 +269,7 @@ sum_correction n k r z h l =
     sum_below_only n (moved k r) (correction k r z) (moved_within k r n h l) (λ b m d. correction_elsewhere k r z b d)
     ∙ correction_there k r z (moved k r) refl
 
--- ---- Monk's rule for a list, from the rule for the list with two neighbours exchanged
-
--- for f in N variables, multiplying by p commutes with the divided differences in the first n variables
+-- the statement that, for polynomials in N variables, multiplication by p commutes with the divided differences in the first n variables
 abbrev pub Passes : ℕ → ℕ → Poly → Type 0
 Passes n N p = (k : ℕ) (f : Poly) → suc k < n → In N f → Same (times p (differences_after k f)) (differences_after k (times p f))
 

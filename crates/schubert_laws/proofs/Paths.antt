@@ -1,7 +1,7 @@
 -- Every path of divided differences gives the same polynomial S_w = `schubert_over g w`, for any polynomial g from which the paths start.
---     over_first      S_w is the divided difference, at the first ascent of w, of S_v, v being w with the letters of the ascent exchanged
---     any_ascent      the same holds for any ascent of w
-use Rattle.std.proofs.Common.{◌≡◌, ℕ, zero, suc, ◌+◌, ◌-◌, ◌<◌, ◌≤◌, List, [], ◌∷◌, length, get_or, refl, sym, ◌∙◌, ap, subst, arith, inl, inr, ◌⊎◌, Some, None}
+--     over_first      S_w is ∂ S_v at the first ascent of w; here v is w with the letters of this ascent exchanged
+--     any_ascent      S_w is ∂ S_v at each ascent of w; here v is w with the letters of this ascent exchanged
+use Rattle.std.proofs.Common.{◌≡◌, ℕ, zero, suc, ◌+◌, ◌-◌, ◌<◌, ◌≤◌, List, [], ◌∷◌, length, get_or, refl, sym, ◌∙◌, ap, subst, arith, inl, inr, ◌⊎◌, Some, None, rules}
 use Rattle.std.specs.Option.{option_map_or}
 use Rattle.std.proofs.lemmas.Bool.{cases_eq, cases_lt}
 use Rattle.sym_model.specs.Polynomial.{Poly, Same, coefficient}
@@ -20,12 +20,7 @@ over_top g zero w e = refl
 over_top g (suc n) w e = ap (λ o. option_map_or (λ i. divided_difference i (descended g n (exchanged i w))) o g) e
 
 pub over_first : (g : Poly) (w : List ℕ) (k : ℕ) → IsFirstAscent w k → schubert_over g w ≡ differences_after k (schubert_over g (exchange_at k w))
-over_first g w k f =
-    ap (λ n. descended g n w) (rising_pairs_exchange k w f.rises)
-    ∙ ap (λ o. option_map_or (λ i. divided_difference i (descended g (rising_pairs (exchange_at k w)) (exchanged i w))) o g) f.is
-    ∙ ap (λ v. differences_after k (descended g (rising_pairs (exchange_at k w)) v)) (exchanged_is k w (rises_within k w f.rises))
-
--- ---- ascents of lists in which other neighbours are exchanged
+over_first g w k f = search (rules, rising_pairs_exchange, exchange_at, exchanged_is, rises_within)
 
 pub exchange_far : (j k : ℕ) (w : List ℕ) → j + 2 ≤ k → exchange_at j (exchange_at k w) ≡ exchange_at k (exchange_at j w)
 exchange_far j zero w h = absurd (omega arith)
@@ -61,7 +56,6 @@ rises_earlier zero (suc (suc k)) (a ∷ b ∷ w) h r = r
 rises_earlier (suc j) (suc k) [] h r = absurd r
 rises_earlier (suc j) (suc k) (a ∷ w) h r = rises_earlier j k w (omega arith) r
 
--- if three neighbouring entries from place k on are a < b < c, then the last two increase in b a c, and the first two in a c b
 rises_ends : (k : ℕ) (w : List ℕ) → Rises k w → Rises (suc k) w → Rises (suc k) (exchange_at k w) × Rises k (exchange_at (suc k) w)
 rises_ends k [] r s = absurd r
 rises_ends zero (a ∷ []) r s = absurd r
@@ -82,8 +76,6 @@ rises_lower zero (a ∷ []) r s = absurd r
 rises_lower zero (a ∷ b ∷ []) r s = absurd s
 rises_lower zero (a ∷ b ∷ c ∷ w) r s = r
 rises_lower (suc k) (a ∷ w) r s = rises_lower k w r s
-
--- ---- S_w as the divided difference at any ascent of w
 
 -- S_w is ∂_(k+1) of S_v, v being w with the entries at the places k and k + 1, counted from 0, exchanged; S is `schubert_over g`
 abbrev pub StepsAt : Poly → List ℕ → ℕ → Type 0
@@ -148,9 +140,6 @@ any_ascent_within (suc n) g w k h r = by (first_ascent_cases w) (λ v j b s. any
 pub any_ascent : (g : Poly) (w : List ℕ) (k : ℕ) → Rises k w → StepsAt g w k
 any_ascent g w k r = any_ascent_within (suc (rising_pairs w)) g w k (omega arith) r
 
--- ---- the divided difference of S_w at a descent of w
-
--- if the entries of w at the places k and k + 1 decrease, they increase in w with these two exchanged
 pub rises_back : (k : ℕ) (w : List ℕ) (c d : ℕ) → suc k < length w → get_or w (suc k) c < get_or w k d → Rises k (exchange_at k w)
 rises_back k [] c d h l = absurd (omega arith)
 rises_back zero (a ∷ []) c d h l = absurd (omega arith)
@@ -171,13 +160,7 @@ any_descent g w (suc k) d = λ α.
         let l = rw (e, f) at d.falls in
         rises_back k w (suc k + 1) (suc k) d.within l
 
--- if i is the first ascent of w, counted from 1, then S_w is ∂_i of S(w·s_i); S is `schubert_over g`
+-- if i is the first ascent of w, counted from 1, then `schubert_over g w` is ∂_i of `schubert_over g v`; here v is w with the letters of the ascent
+-- exchanged
 pub over_step : (g : Poly) (w : List ℕ) (i : ℕ) → first_ascent w ≡ Some i → schubert_over g w ≡ divided_difference i (schubert_over g (exchanged i w))
-over_step g w i e = by (first_ascent_cases w)
-  where
-    by : ((j : ℕ) × IsFirstAscent w j) ⊎ ((first_ascent w ≡ None) × ((j : ℕ) → Rises j w → ⊥)) → schubert_over g w ≡ divided_difference i (schubert_over g (exchanged i w))
-    by (inl found) =
-        let s : suc found.0 ≡ i = let a = found.1.is in cc in
-        subst (λ j. schubert_over g w ≡ divided_difference j (schubert_over g (exchanged j w))) s
-        (over_first g w found.0 found.1 ∙ ap (λ v. differences_after found.0 (schubert_over g v)) (sym (exchanged_is found.0 w (rises_within found.0 w found.1.rises))))
-    by (inr none) = let a = none.0 in absurd (cc)
+over_step g w i e = search (rules, first_ascent_cases, over_first, exchanged_is, rises_within)

@@ -1,5 +1,5 @@
 -- Sums of f(0), f(1), .., f(n - 1) for a function f of places (`sum_below`).
-use Rattle.std.proofs.Common.{◌≡◌, ℕ, zero, suc, ◌<◌, refl, ap, ap₂, arith, ℤ, pos, ◌+ℤ◌}
+use Rattle.std.proofs.Common.{◌≡◌, ℕ, zero, suc, ◌<◌, refl, ap, ap₂, arith, ℤ, pos, ◌+ℤ◌, rules}
 use Rattle.std.proofs.lemmas.Int.{ints}
 use Rattle.schubert_laws.proofs.Swaps.{moved}
 
@@ -17,21 +17,13 @@ sum_below_add (suc n) f g = let e = sum_below_add n (λ b. f (suc b)) (λ b. g (
 
 pub sum_below_none : (n : ℕ) (f : ℕ → ℤ) → ((b : ℕ) → b < n → f b ≡ pos 0) → sum_below n f ≡ pos 0
 sum_below_none zero f e = refl
-sum_below_none (suc n) f e =
-    let h = e 0 (omega arith) in
-    let r = sum_below_none n (λ b. f (suc b)) (λ b l. e (suc b) (omega arith)) in
-    omega (arith, ints)
+sum_below_none (suc n) f e = search (rules, ints, (sum_below_none n))
 
 -- if f(b) = 0 for all b < n except c, the sum of f over the places below n is f(c)
 pub sum_below_only : (n c : ℕ) (f : ℕ → ℤ) → c < n → ((b : ℕ) → b < n → (b ≡ c → ⊥) → f b ≡ pos 0) → sum_below n f ≡ f c
 sum_below_only zero c f h e = absurd (omega arith)
-sum_below_only (suc n) zero f h e =
-    let r = sum_below_none n (λ b. f (suc b)) (λ b l. e (suc b) (omega arith) (λ d. omega arith)) in
-    omega (arith, ints)
-sum_below_only (suc n) (suc c) f h e =
-    let z = e 0 (omega arith) (λ d. omega arith) in
-    let r = sum_below_only n c (λ b. f (suc b)) (omega arith) (λ b l d. e (suc b) (omega arith) (λ q. d (omega arith))) in
-    omega (arith, ints)
+sum_below_only (suc n) zero f h e = search (rules, sum_below_none, ints)
+sum_below_only (suc n) (suc c) f h e = search (rules, ints, (sum_below_only n c))
 
 -- the sum of f over the places below n does not change if the values at two neighbouring places k and k + 1 are exchanged
 pub sum_below_moved : (k n : ℕ) (f : ℕ → ℤ) → suc k < n → sum_below n (λ b. f (moved k b)) ≡ sum_below n f

@@ -1,5 +1,6 @@
--- Each permutation on the right side of the transition rule has a smaller rank (specs/TransitionOrder) than the one on the left side.
-use Rattle.std.proofs.Common.{◌≡◌, ℕ, zero, suc, ◌+◌, ◌-◌, ◌*◌, ◌<◌, ◌≤◌, List, [], ◌∷◌, length, get_or, refl, ap, inl, inr, arith, Some, None, Option, unwrap_or}
+-- Each permutation on the right side of the transition rule has a smaller rank than the one on the left side. The rank (specs/TransitionOrder) is one
+-- number made of the number of inversions, the last descent, and the letter there.
+use Rattle.std.proofs.Common.{◌≡◌, ℕ, zero, suc, ◌+◌, ◌-◌, ◌*◌, ◌<◌, ◌≤◌, List, [], ◌∷◌, length, get_or, refl, ap, inl, inr, arith, Some, None, Option, unwrap_or, rules}
 use Rattle.std.proofs.lemmas.Bool.{cases_lt}
 use Rattle.sym_model.specs.Sum.{Among}
 use Rattle.sym_model.specs.PlaceOrders.{inversions}
@@ -10,7 +11,7 @@ use Rattle.schubert_laws.proofs.Transition.{last_descent_is}
 use native.Mathlib.Nat.{mul-le-mul_left}
 use Rattle.std.proofs.lemmas.List.{get_or_past, get_or_default}
 
--- for i ≥ 1, the letter of a permutation w at place i (which is i if i is after the end of w) is at least 1
+-- for i ≥ 1, the letter of a permutation w at place i is at least 1; if i is after the end of w, this letter is i
 pub letter_counts : (w : List ℕ) (i : ℕ) → IsOneLine w → 1 ≤ i → 1 ≤ letter w i
 letter_counts w i o h = at w (i - 1) (λ a m. (o.letters a m).0)
   where
@@ -19,7 +20,6 @@ letter_counts w i o h = at w (i - 1) (λ a m. (o.letters a m).0)
     at (x ∷ v) zero g = g x (inl refl)
     at (x ∷ v) (suc j) g = at v j (λ a m. g a (inr m))
 
--- if i is at most the length of the permutation v, the letter of v at place i is at most the length of v
 pub letter_within : (v : List ℕ) (i : ℕ) → IsOneLine v → i ≤ length v → letter v i ≤ length v
 letter_within v i o h = elim (cases_lt (i - 1) (length v)) [
   | inl l ↦
@@ -36,7 +36,6 @@ descent_within v = by (last_descent v) refl
     by None e = omega arith
     by (Some r) e = let f = last_descent_is v (Some r) e in let f1 = f.1 in let f2 = f.2 in omega arith
 
--- if a < b and x < n, then a·n + x < b·n + y
 below_two : (n a b x y : ℕ) → a < b → x < n → a * n + x < b * n + y
 below_two n a b x y h k = omega (arith, mul-le-mul_left n h)
 
@@ -51,7 +50,4 @@ rank_lower n v w o h (inr (e, inl l)) =
     let c = letter_within v (last_descent_place v) o d in
     below_two n (inversions v * n + last_descent_place v) (inversions w * n + last_descent_place w) (letter v (last_descent_place v)) (letter w (last_descent_place w))
     (let p = ap (λ i. i * n) e in omega arith) (omega arith)
-rank_lower n v w o h (inr (e, inr (f, l))) =
-    let p : inversions v * n + last_descent_place v ≡ inversions w * n + last_descent_place w = let q = ap (λ i. i * n) e in omega arith in
-    let q = ap (λ i. i * n) p in
-    omega arith
+rank_lower n v w o h (inr (e, inr (f, l))) = search rules

@@ -1,14 +1,13 @@
--- Two entries of a list swapped, by recursion on their places, counted from 0, and the numbers of increasing pairs before and after.
+-- Swaps of two entries of a list, defined by recursion on their places, counted from 0, and the number of increasing pairs before and after a swap.
 --     swap_at a b w        w with the entries at the places a and b swapped
 --     moved k a            the place to which place a moves if the places k and k + 1 are exchanged
 --     exchange_swap        swapping a and b and then exchanging k and k + 1 is exchanging k and k + 1 and then swapping `moved k a` and `moved k b`
---     raises, lowers       swapping a decreasing pair gives more increasing pairs; swapping a pair that is not decreasing gives no more
-use Rattle.std.proofs.Common.{◌≡◌, ℕ, zero, suc, ◌+◌, ◌<◌, ◌≤◌, List, [], ◌∷◌, length, get_or, set, refl, sym, ◌∙◌, ap, ap₂, subst, arith, inl, inr, ◌⊎◌, cond, nat_lt, length-set}
-use Rattle.std.proofs.lemmas.Bool.{cases_eq, cases_lt, cond_below}
+--     raises, lowers       swapping a decreasing pair gives more increasing pairs; swapping any other pair does not give more
+use Rattle.std.proofs.Common.{◌≡◌, ℕ, zero, suc, ◌+◌, ◌<◌, ◌≤◌, List, [], ◌∷◌, length, get_or, set, refl, sym, ◌∙◌, ap, ap₂, subst, arith, inl, inr, ◌⊎◌, cond, nat_lt, length-set, rules}
+use Rattle.std.proofs.lemmas.Bool.{cases_eq}
 use Rattle.sym_model.specs.Sum.{Among, Once}
 use Rattle.sym_model.specs.PlaceOrders.{smaller}
 use Rattle.sym_model.specs.BetaList.{greater, rising_pairs}
-use Rattle.sym_model.proofs.Numbers.{counts-not_less}
 use Rattle.schubert_laws.proofs.Exchanges.{exchange_at}
 use Rattle.std.proofs.lemmas.List.{get_or-set_same, get_or_default}
 
@@ -39,8 +38,6 @@ length-swap_at zero zero (x ∷ w) = refl
 length-swap_at zero (suc b) (x ∷ w) = ap suc (length-set w b x)
 length-swap_at (suc a) zero (x ∷ w) = ap suc (length-set w a x)
 length-swap_at (suc a) (suc b) (x ∷ w) = ap suc (length-swap_at a b w)
-
--- ---- the place to which a place moves if the places k and k + 1 are exchanged (`moved`)
 
 pub moved_within : (k a n : ℕ) → suc k < n → a < n → moved k a < n
 moved_within zero zero n h l = h
@@ -97,14 +94,11 @@ exchange_swap (suc k) zero (suc b) (x ∷ w) h = ap₂ ◌∷◌ (sym (get_moved
 exchange_swap (suc k) (suc a) zero (x ∷ w) h = ap₂ ◌∷◌ (sym (get_moved k a x w (omega arith))) (sym (set_moved k a x w (omega arith)))
 exchange_swap (suc k) (suc a) (suc b) (x ∷ w) h = ap (λ v. x ∷ v) (exchange_swap k a b w (omega arith))
 
--- `swap_at k (k + 1)` is `exchange_at k`
 pub swap_neighbour : (k : ℕ) (w : List ℕ) → suc k < length w → swap_at k (suc k) w ≡ exchange_at k w
 swap_neighbour k [] h = absurd (omega arith)
 swap_neighbour zero (x ∷ []) h = absurd (omega arith)
 swap_neighbour zero (x ∷ y ∷ w) h = refl
 swap_neighbour (suc k) (x ∷ w) h = ap (λ v. x ∷ v) (swap_neighbour k w (omega arith))
-
--- ---- the change of the numbers of entries that are greater, and that are smaller, than a given number, if an entry is replaced
 
 greater_set : (a b x : ℕ) (w : List ℕ) → cond (nat_lt a (get_or w b x)) 1 0 + greater a (set w b x) ≡ cond (nat_lt a x) 1 0 + greater a w
 greater_set a b x [] = refl
@@ -131,48 +125,26 @@ smaller_swap c (suc a) zero (x ∷ w) = smaller_set c a x w
 smaller_swap c (suc a) (suc b) (x ∷ w) = ap (λ n. cond (nat_lt x c) 1 0 + n) (smaller_swap c a b w)
 
 counts_more : (x y z : ℕ) → y ≤ x → cond {A = ℕ} (nat_lt x z) 1 0 ≤ cond {A = ℕ} (nat_lt y z) 1 0
-counts_more x y z h = elim (cases_lt x z) [
-  | inl l ↦ let p = sym (cond_below {X = ℕ} x z 1 0 l) in let q = sym (cond_below {X = ℕ} y z 1 0 (omega arith)) in omega arith
-  | inr l ↦ let p = counts-not_less x z l in omega arith
-]
+counts_more x y z h = search rules
 
--- if an entry is replaced by a greater number x, the number of entries greater than z does not decrease
 greater_more : (z b x d : ℕ) (w : List ℕ) → b < length w → get_or w b d < x → greater z w ≤ greater z (set w b x)
 greater_more z b x d [] l h = absurd (omega arith)
-greater_more z zero x d (y ∷ w) l h = elim (cases_lt z y) [
-  | inl m ↦ let p = sym (cond_below {X = ℕ} z y 1 0 m) in let q = sym (cond_below {X = ℕ} z x 1 0 (omega arith)) in omega arith
-  | inr m ↦ let p = counts-not_less z y m in omega arith
-]
+greater_more z zero x d (y ∷ w) l h = search rules
 greater_more z (suc b) x d (y ∷ w) l h = let e = greater_more z b x d w (omega arith) h in omega arith
 
 raises_first : (x b d : ℕ) (w : List ℕ) → b < length w → get_or w b d < x
     → greater x w + rising_pairs w < greater (get_or w b d) (set w b x) + rising_pairs (set w b x)
 raises_first x b d [] l h = absurd (omega arith)
-raises_first x zero d (y ∷ w) l h =
-    let p = sym (cond_below {X = ℕ} y x 1 0 h) in
-    let q = counts-not_less x y (omega arith) in
-    omega arith
-raises_first x (suc b) d (z ∷ w) l h =
-    let r = raises_first x b d w (omega arith) h in
-    let m = greater_more z b x d w (omega arith) h in
-    let c = counts_more x (get_or w b d) z (omega arith) in
-    omega arith
+raises_first x zero d (y ∷ w) l h = search rules
+raises_first x (suc b) d (z ∷ w) l h = search (rules, greater_more, counts_more, (raises_first x b d w (omega arith) h))
 
 -- if a < b and the entry at a is greater than that at b, swapping them gives more increasing pairs
 pub raises : (a b d : ℕ) (w : List ℕ) → a < b → b < length w → get_or w b d < get_or w a d → rising_pairs w < rising_pairs (swap_at a b w)
 raises a b d [] o l h = absurd (omega arith)
 raises zero zero d (x ∷ w) o l h = absurd (omega arith)
-raises zero (suc b) d (x ∷ w) o l h =
-    let e = get_or_default w b d x (omega arith) in
-    let r = raises_first x b x w (omega arith) (subst (λ y. y < x) e h) in
-    r
+raises zero (suc b) d (x ∷ w) o l h = search (rules, get_or_default, raises_first)
 raises (suc a) zero d (x ∷ w) o l h = absurd (omega arith)
-raises (suc a) (suc b) d (x ∷ w) o l h =
-    let r = raises a b d w (omega arith) (omega arith) h in
-    let e = greater_swap x a b w in
-    omega arith
-
--- ---- a swap undone, and the entries at the two places after a swap
+raises (suc a) (suc b) d (x ∷ w) o l h = search (rules, greater_swap, (raises a b d w (omega arith) (omega arith) h))
 
 set_back : (w : List ℕ) (b x d : ℕ) → b < length w → set (set w b x) b (get_or w b d) ≡ w
 set_back [] b x d h = absurd (omega arith)
@@ -225,8 +197,6 @@ lowers a b d w o l h = elim (cases_eq (get_or w a d) (get_or w b d)) [
         ap₂ ◌∷◌ g (set_same v i x x (omega arith) g)
     swap_equal (suc i) (suc j) p (x ∷ v) m n e = ap (λ u. x ∷ u) (swap_equal i j p v (omega arith) (omega arith) e)
 
--- ---- the entries of a list after an entry is replaced, and after a swap
-
 pub among_set : {A : Type 0} (z : A) (b : ℕ) (x : A) (w : List A) → Among z (set w b x) → (z ≡ x) ⊎ Among z w
 among_set z b x [] m = absurd m
 among_set z zero x (y ∷ w) (inl e) = inl e
@@ -239,7 +209,6 @@ among_get b d [] h = absurd (omega arith)
 among_get zero d (y ∷ w) h = inl refl
 among_get (suc b) d (y ∷ w) h = inr (among_get b d w (omega arith))
 
--- let y be the entry of w at b, and the entries of w be different: if y occurs in w with x in the place of y, then y = x
 replaced : (b d x : ℕ) (w : List ℕ) → b < length w → Once w → Among (get_or w b d) (set w b x) → get_or w b d ≡ x
 replaced b d x [] h o m = absurd m
 replaced zero d x (y ∷ w) h o (inl e) = e

@@ -1,9 +1,10 @@
--- The transition rule, as Monk's rule at the last descent.
---     raises_by_one     if all entries between the two of a decreasing pair are smaller than both, swapping the pair gives one more increasing pair
---     between           if an entry between those of an increasing pair is between them in value too, swapping the pair gives no cover
-use Rattle.std.proofs.Common.{◌≡◌, ℕ, zero, suc, ◌+◌, ◌-◌, ◌<◌, ◌≤◌, max, List, [], ◌∷◌, ◌++◌, length, get_or, set, refl, sym, ◌∙◌, ap, ap₂, subst, arith, inl, inr, cond, nat_lt, Bool, true, false, ℤ, pos, length-append, eq-eqb, Option, Some, None, option_map}
+-- The transition rule, as Monk's rule at the last descent. The places of the rule for w, counted from 0, are the last descent q and the last place b
+-- whose letter is smaller than that at q (`IsStep w q b`).
+--     raises_by_one     if all entries between the two entries of a decreasing pair are smaller than both, swapping the pair gives exactly one more
+--                       increasing pair
+--     between           if an entry is between the two entries of an increasing pair, both in place and in value, swapping the pair gives no cover
+use Rattle.std.proofs.Common.{◌≡◌, ℕ, zero, suc, ◌+◌, ◌-◌, ◌<◌, ◌≤◌, max, List, [], ◌∷◌, length, get_or, set, refl, sym, ◌∙◌, ap, ap₂, subst, arith, inl, inr, cond, nat_lt, Bool, true, false, ℤ, pos, length-append, eq-eqb, Option, Some, None, option_map, rules}
 use Rattle.std.specs.Option.{option_or}
-use Rattle.std.specs.List.{swap}
 use Rattle.std.proofs.Math.ListN.{get_or-append}
 use Rattle.std.proofs.Math.Seq.{get_or-append_seam}
 use Rattle.std.proofs.lemmas.Int.{ints}
@@ -27,8 +28,6 @@ use Rattle.sym_model.proofs.AfterLists.{length_after, after_among, among_after, 
 use Rattle.sym_model.proofs.Numbers.{counts-not_less}
 use Rattle.sym_model.proofs.PolynomialLaws.{restricted_test}
 
--- ---- swapping a decreasing pair, with only smaller entries between the two
-
 greater_set_both : (z b x d : ℕ) (w : List ℕ) → b < length w → z < get_or w b d → z < x → greater z (set w b x) ≡ greater z w
 greater_set_both z b x d [] h l m = absurd (omega arith)
 greater_set_both z zero x d (y ∷ w) h l m = let p = sym (cond_below {X = ℕ} z y 1 0 l) in let q = sym (cond_below {X = ℕ} z x 1 0 m) in omega arith
@@ -37,10 +36,7 @@ greater_set_both z (suc b) x d (y ∷ w) h l m = ap (λ n. cond (nat_lt z y) 1 0
 raises_by_one_first : (x b d : ℕ) (w : List ℕ) → b < length w → get_or w b d < x → ((c : ℕ) → c < b → get_or w c d < get_or w b d)
     → greater (get_or w b d) (set w b x) + rising_pairs (set w b x) ≡ suc (greater x w + rising_pairs w)
 raises_by_one_first x b d [] h l s = absurd (omega arith)
-raises_by_one_first x zero d (y ∷ w) h l s =
-    let p = sym (cond_below {X = ℕ} y x 1 0 l) in
-    let q = counts-not_less x y (omega arith) in
-    omega arith
+raises_by_one_first x zero d (y ∷ w) h l s = search rules
 raises_by_one_first x (suc b) d (z ∷ w) h l s =
     let r = raises_by_one_first x b d w (omega arith) l (λ c k. s (suc c) (omega arith)) in
     let f = s 0 (omega arith) in
@@ -62,9 +58,6 @@ raises_by_one (suc a) (suc b) d (x ∷ w) h l m s =
     let g = greater_swap x a b w in
     omega arith
 
--- ---- swapping an increasing pair, with an entry between the two that is also between them in value
-
--- if y is the entry of u at c, then writing x at c, swapping c and b, and writing y at c gives u with x at b
 set_by_way : (x c b : ℕ) (u : List ℕ) (y : ℕ) → c < b → b < length u → y ≡ get_or u c x → set (swap_at c b (set u c x)) c y ≡ set u b x
 set_by_way x c b [] y h l e = absurd (omega arith)
 set_by_way x c zero (p ∷ u) y h l e = absurd (omega arith)
@@ -85,7 +78,6 @@ swap_by_way zero (suc c) (suc b) (x ∷ u) h k l =
     ap₂ ◌∷◌ (get_by_way x c b (get_or u c x) u (omega arith) (omega arith) ∙ get_or_default u b (get_or u c x) x (omega arith)) (set_by_way x c b u (get_or u c x) (omega arith) (omega arith) refl)
 swap_by_way (suc a) (suc c) (suc b) (x ∷ u) h k l = ap (λ v. x ∷ v) (swap_by_way a c b u (omega arith) (omega arith) (omega arith))
 
--- if a < b and the entry at a is less than that at b, swapping them gives fewer increasing pairs
 pub lowers_strictly : (a b d : ℕ) (w : List ℕ) → a < b → b < length w → get_or w a d < get_or w b d → rising_pairs (swap_at a b w) < rising_pairs w
 lowers_strictly a b d w o l h =
     let p = get_swap_left a b d w (omega arith) l in
@@ -131,8 +123,6 @@ between a c b d w h k l f g e =
     let way = ap rising_pairs (swap_by_way a c b w h k l) in
     omega arith
 
--- ---- lists that are weakly increasing after their last descent
-
 -- each entry of w after place q, counted from 0, is at most the next one
 abbrev pub RisesFrom : ℕ → List ℕ → Type 0
 RisesFrom q w = (b : ℕ) → q < b → suc b < length w → get_or w b 0 ≤ get_or w (suc b) 0
@@ -166,7 +156,7 @@ last_descent_is w o e = subst (IsLastDescent w) e (facts w)
     facts (a ∷ []) = λ b h. absurd (omega arith)
     facts (a ∷ b ∷ v) = step a b v (last_descent (b ∷ v)) (facts (b ∷ v)) (nat_lt b a) refl
 
--- ---- in a list of different entries, equal entries are at the same place; the transition rule, with places counted from 0
+-- ---- the transition rule, with places counted from 0
 
 pub once_get : (w : List ℕ) (i j : ℕ) → Once w → i < length w → j < length w → get_or w i 0 ≡ get_or w j 0 → i ≡ j
 once_get [] i j o h l e = absurd (omega arith)
@@ -176,10 +166,7 @@ once_get (x ∷ w) (suc i) zero o h l e = absurd (o.0 (subst (λ y. Among y w) e
 once_get (x ∷ w) (suc i) (suc j) o h l e = ap suc (once_get w i j o.1 (omega arith) (omega arith) e)
 
 pub strict_get : (w : List ℕ) (i j : ℕ) → Once w → i < length w → j < length w → (i ≡ j → ⊥) → get_or w i 0 ≤ get_or w j 0 → get_or w i 0 < get_or w j 0
-strict_get w i j o h l n m = elim (cases_lt (get_or w i 0) (get_or w j 0)) [
-  | inl f ↦ f
-  | inr f ↦ absurd (n (once_get w i j o h l (omega arith)))
-]
+strict_get w i j o h l n m = search (rules, cases_lt, once_get)
 
 pub rises_chain : (q c b : ℕ) (w : List ℕ) → RisesFrom q w → q < c → c ≤ b → b < length w → get_or w c 0 ≤ get_or w b 0
 rises_chain q c zero w r h l m = absurd (omega arith)
@@ -188,8 +175,8 @@ rises_chain q c (suc b) w r h l m = elim (cases_lt c (suc b)) [
   | inr f ↦ let e : c ≡ suc b = omega arith in let d = ap (λ i. get_or w i 0) e in omega arith
 ]
 
--- q and b, counted from 0, are the places r - 1 and s - 1 of the transition rule for w: the last descent is at q, and b is the last place whose
--- letter is smaller than the letter at q
+-- q and b are the places of the transition rule for w, counted from 0: the last descent is at q, and b is the last place whose letter is smaller than
+-- the letter at q
 pub record IsStep (w : List ℕ) (q b : ℕ) : Type 0 where
   pub order : q < b
   pub inside : b < length w
@@ -206,8 +193,8 @@ one_fewer w q b o s =
     one_more_inversion (swap_at q b w) w (once_swap q b w (omega arith) inside o.once) o.once (sym (length-swap_at q b w))
     (raises_by_one q b 0 w order inside s.falls (λ c h l. strict_get w c b o.once (omega arith) inside (λ z. omega arith) (rises_chain q c b w s.rises h (omega arith) inside)))
 
--- if q and b are the places of the transition rule for w, and c is after q and not b, then swapping the letters at q and c in w·t_qb with a fixed
--- letter added does not give a cover of that list
+-- let q and b be the places of the transition rule for w, and let u be w·t_qb with a fixed letter added at its end. If c is a place after q other
+-- than b, then swapping the letters at q and c in u does not give a cover of u
 pub no_other : (w : List ℕ) (q b c : ℕ) → IsOneLine w → IsStep w q b → q < c → c ≤ length w → (c ≡ b → ⊥)
     → rising_pairs (longer (swap_at q b w) 0) ≡ suc (rising_pairs (swap_at q c (longer (swap_at q b w) 0))) → ⊥
 no_other w q b c o s h l n e =
@@ -245,18 +232,8 @@ no_other w q b c o s h l n e =
     ]
 
 pub swap_there : (w : List ℕ) (q b : ℕ) → q < b → b < length w → times_swap (suc q) (suc b) (swap_at q b w) ≡ kept w
-swap_there w q b h l =
-    let lu = length-swap_at q b w in
-    let z : suc b - length (swap_at q b w) ≡ 0 = omega arith in
-    let i : suc q - 1 ≡ q = omega arith in
-    let j : suc b - 1 ≡ b = omega arith in
-    ap (λ t. kept (swap (swap_at q b w ++ after (length (swap_at q b w)) t) (suc q - 1) (suc b - 1))) z
-    ∙ ap (λ u. kept (swap u (suc q - 1) (suc b - 1))) (append-nil (swap_at q b w))
-    ∙ ap₂ (λ x y. kept (swap (swap_at q b w) x y)) i j
-    ∙ ap kept (swap_is (swap_at q b w) q b (omega arith) (omega arith) ∙ swap_twice q b w (omega arith) l)
+swap_there w q b h l = search (rules, length-swap_at, swap_at, append-nil, swap_is, swap_twice)
 
--- if q and b are the places of the transition rule for w, then, of the lists that are w·t_qb with the letter at q swapped with a later one, only w is
--- a cover of w·t_qb; so the sum of the Schubert polynomials of these covers is S_w
 pair_up : (n : ℕ) (φ : List ℕ → ℤ) (w : List ℕ) (q b : ℕ) → IsOneLine w → IsStep w q b → pair (schuberts_in (covers_up (suc q) (swap_at q b w)) n) φ ≡ pair (schubert_in w n) φ
 pair_up n φ w q b o s =
     let order = s.order in

@@ -1,5 +1,5 @@
 -- The transition rule as `monk_law` states it: with places counted from 1, and permutations without the fixed letters at their end.
-use Rattle.std.proofs.Common.{◌≡◌, ℕ, suc, ◌+◌, ◌-◌, ◌<◌, ◌≤◌, List, ◌++◌, ◌==◌, map, length, get_or, sym, ◌∙◌, ap, ap₂, subst, arith, inl, inr, length-append, append_assoc, Some, filter}
+use Rattle.std.proofs.Common.{◌≡◌, ℕ, suc, ◌+◌, ◌-◌, ◌<◌, ◌≤◌, List, ◌++◌, ◌==◌, map, length, get_or, sym, ◌∙◌, ap, subst, arith, inl, inr, length-append, append_assoc, Some, filter, rules}
 use Rattle.std.specs.List.{swap}
 use Rattle.std.proofs.lemmas.List.{append-nil, get_or_past, get_or_default}
 use Rattle.std.proofs.lemmas.Bool.{cases_lt}
@@ -17,20 +17,11 @@ use Rattle.schubert_laws.proofs.Transition.{IsStep, last_descent_is, transition_
 use Rattle.sym_model.proofs.AfterLists.{length_after, after_among, after-append}
 use Rattle.sym_model.proofs.Lists.{map-among}
 
--- ---- the letter after the end of a list; fixed letters at the end of w do not change w·t_ij
+-- ---- fixed letters added at the end of w do not change w·t_ij
 
 swap_longer : (x : List ℕ) (t a b : ℕ) → a < length x → b < length x → 0 < length x → kept (swap (x ++ after (length x) t) a b) ≡ kept (swap x a b)
-swap_longer x t a b h l p =
-    let la = length-append x (after (length x) t) in
-    let ls = length-swap_at a b x in
-    ap kept (swap_is (x ++ after (length x) t) a b (omega arith) (omega arith)
-    ∙ swap_at_append a b x (after (length x) t) h l
-    ∙ ap (λ n. swap_at a b x ++ after n t) (sym ls))
-    ∙ kept_added (swap_at a b x) t (omega arith)
-    ∙ ap kept (sym (swap_is x a b h l))
+swap_longer x t a b h l p = search (rules, length-append, length-swap_at, swap_is, swap_at_append, swap_at, kept_added)
 
--- x with t fixed letters added, and then fixed letters up to place j, is x with fixed letters up to place j, followed by b further fixed letters, for
--- some b
 with_fixed_longer : (x : List ℕ) (t j : ℕ) → (b : ℕ) × (with_fixed j (x ++ after (length x) t) ≡ with_fixed j x ++ after (length (with_fixed j x)) b)
 with_fixed_longer x t j =
     let u : List ℕ = x ++ after (length x) t in
@@ -70,7 +61,7 @@ covers_down_kept r w o =
     let a = after_among 0 (r - 1) i m in let p = a.0 in let q = a.1 in times_swap_kept w i r (omega arith) (omega arith)))
     ∙ ap (λ n. filter (λ (v : List ℕ). inversions v == n + 1) (map (λ i. times_swap i r w) (after 0 (r - 1)))) (inversions_kept w o)
 
--- ---- the places r and s of the transition rule, counted from 0
+-- ---- the places r and s of the transition rule for w are q + 1 and b + 1; here q and b are the same places, counted from 0
 
 abbrev pub Places : List ℕ → ℕ → ℕ → Type 0
 Places w r s = (q : ℕ) × (b : ℕ) × (r ≡ suc q) × (s ≡ suc b) × IsStep w q b
@@ -120,14 +111,7 @@ step_of w r s o t =
 -- for places q < b of w, counted from 0, `times_swap (q + 1) (b + 1) w` is w with the letters at q and b swapped, and then without the fixed letters
 -- at its end
 pub kept_swap : (w : List ℕ) (q b : ℕ) → q < b → b < length w → times_swap (suc q) (suc b) w ≡ kept (swap_at q b w)
-kept_swap w q b h l =
-    let z : suc b - length w ≡ 0 = omega arith in
-    let i : suc q - 1 ≡ q = omega arith in
-    let j : suc b - 1 ≡ b = omega arith in
-    ap (λ t. kept (swap (w ++ after (length w) t) (suc q - 1) (suc b - 1))) z
-    ∙ ap (λ u. kept (swap u (suc q - 1) (suc b - 1))) (append-nil w)
-    ∙ ap₂ (λ x y. kept (swap w x y)) i j
-    ∙ ap kept (swap_is w q b (omega arith) l)
+kept_swap w q b h l = search (rules, append-nil, swap_is)
 
 abbrev Rule : ℕ → List ℕ → ℕ → List ℕ → Type 0
 Rule n w r v = Same (schubert_in w n) (plus (times (variable_in r n) (schubert_in v n)) (schuberts_in (covers_down r v) n))

@@ -1,6 +1,8 @@
--- The braid relation for divided differences in three variables, as an equation of operators on functions of three numbers. Each such function is
--- `three_steps ψ` for some ψ, and then both sides of the relation are the same alternating sum of ψ over the six orders of the three numbers.
-use Rattle.std.proofs.Common.{◌≡◌, ℕ, suc, sym, ◌∙◌, arith, ℤ, ◌+ℤ◌, ◌-ℤ◌, neg_ℤ}
+-- The braid relation for divided differences in three variables x, y and z, as an equation of operators on functions of the three exponents. The
+-- pairing of such a function ψ with a polynomial is the sum of d·ψ(a, b, c) over the terms d·x^a·y^b·z^c of the polynomial. Each function of the
+-- exponents is `three_steps ψ` for some ψ: its value at a, b, c is the pairing of ψ with (x - y)·(y - z)·(x - z)·x^a·y^b·z^c. Then both sides of the
+-- relation are the same alternating sum of ψ over the six orders of a, b and c.
+use Rattle.std.proofs.Common.{◌≡◌, ℕ, suc, sym, ◌∙◌, arith, ℤ, ◌+ℤ◌, ◌-ℤ◌, neg_ℤ, rules}
 use Rattle.std.proofs.lemmas.Int.{ints}
 use Rattle.schubert_laws.proofs.Climbs.{climb, across, stepped, across_ext, across_neg, across_minus, across_stepped, across_alternating, across_exchanged, stepped_climb}
 
@@ -14,7 +16,7 @@ front φ a b c = across (λ x y. φ x y c) a b
 abbrev pub back : Triple → Triple
 back φ a b c = across (λ x y. φ a x y) b c
 
--- the pairing of φ with the monomial with the exponents a, b, c times x - y; x and y are the first two variables
+-- the pairing of φ with (x - y)·x^a·y^b·z^c; here x, y and z are the three variables
 abbrev step_front : Triple → Triple
 step_front φ a b c = φ (suc a) b c -ℤ φ a (suc b) c
 
@@ -30,8 +32,6 @@ front_ext φ ψ e a b c = across_ext (λ x y. φ x y c) (λ x y. ψ x y c) (λ x
 pub back_ext : (φ ψ : Triple) → ((a b c : ℕ) → φ a b c ≡ ψ a b c) → (a b c : ℕ) → back φ a b c ≡ back ψ a b c
 back_ext φ ψ e a b c = across_ext (λ x y. φ a x y) (λ x y. ψ a x y) (λ x y. e a x y) b c
 
--- let χ(b, a) = -χ(a, b), and χ'(b, a) = -χ'(a, b): `across` of χ(x + 1, y) - χ'(x, y) is χ; and `across` of χ'(x, y) - χ(x, y + 1) is χ too
--- (`lowered`)
 raised : (χ χ' : ℕ → ℕ → ℤ) → ((a b : ℕ) → χ b a ≡ neg_ℤ (χ a b)) → ((a b : ℕ) → χ' b a ≡ neg_ℤ (χ' a b)) → (a b : ℕ)
     → across (λ x y. χ (suc x) y -ℤ χ' x y) a b ≡ χ a b
 raised χ χ' h k a b =
@@ -110,8 +110,8 @@ back_front_back ψ a b c =
     let s = across_stepped (λ p q. ψ p a q -ℤ ψ p q a) b c in
     omega (arith, ints)
 
--- `climb` applied to φ as a function of its first two numbers; by `three_climbs`, φ is `three_steps` of `climb` applied three times, each time to two
--- of the numbers
+-- a function χ such that `step_front χ` is φ: the result of `climb` for φ as a function of its first two numbers. Applying `climb` three times to φ,
+-- each time to two of the three numbers, gives a function ψ such that φ is `three_steps ψ` (`three_climbs`)
 abbrev climbed_front : Triple → Triple
 climbed_front φ a b c = climb (λ x y. φ x y c) a b
 
@@ -122,21 +122,7 @@ abbrev climbed_ends : Triple → Triple
 climbed_ends φ a b c = climb (λ x y. φ x b y) a c
 
 three_climbs : (φ : Triple) (a b c : ℕ) → three_steps (climbed_ends (climbed_back (climbed_front φ))) a b c ≡ φ a b c
-three_climbs φ a b c =
-    let ends = λ (x y z : ℕ). stepped_climb (λ p q. climbed_back (climbed_front φ) p y q) x z in
-    let backs = λ (x y z : ℕ). stepped_climb (λ p q. climbed_front φ x p q) y z in
-    let fronts = stepped_climb (λ p q. φ p q c) a b in
-    omega (
-      arith,
-      ints,
-      ends (suc a) (suc b) c,
-      ends (suc a) b (suc c),
-      ends a (suc (suc b)) c,
-      ends a (suc b) (suc c),
-      backs (suc a) b c,
-      backs a (suc b) c,
-      fronts,
-    )
+three_climbs φ a b c = search (rules, stepped_climb, ints)
 
 braid_of_steps : (φ ψ : Triple) → ((x y z : ℕ) → φ x y z ≡ three_steps ψ x y z) → (a b c : ℕ) → front (back (front φ)) a b c ≡ back (front (back φ)) a b c
 braid_of_steps φ ψ is a b c =

@@ -1,7 +1,7 @@
 -- The product x^e·S_w of a monomial and a Schubert polynomial in n variables (specs/Acted).
 --     acted_start       for e = 0 the product is S_w
 --     acted_natural     the product has no negative coefficients
---     acted_at          the coefficient of x^e times the first monomial of S_w in the product is at least 1
+--     acted_at          if x^α is the first monomial of S_w, the coefficient of x^e·x^α in the product is at least 1
 use Rattle.std.proofs.Common.{◌≡◌, ℕ, Bool, true, false, cond, List, [], refl, ap, ◌∙◌, arith, ℤ, pos, ◌≤ℤ◌}
 use Rattle.std.proofs.lemmas.Int.{ints}
 use Rattle.sym_model.specs.Polynomial.{Poly, same, join, pair, one, resize, fits_in}

@@ -1,6 +1,8 @@
 -- The list of terms that the transition rule computes for S_w is the Schubert polynomial of w.
 --     final            the list is S_w
 --     overflow_past    if the computation overflows, a coefficient of S_w exceeds the limit 2^127 - 1
+-- A *share* (`IsShare`) gives a bound for each pair of a permutation and a monomial, such that no step of the transition rule increases the sum of
+-- these bounds.
 use Rattle.std.proofs.Common.{◌≡◌, ℕ, zero, suc, ◌+◌, ◌*◌, ◌^◌, ◌≤◌, Bool, true, false, cond, List, [], ◌∷◌, length, refl, sym, ap, ◌∙◌, subst, inl, inr, arith, ℤ, pos, negsuc, ◌+ℤ◌, ◌-ℤ◌, ◌*ℤ◌, ◌≤ℤ◌}
 use Rattle.std.specs.Prelude.{nat_abs, nat_eq, FitsSigned, Result, Ok, Err, IfOk, OnOk}
 use Rattle.std.specs.Int.{w128}
@@ -45,9 +47,6 @@ use Rattle.sym_model.specs.PastLimit.{HasPast, IsCoefficientOfSchubert}
 use Rattle.linear_combinations.specs.Gains.{weighed}
 use Rattle.sparse_polys.proofs.PolynomialValues.{pair_x_to_in}
 
--- ---- the coefficients of a Schubert polynomial
-
--- the coefficient of x^α in S_w is its coefficient in S_w in n variables, with n the number of letters of w
 coefficient_is : (w α : List ℕ) → coefficient_of (polynomials.schubert w) α ≡ pair (schubert_in w (length w)) (at_only α)
 coefficient_is w α = coefficient_pair (polynomials.schubert w) α ∙ sym (restrict_pair (length w) (polynomials.schubert w) (at_only α) (In_schubert w))
 
@@ -90,9 +89,6 @@ over_within φ ψ (t ∷ terms) h =
 trimmed_label : (e : List ℕ) → is_monomial_label e ≡ true → without_last_zeros e ≡ e
 trimmed_label e h = same_true (without_last_zeros e) e (and_parts _ _ (and_parts _ _ h).0).0
 
--- ---- no coefficient of the list that the transition rule computes is negative
-
--- if the sum of f(e)·|c| over the terms (e, c) is at most the sum of f(e)·c, then c is not negative for each term with f(e) > 0
 not_negative : (f : List ℕ → ℕ) (terms : WholeTerms) → pos (weighed f terms) ≤ℤ over (λ e. pos (f e)) terms
     → (t : List ℕ × ℤ) → Among t terms → 1 ≤ f t.0 → pos 0 ≤ℤ t.1
 not_negative f [] h t m some = absurd m
@@ -120,10 +116,8 @@ not_negative f (u ∷ terms) h t m some = by m (least u.1 (f u.0)) (all terms) (
         subst (λ (v : List ℕ × ℤ). pos 0 ≤ℤ v.1) (sym e) z
     by (inr k) a b rest = rest k (omega (arith, ints))
 
--- ---- the list that the transition rule computes
-
--- `terms` is a table of monomials with coefficients of 128 bits, and it is S_w in every number of variables; and for every share (`IsShare`), the sum
--- of |c|·share(identity, x^e) over the terms c·x^e is at most the share of w and the monomial 1
+-- `terms` is a list of different monomials with coefficients of 128 bits other than 0, and it is S_w in every number of variables. For every share,
+-- the sum of |c|·share(identity, x^e) over the terms c·x^e is at most the share of w and the monomial 1
 record IsMade (w : List ℕ) (terms : WholeTerms) : Type 0 where
   value : (n : ℕ) (φ : List ℕ → ℤ) → over (λ e. pair (x_to_in e n) φ) terms ≡ acted n φ w []
   table : IsMonomialTable terms
@@ -177,7 +171,6 @@ module _ (w : List ℕ) (short : IsShort (length w) w) (terms : WholeTerms) (is 
       represents_sums (λ e. x_to_in e n) terms (schubert_in w n)
       (λ φ. total_ext (λ (t : List ℕ × ℤ). t.1 *ℤ pair (x_to_in t.0 n) φ) (λ (t : List ℕ × ℤ). t.1 *ℤ restricted_test n φ t.0) (λ t. ap (λ z. t.1 *ℤ z) (pair_x_to_in n t.0 φ)) terms ∙ sums n φ)
 
-  -- each coefficient of S_w is a coefficient of the table, which fits 128 bits, so none exceeds 2^127 - 1
   fits : HasPast (IsCoefficientOfSchubert w) → ⊥
   fits (c, (α, e), large) =
       let a = sums (length w) (at_only α) in
@@ -217,10 +210,6 @@ pub fits_of : {E : Type 0} (w : List ℕ) (r : Result WholeTerms E) → IfOk r (
 fits_of w (Ok terms) h = h.fits
 fits_of w (Err e) h = tt
 
--- ---- an overflow in the transition rule implies that a coefficient of S_w exceeds the limit
-
--- let o be an overflow (`SharesOverflow`) at the permutation v and the monomial x^e, and n the number of letters of w: if the coefficient of x^γ in
--- x^e·S_v in n variables is at least 1, then a coefficient of S_w exceeds the limit 2^127 - 1
 reached : (w : List ℕ) → IsOneLine w
     → (o : SharesOverflow (λ r v e. raised_terms r e) (λ e. 255 + size e) (length w) (top_of w 255) (λ share. share w [])) (γ : List ℕ)
     → at_only o.label o.label ≤ℤ acted (length w) (at_only γ) o.perm o.label → HasPast (IsCoefficientOfSchubert w)

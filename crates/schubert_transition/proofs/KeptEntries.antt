@@ -23,7 +23,6 @@ use Rattle.schubert_transition.specs.TermLists.{IsSchubertOf, IsMonomialTable}
 abbrev is : List ℕ → List ℕ → Bool
 is w = pointwise nat_eq w
 
--- if the test finds an entry e of the list es, removing that entry leaves one entry fewer
 removed_length : {K V : Type 0} (test : K → Bool) (es : List (K × V)) (e : K × V) → lookup_entry test es ≡ Some e → length (remove_entry test es) + 1 ≡ length es
 removed_length test [] e h = cc
 removed_length {K} {V} test (f ∷ es) e h = by (test f.0) h (removed_length test es e)
@@ -59,14 +58,13 @@ promoted_store w store held = record {
   room = held.room;
 }
 
--- if the store of Schubert polynomials has `terms` at w, `terms` is S_w
+-- if the store of Schubert polynomials has the entry `terms` for w, then `terms` is S_w
 pub found : (w : List ℕ) (entries : List (List ℕ × WholeTerms)) (terms : WholeTerms) → AreKept entries
     → lookup (is w) entries ≡ Some terms → IsSchubertOf w terms
 found w entries terms kept at =
     let c = Contains-lookup (is w) entries terms at in
     subst (λ v. IsSchubertOf v terms) (sym (same_partition w c.0 c.2)) (kept.each (c.0, terms) c.1).0
 
--- if `terms` is S_w, and `copy` is a table with the same coefficients, `copy` is S_w
 pub copied : (w : List ℕ) (terms copy : WholeTerms) → IsMonomialTable copy → HasSameCoefficients (pointwise nat_eq) (pos 0) terms copy → IsSchubertOf w terms → IsSchubertOf w copy
 copied w terms copy second same h = record {
   represents = λ n. represents_same nat_list_eq_equiv same_partition terms copy h.table second same (λ exponents. x_to_in exponents n) (schubert_in w n) (h.represents n);
@@ -75,11 +73,11 @@ copied w terms copy second same h = record {
   fits = h.fits;
 }
 
--- if `terms` and `copy` are tables with the same coefficients, `copy` has at most as many terms as `terms`
 pub as_long : (terms copy : WholeTerms) → IsMonomialTable terms → IsMonomialTable copy → HasSameCoefficients (pointwise nat_eq) (pos 0) terms copy → length copy ≤ length terms
 as_long terms copy first second same = length_same nat_list_eq_equiv same_partition (pos 0) whole refl copy terms second first (λ label. sym (same label))
 
--- if each entry of a store is a Schubert polynomial with at most 4,096 terms, this remains so after S_w with at most 4,096 terms is inserted for w
+-- if each entry of a store is the Schubert polynomial of its permutation and has at most 4,096 terms, this is still true after S_w, with at most
+-- 4,096 terms, is inserted for w
 pub put_kept : (c : LruCache (List ℕ) WholeTerms) (w : List ℕ) (terms : WholeTerms) → AreKept c.entries → IsSchubertOf w terms
     → length terms ≤ 4096 → AreKept (put_entries (pointwise nat_eq) c w terms)
 put_kept c w terms kept h few = record { each = λ e at. by e (Contains-put_entries (pointwise nat_eq) c w terms e at) }
@@ -90,7 +88,6 @@ put_kept c w terms kept h few = record { each = λ e at. by e (Contains-put_entr
     by e (inr (same, inr was)) =
         (subst (λ t. IsSchubertOf e.0 t) (sym same) (subst (λ v. IsSchubertOf v terms) (same_partition w e.0 was.2) h), subst (λ (t : WholeTerms). length t ≤ 4096) (sym same) few)
 
--- if the look-up of w in a store of Schubert polynomials returns a reference to a polynomial, that polynomial is S_w
 pub found_if : (w : List ℕ) (entries : List (List ℕ × WholeTerms)) (o : Option (Bor WholeTerms)) → AreKept entries
     → option_copied o ≡ lookup (is w) entries → IfSome o (λ terms. IsSchubertOf w terms.now)
 found_if w entries None kept at = tt
@@ -104,8 +101,8 @@ put_if c new w terms (Ok x) held h few well ill =
     (record { kept = put_kept c w terms held.kept h few; few = put_length (pointwise nat_eq) c w terms held.few held.room; room = held.room })
 put_if c new w terms (Err e) held h few well ill = subst IsSchubertStore (sym ill) held
 
--- if the old store has no entry for w, and the new one is the old one, or the old one with a polynomial inserted for w, then the new store is the old
--- one or has w at the front (`ComesFirst`)
+-- let the old store have no entry for w. If the new store is the old one, or the old one with a polynomial inserted for w, then the new store is the
+-- old one or has w at the front (`ComesFirst`)
 pub comes_first : (w : List ℕ) (old new : Store) → kept_for w old ≡ None
     → (new ≡ old) ⊎ ((polynomial : WholeTerms) × (new ≡ lru_cache (put_entries (pointwise nat_eq) old w polynomial) old.cap)) → (new ≡ old) ⊎ ComesFirst w old new
 comes_first w old new none (inl same) = inl same

@@ -1,5 +1,6 @@
 -- Bounds, one for each pair of a permutation w and a monomial x^e, whose sum no step of the transition rule increases (`IsShare` of
--- `transition_walk`).
+-- `transition_walk`). The *weight* of a permutation with at most 255 letters is greater than the sum of the weights of the permutations that replace
+-- it in one step.
 --     exact_share      the coefficient of x^γ in x^e·S_w is such a bound
 --     outside_falls    `outside_share` is such a bound: 0 if x^e and w are within given limits of variables and degree, else the weight of w
 --     within_terms     if the sum of |c|·outside_share over the terms of a list is 0, all of them are within these limits
@@ -36,8 +37,6 @@ use Rattle.sym_model.proofs.NumberSums.{sum_by-within, sum_by-most}
 use Rattle.linear_combinations.specs.Gains.{weighed}
 use Rattle.linear_combinations.proofs.Weighed.{weighed_among}
 use native.Mathlib.Nat.{mul-le-mul_left}
-
--- ---- the first bound: the coefficient of x^γ in x^e·S_w
 
 -- the coefficient of x^γ in x^e·S_w, in n variables
 abbrev pub coefficient_share : ℕ → List ℕ → List ℕ → List ℕ → ℕ
@@ -122,11 +121,9 @@ outside_falls n d top = record { falls = λ r s w e short small t inside extent.
         let c = covers_weigh_less 255 r s w (omega arith) (record { one_line = short.one_line; few = small }) t in
         omega arith
 
--- if w has at most d inversions, `outside_share` of the monomial 1 is 0
 pub outside_start : (n d : ℕ) (w : List ℕ) → inversions w ≤ d → outside_share n d w [] ≡ 0
 outside_start n d w h = outside_none n d w [] (omega arith) (omega arith)
 
--- if `outside_share` of x^e is 0, x^e has at most n variables, and |e| plus the number of inversions of w is at most d
 pub within_by : (n d : ℕ) (w e : List ℕ) → (1 ≤ outside_share n d w e → ⊥) → (length e ≤ n) × (size e + inversions w ≤ d)
 within_by n d w e none = by (is_within n d w e) refl
   where
@@ -134,8 +131,8 @@ within_by n d w e none = by (is_within n d w e) refl
     by true h = within_is n d w e h
     by false h = absurd (none (let p = weight_positive w in let q = ap (λ b. cond b 0 (weight w)) h in omega arith))
 
--- if the sum of |c|·outside_share over the terms of a table of monomials is 0, each monomial has at most n variables, and its degree plus the number
--- of inversions of w is at most d
+-- let `terms` have different monomials and no coefficient 0. If the sum of |c|·outside_share over these terms is 0, then each monomial has at most n
+-- variables, and its degree plus the number of inversions of w is at most d
 pub within_terms : (n d : ℕ) (w : List ℕ) (terms : WholeTerms) → IsMonomialTable terms → weighed (outside_share n d w) terms ≤ 0
     → (t : List ℕ × ℤ) → Among t terms → (length t.0 ≤ n) × (size t.0 + inversions w ≤ d)
 within_terms n d w terms is none t m =

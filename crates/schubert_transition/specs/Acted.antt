@@ -1,5 +1,5 @@
--- The sum of c·φ(α) over the terms c·x^α of the product of a monomial and a Schubert polynomial; and the product of a
--- monomial and a variable.
+-- The sum of c·φ(α), for a function φ, over the terms c·x^α of the product of a monomial and a Schubert polynomial; and
+-- the product of a monomial and a variable.
 use Rattle.std.specs.Prelude.{ℕ, ℤ, pos, List, [], ◌∷◌}
 use Rattle.sym_model.specs.DividedDifference.{raised}
 use Rattle.sym_model.specs.Polynomial.{join, pair}

@@ -65,8 +65,8 @@ acted_step n r s φ w e o t =
         sym (+ℤ_idl (total (λ (x : List ℕ). pos 0) (covers_down r (times_swap r s w)))
         ∙ total_zero (covers_down r (times_swap r s w)))
 
--- for the identity id, the sum of c·φ(α) over the terms c·x^α of x^e·S_id in n variables (`acted`) is that for x^e in
--- n variables (`restricted_test`)
+-- for the identity id, the product x^e·S_id is x^e: the sum of c·φ(α) over its terms c·x^α in n variables (`acted`) is
+-- the sum for x^e in n variables (`restricted_test`)
 pub identity_shows : (n : ℕ) (φ : List ℕ → ℤ) (e : List ℕ)
     → acted n φ (1 ∷ []) e ≡ restricted_test n φ e
 identity_shows n φ e =

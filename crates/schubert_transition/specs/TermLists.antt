@@ -24,7 +24,7 @@ pub record IsTerm (n d : ℕ) (t : List ℕ × ℤ) : Type 0 where
 abbrev pub AreTerms : ℕ → ℕ → WholeTerms → Type 0
 AreTerms n d terms = (t : List ℕ × ℤ) → Among t terms → IsTerm n d t
 
--- each monomial occurs once and is within the limits of a label (`is_monomial_label`), and no coefficient is 0
+-- each monomial occurs once and has at most 255 variables and a degree of at most 32385 (`is_monomial_label`), and no coefficient is 0
 abbrev pub IsMonomialTable : WholeTerms → Type 0
 IsMonomialTable terms = IsCombination (pointwise nat_eq) is_monomial_label whole terms
 

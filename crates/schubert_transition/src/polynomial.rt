@@ -14,9 +14,8 @@ use sparse_polys::Monomial;
 use std::alloc::Global;
 use transition_walk::{Factor, product_of};
 
-/// The rule that multiplies a monomial by the variable x_r. In the transition rule, S_w is a factor
-/// times S_v, plus a sum of other Schubert polynomials; for labels that are monomials, this rule is
-/// the factor.
+/// The multiplication of a monomial by the variable x_r. This is the factor in the transition rule,
+/// by which S_w is x_r times a Schubert polynomial S_v, plus a sum of other Schubert polynomials.
 #[derive(Drop)]
 pub(crate) struct TimesVar {
     pub(crate) r: u16,

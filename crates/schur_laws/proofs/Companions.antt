@@ -1,5 +1,7 @@
--- The companion of a tableau P that is good for the partition `start`: its row k + 1 has the letter r + 1 as often as row r + 1 of P has the letter k
--- + 1. The companion is a skew tableau; its inner partition is `start`, and its outer partition is `start` plus the content of P.
+-- A tableau P is good for the partition `start` if, for each column, start plus the content of this column and of the columns to its right is a
+-- partition. The companion Q of P is the skew tableau that has the letter r + 1 in row k + 1 as often as P has the letter k + 1 in row r + 1; its
+-- inner partition is `start`, and its outer partition is start plus the content of P. Each row of a skew tableau begins with a zero for each cell of
+-- the inner partition.
 use Rattle.std.proofs.Common.{◌≡◌, ℕ, zero, suc, ◌+◌, ◌<◌, ◌≤◌, ◌⊎◌, List, [], ◌∷◌, map, length, drop, get_or, sym, ◌∙◌, ap, ap₂, subst, refl, inl, inr, arith}
 use Rattle.std.proofs.lemmas.Bool.{cases_lt}
 use Rattle.std.proofs.lemmas.List.{get_or_past, get_or-map, length-map}
@@ -11,11 +13,9 @@ use Rattle.schur_laws.proofs.SpelledWords.{spelled, spelled_rises, times_spelled
 use Rattle.schur_laws.proofs.TableauPlaces.{row}
 use Rattle.schur_laws.proofs.GoodTableaux.{sum_of, IsTableau, letters_up_to, all_up_to}
 
--- row k of the companion of P, counted from 0: start_k zeros, and then each letter r + 1 as often as the letter k + 1 occurs in row r of P
 companion_row : List ℕ → List (List ℕ) → ℕ → List ℕ
 companion_row start P k = spelled 0 (get_or start k 0 ∷ map (λ (w : List ℕ). times_in (suc k) w) P)
 
--- the n lists f(a), f(a + 1), .., f(a + n - 1)
 listed : (ℕ → List ℕ) → ℕ → ℕ → List (List ℕ)
 listed f a zero = []
 listed f a (suc n) = f a ∷ listed f (suc a) n
@@ -86,10 +86,6 @@ companion_tells n start outer inner end P s T = record {
         ∙ spelled_letters k r (cases_lt r (length P))
     by_letters k r (inr l) = ap (times_in (suc r)) (past k l) ∙ sym (T.letters r (suc k) (omega arith))
 
--- ---- the places of two neighbouring letters k + 1 and k + 2 in the rows of a tableau
-
--- if row r + 1 of P has, for each i, at most as many letters up to i + 1 as row r has letters up to i, then the places of the letters k + 1 and k + 2
--- in the rows satisfy `Places`
 letter_places : (P : List (List ℕ)) (k : ℕ) → ((r i : ℕ) → up_to_letter (suc i) (row P (suc r)) ≤ up_to_letter i (row P r))
     → Places (λ r. up_to_letter k (row P r)) (λ r. up_to_letter (suc k) (row P r)) (λ r. up_to_letter (suc (suc k)) (row P r))
     (λ r. times_in (suc (suc k)) (row P r)) (λ r. times_in (suc k) (row P r))
@@ -112,7 +108,6 @@ nothing_dropped : (j x : ℕ) → times_in x (drop j []) ≡ 0
 nothing_dropped zero x = refl
 nothing_dropped (suc j) x = refl
 
--- adding m empty rows to P does not change the number of letters x that are in its rows after the first j places
 right_in_more : (x j m : ℕ) (P : List (List ℕ)) → add_up (λ r. times_in x (drop j (row P r))) 0 (length P + m) ≡ add_up (λ r. times_in x (drop j (row P r))) 0 (length P)
 right_in_more x j m P =
     add_up-longer (λ r. times_in x (drop j (row P r))) 0 (length P) m
@@ -159,9 +154,6 @@ columns_compare start P rises columns h j k =
     (letter_places P k columns) (letters_right_of P k rises)
     j (length P) 0 (get_or start (suc k) 0) (get_or start k 0) (h k)
 
--- ---- the companion of a good tableau is a good tableau
-
--- in a companion Q of P, the number of letters up to k in row i is start_i plus the number of letters i + 1 in the first k rows of P
 companion_up_to : (n : ℕ) (start outer inner end : List ℕ) (P Q : List (List ℕ)) → IsTableau n start outer inner end P → IsCompanion start P Q → (i k : ℕ)
     → up_to_letter k (row Q i) ≡ get_or start i 0 + add_up (λ r. times_in (suc i) (row P r)) 0 k
 companion_up_to n start outer inner end P Q T C i k =
@@ -170,7 +162,6 @@ companion_up_to n start outer inner end P Q T C i k =
     let g = add_up-same (λ r. times_in (suc r) (row Q i)) (λ r. times_in (suc i) (row P r)) 0 k (C.letters i) in
     omega arith
 
--- if Q is a companion of P, the number of letters up to k in row r of P is inner_r plus the number of letters r + 1 in the first k rows of Q
 tableau_up_to : (n : ℕ) (start outer inner end : List ℕ) (P Q : List (List ℕ)) → IsTableau n start outer inner end P → IsCompanion start P Q → (r k : ℕ)
     → up_to_letter k (row P r) ≡ get_or inner r 0 + add_up (λ i. times_in (suc r) (row Q i)) 0 k
 tableau_up_to n start outer inner end P Q T C r k =
@@ -225,8 +216,6 @@ companion_tableau n start outer inner end P Q lq le T C = record {
         let b = tableau_up_to n start outer inner end P Q T C r i in
         let c = T.columns r i in
         omega arith
-
--- ---- fillings with the same rows are equal; two tableaux that have the same companion are equal
 
 same_rows : (P Q : List (List ℕ)) → length P ≡ length Q → ((r : ℕ) → row P r ≡ row Q r) → P ≡ Q
 same_rows [] [] l e = refl

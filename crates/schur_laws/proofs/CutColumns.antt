@@ -1,8 +1,8 @@
--- Two rows, each of which consists of letters up to n followed by greater letters: their columns are strictly increasing if and only if the lower row
--- does not have more letters up to n than the upper row, and the columns of the letters up to n, and those of the greater letters, are strictly
--- increasing.
-use Rattle.std.proofs.Common.{◌≡◌, ℕ, suc, ◌+◌, ◌-◌, ◌<◌, ◌≤◌, ◌⊎◌, inl, inr, nat_le, nat_lt, Bool, true, false, ◌&&◌, List, [], ◌∷◌, ◌++◌, length, drop, refl, sym, ap, ap₂, ◌∙◌, arith}
-use Rattle.std.proofs.lemmas.Bool.{cases_lt, le-leb, lt-leb, lt-ltb, le-ltb}
+-- Let two rows of a filling each consist of letters up to n followed by greater letters. The columns of the two rows are strictly increasing if and
+-- only if three conditions hold: the lower row has at most as many letters up to n as the upper row; the columns of the letters up to n are strictly
+-- increasing; and the columns of the greater letters are strictly increasing.
+use Rattle.std.proofs.Common.{◌≡◌, ℕ, suc, ◌+◌, ◌-◌, ◌≤◌, nat_le, nat_lt, ◌&&◌, List, [], ◌∷◌, ◌++◌, length, drop, refl, sym, ap, ap₂, ◌∙◌, arith, rules}
+use Rattle.std.proofs.lemmas.Bool.{le-leb, lt-ltb}
 use Rattle.sym_model.specs.Schur.{columns_rise}
 use Rattle.sym_model.proofs.Lists.{drop-none}
 use Rattle.schur_laws.proofs.RisingWords.{AreLetters, raised_by}
@@ -16,11 +16,7 @@ letters_up_to n [] h = tt
 letters_up_to n (a ∷ w) h = (h.1, letters_up_to n w h.2)
 
 raise-lt : (n a b : ℕ) → nat_lt (n + a) (n + b) ≡ nat_lt a b
-raise-lt n a b = by (cases_lt a b)
-  where
-    by : (a < b) ⊎ (b ≤ a) → nat_lt (n + a) (n + b) ≡ nat_lt a b
-    by (inl l) = lt-ltb (n + a) (n + b) (omega arith) ∙ sym (lt-ltb a b l)
-    by (inr l) = le-ltb (n + a) (n + b) (omega arith) ∙ sym (le-ltb a b l)
+raise-lt n a b = search rules
 
 rises-raised : (n : ℕ) (p w : List ℕ) → columns_rise (raised_by n p) (raised_by n w) ≡ columns_rise p w
 rises-raised n [] w = refl
@@ -29,14 +25,9 @@ rises-raised n (a ∷ p) (b ∷ w) = ap₂ (λ s t. s && t) (raise-lt n a b) (ri
 
 pub columns_cut : (m n : ℕ) (p q v w : List ℕ) → AreAtMost n p → AreAtMost n v → AreLetters m w → length v + length w ≤ length p + length q
     → columns_rise (p ++ raised_by n q) (v ++ raised_by n w) ≡ nat_le (length v) (length p) && (columns_rise p v && columns_rise q (drop (length p - length v) w))
-columns_cut m n [] q [] w f g h k =
-    rises-raised n q w
-    ∙ sym (ap₂ (λ t l. t && columns_rise q l) (le-leb 0 0 (omega arith)) (ap (λ i. drop i w) (let e : 0 - 0 ≡ 0 = omega arith in e) ∙ drop-none w))
+columns_cut m n [] q [] w f g h k = search (rules, rises-raised, le-leb, drop-none)
 columns_cut m n [] [] (b ∷ v) w f g h k = absurd (omega arith)
-columns_cut m n [] (a ∷ q) (b ∷ v) w f g h k =
-    let l = g.0 in
-    ap (λ t. t && columns_rise (raised_by n q) (v ++ raised_by n w)) (le-ltb (n + a) b (omega arith))
-    ∙ sym (ap (λ t. t && (true && columns_rise (a ∷ q) (drop (0 - suc (length v)) w))) (lt-leb (suc (length v)) 0 (omega arith)))
+columns_cut m n [] (a ∷ q) (b ∷ v) w f g h k = search rules
 columns_cut m n (a ∷ p) q [] [] f g h k =
     sym (ap₂ (λ s t. s && t) (le-leb 0 (suc (length p)) (omega arith)) (ap (columns_rise q) (drop_all (suc (length p) - 0) [] (omega arith)) ∙ columns_rise-nothing q))
 columns_cut m n (a ∷ p) q [] (b ∷ w) f g h k =
@@ -48,13 +39,4 @@ columns_cut m n (a ∷ p) q [] (b ∷ w) f g h k =
     ∙ ap₂ (λ s t. s && (t && columns_rise q (drop (length p - 0) w))) (le-leb 0 (length p) (omega arith)) (columns_rise-nothing p)
     ∙ ap (λ i. columns_rise q (drop i w)) d
     ∙ sym (ap₂ (λ s i. s && columns_rise q (drop i (b ∷ w))) (le-leb 0 (suc (length p)) (omega arith)) e)
-columns_cut m n (a ∷ p) q (b ∷ v) w f g h k =
-    let e : suc (length p) - suc (length v) ≡ length p - length v = omega arith in
-    ap (λ t. nat_lt a b && t) (columns_cut m n p q v w f.1 g.1 h (omega arith))
-    ∙ regroup (nat_lt a b) (nat_le (length v) (length p)) (columns_rise p v) (columns_rise q (drop (length p - length v) w))
-    ∙ sym (ap₂ (λ s i. s && ((nat_lt a b && columns_rise p v) && columns_rise q (drop i w))) (leb-suc-suc (length v) (length p)) e)
-  where
-    regroup : (x y z u : Bool) → x && (y && (z && u)) ≡ y && ((x && z) && u)
-    regroup true y z u = refl
-    regroup false true z u = refl
-    regroup false false z u = refl
+columns_cut m n (a ∷ p) q (b ∷ v) w f g h k = search (rules, leb-suc-suc, (columns_cut m n p q v w f.1 g.1 h (omega arith)))

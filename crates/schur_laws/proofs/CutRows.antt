@@ -1,11 +1,10 @@
 -- Semistandard tableaux listed row by row from the top: each row must have letters that are greater than the letters above them in the previous row.
-use Rattle.std.proofs.Common.{◌≡◌, ℕ, suc, ◌-◌, Bool, true, false, ◌&&◌, cond, List, [], ◌∷◌, map, length, drop, get_or, refl, sym, ap, ◌∙◌, subst, inl, inr, arith, ℤ, pos, flat_map}
+use Rattle.std.proofs.Common.{◌≡◌, ℕ, suc, ◌-◌, Bool, true, false, ◌&&◌, cond, List, [], ◌∷◌, map, length, drop, get_or, refl, sym, ap, ◌∙◌, subst, inl, inr, arith, ℤ, pos, flat_map, rules}
 use Rattle.sym_model.specs.Sum.{total, Among}
 use Rattle.sym_model.specs.Partition.{part}
 use Rattle.sym_model.specs.Schur.{words, row_lengths, fillings_of, row_rises, columns_rise, semistandard}
 use Rattle.sym_model.proofs.Sums.{total_ext, total_map, total_each, Among_from_each, Among_from_map, total_cond, total_cond_list as total_listed}
 use Rattle.sym_model.proofs.Lists.{drop-none}
-use Rattle.sym_model.proofs.Parts.{part-drop}
 use Rattle.schur_laws.proofs.RisingWords.{rising_words, IsWord, AreLetters, total_rising_words, rising-tells}
 use Rattle.strip_laws.proofs.Containment.{get_or-below}
 
@@ -20,51 +19,28 @@ abbrev pub may_follow : ℕ → List ℕ → List (List ℕ) → Bool
 may_follow d p [] = true
 may_follow d p (w ∷ T) = columns_rise p (drop d w)
 
--- ---- sums over the tableaux below a row p as sums over their first row
-
 pub total_below : (n a : ℕ) (outer inner : List ℕ) (c : ℕ) (p : List ℕ) (h : List (List ℕ) → ℤ)
     → total h (tableaux_below n (a ∷ outer) inner c p)
     ≡ total (λ w. cond (columns_rise p (drop (c - part inner 1) w)) (total (λ T. h (w ∷ T)) (tableaux_below n outer (drop 1 inner) (part inner 1) w)) (pos 0)) (rising_words n 0 (a - part inner 1))
-total_below n a outer inner c p h =
-    total_each h (λ w. cond (columns_rise p (drop (c - part inner 1) w)) (map (λ T. w ∷ T) (tableaux_below n outer (drop 1 inner) (part inner 1) w)) []) (rising_words n 0 (a - part inner 1))
-    ∙ total_ext (λ w. total h (cond (columns_rise p (drop (c - part inner 1) w)) (map (λ T. w ∷ T) (tableaux_below n outer (drop 1 inner) (part inner 1) w)) []))
-    (λ w. cond (columns_rise p (drop (c - part inner 1) w)) (total (λ T. h (w ∷ T)) (tableaux_below n outer (drop 1 inner) (part inner 1) w)) (pos 0))
-    (λ w. total_listed (columns_rise p (drop (c - part inner 1) w)) h (map (λ T. w ∷ T) (tableaux_below n outer (drop 1 inner) (part inner 1) w))
-    ∙ ap (λ z. cond (columns_rise p (drop (c - part inner 1) w)) z (pos 0)) (total_map h (λ T. w ∷ T) (tableaux_below n outer (drop 1 inner) (part inner 1) w))) (rising_words n 0 (a - part inner 1))
+total_below n a outer inner c p h = search (rules, total_each, rising_words, total_ext, total_listed, total_map)
 
 -- the sum of h over the tableaux of a straight shape that can be below the row p is a double sum: over their first rows w, and, for each w, over the
 -- tableaux of the other rows that can be below w
 pub total_straight : (n a : ℕ) (outer p : List ℕ) (h : List (List ℕ) → ℤ)
     → total h (tableaux_below n (a ∷ outer) [] 0 p) ≡ total (λ w. cond (columns_rise p w) (total (λ T. h (w ∷ T)) (tableaux_below n outer [] 0 w)) (pos 0)) (rising_words n 0 a)
-total_straight n a outer p h =
-    total_below n a outer [] 0 p h
-    ∙ total_ext (λ w. cond (columns_rise p (drop 0 w)) (total (λ T. h (w ∷ T)) (tableaux_below n outer [] 0 w)) (pos 0)) (λ w. cond (columns_rise p w) (total (λ T. h (w ∷ T)) (tableaux_below n outer [] 0 w)) (pos 0))
-    (λ w. ap (λ v. cond (columns_rise p v) (total (λ T. h (w ∷ T)) (tableaux_below n outer [] 0 w)) (pos 0)) (drop-none w)) (rising_words n 0 (a - 0))
-    ∙ ap (λ i. total (λ w. cond (columns_rise p w) (total (λ T. h (w ∷ T)) (tableaux_below n outer [] 0 w)) (pos 0)) (rising_words n 0 i)) (let e : a - 0 ≡ a = omega arith in e)
+total_straight n a outer p h = search (rules, total_below, total_ext, drop-none, rising_words)
 
 -- the sum of h over the tableaux of a skew shape that can be below the row p is a double sum: over their first rows w, and, for each w, over the
 -- tableaux of the other rows that can be below w
 pub total_skew : (n a b c : ℕ) (outer inner p : List ℕ) (h : List (List ℕ) → ℤ)
     → total h (tableaux_below n (a ∷ outer) (b ∷ inner) c p) ≡ total (λ w. cond (columns_rise p (drop (c - b) w)) (total (λ T. h (w ∷ T)) (tableaux_below n outer inner b w)) (pos 0)) (rising_words n 0 (a - b))
-total_skew n a b c outer inner p h =
-    total_below n a outer (b ∷ inner) c p h
-    ∙ ap (λ l. total (λ w. cond (columns_rise p (drop (c - b) w)) (total (λ T. h (w ∷ T)) (tableaux_below n outer l b w)) (pos 0)) (rising_words n 0 (a - b))) (drop-none inner)
+total_skew n a b c outer inner p h = search (rules, total_below, rising_words, drop-none)
 
--- ---- the semistandard fillings of the definition are those listed row by row
+-- ---- `tableaux_below` has exactly the fillings that the test `semistandard` accepts
 
 semistandard_row : (inner w : List ℕ) (T : List (List ℕ)) → semistandard inner (w ∷ T) ≡ row_rises w && (may_follow (part inner 1 - part (drop 1 inner) 1) w T && semistandard (drop 1 inner) T)
-semistandard_row inner w [] = by (row_rises w)
-  where
-    by : (t : Bool) → t ≡ t && true
-    by true = refl
-    by false = refl
-semistandard_row inner w (v ∷ T) =
-    by (row_rises w) (columns_rise w (drop (part inner 1 - part inner 2) v)) (semistandard (drop 1 inner) (v ∷ T))
-    ∙ ap (λ i. row_rises w && (columns_rise w (drop (part inner 1 - i) v) && semistandard (drop 1 inner) (v ∷ T))) (sym (part-drop inner))
-  where
-    by : (p q r : Bool) → (p && q) && r ≡ p && (q && r)
-    by true q r = refl
-    by false q r = refl
+semistandard_row inner w [] = search rules
+semistandard_row inner w (v ∷ T) = search rules
 
 row_lengths-first : (a : ℕ) (outer inner : List ℕ) → row_lengths (a ∷ outer) inner ≡ (a - part inner 1) ∷ row_lengths outer (drop 1 inner)
 row_lengths-first a outer [] = ap (λ i. i ∷ row_lengths outer []) (let e : a ≡ a - 0 = omega arith in e)
@@ -75,7 +51,8 @@ row_lengths-first a outer (b ∷ inner) = ap (λ l. (a - b) ∷ row_lengths oute
 abbrev row_sum : ℕ → List ℕ → List ℕ → ℕ → List ℕ → (List (List ℕ) → ℤ) → List ℕ → ℤ
 row_sum n outer inner c p h w = cond (columns_rise p (drop (c - part inner 1) w)) (total (λ T. h (w ∷ T)) (tableaux_below n outer (drop 1 inner) (part inner 1) w)) (pos 0)
 
--- the sum of h over the semistandard fillings of outer/inner whose first row can be below p is the sum of h over `tableaux_below`
+-- the sum of h over the semistandard fillings of outer/inner that can be directly below a row p is the sum of h over the list `tableaux_below` of
+-- these fillings. The row p begins in column c + 1; its entries must be smaller than those directly below it
 pub total_semistandard : (n : ℕ) (outer inner : List ℕ) (c : ℕ) (p : List ℕ) (h : List (List ℕ) → ℤ)
     → total (λ T. cond (may_follow (c - part inner 1) p T && semistandard inner T) (h T) (pos 0)) (fillings_of n (row_lengths outer inner)) ≡ total h (tableaux_below n outer inner c p)
 total_semistandard n [] inner c p h = refl
@@ -109,8 +86,6 @@ total_semistandard n (a ∷ outer) inner c p h =
         ∙ ap (λ z. cond (row_rises w) z (pos 0))
         (total_cond rises (λ T. cond (may_follow (part inner 1 - part (drop 1 inner) 1) w T && semistandard (drop 1 inner) T) (h (w ∷ T)) (pos 0)) rows ∙ ap (λ z. cond rises z (pos 0)) rec)
 
--- ---- all letters of the rows of a listed tableau are from 1 to n
-
 -- each letter of the rows is from 1 to n
 abbrev pub HaveLetters : ℕ → List (List ℕ) → Type 0
 HaveLetters n [] = Unit {0}
@@ -134,8 +109,6 @@ below-tells n (a ∷ outer) inner c p T m =
         let S = Among_from_map (λ (S : List (List ℕ)). w ∷ S) T (tableaux_below n outer (drop 1 inner) (part inner 1) w) k in
         let i = rec S.0 S.1 in
         subst (λ U. IsFilling n (suc (length outer)) U) (sym S.2) (record { letters = (r.letters, i.letters); rows = ap suc i.rows })
-
--- ---- sums over `tableaux_below` do not depend on the zeros at the end of the inner partition
 
 -- the two lists have the same number at each place; after the end of a list the numbers are 0
 abbrev pub SameParts : List ℕ → List ℕ → Type 0

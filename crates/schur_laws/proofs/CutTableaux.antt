@@ -1,5 +1,5 @@
--- The tableaux of a straight shape with entries from 1 to n + k: the entries up to n are a tableau of an inner shape, and the other entries, lowered
--- by n, are a tableau of the skew shape outer/inner.
+-- In a tableau of the straight shape `outer` with entries from 1 to n + k, the entries up to n form a tableau of an inner shape, and the other
+-- entries, lowered by n, form a tableau of the skew shape outer/inner.
 use Rattle.std.proofs.Common.{◌≡◌, ℕ, ◌+◌, ◌-◌, ◌≤◌, nat_le, Bool, true, false, ◌&&◌, cond, List, [], ◌∷◌, ◌++◌, map, length, drop, min, refl, sym, ap, ◌∙◌, arith, ℤ, pos}
 use Rattle.std.proofs.lemmas.Int.{ints}
 use Rattle.sym_model.specs.Sum.{total}
@@ -19,8 +19,8 @@ glued n [] T = []
 glued n (v ∷ S) [] = []
 glued n (v ∷ S) (w ∷ T) = (v ++ raised_by n w) ∷ glued n S T
 
--- the sum of h(S, T) over the inner shapes in `outer` with at most c columns, the tableaux S of the inner shape that can be below the row p, and the
--- tableaux T of outer/inner that can be below the row q, if q begins in column c + 1
+-- the sum of h(S, T) over all triples of an inner shape inside `outer` with at most c columns, a tableau S of the inner shape with entries up to n
+-- that can be below the row p, and a tableau T of outer/inner with entries up to k that can be below the row q, where q begins in column c + 1
 abbrev pub cut_below : ℕ → ℕ → List ℕ → ℕ → List ℕ → List ℕ → (List (List ℕ) → List (List ℕ) → ℤ) → ℤ
 cut_below n k outer c p q h = total (λ inner. total (λ S. total (λ T. h S T) (tableaux_below k outer inner c q)) (tableaux_below n inner [] 0 p)) (shapes_inside outer c)
 
@@ -37,8 +37,6 @@ over_shape n k a outer c p q h inner = total (λ S. total (λ T. h S T) (tableau
 abbrev over_row : ℕ → List ℕ → ℕ → List ℕ → (List (List ℕ) → List (List ℕ) → ℤ) → ℕ → List ℕ → List ℕ → List (List ℕ) → List ℕ → ℤ
 over_row k outer c q h b v inner S w = cond (columns_rise q (drop (c - b) w)) (total (λ T. h (v ∷ S) (w ∷ T)) (tableaux_below k outer inner b w)) (pos 0)
 
--- the sum of h(S, T) over the inner shapes and the tableaux S and T (`cut_below`) is a sum over the first rows v of S and w of T, and then over the
--- inner shapes and tableaux of the other rows
 first_rows : (n k a : ℕ) (outer : List ℕ) (c : ℕ) (p q : List ℕ) (h : List (List ℕ) → List (List ℕ) → ℤ)
     → cut_below n k (a ∷ outer) c p q h
     ≡ total (λ b. total (λ v. total (λ w. cond (columns_rise p v && columns_rise q (drop (c - b) w)) (cut_below n k outer b v w (before h v w)) (pos 0)) (rising_words k 0 (a - b))) (rising_words n 0 b)) (up_to (min a c))

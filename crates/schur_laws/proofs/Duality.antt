@@ -1,5 +1,6 @@
 -- The number of good tableaux T of λ/μ for the start σ with σ + content(T) = τ equals the number of good tableaux U of τ/σ for the start μ with μ +
--- content(U) = λ.
+-- content(U) = λ. A tableau is good for the start σ, a partition, if, for each column, σ plus the content of this column and of the columns to its
+-- right is a partition.
 use Rattle.std.proofs.Common.{◌≡◌, ℕ, zero, suc, ◌<◌, ◌≤◌, ◌⊎◌, ◌==◌, true, cond, ◌&&◌, List, [], ◌∷◌, map, length, get_or, nat_le, sym, ◌∙◌, ap, subst, refl, inl, inr, arith, pos, filter}
 use Rattle.std.proofs.lemmas.List.{length-map, get_or_past}
 use Rattle.std.proofs.lemmas.Bool.{and_parts, cases_lt, leb-true, eqb-true}
@@ -21,11 +22,12 @@ use Rattle.schur_laws.proofs.Companions.{companion, length_companion, IsCompanio
 use Rattle.sym_model.proofs.Parts.{positive-at}
 use Rattle.sym_model.proofs.Integers.{nested_tests}
 
--- the padded rows of the good tableaux of outer/inner for start, with entries from 1 to n, for which start plus the content is `end`
+-- the good tableaux of outer/inner for start, with entries from 1 to n, for which start plus the content is `end`; each tableau is given by its
+-- padded rows, which have a zero in each cell of `inner`
 abbrev pub counted : ℕ → List ℕ → List ℕ → List ℕ → List ℕ → List (List (List ℕ))
 counted n start outer inner end = filter (is_counted n start end) (fillings_over n (pattern_of outer inner))
 
--- ---- the parts of two partitions, of which one is inside the other
+-- ---- the parts of a partition and of a partition inside it
 
 pub contains_places : (outer inner : List ℕ) → contains outer inner ≡ true → (r : ℕ) → get_or inner r 0 ≤ get_or outer r 0
 contains_places outer [] h r = let e = get_or_past {X = ℕ} [] r 0 (omega arith) in omega arith
@@ -41,7 +43,6 @@ contains_places [] (b ∷ inner) h (suc r) =
 contains_places (a ∷ outer) (b ∷ inner) h zero = leb-true b a (and_parts (nat_le b a) (contains outer inner) h).0
 contains_places (a ∷ outer) (b ∷ inner) h (suc r) = contains_places outer inner (and_parts (nat_le b a) (contains outer inner) h).1 r
 
--- if the partition `inner` is inside `outer`, it has at most as many rows as `outer`
 pub rows_inside : (outer inner : List ℕ) → IsPartition inner → contains outer inner ≡ true → rows inner ≤ rows outer
 rows_inside outer inner p c = by (cases_lt (length outer) (length inner))
   where
@@ -53,7 +54,7 @@ rows_inside outer inner p c = by (cases_lt (length outer) (length inner))
         absurd (omega arith)
     by (inr l) = l
 
--- each member of the list `counted` satisfies `IsTableau`: the conditions on a good tableau, as numbers of letters in its rows
+-- each tableau in the list `counted` satisfies `IsTableau`, which describes a good tableau by the number of times that each letter occurs in its rows
 
 pub counted_tells : (n : ℕ) (start outer inner end : List ℕ) (P : List (List ℕ)) → Falls outer → contains outer inner ≡ true → length start ≤ n → length end ≤ n
     → Among P (counted n start outer inner end) → IsTableau n start outer inner end P
@@ -107,7 +108,7 @@ same_counts start outer inner end s o i e h g ls li =
     let b = at_most inner end start outer i e s o g h li ls in
     omega arith
 
--- the length of the list `counted` as a sum over the ways to choose the columns of a tableau one by one (`over_columns`)
+-- the length of the list `counted` is the sum `over_columns`, which counts the same tableaux by choosing their columns one by one
 
 pub counted_by_columns : (n : ℕ) (start outer inner end : List ℕ) → IsPartition start → length start ≤ n
     → pos (length (counted n start outer inner end)) ≡ over_columns n (column_lines outer inner) (is_sum end) (resize n start) []

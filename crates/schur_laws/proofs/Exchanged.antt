@@ -7,7 +7,6 @@ use Rattle.sym_model.specs.Partition.{insert_part, sorted_parts}
 use Rattle.sym_model.specs.Symmetric.{Symmetric}
 use Rattle.beta_list_laws.proofs.NeighbourExchanges.{KeptByExchanges, kept_under}
 
--- if exchanges of neighbours keep P, and P holds of a ∷ xs, then P holds of xs followed by a
 to_end : (P : List ℕ → Type 0) (a : ℕ) (xs : List ℕ) → KeptByExchanges P → P (a ∷ xs) → P (xs ++ (a ∷ []))
 to_end P a [] k p = p
 to_end P a (b ∷ xs) k p = to_end (λ l. P (b ∷ l)) a xs (kept_under P b k) (k [] a b xs p)
@@ -16,8 +15,6 @@ one_zero_more : (m : ℕ) → ◌++◌ {A = ℕ} (replicate m 0) (0 ∷ []) ≡ 
 one_zero_more zero = refl
 one_zero_more (suc m) = ap (λ (l : List ℕ). 0 ∷ l) (one_zero_more m)
 
--- if exchanges of neighbours keep P, and P holds of a + 1 followed by `parts` and `zeros`, then P holds of `parts` with a + 1 inserted in decreasing
--- order, followed by `zeros`
 to_place : (P : List ℕ → Type 0) (a : ℕ) (parts zeros : List ℕ) → KeptByExchanges P → P (suc a ∷ (parts ++ zeros)) → P (insert_part (suc a) parts ++ zeros)
 to_place P a [] zeros k p = p
 to_place P a (b ∷ parts) zeros k p = by (nat_le b (suc a)) (λ q. to_place (λ l. P (b ∷ l)) a parts zeros (kept_under P b k) q)

@@ -1,10 +1,12 @@
--- Families of symmetric polynomials (`IsSymmetricFamily`).
---     family-one, -plus, -scale, -negate, -times, -basis, -value      1, sums, multiples, negatives, products, basis polynomials and values
---     degree-value                                                    the cleared value (`cleared_value`) of an expression has at most its degree
---     expansions_agree                                                an expansion in d variables is one in n variables, if no degree exceeds d
-use Rattle.std.proofs.Common.{ℕ, ◌/◌, ◌≤◌, inl, inr, true, cond, ℤ, pos, neg_ℤ, List, [], ◌∷◌, length, ◌*ℤ◌, refl, sym, ◌∙◌, ap, arith}
+-- Families of symmetric polynomials: one polynomial for each number of variables (`IsSymmetricFamily`). The *cleared value* of an expression is the
+-- polynomial that is its value times its common denominator.
+--     family-one, -plus, -scale, -negate, -times, -basis     1, sums, multiples, negatives, products and basis polynomials are such families
+--     family-value        the cleared values (`cleared_value`) of an expression are such a family
+--     degree-value        the degree of the cleared value of an expression is at most the degree of the expression
+--     expansions_agree    an expansion of an expression in d variables is one in every number of variables, if no degree exceeds d
+use Rattle.std.proofs.Common.{ℕ, ◌/◌, ◌≤◌, inl, inr, true, ℤ, pos, neg_ℤ, List, [], ◌∷◌, length, ◌*ℤ◌, refl, ◌∙◌, ap, arith, rules}
 use Rattle.std.proofs.lemmas.Bool.{cases_eq}
-use Rattle.sym_model.specs.Polynomial.{Poly, Same, In, same, nothing, one, plus, scale, negate, times, restrict, resize, fits_in}
+use Rattle.sym_model.specs.Polynomial.{Poly, Same, In, same, nothing, one, plus, scale, negate, times, restrict}
 use Rattle.sym_model.specs.Partition.{IsPartition, size, sorted_parts}
 use Rattle.sym_model.specs.Bases.{at_most_one, has, product_over, elementary_of, complete_of, power_sum_of}
 use Rattle.sym_model.specs.Expansion.{Basis, elementaries, completes, power_sums, schurs, basis_polynomial, Terms, cleared, denominators, value, IsExpansionOf}
@@ -27,8 +29,6 @@ use Rattle.schur_laws.specs.PartitionAtoms.{HasPartitions}
 use Rattle.schur_laws.proofs.FewVariables.{families_agree}
 use Rattle.schur_laws.proofs.SymmetricPolynomials.{symmetric-monomials, sorts_to-exchange, at_most_one-exchange, symmetric-plus, symmetric-scale, symmetric-negate, symmetric-times, symmetric-one}
 use lib.IntN.{*ℤ-zero}
-
--- ---- 1, and sums, multiples, negatives and products of families of symmetric polynomials
 
 pub family-one : IsSymmetricFamily one
 family-one = record { variables = In_one; symmetric = symmetric-one; compatible = λ k n h. restrict-one k n }
@@ -54,11 +54,7 @@ family-scale c f s = record {
 }
 
 restrict-negate : (k : ℕ) (f : Poly) → Same (restrict k (negate f)) (negate (restrict k f))
-restrict-negate k f =
-    same_from_pair (restrict k (negate f)) (negate (restrict k f)) (λ φ.
-    pair_restrict k (negate f) φ
-    ∙ pair_negate f (λ α. cond (fits_in k α) (φ (resize k α)) (pos 0))
-    ∙ sym (pair_negate (restrict k f) φ ∙ ap neg_ℤ (pair_restrict k f φ)))
+restrict-negate k f = search (rules, same_from_pair, pair_restrict, pair_negate, neg_ℤ)
 
 pub family-negate : (f : ℕ → Poly) → IsSymmetricFamily f → IsSymmetricFamily (λ n. negate (f n))
 family-negate f s = record {
@@ -105,11 +101,7 @@ restrict-basis power_sums parts k n h p = restrict-power_sum parts k n p.positiv
 restrict-basis schurs parts k n h p = restrict-skew_schur parts [] k n h IsPartition-none
 
 pub family-basis : (basis : Basis) (parts : List ℕ) → IsPartition parts → IsSymmetricFamily (basis_polynomial basis parts)
-family-basis basis parts p = record {
-  variables = λ n. In-atom basis parts n;
-  symmetric = λ n. symmetric-basis basis parts n p;
-  compatible = λ k n h. restrict-basis basis parts k n h p;
-}
+family-basis basis parts p = search (rules, In-atom, symmetric-basis, restrict-basis)
 
 -- ---- the cleared values of expressions are families of symmetric polynomials
 
@@ -130,8 +122,6 @@ family-value (difference e f) p =
     (family-negate (λ n. scale (pos (q / denominator f)) (cleared_value f n)) (family-scale (pos (q / denominator f)) (cleared_value f) (family-value f p.1)))
 family-value (product e f) p = family-times (cleared_value e) (cleared_value f) (family-value e p.0) (family-value f p.1)
 
--- ---- the cleared value of an expression has at most the degree of the expression
-
 -- in every number of variables, the cleared value of an expression has at most the degree of the expression
 pub degree-value : (e : Tree) (n : ℕ) → HasDegreeAtMost (degree e) (cleared_value e n)
 degree-value e n α h = elim (cases_eq (length α) n) [
@@ -151,7 +141,7 @@ degree-scale d c f h α l = coefficient_scale c f α ∙ ap (λ z. c *ℤ z) (h 
 pub degree-basis : (basis : Basis) (parts : List ℕ) (n : ℕ) → HasDegreeAtMost (size parts) (basis_polynomial basis parts n)
 degree-basis basis parts n = degree-value (atom basis parts) n
 
--- ---- 0 and the values of lists of terms are families of symmetric polynomials
+-- ---- 0 and the polynomials of lists of terms are families of symmetric polynomials
 
 family-nothing : IsSymmetricFamily (λ n. nothing)
 family-nothing = record { variables = λ n t m. absurd m; symmetric = λ n left a b right. refl; compatible = λ k n h α. refl }

@@ -14,15 +14,11 @@ use Rattle.sym_model.proofs.Parts.{size-zeros}
 use Rattle.beta_list_laws.proofs.NeighbourExchanges.{sort_back, sorted_falls}
 use Rattle.schur_laws.specs.SymmetricFamily.{IsSymmetricFamily, HasDegreeAtMost}
 
--- ---- weakly decreasing lists of exponents
-
--- if a weakly decreasing list begins with 0, all its entries are 0
 zeros_after : (α : List ℕ) → Falls (0 ∷ α) → 0 ∷ α ≡ replicate (suc (length α)) 0
 zeros_after [] f = refl
 zeros_after (zero ∷ α) f = ap (λ (l : List ℕ). 0 ∷ l) (zeros_after α f.1)
 zeros_after (suc a ∷ α) f = let h = f.0 in absurd (omega arith)
 
--- if α is weakly decreasing and its sum is at most d, its entries after place d are 0
 pub falling_padded : (d m : ℕ) (α : List ℕ) → Falls α → length α ≡ d + m → size α ≤ d → α ≡ resize d α ++ replicate m 0
 falling_padded zero zero [] f l h = refl
 falling_padded zero (suc m) [] f l h = absurd (omega arith)
@@ -36,13 +32,12 @@ falling_padded (suc d) m (suc a ∷ α) f l h = ap (λ (r : List ℕ). suc a ∷
 
 -- ---- the coefficients of a family of symmetric polynomials in different numbers of variables
 
--- if f is a family of symmetric polynomials, and α has n entries, the coefficient of x^α in f(n) is that of α followed by m zeros in f(n + m); if α
--- does not have n entries, it is 0
+-- let f be a family of symmetric polynomials. If α has n entries, the coefficient of x^α in f(n) is the coefficient in f(n + m) at α followed by m
+-- zeros; otherwise the coefficient of x^α in f(n) is 0
 coefficient_in_fewer : (f : ℕ → Poly) (n m : ℕ) (α : List ℕ) → IsSymmetricFamily f
     → coefficient (f n) α ≡ cond (eqb (length α) n) (coefficient (f (n + m)) (α ++ replicate m 0)) (pos 0)
 coefficient_in_fewer f n m α s = sym (s.compatible n (n + m) (omega arith) α) ∙ coefficient_restrict_padded n m (f (n + m)) α (s.variables (n + m))
 
--- if f is a family of symmetric polynomials, and α has d entries, the coefficient in f(d + m) of α followed by m zeros is that of x^α in f(d)
 coefficient_in_more : (f : ℕ → Poly) (d m : ℕ) (α : List ℕ) → IsSymmetricFamily f → length α ≡ d
     → coefficient (f (d + m)) (α ++ replicate m 0) ≡ coefficient (f d) α
 coefficient_in_more f d m α s l =
@@ -54,8 +49,6 @@ agree_in_fewer f g n m s t e α =
     ∙ ap (λ c. cond (eqb (length α) n) c (pos 0)) (e (α ++ replicate m 0))
     ∙ sym (coefficient_in_fewer g n m α t)
 
--- if the families f and g of symmetric polynomials have degree at most d and agree in d variables, the coefficients of f(d + m) and g(d + m) at
--- weakly decreasing exponents agree
 agree_falling : (d m : ℕ) (f g : ℕ → Poly) → IsSymmetricFamily f → IsSymmetricFamily g
     → HasDegreeAtMost d (f (d + m)) → HasDegreeAtMost d (g (d + m)) → Same (f d) (g d)
     → (α : List ℕ) → Falls α → coefficient (f (d + m)) α ≡ coefficient (g (d + m)) α
@@ -68,7 +61,6 @@ agree_falling d m f g s t p q e α h = elim (cases_eq (length α) (d + m)) [
   ]
 ]
 
--- if the families f and g of symmetric polynomials have degree at most d and agree in d variables, they agree in d + m variables
 agree_in_more : (d m : ℕ) (f g : ℕ → Poly) → IsSymmetricFamily f → IsSymmetricFamily g
     → HasDegreeAtMost d (f (d + m)) → HasDegreeAtMost d (g (d + m)) → Same (f d) (g d) → Same (f (d + m)) (g (d + m))
 agree_in_more d m f g s t p q e α =

@@ -1,4 +1,6 @@
--- Good tableaux P for which start plus the content is a given list `end`, described by the number of times that each letter occurs in each row of P.
+-- A tableau P is good for the partition `start` if, for each column, start plus the content of this column and of the columns to its right is a
+-- partition. Here the good tableaux P for which start plus the content of P is a given list `end` are described by the number of times that each
+-- letter occurs in each row of P. Each row of P is padded: it begins with a zero for each cell of the inner partition.
 use Rattle.std.proofs.Common.{◌≡◌, ℕ, zero, suc, ◌+◌, ◌-◌, ◌<◌, ◌≤◌, ◌⊎◌, ◌==◌, Bool, true, cond, ◌&&◌, List, [], ◌∷◌, map, length, drop, get_or, nat_le, sym, ◌∙◌, ap, subst, refl, inl, inr, arith}
 use Rattle.std.proofs.lemmas.Bool.Decides.{nat_tests}
 use Rattle.std.proofs.lemmas.Bool.{cases_lt, and_parts, and_from}
@@ -30,7 +32,7 @@ is_counted n start end P =
     are_tableau_columns (transposed P) && is_good_by_columns n start (transposed P)
     && same (without_last_zeros (sum_reached n start (transposed P))) end
 
--- `sum_of cut start P i`: start_i plus the number of letters i + 1 in the words cut(row), for all rows of P
+-- `sum_of cut start P i`: start_i plus the number of letters i + 1 in all the words cut(row) together, for the rows of P
 abbrev pub sum_of : (List ℕ → List ℕ) → List ℕ → List (List ℕ) → ℕ → ℕ
 sum_of cut start P i = get_or start i 0 + add_up (λ r. times_in (suc i) (cut (row P r))) 0 (length P)
 
@@ -44,8 +46,6 @@ pub record IsTableau (n : ℕ) (start outer inner end : List ℕ) (P : List (Lis
   pub good : (j i : ℕ) → sum_of (drop (suc j)) start P (suc i) ≤ sum_of (drop (suc j)) start P i
   pub all_good : (i : ℕ) → sum_of (λ w. w) start P (suc i) ≤ sum_of (λ w. w) start P i
   pub sums : (i : ℕ) → sum_of (λ w. w) start P i ≡ get_or end i 0
-
--- ---- the number of letters of a word that are at most k
 
 pub letters_up_to : (k : ℕ) (w : List ℕ) → up_to_letter k w ≡ times_in 0 w + add_up (λ i. times_in (suc i) w) 0 k
 letters_up_to zero w = let e = zeros_up_to w in omega arith
@@ -65,7 +65,7 @@ all_up_to m (a ∷ w) h = by (cases_lt m a) (all_up_to m w (λ k l. let e = h k 
     by (inl l) e = let f = h a l in let g : cond {A = ℕ} (a == a) 1 0 ≡ 1 = grind (arith, nat_tests) in absurd (omega arith)
     by (inr l) e = let g : cond {A = ℕ} (nat_le a m) 1 0 ≡ 1 = grind (arith, nat_tests) in omega arith
 
--- ---- consequences of the tests that a good tableau passes
+-- ---- consequences of the test `is_counted` for the rows of a tableau
 
 falls_for : (outer : List ℕ) (P : List (List ℕ)) → map length P ≡ outer → Falls outer → Falls (map length P)
 falls_for outer P e f = subst Falls (sym e) f
@@ -86,8 +86,8 @@ row_facts n outer inner P e inside f r = by (cases_lt r (length outer))
           letters = λ x m. ap (times_in x) past;
         }
 
--- if no letter of P is greater than n, entry i of start plus the content of the columns after the first j + 1 is start_i plus the number of letters i
--- + 1 in these columns
+-- if no letter of P is greater than n, then the entry at the index i of start + content(the columns after the first j + 1) is start_i plus the number
+-- of letters i + 1 in these columns
 pub sum_right : (n : ℕ) (start : List ℕ) (P : List (List ℕ)) → ((r k : ℕ) → n < k → times_in k (row P r) ≡ 0) → (j i : ℕ)
     → get_or (sum_reached n start (drop (suc j) (transposed P))) i 0 ≡ sum_of (drop (suc j)) start P i
 sum_right n start P h j i =
@@ -112,7 +112,6 @@ length_sum n start cs h =
     let d = length_content n (letters_of cs) in
     omega arith
 
--- if a list s of n numbers, without the zeros at its end, is the partition `end`, then s and `end` have the same number at each place
 sum_tells : (n : ℕ) (s end : List ℕ) → length s ≡ n → length end ≤ n → without_last_zeros s ≡ end → (i : ℕ) → get_or s i 0 ≡ get_or end i 0
 sum_tells n s end l m e i = by (cases_lt i n)
   where

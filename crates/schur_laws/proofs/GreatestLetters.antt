@@ -2,7 +2,7 @@
 --     `over_rising`               sums over the weakly increasing words with letters up to n
 --     `rising-greatest`           a sum over the words with letters up to n + 1, by the number of letters n + 1 at their ends
 --     `total_down_from-ext`, `-cut`   sums over the numbers from 0 to d
-use Rattle.std.proofs.Common.{◌≡◌, ℕ, zero, suc, ◌+◌, ◌-◌, ◌<◌, ◌≤◌, Bool, true, false, cond, ◌&&◌, List, [], ◌∷◌, ◌++◌, map, length, replicate, nat_le, sym, ◌∙◌, ap, ap₂, subst, refl, inl, inr, arith, ℤ, pos, ◌+ℤ◌, append-nil}
+use Rattle.std.proofs.Common.{◌≡◌, ℕ, zero, suc, ◌+◌, ◌-◌, ◌<◌, ◌≤◌, Bool, true, false, cond, ◌&&◌, List, [], ◌∷◌, ◌++◌, map, length, replicate, nat_le, sym, ◌∙◌, ap, ap₂, subst, refl, inl, inr, arith, ℤ, pos, ◌+ℤ◌, append-nil, rules}
 use Rattle.std.proofs.lemmas.Bool.{le-leb, lt-leb}
 use Rattle.sym_model.specs.Sum.{total, Among}
 use Rattle.sym_model.specs.Partition.{after}
@@ -14,12 +14,9 @@ use Rattle.tableau_laws.specs.Grid.{may_precede}
 use lib.IntN.{+ℤ_idl, +ℤ_idr, +ℤ_comm}
 use Rattle.sym_model.proofs.Integers.{nothing_either}
 
--- ---- sums over the numbers from 0 to d
-
 pub total_down_from-ext : (f g : ℕ → ℤ) (d : ℕ) → ((i : ℕ) → i ≤ d → f i ≡ g i) → total f (down_from d) ≡ total g (down_from d)
 total_down_from-ext f g d h = total_among f g (down_from d) (λ i m. h i (down_from-below d i m))
 
--- if f is 0 at e + 1, .., m + e, the sum of f over 0, .., m + e is the sum of f over 0, .., e
 pub total_down_from-cut : (f : ℕ → ℤ) (e m : ℕ) → ((i : ℕ) → e < i → i ≤ m + e → f i ≡ pos 0) → total f (down_from (m + e)) ≡ total f (down_from e)
 total_down_from-cut f e zero h = ap (λ d. total f (down_from d)) (let i : 0 + e ≡ e = omega arith in i)
 total_down_from-cut f e (suc m) h =
@@ -28,7 +25,6 @@ total_down_from-cut f e (suc m) h =
     ∙ +ℤ_idl (total f (down_from (m + e)))
     ∙ total_down_from-cut f e m (λ i l k. h i l (omega arith))
 
--- if f is 0 at 0, .., d - 1, the sum of f over 0, .., d is f(d)
 total_down_from-first : (f : ℕ → ℤ) (d : ℕ) → ((i : ℕ) → i < d → f i ≡ pos 0) → total f (down_from d) ≡ f d
 total_down_from-first f zero h = +ℤ_idr (f 0)
 total_down_from-first f (suc d) h =
@@ -56,18 +52,13 @@ words-letters n (suc k) w m =
     let long : suc (length v.0) ≡ suc k = ap suc rest.0 in
     subst (λ u. (length u ≡ suc k) × AreLetters n u) (sym v.2) (long, ((bounds.0, let h = bounds.1 in omega arith), rest.1))
 
--- ---- sums over weakly increasing words
-
 -- the sum of a function over the weakly increasing words of k letters from 1 to n
 abbrev pub over_rising : ℕ → ℕ → (List ℕ → ℤ) → ℤ
 over_rising n k g = total (λ (w : List ℕ). cond (row_rises w) (g w) (pos 0)) (words n k)
 
 pub rising-ext : (n k : ℕ) (f g : List ℕ → ℤ) → ((w : List ℕ) → length w ≡ k → AreLetters n w → f w ≡ g w) → over_rising n k f ≡ over_rising n k g
-rising-ext n k f g h =
-    total_among (λ (w : List ℕ). cond (row_rises w) (f w) (pos 0)) (λ (w : List ℕ). cond (row_rises w) (g w) (pos 0)) (words n k)
-    (λ w m. let l = words-letters n k w m in ap (λ z. cond (row_rises w) z (pos 0)) (h w l.0 l.1))
+rising-ext n k f g h = search (rules, total_among, words-letters)
 
--- for k = 0, the sum of g over the weakly increasing words is the value of g at the empty word
 pub rising-none : (n : ℕ) (g : List ℕ → ℤ) → over_rising n 0 g ≡ g []
 rising-none n g = +ℤ_idr (g [])
 
@@ -81,30 +72,15 @@ swap_tests true false z = refl
 swap_tests false true z = refl
 swap_tests false false z = refl
 
--- the sum of g over the weakly increasing words of k + 1 letters is a sum over the first letter a, and over the words of k letters that a may precede
 rising-front : (n k : ℕ) (g : List ℕ → ℤ)
     → over_rising n (suc k) g ≡ total (λ (a : ℕ). over_rising n k (λ w. cond (may_precede nat_le a w) (g (a ∷ w)) (pos 0))) (after 0 n)
-rising-front n k g =
-    total_each (λ (w : List ℕ). cond (row_rises w) (g w) (pos 0)) (λ (a : ℕ). map (λ (w : List ℕ). a ∷ w) (words n k)) (after 0 n)
-    ∙ total_ext
-    (λ (a : ℕ). total (λ (w : List ℕ). cond (row_rises w) (g w) (pos 0)) (map (λ (w : List ℕ). a ∷ w) (words n k)))
-    (λ (a : ℕ). over_rising n k (λ w. cond (may_precede nat_le a w) (g (a ∷ w)) (pos 0)))
-    (λ a.
-    total_map (λ (w : List ℕ). cond (row_rises w) (g w) (pos 0)) (λ (w : List ℕ). a ∷ w) (words n k)
-    ∙ total_ext
-    (λ (w : List ℕ). cond (row_rises (a ∷ w)) (g (a ∷ w)) (pos 0))
-    (λ (w : List ℕ). cond (row_rises w) (cond (may_precede nat_le a w) (g (a ∷ w)) (pos 0)) (pos 0))
-    (λ w. ap (λ b. cond b (g (a ∷ w)) (pos 0)) (rises-front a w) ∙ swap_tests (may_precede nat_le a w) (row_rises w) (g (a ∷ w)))
-    (words n k))
-    (after 0 n)
+rising-front n k g = search (rules, total_each, total_ext, total_map, rises-front, swap_tests)
 
--- if a ≤ n, a may precede the word v followed by i letters n + 1 if and only if a may precede v
 precedes-greatest : (n a i : ℕ) (v : List ℕ) → a ≤ n → may_precede nat_le a (v ++ replicate i (suc n)) ≡ may_precede nat_le a v
 precedes-greatest n a zero [] h = refl
 precedes-greatest n a (suc i) [] h = le-leb a (suc n) (omega arith)
 precedes-greatest n a i (b ∷ v) h = refl
 
--- the letter n + 1 may precede a word of letters n + 1
 greatest_precedes : (n i : ℕ) → may_precede nat_le (suc n) (replicate i (suc n)) ≡ true
 greatest_precedes n zero = refl
 greatest_precedes n (suc i) = le-leb (suc n) (suc n) (omega arith)
@@ -123,18 +99,10 @@ abbrev EndsWithGreatest : ℕ → ℕ → Type 0
 EndsWithGreatest n k =
     (g : List ℕ → ℤ) → over_rising (suc n) k g ≡ total (λ (i : ℕ). over_rising n (k - i) (λ v. g (ended n i v))) (down_from k)
 
--- if `EndsWithGreatest` holds for words of k letters: the sum of g over the weakly increasing words of k + 1 letters that begin with a ≤ n, as a
--- double sum over the number i of letters n + 1 at the end, and over the words of the k - i letters between a and these
 smaller_front : (n k a : ℕ) (g : List ℕ → ℤ) → EndsWithGreatest n k → a ≤ n
     → over_rising (suc n) k (λ w. cond (may_precede nat_le a w) (g (a ∷ w)) (pos 0))
     ≡ total (λ (i : ℕ). over_rising n (k - i) (λ v. cond (may_precede nat_le a v) (g (a ∷ ended n i v)) (pos 0))) (down_from k)
-smaller_front n k a g rec h =
-    rec (λ w. cond (may_precede nat_le a w) (g (a ∷ w)) (pos 0))
-    ∙ total_ext
-    (λ (i : ℕ). over_rising n (k - i) (λ v. cond (may_precede nat_le a (ended n i v)) (g (a ∷ ended n i v)) (pos 0)))
-    (λ (i : ℕ). over_rising n (k - i) (λ v. cond (may_precede nat_le a v) (g (a ∷ ended n i v)) (pos 0)))
-    (λ i. rising-ext n (k - i) _ _ (λ v l m. ap (λ b. cond b (g (a ∷ ended n i v)) (pos 0)) (precedes-greatest n a i v h)))
-    (down_from k)
+smaller_front n k a g rec h = search (rules, total_ext, rising-ext, precedes-greatest)
 
 smaller_fronts : (n k : ℕ) (g : List ℕ → ℤ) → EndsWithGreatest n k
     → total (λ (a : ℕ). over_rising (suc n) k (λ w. cond (may_precede nat_le a w) (g (a ∷ w)) (pos 0))) (after 0 n)
@@ -151,7 +119,6 @@ smaller_fronts n k g rec =
     with_front : ℕ → ℕ → ℤ
     with_front a i = over_rising n (k - i) (λ v. cond (may_precede nat_le a v) (g (a ∷ ended n i v)) (pos 0))
 
--- the sum of g over the weakly increasing words of k + 1 letters up to n + 1 that begin with n + 1 has one term: all letters of the word are n + 1
 greatest_front : (n k : ℕ) (g : List ℕ → ℤ) → EndsWithGreatest n k
     → over_rising (suc n) k (λ w. cond (may_precede nat_le (suc n) w) (g (suc n ∷ w)) (pos 0)) ≡ g (replicate (suc k) (suc n))
 greatest_front n k g rec =

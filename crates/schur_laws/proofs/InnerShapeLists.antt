@@ -41,8 +41,6 @@ inside-tells (a ∷ outer) m inner k =
       inside = and_from (nat_le b.0 a) (contains outer l.0) (le-leb b.0 a (omega arith)) r.inside;
     })
 
--- ---- the inner shapes without the zeros at their ends are partitions inside `outer`
-
 pub same-without_last_zeros : (inner : List ℕ) → SameParts (without_last_zeros inner) inner
 same-without_last_zeros inner = get_or-without_last_zeros inner
 

@@ -1,6 +1,7 @@
--- The cells of two neighbouring letters in the rows of a tableau, described by numbers A, B, C for each row: row r has the first letter in the y(r)
--- cells after place A(r), up to place B(r), and the second letter in the x(r) cells after them, up to place C(r).
-use Rattle.std.proofs.Common.{◌≡◌, ℕ, zero, suc, ◌+◌, ◌<◌, ◌≤◌, ◌⊎◌, max, ◌∙◌, ap, ap₂, refl, inl, inr, arith}
+-- The cells of two letters k and k + 1 in the rows of a tableau, described by numbers A, B, C for each row: row r has the letter k in the y(r) cells
+-- from place A(r) + 1 to place B(r), and the letter k + 1 in the x(r) cells from place B(r) + 1 to place C(r). The number of these cells after place
+-- j is Y(j, r) for the letter k, and X(j, r) for the letter k + 1.
+use Rattle.std.proofs.Common.{◌≡◌, ℕ, zero, suc, ◌+◌, ◌<◌, ◌≤◌, ◌⊎◌, max, ◌∙◌, ap, ap₂, refl, inl, inr, arith, rules}
 use Rattle.std.proofs.lemmas.Bool.{cases_lt}
 
 -- f(a) + f(a + 1) + .. + f(a + k - 1)
@@ -20,7 +21,6 @@ pub add_up-none : (f : ℕ → ℕ) (a k : ℕ) → ((i : ℕ) → a ≤ i → f
 add_up-none f a zero e = refl
 add_up-none f a (suc k) e = let h = e a (omega arith) in let g = add_up-none f (suc a) k (λ i l. e i (omega arith)) in omega arith
 
--- if f is 0 from a + m on, the sum of m + k values of f from a on is the sum of the first m of these values
 pub add_up-longer : (f : ℕ → ℕ) (a m k : ℕ) → ((i : ℕ) → a + m ≤ i → f i ≡ 0) → add_up f a (m + k) ≡ add_up f a m
 add_up-longer f a zero k e = let d : 0 + k ≡ k = omega arith in ap (add_up f a) d ∙ add_up-none f a k (λ i l. e i (omega arith))
 add_up-longer f a (suc m) k e =
@@ -35,24 +35,19 @@ pub record Places (A B C x y : ℕ → ℕ) : Type 0 where
   pub left : (r : ℕ) → B (suc r) ≤ A r
   pub right : (r : ℕ) → C (suc r) ≤ B r
 
--- Y(j, r) is the number of the cells of row r from A(r) to B(r) that are after place j, and X(j, r) the number of those from B(r) to C(r)
+-- Y(j, r) is the number of the places A(r) + 1, .., B(r) of row r that are after place j, and X(j, r) is the number of the places B(r) + 1, .., C(r)
+-- that are after place j
 pub record RightOf (A B C : ℕ → ℕ) (X Y : ℕ → ℕ → ℕ) : Type 0 where
   pub first : (j r : ℕ) → Y j r + max (A r) j ≡ max (B r) j
   pub second : (j r : ℕ) → X j r + max (B r) j ≡ max (C r) j
 
 none_right : (A B C x y : ℕ → ℕ) (X Y : ℕ → ℕ → ℕ) → Places A B C x y → RightOf A B C X Y → (j a m : ℕ) → C a ≤ j → add_up (X j) a m ≡ 0
 none_right A B C x y X Y p q j a zero l = refl
-none_right A B C x y X Y p q j a (suc m) l =
-    let s = q.second j a in let t = p.second a in let u = p.right a in
-    let h = none_right A B C x y X Y p q j (suc a) m (omega arith) in
-    omega arith
+none_right A B C x y X Y p q j a (suc m) l = search (rules, (none_right A B C x y X Y p q j (suc a) m (omega arith)))
 
 none_left : (A B C x y : ℕ → ℕ) (X Y : ℕ → ℕ → ℕ) → Places A B C x y → RightOf A B C X Y → (j a m : ℕ) → B a ≤ j → add_up (Y j) a m ≡ 0
 none_left A B C x y X Y p q j a zero l = refl
-none_left A B C x y X Y p q j a (suc m) l =
-    let s = q.first j a in let t = p.first a in let u = p.left a in
-    let h = none_left A B C x y X Y p q j (suc a) m (omega arith) in
-    omega arith
+none_left A B C x y X Y p q j a (suc m) l = search (rules, (none_left A B C x y X Y p q j (suc a) m (omega arith)))
 
 -- if s + x(a) + .. + x(a + i) ≤ t + y(a) + .. + y(a + i - 1) for each i, then, for each j, s plus the sum of X(j, r) is at most t plus the sum of
 -- Y(j, r); both sums are over the m rows r from a on

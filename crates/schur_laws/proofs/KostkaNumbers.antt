@@ -1,8 +1,9 @@
--- The coefficients of Schur polynomials are Kostka numbers.
+-- The coefficients of Schur polynomials are Kostka numbers. A *strip* is a horizontal strip that is removed from a partition λ.
 --     strips_off-removals     `strips_off k` lists the shapes in `removals` (λ without a strip of any size) for which the strip has k cells
---     coefficient-schur_last  the coefficient of x^α in s_λ with last exponent k, as a sum over the partitions that are λ without a strip of k cells
+--     coefficient-schur_last  the coefficient of x^α in s_λ, as a sum over the partitions that are λ without a strip of k cells; k is the last
+--                             exponent in α
 --     coefficient-kostka      the coefficient of x^κ in s_λ is `kostka λ κ`
-use Rattle.std.proofs.Common.{◌<◌, ap₂, ◌⊎◌, ◌≡◌, ℕ, zero, suc, ◌+◌, ◌-◌, ◌≤◌, Bool, true, false, cond, ◌&&◌, ◌==◌, min, List, [], ◌∷◌, ◌++◌, map, length, sym, ◌∙◌, ap, subst, refl, inl, inr, arith, ℤ, pos, ◌+ℤ◌}
+use Rattle.std.proofs.Common.{◌<◌, ◌⊎◌, ◌≡◌, ℕ, zero, suc, ◌+◌, ◌-◌, ◌≤◌, Bool, true, false, cond, ◌&&◌, ◌==◌, min, List, [], ◌∷◌, ◌++◌, map, length, sym, ◌∙◌, ap, subst, refl, inl, inr, arith, ℤ, pos, ◌+ℤ◌, rules}
 use Rattle.std.proofs.lemmas.Bool.{ne_eqb, eq-eqb, eqb-true}
 use Rattle.sym_model.specs.Sum.{total, Among}
 use Rattle.sym_model.specs.Partition.{Falls, IsPartition, size, part, in_front, without_last_zeros}
@@ -23,8 +24,6 @@ use Rattle.schur_laws.proofs.Exchanged.{coefficient-last_first}
 use lib.IntN.{+ℤ_idr, +ℤ_comm}
 use Rattle.sym_model.proofs.Restrictions.{and_middle}
 
--- ---- the numbers 0, 1, .., n - 1
-
 pub below-tells : (n i : ℕ) → Among i (below n) → i < n
 below-tells zero i m = absurd m
 below-tells (suc n) i m = by (Among_from_append i (below n) (n ∷ []) m) (below-tells n i)
@@ -39,19 +38,12 @@ Among-below n = Among-append_right n (below n) (n ∷ []) (inl refl)
 
 total_below : (f : ℕ → ℤ) (n : ℕ) → total f (below (suc n)) ≡ total f (down_from n)
 total_below f zero = refl
-total_below f (suc n) =
-    total_append f (below (suc n)) (suc n ∷ [])
-    ∙ ap₂ ◌+ℤ◌ (total_below f n) (+ℤ_idr (f (suc n)))
-    ∙ +ℤ_comm (total f (down_from n)) (f (suc n))
-
--- ---- horizontal strips of k cells, among the horizontal strips of any size
+total_below f (suc n) = search (rules, total_append, +ℤ_idr, +ℤ_comm, (total_below f n))
 
 pub strips_off-removals : (k : ℕ) (parts : List ℕ) (χ : List ℕ → ℤ)
     → total χ (strips_off k parts) ≡ total (λ (r : List ℕ × ℕ). cond (r.1 == k) (χ (without_last_zeros r.0)) (pos 0)) (removals parts)
 strips_off-removals zero [] χ = refl
-strips_off-removals (suc k) [] χ =
-    ap (λ b. total χ (cond b ([] ∷ []) [])) (ne_eqb (suc k) 0 (λ e. absurd (omega arith)))
-    ∙ sym (ap (λ b. cond b (χ []) (pos 0) +ℤ pos 0) (ne_eqb 0 (suc k) (λ e. absurd (omega arith))))
+strips_off-removals (suc k) [] χ = search rules
 strips_off-removals k (a ∷ parts) χ =
     total_each χ (λ (i : ℕ). map (λ (rest : List ℕ). in_front (a - i) rest) (strips_off (k - i) parts)) (below (suc few))
     ∙ total_below (λ (i : ℕ). total χ (map (λ (rest : List ℕ). in_front (a - i) rest) (strips_off (k - i) parts))) few
@@ -91,7 +83,7 @@ strips_off-removals k (a ∷ parts) χ =
         (λ e. eq-eqb (i + s) k (let d = eqb-true s (k - i) e in omega arith))
         (λ e. eq-eqb s (k - i) (let d = eqb-true (i + s) k e in omega arith))
 
--- ---- equality of lists with a last entry; the coefficient of x^α in s_λ, by the last exponent of α
+-- ---- the coefficient of x^α in s_λ, by the last exponent of α
 
 same-last : (γ α : List ℕ) (s k : ℕ) → same (γ ++ (s ∷ [])) (α ++ (k ∷ [])) ≡ ((s == k) && same γ α)
 same-last [] [] s k = refl
@@ -115,7 +107,6 @@ same-last (c ∷ γ) [] s k = longer (c == k) (s == k) γ
     longer false false γ = refl
 same-last (c ∷ γ) (b ∷ α) s k = ap (λ t. (c == b) && t) (same-last γ α s k) ∙ and_middle (c == b) (s == k) (same γ α)
 
--- the coefficient of x^α in s_λ is the number of semistandard tableaux of the shape λ and the content α, written as a sum row by row (`over_rows`)
 coefficient-rows : (n : ℕ) (parts α : List ℕ) → coefficient (schur parts n) α ≡ over_rows n [] parts (at_only α)
 coefficient-rows n parts α = coefficient_pair (schur parts n) α ∙ pair-schur_rows n parts (at_only α)
 
@@ -140,8 +131,6 @@ coefficient-schur_last n k parts α f =
     ∙ ap (λ z. cond (r.1 == k) z (pos 0)) (coefficient-zeros n r.0 α))
     (removals parts)
     ∙ sym (strips_off-removals k parts (λ rest. coefficient (schur rest n) α))
-
--- ---- the partition that remains when a horizontal strip is removed
 
 -- `rest` is a partition with k cells less than `parts`; it does not have more rows than `parts`, and its first part is not greater
 pub record IsLeft (k : ℕ) (parts rest : List ℕ) : Type 0 where
@@ -177,8 +166,6 @@ strips_off-tell k (a ∷ parts) rest p m =
       first = let e = part-in_front (a - i.0) r.0 in omega arith;
       size_is = let e = size-in_front (a - i.0) r.0 in let s = l.size_is in let h = t.1 in omega arith;
     })
-
--- ---- Kostka numbers are coefficients of Schur polynomials
 
 pub coefficient-kostka : (parts content : List ℕ) → IsPartition parts → kostka parts content ≡ coefficient (schur parts (length content)) content
 coefficient-kostka [] [] p = refl

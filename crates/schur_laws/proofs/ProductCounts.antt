@@ -1,4 +1,6 @@
--- The coefficients of products of Schur polynomials as counts of lattice tableaux of skew shapes.
+-- The coefficients of products of Schur polynomials as counts of lattice tableaux of skew shapes. A tableau T is good for the start λ, a partition,
+-- if, for each column, λ plus the content of this column and of the columns to its right is a partition; `product_count k λ μ ν` is the number of
+-- good tableaux T of the shape μ, with letters up to k, for which λ + content(T) = ν.
 use Rattle.std.proofs.Common.{◌≡◌, ℕ, ◌<◌, ◌≤◌, ◌⊎◌, Bool, true, false, cond, List, [], ◌∷◌, map, length, sym, ◌∙◌, ap, refl, inl, inr, arith, pos, filter}
 use Rattle.std.proofs.lemmas.Bool.{cases_lt, lt-leb, both_ways}
 use Rattle.std.proofs.lemmas.Int.{ints}

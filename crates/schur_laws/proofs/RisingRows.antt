@@ -1,5 +1,5 @@
 -- Weakly increasing words, described by the number of their letters that are at most k, for each k.
-use Rattle.std.proofs.Common.{◌≡◌, ℕ, zero, suc, ◌+◌, ◌-◌, ◌<◌, ◌≤◌, ◌⊎◌, ◌==◌, max, true, cond, List, [], ◌∷◌, length, drop, nat_le, sym, ◌∙◌, ap, ap₂, refl, inl, inr, arith}
+use Rattle.std.proofs.Common.{◌≡◌, ℕ, zero, suc, ◌+◌, ◌-◌, ◌<◌, ◌≤◌, ◌⊎◌, ◌==◌, max, true, cond, List, [], ◌∷◌, length, drop, nat_le, sym, ◌∙◌, ap, ap₂, refl, inl, inr, arith, rules}
 use Rattle.std.proofs.lemmas.Bool.Decides.{nat_tests}
 use Rattle.std.proofs.lemmas.Bool.{cases_lt, cases_eq, and_parts, and_from, leb-true, ltb-true, lt-ltb}
 use Rattle.sym_model.specs.Schur.{times_in}
@@ -13,7 +13,6 @@ up_to_letter k (a ∷ w) = cond {A = ℕ} (nat_le a k) 1 0 + up_to_letter k w
 one_letter : (a k : ℕ) → cond {A = ℕ} (a == suc k) 1 0 + cond {A = ℕ} (nat_le a k) 1 0 ≡ cond {A = ℕ} (nat_le a (suc k)) 1 0
 one_letter a k = grind (arith, nat_tests)
 
--- the number of letters k + 1 of w plus the number of letters up to k is the number of letters up to k + 1
 pub one_more_letter : (k : ℕ) (w : List ℕ) → times_in (suc k) w + up_to_letter k w ≡ up_to_letter (suc k) w
 one_more_letter k [] = refl
 one_more_letter k (a ∷ w) = let e = one_more_letter k w in let f = one_letter a k in omega arith
@@ -42,17 +41,7 @@ none_up_to k a (b ∷ w) h l =
 pub right_of_place : (k j : ℕ) (w : List ℕ) → Rises w → times_in (suc k) (drop j w) + max (up_to_letter k w) j ≡ max (up_to_letter (suc k) w) j
 right_of_place k zero w h = let e = one_more_letter k w in let f : drop 0 w ≡ w = grind arith in ap (λ v. times_in (suc k) v + max (up_to_letter k w) 0) f ∙ omega arith
 right_of_place k (suc j) [] h = omega arith
-right_of_place k (suc j) (a ∷ w) h =
-    elim (cases_lt k a) [ inl l ↦ late (right_of_place k j w (rises_rest a w h)) l (cases_eq a (suc k)) | inr l ↦ early (right_of_place k j w (rises_rest a w h)) l ]
-  where
-    early : times_in (suc k) (drop j w) + max (up_to_letter k w) j ≡ max (up_to_letter (suc k) w) j → a ≤ k → times_in (suc k) (drop j w) + max (cond {A = ℕ} (nat_le a k) 1 0 + up_to_letter k w) (suc j) ≡ max (cond {A = ℕ} (nat_le a (suc k)) 1 0 + up_to_letter (suc k) w) (suc j)
-    early e l = let f : cond {A = ℕ} (nat_le a k) 1 0 ≡ 1 = grind (arith, nat_tests) in let g : cond {A = ℕ} (nat_le a (suc k)) 1 0 ≡ 1 = grind (arith, nat_tests) in omega arith
-
-    late : times_in (suc k) (drop j w) + max (up_to_letter k w) j ≡ max (up_to_letter (suc k) w) j → k < a → (a ≡ suc k) ⊎ (a ≡ suc k → ⊥) → times_in (suc k) (drop j w) + max (cond {A = ℕ} (nat_le a k) 1 0 + up_to_letter k w) (suc j) ≡ max (cond {A = ℕ} (nat_le a (suc k)) 1 0 + up_to_letter (suc k) w) (suc j)
-    late r l (inl e) = let n = none_up_to k a w h l in let g : cond {A = ℕ} (nat_le a (suc k)) 1 0 ≡ 1 = grind (arith, nat_tests) in omega arith
-    late r l (inr d) = let n = none_up_to k a w h l in let m = none_up_to (suc k) a w h (omega arith) in omega arith
-
--- ---- the numbers of letters up to k of two words v and w, if w can be directly below v in a tableau
+right_of_place k (suc j) (a ∷ w) h = search (rules, cases_lt, rises_rest, cases_eq, nat_tests, none_up_to, (right_of_place k j w (rises_rest a w h)))
 
 pub below_counts : (k : ℕ) (v w : List ℕ) → pass_by_place may_stand_above v w ≡ true → length w ≤ length v → up_to_letter (suc k) w ≤ up_to_letter k v
 below_counts k v [] h l = omega arith
@@ -95,8 +84,6 @@ counts_below (a ∷ v) (b ∷ w) r s h =
             let f : cond {A = ℕ} (nat_le b (suc k)) 1 0 ≡ 1 = grind (arith, nat_tests) in
             let g : cond {A = ℕ} (nat_le a k) 1 0 ≤ 1 = grind (arith, nat_tests) in
             omega arith
-
--- ---- a weakly increasing word is determined by the number of times that each letter occurs in it
 
 pub few_times : (k : ℕ) (w : List ℕ) → times_in k w ≤ up_to_letter k w
 few_times zero w = let e = zeros_up_to w in omega arith

@@ -1,7 +1,7 @@
--- Weakly increasing words in the letters 1, .., n + k: letters up to n, followed by letters that are greater than n, which are letters from 1 to k
--- raised by n.
-use Rattle.std.proofs.Common.{◌≡◌, ℕ, zero, suc, ◌+◌, ◌-◌, ◌<◌, ◌≤◌, ◌⊎◌, inl, inr, nat_le, Bool, true, false, ◌&&◌, cond, List, [], ◌∷◌, ◌++◌, map, length, min, refl, sym, ap, ap₂, subst, ◌∙◌, arith, ℤ, pos, ◌+ℤ◌, flat_map}
-use Rattle.std.proofs.lemmas.Bool.{cases_lt, le-leb, lt-leb}
+-- A weakly increasing word in the letters 1, .., n + k consists of a word in the letters 1, .., n followed by a word in the letters n + 1, .., n + k.
+-- The second word is a word in the letters 1, .., k with each letter raised by n.
+use Rattle.std.proofs.Common.{◌≡◌, ℕ, zero, suc, ◌+◌, ◌-◌, ◌<◌, ◌≤◌, inl, inr, nat_le, Bool, true, false, ◌&&◌, cond, List, [], ◌∷◌, ◌++◌, map, length, min, refl, sym, ap, ap₂, subst, ◌∙◌, arith, ℤ, pos, ◌+ℤ◌, flat_map, rules}
+use Rattle.std.proofs.lemmas.Bool.{le-leb, lt-leb}
 use Rattle.std.proofs.lemmas.Int.{ints}
 use Rattle.sym_model.specs.Sum.{total, Among}
 use Rattle.sym_model.specs.Partition.{after}
@@ -29,10 +29,7 @@ raised_by n w = map (λ j. n + j) w
 -- ---- sums over the weakly increasing words, and over all words
 
 pub total_rising : (n x b : ℕ) (f : List ℕ → ℤ) → total f (rising_words n x (suc b)) ≡ total (λ y. cond (nat_le x y) (total (λ w. f (y ∷ w)) (rising_words n y b)) (pos 0)) (after 0 n)
-total_rising n x b f =
-    total_each f (λ y. cond (nat_le x y) (map (λ w. y ∷ w) (rising_words n y b)) []) (after 0 n)
-    ∙ total_ext (λ y. total f (cond (nat_le x y) (map (λ w. y ∷ w) (rising_words n y b)) [])) (λ y. cond (nat_le x y) (total (λ w. f (y ∷ w)) (rising_words n y b)) (pos 0))
-    (λ y. total_listed (nat_le x y) f (map (λ w. y ∷ w) (rising_words n y b)) ∙ ap (λ z. cond (nat_le x y) z (pos 0)) (total_map f (λ w. y ∷ w) (rising_words n y b))) (after 0 n)
+total_rising n x b f = search (rules, total_each, total_ext, total_listed, total_map)
 
 rising_of_words : (n x b : ℕ) (f : List ℕ → ℤ) → total (λ w. cond (row_rises (x ∷ w)) (f w) (pos 0)) (words n b) ≡ total f (rising_words n x b)
 rising_of_words n x zero f = refl
@@ -46,12 +43,7 @@ rising_of_words n x (suc b) f =
     ∙ sym (total_rising n x b f)
 
 pub total_rising_words : (n b : ℕ) (f : List ℕ → ℤ) → total (λ w. cond (row_rises w) (f w) (pos 0)) (words n b) ≡ total f (rising_words n 0 b)
-total_rising_words n b f =
-    total_ext (λ w. cond (row_rises w) (f w) (pos 0)) (λ w. cond (row_rises (0 ∷ w)) (f w) (pos 0)) (λ w. ap (λ t. cond t (f w) (pos 0)) (from_zero w)) (words n b) ∙ rising_of_words n 0 b f
-  where
-    from_zero : (w : List ℕ) → row_rises w ≡ row_rises (0 ∷ w)
-    from_zero [] = refl
-    from_zero (a ∷ w) = sym (ap (λ t. t && row_rises (a ∷ w)) (le-leb 0 a (omega arith)))
+total_rising_words n b f = search (rules, total_ext, rising_of_words, le-leb)
 
 -- w is a word of b letters, each from 1 to n
 pub record IsWord (n b : ℕ) (w : List ℕ) : Type 0 where
@@ -77,9 +69,7 @@ rising-tells n x (suc b) w m =
 
 pub after_shift : (n a k : ℕ) → after (n + a) k ≡ map (λ j. n + j) (after a k)
 after_shift n a zero = refl
-after_shift n a (suc k) =
-    let e : n + a + 1 ≡ n + (a + 1) = omega arith in
-    ap₂ ◌∷◌ e (ap (λ i. after i k) e ∙ after_shift n (a + 1) k)
+after_shift n a (suc k) = search (rules, (after_shift n (a + 1) k))
 
 total_letters : (n k : ℕ) (g : ℕ → ℤ) → total g (after 0 (n + k)) ≡ total g (after 0 n) +ℤ total (λ j. g (n + j)) (after 0 k)
 total_letters n k g =
@@ -87,14 +77,8 @@ total_letters n k g =
     ∙ total_append g (after 0 n) (map (λ j. n + j) (after 0 k)) ∙ ap (λ z. total g (after 0 n) +ℤ z) (total_map g (λ j. n + j) (after 0 k))
 
 raise-le : (n x j : ℕ) → nat_le (n + x) (n + j) ≡ nat_le x j
-raise-le n x j = by (cases_lt j x)
-  where
-    by : (j < x) ⊎ (x ≤ j) → nat_le (n + x) (n + j) ≡ nat_le x j
-    by (inl l) = lt-leb (n + x) (n + j) (omega arith) ∙ sym (lt-leb x j l)
-    by (inr l) = le-leb (n + x) (n + j) (omega arith) ∙ sym (le-leb x j l)
+raise-le n x j = search rules
 
--- if x > 0, the sum of g over the weakly increasing words of b letters from n + x to n + k is the sum of g(w with each letter raised by n) over those
--- of b letters from x to k
 rising_after : (n k b x : ℕ) (g : List ℕ → ℤ) → 0 < x → total g (rising_words (n + k) (n + x) b) ≡ total (λ w. g (raised_by n w)) (rising_words k x b)
 rising_after n k zero x g h = refl
 rising_after n k (suc b) x g h =
@@ -109,7 +93,7 @@ rising_after n k (suc b) x g h =
     ∙ +ℤ_idl (total (λ j. cond (nat_le x j) (total (λ w. g (raised_by n (j ∷ w))) (rising_words k j b)) (pos 0)) (after 0 k))
     ∙ sym (total_rising k x b (λ w. g (raised_by n w)))
 
--- ---- sums over 1, .., a + 1; sums over weakly increasing words, split into their letters up to n and their greater letters
+-- ---- sums over weakly increasing words, split into their letters up to n and their greater letters
 
 total_next : (a : ℕ) (g : ℕ → ℤ) → total g (after 0 (suc a)) ≡ total (λ b. g (suc b)) (up_to a)
 total_next a g =
@@ -159,7 +143,6 @@ total_cut_words n k (suc a) x f h =
         (λ b. ap (λ i. total (cut_sum n k f i) (rising_words n x (suc b))) (let e : a - b ≡ suc a - suc b = omega arith in e)) (up_to a)
         ∙ sym (total_next a (λ b. total (cut_sum n k f (suc a - b)) (rising_words n x b)))
 
--- the sum of g over the numbers b ≤ a with b ≤ c is the sum of g over the numbers up to min(a, c)
 pub total_up_to : (a c : ℕ) (g : ℕ → ℤ) → total (λ b. cond (nat_le b c) (g b) (pos 0)) (up_to a) ≡ total g (up_to (min a c))
 total_up_to a c g = ap₂ ◌+ℤ◌ (ap (λ t. cond t (g 0) (pos 0)) (le-leb 0 c (omega arith))) (ap (λ i. total (λ b. cond (nat_le b i) (g b) (pos 0)) (after 0 a)) (let e : c ≡ 0 + c = omega arith in e) ∙ from 0 a c)
   where

@@ -1,5 +1,5 @@
--- Lists of terms in m with Kostka numbers as coefficients, and bounds of Kostka numbers.
---     list-schur            a list in m whose coefficients are the Kostka numbers of λ is s_λ
+-- Lists of terms in the basis m of monomial symmetric polynomials whose coefficients are Kostka numbers, and bounds of Kostka numbers.
+--     list-schur            if the coefficients of a list of terms in m are the Kostka numbers K(λ,κ) of λ, the list is s_λ
 --     kostka-other_size     a Kostka number is 0 if the content does not have the size of the shape
 --     kostka-not_negative, -within     a Kostka number is not negative, and is at most d^d for the size d of the shape, or 1 if d = 0
 --     kostka-ones           each shape has at least one standard tableau
@@ -31,9 +31,6 @@ use Rattle.schur_laws.specs.Kostka.{below, strips_off, kostka}
 use Rattle.schur_laws.proofs.Exchanged.{coefficient-sorted}
 use Rattle.schur_laws.proofs.KostkaNumbers.{Among-below, partition_tail, strips_off-tell, coefficient-kostka}
 
--- ---- the coefficients of s_λ depend only on the sorted exponents
-
--- let κ, with r parts, be α sorted and without its zeros: the coefficient of x^α in s_λ in n variables is that of x^κ in s_λ in r variables
 coefficient-schur_sorted : (n : ℕ) (parts α : List ℕ) → IsPartition parts → length α ≡ n
     → coefficient (schur parts n) α ≡ coefficient (schur parts (length (sorted_parts α))) (sorted_parts α)
 coefficient-schur_sorted n parts α p long =
@@ -56,7 +53,7 @@ list-schur parts terms p h n =
     ∙ coefficient-kostka parts (sorted_parts α) p
     ∙ sym (coefficient-schur_sorted n parts α p long))
 
--- ---- Kostka numbers are 0 for contents of another size, are not negative, and are at most d^d (`growth` of m at d) for the size d of the shape
+-- ---- Kostka numbers are 0 for contents of another size, are not negative, and are at most d^d (or 1 if d = 0) for the size d of the shape
 
 pub kostka-other_size : (parts content : List ℕ) → IsPartition parts → (size content ≡ size parts → ⊥) → kostka parts content ≡ pos 0
 kostka-other_size [] [] p h = absurd (h refl)
@@ -82,8 +79,6 @@ kostka-within parts content p =
   where
     one_times : (a b : ℕ) → a ≤ 1 * b → a ≤ b
     one_times a b h = omega arith
-
--- ---- each shape has a standard tableau
 
 -- if k is at most the number of columns of a partition, some horizontal strip of k cells can be removed from it
 pub some_strip : (k : ℕ) (parts : List ℕ) → k ≤ part parts 1 → IsPartition parts → (rest : List ℕ) × Among rest (strips_off k parts)

@@ -1,5 +1,5 @@
 -- The weakly increasing word in which each letter occurs a given number of times.
-use Rattle.std.proofs.Common.{◌≡◌, ℕ, zero, suc, ◌+◌, ◌<◌, ◌≤◌, ◌==◌, true, cond, List, [], ◌∷◌, ◌++◌, replicate, get_or, nat_le, sym, ◌∙◌, ap, refl, arith}
+use Rattle.std.proofs.Common.{◌≡◌, ℕ, zero, suc, ◌+◌, ◌<◌, ◌≤◌, ◌==◌, true, cond, List, [], ◌∷◌, ◌++◌, replicate, get_or, nat_le, sym, refl, arith, rules}
 use Rattle.std.proofs.lemmas.Bool.Decides.{nat_tests}
 use Rattle.std.proofs.lemmas.Bool.{and_from, le-leb}
 use Rattle.std.proofs.lemmas.List.{get_or_past}
@@ -28,32 +28,13 @@ spelled_rises a counts = rises_rest a (spelled a counts) (spelled_after a a coun
 
 times_in_run : (x a k : ℕ) → times_in x (replicate k a) ≡ cond {A = ℕ} (a == x) k 0
 times_in_run x a zero = let f : 0 ≡ cond {A = ℕ} (a == x) 0 0 = grind (arith, nat_tests) in f
-times_in_run x a (suc k) =
-    let e = times_in_run x a k in
-    let f : cond {A = ℕ} (a == x) 1 0 + cond {A = ℕ} (a == x) k 0 ≡ cond {A = ℕ} (a == x) (suc k) 0 = grind (arith, nat_tests) in
-    omega arith
+times_in_run x a (suc k) = search (rules, nat_tests, (times_in_run x a k))
 
 none_before : (x a : ℕ) (counts : List ℕ) → x < a → times_in x (spelled a counts) ≡ 0
 none_before x a [] l = refl
-none_before x a (k ∷ counts) l =
-    let e = times_in-append x (replicate k a) (spelled (suc a) counts) in
-    let f = times_in_run x a k in
-    let g : cond {A = ℕ} (a == x) k 0 ≡ 0 = grind (arith, nat_tests) in
-    let h = none_before x (suc a) counts (omega arith) in
-    omega arith
+none_before x a (k ∷ counts) l = search (rules, times_in-append, times_in_run, nat_tests, (none_before x (suc a) counts (omega arith)))
 
 pub times_spelled : (a i : ℕ) (counts : List ℕ) → times_in (a + i) (spelled a counts) ≡ get_or counts i 0
 times_spelled a i [] = sym (get_or_past [] i 0 (omega arith))
-times_spelled a zero (k ∷ counts) =
-    let e = times_in-append (a + 0) (replicate k a) (spelled (suc a) counts) in
-    let f = times_in_run (a + 0) a k in
-    let g : cond {A = ℕ} (a == a + 0) k 0 ≡ k = grind (arith, nat_tests) in
-    let h = none_before (a + 0) (suc a) counts (omega arith) in
-    omega arith
-times_spelled a (suc i) (k ∷ counts) =
-    let e = times_in-append (a + suc i) (replicate k a) (spelled (suc a) counts) in
-    let f = times_in_run (a + suc i) a k in
-    let g : cond {A = ℕ} (a == a + suc i) k 0 ≡ 0 = grind (arith, nat_tests) in
-    let d : a + suc i ≡ suc a + i = omega arith in
-    let h = ap (λ x. times_in x (spelled (suc a) counts)) d ∙ times_spelled (suc a) i counts in
-    omega arith
+times_spelled a zero (k ∷ counts) = search (rules, times_in-append, times_in_run, nat_tests, none_before)
+times_spelled a (suc i) (k ∷ counts) = search (rules, times_in-append, times_in_run, nat_tests, (times_spelled (suc a) i counts))

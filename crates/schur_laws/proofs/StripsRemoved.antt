@@ -3,8 +3,8 @@
 --     removals            the shapes that remain if a horizontal strip is removed, with empty rows kept, each with the number of cells of the strip
 --     ended_content       the content of a row that is followed by letters n + 1
 --     over_rows-greatest  sums over the tableaux with letters up to n + 1, as sums over tableaux with letters up to n
-use Rattle.std.proofs.Common.{◌≡◌, ℕ, zero, suc, ◌+◌, ◌-◌, ◌<◌, ◌≤◌, Bool, true, false, cond, ◌&&◌, List, [], ◌∷◌, ◌++◌, map, length, replicate, nat_le, nat_lt, sym, ◌∙◌, ap, ap₂, refl, arith, ℤ, pos, ◌+ℤ◌, append-nil, flat_map}
-use Rattle.std.proofs.lemmas.Bool.{le-leb, lt-leb, lt-ltb, ne_eqb, eq-eqb, leb-true, le-ltb}
+use Rattle.std.proofs.Common.{◌≡◌, ℕ, zero, suc, ◌+◌, ◌-◌, ◌<◌, ◌≤◌, Bool, true, false, cond, ◌&&◌, List, [], ◌∷◌, ◌++◌, map, length, replicate, nat_le, sym, ◌∙◌, ap, ap₂, refl, arith, ℤ, pos, ◌+ℤ◌, append-nil, flat_map, rules}
+use Rattle.std.proofs.lemmas.Bool.{le-leb, lt-leb, lt-ltb, ne_eqb, eq-eqb, leb-true}
 use Rattle.std.proofs.lemmas.List.{map-append, length-replicate}
 use Rattle.sym_model.specs.Sum.{total}
 use Rattle.sym_model.specs.Partition.{Falls, part, after}
@@ -57,24 +57,14 @@ content-greatest : (n : ℕ) (w : List ℕ) → content (suc n) w ≡ content n 
 content-greatest n w = ap (map (λ (k : ℕ). times_in k w)) (after_zero-last n) ∙ map-append (λ (k : ℕ). times_in k w) (after 0 n) (suc n ∷ [])
 
 pub ended_content : (n i : ℕ) (v : List ℕ) → AreLetters n v → content (suc n) (ended n i v) ≡ content n v ++ (i ∷ [])
-ended_content n i v h = content-greatest n (ended n i v) ∙ ap₂ (λ (κ : List ℕ) (k : ℕ). κ ++ (k ∷ [])) others greatest
-  where
-    others : content n (ended n i v) ≡ content n v
-    others =
-        map-among (λ k. times_in k (ended n i v)) (λ k. times_in k v) (after 0 n)
-        (λ k m. let b = after_among 0 n k m in let l = b.1 in
-        times_in-append k v (replicate i (suc n)) ∙ omega (arith, times_in-others k (suc n) i (λ e. absurd (omega arith))))
-
-    greatest : times_in (suc n) (ended n i v) ≡ i
-    greatest = times_in-append (suc n) v (replicate i (suc n)) ∙ omega (arith, times_in-higher n (suc n) v h (omega arith), times_in-itself (suc n) i)
+ended_content n i v h =
+    search (rules, content-greatest, ended, map-among, after_among, times_in-append, times_in-others, times_in-higher, times_in-itself)
 
 join-last : (β γ : List ℕ) (i j : ℕ) → length β ≡ length γ → join (β ++ (i ∷ [])) (γ ++ (j ∷ [])) ≡ join β γ ++ ((i + j) ∷ [])
 join-last [] [] i j e = refl
 join-last [] (c ∷ γ) i j e = absurd (omega arith)
 join-last (b ∷ β) [] i j e = absurd (omega arith)
 join-last (b ∷ β) (c ∷ γ) i j e = ap (λ l. (b + c) ∷ l) (join-last β γ i j (omega arith))
-
--- ---- the columns of two rows that end with letters n + 1, the other letters being at most n
 
 -- let `upper` be followed by c letters n + 1, and v, in the row below, by i letters n + 1, so that the lower row is not longer. The columns of these
 -- two rows are strictly increasing if and only if those of `upper` and v are, and length v + i ≤ length upper
@@ -83,14 +73,9 @@ columns_rise-ended : (n c i : ℕ) (upper v : List ℕ) → AreAtMost n upper �
 columns_rise-ended n zero zero [] [] u h l = refl
 columns_rise-ended n (suc c) zero [] [] u h l = refl
 columns_rise-ended n zero (suc i) [] [] u h l = absurd (omega arith)
-columns_rise-ended n (suc c) (suc i) [] [] u h l =
-    ap (λ b. b && columns_rise (replicate c (suc n)) (replicate i (suc n))) (le-ltb (suc n) (suc n) (omega arith))
-    ∙ ap (λ b. b && true) (sym (lt-leb (0 + suc i) 0 (omega arith)))
+columns_rise-ended n (suc c) (suc i) [] [] u h l = search rules
 columns_rise-ended n zero i [] (b ∷ v) u h l = absurd (omega arith)
-columns_rise-ended n (suc c) i [] (b ∷ v) u h l =
-    let k = h.0.1 in
-    ap (λ t. t && columns_rise (replicate c (suc n)) (ended n i v)) (le-ltb (suc n) b (omega arith))
-    ∙ ap (λ t. t && true) (sym (lt-leb (suc (length v) + i) 0 (omega arith)))
+columns_rise-ended n (suc c) i [] (b ∷ v) u h l = search rules
 columns_rise-ended n c zero (a ∷ upper) [] u h l = ap (λ t. t && true) (sym (le-leb (0 + 0) (suc (length upper)) (omega arith)))
 columns_rise-ended n c (suc i) (a ∷ upper) [] u h l =
     let k = u.0 in
@@ -98,11 +83,7 @@ columns_rise-ended n c (suc i) (a ∷ upper) [] u h l =
     ∙ columns_rise-ended n c i upper [] u.1 tt (omega arith)
     ∙ ap₂ (λ (s t : Bool). s && t) (tests_agree (nat_le (0 + i) (length upper)) (nat_le (0 + suc i) (suc (length upper))) (λ e. le-leb (0 + suc i) (suc (length upper)) (let m = leb-true (0 + i) (length upper) e in omega arith)) (λ e. le-leb (0 + i) (length upper) (let m = leb-true (0 + suc i) (suc (length upper)) e in omega arith))) (columns_rise-nothing upper)
 columns_rise-ended n c i (a ∷ upper) (b ∷ v) u h l =
-    ap (λ t. nat_lt a b && t) (columns_rise-ended n c i upper v u.1 h.1 (omega arith))
-    ∙ and_middle (nat_lt a b) (nat_le (length v + i) (length upper)) (columns_rise upper v)
-    ∙ ap (λ t. t && (nat_lt a b && columns_rise upper v)) (tests_agree (nat_le (length v + i) (length upper)) (nat_le (suc (length v) + i) (suc (length upper))) (λ e. le-leb (suc (length v) + i) (suc (length upper)) (let m = leb-true (length v + i) (length upper) e in omega arith)) (λ e. le-leb (length v + i) (length upper) (let m = leb-true (suc (length v) + i) (suc (length upper)) e in omega arith)))
-
--- ---- sums over weakly increasing rows: a condition that does not depend on the row, or another sum, is moved out
+    search (rules, and_middle, tests_agree, le-leb, leb-true, (columns_rise-ended n c i upper v u.1 h.1 (omega arith)))
 
 rising-under : (n k : ℕ) (b : Bool) (f : List ℕ → ℤ) → over_rising n k (λ v. cond b (f v) (pos 0)) ≡ cond b (over_rising n k f) (pos 0)
 rising-under n k true f = refl
@@ -122,20 +103,18 @@ four false q s f xs = refl
 
 -- ---- sums over tableaux with letters up to n + 1, by the tableau without the letters n + 1
 
--- for each row `upper` of letters up to n, and each c: the sum of φ(content) over the tableaux of the shape `parts` with letters up to n + 1 that can
--- be below the row of `upper` and c letters n + 1 is a double sum, over the ways to remove a horizontal strip from `parts`, and over the tableaux of
--- the shape that remains with letters up to n that can be below `upper`, of φ(content, cells of the strip); it is 0 if the first row of `parts` is
--- longer than `upper`
+-- the statement that the letters n + 1 in the tableaux of the shape `parts` form a horizontal strip. Let R be the row `upper` of letters up to n and
+-- then c letters n + 1. The sum of φ(content) over the tableaux below R is the sum of φ(content, size of the strip) over the strips that can be taken
+-- from `parts`, and the tableaux of the remaining shape below `upper`; it is 0 if the first row of `parts` is longer than `upper`
 abbrev LosesGreatest : ℕ → List ℕ → Type 0
 LosesGreatest n parts =
     (c : ℕ) (upper : List ℕ) (φ : List ℕ → ℤ) → AreAtMost n upper → Falls parts → part parts 1 ≤ length upper + c
     → over_rows (suc n) (ended n c upper) parts φ
     ≡ cond (nat_le (part parts 1) (length upper)) (total (λ (r : List ℕ × ℕ). over_rows n upper r.0 (λ γ. φ (γ ++ (r.1 ∷ [])))) (removals parts)) (pos 0)
 
--- let `LosesGreatest` hold of `parts`. The sum over the tableaux whose first row is v followed by i letters n + 1, of length a, and whose other rows
--- have the shape `parts`, and which can be below the row of `upper` and c letters n + 1, is a double sum: over the ways to remove a horizontal strip
--- from `parts`, and over the tableaux of the shape that remains that can be below v. It is 0 if a exceeds the length of `upper`, or the first part of
--- `parts` that of v
+-- the induction step of `LosesGreatest` for a first row of length a that is v followed by i letters n + 1. The sum over the tableaux with this first
+-- row and other rows of the shape `parts` is a sum over the horizontal strips that can be taken from `parts`, and over the tableaux of the remaining
+-- shape below v. It is 0 if a exceeds the length of `upper`, or if the first part of `parts` exceeds a - i
 row_ended : (n c i a : ℕ) (upper v parts : List ℕ) (φ : List ℕ → ℤ) → LosesGreatest n parts → AreAtMost n upper → Falls (a ∷ parts) → a ≤ length upper + c → i ≤ a
     → length v ≡ a - i → AreLetters n v
     → cond (columns_rise (ended n c upper) (ended n i v)) (over_rows (suc n) (ended n i v) parts (λ γ. φ (join (content (suc n) (ended n i v)) γ))) (pos 0)
@@ -153,7 +132,6 @@ row_ended n c i a upper v parts φ rec u f l h e m =
     (removals parts)))
     ∙ four (nat_le a (length upper)) (columns_rise upper v) (nat_le (part parts 1) (a - i)) (λ (r : List ℕ × ℕ). over_rows n v r.0 (λ γ. φ (join (content n v) γ ++ ((i + r.1) ∷ [])))) (removals parts)
 
--- if p ≤ a, the sum of g(i) over the numbers i ≤ a with p ≤ a - i is the sum over the numbers i ≤ a - p
 total_greatest : (a p : ℕ) (g : ℕ → ℤ) → p ≤ a → total (λ (i : ℕ). cond (nat_le p (a - i)) (g i) (pos 0)) (down_from a) ≡ total g (down_from (a - p))
 total_greatest a p g h =
     ap (λ d. total f (down_from d)) (let e : a ≡ p + (a - p) = omega arith in e)

@@ -1,7 +1,8 @@
 -- Polynomials that are symmetric.
---     symmetric-monomials                         the sum of the monomials that pass a test, if exchanges of neighbours do not change the test
+--     symmetric-monomials                         the sum of the monomials whose exponents pass a test, if exchanging two neighbouring exponents
+--                                                 does not change the result of the test
 --     symmetric-plus, -scale, -negate, -times     sums, multiples, negatives and products of symmetric polynomials
-use Rattle.std.proofs.Common.{◌≡◌, ℕ, zero, suc, ◌==◌, Bool, false, ◌&&◌, cond, eqb, nat_le, ℤ, pos, neg_ℤ, ◌+ℤ◌, ◌*ℤ◌, List, [], ◌∷◌, ◌++◌, length, replicate, refl, sym, ◌∙◌, ap, ap₂}
+use Rattle.std.proofs.Common.{◌≡◌, ℕ, zero, suc, ◌==◌, Bool, false, ◌&&◌, cond, nat_le, ℤ, pos, neg_ℤ, ◌+ℤ◌, ◌*ℤ◌, List, [], ◌∷◌, ◌++◌, length, replicate, refl, sym, ◌∙◌, ap, rules}
 use Rattle.sym_model.specs.Polynomial.{Poly, same, coefficient, In, one, plus, scale, negate, times, join, pair}
 use Rattle.sym_model.specs.Partition.{sorted_parts}
 use Rattle.sym_model.specs.Bases.{monomials, at_most_one}
@@ -20,14 +21,9 @@ abbrev pub SeesNoExchange : (List ℕ → Bool) → Type 0
 SeesNoExchange test = (left : List ℕ) (a b : ℕ) (right : List ℕ) → test (left ++ (a ∷ b ∷ right)) ≡ test (left ++ (b ∷ a ∷ right))
 
 pub symmetric-monomials : (test : List ℕ → Bool) (n d : ℕ) → SeesNoExchange test → Symmetric (monomials test n d)
-symmetric-monomials test n d e left a b right =
-    coefficient-monomials test n d (left ++ (a ∷ b ∷ right))
-    ∙ ap₂ (λ (x y : Bool). cond x (cond y (pos 1) (pos 0)) (pos 0))
-    (ap₂ (λ k l. eqb k n && eqb l d) (length-exchange left a b right) (size-exchange left a b right))
-    (e left a b right)
-    ∙ sym (coefficient-monomials test n d (left ++ (b ∷ a ∷ right)))
+symmetric-monomials test n d e left a b right = search (rules, coefficient-monomials, length-exchange, size-exchange)
 
--- ---- tests whose result does not change if neighbours are exchanged
+-- ---- tests whose result does not change if two neighbouring entries are exchanged
 
 pub sorts_to-exchange : (parts : List ℕ) → SeesNoExchange (λ α. same (sorted_parts α) parts)
 sorts_to-exchange parts left a b right = ap (λ (l : List ℕ). same l parts) (sorted-exchange left a b right)
@@ -36,13 +32,8 @@ pub at_most_one-exchange : SeesNoExchange at_most_one
 at_most_one-exchange [] a b right = and_middle (nat_le a 1) (nat_le b 1) (at_most_one right)
 at_most_one-exchange (c ∷ left) a b right = ap (λ t. nat_le c 1 && t) (at_most_one-exchange left a b right)
 
--- ---- sums, multiples and products of symmetric polynomials
-
 pub symmetric-plus : (f g : Poly) → Symmetric f → Symmetric g → Symmetric (plus f g)
-symmetric-plus f g s t left a b right =
-    coefficient_plus f g (left ++ (a ∷ b ∷ right))
-    ∙ ap₂ ◌+ℤ◌ (s left a b right) (t left a b right)
-    ∙ sym (coefficient_plus f g (left ++ (b ∷ a ∷ right)))
+symmetric-plus f g s t left a b right = search (rules, coefficient_plus)
 
 pub symmetric-scale : (c : ℤ) (f : Poly) → Symmetric f → Symmetric (scale c f)
 symmetric-scale c f s left a b right =
@@ -52,7 +43,6 @@ pub symmetric-negate : (f : Poly) → Symmetric f → Symmetric (negate f)
 symmetric-negate f s left a b right =
     coefficient_negate f (left ++ (a ∷ b ∷ right)) ∙ ap neg_ℤ (s left a b right) ∙ sym (coefficient_negate f (left ++ (b ∷ a ∷ right)))
 
--- if f and g are symmetric, the coefficient of f·g at γ is that at γ with the entries at the places k and k + 1 exchanged
 times-exchanged : (n k : ℕ) (f g : Poly) (γ : List ℕ) → In n f → In n g → Symmetric f → Symmetric g
     → coefficient (times f g) (exchanged k γ) ≡ coefficient (times f g) γ
 times-exchanged n k f g γ i j s t =
@@ -70,8 +60,6 @@ pub symmetric-times : (n : ℕ) (f g : Poly) → In n f → In n g → Symmetric
 symmetric-times n f g i j s t left a b right =
     sym (times-exchanged n (length left) f g (left ++ (a ∷ b ∷ right)) i j s t)
     ∙ ap (coefficient (times f g)) (exchanged_at left a b right)
-
--- ---- the polynomial 1 is symmetric
 
 zeros-exchange : (n : ℕ) → SeesNoExchange (λ α. same (replicate n 0) α)
 zeros-exchange zero [] a b right = refl

@@ -1,9 +1,11 @@
--- Good tableaux, described row by row by the letters of their padded rows.
-use Rattle.std.proofs.Common.{◌≡◌, ℕ, zero, suc, ◌+◌, ◌-◌, ◌<◌, ◌≤◌, ◌⊎◌, ◌==◌, true, cond, ◌&&◌, List, [], ◌∷◌, length, replicate, drop, get_or, nat_le, sym, ◌∙◌, ap, subst, refl, inl, inr, arith}
+-- Good tableaux, described row by row by the letters of their padded rows. A tableau is good for the partition `start` if, for each column, start
+-- plus the content of this column and of the columns to its right is a partition. A padded row begins with a zero for each cell of the inner
+-- partition.
+use Rattle.std.proofs.Common.{◌≡◌, ℕ, zero, suc, ◌+◌, ◌-◌, ◌<◌, ◌≤◌, ◌⊎◌, ◌==◌, true, cond, ◌&&◌, List, [], ◌∷◌, length, replicate, drop, get_or, nat_le, sym, ◌∙◌, ap, subst, refl, inl, inr, arith, rules}
 use Rattle.std.proofs.lemmas.Bool.Decides.{nat_tests}
 use Rattle.std.proofs.lemmas.Bool.{cases_lt, and_parts, and_from, le-leb}
 use Rattle.std.proofs.lemmas.List.{get_or_past, get_or-drop}
-use Rattle.sym_model.specs.Schur.{times_in, letters_of, content}
+use Rattle.sym_model.specs.Schur.{times_in, letters_of}
 use Rattle.sym_model.specs.GoodTableau.{is_falling}
 use Rattle.sym_model.proofs.Exponents.{get_or-join}
 use Rattle.sym_model.proofs.Contents.{times_in-append}
@@ -21,7 +23,7 @@ use Rattle.tableau_laws.proofs.Contents.{times_in-put}
 abbrev pub row : List (List ℕ) → ℕ → List ℕ
 row P r = get_or P r []
 
--- ---- the numbers of zeros and of letters in a padded row, none of whose letters is greater than n (`RowCounts`)
+-- ---- the numbers of zeros and of letters in a padded row (`RowCounts`)
 
 pub record RowCounts (n b k : ℕ) (w : List ℕ) : Type 0 where
   pub zeros : times_in 0 w ≡ b
@@ -32,26 +34,12 @@ cells_tell : (n k : ℕ) (w : List ℕ) → Fits n (replicate k true) w → RowC
 cells_tell n zero [] f = record { zeros = refl; long = refl; letters = λ x l. refl }
 cells_tell n zero (a ∷ w) f = absurd f
 cells_tell n (suc k) [] f = absurd f
-cells_tell n (suc k) (a ∷ w) f =
-    let c = cells_tell n k w f.1 in
-    let p = f.0 in
-    record {
-      zeros = let e = c.zeros in let q = p.0 in let g : cond {A = ℕ} (a == 0) 1 0 ≡ 0 = grind (arith, nat_tests) in omega arith;
-      long = let e = c.long in omega arith;
-      letters = λ x l. let e = c.letters x l in let q = p.1 in let g : cond {A = ℕ} (a == x) 1 0 ≡ 0 = grind (arith, nat_tests) in omega arith;
-    }
+cells_tell n (suc k) (a ∷ w) f = search (rules, nat_tests, (cells_tell n k w f.1))
 
 pub line_tells : (n b k : ℕ) (w : List ℕ) → Fits n (line_of b k) w → RowCounts n b k w
 line_tells n zero k w f = cells_tell n k w f
 line_tells n (suc b) k [] f = absurd f
-line_tells n (suc b) k (a ∷ w) f =
-    let c = line_tells n b k w f.1 in
-    let p = f.0 in
-    record {
-      zeros = let e = c.zeros in let g : cond {A = ℕ} (a == 0) 1 0 ≡ 1 = grind (arith, nat_tests) in omega arith;
-      long = let e = c.long in omega arith;
-      letters = λ x l. let e = c.letters x l in let g : cond {A = ℕ} (a == x) 1 0 ≡ 0 = grind (arith, nat_tests) in omega arith;
-    }
+line_tells n (suc b) k (a ∷ w) f = search (rules, nat_tests, (line_tells n b k w f.1))
 
 cells_back : (n k : ℕ) (w : List ℕ) → RowCounts n 0 k w → Fits n (replicate k true) w
 cells_back n zero [] c = tt
@@ -94,10 +82,7 @@ pub fit_at : (n : ℕ) (outer inner : List ℕ) (P : List (List ℕ)) → AllFit
 fit_at n [] inner P f r l = absurd (omega arith)
 fit_at n (a ∷ outer) inner [] f r l = absurd f
 fit_at n (a ∷ outer) inner (w ∷ P) f zero l = f.0
-fit_at n (a ∷ outer) inner (w ∷ P) f (suc r) l =
-    let e = get_or-drop 1 inner r 0 in
-    let d : 1 + r ≡ suc r = omega arith in
-    subst (λ b. Fits n (line_of b (get_or outer r 0 - b)) (row P r)) (e ∙ ap (λ i. get_or inner i 0) d) (fit_at n outer (drop 1 inner) P f.1 r (omega arith))
+fit_at n (a ∷ outer) inner (w ∷ P) f (suc r) l = search (rules, get_or-drop, (fit_at n outer (drop 1 inner) P f.1 r (omega arith)))
 
 pub fit_all : (n : ℕ) (outer inner : List ℕ) (P : List (List ℕ)) → length P ≡ length outer
     → ((r : ℕ) → r < length outer → Fits n (line_of (get_or inner r 0) (get_or outer r 0 - get_or inner r 0)) (row P r))
@@ -114,20 +99,13 @@ fit_all n (a ∷ outer) inner (w ∷ P) e h =
         let d : 1 + r ≡ suc r = omega arith in
         subst (λ b. Fits n (line_of b (get_or outer r 0 - b)) (row P r)) (sym (f ∙ ap (λ i. get_or inner i 0) d)) (h (suc r) (omega arith))
 
--- ---- the first of the padded rows; the tests of a tableau, as conditions on its padded rows
-
 first_row : (P : List (List ℕ)) → first_line P ≡ row P 0
 first_row [] = refl
 first_row (w ∷ P) = refl
 
 pub grid_tells : (P : List (List ℕ)) → is_padded_tableau P ≡ true → (r : ℕ) → Rises (row P r) × (pass_by_place may_stand_above (row P r) (row P (suc r)) ≡ true)
-grid_tells [] e r =
-    let f = get_or_past {X = List ℕ} [] r [] (omega arith) in
-    (subst Rises (sym f) refl, subst (λ w. pass_by_place may_stand_above w (row [] (suc r)) ≡ true) (sym f) refl)
-grid_tells (w ∷ P) e zero =
-    let p = and_parts (is_chain nat_le w) (pass_by_place may_stand_above w (first_line P) && is_padded_tableau P) e in
-    let q = and_parts (pass_by_place may_stand_above w (first_line P)) (is_padded_tableau P) p.1 in
-    (p.0, subst (λ v. pass_by_place may_stand_above w v ≡ true) (first_row P) q.0)
+grid_tells [] e r = search rules
+grid_tells (w ∷ P) e zero = search rules
 grid_tells (w ∷ P) e (suc r) =
     let p = and_parts (is_chain nat_le w) (pass_by_place may_stand_above w (first_line P) && is_padded_tableau P) e in
     let q = and_parts (pass_by_place may_stand_above w (first_line P)) (is_padded_tableau P) p.1 in
@@ -140,7 +118,7 @@ grid_back (w ∷ P) h g =
     (and_from (pass_by_place may_stand_above w (first_line P)) (is_padded_tableau P)
     (subst (λ v. pass_by_place may_stand_above w v ≡ true) (sym (first_row P)) (g 0)) (grid_back P (λ r. h (suc r)) (λ r. g (suc r))))
 
--- ---- the letters in the columns after the first j + 1 of a list of padded rows; start plus the content of these columns
+-- ---- the letters in the columns after the first j + 1 of a tableau, and start plus the content of these columns
 
 drop_put : (k j : ℕ) (w : List ℕ) (cs : List (List ℕ))
     → times_in k (letters_of (drop (suc j) (put_row w cs))) ≡ times_in k (drop (suc j) w) + times_in k (letters_of (drop (suc j) cs))
@@ -176,11 +154,7 @@ good_back n start (c ∷ cs) h = and_from (is_falling (sum_reached n start (c �
 
 pub sum_at : (n : ℕ) (start : List ℕ) (cs : List (List ℕ)) → ((k : ℕ) → n < k → times_in k (letters_of cs) ≡ 0) → (i : ℕ)
     → get_or (sum_reached n start cs) i 0 ≡ get_or start i 0 + times_in (suc i) (letters_of cs)
-sum_at n start cs h i = get_or-join start (content n (letters_of cs)) i ∙ ap (λ k. get_or start i 0 + k) (by (cases_lt i n))
-  where
-    by : (i < n) ⊎ (n ≤ i) → get_or (content n (letters_of cs)) i 0 ≡ times_in (suc i) (letters_of cs)
-    by (inl l) = at_content n i (letters_of cs) l
-    by (inr l) = let e = length_content n (letters_of cs) in get_or_past (content n (letters_of cs)) i 0 (omega arith) ∙ sym (h (suc i) (omega arith))
+sum_at n start cs h i = search (rules, get_or-join, cases_lt, at_content, length_content, get_or_past)
 
 pub places_fall : (α : List ℕ) → ((i : ℕ) → get_or α (suc i) 0 ≤ get_or α i 0) → is_falling α ≡ true
 places_fall [] h = refl

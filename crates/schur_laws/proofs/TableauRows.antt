@@ -1,10 +1,11 @@
--- Sums over the semistandard tableaux of a straight shape, row by row from the first on.
+-- Sums over the semistandard tableaux of a straight shape, row by row from the first on. The pairing of a polynomial with a function φ of exponents
+-- is the sum of c·φ(α) over its terms c·x^α.
 --     over_rows               the sum of φ(content) over the tableaux that can be directly below a row `upper`
---     pair-schur_rows         the pairing of φ with a Schur polynomial is `over_rows` of φ with an empty row `upper`
+--     pair-schur_rows         the pairing of a Schur polynomial with φ is `over_rows` of φ with an empty row `upper`
 --     over_rows-ext           the sum depends only on the values of φ at lists of n numbers
 --     over_rows-zeros         empty rows at the end of the shape do not change the sum
 --     over_rows-no_row_above  a row of zeros as `upper` gives the same sum as an empty row
-use Rattle.std.proofs.Common.{◌≡◌, ℕ, zero, suc, Bool, true, false, cond, ◌&&◌, List, [], ◌∷◌, ◌++◌, map, length, replicate, nat_lt, sym, ◌∙◌, ap, ap₂, refl, ℤ, pos}
+use Rattle.std.proofs.Common.{◌≡◌, ℕ, zero, suc, Bool, true, false, cond, ◌&&◌, List, [], ◌∷◌, ◌++◌, map, length, replicate, nat_lt, sym, ◌∙◌, ap, ap₂, refl, ℤ, pos, rules}
 use Rattle.std.proofs.lemmas.Bool.{lt-ltb, and_from}
 use Rattle.std.proofs.Math.Bool.{and-true, and_assoc}
 use Rattle.sym_model.specs.Sum.{total}
@@ -29,7 +30,7 @@ over_rows n upper [] φ = φ (content n [])
 over_rows n upper (a ∷ parts) φ =
     over_rising n a (λ v. cond (columns_rise upper v) (over_rows n v parts (λ γ. φ (join (content n v) γ))) (pos 0))
 
--- ---- the test `semistandard` by the first row and the other rows; the pairing of φ with a Schur polynomial is a sum over rows
+-- ---- the pairing of a Schur polynomial with φ is a sum over rows
 
 semistandard-front : (row : List ℕ) (rows : List (List ℕ)) → semistandard [] (row ∷ rows) ≡ (row_rises row && (columns_rise row (first_line rows) && semistandard [] rows))
 semistandard-front row [] = sym (ap (λ b. row_rises row && (b && true)) (columns_rise-nothing row) ∙ and-true (row_rises row))
@@ -75,9 +76,6 @@ pair-schur_rows n parts φ =
     ∙ ap (λ l. total (λ (rows : List (List ℕ)). cond (semistandard [] rows) (φ (content n (letters_of rows))) (pos 0)) (fillings_of n l)) (row_lengths-none parts)
     ∙ total_below n [] parts φ
 
--- ---- sums over rows with another function φ, with empty rows, and with a row of zeros above
-
--- if φ and ψ agree at all lists of n numbers, `over_rows` has the same value for φ and ψ
 pub over_rows-ext : (n : ℕ) (upper parts : List ℕ) (φ ψ : List ℕ → ℤ) → ((γ : List ℕ) → length γ ≡ n → φ γ ≡ ψ γ) → over_rows n upper parts φ ≡ over_rows n upper parts ψ
 over_rows-ext n upper [] φ ψ h = h (content n []) (length_content n [])
 over_rows-ext n upper (a ∷ parts) φ ψ h =
@@ -86,7 +84,6 @@ over_rows-ext n upper (a ∷ parts) φ ψ h =
     (over_rows-ext n v parts (λ γ. φ (join (content n v) γ)) (λ γ. ψ (join (content n v) γ))
     (λ γ k. h (join (content n v) γ) (length-join_same n (content n v) γ (length_content n v) k))))
 
--- for one row of length 0 below `upper`, the sum has one term, φ at the content of the empty word
 one_empty_row : (n : ℕ) (upper : List ℕ) (φ : List ℕ → ℤ) → over_rows n upper (0 ∷ []) φ ≡ φ (content n [])
 one_empty_row n upper φ =
     rising-none n (λ v. cond (columns_rise upper v) (φ (join (content n v) (content n []))) (pos 0))
@@ -105,7 +102,6 @@ over_rows-zeros n upper (a ∷ parts) φ =
     ∙ rising-ext n a _ _
     (λ v l m. ap (λ z. cond (columns_rise upper v) z (pos 0)) (over_rows-zeros n v parts (λ γ. φ (join (content n v) γ))))
 
--- if the letters of v are from 1 to n, each letter of v is greater than the 0 above it in a row of zeros
 zeros_above : (n m : ℕ) (v : List ℕ) → AreLetters n v → columns_rise (replicate m 0) v ≡ true
 zeros_above n zero v h = refl
 zeros_above n (suc m) [] h = refl
@@ -113,6 +109,4 @@ zeros_above n (suc m) (b ∷ v) h = and_from (nat_lt 0 b) (columns_rise (replica
 
 pub over_rows-no_row_above : (n m : ℕ) (parts : List ℕ) (φ : List ℕ → ℤ) → over_rows n [] parts φ ≡ over_rows n (replicate m 0) parts φ
 over_rows-no_row_above n m [] φ = refl
-over_rows-no_row_above n m (a ∷ parts) φ =
-    rising-ext n a _ _
-    (λ v l h. sym (ap (λ b. cond b (over_rows n v parts (λ γ. φ (join (content n v) γ))) (pos 0)) (zeros_above n m v h)))
+over_rows-no_row_above n m (a ∷ parts) φ = search (rules, rising-ext, zeros_above)

@@ -6,16 +6,22 @@
 //!
 //! What is proved:
 //!
-//! `schur_in_monomials_law`: the coefficients of s_λ in the monomial basis are Kostka numbers,
-//! which count the ways to remove λ by horizontal strips; in every number of variables.
-//! `coproduct_law`: s_λ in two sets of variables, as the sum of s_μ in the first times s_(λ/μ) in
-//! the second. `duality_law`: the number of good tableaux T of λ/μ for the start σ with σ + ω(T) =
-//! τ equals the number of good tableaux U of τ/σ for the start μ with μ + ω(U) = λ, ω being the
-//! content; so coefficients of products are counts of lattice tableaux of skew shapes, and the
-//! factors can be exchanged. `degree_law`: if two families of symmetric polynomials of degree at
-//! most d agree in d variables, they agree in every number of variables; so a list that expands an
-//! expression in d variables expands it in every number of variables, if d is at least the degree
-//! of the expression and the size of each label.
+//! `schur_in_monomials_law`: in every number of variables, the coefficients of s_λ in the monomial
+//! basis are Kostka numbers, which count the ways to remove λ by horizontal strips.
+//!
+//! `coproduct_law`: s_λ in two sets of variables is the sum, over the partitions μ inside λ, of s_μ
+//! in the first set times s_(λ/μ) in the second.
+//!
+//! `duality_law`: a tableau is good for a start σ, a partition, if, for each column, σ plus the
+//! content of that column and of the columns to its right is a partition. The number of good
+//! tableaux T of λ/μ for the start σ with σ + content(T) = τ equals the number of good tableaux U
+//! of τ/σ for the start μ with μ + content(U) = λ. So coefficients of products are counts of
+//! lattice tableaux of skew shapes, and the factors can be exchanged.
+//!
+//! `degree_law`: if two families of symmetric polynomials of degree at most d agree in d variables,
+//! they agree in every number of variables. So a list that expands an expression in d variables
+//! expands it in every number of variables, if d is at least the degree of the expression and the
+//! size of each label of the list.
 #![tactic(auto)]
 
 mod coproduct;

@@ -11,13 +11,14 @@ ghost use Rattle.sym_model.specs.WholeTerms.{WholeTerms};
 ghost use Rattle.monomial_laws.specs.ExpressionTerms.{IsList};
 ghost use Rattle.schur_laws.specs.Kostka.{kostka};
 
-/// A list of terms in m that has the Kostka number K(λ,κ) as its coefficient at each partition κ is
-/// s_λ, in every number of variables. K(λ,κ) is the number of ways to remove all cells of λ by
-/// horizontal strips of κ₁, κ₂, .. cells, one strip after another. It is the coefficient of x^κ in
-/// s_λ, that is, the number of semistandard tableaux of shape λ and content κ, also if κ is not
-/// decreasing. It is at most d^d for the size d of λ, or 1 if d = 0.
+/// If the coefficient of a list of terms in the monomial basis m is, at each partition κ, the
+/// Kostka number K(λ,κ), then the list is s_λ, in every number of variables. K(λ,κ) is the number
+/// of ways to remove all cells of λ by horizontal strips of κ₁, κ₂, .. cells, one strip after
+/// another. It is the coefficient of x^κ in s_λ, that is, the number of semistandard tableaux of
+/// shape λ and content κ, also if κ is not decreasing. It is at most d^d for the size d of λ, or 1
+/// if d = 0.
 ///
-/// Example: two tableaux of shape (2,1) have the content (1,1,1).
+/// Example: K((2,1),(1,1,1)) is 2: two tableaux of shape (2,1) have the content (1,1,1).
 pub fn schur_in_monomials_law()
     ensures expansion { (parts : List ℕ) (terms : WholeTerms) → IsPartition parts
         → ((κ : List ℕ) → IsPartition κ → coefficient terms κ ≡ kostka parts κ)

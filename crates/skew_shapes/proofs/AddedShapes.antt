@@ -1,9 +1,9 @@
 -- The rim hooks that can be added to a partition (specs/AddedHooks).
---     ending_none, ending_one, ending_next    the rim hooks with a given last row (none or one), followed by those with a later last row
---     hooks_added                             `hooks_ending_after` with last = 0 lists all rim hooks, in decreasing lexicographic order
-use Rattle.std.proofs.Common.{◌≡◌, ◌⊎◌, ℕ, suc, ◌+◌, ◌-◌, ◌<◌, ◌≤◌, ◌==◌, max, nat_lt, nat_le, Bool, true, false, ◌||◌, cond, List, [], ◌∷◌, ◌++◌, map, refl, sym, ap, ◌∙◌, subst, inl, inr, arith, flat_map}
-use Rattle.std.proofs.lemmas.Bool.{cases_lt, cases_eq, and_parts, and_from, ltb-true, lt-ltb}
-use Rattle.std.proofs.lemmas.Bool.Decides.{nat_tests}
+--     ending_none, ending_one    the list of the rim hooks with a given last row is empty or has one member
+--     ending_next                this list, followed by the rim hooks with a later last row
+--     hooks_added                `hooks_ending_after` with last = 0 lists all rim hooks, in decreasing lexicographic order
+use Rattle.std.proofs.Common.{◌≡◌, ◌⊎◌, ℕ, suc, ◌+◌, ◌-◌, ◌<◌, ◌≤◌, Bool, true, false, List, [], ◌∷◌, ◌++◌, refl, sym, ap, ◌∙◌, subst, inl, inr, arith, flat_map, rules}
+use Rattle.std.proofs.lemmas.Bool.{cases_lt, cases_eq}
 use Rattle.sym_model.specs.Sum.{Among}
 use Rattle.sym_model.specs.Partition.{Falls, IsPartition, after, part, rows, size}
 use Rattle.sym_model.specs.PartitionList.{FallsLexicographically}
@@ -29,48 +29,17 @@ pub record CanAdd (k : ℕ) (inner : List ℕ) (first last : ℕ) : Type 0 where
   pub below : (first ≡ 1) ⊎ (part inner last + k ≤ part inner (first - 1) + (last - first))
 
 pub can_add-tells : (k : ℕ) (inner : List ℕ) (first last : ℕ) → can_add k inner first last ≡ true → CanAdd k inner first last
-can_add-tells k inner first last e =
-    let p = and_parts (nat_lt (part inner first + (last - first)) (part inner last + k)) (first == 1 || nat_le (part inner last + k) (part inner (first - 1) + (last - first))) e in
-    record { longer = ltb-true (part inner first + (last - first)) (part inner last + k) p.0; below = by (cases_eq first 1) p.1 }
-  where
-    at_most : (a b : ℕ) (c : Bool) → (first ≡ 1 → ⊥) → (first == 1 || nat_le a b) ≡ true → a ≤ b
-    at_most a b c n h = grind (arith, nat_tests)
-
-    by : (first ≡ 1) ⊎ (first ≡ 1 → ⊥) → (first == 1 || nat_le (part inner last + k) (part inner (first - 1) + (last - first))) ≡ true
-        → (first ≡ 1) ⊎ (part inner last + k ≤ part inner (first - 1) + (last - first))
-    by (inl o) h = inl o
-    by (inr n) h = inr (at_most (part inner last + k) (part inner (first - 1) + (last - first)) true n h)
+can_add-tells k inner first last e = search rules
 
 pub can_add-from : (k : ℕ) (inner : List ℕ) (first last : ℕ) → CanAdd k inner first last → can_add k inner first last ≡ true
-can_add-from k inner first last c =
-    and_from (nat_lt (part inner first + (last - first)) (part inner last + k)) (first == 1 || nat_le (part inner last + k) (part inner (first - 1) + (last - first)))
-    (lt-ltb (part inner first + (last - first)) (part inner last + k) c.longer) (by c.below)
-  where
-    one : (b : Bool) → first ≡ 1 → (first == 1 || b) ≡ true
-    one b e = grind (arith, nat_tests)
-
-    at_most : (a b : ℕ) → a ≤ b → (first == 1 || nat_le a b) ≡ true
-    at_most a b h = grind (arith, nat_tests)
-
-    by : (first ≡ 1) ⊎ (part inner last + k ≤ part inner (first - 1) + (last - first)) → (first == 1 || nat_le (part inner last + k) (part inner (first - 1) + (last - first))) ≡ true
-    by (inl e) = one (nat_le (part inner last + k) (part inner (first - 1) + (last - first))) e
-    by (inr h) = at_most (part inner last + k) (part inner (first - 1) + (last - first)) h
+can_add-from k inner first last c = search rules
 
 -- if rim hooks of k cells can be added to inner in the rows first, .., last and in the rows next, .., end with last ≤ end, then first ≤ next
 pub later_begins : (k : ℕ) (inner : List ℕ) (first last next end : ℕ) → Falls inner → 1 ≤ next → first ≤ last → next ≤ end → last ≤ end
     → CanAdd k inner first last → CanAdd k inner next end → first ≤ next
-later_begins k inner first last next end f h o p l c d = by (cases_lt next first) c.below
-  where
-    by : (next < first) ⊎ (first ≤ next) → (first ≡ 1) ⊎ (part inner last + k ≤ part inner (first - 1) + (last - first)) → first ≤ next
-    by (inr m) b = m
-    by (inl m) (inl e) = absurd (omega arith)
-    by (inl m) (inr b) =
-        let x = falls_far inner f last end (omega arith) l in
-        let y = falls_far inner f next (first - 1) h (omega arith) in
-        let z = d.longer in
-        absurd (omega arith)
+later_begins k inner first last next end f h o p l c d = search (rules, cases_lt, falls_far)
 
--- ---- the list `hooks_ending` of the partitions made by adding a rim hook whose last row is `last`: it has at most one partition
+-- ---- the list `hooks_ending` of the partitions with an added rim hook whose last row is `last` has at most one member
 
 pub ending_none : (k : ℕ) (inner : List ℕ) (first last : ℕ) → Falls inner → BeginsFrom k inner first last → first ≤ last
     → (first < last → part inner first + last < part inner last + k + first) → can_add k inner first last ≡ false → hooks_ending k inner last ≡ []
@@ -112,117 +81,39 @@ ending_next k inner last l =
     ap (λ n. flat_map (hooks_ending k inner) (after last n)) (let e : rows inner + k - last ≡ suc (rows inner + k - (last + 1)) = omega arith in e)
 
 pub begins_next : (k : ℕ) (inner : List ℕ) (first last : ℕ) → Falls inner → BeginsFrom k inner first last → BeginsFrom k inner first (last + 1)
-begins_next k inner first last f b = record {
-  counts = b.counts;
-  ordered = (let o = b.ordered in omega arith);
-  passed = λ i l m. (let o = b.ordered in let p = falls_part inner f last (omega arith) in let q = b.passed i l m in omega arith);
-}
+begins_next k inner first last f b = search (rules, falls_part)
 
--- ---- the lengths of the rows of inner with the rim hook added (`added_row`)
+-- ---- the lengths of the rows of inner with a rim hook added (`added_row`)
 
 outside_row : (k : ℕ) (inner : List ℕ) (first last i : ℕ) → (i < first) ⊎ (last < i) → added_row k inner first last i ≡ part inner i
-outside_row k inner first last i h = ap (λ (b : Bool). cond b (part inner i) (cond (i == first) (part inner last + k - (last - first)) (part inner (i - 1) + 1))) (by h)
-  where
-    by : (i < first) ⊎ (last < i) → (nat_lt i first || nat_lt last i) ≡ true
-    by (inl l) = grind (arith, nat_tests)
-    by (inr l) = grind (arith, nat_tests)
-
-within_row : (k : ℕ) (inner : List ℕ) (first last i : ℕ) → first ≤ i → i ≤ last → added_row k inner first last i ≡ cond (i == first) (part inner last + k - (last - first)) (part inner (i - 1) + 1)
-within_row k inner first last i h l =
-    ap (λ (b : Bool). cond b (part inner i) (cond (i == first) (part inner last + k - (last - first)) (part inner (i - 1) + 1)))
-    (let e : (nat_lt i first || nat_lt last i) ≡ false = grind (arith, nat_tests) in e)
+outside_row k inner first last i h = search rules
 
 first_row : (k : ℕ) (inner : List ℕ) (first last : ℕ) → first ≤ last → added_row k inner first last first ≡ part inner last + k - (last - first)
-first_row k inner first last o =
-    within_row k inner first last first (omega arith) o
-    ∙ ap (λ (b : Bool). cond b (part inner last + k - (last - first)) (part inner (first - 1) + 1)) (let e : (first == first) ≡ true = grind (arith, nat_tests) in e)
+first_row k inner first last o = search rules
 
 later_row : (k : ℕ) (inner : List ℕ) (first last i : ℕ) → first < i → i ≤ last → added_row k inner first last i ≡ part inner (i - 1) + 1
-later_row k inner first last i h l =
-    within_row k inner first last i (omega arith) l
-    ∙ ap (λ (b : Bool). cond b (part inner last + k - (last - first)) (part inner (i - 1) + 1)) (let e : (i == first) ≡ false = grind (arith, nat_tests) in e)
+later_row k inner first last i h l = search rules
 
 chained_row : (k : ℕ) (inner : List ℕ) (first last i : ℕ) → first ≤ i → i < last → added_row k inner first last (i + 1) ≡ part inner i + 1
 chained_row k inner first last i h l = later_row k inner first last (i + 1) (omega arith) (omega arith) ∙ ap (λ j. part inner j + 1) (let e : i + 1 - 1 ≡ i = omega arith in e)
 
--- if a rim hook can be added to inner in the rows first, .., last, row `last` becomes longer
 last_row : (k : ℕ) (inner : List ℕ) (first last : ℕ) → Falls inner → 1 ≤ first → first ≤ last → CanAdd k inner first last → part inner last < added_row k inner first last last
-last_row k inner first last f h o c = by (cases_lt first last)
-  where
-    by : (first < last) ⊎ (last ≤ first) → part inner last < added_row k inner first last last
-    by (inl l) =
-        let e = later_row k inner first last last l (omega arith) in
-        let x = falls_far inner f (last - 1) last (omega arith) (omega arith) in
-        omega arith
-    by (inr l) =
-        let d : last ≡ first = omega arith in
-        let e = first_row k inner first last o in
-        let x = c.longer in
-        subst (λ j. part inner last < added_row k inner first last j) (sym d) (let y = ap (part inner) d in omega arith)
+last_row k inner first last f h o c = search (rules, cases_lt, later_row, falls_far, first_row)
 
 rows_falling : (k : ℕ) (inner : List ℕ) (first last : ℕ) → Falls inner → 1 ≤ first → first ≤ last → CanAdd k inner first last
     → (i : ℕ) → 0 < i → added_row k inner first last (i + 1) ≤ added_row k inner first last i
-rows_falling k inner first last f h o c i l = by (cases_lt (i + 1) first) (cases_lt i first) (cases_lt i last) (cases_eq i last) (cases_eq i first)
-  where
-    by : (i + 1 < first) ⊎ (first ≤ i + 1) → (i < first) ⊎ (first ≤ i) → (i < last) ⊎ (last ≤ i) → (i ≡ last) ⊎ (i ≡ last → ⊥) → (i ≡ first) ⊎ (i ≡ first → ⊥)
-        → added_row k inner first last (i + 1) ≤ added_row k inner first last i
-    by (inl a) b d e g =
-        let x = outside_row k inner first last (i + 1) (inl a) in
-        let y = outside_row k inner first last i (inl (omega arith)) in
-        let z = falls_part inner f i l in
-        omega arith
-    by (inr a) (inl b) d e g =
-        let s : i + 1 ≡ first = omega arith in
-        let t : first - 1 ≡ i = omega arith in
-        let x = ap (added_row k inner first last) s ∙ first_row k inner first last o in
-        let y = outside_row k inner first last i (inl b) in
-        let p = ap (part inner) t in
-        elim c.below [ inl z ↦ absurd (omega arith) | inr z ↦ omega arith ]
-    by (inr a) (inr b) (inl d) e (inl g) =
-        let x = chained_row k inner first last i b d in
-        let y = ap (added_row k inner first last) g ∙ first_row k inner first last o in
-        let z = c.longer in
-        let p = ap (part inner) g in
-        omega arith
-    by (inr a) (inr b) (inl d) e (inr g) =
-        let x = chained_row k inner first last i b d in
-        let y = later_row k inner first last i (omega arith) (omega arith) in
-        let z = falls_far inner f (i - 1) i (omega arith) (omega arith) in
-        omega arith
-    by (inr a) (inr b) (inr d) (inl e) g =
-        let x = outside_row k inner first last (i + 1) (inr (omega arith)) in
-        let y = last_row k inner first last f h o c in
-        let z = falls_part inner f i l in
-        let p = ap (added_row k inner first last) e in
-        let q = ap (part inner) e in
-        omega arith
-    by (inr a) (inr b) (inr d) (inr e) g =
-        let x = outside_row k inner first last (i + 1) (inr (omega arith)) in
-        let y = outside_row k inner first last i (inr (omega arith)) in
-        let z = falls_part inner f i l in
-        omega arith
+rows_falling k inner first last f h o c i l =
+    search (rules, cases_lt, cases_eq, outside_row, falls_part, first_row, chained_row, later_row, falls_far, last_row)
 
--- row i of the partition `with_hook`, for i ≥ 1, has the length `added_row`
 pub hook_part : (k : ℕ) (inner : List ℕ) (first last i : ℕ) → 1 ≤ i → part (with_hook k inner first last) i ≡ added_row k inner first last i
-hook_part k inner first last i h =
-    rows_at (added_row k inner first last) (max (rows inner) last) i h
-    (λ l. outside_row k inner first last i (inr (omega arith)) ∙ get_or_past inner (i - 1) 0 (omega arith))
+hook_part k inner first last i h = search (rules, rows_at, outside_row, get_or_past)
 
 pub hook_is : (k : ℕ) (inner : List ℕ) (first last : ℕ) → Falls inner → 1 ≤ first → first ≤ last → CanAdd k inner first last
     → IsHookRows (with_hook k inner first last) inner first last
-hook_is k inner first last f h o c = record {
-  counts = h;
-  ordered = o;
-  above = λ i l m. hook_part k inner first last i l ∙ outside_row k inner first last i (inl m);
-  below = λ i m. hook_part k inner first last i (omega arith) ∙ outside_row k inner first last i (inr m);
-  chained = λ i l m. hook_part k inner first last (i + 1) (omega arith) ∙ chained_row k inner first last i l m;
-  end = (let e = hook_part k inner first last last (omega arith) in let x = last_row k inner first last f h o c in omega arith);
-}
+hook_is k inner first last f h o c = search (rules, hook_part, outside_row, chained_row, last_row)
 
 pub hook_partition : (k : ℕ) (inner : List ℕ) (first last : ℕ) → Falls inner → 1 ≤ first → first ≤ last → CanAdd k inner first last → IsPartition (with_hook k inner first last)
-hook_partition k inner first last f h o c =
-    IsPartition-without_last_zeros (map (added_row k inner first last) (after 0 (max (rows inner) last)))
-    (rows_fall (added_row k inner first last) 0 (max (rows inner) last) (λ i l. rows_falling k inner first last f h o c i l))
+hook_partition k inner first last f h o c = search (rules, IsPartition-without_last_zeros, rows_fall, rows_falling)
 
 pub hook_cells : (k : ℕ) (inner : List ℕ) (first last : ℕ) → Falls inner → 1 ≤ first → first ≤ last → CanAdd k inner first last
     → size (with_hook k inner first last) ≡ size inner + k
@@ -238,8 +129,6 @@ pub hook_height : (k : ℕ) (inner : List ℕ) (first last : ℕ) → Falls inne
 hook_height k inner first last f h o t =
     let c = can_add-tells k inner first last t in
     sym (height_of_rows (with_hook k inner first last) inner first last (hook_partition k inner first last f h o c).falls (hook_is k inner first last f h o c))
-
--- ---- each partition ν such that ν/inner is a rim hook of k cells is in the list `hooks_ending_after` with last = 0
 
 record IsFound (k : ℕ) (inner ν : List ℕ) (first last : ℕ) : Type 0 where
   pub counts : 1 ≤ first

@@ -1,5 +1,5 @@
 -- The number of cells of a skew shape outer/inner is the size of outer minus that of inner.
-use Rattle.std.proofs.Common.{◌≡◌, ℕ, zero, suc, ◌+◌, ◌-◌, ◌≤◌, List, [], ◌∷◌, length, take, get_or, ap, refl, arith, flat_map}
+use Rattle.std.proofs.Common.{◌≡◌, ℕ, zero, suc, ◌+◌, ◌-◌, ◌≤◌, List, [], ◌∷◌, length, take, get_or, ap, refl, arith, flat_map, rules}
 use Rattle.std.proofs.lemmas.List.{take_all}
 use Rattle.sym_model.specs.Partition.{size, after, cells, row_cells}
 use Rattle.strip_laws.proofs.Containment.{contains-tells, Holds-get_or}
@@ -13,8 +13,6 @@ size-take_one [] (suc k) = omega arith
 size-take_one (a ∷ xs) zero = omega arith
 size-take_one (a ∷ xs) (suc k) = omega (arith, size-take_one xs k)
 
--- if inner lies inside outer, the number of cells of outer/inner in the first k rows plus the sum of the first k parts of inner is the sum of the
--- first k parts of outer
 cells_in_front :
     (outer inner : List ℕ) (k : ℕ) → ((i : ℕ) → get_or inner i 0 ≤ get_or outer i 0) → k ≤ length outer → length inner ≤ length outer
     → length (flat_map (row_cells outer inner) (after 0 k)) + size (take k inner) ≡ size (take k outer)
@@ -32,9 +30,4 @@ cells_in_front outer inner (suc k) h l m =
     )
 
 pub length-cells : (outer inner : List ℕ) → IsSkew outer inner → length (cells outer inner) + size inner ≡ size outer
-length-cells outer inner s =
-    let under = Holds-get_or outer inner (contains-tells outer inner s.holds) in
-    let few = rows_held inner outer s.inside.partition.positive under in
-    let whole : take (length outer) outer ≡ outer = take_all (length outer) outer (omega arith) in
-    let all : take (length outer) inner ≡ inner = take_all (length outer) inner few in
-    omega (arith, ap size whole, ap size all, cells_in_front outer inner (length outer) under (omega arith) few)
+length-cells outer inner s = search (rules, Holds-get_or, contains-tells, rows_held, take_all, cells_in_front)

@@ -1,6 +1,6 @@
 -- Column readings of fillings given by a function of the cells, and the filling with a given word as its column reading.
-use Rattle.std.proofs.Common.{◌≡◌, ◌⊎◌, ℕ, zero, suc, ◌+◌, ◌-◌, ◌<◌, ◌≤◌, Bool, true, false, ◌&&◌, ◌==◌, cond, List, [], ◌∷◌, ◌++◌, map, length, take, drop, get_or, reverse, ◌∙◌, ap, ap₂, sym, refl, inl, inr, arith, nat_le, nat_lt, append-nil, append_assoc, filter, flat_map}
-use Rattle.std.proofs.lemmas.Bool.{cases_eq, cases_lt, le-leb, lt-leb, lt-ltb, le-ltb, eq-eqb, ne_eqb}
+use Rattle.std.proofs.Common.{◌≡◌, ◌⊎◌, ℕ, zero, suc, ◌+◌, ◌-◌, ◌≤◌, Bool, true, false, ◌&&◌, ◌==◌, cond, List, [], ◌∷◌, ◌++◌, map, length, take, drop, get_or, reverse, ◌∙◌, ap, ap₂, sym, refl, inl, inr, arith, nat_le, nat_lt, append-nil, append_assoc, filter, flat_map, rules}
+use Rattle.std.proofs.lemmas.Bool.{cases_eq, cases_lt, le-leb, lt-leb, lt-ltb, le-ltb, eq-eqb}
 use Rattle.std.proofs.lemmas.List.{map-append, reverse-append, drop-drop, get_or-drop, get_or_past}
 use Rattle.sym_model.specs.Sum.{Among}
 use Rattle.sym_model.specs.Partition.{IsCell, part, columns, after}
@@ -20,31 +20,12 @@ take_one :
     (g : ℕ → ℕ) (c k n : ℕ) → take 1 (drop n (map g (after c k))) ≡ cond (nat_lt n k) (g (c + n + 1) ∷ []) []
 take_one g c zero zero = refl
 take_one g c zero (suc n) = ap (λ b. cond b (g (c + suc n + 1) ∷ []) []) (sym (le-ltb (suc n) 0 (omega arith)))
-take_one g c (suc k) zero =
-    let e : c + 1 ≡ c + 0 + 1 = omega arith in
-    ap (λ x. x ∷ []) (ap g e) ∙ ap (λ b. cond b (g (c + 0 + 1) ∷ []) []) (sym (lt-ltb 0 (suc k) (omega arith)))
-take_one g c (suc k) (suc n) =
-    let e : c + 1 + n + 1 ≡ c + suc n + 1 = omega arith in
-    take_one g (c + 1) k n ∙ ap₂ (λ b x. cond b (g x ∷ []) []) (sym (nat_lt-suc n k)) e
+take_one g c (suc k) zero = search rules
+take_one g c (suc k) (suc n) = search (rules, nat_lt-suc, (take_one g (c + 1) k n))
 
 letter_in-by :
     (g : ℕ → ℕ) (c o j : ℕ) → letter_in c (map g (after c (o - c))) j ≡ cond (nat_lt c j && nat_le j o) (g j ∷ []) []
-letter_in-by g c o j = elim (cases_lt c j) [
-  | inr h ↦ ap (λ b. cond b (take 1 (drop (j - (c + 1)) (map g (after c (o - c))))) []) (le-ltb c j h)
-      ∙ sym (ap (λ b. cond (b && nat_le j o) (g j ∷ []) []) (le-ltb c j h))
-  | inl h ↦
-      let e : c + (j - (c + 1)) + 1 ≡ j = omega arith in
-      ap (λ b. cond b (take 1 (drop (j - (c + 1)) (map g (after c (o - c))))) []) (lt-ltb c j h)
-      ∙ take_one g c (o - c) (j - (c + 1))
-      ∙ ap₂ (λ b x. cond b (g x ∷ []) []) (same_test c o j h) e
-      ∙ sym (ap (λ b. cond (b && nat_le j o) (g j ∷ []) []) (lt-ltb c j h))
-]
-  where
-    same_test : (c o j : ℕ) → c < j → nat_lt (j - (c + 1)) (o - c) ≡ nat_le j o
-    same_test c o j h = elim (cases_lt o j) [
-      | inl l ↦ le-ltb (j - (c + 1)) (o - c) (omega arith) ∙ sym (lt-leb j o l)
-      | inr l ↦ lt-ltb (j - (c + 1)) (o - c) (omega arith) ∙ sym (le-leb j o l)
-    ]
+letter_in-by g c o j = search (rules, cases_lt, le-ltb, lt-ltb, take_one, lt-leb, le-leb)
 
 column-by :
     (f : ℕ → ℕ → ℕ) (outer inner : List ℕ) (j a k : ℕ)
@@ -81,27 +62,19 @@ pub each-cells :
     (f : ℕ → ℕ → ℕ) (outer inner : List ℕ) (js : List ℕ)
     → flat_map (column inner (rows_by f outer inner)) js ≡ map (λ (c : ℕ × ℕ). f c.0 c.1) (flat_map (column_cells outer inner) js)
 each-cells f outer inner [] = refl
-each-cells f outer inner (j ∷ js) =
-    ap₂ (λ x y. x ++ y) (column-rows_by f outer inner j) (each-cells f outer inner js)
-    ∙ sym (map-append (λ (c : ℕ × ℕ). f c.0 c.1) (column_cells outer inner j) (flat_map (column_cells outer inner) js))
+each-cells f outer inner (j ∷ js) = search (rules, column-rows_by, map-append, (each-cells f outer inner js))
 
 -- if f row column is the number in each cell (row, column) of outer/inner, the column reading is the list of the values of f at the cells in reading
 -- order
 pub reading-rows_by :
     (f : ℕ → ℕ → ℕ) (outer inner : List ℕ)
     → column_reading outer inner (rows_by f outer inner) ≡ map (λ (c : ℕ × ℕ). f c.0 c.1) (reading_cells outer inner)
-reading-rows_by f outer inner =
-    let e : columns outer - 0 ≡ columns outer = omega arith in
-    ap (λ n. flat_map (column inner (rows_by f outer inner)) (reverse (after 0 n))) e
-    ∙ each-cells f outer inner (reverse (after 0 (columns outer)))
+reading-rows_by f outer inner = search (rules, each-cells)
 
--- ---- the letter `letter_of_cell` that a cell gets from a word, if one more cell is appended to the list of cells
+-- ---- the letter that a cell gets from a word written into a list of cells (`letter_of_cell`), after one more cell is appended to the list
 
 other_cell : (i j row column : ℕ) → ((i ≡ row) × (j ≡ column) → ⊥) → ((i == row) && (j == column)) ≡ false
-other_cell i j row column h = elim (cases_eq i row) [
-  | inr n ↦ ap (λ b. b && (j == column)) (ne_eqb i row n)
-  | inl e ↦ ap (λ b. b && (j == column)) (eq-eqb i row e) ∙ ne_eqb j column (λ f. h (e, f))
-]
+other_cell i j row column h = search rules
 
 same_cell : (i j : ℕ) → ((i == i) && (j == j)) ≡ true
 same_cell i j = ap₂ (λ a b. a && b) (eq-eqb i i refl) (eq-eqb j j refl)
@@ -121,54 +94,33 @@ pub letter-push_here :
 letter-push_here i j [] [] h = refl
 letter-push_here i j [] (a ∷ w) h = ap (λ b. cond b a 0) (same_cell i j)
 letter-push_here i j (c ∷ done) [] h = refl
-letter-push_here i j (c ∷ done) (a ∷ w) h =
-    ap (λ b. cond b a (letter_of_cell i j (done ++ (i, j) ∷ []) w))
-    (other_cell c.0 c.1 i j (λ e. h (inl (ap₂ {C = ℕ × ℕ} (λ x y. (x, y)) (sym e.0) (sym e.1)))))
-    ∙ letter-push_here i j done w (λ m. h (inr m))
+letter-push_here i j (c ∷ done) (a ∷ w) h = search (rules, other_cell, (letter-push_here i j done w))
 
 letter-absent : (i j : ℕ) (done : List (ℕ × ℕ)) (w : List ℕ) → (Among (i, j) done → ⊥) → letter_of_cell i j done w ≡ 0
 letter-absent i j [] w h = refl
 letter-absent i j (c ∷ done) [] h = refl
-letter-absent i j (c ∷ done) (a ∷ w) h =
-    ap (λ b. cond b a (letter_of_cell i j done w))
-    (other_cell c.0 c.1 i j (λ e. h (inl (ap₂ {C = ℕ × ℕ} (λ x y. (x, y)) (sym e.0) (sym e.1)))))
-    ∙ letter-absent i j done w (λ m. h (inr m))
+letter-absent i j (c ∷ done) (a ∷ w) h = search (rules, other_cell, (letter-absent i j done w))
 
 -- ---- the lists `cells_above` and `column_cells` with one more row or column
 
 select-push : (test : ℕ → Bool) (xs : List ℕ) (x : ℕ) → filter test (xs ++ x ∷ []) ≡ filter test xs ++ cond (test x) (x ∷ []) []
 select-push test [] x = refl
-select-push test (y ∷ xs) x = by (test y) (select-push test xs x)
-  where
-    by : (b : Bool) → filter test (xs ++ x ∷ []) ≡ filter test xs ++ cond (test x) (x ∷ []) []
-        → cond b (y ∷ filter test (xs ++ x ∷ [])) (filter test (xs ++ x ∷ [])) ≡ cond b (y ∷ filter test xs) (filter test xs) ++ cond (test x) (x ∷ []) []
-    by true e = ap (λ l. y ∷ l) e
-    by false e = e
+select-push test (y ∷ xs) x = search (rules, (select-push test xs x))
 
 above-more :
     (outer inner : List ℕ) (j k : ℕ)
     → cells_above outer inner j (k + 1) ≡ cells_above outer inner j k ++ map {B = ℕ × ℕ} (λ row. (row, j)) (cond (reaches outer inner j (k + 1)) ((k + 1) ∷ []) [])
-above-more outer inner j k =
-    let e : 0 + k + 1 ≡ k + 1 = omega arith in
-    let test = reaches outer inner j in
-    ap (λ l. map {B = ℕ × ℕ} (λ row. (row, j)) (filter test l)) (after-more 0 k ∙ ap (λ n. after 0 k ++ n ∷ []) e)
-    ∙ ap (map {B = ℕ × ℕ} (λ row. (row, j))) (select-push test (after 0 k) (k + 1))
-    ∙ map-append (λ row. (row, j)) (filter test (after 0 k)) (cond (test (k + 1)) ((k + 1) ∷ []) [])
+above-more outer inner j k = search (rules, after-more, select-push, map-append)
 
 pub above-reached :
     (outer inner : List ℕ) (j k : ℕ) → reaches outer inner j (k + 1) ≡ true
     → cells_above outer inner j (k + 1) ≡ cells_above outer inner j k ++ (k + 1, j) ∷ []
-above-reached outer inner j k h =
-    above-more outer inner j k
-    ∙ ap (λ b. cells_above outer inner j k ++ map {B = ℕ × ℕ} (λ row. (row, j)) (cond b ((k + 1) ∷ []) [])) h
+above-reached outer inner j k h = search (rules, above-more)
 
 pub above-passed :
     (outer inner : List ℕ) (j k : ℕ) → reaches outer inner j (k + 1) ≡ false
     → cells_above outer inner j (k + 1) ≡ cells_above outer inner j k
-above-passed outer inner j k h =
-    above-more outer inner j k
-    ∙ ap (λ b. cells_above outer inner j k ++ map {B = ℕ × ℕ} (λ row. (row, j)) (cond b ((k + 1) ∷ []) [])) h
-    ∙ append-nil (cells_above outer inner j k)
+above-passed outer inner j k h = search (rules, above-more, append-nil)
 
 pub right-more :
     (outer inner : List ℕ) (j : ℕ) → 1 ≤ j → j ≤ columns outer
@@ -186,7 +138,6 @@ right-more outer inner (suc i) h l =
     ∙ flat_map-append (column_cells outer inner) (reverse (after (suc i) k)) (suc i ∷ [])
     ∙ ap (λ l. flat_map (column_cells outer inner) (reverse (after (suc i) k)) ++ l) (append-nil (column_cells outer inner (suc i)))
 
--- the cell (k + 1, j) is not in a column right of j, nor in column j in the first k rows
 pub not_before :
     (outer inner : List ℕ) (j k : ℕ) → Among (k + 1, j) (cells_right_of outer inner j ++ cells_above outer inner j k) → ⊥
 not_before outer inner j k m = by (Among_from_append (k + 1, j) (cells_right_of outer inner j) (cells_above outer inner j k) m)
@@ -208,7 +159,7 @@ reached_cell : (outer inner : List ℕ) (j k : ℕ) → reaches outer inner j (k
 reached_cell outer inner j k h =
     is_cell-tells outer inner (k + 1) j (ap (λ b. b && reaches outer inner j (k + 1)) (le-leb 1 (k + 1) (omega arith)) ∙ h)
 
--- ---- the next letter of w written into the cell of column j in row k + 1
+-- ---- writing the next letter of w into the cell of column j in row k + 1
 
 pub letters-put :
     (starts numbers outer inner w : List ℕ) (j k a : ℕ) → HasPlaces starts outer (length numbers)
@@ -257,32 +208,7 @@ pub letters-spent :
     → length w ≤ length (cells_right_of outer inner j ++ cells_above outer inner j k)
     → HoldsLetters starts numbers outer inner (cells_right_of outer inner j ++ cells_above outer inner j (k + 1)) w
 letters-spent starts numbers outer inner w j k r held short row column c =
-    by (cases_eq row (k + 1)) (cases_eq column j)
-  where
-    more : (cells_right_of outer inner j ++ cells_above outer inner j k) ++ (k + 1, j) ∷ [] ≡ cells_right_of outer inner j ++ cells_above outer inner j (k + 1)
-    more =
-        append_assoc (cells_right_of outer inner j) (cells_above outer inner j k) ((k + 1, j) ∷ [])
-        ∙ ap (λ l. cells_right_of outer inner j ++ l) (sym (above-reached outer inner j k r))
-
-    other : ((k + 1 ≡ row) × (j ≡ column) → ⊥)
-        → number_in starts numbers row column ≡ letter_of_cell row column (cells_right_of outer inner j ++ cells_above outer inner j (k + 1)) w
-    other n =
-        held row column c
-        ∙ sym (letter-push_other row column (k + 1) j (cells_right_of outer inner j ++ cells_above outer inner j k) w n)
-        ∙ ap (λ l. letter_of_cell row column l w) more
-
-    by : (row ≡ k + 1) ⊎ (row ≡ k + 1 → ⊥) → (column ≡ j) ⊎ (column ≡ j → ⊥)
-        → number_in starts numbers row column ≡ letter_of_cell row column (cells_right_of outer inner j ++ cells_above outer inner j (k + 1)) w
-    by (inr n) q = other (λ s. n (sym s.0))
-    by (inl p) (inr n) = other (λ s. n (sym s.1))
-    by (inl p) (inl q) =
-        held row column c
-        ∙ ap₂ (λ x y. letter_of_cell x y (cells_right_of outer inner j ++ cells_above outer inner j k) w) p q
-        ∙ letter-absent (k + 1) j (cells_right_of outer inner j ++ cells_above outer inner j k) w (not_before outer inner j k)
-        ∙ sym (get_or_past w (length (cells_right_of outer inner j ++ cells_above outer inner j k)) 0 short)
-        ∙ sym (letter-push_here (k + 1) j (cells_right_of outer inner j ++ cells_above outer inner j k) w (not_before outer inner j k))
-        ∙ ap (λ l. letter_of_cell (k + 1) j l w) more
-        ∙ sym (ap₂ (λ x y. letter_of_cell x y (cells_right_of outer inner j ++ cells_above outer inner j (k + 1)) w) p q)
+    search (rules, cases_eq, append_assoc, above-reached, letter-push_other, letter-absent, not_before, get_or_past, letter-push_here)
 
 -- if row k + 1 has no cell in column j, and `HoldsLetters` holds for the cells right of column j and those of column j in the first k rows, it also
 -- holds for the first k + 1 rows
@@ -290,11 +216,7 @@ pub letters-passed :
     (starts numbers outer inner w : List ℕ) (j k : ℕ) → reaches outer inner j (k + 1) ≡ false
     → HoldsLetters starts numbers outer inner (cells_right_of outer inner j ++ cells_above outer inner j k) w
     → HoldsLetters starts numbers outer inner (cells_right_of outer inner j ++ cells_above outer inner j (k + 1)) w
-letters-passed starts numbers outer inner w j k r held row column c =
-    held row column c
-    ∙ ap (λ l. letter_of_cell row column (cells_right_of outer inner j ++ l) w) (sym (above-passed outer inner j k r))
-
--- ---- the values of a function of the cells, appended to a list column by column
+letters-passed starts numbers outer inner w j k r held row column c = search (rules, above-passed)
 
 pub pushed-passed :
     (f : ℕ → ℕ → ℕ) (outer inner given letters : List ℕ) (j k : ℕ) → reaches outer inner j (k + 1)
@@ -310,23 +232,11 @@ pub pushed-reached :
     → letters ≡ given ++ map (λ (c : ℕ × ℕ). f c.0 c.1) (cells_above outer inner j k)
     → a ≡ f (k + 1) j → new ≡ letters ++ a ∷ []
     → new ≡ given ++ map (λ (c : ℕ × ℕ). f c.0 c.1) (cells_above outer inner j (k + 1))
-pushed-reached f outer inner given letters new j k a r e is push =
-    let cells = cells_above outer inner j k in
-    push ∙ ap₂ (λ l n. l ++ n ∷ []) e is ∙ append_assoc given (map (λ (c : ℕ × ℕ). f c.0 c.1) cells)
-    (f (k + 1) j ∷ [])
-    ∙ ap (λ l. given ++ l) (sym (map-append (λ (c : ℕ × ℕ). f c.0 c.1) cells ((k + 1, j) ∷ [])))
-    ∙ ap (λ l. given ++ map (λ (c : ℕ × ℕ). f c.0 c.1) l) (sym (above-reached outer inner j k r))
+pushed-reached f outer inner given letters new j k a r e is push = search (rules, append_assoc, map-append, above-reached)
 
 pub pushed-column :
     (f : ℕ → ℕ → ℕ) (outer inner given letters new : List ℕ) (j : ℕ) → 1 ≤ j → j ≤ columns outer
     → letters ≡ given ++ map (λ (c : ℕ × ℕ). f c.0 c.1) (cells_right_of outer inner j)
     → new ≡ letters ++ map (λ (c : ℕ × ℕ). f c.0 c.1) (column_cells outer inner j)
     → new ≡ given ++ map (λ (c : ℕ × ℕ). f c.0 c.1) (cells_right_of outer inner (j - 1))
-pushed-column f outer inner given letters new j h l e push =
-    let right = cells_right_of outer inner j in
-    push ∙ ap (λ xs. xs ++ map (λ (c : ℕ × ℕ). f c.0 c.1) (column_cells outer inner j)) e
-    ∙ append_assoc given (map (λ (c : ℕ × ℕ). f c.0 c.1) right) (map (λ (c : ℕ × ℕ). f c.0 c.1)
-    (column_cells outer inner j))
-    ∙ ap (λ xs. given ++ xs)
-    (sym (map-append (λ (c : ℕ × ℕ). f c.0 c.1) right (column_cells outer inner j)))
-    ∙ ap (λ xs. given ++ map (λ (c : ℕ × ℕ). f c.0 c.1) xs) (sym (right-more outer inner j h l))
+pushed-column f outer inner given letters new j h l e push = search (rules, append_assoc, map-append, right-more)

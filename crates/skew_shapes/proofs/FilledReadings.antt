@@ -1,5 +1,5 @@
 -- A filling whose cells have the letters of a word w in the order of the column reading (`HoldsLetters`) is the filling `filled_with` of w.
-use Rattle.std.proofs.Common.{◌≡◌, ℕ, List, ap, subst}
+use Rattle.std.proofs.Common.{◌≡◌, ℕ, List, ap, rules}
 use Rattle.sym_model.specs.Tableau.{SkewFilling}
 use Rattle.sym_model.specs.TableauList.{letter_of_cell, reading_cells}
 use Rattle.skew_shapes.specs.CellFillings.{filled_with}
@@ -16,7 +16,4 @@ filled shape starts numbers w h =
 pub moved :
     (starts starts' numbers outer outer' inner inner' w : List ℕ) → HoldsLetters starts numbers outer inner (reading_cells outer inner) w
     → starts ≡ starts' → outer ≡ outer' → inner ≡ inner' → HoldsLetters starts' numbers outer' inner' (reading_cells outer' inner') w
-moved starts starts' numbers outer outer' inner inner' w h s o i =
-    subst (λ l. HoldsLetters starts' numbers outer' l (reading_cells outer' l) w) i
-    (subst (λ l. HoldsLetters starts' numbers l inner (reading_cells l inner) w) o
-    (subst (λ l. HoldsLetters l numbers outer inner (reading_cells outer inner) w) s h))
+moved starts starts' numbers outer outer' inner inner' w h s o i = search rules

@@ -1,8 +1,9 @@
--- Fillings whose numbers are in one list, with a given index at which each row of the outer partition begins (`filling_in`).
-use Rattle.std.proofs.Common.{◌≡◌, ◌⊎◌, ℕ, zero, suc, ◌+◌, ◌-◌, ◌<◌, ◌≤◌, true, ◌&&◌, cond, leb, ltb, List, [], ◌∷◌, map, length, take, drop, get_or, slice_index, ◌∙◌, ap, ap₂, sym, refl, subst, inl, inr, arith, Some, None}
+-- Fillings whose numbers are stored in one list; the index at which each row of the outer partition begins is given (`filling_in`).
+use Rattle.std.proofs.lemmas.Grind.{common_steps}
+use Rattle.std.proofs.Common.{◌≡◌, ◌⊎◌, ℕ, zero, suc, ◌+◌, ◌-◌, ◌<◌, ◌≤◌, true, List, [], ◌∷◌, map, length, take, drop, get_or, slice_index, ◌∙◌, ap, ap₂, sym, refl, subst, inl, inr, arith, Some, rules}
 use Rattle.std.proofs.Math.ListN.{set}
 use Rattle.std.proofs.Math.Seq.{drop-cons}
-use Rattle.std.proofs.lemmas.Bool.{cases_eq, cases_lt, leb-true, ltb-true, and_parts}
+use Rattle.std.proofs.lemmas.Bool.{cases_eq, cases_lt}
 use Rattle.std.proofs.lemmas.List.{get_or-set_other, get_or-set_same, length-map, take_all}
 use Rattle.sym_model.proofs.AfterLists.{length_after}
 use Rattle.partitions.proofs.Parts.{size-take_more}
@@ -14,40 +15,24 @@ use Rattle.sym_model.specs.Tableau.{SkewFilling}
 use Rattle.sym_model.proofs.Parts.{length-without_last_zeros}
 use Rattle.partitions.specs.Limits.{HasCells}
 use Rattle.skew_shapes.specs.Shapes.{IsSkew}
-use Rattle.skew_shapes.specs.CellFillings.{IsFilling, is_cell, row_of, place_in_row, entry_at, with_entry, with_inner_cell, without_outer_cell}
+use Rattle.skew_shapes.specs.CellFillings.{IsFilling, is_cell, row_of, entry_at, with_entry, with_inner_cell, without_outer_cell}
 use Rattle.skew_shapes.specs.Rows.{row_by, rows_by, place_of, number_in, filling_in, HasPlaces, IsKept}
 use Rattle.skew_shapes.proofs.CellRows.{map_after-ext, map_after-set, take-map_after, cell_row, row_of-rows_by, letter-rows_by, rows_by-set, part-lowered_here, part-lowered_there, lengths-rows_by}
 
 pub is_cell-tells : (outer inner : List ℕ) (row column : ℕ) → is_cell outer inner row column ≡ true → IsCell outer inner row column
-is_cell-tells outer inner row column h =
-    let p = and_parts (leb 1 row) (ltb (part inner row) column && leb column (part outer row)) h in
-    let q = and_parts (ltb (part inner row) column) (leb column (part outer row)) p.1 in
-    record {
-      row_counts = leb-true 1 row p.0;
-      outside = ltb-true (part inner row) column q.0;
-      within = leb-true column (part outer row) q.1;
-    }
+is_cell-tells outer inner row column h = search rules
 
--- if the list has room for all cells of outer (`HasPlaces`), the index of each cell of outer/inner is smaller than the length of the list
+-- if the list is long enough for all cells of outer (`HasPlaces`), the index of each cell of outer/inner is smaller than the length of the list
 pub place_within :
     (starts outer inner : List ℕ) (places row column : ℕ) → HasPlaces starts outer places → IsCell outer inner row column
     → place_of starts row column < places
-place_within starts outer inner places row column h c =
-    let few = cell_row outer inner row column c in
-    let counts = c.row_counts in
-    let outside = c.outside in
-    let within = c.within in
-    omega (arith, h.within (row - 1) (omega arith))
+place_within starts outer inner places row column h c = grind (arith, common_steps)
 
 pub row_within :
     (starts outer inner : List ℕ) (places row column : ℕ) → HasPlaces starts outer places → IsCell outer inner row column
     → row - 1 < length starts
-row_within starts outer inner places row column h c =
-    let few = cell_row outer inner row column c in
-    let counts = c.row_counts in
-    omega (arith, h.rows)
+row_within starts outer inner places row column h c = grind (arith, common_steps)
 
--- different cells (i, j) and (k, l) of outer/inner have different indices in the list
 pub place_apart :
     (starts outer inner : List ℕ) (places i j k l : ℕ) → HasPlaces starts outer places → IsCell outer inner i j → IsCell outer inner k l
     → ((i ≡ k) × (j ≡ l) → ⊥) → place_of starts i j ≡ place_of starts k l → ⊥
@@ -84,15 +69,13 @@ place_apart starts outer inner places i j k l h c d n e =
         let starts_same : get_or starts (i - 1) 0 ≡ get_or starts (k - 1) 0 = ap (λ r. get_or starts (r - 1) 0) same in
         n (same, omega arith)
 
--- ---- the filling after one number of the list is overwritten, and the number in one cell
+-- ---- the numbers of the filling after one number of the list is overwritten
 
 pub number_in-set :
     (starts numbers outer inner : List ℕ) (row column a i j : ℕ) → HasPlaces starts outer (length numbers) → IsCell outer inner row column
     → IsCell outer inner i j → ((i ≡ row) × (j ≡ column) → ⊥)
     → number_in starts (set numbers (place_of starts row column) a) i j ≡ number_in starts numbers i j
-number_in-set starts numbers outer inner row column a i j h c d n =
-    let apart : place_of starts i j ≡ place_of starts row column → ⊥ = place_apart starts outer inner (length numbers) i j row column h d c n in
-    get_or-set_other numbers (place_of starts row column) (place_of starts i j) a 0 apart
+number_in-set starts numbers outer inner row column a i j h c d n = search (rules, place_apart, get_or-set_other)
 
 pub number_in-set_here :
     (starts numbers outer inner : List ℕ) (row column a : ℕ) → HasPlaces starts outer (length numbers) → IsCell outer inner row column
@@ -104,21 +87,12 @@ pub filling_in-set :
     (shape : List ℕ × List ℕ) (starts numbers : List ℕ) (row column a : ℕ) → HasPlaces starts shape.0 (length numbers)
     → IsCell shape.0 shape.1 row column
     → filling_in shape starts (set numbers (place_of starts row column) a) ≡ with_entry (filling_in shape starts numbers) row column a
-filling_in-set shape starts numbers row column a h c =
-    ap (λ (l : List (List ℕ)). let t : SkewFilling = record { outer = shape.0; inner = shape.1; rows = l } in t)
-    (rows_by-set (number_in starts numbers) (number_in starts (set numbers (place_of starts row column) a)) shape.0 shape.1 row column a c
-    (number_in-set_here starts numbers shape.0 shape.1 row column a h c)
-    (λ i j d n. number_in-set starts numbers shape.0 shape.1 row column a i j h c d n))
+filling_in-set shape starts numbers row column a h c = search (rules, rows_by-set, set, number_in-set_here, number_in-set)
 
 pub entry-filling_in :
     (shape : List ℕ × List ℕ) (starts numbers : List ℕ) (row column : ℕ) → is_cell shape.0 shape.1 row column ≡ true
     → Some (number_in starts numbers row column) ≡ entry_at (filling_in shape starts numbers) row column
-entry-filling_in shape starts numbers row column h =
-    let c = is_cell-tells shape.0 shape.1 row column h in
-    sym (ap (λ b. cond b (Some (slice_index (row_of (rows_by (number_in starts numbers) shape.0 shape.1) row) (place_in_row shape.1 row column))) None) h
-    ∙ ap Some (letter-rows_by (number_in starts numbers) shape.0 shape.1 row column c))
-
--- ---- the numbers of one row of the filling, as a slice of the list
+entry-filling_in shape starts numbers row column h = search (rules, is_cell-tells, slice_index, letter-rows_by)
 
 pub map_after-slice :
     (xs : List ℕ) (s p k : ℕ) → s + p + k ≤ length xs → map (λ j. get_or xs (s + (j - 1)) 0) (after p k) ≡ take k (drop (s + p) xs)
@@ -128,8 +102,6 @@ map_after-slice xs s p (suc k) h =
     let f : s + (p + 1) ≡ suc (s + p) = omega arith in
     ap₂ ◌∷◌ (ap (λ n. get_or xs n 0) e) (map_after-slice xs s (p + 1) k (omega arith) ∙ ap (λ n. take k (drop n xs)) f)
     ∙ sym (ap (take (suc k)) (drop-cons xs (s + p) 0 (omega arith)))
-
--- ---- the index at which each row begins: the sum of the lengths of the rows before it
 
 size-take-rises : (xs : List ℕ) (i k : ℕ) → i ≤ k → size (take i xs) ≤ size (take k xs)
 size-take-rises [] zero zero h = omega arith
@@ -189,17 +161,7 @@ row-dropped :
     (f : ℕ → ℕ → ℕ) (outer inner : List ℕ) (row : ℕ) → 1 ≤ row → row ≤ length outer
     → take (length (row_of (rows_by f outer inner) row) - 1) (row_of (rows_by f outer inner) row)
     ≡ row_by f (without_last_zeros (lowered_at row outer)) inner row
-row-dropped f outer inner row h l =
-    let p = part inner row in
-    let o = part outer row in
-    let whole = row_of-rows_by f outer inner row h l in
-    let count : length (row_by f outer inner row) ≡ part outer row - part inner row =
-    length-map (after p (o - p)) (f row) ∙ length_after p (o - p) in
-    let less : part outer row - part inner row - 1 ≤ part outer row - part inner row = omega arith in
-    let new : part outer row - part inner row - 1 ≡ part (without_last_zeros (lowered_at row outer)) row - part inner row =
-    omega (arith, part-lowered_here outer row h) in
-    ap (λ xs. take (length xs - 1) xs) whole ∙ ap (λ n. take (n - 1) (row_by f outer inner row)) count
-    ∙ take-map_after (f row) p (o - p) (o - p - 1) less ∙ ap (λ n. map (f row) (after p n)) new
+row-dropped f outer inner row h l = search (rules, row_of-rows_by, length-map, length_after, part-lowered_here, take-map_after)
 
 pub filling_in-dropped :
     (shape : List ℕ × List ℕ) (starts numbers : List ℕ) (row : ℕ) → 1 ≤ row → row ≤ length shape.0
@@ -223,30 +185,15 @@ filling_in-dropped shape starts numbers row h l =
     ∙ take-map_after (row_by f new inner) 0 (length outer) (length new) (rows-lowered outer row h)) in
     ap (λ (xs : List (List ℕ)). let t : SkewFilling = record { outer = new; inner = inner; rows = xs } in t) rows
 
--- ---- the filling (`filling_in`) with the last cell of a row of the inner partition made a cell with the number 0
-
 within_outer : (outer inner : List ℕ) (i j : ℕ) → IsCell outer inner i j → IsCell outer [] i j
-within_outer outer inner i j c =
-    let a = c.row_counts in
-    let b = c.outside in
-    let d = c.within in
-    record { row_counts = a; outside = omega arith; within = d }
+within_outer outer inner i j c = search rules
 
 row-added :
     (f g : ℕ → ℕ → ℕ) (outer inner : List ℕ) (row : ℕ) → 1 ≤ row → row ≤ length outer → 0 < part inner row
     → part inner row ≤ part outer row → g row (part inner row) ≡ 0
     → ((j : ℕ) → part inner row < j → j ≤ part outer row → g row j ≡ f row j)
     → row_by g outer (without_last_zeros (lowered_at row inner)) row ≡ 0 ∷ row_of (rows_by f outer inner) row
-row-added f g outer inner row h l p q zero_there same =
-    let less : part (without_last_zeros (lowered_at row inner)) row ≡ part inner row - 1 = part-lowered_here inner row h in
-    let count : part outer row - (part inner row - 1) ≡ suc (part outer row - part inner row) = omega arith in
-    let next : part inner row - 1 + 1 ≡ part inner row = omega arith in
-    ap (λ n. map (g row) (after n (part outer row - n))) less
-    ∙ ap (λ n. map (g row) (after (part inner row - 1) n)) count
-    ∙ ap (λ n. g row n ∷ map (g row) (after n (part outer row - part inner row))) next
-    ∙ ap₂ ◌∷◌ zero_there
-    (map_after-ext (g row) (f row) (part inner row) (part outer row - part inner row) (λ j a b. same j a (omega arith))
-    ∙ sym (row_of-rows_by f outer inner row h l))
+row-added f g outer inner row h l p q zero_there same = search (rules, part-lowered_here, map_after-ext, row_of-rows_by)
 
 pub filling_in-added :
     (shape : List ℕ × List ℕ) (starts numbers : List ℕ) (row : ℕ) → HasPlaces starts shape.0 (length numbers)
@@ -378,10 +325,7 @@ pub row-bounds :
     (shape : List ℕ × List ℕ) (starts numbers : List ℕ) (row from to : ℕ) → IsKept shape starts numbers → 1 ≤ row → row ≤ length shape.0
     → from ≡ place_of starts row (part shape.1 row + 1) → to ≡ place_of starts row (part shape.0 row + 1)
     → (from ≤ to) × (to ≤ length numbers)
-row-bounds shape starts numbers row from to kept h l e f =
-    let holds = contains-tells shape.0 shape.1 kept.skew.holds row in
-    let within = kept.places.within (row - 1) (omega arith) in
-    (omega arith, omega arith)
+row-bounds shape starts numbers row from to kept h l e f = search (rules, contains-tells)
 
 pub IsFilling-kept : (shape : List ℕ × List ℕ) (starts numbers : List ℕ) → IsKept shape starts numbers → IsFilling (filling_in shape starts numbers)
 IsFilling-kept shape starts numbers kept =

@@ -5,7 +5,7 @@
 --     same_rows                                           a partition is determined by the lengths of its rows
 --     part_within                                         no row is longer than the size of the partition
 --     rows_at, rows_fall, rows_next                       the list f(1), .., f(n) of row lengths, without zeros at its end
-use Rattle.std.proofs.Common.{◌≡◌, ◌⊎◌, ℕ, zero, suc, ◌+◌, ◌-◌, ◌<◌, ◌≤◌, Bool, true, false, cond, List, [], ◌∷◌, ◌++◌, map, get_or, refl, sym, ap, ap₂, ◌∙◌, subst, inl, inr, arith, flat_map}
+use Rattle.std.proofs.Common.{◌≡◌, ℕ, zero, suc, ◌+◌, ◌-◌, ◌<◌, ◌≤◌, Bool, true, false, cond, List, [], ◌∷◌, ◌++◌, map, get_or, refl, sym, ap, ap₂, ◌∙◌, subst, inl, inr, arith, flat_map, rules}
 use Rattle.std.proofs.lemmas.Bool.{cases_lt, false_from_ne_true as not_true}
 use Rattle.std.proofs.lemmas.Cmp.{nat_cmp_total, tied_itself}
 use Rattle.std.proofs.lemmas.List.{length-map, get_or_past}
@@ -35,14 +35,8 @@ none_fits test shape (x ∷ xs) h =
 pub one_fits : (test : ℕ → Bool) (shape : ℕ → List ℕ) (i : ℕ) (xs : List ℕ) → Once xs → Among i xs → test i ≡ true
     → ((j : ℕ) → Among j xs → test j ≡ true → j ≡ i) → fitting test shape xs ≡ shape i ∷ []
 one_fits test shape i [] o m t h = absurd m
-one_fits test shape i (x ∷ xs) o (inl e) t h =
-    ap₂ (λ (b : Bool) l. cond b (shape x ∷ []) [] ++ l) (subst (λ j. test j ≡ true) e t)
-    (none_fits test shape xs (λ j m. not_true (test j) (λ p. o.0 (subst (λ z. Among z xs) (h j (inr m) p ∙ e) m))))
-    ∙ ap (λ j. shape j ∷ []) (sym e)
-one_fits test shape i (x ∷ xs) o (inr m) t h =
-    ap₂ (λ (b : Bool) l. cond b (shape x ∷ []) [] ++ l)
-    (not_true (test x) (λ p. o.0 (subst (λ z. Among z xs) (sym (h x (inl refl) p)) m)))
-    (one_fits test shape i xs o.1 m t (λ j n. h j (inr n)))
+one_fits test shape i (x ∷ xs) o (inl e) t h = search (rules, none_fits, not_true)
+one_fits test shape i (x ∷ xs) o (inr m) t h = search (rules, not_true, (one_fits test shape i xs o.1 m t))
 
 pub among_fitting : (test : ℕ → Bool) (shape : ℕ → List ℕ) (i : ℕ) (xs : List ℕ) → Among i xs → test i ≡ true → Among (shape i) (fitting test shape xs)
 among_fitting test shape i xs m t =
@@ -80,17 +74,7 @@ fall_after f a (suc n) h c =
 -- if at most one of the numbers a + 1, .., a + n passes the test, the list of the shapes whose numbers pass is in decreasing lexicographic order
 pub fall_fitting : (test : ℕ → Bool) (shape : ℕ → List ℕ) (a n : ℕ)
     → ((i j : ℕ) → a < i → i < j → j ≤ a + n → test i ≡ true → test j ≡ true → ⊥) → FallsLexicographically (fitting test shape (after a n))
-fall_fitting test shape a n h =
-    fall_after (λ i. cond (test i) (shape i ∷ []) []) a n (λ i l m. one (test i) (shape i))
-    (λ i j x y l m o p q. absurd (h i j l m o (passes (test i) (shape i) x p) (passes (test j) (shape j) y q)))
-  where
-    one : (b : Bool) (x : List ℕ) → FallsLexicographically (cond b (x ∷ []) [])
-    one true x = (λ y m. absurd m, tt)
-    one false x = tt
-
-    passes : (b : Bool) (z x : List ℕ) → Among x (cond b (z ∷ []) []) → b ≡ true
-    passes true z x m = refl
-    passes false z x m = absurd m
+fall_fitting test shape a n h = search (rules, fall_after)
 
 before_at : (n : ℕ) (x y : List ℕ) → ((j : ℕ) → j < n → get_or x j 0 ≡ get_or y j 0) → get_or y n 0 < get_or x n 0 → falling_lexicographic x y ≡ Less
 before_at zero [] y e h = absurd (omega arith)
@@ -122,13 +106,8 @@ same_rows x y p q e = same_places x y p q (λ j. sym (part-get_or x j) ∙ e (j 
 pub part_within : (parts : List ℕ) (i : ℕ) → part parts i ≤ size parts
 part_within parts i = get_or-le-size parts (i - 1)
 
--- if f(i) is 0 for i > n, row i of the list f(1), .., f(n), without the zeros at its end, is f(i)
 pub rows_at : (f : ℕ → ℕ) (n i : ℕ) → 1 ≤ i → (n < i → f i ≡ 0) → part (without_last_zeros (map f (after 0 n))) i ≡ f i
-rows_at f n i h z = get_or-without_last_zeros (map f (after 0 n)) (i - 1) ∙ by (cases_lt n i)
-  where
-    by : (n < i) ⊎ (i ≤ n) → get_or (map f (after 0 n)) (i - 1) 0 ≡ f i
-    by (inl l) = get_or_past (map f (after 0 n)) (i - 1) 0 (let e = length-map (after 0 n) f in let d = length_after 0 n in omega arith) ∙ sym (z l)
-    by (inr l) = map_after-at f 0 n (i - 1) 0 (omega arith) ∙ ap f (omega arith)
+rows_at f n i h z = search (rules, get_or-without_last_zeros, cases_lt, get_or_past, length-map, length_after, map_after-at)
 
 pub rows_fall : (f : ℕ → ℕ) (a n : ℕ) → ((i : ℕ) → a < i → f (i + 1) ≤ f i) → Falls (map f (after a n))
 rows_fall f a zero h = tt
@@ -137,6 +116,4 @@ rows_fall f a (suc (suc n)) h = (h (a + 1) (omega arith), rows_fall f (a + 1) (s
 
 pub rows_next : (f : ℕ → ℕ) (a n : ℕ) → map f (after a (n + 1)) ≡ map f (after a n) ++ (f (a + n + 1) ∷ [])
 rows_next f a zero = ap (λ i. f i ∷ []) (omega arith)
-rows_next f a (suc n) =
-    ap (λ m. map f (after a m)) (let e : suc n + 1 ≡ suc (n + 1) = omega arith in e)
-    ∙ ap (λ l. f (a + 1) ∷ l) (rows_next f (a + 1) n) ∙ ap (λ i. f (a + 1) ∷ (map f (after (a + 1) n) ++ (f i ∷ []))) (omega arith)
+rows_next f a (suc n) = search (rules, (rows_next f (a + 1) n))

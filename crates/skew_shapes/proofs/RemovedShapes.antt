@@ -1,9 +1,10 @@
 -- The rim hooks that can be removed from a partition (specs/RemovedHooks).
---     beginning_none, beginning_one, beginning_next    the rim hooks with a given first row (none or one), then those with a smaller first row
---     hooks_removed                                    `hooks_beginning_within` lists all rim hooks, in decreasing lexicographic order
-use Rattle.std.proofs.Common.{◌≡◌, ◌⊎◌, ℕ, zero, suc, ◌+◌, ◌-◌, ◌<◌, ◌≤◌, ◌==◌, nat_lt, nat_le, Bool, true, false, ◌||◌, cond, List, [], ◌∷◌, ◌++◌, map, refl, sym, ap, ◌∙◌, subst, inl, inr, arith}
-use Rattle.std.proofs.lemmas.Bool.{cases_lt, cases_eq, and_parts, and_from, ltb-true, lt-ltb, leb-true, le-leb}
-use Rattle.std.proofs.lemmas.Bool.Decides.{nat_tests}
+--     beginning_none, beginning_one    the list of the rim hooks with a given first row is empty or has one member
+--     beginning_next                   this list, followed by the rim hooks with a smaller first row
+--     hooks_removed                    `hooks_beginning_within` lists all rim hooks, in decreasing lexicographic order
+use Rattle.std.proofs.lemmas.Grind.{common_steps}
+use Rattle.std.proofs.Common.{◌≡◌, ◌⊎◌, ℕ, zero, suc, ◌+◌, ◌-◌, ◌<◌, ◌≤◌, Bool, true, false, List, [], ◌∷◌, ◌++◌, refl, sym, ap, ◌∙◌, subst, inl, inr, arith, rules}
+use Rattle.std.proofs.lemmas.Bool.{cases_lt, cases_eq}
 use Rattle.std.specs.declared.cmp.Ordering.TheVariants.{Less}
 use Rattle.sym_model.specs.Sum.{Among}
 use Rattle.sym_model.specs.Partition.{Falls, IsPartition, after, part, rows, size}
@@ -30,31 +31,18 @@ pub record CanRemove (k : ℕ) (outer : List ℕ) (first last : ℕ) : Type 0 wh
   pub shorter : part outer first + (last - first) < part outer last + k
 
 pub can_remove-tells : (k : ℕ) (outer : List ℕ) (first last : ℕ) → can_remove k outer first last ≡ true → CanRemove k outer first last
-can_remove-tells k outer first last e =
-    let p = and_parts (nat_le (part outer (last + 1) + k) (part outer first + (last - first))) (nat_lt (part outer first + (last - first)) (part outer last + k)) e in
-    record { below = leb-true (part outer (last + 1) + k) (part outer first + (last - first)) p.0; shorter = ltb-true (part outer first + (last - first)) (part outer last + k) p.1 }
+can_remove-tells k outer first last e = search rules
 
 pub can_remove-from : (k : ℕ) (outer : List ℕ) (first last : ℕ) → CanRemove k outer first last → can_remove k outer first last ≡ true
-can_remove-from k outer first last c =
-    and_from (nat_le (part outer (last + 1) + k) (part outer first + (last - first))) (nat_lt (part outer first + (last - first)) (part outer last + k))
-    (le-leb (part outer (last + 1) + k) (part outer first + (last - first)) c.below) (lt-ltb (part outer first + (last - first)) (part outer last + k) c.shorter)
+can_remove-from k outer first last c = search rules
 
--- if a rim hook can be removed from outer in the rows first, .., last, row `last` of outer has at least one cell
 pub last_within : (k : ℕ) (outer : List ℕ) (first last : ℕ) → CanRemove k outer first last → (0 < part outer last) × (last ≤ rows outer)
-last_within k outer first last c = (positive, elim (cases_lt (rows outer) last) [ inl l ↦ absurd (let e = get_or_past outer (last - 1) 0 (omega arith) in let p = positive in omega arith) | inr l ↦ l ])
-  where
-    positive : 0 < part outer last
-    positive = let a = c.below in let b = c.shorter in omega arith
+last_within k outer first last c = grind (arith, common_steps)
 
--- rim hooks of k cells cannot be removed from outer both in the rows first, .., last and in the rows first, .., end, if last < end
 no_two : (k : ℕ) (outer : List ℕ) (first last end : ℕ) → Falls outer → first ≤ last → last < end → CanRemove k outer first last → CanRemove k outer first end → ⊥
-no_two k outer first last end f o l c d =
-    let a = c.below in
-    let b = d.shorter in
-    let x = falls_far outer f (last + 1) end (omega arith) (omega arith) in
-    absurd (omega arith)
+no_two k outer first last end f o l c d = search (rules, falls_far)
 
--- ---- the list `hooks_beginning` of the partitions left by removing a rim hook whose first row is `first`: it has at most one partition
+-- ---- the list `hooks_beginning` of the partitions left by removing a rim hook whose first row is `first` has at most one member
 
 pub beginning_none : (k : ℕ) (outer : List ℕ) (first last : ℕ) → Falls outer → EndsUpTo k outer first last → first ≤ last
     → (first < last → part outer first + last < part outer last + first + k) → can_remove k outer first last ≡ false → hooks_beginning k outer first ≡ []
@@ -100,124 +88,38 @@ beginning_one k outer first last f h o t =
 
 pub beginning_next : (k : ℕ) (outer : List ℕ) (first : ℕ) → 1 < first
     → hooks_beginning_within k outer (first - 1) ≡ hooks_beginning k outer (first - 1) ++ hooks_beginning_within k outer (first - 1 - 1)
-beginning_next k outer first h = by (first - 1) (omega arith)
-  where
-    by : (n : ℕ) → 0 < n → hooks_beginning_within k outer n ≡ hooks_beginning k outer n ++ hooks_beginning_within k outer (n - 1)
-    by zero l = absurd (omega arith)
-    by (suc n) l = ap (λ m. hooks_beginning k outer (suc n) ++ hooks_beginning_within k outer m) (let e : n ≡ suc n - 1 = omega arith in e)
+beginning_next k outer first h = search rules
 
 pub ends_next : (k : ℕ) (outer : List ℕ) (first last : ℕ) → Falls outer → 1 < first → EndsUpTo k outer first last → EndsUpTo k outer (first - 1) last
-ends_next k outer first last f h b = record {
-  counts = omega arith;
-  ordered = (let o = b.ordered in omega arith);
-  within = b.within;
-  passed = λ i l m. (let p = falls_far outer f (first - 1) first (omega arith) (omega arith) in let q = b.passed i l m in omega arith);
-}
+ends_next k outer first last f h b = search (rules, falls_far)
 
--- ---- the lengths of the rows of outer after the rim hook is removed (`left_row`)
+-- ---- the lengths of the rows of outer after a rim hook is removed (`left_row`)
 
 outside_row : (k : ℕ) (outer : List ℕ) (first last i : ℕ) → (i < first) ⊎ (last < i) → left_row k outer first last i ≡ part outer i
-outside_row k outer first last i h = ap (λ (b : Bool). cond b (part outer i) (cond (i == last) (part outer first + (last - first) - k) (part outer (i + 1) - 1))) (by h)
-  where
-    by : (i < first) ⊎ (last < i) → (nat_lt i first || nat_lt last i) ≡ true
-    by (inl l) = grind (arith, nat_tests)
-    by (inr l) = grind (arith, nat_tests)
-
-within_row : (k : ℕ) (outer : List ℕ) (first last i : ℕ) → first ≤ i → i ≤ last → left_row k outer first last i ≡ cond (i == last) (part outer first + (last - first) - k) (part outer (i + 1) - 1)
-within_row k outer first last i h l =
-    ap (λ (b : Bool). cond b (part outer i) (cond (i == last) (part outer first + (last - first) - k) (part outer (i + 1) - 1)))
-    (let e : (nat_lt i first || nat_lt last i) ≡ false = grind (arith, nat_tests) in e)
+outside_row k outer first last i h = search rules
 
 last_row : (k : ℕ) (outer : List ℕ) (first last : ℕ) → first ≤ last → left_row k outer first last last ≡ part outer first + (last - first) - k
-last_row k outer first last o =
-    within_row k outer first last last o (omega arith)
-    ∙ ap (λ (b : Bool). cond b (part outer first + (last - first) - k) (part outer (last + 1) - 1)) (let e : (last == last) ≡ true = grind (arith, nat_tests) in e)
+last_row k outer first last o = search rules
 
 earlier_row : (k : ℕ) (outer : List ℕ) (first last i : ℕ) → first ≤ i → i < last → left_row k outer first last i ≡ part outer (i + 1) - 1
-earlier_row k outer first last i h l =
-    within_row k outer first last i h (omega arith)
-    ∙ ap (λ (b : Bool). cond b (part outer first + (last - first) - k) (part outer (i + 1) - 1)) (let e : (i == last) ≡ false = grind (arith, nat_tests) in e)
+earlier_row k outer first last i h l = search rules
 
--- if a rim hook can be removed from outer in the rows first, .., last, each of these rows becomes shorter
 row_shorter : (k : ℕ) (outer : List ℕ) (first last i : ℕ) → Falls outer → 1 ≤ first → first ≤ i → i ≤ last → CanRemove k outer first last → left_row k outer first last i < part outer i
-row_shorter k outer first last i f h l m c = by (cases_eq i last)
-  where
-    by : (i ≡ last) ⊎ (i ≡ last → ⊥) → left_row k outer first last i < part outer i
-    by (inl e) =
-        let x = ap (left_row k outer first last) e ∙ last_row k outer first last (omega arith) in
-        let y = ap (part outer) e in
-        let a = c.below in
-        let b = c.shorter in
-        omega arith
-    by (inr n) =
-        let x = earlier_row k outer first last i l (omega arith) in
-        let p = (last_within k outer first last c).0 in
-        let y = falls_far outer f (i + 1) last (omega arith) (omega arith) in
-        let z = falls_part outer f i (omega arith) in
-        omega arith
+row_shorter k outer first last i f h l m c = search (rules, cases_eq, last_row, earlier_row, last_within, falls_far, falls_part)
 
 rows_falling : (k : ℕ) (outer : List ℕ) (first last : ℕ) → Falls outer → 1 ≤ first → first ≤ last → CanRemove k outer first last
     → (i : ℕ) → 0 < i → left_row k outer first last (i + 1) ≤ left_row k outer first last i
-rows_falling k outer first last f h o c i l = by (cases_lt i first) (cases_lt (i + 1) first) (cases_lt i last) (cases_eq i last) (cases_eq (i + 1) last)
-  where
-    by : (i < first) ⊎ (first ≤ i) → (i + 1 < first) ⊎ (first ≤ i + 1) → (i < last) ⊎ (last ≤ i) → (i ≡ last) ⊎ (i ≡ last → ⊥) → (i + 1 ≡ last) ⊎ (i + 1 ≡ last → ⊥)
-        → left_row k outer first last (i + 1) ≤ left_row k outer first last i
-    by (inl a) (inl b) d e g =
-        let x = outside_row k outer first last (i + 1) (inl b) in
-        let y = outside_row k outer first last i (inl a) in
-        let z = falls_part outer f i l in
-        omega arith
-    by (inl a) (inr b) d e g =
-        let x = row_shorter k outer first last (i + 1) f h b (omega arith) c in
-        let y = outside_row k outer first last i (inl a) in
-        let z = falls_part outer f i l in
-        omega arith
-    by (inr a) b (inl d) e (inl g) =
-        let x = row_shorter k outer first last (i + 1) f h (omega arith) (omega arith) c in
-        let y = earlier_row k outer first last i a d in
-        omega arith
-    by (inr a) b (inl d) e (inr g) =
-        let x = row_shorter k outer first last (i + 1) f h (omega arith) (omega arith) c in
-        let y = earlier_row k outer first last i a d in
-        omega arith
-    by (inr a) b (inr d) (inl e) g =
-        let x = outside_row k outer first last (i + 1) (inr (omega arith)) in
-        let y = ap (left_row k outer first last) e ∙ last_row k outer first last o in
-        let z = c.below in
-        let p = ap (λ j. part outer (j + 1)) e in
-        omega arith
-    by (inr a) b (inr d) (inr e) g =
-        let x = outside_row k outer first last (i + 1) (inr (omega arith)) in
-        let y = outside_row k outer first last i (inr (omega arith)) in
-        let z = falls_part outer f i l in
-        omega arith
+rows_falling k outer first last f h o c i l = search (rules, cases_lt, cases_eq, outside_row, falls_part, row_shorter, earlier_row, last_row)
 
--- if the rim hook can be removed, row i of the partition `without_hook`, for i ≥ 1, has the length `left_row`
 pub left_part : (k : ℕ) (outer : List ℕ) (first last i : ℕ) → CanRemove k outer first last → 1 ≤ i → part (without_hook k outer first last) i ≡ left_row k outer first last i
-left_part k outer first last i c h =
-    let w = (last_within k outer first last c).1 in
-    rows_at (left_row k outer first last) (rows outer) i h
-    (λ l. outside_row k outer first last i (inr (omega arith)) ∙ get_or_past outer (i - 1) 0 (omega arith))
+left_part k outer first last i c h = search (rules, last_within, rows_at, outside_row, get_or_past)
 
 pub hook_is : (k : ℕ) (outer : List ℕ) (first last : ℕ) → Falls outer → 1 ≤ first → first ≤ last → CanRemove k outer first last
     → IsHookRows outer (without_hook k outer first last) first last
-hook_is k outer first last f h o c = record {
-  counts = h;
-  ordered = o;
-  above = λ i l m. sym (left_part k outer first last i c l ∙ outside_row k outer first last i (inl m));
-  below = λ i m. sym (left_part k outer first last i c (omega arith) ∙ outside_row k outer first last i (inr m));
-  chained = λ i l m. (
-      let x = left_part k outer first last i c (omega arith) ∙ earlier_row k outer first last i l m in
-      let p = (last_within k outer first last c).0 in
-      let y = falls_far outer f (i + 1) last (omega arith) (omega arith) in
-      omega arith);
-  end = (let e = left_part k outer first last last c (omega arith) in let x = row_shorter k outer first last last f h o (omega arith) c in omega arith);
-}
+hook_is k outer first last f h o c = search (rules, left_part, outside_row, earlier_row, last_within, falls_far, row_shorter)
 
 pub left_partition : (k : ℕ) (outer : List ℕ) (first last : ℕ) → Falls outer → 1 ≤ first → first ≤ last → CanRemove k outer first last → IsPartition (without_hook k outer first last)
-left_partition k outer first last f h o c =
-    IsPartition-without_last_zeros (map (left_row k outer first last) (after 0 (rows outer)))
-    (rows_fall (left_row k outer first last) 0 (rows outer) (λ i l. rows_falling k outer first last f h o c i l))
+left_partition k outer first last f h o c = search (rules, IsPartition-without_last_zeros, rows_fall, rows_falling)
 
 pub left_cells : (k : ℕ) (outer : List ℕ) (first last : ℕ) → Falls outer → 1 ≤ first → first ≤ last → CanRemove k outer first last
     → size outer ≡ size (without_hook k outer first last) + k
@@ -232,8 +134,6 @@ pub left_height : (k : ℕ) (outer : List ℕ) (first last : ℕ) → Falls oute
     → last + 1 - first ≡ height outer (without_hook k outer first last)
 left_height k outer first last f h o t =
     sym (height_of_rows outer (without_hook k outer first last) first last f (hook_is k outer first last f h o (can_remove-tells k outer first last t)))
-
--- ---- each partition ν such that outer/ν is a rim hook of k cells is in the list `hooks_beginning_within`
 
 record IsFound (k : ℕ) (outer ν : List ℕ) (first last : ℕ) : Type 0 where
   pub counts : 1 ≤ first

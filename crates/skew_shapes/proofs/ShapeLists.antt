@@ -1,8 +1,9 @@
 -- The partitions made by adding a vertical strip to a partition (specs/VerticalStrips).
---     `vertical_on-tell`, `Among-vertical_on`  outer is listed by `vertical_on` if and only if `IsWidened` holds
+--     `vertical_on-tell`, `Among-vertical_on`  the list `vertical_on` has exactly the partitions that have `left` cells more than inner, at most one
+--                                              more in each row, and a first row of at most `most` cells (`IsWidened`)
 --     `vertical_on-fall`                       the list is in decreasing lexicographic order
 --     `vertical_strips`                        the list has exactly the partitions ν such that ν/inner is a vertical strip of k cells
-use Rattle.std.proofs.Common.{◌≡◌, ℕ, zero, suc, ◌+◌, ◌-◌, ◌<◌, ◌≤◌, min, List, [], ◌∷◌, ◌++◌, map, get_or, refl, sym, ap, ap₂, ◌∙◌, subst, inl, inr, arith, flat_map}
+use Rattle.std.proofs.Common.{◌≡◌, ℕ, zero, suc, ◌+◌, ◌-◌, ◌<◌, ◌≤◌, min, List, [], ◌∷◌, ◌++◌, map, get_or, refl, sym, ap, ap₂, ◌∙◌, subst, inl, inr, arith, flat_map, rules}
 use Rattle.std.specs.Prelude.{replicate}
 use Rattle.std.proofs.lemmas.List.{length-replicate}
 use Rattle.sym_model.specs.Sum.{Among}
@@ -47,10 +48,7 @@ beside_ones most (b ∷ outer) o =
     ap₂ ◌∷◌ o.0 r ∙ ap (λ n. replicate n 1) (let e : suc (size outer) ≡ b + size outer = (let q = o.0 in omega arith) in e)
 
 pub vertical_on-tell : (most left : ℕ) (inner outer : List ℕ) → Falls (most ∷ inner) → 1 ≤ most → ArePositive inner → Among outer (vertical_on most left inner) → IsWidened most left inner outer
-vertical_on-tell most left [] outer f h p (inl e) =
-    let s = size-ones left in
-    let l = length-replicate left (let one : ℕ = 1 in one) in
-    subst (IsWidened most left []) (sym e) (record { beside = ones_beside most left h; cells = omega arith; few = omega arith })
+vertical_on-tell most left [] outer f h p (inl e) = search (rules, size-ones, length-replicate, ones_beside)
 vertical_on-tell most left [] outer f h p (inr m) = absurd m
 vertical_on-tell most left (a ∷ inner) outer f h p m =
     let fall = f.0 in
@@ -79,15 +77,11 @@ Among-vertical_on most left (a ∷ inner) (b ∷ outer) f o s =
     (among-down (min most (a + min left 1)) (min most (a + min left 1) + 1 - a) b (omega arith) (omega arith))
     (Among-map (λ rest. b ∷ rest) outer (vertical_on b (left + a - b) inner) (Among-vertical_on b (left + a - b) inner outer (falls_more a b inner (omega arith) f.1) o.3 (omega arith)))
 
--- ---- the partitions listed by `vertical_on` are in decreasing lexicographic order
-
 pub vertical_on-fall : (most left : ℕ) (inner : List ℕ) → FallsLexicographically (vertical_on most left inner)
 vertical_on-fall most left [] = (λ y m. absurd m, tt)
 vertical_on-fall most left (a ∷ inner) =
     fall-each (λ row. vertical_on row (left + a - row) inner) (min most (a + min left 1)) (min most (a + min left 1) + 1 - a) (omega arith)
     (λ row m. vertical_on-fall row (left + a - row) inner)
-
--- ---- the partitions listed by `vertical_on` are those that add a vertical strip to inner
 
 beside-first : (most : ℕ) (inner outer : List ℕ) → IsBeside most inner outer → get_or outer 0 0 ≤ most
 beside-first most [] [] o = omega arith
@@ -101,9 +95,7 @@ beside-falls most [] (b ∷ outer) p o =
     let r = beside-falls b [] outer tt o.2 in
     record { falls = Falls-front b outer (beside-first b [] outer o.2) r.falls; positive = (let q = o.0 in omega arith, r.positive) }
 beside-falls most (a ∷ inner) [] p o = absurd o
-beside-falls most (a ∷ inner) (b ∷ outer) p o =
-    let r = beside-falls b inner outer p.1 o.3 in
-    record { falls = Falls-front b outer (beside-first b inner outer o.3) r.falls; positive = (let x = p.0 in let y = o.0 in omega arith, r.positive) }
+beside-falls most (a ∷ inner) (b ∷ outer) p o = search (rules, Falls-front, beside-first, (beside-falls b inner outer p.1 o.3))
 
 beside-holds : (most : ℕ) (inner outer : List ℕ) → IsBeside most inner outer → (j : ℕ) → get_or inner j 0 ≤ get_or outer j 0
 beside-holds most [] outer o j = omega arith
@@ -166,10 +158,8 @@ widened_limits inner k p cells few rest m =
     let b = g.few in
     record { partition = beside-falls (part inner 1 + 1) inner rest p.positive g.beside; few = omega arith; small = omega arith }
 
--- ---- the list `vertical_on` by the first rows of its partitions
-
--- let n be less than the number of possible lengths of the first row, and `row` the greatest of these lengths minus n: if `rest` is in `vertical_on`
--- for inner with the left + a - row cells that remain to be added, row ∷ rest is in `vertical_on` for a ∷ inner
+-- let `row` be a length that the first row can have in the list `vertical_on most left (a ∷ inner)`. If `rest` is in the list of partitions made from
+-- inner by adding a vertical strip of left + a - row cells, with a first row of at most `row` cells, then row ∷ rest is in the list for a ∷ inner
 pub listed_further : (most left a row n : ℕ) (inner rest : List ℕ) → n < min most (a + min left 1) + 1 - a → row ≡ min most (a + min left 1) - n → Among rest (vertical_on row (left + a - row) inner)
     → Among (row ∷ rest) (vertical_on most left (a ∷ inner))
 listed_further most left a row n inner rest h e m =
@@ -177,11 +167,9 @@ listed_further most left a row n inner rest h e m =
     (among-down (min most (a + min left 1)) (min most (a + min left 1) + 1 - a) row (omega arith) (omega arith))
     (Among-map (λ rest. row ∷ rest) rest (vertical_on row (left + a - row) inner) m)
 
--- let n be the number of all possible first rows: if `cur` is `before`, followed by rows ++ ν for the partitions ν of `vertical_on` with the n
--- greatest first rows, then `cur` is `before`, followed by rows ++ ν for all ν in `vertical_on most left inner`
+-- the end of a loop over the possible lengths of the first row: let n be the number of these lengths. If `cur` is `before`, followed by rows ++ ν for
+-- the partitions ν of `vertical_on` with the n greatest first rows, then `cur` is `before`, followed by rows ++ ν for all ν in `vertical_on`
 pub widened_all : (most left a n : ℕ) (below rows inner : List ℕ) (before cur : List (List ℕ)) → a ∷ below ≡ inner → n ≡ min most (a + min left 1) + 1 - a
     → cur ≡ before ++ map (λ rest. rows ++ rest) (flat_map (λ row. map (λ rest. row ∷ rest) (vertical_on row (left + a - row) below)) (counting_down (min most (a + min left 1)) n))
     → cur ≡ before ++ map (λ rest. rows ++ rest) (vertical_on most left inner)
-widened_all most left a n below rows inner before cur split e c =
-    c ∙ ap (λ k. before ++ map (λ rest. rows ++ rest) (flat_map (λ row. map (λ rest. row ∷ rest) (vertical_on row (left + a - row) below)) (counting_down (min most (a + min left 1)) k))) e
-    ∙ ap (λ l. before ++ map (λ rest. rows ++ rest) (vertical_on most left l)) split
+widened_all most left a n below rows inner before cur split e c = search rules

@@ -1,7 +1,7 @@
 -- The number of times that a number occurs in the first rows of a tableau, and the test of a standard tableau by these numbers.
-use Rattle.std.proofs.Common.{◌≡◌, ℕ, zero, suc, ◌+◌, ◌-◌, ◌<◌, ◌≤◌, true, ◌&&◌, ◌==◌, List, [], ◌∷◌, ◌++◌, map, length, take, get_or, slice_index_or, replicate, ◌∙◌, ap, ap₂, sym, refl, subst, arith, append-nil, length-append, eqb-true}
+use Rattle.std.proofs.Common.{◌≡◌, ℕ, zero, suc, ◌+◌, ◌-◌, ◌<◌, ◌≤◌, true, ◌&&◌, ◌==◌, List, [], ◌∷◌, ◌++◌, map, length, take, get_or, replicate, ◌∙◌, ap, ap₂, sym, refl, arith, length-append, eqb-true, rules}
 use Rattle.std.proofs.lemmas.Bool.{eq-eqb, and_parts}
-use Rattle.std.proofs.lemmas.List.{take_more, length-map}
+use Rattle.std.proofs.lemmas.List.{length-map}
 use Rattle.sym_model.specs.Partition.{size, after}
 use Rattle.sym_model.specs.Schur.{row_lengths, letters_of, times_in}
 use Rattle.sym_model.specs.GoodTableau.{every}
@@ -9,29 +9,19 @@ use Rattle.sym_model.specs.StandardTableau.{IsStandard}
 use Rattle.sym_model.specs.Tableau.{SkewFilling, IsTableau, shape_of}
 use Rattle.sym_model.proofs.Tableaux.{length-row_lengths, row_lengths-none, length-letters_of}
 use Rattle.skew_shapes.specs.CellFillings.{IsTableauWithin, row_of}
-use Rattle.std.proofs.lemmas.Grind.{flat_map-append}
+use Rattle.std.proofs.lemmas.Grind.{common_steps}
 
 -- ---- the letters of the first i rows of a tableau, and the number of times that a letter occurs in them
 
 pub letters-more :
     (rows : List (List ℕ)) (i : ℕ) → i < length rows → letters_of (take (i + 1) rows) ≡ letters_of (take i rows) ++ row_of rows (i + 1)
-letters-more rows i h =
-    let e : i ≡ i + 1 - 1 = omega arith in
-    let row = get_or rows i [] in
-    ap letters_of (take_more rows i [] h) ∙ flat_map-append (λ (r : List ℕ). r) (take i rows) (row ∷ [])
-    ∙ ap (λ l. letters_of (take i rows) ++ l) (append-nil row ∙ ap (λ n. slice_index_or rows n []) e)
+letters-more rows i h = grind (arith, common_steps)
 
 pub length-letters-take : (rows : List (List ℕ)) (i : ℕ) → length (letters_of (take i rows)) ≤ length (letters_of rows)
 length-letters-take [] zero = omega arith
 length-letters-take [] (suc i) = omega arith
 length-letters-take (row ∷ rows) zero = omega arith
-length-letters-take (row ∷ rows) (suc i) =
-    omega (
-      arith,
-      length-append row (letters_of (take i rows)),
-      length-append row (letters_of rows),
-      length-letters-take rows i,
-    )
+length-letters-take (row ∷ rows) (suc i) = search (rules, length-append, (length-letters-take rows i))
 
 size-row_lengths : (outer inner : List ℕ) → size (row_lengths outer inner) ≤ size outer
 size-row_lengths [] inner = omega arith
@@ -68,17 +58,12 @@ once_from w a (suc k) h =
     tail e = cc
 
 straight : (t : SkewFilling) → IsTableauWithin t → t.inner ≡ [] → IsTableau (shape_of t.rows) [] t.rows
-straight t h e =
-    let shape : t.outer ≡ shape_of t.rows = sym (h.tableau.cells ∙ ap (row_lengths t.outer) e ∙ row_lengths-none t.outer) in
-    subst (λ outer. IsTableau outer [] t.rows) shape (subst (λ inner. IsTableau t.outer inner t.rows) e h.tableau)
+straight t h e = search (rules, row_lengths-none)
 
 pub IsStandard-from :
     (t : SkewFilling) → IsTableauWithin t → t.inner ≡ [] → every (λ n. times_in n (letters_of t.rows) == 1) (after 0 (length (letters_of t.rows))) ≡ true
     → IsStandard t.rows
-IsStandard-from t h e once = record {
-  tableau = straight t h e;
-  once = once_tells (letters_of t.rows) 0 (length (letters_of t.rows)) once;
-}
+IsStandard-from t h e once = search (rules, straight, once_tells)
 
 pub IsStandard-tells :
     (rows : List (List ℕ)) → IsStandard rows → every (λ n. times_in n (letters_of rows) == 1) (after 0 (length (letters_of rows))) ≡ true

@@ -1,8 +1,9 @@
 -- The partitions made by adding a horizontal strip to a partition (specs/HorizontalStrips).
---     `strips_on-tell`, `Among-strips_on`  outer is listed by `strips_on` if and only if `IsGrown` holds
+--     `strips_on-tell`, `Among-strips_on`  the list `strips_on` has exactly the partitions that have `left` cells more than inner, a first row of at
+--                                          most `most` cells, and the row lengths required for a horizontal strip (`IsGrown`)
 --     `strips_on-fall`                     the list is in decreasing lexicographic order
 --     `horizontal_strips`                  the list has exactly the partitions ν such that ν/inner is a horizontal strip of k cells
-use Rattle.std.proofs.Common.{◌≡◌, ℕ, zero, suc, ◌+◌, ◌-◌, ◌<◌, ◌≤◌, ◌==◌, min, max, Bool, true, false, cond, List, [], ◌∷◌, ◌++◌, map, length, get_or, drop, refl, sym, ap, ap₂, ◌∙◌, subst, inl, inr, arith, append_assoc, eqb-true, add-one, flat_map}
+use Rattle.std.proofs.Common.{◌≡◌, ℕ, zero, suc, ◌+◌, ◌-◌, ◌<◌, ◌≤◌, min, max, List, [], ◌∷◌, ◌++◌, map, length, get_or, drop, refl, sym, ap, ap₂, ◌∙◌, subst, inl, inr, arith, append_assoc, add-one, flat_map, rules}
 use Rattle.std.specs.Prelude.{Option, Some, None, IsSome, slice_get}
 use Rattle.std.specs.Option.{option_to_list}
 use Rattle.std.proofs.lemmas.Bool.{cases_eq}
@@ -21,8 +22,6 @@ use Rattle.std.proofs.lemmas.Grind.{flat_map-append}
 use Rattle.std.proofs.lemmas.List.{map-append, append-nil, drop_all}
 use Rattle.std.proofs.lemmas.Option.{slice_get_past}
 
--- ---- the list `counting_down` of numbers that decrease by 1
-
 pub down-tells : (high n a : ℕ) → n ≤ high + 1 → Among a (counting_down high n) → (a ≤ high) × (high < a + n)
 down-tells high zero a h m = absurd m
 down-tells high (suc n) a h (inl e) = (omega arith, omega arith)
@@ -34,11 +33,9 @@ among-down high (suc n) a h l = elim (cases_eq a high) [ inl e ↦ inl e | inr o
 
 down-next : (high n : ℕ) → counting_down high (n + 1) ≡ counting_down high n ++ ((high - n) ∷ [])
 down-next high zero = ap (λ a. a ∷ []) (let e : high ≡ high - 0 = omega arith in e)
-down-next high (suc n) =
-    ap (counting_down high) (let s : suc n + 1 ≡ suc (n + 1) = omega arith in s)
-    ∙ ap (λ l. high ∷ l) (down-next (high - 1) n ∙ ap (λ a. counting_down (high - 1) n ++ (a ∷ [])) (let e : high - 1 - n ≡ high - suc n = omega arith in e))
+down-next high (suc n) = search (rules, (down-next (high - 1) n))
 
--- ---- partitions whose rows lie between two rows of inner, and their list `strips_on`
+-- ---- partitions that are made by adding a horizontal strip to inner, and their list `strips_on`
 
 -- each row of outer is at least as long as that of inner and at most as long as the row of inner above it, and the first row is at most `most`
 abbrev IsOver : ℕ → List ℕ → List ℕ → Type 0
@@ -51,13 +48,7 @@ over_size : (most : ℕ) (inner outer : List ℕ) → IsOver most inner outer �
 over_size most [] [] o = (omega arith, omega arith)
 over_size most [] (b ∷ outer) o = let e = ap size o.2 in let l = o.1 in (omega arith, omega arith)
 over_size most (a ∷ inner) [] o = absurd o
-over_size most (a ∷ inner) (b ∷ outer) o =
-    let r = over_size a inner outer o.2 in
-    let l = o.0 in
-    let m = o.1 in
-    let x = r.0 in
-    let y = r.1 in
-    (omega arith, omega arith)
+over_size most (a ∷ inner) (b ∷ outer) o = search (rules, (over_size a inner outer o.2))
 
 -- `IsOver most inner outer` holds, and outer has exactly `left` cells more than inner and at most `left` rows more
 pub record IsGrown (most left : ℕ) (inner outer : List ℕ) : Type 0 where
@@ -66,21 +57,7 @@ pub record IsGrown (most left : ℕ) (inner outer : List ℕ) : Type 0 where
   pub few : rows outer ≤ rows inner + left
 
 pub strips_on-tell : (most left : ℕ) (inner outer : List ℕ) → Falls (most ∷ inner) → left ≤ most → Among outer (strips_on most left inner) → IsGrown most left inner outer
-strips_on-tell most left [] outer f h m = by (left == 0) refl m
-  where
-    by : (b : Bool) → (left == 0) ≡ b → Among outer (cond b ([] ∷ []) ((left ∷ []) ∷ [])) → IsGrown most left [] outer
-    by true e (inl i) =
-        let z : left ≡ 0 = eqb-true left 0 e in
-        subst (IsGrown most left []) (sym i) (record { over = tt; cells = omega arith; few = omega arith })
-    by true e (inr m) = absurd m
-    by false e (inl i) =
-        let p : 0 < left = positive left e in
-        subst (IsGrown most left []) (sym i) (record { over = (p, h, refl); cells = omega arith; few = omega arith })
-      where
-        positive : (n : ℕ) → (n == 0) ≡ false → 0 < n
-        positive zero e = absurd (let t : true ≡ false = e in cc)
-        positive (suc n) e = omega arith
-    by false e (inr m) = absurd m
+strips_on-tell most left [] outer f h m = search rules
 strips_on-tell most left (a ∷ inner) outer f h m =
     let high = min most (a + left) in
     let fall = f.0 in
@@ -97,20 +74,8 @@ strips_on-tell most left (a ∷ inner) outer f h m =
     (record { over = (omega arith, omega arith, r.over); cells = omega arith; few = omega arith })
 
 pub Among-strips_on : (most left : ℕ) (inner outer : List ℕ) → Falls (most ∷ inner) → IsOver most inner outer → size outer ≡ size inner + left → Among outer (strips_on most left inner)
-Among-strips_on most left [] [] f o s = ap_zero left (omega arith)
-  where
-    ap_zero : (n : ℕ) → n ≡ 0 → Among [] (cond (n == 0) ([] ∷ []) ((n ∷ []) ∷ []))
-    ap_zero zero e = inl refl
-    ap_zero (suc n) e = absurd (omega arith)
-Among-strips_on most left [] (b ∷ outer) f o s =
-    let e = o.2 in
-    let z = ap size o.2 in
-    let p = o.0 in
-    by (left == 0) refl (ap₂ ◌∷◌ (let q : b ≡ left = omega arith in q) e) (omega arith)
-  where
-    by : (t : Bool) → (left == 0) ≡ t → b ∷ outer ≡ left ∷ [] → 0 < left → Among (b ∷ outer) (cond t ([] ∷ []) ((left ∷ []) ∷ []))
-    by true z e p = absurd (let q = eqb-true left 0 z in omega arith)
-    by false z e p = inl e
+Among-strips_on most left [] [] f o s = search rules
+Among-strips_on most left [] (b ∷ outer) f o s = search rules
 Among-strips_on most left (a ∷ inner) [] f o s = absurd o
 Among-strips_on most left (a ∷ inner) (b ∷ outer) f o s =
     let fall = f.0 in
@@ -122,8 +87,6 @@ Among-strips_on most left (a ∷ inner) (b ∷ outer) f o s =
     Among-each (λ row. map (λ rest. row ∷ rest) (strips_on a (left + a - row) inner)) b (b ∷ outer) (counting_down (min most (a + left)) (min most (a + left) + 1 - max left a))
     (among-down (min most (a + left)) (min most (a + left) + 1 - max left a) b (omega arith) (omega arith))
     (Among-map (λ rest. b ∷ rest) outer (strips_on a (left + a - b) inner) (Among-strips_on a (left + a - b) inner outer f.1 o.2 (omega arith)))
-
--- ---- the partitions listed by `strips_on` are in decreasing lexicographic order
 
 pub fall-each : (rest : ℕ → List (List ℕ)) (high n : ℕ) → n ≤ high + 1 → ((a : ℕ) → Among a (counting_down high n) → FallsLexicographically (rest a))
     → FallsLexicographically (flat_map (λ a. map (λ x. a ∷ x) (rest a)) (counting_down high n))
@@ -145,16 +108,10 @@ fall-each rest high (suc n) h f =
     (subst (λ z. falling_lexicographic (high ∷ left.0) z ≡ Less) (sym right.2) less))
 
 pub strips_on-fall : (most left : ℕ) (inner : List ℕ) → FallsLexicographically (strips_on most left inner)
-strips_on-fall most left [] = by (left == 0)
-  where
-    by : (b : Bool) → FallsLexicographically (cond b ([] ∷ []) ((left ∷ []) ∷ []))
-    by true = (λ y m. absurd m, tt)
-    by false = (λ y m. absurd m, tt)
+strips_on-fall most left [] = search rules
 strips_on-fall most left (a ∷ inner) =
     fall-each (λ row. strips_on a (left + a - row) inner) (min most (a + left)) (min most (a + left) + 1 - max left a) (omega arith)
     (λ row m. strips_on-fall a (left + a - row) inner)
-
--- ---- the partitions listed by `strips_on` are those that add a horizontal strip to inner
 
 over-falls : (most : ℕ) (inner outer : List ℕ) → ArePositive inner → IsOver most inner outer → IsPartition outer
 over-falls most [] [] p o = record { falls = tt; positive = tt }
@@ -228,13 +185,13 @@ horizontal_strips inner k p = record {
   );
 }
 
--- ---- the list `strips_on` by the first rows of its partitions
+-- ---- the list `strips_on`, split by the lengths of the first rows
 
 pub prefix_longer : (rows : List ℕ) (row : ℕ) (xs : List (List ℕ)) → map (λ rest. (rows ++ (row ∷ [])) ++ rest) xs ≡ map (λ rest. rows ++ rest) (map (λ rest. row ∷ rest) xs)
 prefix_longer rows row [] = refl
 prefix_longer rows row (x ∷ xs) = ap₂ ◌∷◌ (append_assoc rows (row ∷ []) x) (prefix_longer rows row xs)
 
--- the partitions of `strips_on` for a ∷ below that have the first row `row`
+-- the partitions with the first row `row` that `strips_on` lists for a ∷ inner, if `left` cells are added in all
 abbrev pub grown : ℕ → ℕ → List ℕ → ℕ → List (List ℕ)
 grown a left inner row = map (λ rest. row ∷ rest) (strips_on a (left + a - row) inner)
 
@@ -254,8 +211,8 @@ each-next later high n rows longer before cur new c l e =
     ∙ sym (flat_map-append (λ row. map (λ rest. row ∷ rest) (later row)) (counting_down high n) ((high - n) ∷ []))
     ∙ ap (flat_map (λ row. map (λ rest. row ∷ rest) (later row))) (sym (down-next high n))))
 
--- let n be less than the number of possible lengths of the first row, and `row` the greatest of these lengths minus n: if `rest` is in `strips_on`
--- for inner with the left + a - row cells that remain to be added, row ∷ rest is in `strips_on` for a ∷ inner
+-- let `row` be a length that the first row can have in the list `strips_on most left (a ∷ inner)`. If `rest` is in the list of partitions made from
+-- inner by adding a horizontal strip of left + a - row cells, with a first row of at most a cells, then row ∷ rest is in the list for a ∷ inner
 pub listed_further : (most left a row n : ℕ) (inner rest : List ℕ) → n < min most (a + left) + 1 - max left a → row ≡ min most (a + left) - n → Among rest (strips_on a (left + a - row) inner)
     → Among (row ∷ rest) (strips_on most left (a ∷ inner))
 listed_further most left a row n inner rest h e m =
@@ -276,24 +233,17 @@ grown_limits inner k p cells few rest m =
     let b = g.few in
     record { partition = over-falls (part inner 1 + k) inner rest p.positive g.over; few = omega arith; small = omega arith }
 
--- if left = 0, that is, no cell remains to be added after the last row of inner, `strips_on` for the empty partition lists only the empty partition
 pub last_empty : (left : ℕ) → left ≡ 0 → strips_on left left [] ≡ [] ∷ []
 last_empty left e = ap (λ n. strips_on n n []) e
 
 pub last_row : (left : ℕ) → 0 < left → strips_on left left [] ≡ (left ∷ []) ∷ []
-last_row left h = by (left == 0) refl
-  where
-    by : (b : Bool) → (left == 0) ≡ b → cond b ([] ∷ []) ((left ∷ []) ∷ []) ≡ (left ∷ []) ∷ []
-    by true e = absurd (let z = eqb-true left 0 e in omega arith)
-    by false e = refl
+last_row left h = search rules
 
--- let n be the number of all possible first rows: if `cur` is `before`, followed by rows ++ ν for the partitions ν of `strips_on` with the n greatest
--- first rows, then `cur` is `before`, followed by rows ++ ν for all ν in `strips_on most left inner`
+-- the end of a loop over the possible lengths of the first row: let n be the number of these lengths. If `cur` is `before`, followed by rows ++ ν for
+-- the partitions ν of `strips_on` with the n greatest first rows, then `cur` is `before`, followed by rows ++ ν for all ν in `strips_on`
 pub grown_all : (most left a n : ℕ) (below rows inner : List ℕ) (before cur : List (List ℕ)) → a ∷ below ≡ inner → n ≡ min most (a + left) + 1 - max left a
     → cur ≡ before ++ map (λ rest. rows ++ rest) (flat_map (grown a left below) (counting_down (min most (a + left)) n)) → cur ≡ before ++ map (λ rest. rows ++ rest) (strips_on most left inner)
-grown_all most left a n below rows inner before cur split e c =
-    c ∙ ap (λ k. before ++ map (λ rest. rows ++ rest) (flat_map (grown a left below) (counting_down (min most (a + left)) k))) e
-    ∙ ap (λ l. before ++ map (λ rest. rows ++ rest) (strips_on most left l)) split
+grown_all most left a n below rows inner before cur split e c = search rules
 
 -- ---- the next shape of an iterator whose shapes are all in one list
 

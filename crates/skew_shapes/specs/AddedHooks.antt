@@ -1,4 +1,5 @@
--- The partitions made by adding a rim hook of k cells to a partition, listed by increasing last row of the rim hook. Rows are counted from 1.
+-- The partitions made by adding a rim hook of k cells to a partition, listed by increasing last row of the rim hook. Rows are counted from 1. A
+-- *lister* is an iterator over these partitions: one of them is the current one, and the others are listed already or still to be listed.
 use Rattle.std.specs.Prelude.{◌≡◌, ℕ, ◌+◌, ◌-◌, ◌<◌, ◌≤◌, ◌==◌, nat_lt, nat_le, max, Bool, true}
 use Rattle.std.specs.Prelude.{IsTrue, ◌&&◌, ◌||◌, cond, List, [], ◌∷◌, map, take, length, Some}
 use Rattle.std.specs.Prelude.{None, flat_map}
@@ -34,7 +35,7 @@ abbrev pub hooks_ending_after : ℕ → List ℕ → ℕ → List (List ℕ)
 hooks_ending_after k inner last =
     flat_map (hooks_ending k inner) (after last (rows inner + k - last))
 
--- no rim hook of k cells that can be added to inner and whose last row is `last` or greater has its first row before `first`
+-- each rim hook of k cells that can be added to inner begins in row `first` or a later row, if it ends in row `last` or a later row
 pub record BeginsFrom (k : ℕ) (inner : List ℕ) (first last : ℕ) : Type 0 where
   pub counts : 1 ≤ first
   pub ordered : first ≤ last + 1

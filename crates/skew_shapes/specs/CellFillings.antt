@@ -1,4 +1,5 @@
--- Fillings of skew shapes: the entry of a cell, and fillings with one entry changed or with one cell added or removed.
+-- Fillings of skew shapes: the entry of a cell, and fillings with one entry changed or with one cell added or removed. A skew shape is within the
+-- limits if its partitions have at most 512 rows and 4096 cells.
 use Rattle.std.specs.Prelude.{◌≡◌, ℕ, ◌+◌, ◌-◌, nat_le, nat_lt, Bool, ◌&&◌, cond, List, [], ◌∷◌}
 use Rattle.std.specs.Prelude.{map, length, take, slice_index, slice_index_or, slice_set, Option}
 use Rattle.std.specs.Prelude.{Some, None}

@@ -1,4 +1,4 @@
--- Lists of the partitions made from a partition by adding or removing a rim hook.
+-- Lists of the partitions made from a partition by adding or removing a rim hook. A lister is an iterator over such a list.
 use Rattle.std.specs.Prelude.{◌≡◌, ◌↔◌, ℕ, ◌+◌, List, Option}
 use Rattle.sym_model.specs.Sum.{Among}
 use Rattle.sym_model.specs.Partition.{IsPartition, size}

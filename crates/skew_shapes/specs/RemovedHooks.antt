@@ -1,5 +1,6 @@
 -- The partitions made by removing a rim hook of k cells from a partition; those for which the rim hook begins in a lower row come first. Rows are
--- counted from 1, from the top.
+-- counted from 1, from the top. A *lister* is an iterator over these partitions: one of them is the current one, and the others are listed already or
+-- still to be listed.
 use Rattle.std.specs.Prelude.{◌≡◌, ℕ, zero, suc, ◌+◌, ◌-◌, ◌<◌, ◌≤◌, ◌==◌, nat_lt, nat_le, Bool}
 use Rattle.std.specs.Prelude.{true, IsTrue, ◌&&◌, ◌||◌, cond, List, [], ◌∷◌, ◌++◌, map, length}
 use Rattle.std.specs.Prelude.{Some, None, flat_map}
@@ -37,7 +38,7 @@ hooks_beginning_within k outer zero = []
 hooks_beginning_within k outer (suc above) =
     hooks_beginning k outer (suc above) ++ hooks_beginning_within k outer above
 
--- no rim hook of k cells that can be removed from outer and whose first row is `first` or smaller has its last row after `last`
+-- each rim hook of k cells that can be removed from outer ends in row `last` or an earlier row, if it begins in row `first` or an earlier row
 pub record EndsUpTo (k : ℕ) (outer : List ℕ) (first last : ℕ) : Type 0 where
   pub counts : 1 ≤ first
   pub ordered : first ≤ last + 1

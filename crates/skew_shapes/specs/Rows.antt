@@ -33,16 +33,16 @@ filling_in shape starts numbers =
       rows = rows_by (number_in starts numbers) shape.0 shape.1;
     }
 
--- if each row i of the partition outer occupies outer_i places of a list of length `places`, from the index starts_i on, the rows follow one another
--- without overlap and end within the list
+-- the rows of the partition outer have places in a list of length `places`: row i occupies the outer_i places from the index starts_i on. These
+-- places do not overlap, follow one another in the order of the rows, and are within the list
 pub record HasPlaces (starts outer : List ℕ) (places : ℕ) : Type 0 where
   pub rows : length outer ≤ length starts
   pub apart : (i k : ℕ) → i < k → k < length outer
       → slice_index starts i + slice_index outer i ≤ slice_index starts k
   pub within : (i : ℕ) → i < length outer → slice_index starts i + slice_index outer i ≤ places
 
--- `shape` is a skew shape within the limits; and the list `numbers` is long enough for all rows of its outer partition, if row i begins at the index
--- starts_i for each i (`HasPlaces`)
+-- `shape` is a skew shape within the limits (at most 512 rows and 4096 cells), and the list `numbers` is long enough for all rows of its outer
+-- partition, if row i begins at the index starts_i for each i (`HasPlaces`)
 pub record IsKept (shape : List ℕ × List ℕ) (starts numbers : List ℕ) : Type 0 where
   pub skew : IsSkew shape.0 shape.1
   pub places : HasPlaces starts shape.0 (length numbers)

@@ -1,4 +1,5 @@
-//! A lister of the partitions made from a partition by adding a rim hook of k cells.
+//! A lister of the partitions made from a partition by adding a rim hook of k cells: an iterator
+//! that is moved on by `advance`.
 ghost use Rattle.std.specs.Prelude.{◌≡◌, ◌+◌, ◌-◌, ◌<◌, ◌≤◌, ◌↔◌, ◌∷◌, ◌++◌, [], true, max, map};
 ghost use Rattle.std.specs.Prelude.{take, length, None, IfOk, IfSome, IsSome, IsTrue};
 ghost use Rattle.std.specs.Bool.{OnTrue, OnFalse};
@@ -46,9 +47,9 @@ impl Model for HooksAdded {
 }
 
 impl HooksAdded {
-    /// A lister of the partitions made by adding a rim hook of `k` cells to `inner`. It is before
-    /// the first of them. `inner` must have at most 4,096 - k cells and at most 512 - k rows. For k
-    /// = 0 the list is empty.
+    /// A lister of the partitions made by adding a rim hook of `k` cells to `inner`. At first none
+    /// of them is the current one. `inner` must have at most 4,096 - k cells and at most 512 - k
+    /// rows. For k = 0 the list is empty.
     pub fn new(alloc: Global, inner: &Partition, k: u16) -> Result<HooksAdded, NoMemory>
         requires cells { size inner.now + k ≤ 4096 }
         requires rows { rows inner.now + k ≤ 512 }

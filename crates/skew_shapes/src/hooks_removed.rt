@@ -1,4 +1,5 @@
-//! A lister of the partitions made from a partition by removing a rim hook of k cells.
+//! A lister of the partitions made from a partition by removing a rim hook of k cells: an iterator
+//! that is moved on by `advance`.
 ghost use Rattle.std.specs.Prelude.{◌≡◌, ◌+◌, ◌-◌, ◌<◌, ◌≤◌, ◌↔◌, ◌∷◌, ◌++◌, [], true, map, length};
 ghost use Rattle.std.specs.Prelude.{None, IfOk, IfSome, IsSome, IsTrue};
 ghost use Rattle.std.specs.Bool.{OnTrue, OnFalse};
@@ -47,8 +48,8 @@ impl Model for HooksRemoved {
 }
 
 impl HooksRemoved {
-    /// A lister of the partitions made by removing a rim hook of `k` cells from `outer`. It is
-    /// before the first of them. For k = 0 the list is empty.
+    /// A lister of the partitions made by removing a rim hook of `k` cells from `outer`. At first
+    /// none of them is the current one. For k = 0 the list is empty.
     pub fn new(alloc: Global, outer: &Partition, k: u16) -> Result<HooksRemoved, NoMemory>
         ensures hooks { IfOk result (λ l.
             AreHooksRemoved outer.now k (⟦<HooksRemoved as Lister>⟧.rest l)) }

@@ -1,5 +1,5 @@
 //! The partitions made by adding a horizontal strip of k cells to a partition, as a list and by a
-//! lister.
+//! lister, which is an iterator that is moved on by `advance`.
 ghost use Rattle.std.specs.Prelude.{◌≡◌, ◌+◌, ◌^◌, ◌<◌, ◌≤◌, ◌∷◌, ◌++◌, [], None, ℕ, List, map};
 ghost use Rattle.std.specs.Prelude.{IfOk, OnOk};
 ghost use Rattle.sym_model.specs.Partition.{Falls, rows, size};
@@ -33,9 +33,9 @@ impl Model for HorizontalStrips {
 }
 
 impl HorizontalStrips {
-    /// A lister of the partitions made by adding a horizontal strip of `k` cells to `inner`. It is
-    /// before the first of them. `inner` must have at most 4,096 - k cells and at most 512 - k
-    /// rows. For k = 0 the only listed partition is `inner`.
+    /// A lister of the partitions made by adding a horizontal strip of `k` cells to `inner`. At
+    /// first none of them is the current one. `inner` must have at most 4,096 - k cells and at most
+    /// 512 - k rows. For k = 0 the only listed partition is `inner`.
     pub fn new(alloc: Global, inner: &Partition, k: u16) -> Result<HorizontalStrips, NoMemory>
         requires cells { size inner.now + k ≤ 4096 }
         requires rows { rows inner.now + k ≤ 512 }

@@ -1,11 +1,10 @@
--- A product of two scalars and a count is added to a list of fractions: what it adds to the coefficients times a common denominator, and when the sum
--- overflows.
-use Rattle.std.proofs.Common.{◌≡◌, ◌⊎◌, ℕ, zero, suc, ◌*◌, ◌^◌, ◌<◌, ◌≤◌, Bool, true, List, [], ◌∷◌, sym, ◌∙◌, ap, ap₂, subst, refl, inl, inr, arith, ℤ, pos, ◌*ℤ◌, unsigned_abs}
+-- The product of two scalars and a number (a count) is added to a list of terms with fractions as coefficients. The lemmas say by which integers this
+-- increases the coefficients, if the list is multiplied by a common denominator, and on which condition the sum overflows.
+use Rattle.std.proofs.Common.{◌≡◌, ℕ, zero, suc, ◌*◌, ◌^◌, ◌<◌, ◌≤◌, Bool, true, List, [], ◌∷◌, sym, ◌∙◌, ap, ap₂, subst, refl, arith, ℤ, pos, ◌*ℤ◌, unsigned_abs, rules}
 use Rattle.std.specs.Prelude.{nat_eq, nat_abs, None}
 use Rattle.std.specs.Int.{◌∣◌}
 use Rattle.std.specs.Cmp.Lexicographic.{pointwise, nat_list_eq_equiv}
 use Rattle.std.proofs.lemmas.Int.{ints, unsigned_abs-mul}
-use Rattle.std.proofs.lemmas.Bool.{cases_lt}
 use Rattle.std.proofs.lemmas.Slice.Eq.{bytes_eq-Decides}
 use Rattle.sym_model.specs.Sum.{Among}
 use Rattle.sym_model.proofs.Orders.{is_reduced-tells}
@@ -22,7 +21,6 @@ use Rattle.sparse_polys.specs.Combination.{IsCombination}
 use Rattle.sparse_polys.specs.Labels.{same_partition}
 use Rattle.sparse_polys.proofs.Tables.{term-tests}
 pub use Rattle.sparse_polys.proofs.ClearedSums.{lowest_at}
-use Rattle.linear_combinations.proofs.Cleared.{Gains-none, Gains-as}
 use Rattle.sparse_polys.proofs.ClearedSums.{size_scaled}
 use Rattle.linear_combinations.proofs.Gains.{overflows_alone}
 use Rattle.monomial_laws.specs.ExpressionTerms.{over}
@@ -36,7 +34,6 @@ use Rattle.sparse_polys.proofs.Coefficients.{nat_abs-is}
 use Rattle.linear_combinations.specs.Cleared.{IsDenominator, AreCleared, GainsCleared}
 use Rattle.linear_combinations.specs.Cleared.{OverflowsCleared}
 use native.Mathlib.Nat.{mul-le-mul_left, mul-pos, dvd-mul_left}
-use lib.IntN.{+ℤ_idr, *ℤ-zero, zero-*ℤ}
 
 -- ---- the product of two scalars and a count, times the denominators of the scalars
 
@@ -70,22 +67,7 @@ product-value d e a b p c n la lb lp f g h =
 pub product-refused : {R : Type 0} (value : R → Fraction) (x y : R) (d e : ℕ)
     → AnswersProduct value x y None → IsDenominator d (value x) × IsDenominator e (value y)
     → d * e < 2 ^ 127 → 2 ^ 127 ≤ magnitude d (value x) * magnitude e (value y)
-product-refused value x y d e answers h small = by (cases_lt (magnitude d (value x) * magnitude e (value y)) (2 ^ 127))
-  where
-    by : (magnitude d (value x) * magnitude e (value y) < 2 ^ 127) ⊎ (2 ^ 127 ≤ magnitude d (value x) * magnitude e (value y))
-        → 2 ^ 127 ≤ magnitude d (value x) * magnitude e (value y)
-    by (inl l) =
-        let some = answers.room d e (record {
-          left_positive = h.0.positive;
-          right_positive =
-              h.1.positive;
-          small = small;
-          left = h.0.multiple;
-          right = h.1.multiple;
-          room = l;
-        }) in
-        cc
-    by (inr l) = l
+product-refused value x y d e answers h small = search rules
 
 size_product : (d e : ℕ) (a b : Fraction) → nat_abs (scaled d a *ℤ scaled e b) ≡ magnitude d a * magnitude e b
 size_product d e a b = nat_abs-product (scaled d a) (scaled e b) ∙ ap₂ (λ m n. m * n) (size_scaled d a) (size_scaled e b)
@@ -104,10 +86,7 @@ pub refused-first : {R : Type 0} (value : R → Fraction) (x y : R) (d e n : ℕ
     → AnswersProduct value x y None → IsDenominator d (value x) × IsDenominator e (value y)
     → d * e < 2 ^ 127 → 0 < n → 2 ^ 127 ≤ magnitude d (value x) * magnitude e (value y) * n
 refused-first value x y d e zero answers h small some = absurd (omega arith)
-refused-first value x y d e (suc n) answers h small some =
-    let l = product-refused value x y d e answers h small in
-    let m = mul-le-mul_left (magnitude d (value x) * magnitude e (value y)) (let o : 1 ≤ suc n = omega arith in o) in
-    omega arith
+refused-first value x y d e (suc n) answers h small some = search rules
 
 pub refused-second : {R : Type 0} (value : R → Fraction) (x y p w : R) (d e n : ℕ) → InLowestTerms (value x) → InLowestTerms (value y)
     → value p ≡ fraction_product (value x) (value y) → value w ≡ whole (pos n)
@@ -141,10 +120,7 @@ at_same label = (bytes_eq-Decides label label).1 refl
 pub Gains-nothing : {is_label : List ℕ → Bool} (q n : ℕ) (z : ℤ) (old : Terms (List ℕ)) (k : List ℕ)
     → n ≡ 0 → AreCleared (pointwise nat_eq) q old
     → GainsCleared (pointwise nat_eq) is_label q old ((k, z *ℤ pos n) ∷ []) old
-Gains-nothing q n z old k e cleared =
-    Gains-as q old [] ((k, z *ℤ pos n) ∷ []) old
-    (λ φ. sym (+ℤ_idr ((z *ℤ pos n) *ℤ φ k) ∙ ap (λ y. y *ℤ φ k) (ap (λ m. z *ℤ pos m) e ∙ *ℤ-zero z) ∙ zero-*ℤ (φ k)))
-    (Gains-none q old cleared)
+Gains-nothing q n z old k e cleared = search rules
 
 pub Overflows-count : (d e n : ℕ) (a b : Fraction) (old : Terms (List ℕ)) (k : List ℕ)
     → 2 ^ 127 ≤ magnitude d a * magnitude e b * n
@@ -170,7 +146,6 @@ Overflows-many d e a b old l r some also h =
     let w = h.2 in
     (h.0, omega (arith, ints))
 
--- if q > 0 is a multiple of the denominator of the term t of a table, q times the coefficient of t is not 0
 pub magnitude-positive : (q : ℕ) (terms : Terms (List ℕ)) (t : List ℕ × Fraction) → IsCombination (pointwise nat_eq) is_label terms → Among t terms
     → 0 < q → t.1.1 ∣ q → 0 < magnitude q t.1
 magnitude-positive q terms t is m some h =

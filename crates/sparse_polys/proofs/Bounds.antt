@@ -1,10 +1,10 @@
 -- Bounds for a list of terms in m that expands polynomials f(n), if each f(n) has a majorant that is a sum of at most N powers of x_1 + .. + x_n
--- with exponents up to d (`IsBounded`).
---     coefficient-within         |c| ≤ N·`growth`(m, d) for each coefficient c
+-- with exponents up to d (`IsBounded`). The *weight* of an expression for the basis m bounds every number in its conversion into this basis.
+--     coefficient-within         |c| ≤ N·`growth` for each coefficient c; for the basis m, `growth` is d^d, or 1 if d = 0
 --     coefficient-higher_label   each label of a size above d has the coefficient 0
---     greatest-within            if each label has at most `limit` cells, so has the greatest one
---     past-weight                if |c| ≥ 2^127 for a coefficient c of the list of an expression, the `weight` of the expression is 2^127 or more
-use Rattle.std.proofs.Common.{◌≡◌, ◌⊎◌, inl, inr, ℕ, ◌*◌, ◌^◌, ◌<◌, ◌≤◌, List, [], ◌∷◌, length, sym, ◌∙◌, ap, subst, refl, arith, pos}
+--     greatest-within            if each label has at most `limit` cells, the greatest size of a label is at most `limit`
+--     past-weight                if the list of an expression has a coefficient c with |c| ≥ 2^127, the weight of the expression is 2^127 or more
+use Rattle.std.proofs.Common.{◌≡◌, ◌⊎◌, inl, inr, ℕ, ◌*◌, ◌^◌, ◌<◌, ◌≤◌, List, [], ◌∷◌, length, sym, ◌∙◌, subst, refl, arith, pos, rules}
 use Rattle.std.proofs.lemmas.Bool.{cases_lt}
 use Rattle.linear_combinations.proofs.Found.{coefficient_of_term}
 use Rattle.sparse_polys.specs.Tables.{IsWholeTable}
@@ -27,10 +27,7 @@ use Rattle.monomial_laws.proofs.WeightBounds.{coefficient_within_growth, growth-
 
 -- if the list W in m expands the polynomials f(n) (`IsList`), the coefficient in W of a partition λ of n rows is that of x^λ in f(n)
 pub coefficient-list : (W : WholeTerms) (f : ℕ → Poly) → IsList W f → (label : List ℕ) → IsPartition label → coefficient W label ≡ coefficient (f (length label)) label
-coefficient-list W f h label p =
-    ap (coefficient W) (sym (sorted_parts-partition label p))
-    ∙ sym (coefficient-monomial_terms W (length label) label refl)
-    ∙ h (length label) label
+coefficient-list W f h label p = search (rules, sorted_parts-partition, coefficient-monomial_terms)
 
 pub coefficient-within : (N d : ℕ) (W : WholeTerms) (f : ℕ → Poly) → IsList W f → ((n : ℕ) → IsBounded N d n (f n)) → (label : List ℕ) → IsPartition label
     → nat_abs (coefficient W label) ≤ N * growth Basis.monomials d
@@ -67,7 +64,6 @@ past-weight e W d h label p large =
     three : (a b c d : ℕ) → a ≤ b → b ≤ c → c ≤ d → a ≤ d
     three a b c d h k l = omega arith
 
--- if each label of a list has a size of at most `limit`, the greatest size is at most `limit`
 pub greatest-within : {R : Type 0} (limit : ℕ) (terms : List (List ℕ × R)) → AreWithin limit terms → greatest_size terms ≤ limit
 greatest-within limit [] h = omega arith
 greatest-within limit (t ∷ terms) h = let a = h t (inl refl) in let b = greatest-within limit terms (λ u m. h u (inr m)) in omega arith

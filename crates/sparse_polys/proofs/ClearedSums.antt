@@ -1,5 +1,7 @@
--- Lists of fractions, times a common denominator q, to which terms are added one after another (specs/Cleared of linear_combinations).
---     found_over, mass_over, table_over   q times a list is a table of integers
+-- Lists of terms with fractions as coefficients, multiplied by a common denominator q so that the coefficients are integers; terms are added to such
+-- a list one after another (specs/Cleared of linear_combinations). A *table* is a list in which each label occurs once, with a coefficient that is
+-- not 0.
+--     found_over, mass_over, table_over   q times a table of fractions is a table of integers
 --     Gains-term, Overflows-term          one term added to a list of fractions
 --     Gains-entry, Overflows-entry        one term added to a table over any ring
 --     scaled_twice                        a multiple of a multiple of a list
@@ -53,8 +55,6 @@ lowest_at {is_label} terms is e = lowest-coefficient is_label nat_list_eq_equiv 
 pub scaled-nothing : (q : ℕ) → scaled q (whole (pos 0)) ≡ pos 0
 scaled-nothing q = zero-*ℤ (pos (q / 1))
 
--- ---- a list of fractions times q
-
 module _ (q : ℕ) where
   pub size_scaled : (c : Fraction) → nat_abs (scaled q c) ≡ magnitude q c
   size_scaled c = nat_abs-is (scaled q c) ∙ unsigned_abs-scaled q c
@@ -63,7 +63,6 @@ module _ (q : ℕ) where
   mass_over [] = refl
   mass_over (t ∷ terms) = ap₂ (λ a b. a + b) (nat_abs-product t.1.0 (pos (q / t.1.1))) (mass_over terms)
 
-  -- the sum of c·φ(label) over the list q·`terms` is the sum of (q·c)·φ(label) over `terms`
   pub over_sum : (φ : List ℕ → ℤ) (terms : Terms (List ℕ)) → pair (over q terms) φ ≡ total (λ (t : List ℕ × Fraction). scaled q t.1 *ℤ φ t.0) terms
   over_sum φ terms = total_map (λ (t : List ℕ × ℤ). t.1 *ℤ φ t.0) (λ (t : List ℕ × Fraction). (t.0, scaled q t.1)) terms
 
@@ -85,7 +84,6 @@ module _ (q : ℕ) where
     distinct_over : IsDistinct (pointwise nat_eq) (keys_of (over q terms))
     distinct_over = subst (IsDistinct (pointwise nat_eq)) (sym (keys_over terms)) is.distinct
 
-    -- the coefficient of e in the list q·`terms` is q times the coefficient of e in `terms`
     pub found_over : (e : List ℕ) → sum_over (only (pointwise nat_eq) e) (over q terms) ≡ scaled q (coefficient_at terms e)
     found_over e = over_at nat_list_eq_equiv same_partition (over q terms) distinct_over e ∙ coefficient_over terms e
 
@@ -109,7 +107,7 @@ module _ (q : ℕ) where
             r.1)
             (proper terms p.1 (λ u m. divides u (inr m)))
 
--- ---- the term (k, c) added to the list `old`, whose denominators divide q
+-- ---- the term (k, c) is added to the list `old`; q is a multiple of the denominators of c and of the coefficients of `old`
 
 module _ {is_label : List ℕ → Bool} (q : ℕ) (old new : Terms (List ℕ)) (k : List ℕ) (c : Fraction)
     (is : IsCombination (pointwise nat_eq) is_label old) (also : IsCombination (pointwise nat_eq) is_label new) (low : InLowestTerms c)
@@ -147,7 +145,7 @@ module _ {is_label : List ℕ → Bool} (q : ℕ) (old new : Terms (List ℕ)) (
     gains = record { sums = λ φ. sums_more φ ∙ ap (λ y. pair (over q old) φ +ℤ pair ((k, y) ∷ []) φ) e };
   }
 
--- if q < 2^127 is a common denominator and the ring refuses the sum of c and the coefficient a of k in `old`, then
+-- if q < 2^127 is a common denominator, and the checked addition of the ring gives None for c and the coefficient a of k in `old`, then
 -- |q·a| + |q·c| ≥ 2^127
 module _ {R : Type 0} (is_held : R → Type 0) (value : R → Fraction) (checked : R → R → Option R) (answers : (a b : R) → is_held a → is_held b → AnswersSum value a b (checked a b))
     (q : ℕ) (old : Terms (List ℕ)) (k : List ℕ) (c : Fraction) (refused : IsRefused is_held value checked (coefficient_at old k) c)
@@ -215,8 +213,6 @@ module _ {R : Type 0} (value : R → Fraction) (zero : R) (none : value zero ≡
         (coefficient_values value zero none (pointwise nat_eq) entries k) refl refused) some small
         divides cleared (combination_values value (pointwise nat_eq) is_label entries was) z e
 
--- ---- the product c of two coefficients a and b, times their denominators d and e
-
 pub record IsClearedProduct (d e : ℕ) (a b c : Fraction) : Type 0 where
   pub positive : 0 < d * e
   pub divides : c.1 ∣ d * e
@@ -236,9 +232,6 @@ cleared-product d e a b c la lb f h =
           ∙ ap₂ ◌*◌ (unsigned_abs-scaled d a) (unsigned_abs-scaled e b);
     }
 
--- ---- a multiple of a multiple of a list
-
--- (c·d)·xs is c·(d·xs) for a list xs of terms
 pub scaled_twice : {L : Type 0} (c d : ℤ) (xs : WholeTermsOf L) → multiple (c *ℤ d) xs ≡ multiple c (multiple d xs ++ [])
 scaled_twice c d [] = refl
 scaled_twice {L} c d (t ∷ xs) = ap (λ z. (t.0, z) ∷ multiple (c *ℤ d) xs) (product_assoc c d t.1) ∙ ap (λ (l : WholeTermsOf L). (t.0, c *ℤ (d *ℤ t.1)) ∷ l) (scaled_twice c d xs)

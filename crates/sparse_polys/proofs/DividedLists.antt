@@ -1,6 +1,7 @@
--- Bounds for the labels and coefficients of a list of terms in m that is divided by a number.
---     within-multiple, bounded-multiple       by the bounds of the polynomials that the list expands before it is divided
---     expansion-, within-, bounded-quotients  the list of an expression, bounded by the degree, the numerator and the denominator of the expression
+-- Bounds for the labels and coefficients of a list of terms in the monomial basis m that is divided by a number.
+--     within-multiple, bounded-multiple       bounds by the majorants of the polynomials that the list expands before it is divided
+--     expansion-, within-, bounded-quotients  the list that expands an expression: each label has a size of at most the degree of the expression, and
+--                                             each coefficient is bounded by means of the numbers `numerator` and `denominator` of the expression
 use Rattle.std.proofs.Common.{◌≡◌, ◌⊎◌, ℕ, ◌*◌, ◌/◌, ◌<◌, ◌≤◌, true, List, length, sym, ◌∙◌, ap, ap₂, subst, refl, inl, inr, arith, pos, ◌*ℤ◌}
 use Rattle.std.specs.Prelude.{nat_abs}
 use Rattle.std.proofs.lemmas.Bool.{cases_lt, and_parts}

@@ -1,5 +1,5 @@
--- If all counts of the search for the partitions ν in m_λ·m_μ are below 2^127, none was capped, and the count of each ν is the number of ways to
--- write ν as the sum of an arrangement of λ and one of μ (specs/MonomialProducts).
+-- The search for the partitions ν in m_λ·m_μ caps its counts at 2^128 - 1. If all counts are below 2^127, none was capped, and the count of each ν is
+-- the number of ways to write ν as the sum of an arrangement of λ and one of μ (specs/MonomialProducts).
 use Rattle.std.proofs.Common.{◌≡◌, ◌⊎◌, ℕ, suc, ◌^◌, ◌<◌, ◌≤◌, cond, List, [], ◌∷◌, sym, ap, subst, refl, inl, inr, arith}
 use Rattle.std.specs.Prelude.{All}
 use Rattle.sym_model.specs.Sum.{Among}

@@ -1,4 +1,5 @@
--- Tables of terms in m, described by their coefficients (specs/Products).
+-- Tables of terms in the basis m of monomial symmetric polynomials, described by their coefficients (specs/Products). A *table* is a list in which
+-- each label occurs once, with a coefficient that is not 0.
 --     coefficient-over      the coefficients of q times a table
 --     expansion_product     a table with the coefficients of the product of two expansions is the product, in every number of variables
 use Rattle.std.proofs.Common.{◌≡◌, ℕ, ◌+◌, ◌*◌, ◌/◌, ◌<◌, Bool, true, false, cond, List, [], ◌∷◌, length, sym, ◌∙◌, ap, ap₂, subst, refl, inl, inr, arith, ℤ, pos, ◌*ℤ◌}
@@ -55,8 +56,6 @@ not_here t terms is ν e = lookup-none (pointwise nat_eq ν) terms (none_past_he
 pub coefficient-over : (q : ℕ) (terms : Terms (List ℕ)) → IsPartitionTable terms → (ν : List ℕ) → coefficient (over q terms) ν ≡ scaled q (coefficient_at terms ν)
 coefficient-over q terms is ν = coefficient_of_over (over q terms) ν ∙ found_over q terms is ν
 
--- ---- the coefficient at the label of a term of a table
-
 absent : (k : List ℕ) (terms : Terms (List ℕ)) → lookup (pointwise nat_eq k) terms ≡ None → Among k (labels_of terms) → ⊥
 absent k [] e m = m
 absent k (u ∷ terms) e m = by (pointwise nat_eq k u.0) refl e (absent k terms) m
@@ -67,7 +66,6 @@ absent k (u ∷ terms) e m = by (pointwise nat_eq k u.0) refl e (absent k terms)
     by false p none rest (inl i) = let t : pointwise nat_eq k u.0 ≡ true = (bytes_eq-Decides k u.0).1 i in cc
     by false p none rest (inr n) = rest none n
 
--- the coefficient of a table at the label of one of its terms is the coefficient of that term
 pub found_at : (terms : Terms (List ℕ)) → IsPartitionTable terms → (t : List ℕ × Fraction) → Among t terms → coefficient_at terms t.0 ≡ t.1
 found_at [] is t m = absurd m
 found_at (u ∷ terms) is t m = by (pointwise nat_eq t.0 u.0) refl (found_at terms (table_tail u terms is) t) m
@@ -102,8 +100,6 @@ common-denominators terms is = record {
 partition_at : (terms : Terms (List ℕ)) → IsPartitionTable terms → (t : List ℕ × Fraction) → Among t terms → IsPartition t.0
 partition_at terms is t m = (is_label-tells t.0 (term-tests terms is t m).1).partition
 
--- if q is a multiple of the denominator of the coefficient of `product` at each partition, it is a multiple of the denominator of each term of
--- `product`
 pub divides_terms : (q : ℕ) (product : Terms (List ℕ)) → IsPartitionTable product → ((ν : List ℕ) → IsPartition ν → (coefficient_at product ν).1 ∣ q)
     → (t : List ℕ × Fraction) → Among t product → t.1.1 ∣ q
 divides_terms q product ip h t m =
@@ -173,8 +169,6 @@ expansion_nothing left [] product n d e h =
     record { positive = omega arith; equal = λ α. sym (ap (λ g. coefficient (scale (pos 1) g) α) (times_nothing f)) } in
     subst (λ (l : Terms (List ℕ)). IsExpansionOf Basis.monomials l n (times f []) d) (sym e) none
 
--- ---- the sizes of the labels of a product
-
 -- if d·e·`product` is the product of d·`left` and e·`right`, the size of each label of `product` is the sum of the sizes of a label of `left` and of
 -- a label of `right`
 pub sums_of_sizes : (d e : ℕ) (left right product : Terms (List ℕ)) → 0 < d * e
@@ -187,8 +181,6 @@ sums_of_sizes d e left right product some adds t m =
     (table_over q product ip some (divides_terms q product ip (λ ν p. adds.cleared ν))) adds.gains
     (λ ν. (l r : List ℕ × Fraction) × Among l left × Among r right × (size l.0 + size r.0 ≡ size ν)) (λ u n. absurd n) (products_sizes d e left right)
     (t.0, scaled q t.1) (Among-map (λ (u : List ℕ × Fraction). (u.0, scaled q u.1)) t product m)
-
--- ---- least common denominators of lists
 
 pub least-positive : (terms : Terms (List ℕ)) → ((t : List ℕ × Fraction) → Among t terms → 0 < t.1.1) → 0 < common_denominator terms
 least-positive [] h = omega arith
@@ -209,8 +201,6 @@ least-denominators terms is = record {
   positive = least-positive terms (λ t m. (reduced_at terms is t m).0);
   multiple = least-multiple terms (λ t m. (reduced_at terms is t m).0);
 }
-
--- ---- the common denominator 1 of lists of integers
 
 pub whole-denominators : (terms : WholeTerms) → IsCommonDenominator 1 (terms_of whole terms)
 whole-denominators terms = record { positive = omega arith; multiple = divides terms }
@@ -237,16 +227,13 @@ whole_product left right product adds ν p =
     ∙ sums_from 1 f g (terms_of whole product) adds ν p
     ∙ ap₂ (λ (l r : WholeTerms). product_coefficient l r ν) (over-one left) (over-one right)
 
--- ---- the sizes of the labels of a list of entries and of the list of their values
-
--- for each term u of the list of values, there is an entry whose label has the size of the label of u
 label_among : {R : Type 0} (value : R → Fraction) (entries : List (List ℕ × R)) (u : List ℕ × Fraction)
     → Among u (terms_of value entries) → (t : List ℕ × R) × Among t entries × (size t.0 ≡ size u.0)
 label_among {R = R} value entries u m =
     let v = Among_from_map (λ (p : List ℕ × R). (p.0, value p.1)) u entries m in
     (v.0, v.1, ap (λ (w : List ℕ × Fraction). size w.0) (sym v.2))
 
--- if `AreSums` holds for the lists of values of `left`, `right` and `product`, it holds for these lists of entries themselves
+-- `AreSums` holds for three lists of labels with scalars if it holds for these lists with each scalar replaced by its value
 pub sums_values : {R : Type 0} (value : R → Fraction) (left right product : List (List ℕ × R))
     → AreSums (terms_of value left) (terms_of value right) (terms_of value product)
     → AreSums left right product

@@ -1,18 +1,11 @@
 -- The printed order of monomials is the reverse of the order by degree and then by list of exponents. For lists without zeros at the end: if one list
 -- is a proper prefix of another, the rest of the longer list has an exponent that is not 0.
-use Rattle.std.proofs.Common.{◌≡◌, ℕ, zero, suc, List, [], ◌∷◌, refl, sym, ap, ◌∙◌, inl, inr, ◌⊎◌, arith}
-use Rattle.std.specs.Cmp.{nat_cmp_is}
+use Rattle.std.proofs.Common.{◌≡◌, ℕ, zero, suc, List, [], ◌∷◌, refl, sym, ap, ◌∙◌, inl, inr, ◌⊎◌, rules}
 use Rattle.std.specs.Cmp.Lexicographic.{slice_cmp}
 use Rattle.std.specs.Ordering.{nat_cmp, ordering_then}
 use Rattle.std.specs.declared.cmp.Ordering.TheVariants.{Less, Greater}
 use Rattle.sym_model.specs.Partition.{in_front, size, without_last_zeros}
 use Rattle.sym_model.specs.PrintedOrder.{falling_lexicographic, printed_order}
-
-positive_cmp : (a : ℕ) → nat_cmp (suc a) 0 ≡ Greater
-positive_cmp a = sym (nat_cmp_is (suc a) 0 Greater (omega arith))
-
-zero_cmp : (a : ℕ) → nat_cmp 0 (suc a) ≡ Less
-zero_cmp a = sym (nat_cmp_is 0 (suc a) Less (omega arith))
 
 -- either the list u of exponents comes before the empty list in decreasing lexicographic order, since it has a positive exponent, or all its
 -- exponents are zeros
@@ -21,15 +14,8 @@ HasPositive u = ((falling_lexicographic [] u ≡ Greater) × (falling_lexicograp
 
 has_positive : (u : List ℕ) → HasPositive u
 has_positive [] = inr refl
-has_positive (suc a ∷ u) = inl (
-  ap (λ o. ordering_then o (falling_lexicographic [] u)) (positive_cmp a),
-  ap (λ o. ordering_then o (falling_lexicographic u [])) (zero_cmp a),
-)
-has_positive (zero ∷ u) = by (has_positive u)
-  where
-    by : HasPositive u → HasPositive (zero ∷ u)
-    by (inl h) = inl h
-    by (inr e) = inr (ap (in_front zero) e)
+has_positive (suc a ∷ u) = search rules
+has_positive (zero ∷ u) = search (rules, (has_positive u))
 
 pub front_tail : (a : ℕ) (u w : List ℕ) → in_front a u ≡ a ∷ w → u ≡ w
 front_tail zero [] w e = cc
@@ -40,19 +26,13 @@ front_tail (suc a) (b ∷ u) w e = cc
 pub falling_lexicographic-trimmed :
     (x y : List ℕ) → without_last_zeros x ≡ x → without_last_zeros y ≡ y → falling_lexicographic x y ≡ slice_cmp nat_cmp y x
 falling_lexicographic-trimmed [] [] p q = refl
-falling_lexicographic-trimmed [] (b ∷ y) p q = by (has_positive (b ∷ y))
-  where
-    by : HasPositive (b ∷ y) → falling_lexicographic [] (b ∷ y) ≡ Greater
-    by (inl h) = h.0
-    by (inr e) = let n : b ∷ y ≡ [] = sym q ∙ e in cc
+falling_lexicographic-trimmed [] (b ∷ y) p q = search (rules, has_positive)
 falling_lexicographic-trimmed (a ∷ x) [] p q = by (has_positive (a ∷ x))
   where
     by : HasPositive (a ∷ x) → falling_lexicographic (a ∷ x) [] ≡ Less
     by (inl h) = h.1
     by (inr e) = let n : a ∷ x ≡ [] = sym p ∙ e in cc
-falling_lexicographic-trimmed (a ∷ x) (b ∷ y) p q =
-    ap (ordering_then (nat_cmp b a))
-    (falling_lexicographic-trimmed x y (front_tail a (without_last_zeros x) x p) (front_tail b (without_last_zeros y) y q))
+falling_lexicographic-trimmed (a ∷ x) (b ∷ y) p q = search (rules, front_tail, (falling_lexicographic-trimmed x y))
 
 pub printed_order-trimmed :
     (x y : List ℕ) → without_last_zeros x ≡ x → without_last_zeros y ≡ y
@@ -61,10 +41,4 @@ printed_order-trimmed x y p q = ap (ordering_then (nat_cmp (size y) (size x))) (
 
 pub trimmed_once : (x : List ℕ) → without_last_zeros (without_last_zeros x) ≡ without_last_zeros x
 trimmed_once [] = refl
-trimmed_once (a ∷ x) = by a (without_last_zeros x) (trimmed_once x)
-  where
-    by : (b : ℕ) (u : List ℕ) → without_last_zeros u ≡ u → without_last_zeros (in_front b u) ≡ in_front b u
-    by zero [] e = refl
-    by (suc b) [] e = refl
-    by zero (c ∷ u) e = ap (in_front zero) e
-    by (suc b) (c ∷ u) e = ap (in_front (suc b)) e
+trimmed_once (a ∷ x) = search (rules, (trimmed_once x))

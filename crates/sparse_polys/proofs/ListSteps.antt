@@ -1,5 +1,5 @@
 -- Products of a list xs ++ ys of terms with a term, a polynomial or a variable.
-use Rattle.std.proofs.Common.{◌≡◌, ℕ, List, [], ◌∷◌, ◌++◌, map, refl, ap, ◌∙◌, ℤ, ◌*ℤ◌}
+use Rattle.std.proofs.Common.{◌≡◌, ℕ, List, [], ◌∷◌, ◌++◌, refl, ap, ℤ, ◌*ℤ◌, rules}
 use Rattle.std.proofs.lemmas.List.{map-append}
 use Rattle.sym_model.specs.Expansion.{Fraction}
 use Rattle.sym_model.specs.Polynomial.{Poly, Term, join, times}
@@ -12,7 +12,6 @@ use Rattle.sparse_polys.specs.Combination.{terms_of}
 pub use Rattle.linear_combinations.proofs.Gains.{so_far_next}
 pub use Rattle.sparse_polys.proofs.Rows.{list_whole, list_among}
 use Rattle.sparse_polys.specs.Products.{times_variable}
-use Rattle.sparse_polys.specs.Raised.{raised}
 use Rattle.sparse_polys.specs.MonomialProducts.{product_terms, products}
 use Rattle.std.proofs.lemmas.Grind.{flat_map-append}
 
@@ -21,7 +20,6 @@ module _ {R : Type 0} (value : R → Fraction) where
   over_pieces q [] ys = refl
   over_pieces q (x ∷ xs) ys = ap (λ l. (x.0, scaled q (value x.1)) ∷ l) (over_pieces q xs ys)
 
-  -- the product of xs ++ ys with a term, a polynomial or x_r is the product of xs with it, followed by the product of ys with it
   pub row_pieces : (s : Term) (e : ℕ) (xs ys : List (List ℕ × R))
       → times (s ∷ []) (over e (terms_of value (xs ++ ys))) ≡ times (s ∷ []) (over e (terms_of value xs)) ++ times (s ∷ []) (over e (terms_of value ys))
   row_pieces s e [] ys = refl
@@ -29,26 +27,17 @@ module _ {R : Type 0} (value : R → Fraction) where
 
   pub product_pieces : (d : ℕ) (g : Poly) (xs ys : List (List ℕ × R))
       → times (over d (terms_of value (xs ++ ys))) g ≡ times (over d (terms_of value xs)) g ++ times (over d (terms_of value ys)) g
-  product_pieces d g xs ys =
-      ap (λ l. times l g) (over_pieces d xs ys)
-      ∙ flat_map-append (λ (s : Term). map (λ (t : Term). (join s.0 t.0, s.1 *ℤ t.1)) g) (over d (terms_of value xs)) (over d (terms_of value ys))
+  product_pieces d g xs ys = search (rules, over_pieces, flat_map-append)
 
   pub raised_pieces : (r q : ℕ) (xs ys : List (List ℕ × R))
       → times_variable r (over q (terms_of value (xs ++ ys))) ≡ times_variable r (over q (terms_of value xs)) ++ times_variable r (over q (terms_of value ys))
-  raised_pieces r q xs ys =
-      ap (times_variable r) (over_pieces q xs ys)
-      ∙ map-append (λ (t : Term). (raised r t.0, t.1)) (over q (terms_of value xs)) (over q (terms_of value ys))
+  raised_pieces r q xs ys = search (rules, over_pieces, map-append)
 
   pub terms_pieces : (z : ℤ) (left : List ℕ) (e : ℕ) (xs ys : List (List ℕ × R))
       → multiple z (replaced (product_terms left) (over e (terms_of value (xs ++ ys))))
       ≡ multiple z (replaced (product_terms left) (over e (terms_of value xs))) ++ multiple z (replaced (product_terms left) (over e (terms_of value ys)))
-  terms_pieces z left e xs ys =
-      ap (λ l. multiple z (replaced (product_terms left) l)) (over_pieces e xs ys)
-      ∙ ap (multiple z) (replaced_append (product_terms left) (over e (terms_of value xs)) (over e (terms_of value ys)))
-      ∙ scaled_append z (replaced (product_terms left) (over e (terms_of value xs))) (replaced (product_terms left) (over e (terms_of value ys)))
+  terms_pieces z left e xs ys = search (rules, over_pieces, replaced_append, scaled_append)
 
   pub products_pieces : (d : ℕ) (g : WholeTerms) (xs ys : List (List ℕ × R))
       → products (over d (terms_of value (xs ++ ys))) g ≡ products (over d (terms_of value xs)) g ++ products (over d (terms_of value ys)) g
-  products_pieces d g xs ys =
-      ap (λ l. products l g) (over_pieces d xs ys)
-      ∙ replaced_append (λ l. replaced (product_terms l) g) (over d (terms_of value xs)) (over d (terms_of value ys))
+  products_pieces d g xs ys = search (rules, over_pieces, replaced_append)

@@ -1,4 +1,4 @@
--- The loop that multiplies a table of monomials by x_r, one monomial after another: the next product is not in the result yet.
+-- The loop that multiplies a list of different monomials by x_r, one monomial after another: the next product is not in the result yet.
 use Rattle.std.proofs.Common.{◌≡◌, ℕ, Bool, true, false, cond, List, [], ◌∷◌, ◌++◌, refl, sym, ap, ◌∙◌, subst, inl, inr, pos}
 use Rattle.std.specs.Prelude.{nat_eq, Some, None}
 use Rattle.std.specs.List.{IsDistinct}
@@ -24,7 +24,6 @@ use Rattle.sparse_polys.specs.Products.{coefficient_at, AreRaised}
 use Rattle.sparse_polys.specs.Raised.{raised}
 use Rattle.sparse_polys.proofs.Raising.{raised-same}
 
--- if no term of a list has the monomial k, the coefficient of k in the list is 0
 absent_coefficient : (terms : Terms (List ℕ)) (k : List ℕ) → ((t : List ℕ × Fraction) → Among t terms → t.0 ≡ k → ⊥) → coefficient_at terms k ≡ whole (pos 0)
 absent_coefficient [] k h = refl
 absent_coefficient (u ∷ terms) k h = by (pointwise nat_eq k u.0) refl (absent_coefficient terms k (λ t m. h t (inr m)))
@@ -33,7 +32,6 @@ absent_coefficient (u ∷ terms) k h = by (pointwise nat_eq k u.0) refl (absent_
     by true p rest = absurd (h u (inl refl) (sym (same_partition k u.0 p)))
     by false p rest = rest
 
--- if a look-up does not find the monomial k, no term has the monomial k
 missed : (terms : Terms (List ℕ)) (k : List ℕ) → lookup (pointwise nat_eq k) terms ≡ None → (t : List ℕ × Fraction) → Among t terms → t.0 ≡ k → ⊥
 missed [] k none t m e = m
 missed (u ∷ terms) k none t m e = by (pointwise nat_eq k u.0) refl none (missed terms k) m
@@ -44,7 +42,6 @@ missed (u ∷ terms) k none t m e = by (pointwise nat_eq k u.0) refl none (misse
     by false p here rest (inl i) = let s : pointwise nat_eq k u.0 ≡ true = (bytes_eq-Decides k u.0).1 (sym e ∙ ap (λ (v : List ℕ × Fraction). v.0) i) in cc
     by false p here rest (inr n) = rest here t n e
 
--- the coefficient of each term of a table of monomials is in lowest terms
 pub lowest_among : (terms : Terms (List ℕ)) → IsPolynomialTable terms → (t : List ℕ × Fraction) → Among t terms → InLowestTerms t.1
 lowest_among terms is t m = lowest-is_reduced t.1 (term-tests terms is t m).0
 
@@ -58,7 +55,6 @@ module _ {R : Type 0} (value : R → Fraction) (r : ℕ) (done rest : List (List
   split : terms_of value done ++ (k, value v) ∷ terms_of value rest ≡ terms
   split = sym (map-append (λ (p : List ℕ × R). (p.0, value p.1)) done ((k, v) ∷ rest)) ∙ all
 
-  -- if the monomials of `cur` are those visited so far times x_r, the next monomial k times x_r has the coefficient 0 in `cur`
   pub new_label : coefficient_at cur (raised r k) ≡ whole (pos 0)
   new_label =
       absent_coefficient cur (raised r k) (λ t m e.
@@ -71,8 +67,6 @@ module _ {R : Type 0} (value : R → Fraction) (r : ℕ) (done rest : List (List
       (subst (λ (l : Terms (List ℕ)). IsDistinct (pointwise nat_eq) (keys_of l)) (sym split) is.distinct) in
       missed (terms_of value done) k none u.0 u.1 same)
 
-  -- if the monomials of `cur` are those visited so far times x_r, and `new` is `cur` with a term added at k·x_r for the next monomial k, each
-  -- monomial of `new` is k·x_r or x_r times a monomial visited so far
   pub labels_next : (new : Terms (List ℕ)) → IsPolynomialTable cur → IsPolynomialTable new → HasMoreAt (pointwise nat_eq) cur (raised r k) (value v) new
       → AreRaised r (terms_of value (done ++ (k, v) ∷ [])) new
   labels_next new was also more t m = by (pointwise nat_eq (raised r k) t.0) refl

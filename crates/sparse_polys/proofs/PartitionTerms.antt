@@ -10,13 +10,11 @@ use Rattle.sym_model.proofs.PartitionLists.{partitions_of-tells}
 use Rattle.partitions.specs.Limits.{IsWithinLimits}
 use Rattle.linear_combinations.proofs.Gains.{next_among}
 
--- if `before` ++ `old` is the list `all`, and `old` is `label` followed by `new`, then `before`, `label` and `new`, one after another, are `all`
 pub listed_on : (before old new all : List (List ℕ)) (item : Option (List ℕ)) (label : List ℕ) → before ++ old ≡ all
     → old ≡ option_to_list item ++ new → item ≡ Some label → before ++ (label ∷ new) ≡ all
 listed_on before old new all item label e next current =
     ap (λ t. before ++ t) (ap (λ o. option_to_list o ++ new) (sym current) ∙ sym next) ∙ e
 
--- if `before`, `label` and `new`, one after another, are the list of all partitions of d, `label` is a partition of d
 pub listed_partition : (before new : List (List ℕ)) (d : ℕ) (label : List ℕ) → before ++ (label ∷ new) ≡ partitions_of d → IsPartition label × (size label ≡ d)
 listed_partition before new d label e =
     let P : List (List ℕ) → Type 0 = λ l. Among label l in
@@ -31,7 +29,6 @@ IsWithinLimits-listed before new d label h e =
     let s = t.1 in
     IsWithinLimits-low label t.0 (omega arith)
 
--- if each label of `before`, `label`, `new` occurs once, `label` is not in `before`
 pub once_before : {A : Type 0} (before new : List A) (label : A) → Once (before ++ (label ∷ new)) → Among label before → ⊥
 once_before [] new label o m = m
 once_before (l ∷ before) new label o (inl e) = o.0 (subst (λ x. Among x (before ++ (label ∷ new))) e (next_among before label new))

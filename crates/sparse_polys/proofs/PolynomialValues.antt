@@ -1,8 +1,10 @@
--- The polynomial of a list of terms c·x^e, given by the sums of (d·c)·φ(e) over its terms, for a common denominator d and functions φ of exponents.
---     represents          if the sums over d times a list are those of f, the list is f divided by d
---     product_value       the sums over a product of two polynomials in n variables
---     variable_value      the sums over the product of a polynomial and a variable
---     product_overflows   if a product overflows, the absolute coefficients of its two factors have sums whose product is at least 2^127
+-- The polynomial of a list of terms c·x^e with fractions c as coefficients. For a common denominator d, it is described by the sums of (d·c)·φ(e)
+-- over the terms of the list, for all functions φ of exponents.
+--     represents          in n variables: if these sums are the sums of c·φ(e) over the terms of a polynomial f, the list is f divided by d
+--     product_value       these sums for the product of two polynomials in n variables
+--     variable_value      these sums for the product of a polynomial and a variable
+--     product_overflows   if a product of two lists overflows, A·B ≥ 2^127, with A the sum of d·|c| over the coefficients c of the first list, and B
+--                         the sum of q·|c| over those of the second, for common denominators d and q
 use Rattle.std.proofs.Common.{◌≡◌, ℕ, ◌-◌, ◌+◌, ◌*◌, ◌/◌, ◌^◌, ◌<◌, ◌≤◌, max, map, length, Bool, true, false, cond, ◌&&◌, List, [], ◌∷◌, ◌++◌, refl, sym, ap, ap₂, ◌∙◌, subst, inl, inr, arith, ℤ, pos, ◌+ℤ◌, ◌*ℤ◌}
 use Rattle.std.specs.Prelude.{nat_eq, nat_abs, Option, Some, replicate}
 use Rattle.std.specs.Int.{◌∣◌}
@@ -53,8 +55,6 @@ pair_cleared n q (t ∷ terms) φ =
     pair_plus (scale (scaled q t.1) (x_to_in t.0 n)) (cleared (λ e. x_to_in e n) q terms) φ
     ∙ ap₂ ◌+ℤ◌ (pair_scale (scaled q t.1) (x_to_in t.0 n) φ ∙ ap (λ z. scaled q t.1 *ℤ z) (pair_x_to_in n t.0 φ)) (pair_cleared n q terms φ)
 
--- ---- the coefficients of a table of monomials
-
 found_at : (terms : Terms (List ℕ)) → IsPolynomialTable terms → (t : List ℕ × Fraction) → Among t terms → coefficient_at terms t.0 ≡ t.1
 found_at terms is t m = ap (λ (o : Option Fraction). unwrap_or o (pos 0, 1)) (by terms is.distinct m)
   where
@@ -79,16 +79,14 @@ common-denominators terms is = record {
   multiple = divides-denominators terms;
 }
 
--- ---- least common denominators of tables of monomials
-
 pub least-denominators : (terms : Terms (List ℕ)) → IsPolynomialTable terms → IsCommonDenominator (common_denominator terms) terms
 least-denominators terms is = record {
   positive = least-positive terms (positive_at terms is);
   multiple = least-multiple terms (positive_at terms is);
 }
 
--- let d and e be the least common denominators of two lists, and A and B the sums of the absolute values of d times the first and e times the second:
--- if d·e or A·B is at least 2^127, so is the product of the weights of the lists
+-- let d and e be the least common denominators of two lists, A the sum of d·|c| over the coefficients c of the first list, and B the sum of e·|c|
+-- over the coefficients c of the second list: if d·e or A·B is at least 2^127, so is the product of the weights of the lists (`list_weight`)
 pub weights-large : (left right : Terms (List ℕ)) → IsPolynomialTable left → IsPolynomialTable right
     → (common_denominator left * common_denominator right < 2 ^ 127 → 2 ^ 127 ≤ absolute_sum (common_denominator left) left * absolute_sum (common_denominator right) right)
     → 2 ^ 127 ≤ list_weight left * list_weight right
@@ -161,7 +159,6 @@ represents terms d n f is clear sums =
 
 -- ---- the product of two polynomials that are given as lists of terms
 
--- the product of x^e and a list, restricted to n variables, is the product of x^e and the list, each restricted to n variables
 row_value : (n : ℕ) (terms : Terms (List ℕ)) (φ : List ℕ → ℤ) (e : List ℕ)
     → restricted_test n (λ α. pair (value_in terms n) (λ β. φ (join α β))) e ≡ pair (over (denominators terms) terms) (λ β. restricted_test n φ (join e β))
 row_value n terms φ e = by (fits_in n e) refl
@@ -206,7 +203,6 @@ variable_value n r terms φ =
     ∙ row_value n terms φ x
     ∙ pair_ext f (λ β. restricted_test n φ (join x β)) (λ e. restricted_test n φ (raised r e)) (λ e. ap (restricted_test n φ) (join_comm x e)))
 
--- if `right` is empty, the empty list represents the product of the polynomials of `left` and `right`
 pub represents_nothing : (n d : ℕ) (left right product : Terms (List ℕ)) → product ≡ [] → length right ≡ 0
     → Represents (λ e. x_to_in e n) product (times (value_in left n) (value_in right n)) d
 represents_nothing n d left (t ∷ right) product e h = absurd (omega arith)
@@ -214,8 +210,6 @@ represents_nothing n d left [] product e h =
     let f = value_in left n in
     subst (λ (l : Terms (List ℕ)). Represents (λ e. x_to_in e n) l (times f []) d) (sym e)
     (record { positive = omega arith; equal = λ α. sym (ap (λ g. coefficient (scale (pos 1) g) α) (times_nothing f)) })
-
--- ---- overflow while the product of two lists is added up
 
 mass_row : (s : Term) (g : WholeTerms) → mass (map (λ (t : Term). (join s.0 t.0, s.1 *ℤ t.1)) g) ≡ nat_abs s.1 * mass g
 mass_row s [] = omega arith

@@ -1,18 +1,19 @@
 -- The product of two expansions in m as one list (specs/MonomialProducts).
---     counted_gains, counted_overflows        the counts of the search for the ν in m_λ·m_μ, as a list of terms, are m_λ·m_μ
+--     counted_gains, counted_overflows        adding the partitions that the search for m_λ·m_μ lists, with their counts as coefficients, is adding
+--                                             m_λ·m_μ, also if the addition overflows
 --     products_coefficient, products_large    the coefficients of the product of two lists
 --     products_sizes                          the sizes of the labels of the product
-use Rattle.std.proofs.Common.{◌≡◌, ◌⊎◌, ℕ, ◌+◌, ◌*◌, ◌^◌, Bool, true, false, cond, List, [], ◌∷◌, ◌++◌, map, refl, sym, ap, ◌∙◌, subst, inl, inr, arith, ℤ, pos, ◌+ℤ◌, ◌*ℤ◌}
-use Rattle.std.specs.Prelude.{nat_eq, nat_abs, ◌≤ℤ◌}
+use Rattle.std.proofs.Common.{◌≡◌, ◌⊎◌, ℕ, ◌+◌, ◌^◌, List, [], ◌∷◌, ◌++◌, map, refl, sym, ap, ◌∙◌, subst, inl, inr, arith, ℤ, pos, rules}
+use Rattle.std.specs.Prelude.{nat_eq, ◌≤ℤ◌}
 use Rattle.std.specs.Cmp.Lexicographic.{pointwise}
 use Rattle.std.proofs.lemmas.Bool.{cases_eq}
 use Rattle.std.proofs.lemmas.Int.{ints}
 use Rattle.std.proofs.lemmas.List.{map-append}
 use Rattle.sym_model.specs.Canonical.{is_label}
-use Rattle.sym_model.specs.Sum.{total, Among}
+use Rattle.sym_model.specs.Sum.{Among}
 use Rattle.sym_model.specs.Partition.{IsPartition, size}
 use Rattle.sym_model.specs.PartitionList.{partitions_of}
-use Rattle.sym_model.specs.Polynomial.{same, coefficient, pair}
+use Rattle.sym_model.specs.Polynomial.{coefficient, pair}
 use Rattle.sym_model.specs.Expansion.{Fraction, Terms}
 use Rattle.sym_model.specs.WholeTerms.{WholeTerms}
 use Rattle.sym_model.proofs.Exponents.{same_from, same_apart}
@@ -25,7 +26,6 @@ use Rattle.monomial_laws.specs.ExpressionTerms.{over, absolute}
 use Rattle.monomial_laws.proofs.Arrangements.{arrangements-sizes}
 use Rattle.monomial_laws.proofs.Splits.{product_coefficient-arrangements}
 use Rattle.linear_combinations.specs.Gains.{over as sum_over, only, mass_at, scaled, replaced, HaveLabels, Overflows}
-use Rattle.linear_combinations.specs.Labels.{same_partition}
 use Rattle.linear_combinations.proofs.Found.{counts_at, coefficient_over}
 use Rattle.linear_combinations.proofs.Gains.{mass_at_append, overflows_as, replaced_over, scaled_append, scaled_over}
 use Rattle.linear_combinations.proofs.Masses.{mass_at_scaled, labels_replaced}
@@ -36,17 +36,9 @@ use Rattle.linear_combinations.specs.Cleared.{GainsCleared, OverflowsCleared}
 use Rattle.linear_combinations.proofs.Cleared.{Gains-as}
 use Rattle.sparse_polys.proofs.ExactCounts.{all_among}
 
--- if all labels of g have the property P, then each ν has the property P or is no label of a term of g with a coefficient other than 0
 label_or_none : (P : List ℕ → Type 0) (g : WholeTerms) → HaveLabels P g → (ν : List ℕ) → (P ν) ⊎ (mass_at (pointwise nat_eq) ν g ≡ 0)
 label_or_none P [] h ν = inr refl
-label_or_none P (t ∷ g) h ν = by (pointwise nat_eq ν t.0) refl (label_or_none P g (λ u n. h u (inr n)) ν)
-  where
-    by : (b : Bool) → pointwise nat_eq ν t.0 ≡ b → (P ν) ⊎ (mass_at (pointwise nat_eq) ν g ≡ 0) → (P ν) ⊎ (cond b (nat_abs t.1) 0 + mass_at (pointwise nat_eq) ν g ≡ 0)
-    by true p r = inl (subst P (sym (same_partition ν t.0 p)) (h t (inl refl)))
-    by false p (inl y) = inl y
-    by false p (inr z) = inr (omega arith)
-
--- ---- m_λ·m_μ as a list
+label_or_none P (t ∷ g) h ν = search (rules, (label_or_none P g))
 
 module _ (l r : List ℕ) where
   pub terms_labels : HaveLabels (λ ν. IsPartition ν × (size ν ≡ size l + size r)) (product_terms l r)
@@ -61,27 +53,7 @@ module _ (l r : List ℕ) where
 
   terms_coefficient : (ν : List ℕ) → IsPartition ν → coefficient (product_terms l r) ν ≡ pos (arrangements l r ν)
   terms_coefficient ν p =
-      total_map (λ (t : List ℕ × ℤ). cond (same t.0 ν) t.1 (pos 0)) (λ (μ : List ℕ). (μ, pos (arrangements l r μ))) list
-      ∙ by (cases_eq (size l + size r) (size ν))
-    where
-      list : List (List ℕ)
-      list = partitions_of (size l + size r)
-
-      at : List ℕ → ℤ
-      at μ = cond (same μ ν) (pos (arrangements l r μ)) (pos 0)
-
-      by : (size l + size r ≡ size ν) ⊎ (size l + size r ≡ size ν → ⊥) → total at list ≡ pos (arrangements l r ν)
-      by (inl e) =
-          total_only at ν list
-          (Once-FallsLexicographically list (FallsLexicographically-partitions_within (size l + size r) (size l + size r) (size l + size r)))
-          (Among-partitions_of (size l + size r) ν p (sym e)) (λ μ m n. ap (λ b. cond b (pos (arrangements l r μ)) (pos 0)) (same_apart μ ν n))
-          ∙ ap (λ b. cond b (pos (arrangements l r ν)) (pos 0)) (same_from ν ν refl)
-      by (inr n) =
-          total_none at list
-          (λ μ m.
-          ap (λ b. cond b (pos (arrangements l r μ)) (pos 0))
-          (same_apart μ ν (λ i. n (sym (partitions_of-tells (size l + size r) μ m).1 ∙ ap size i))))
-          ∙ ap pos (sym (arrangements-sizes l r ν n))
+      search (rules, total_map, cases_eq, total_only, Once-FallsLexicographically, FallsLexicographically-partitions_within, Among-partitions_of, same_apart, same_from, total_none, partitions_of-tells, arrangements-sizes)
 
   pub terms_mass : (ν : List ℕ) → IsPartition ν → pos (mass_at (pointwise nat_eq) ν (product_terms l r)) ≡ pos (arrangements l r ν)
   terms_mass ν p = sym (counts_at (pointwise nat_eq) ν (product_terms l r) terms_counts) ∙ sym (coefficient_over (product_terms l r) ν) ∙ terms_coefficient ν p
@@ -93,11 +65,7 @@ counted_terms counted = map (λ (t : Counted). (t.parts.items, pos t.count)) cou
 
 counted_coefficient : (counted : List Counted) (ν : List ℕ) → coefficient (counted_terms counted) ν ≡ pos (count_at counted ν)
 counted_coefficient [] ν = refl
-counted_coefficient (t ∷ counted) ν = by (same t.parts.items ν) (counted_coefficient counted ν)
-  where
-    by : (b : Bool) → coefficient (counted_terms counted) ν ≡ pos (count_at counted ν) → cond b (pos t.count) (pos 0) +ℤ coefficient (counted_terms counted) ν ≡ pos (cond b t.count 0 + count_at counted ν)
-    by true e = ap (λ z. pos t.count +ℤ z) e
-    by false e = ap (λ z. pos 0 +ℤ z) e
+counted_coefficient (t ∷ counted) ν = search (rules, (counted_coefficient counted ν))
 
 module _ (l r : List ℕ) (counted : List Counted) (labels : AreCounted (size l + size r) counted) (counts : (ν : List ℕ) → IsPartition ν → count_at counted ν ≡ arrangements l r ν) where
   counted_labels : HaveLabels IsPartition (counted_terms counted)
@@ -131,41 +99,27 @@ module _ (l r : List ℕ) (counted : List Counted) (labels : AreCounted (size l 
       by (inr a) (inr b) = a ∙ sym b
 
   counted_same : (φ : List ℕ → ℤ) → sum_over φ (counted_terms counted) ≡ sum_over φ (product_terms l r)
-  counted_same φ =
-      pair_determined (counted_terms counted) (product_terms l r) φ (λ ν.
-      mass_is ν ∙ ap pos (counted_mass ν)
-      ∙ sym (counts_at (pointwise nat_eq) ν (product_terms l r) (terms_counts l r)) ∙ sym (coefficient_over (product_terms l r) ν))
+  counted_same φ = search (rules, pair_determined, mass_is, counted_mass, counts_at, terms_counts, coefficient_over)
 
   pub counted_gains : (z : ℤ) (q : ℕ) (old new : Terms (List ℕ))
       → GainsCleared (pointwise nat_eq) is_label q old (scaled z (counted_terms counted)) new
       → GainsCleared (pointwise nat_eq) is_label q old (scaled z (product_terms l r)) new
-  counted_gains z q old new =
-      Gains-as q old (scaled z (counted_terms counted)) (scaled z (product_terms l r)) new
-      (λ φ. scaled_over z φ (counted_terms counted) ∙ ap (λ y. z *ℤ y) (counted_same φ) ∙ sym (scaled_over z φ (product_terms l r)))
+  counted_gains z q old new = search (rules, Gains-as, scaled_over, counted_same)
 
   pub counted_overflows : (z : ℤ) (q : ℕ) (old : Terms (List ℕ))
       → OverflowsCleared (pointwise nat_eq) q old (scaled z (counted_terms counted))
       → OverflowsCleared (pointwise nat_eq) q old (scaled z (product_terms l r))
-  counted_overflows z q old =
-      overflows_as (pointwise nat_eq) (over q old) (scaled z (counted_terms counted)) (scaled z (product_terms l r))
-      (λ ν.
-      let a = mass_at_scaled (pointwise nat_eq) ν z (counted_terms counted) in
-      let b = mass_at_scaled (pointwise nat_eq) ν z (product_terms l r) in
-      let c = ap (λ n. nat_abs z * n) (counted_mass ν) in
-      omega arith)
+  counted_overflows z q old = search (rules, overflows_as, mass_at_scaled, counted_mass)
 
 pub counted_pieces : (z : ℤ) (xs ys : List Counted) → scaled z (counted_terms (xs ++ ys)) ≡ scaled z (counted_terms xs) ++ scaled z (counted_terms ys)
 counted_pieces z xs ys = ap (scaled z) (map-append (λ (t : Counted). (t.parts.items, pos t.count)) xs ys) ∙ scaled_append z (counted_terms xs) (counted_terms ys)
 
--- ---- the product of two lists in m
+-- ---- the product of two lists in the monomial basis m
 
 replaced_mass : (image : List ℕ → WholeTerms) (ν : List ℕ) (terms : WholeTerms)
     → pos (mass_at (pointwise nat_eq) ν (replaced image terms)) ≡ pair (absolute terms) (λ k. pos (mass_at (pointwise nat_eq) ν (image k)))
 replaced_mass image ν [] = refl
-replaced_mass image ν (t ∷ terms) =
-    let m = mass_at (pointwise nat_eq) ν (replaced image terms) in
-    ap pos (mass_at_append (pointwise nat_eq) ν (scaled t.1 (image t.0)) (replaced image terms) ∙ ap (λ n. n + m) (mass_at_scaled (pointwise nat_eq) ν t.1 (image t.0)))
-    ∙ ap (λ z. pos (nat_abs t.1 * mass_at (pointwise nat_eq) ν (image t.0)) +ℤ z) (replaced_mass image ν terms)
+replaced_mass image ν (t ∷ terms) = search (rules, mass_at_append, mass_at_scaled, (replaced_mass image ν terms))
 
 module _ (f g : WholeTerms) (ν : List ℕ) (p : IsPartition ν) where
   pub products_coefficient : sum_over (only (pointwise nat_eq) ν) (products f g) ≡ product_coefficient f g ν
@@ -179,15 +133,8 @@ module _ (f g : WholeTerms) (ν : List ℕ) (p : IsPartition ν) where
       ∙ sym (product_coefficient-arrangements f g ν)
 
   products_mass : pos (mass_at (pointwise nat_eq) ν (products f g)) ≡ product_coefficient (absolute f) (absolute g) ν
-  products_mass =
-      replaced_mass (λ l. replaced (product_terms l) g) ν f
-      ∙ pair_ext (absolute f) (λ l. pos (mass_at (pointwise nat_eq) ν (replaced (product_terms l) g))) (λ l. pair (absolute g) (λ r. pos (arrangements l r ν)))
-      (λ l.
-      replaced_mass (product_terms l) ν g
-      ∙ pair_ext (absolute g) (λ r. pos (mass_at (pointwise nat_eq) ν (product_terms l r))) (λ r. pos (arrangements l r ν)) (λ r. terms_mass l r ν p))
-      ∙ sym (product_coefficient-arrangements (absolute f) (absolute g) ν)
+  products_mass = search (rules, replaced_mass, pair_ext, terms_mass, product_coefficient-arrangements)
 
--- if the labels of m_λ·m_μ have the property P for all labels λ of f and μ of g, so have the labels of the product of f and g
 products_labels : (P : List ℕ → Type 0) (f g : WholeTerms) → ((s t : List ℕ × ℤ) → Among s f → Among t g → HaveLabels P (product_terms s.0 t.0)) → HaveLabels P (products f g)
 products_labels P f g h = labels_replaced (λ l. replaced (product_terms l) g) P f (λ s m. labels_replaced (product_terms s.0) P g (λ t n. h s t m n))
 

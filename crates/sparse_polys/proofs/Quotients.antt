@@ -1,6 +1,6 @@
--- Lists of integers divided by one positive number, in lowest terms.
---     Quotients-next         a table of quotients with one more quotient
---     IsDivided-quotients    the table of all quotients is the list divided by the number
+-- Lists of terms with integer coefficients, divided by one positive number, with the quotients in lowest terms.
+--     Quotients-next         a list of quotients to which the quotient of one more term is added
+--     IsDivided-quotients    the list of all quotients is the list divided by the number
 use Rattle.std.proofs.Common.{◌≡◌, ◌⊎◌, ℕ, ◌*◌, ◌<◌, true, cond, List, [], ◌∷◌, ◌++◌, refl, sym, ◌∙◌, ap, subst, inl, inr, arith, ℤ, pos, ◌+ℤ◌, ◌*ℤ◌}
 use Rattle.std.proofs.lemmas.Int.{ints}
 use Rattle.std.proofs.lemmas.List.{map-append}
@@ -73,9 +73,6 @@ Quotients-next d old new W label c h q more l = more l ∙ by (same_or_not label
         ∙ ap (λ z. coefficient W l +ℤ z) (ap (λ b. cond b c (pos 0) +ℤ pos 0) (same_apart label l n))
         ∙ +ℤ_idr (coefficient W l)))
 
--- ---- the terms of a table before the current one
-
--- if (k, v) is a term of a table, and `done` are the terms before it, k has the coefficient 0 in `done`
 pub coefficient-before : (terms : WholeTerms) → IsWholeTable terms → (done rest : WholeTerms) (k : List ℕ) (v : ℤ) → done ++ (k, v) ∷ rest ≡ terms → coefficient done k ≡ pos 0
 coefficient-before terms is done rest k v e =
     total_none (λ (t : Term). cond (same t.0 k) t.1 (pos 0)) done
@@ -89,8 +86,6 @@ not_refused_quotient d a b z h e q r =
     fits-zero_left {is_held = IsFraction} {value = λ (r : Fraction). r} {checked = checked_fraction_sum} sum_answers_fraction a b
     (q ∙ ap (λ z. lowest_terms z d) e ∙ lowest-zero d h)
     (refused_values (λ (r : Fraction). r) IsFraction checked_fraction_sum a b a b refl refl r)
-
--- ---- the list of the quotients of all coefficients by a number
 
 pub denominators-positive : (terms : Terms (List ℕ)) → are_terms is_label terms ≡ true → 0 < denominators terms
 denominators-positive [] h = omega arith

@@ -1,7 +1,7 @@
 -- A monomial times a variable: its exponents with one of them increased by 1.
 --     set-raised          zeros appended to the exponents, and 1 added at an index
 --     HasDegree-raised    the product is within the limits of a monomial
-use Rattle.std.proofs.Common.{◌≡◌, ◌⊎◌, ℕ, zero, suc, ◌+◌, ◌-◌, ◌<◌, ◌≤◌, max, List, [], ◌∷◌, ◌++◌, length, get_or, set, take, drop, refl, sym, ap, ap₂, ◌∙◌, subst, inl, inr, arith, add-one, add-zero, append-nil, length-append, take_all}
+use Rattle.std.proofs.Common.{◌≡◌, ◌⊎◌, ℕ, zero, suc, ◌+◌, ◌-◌, ◌<◌, ◌≤◌, max, List, [], ◌∷◌, ◌++◌, length, get_or, set, take, drop, refl, sym, ap, ap₂, ◌∙◌, arith, add-one, add-zero, append-nil, length-append, take_all, rules}
 use Rattle.std.specs.List.{refill}
 use Rattle.std.proofs.lemmas.List.{length-replicate, take-append-le, length-append}
 use Rattle.sym_model.specs.Polynomial.{join, no_exponents}
@@ -32,13 +32,7 @@ join-padded k (suc at) (a ∷ e) h = ap (λ y. (a + 0) ∷ y) (join-padded k at 
 
 pub set-raised : (k at : ℕ) (old x : List ℕ) → x ≡ old ++ no_exponents k → (k ≡ 0) ⊎ (length x ≤ at + 1) → at < length x
     → set x at (get_or x at 0 + 1) ≡ raised (at + 1) old
-set-raised k at old x e p h =
-    set-unit at x h ∙ ap (λ y. join y (unit at)) e ∙ padded p
-    ∙ ap (λ j. join old (unit j)) (let s : at ≡ (at + 1) - 1 = omega arith in s)
-  where
-    padded : (k ≡ 0) ⊎ (length x ≤ at + 1) → join (old ++ no_exponents k) (unit at) ≡ join old (unit at)
-    padded (inl z) = ap (λ j. join (old ++ no_exponents j) (unit at)) z ∙ ap (λ y. join y (unit at)) (append-nil old)
-    padded (inr l) = join-padded k at old (subst (λ y. length y ≤ at + 1) e l)
+set-raised k at old x e p h = search (rules, set-unit, append-nil, join-padded)
 
 -- the list x is not empty
 abbrev IsSome : List ℕ → Type 0
@@ -62,14 +56,8 @@ trimmed-unit (suc k) = ap (in_front 0) (trimmed-unit k) ∙ in_front-is 0 (unit 
 
 trimmed-join : (k : ℕ) (e : List ℕ) → without_last_zeros e ≡ e → without_last_zeros (join e (unit k)) ≡ join e (unit k)
 trimmed-join k [] t = trimmed-unit k
-trimmed-join zero (a ∷ e) t =
-    ap (λ y. without_last_zeros ((a + 1) ∷ y)) (join-nil e)
-    ∙ ap (λ b. in_front b (without_last_zeros e)) (add-one a)
-    ∙ ap (λ y. suc a ∷ y) (front_tail a (without_last_zeros e) e t)
-    ∙ ap₂ ◌∷◌ (sym (add-one a)) (sym (join-nil e))
-trimmed-join (suc k) (a ∷ e) t =
-    ap (in_front (a + 0)) (trimmed-join k e (front_tail a (without_last_zeros e) e t))
-    ∙ in_front-is (a + 0) (join e (unit k)) (some-join k e)
+trimmed-join zero (a ∷ e) t = search (rules, join-nil, add-one, front_tail)
+trimmed-join (suc k) (a ∷ e) t = search (rules, front_tail, in_front-is, some-join, (trimmed-join k e))
 
 size-unit : (k : ℕ) → size (unit k) ≡ 1
 size-unit zero = refl
@@ -82,19 +70,10 @@ pub length-raised : (r : ℕ) (e : List ℕ) → 1 ≤ r → length (raised r e)
 length-raised r e h = let m = length-join e (unit (r - 1)) in let u = length-unit (r - 1) in omega arith
 
 pub HasDegree-raised : (r : ℕ) (e : List ℕ) (d : ℕ) → HasDegree e d → 1 ≤ r → r ≤ 255 → size e < 32385 → HasDegree (raised r e) (d + 1)
-HasDegree-raised r e d h a b c = record {
-  limits = record {
-    trimmed = trimmed-join (r - 1) e h.limits.trimmed;
-    few = let l = length-raised r e a in let f = h.limits.few in omega arith;
-    small = let s = size-raised r e in omega arith;
-  };
-  degree_is = let s = size-raised r e in let g = h.degree_is in omega arith;
-}
+HasDegree-raised r e d h a b c = search (rules, trimmed-join, length-raised, size-raised)
 
 pub refilled : (xs ws : List ℕ) → length ws ≡ length xs → refill (length xs) xs ws ≡ ws
 refilled xs ws h = take-append-le (length xs) ws (drop (length ws) xs) (omega arith) ∙ ap (λ n. take n ws) (sym h) ∙ take_all (length ws) ws (omega arith)
-
--- ---- e = f if x^e and x^f have the same product with a variable
 
 -- the list with the number at index k decreased by 1
 abbrev lowered : ℕ → List ℕ → List ℕ

@@ -17,8 +17,6 @@ pub greatest_size-values : {R : Type 0} (value : R → Fraction) (pairs : List (
 greatest_size-values value [] = refl
 greatest_size-values value (p ∷ pairs) = ap (λ n. max (size p.0) n) (greatest_size-values value pairs)
 
--- ---- the current pair of a loop over a list
-
 -- if a loop over a list of pairs with the values `terms` has visited `done`, and the pairs `left` to come are (k, v) and then `rest`, then done ++
 -- (k, v) ∷ rest has the values `terms`
 pub list_whole : {R : Type 0} (value : R → Fraction) (done rest left begun items : List (List ℕ × R)) (k : List ℕ) (v : R) (terms : Terms (List ℕ))
@@ -27,7 +25,6 @@ pub list_whole : {R : Type 0} (value : R → Fraction) (done rest left begun ite
 list_whole value done rest left begun items k v terms steps so_far given shown =
     ap (terms_of value) (ap (λ es. done ++ es) (sym steps) ∙ so_far ∙ given) ∙ shown
 
--- if `done`, the current pair (k, v) and `rest` have the values `terms`, then k with the value of v is one of `terms`
 pub list_among : {R : Type 0} (value : R → Fraction) (done rest : List (List ℕ × R)) (k : List ℕ) (v : R) (terms : Terms (List ℕ))
     → terms_of value (done ++ (k, v) ∷ rest) ≡ terms → Among (k, (value v)) terms
 list_among value done rest k v terms e = subst (λ (l : Terms (List ℕ)). Among (k, (value v)) l) e (among-next value done k v rest)

@@ -1,6 +1,8 @@
--- The number of ways to continue from a state of the search for the partitions ν in m_λ·m_μ, after one part of ν is written as the sum of a part of λ
--- or 0 and a part of μ or 0, which are removed (specs/Ways).
-use Rattle.std.proofs.Common.{◌≡◌, ℕ, ◌+◌, ◌-◌, ◌*◌, ◌<◌, ◌≤◌, Bool, true, false, ◌&&◌, ◌||◌, cond, eqb, leb, List, [], ◌∷◌, length, get_or, drop, not, sym, ◌∙◌, ap, ap₂, subst, refl, arith, ℤ, pos, ◌+ℤ◌}
+-- The search for the partitions ν in m_λ·m_μ (specs/Ways). A *state* of the search consists of the parts of λ and of μ that remain, and of the number
+-- of ways to reach them (its count). In one step, a part of ν is written as the sum of a part of λ or 0 and a part of μ or 0, which are removed; the
+-- file is on the number of ways to continue after this step.
+use Rattle.std.proofs.lemmas.Grind.{common_steps}
+use Rattle.std.proofs.Common.{◌≡◌, ℕ, ◌+◌, ◌-◌, ◌*◌, ◌<◌, ◌≤◌, true, false, ◌||◌, cond, eqb, leb, List, [], ◌∷◌, length, get_or, drop, not, sym, ◌∙◌, ap, subst, refl, arith, pos, rules}
 use Rattle.std.proofs.lemmas.Int.{ints}
 use Rattle.std.proofs.lemmas.Bool.{eq-eqb, le-leb, and_parts, leb-true, or_right, not-true, leb-false}
 use Rattle.sym_model.specs.Sum.{total}
@@ -17,11 +19,7 @@ use Rattle.sym_model.proofs.Integers.{pos_equal}
 use Rattle.std.proofs.lemmas.List.{drop_more}
 
 pub IsRest-taken : (a b left : ℕ) (l r : List ℕ) → IsRest (a + b + left) l r → has a (0 ∷ l) ≡ true → has b (0 ∷ r) ≡ true → IsRest left (without_one a l) (without_one b r)
-IsRest-taken a b left l r s h k = record {
-  first = IsPartition-without_one a l s.first;
-  second = IsPartition-without_one b r s.second;
-  sizes = omega (arith, s.sizes, size-taken a l s.first h, size-taken b r s.second k);
-}
+IsRest-taken a b left l r s h k = search (rules, IsPartition-without_one, size-taken)
 
 -- if l without one a has a part greater than a + b, and all parts of ν are at most a + b, there is no way to continue to ν (`taken`)
 pub taken-above_left : (a b left : ℕ) (l r ν : List ℕ) → IsRest left l r → AreBelow (a + b + 1) ν → HasPartAbove (a + b) (without_one a l) → taken l r a b ν ≡ 0
@@ -29,11 +27,7 @@ taken-above_left a b left l r ν s below (k, m, h) = zero_either (has b (0 ∷ r
 
 pub taken-above_right : (a b left : ℕ) (l r ν : List ℕ) → IsRest left l r → AreBelow (a + b + 1) ν → HasPartAbove (a + b) (without_one b r) → taken l r a b ν ≡ 0
 taken-above_right a b left l r ν s below (k, m, h) =
-    zero_either (has b (0 ∷ r))
-    (arrangements-comm (without_one a l) (without_one b r) ν
-    ∙ arrangements-lacking k ν (without_one b r) (without_one a l) (IsPartition-without_one b r s.second) (IsPartition-without_one a l s.first) m (below_more (a + b + 1) k ν (omega arith) below))
-
--- ---- the number of ways (`taken`), summed over the different parts of l
+    search (rules, zero_either, arrangements-comm, arrangements-lacking, IsPartition-without_one, below_more)
 
 -- the sum, over the numbers b ≤ x of a list, of the number of ways to write ν as a sum of arrangements of l without b and of r without x - b
 -- (`taken`)
@@ -44,27 +38,15 @@ taken_over x l r ν (b ∷ bs) = cond (leb b x) (taken l r b (x - b) ν) 0 + tak
 taken_over-total : (x : ℕ) (l r ν bs : List ℕ)
     → total (λ (b : ℕ). cond (leb b x) (cond (has (x - b) (0 ∷ r)) (pos (arrangements (without_one b l) (without_one (x - b) r) ν)) (pos 0)) (pos 0)) bs ≡ pos (taken_over x l r ν bs)
 taken_over-total x l r ν [] = refl
-taken_over-total x l r ν (b ∷ bs) = by (leb b x) (has (x - b) (0 ∷ r)) (arrangements (without_one b l) (without_one (x - b) r) ν) (taken_over-total x l r ν bs)
-  where
-    by : (s t : Bool) (n : ℕ) {z : ℤ} → z ≡ pos (taken_over x l r ν bs) → cond s (cond t (pos n) (pos 0)) (pos 0) +ℤ z ≡ pos (cond s (cond t n 0) 0 + taken_over x l r ν bs)
-    by true true n {z} e = omega (arith, ints)
-    by true false n {z} e = omega (arith, ints)
-    by false t n {z} e = omega (arith, ints)
+taken_over-total x l r ν (b ∷ bs) = search (rules, ints, (taken_over-total x l r ν bs))
 
 -- the ways to x ∷ ν are those that remove nothing from l and x from r, and, for each of the different parts b ≤ x of l, those that remove one b from
 -- l and x - b from r
 pub arrangements-first : (x : ℕ) (ν l r : List ℕ) → IsPartition l → IsPartition r → arrangements l r (x ∷ ν) ≡ taken l r 0 x ν + taken_over x l r ν (distinct l)
-arrangements-first x ν l r p q = pos_equal (arrangements-cons x ν l r p q ∙ taken_over-total x l r ν (distinct (0 ∷ l))) ∙ ap (taken_over x l r ν) (distinct-zero l p.positive) ∙ first
-  where
-    first : taken_over x l r ν (0 ∷ distinct l) ≡ taken l r 0 x ν + taken_over x l r ν (distinct l)
-    first = ap₂ (λ (b : Bool) (n : ℕ). cond b (taken l r 0 n ν) 0 + taken_over x l r ν (distinct l)) (le-leb 0 x (omega arith)) (let e : x - 0 ≡ x = omega arith in e)
-
--- ---- sums capped at 2^128 - 1
+arrangements-first x ν l r p q = search (rules, pos_equal, arrangements-cons, taken_over-total, distinct-zero, le-leb)
 
 pub capped-add : (a b z : ℕ) → capped a ≡ capped b → capped (a + z) ≡ capped (b + z)
 capped-add a b z e = omega arith
-
--- ---- a weakly decreasing list whose first part is greater than a bound
 
 pub first-above : (part : ℕ) (parts : List ℕ) (first : ℕ) → 0 < length parts → first ≡ get_or parts 0 first → leb first part ≡ false → HasPartAbove part parts
 first-above part [] first h e t = absurd (omega arith)
@@ -79,35 +61,17 @@ pub first_way : (w1 w0 k t o a : ℕ) → capped w1 ≡ capped (w0 + k * t) → 
 first_way w1 w0 k t o a h e = capped-add w1 (w0 + k * t) (k * o) h ∙ ap (λ n. capped n) (let p = ap (λ n. k * n) e in let q : w0 + k * t + k * o ≡ w0 + k * a = omega arith in q)
 
 pub next_way : (w2 w1 k t o rest goal : ℕ) → capped w2 ≡ capped (w1 + k * t) → o ≡ t + rest → capped (w1 + k * o) ≡ goal → capped (w2 + k * rest) ≡ goal
-next_way w2 w1 k t o rest goal h e g =
-    capped-add w2 (w1 + k * t) (k * rest) h
-    ∙ ap (λ n. capped n) (let p = ap (λ n. k * n) e in let q : w1 + k * t + k * rest ≡ w1 + k * o = omega arith in q)
-    ∙ g
+next_way w2 w1 k t o rest goal h e g = grind (arith, common_steps)
 
--- if part i of `parts` is at most x and not among the later parts: the sum `taken_over` over the different parts from index i on is the number
--- `taken` of ways with part i removed from l and x less part i from r, plus the sum over the different parts after index i
+-- let p be the part at index i of `parts`, at most x and different from all later parts: `taken_over` for the different parts from index i on is the
+-- number of ways that remove p from l and x - p from r (`taken`), plus `taken_over` for the different parts after index i
 pub taken_over-choice : (x : ℕ) (l r ν parts : List ℕ) (i : ℕ) → i < length parts → is_choice_at parts i x ≡ true
     → taken_over x l r ν (distinct (drop i parts)) ≡ taken l r (get_or parts i 0) (x - get_or parts i 0) ν + taken_over x l r ν (distinct (drop (i + 1) parts))
-taken_over-choice x l r ν parts i h e =
-    let a = get_or parts i 0 in
-    let p = and_parts (leb a x) (not (has a (drop (i + 1) parts))) e in
-    ap (λ ps. taken_over x l r ν (distinct ps)) (drop_more parts i 0 h)
-    ∙ ap (λ b. taken_over x l r ν (cond b (distinct (drop (i + 1) parts)) (a ∷ distinct (drop (i + 1) parts)))) (not-true (has a (drop (i + 1) parts)) p.1)
-    ∙ ap (λ b. cond b (taken l r a (x - a) ν) 0 + taken_over x l r ν (distinct (drop (i + 1) parts))) p.0
+taken_over-choice x l r ν parts i h e = search (rules, and_parts, drop_more, not-true)
 
 pub taken_over-passed : (x : ℕ) (l r ν parts : List ℕ) (i : ℕ) → i < length parts → is_choice_at parts i x ≡ false
     → taken_over x l r ν (distinct (drop i parts)) ≡ taken_over x l r ν (distinct (drop (i + 1) parts))
-taken_over-passed x l r ν parts i h e =
-    let a = get_or parts i 0 in
-    ap (λ ps. taken_over x l r ν (distinct ps)) (drop_more parts i 0 h) ∙ by (leb a x) refl (has a (drop (i + 1) parts)) e
-  where
-    by : (s : Bool) → leb (get_or parts i 0) x ≡ s → (t : Bool) → (s && not t) ≡ false
-        → taken_over x l r ν (cond t (distinct (drop (i + 1) parts)) (get_or parts i 0 ∷ distinct (drop (i + 1) parts))) ≡ taken_over x l r ν (distinct (drop (i + 1) parts))
-    by s k true u = refl
-    by true k false u = absurd (cc)
-    by false k false u =
-        ap (λ b. cond b (taken l r (get_or parts i 0) (x - get_or parts i 0) ν) 0 + taken_over x l r ν (distinct (drop (i + 1) parts))) k
-        ∙ (let e : 0 + taken_over x l r ν (distinct (drop (i + 1) parts)) ≡ taken_over x l r ν (distinct (drop (i + 1) parts)) = omega arith in e)
+taken_over-passed x l r ν parts i h e = grind (arith, common_steps)
 
 -- ---- the number of ways, capped at 2^128 - 1, during the loop over the states
 
@@ -121,7 +85,6 @@ rest_at a b l r e s = subst (λ k. IsRest k l r) e s
 pub below_at : (a b : ℕ) (ν : List ℕ) → a ≡ b → AreBelow a ν → AreBelow b ν
 below_at a b ν e s = subst (λ k. AreBelow k ν) e s
 
--- if `is_choice_at` accepts part i for x, this part is at most x
 pub choice-within : (x : ℕ) (parts : List ℕ) (i : ℕ) → is_choice_at parts i x ≡ true → get_or parts i 0 ≤ x
 choice-within x parts i e = leb-true (get_or parts i 0) x (and_parts (leb (get_or parts i 0) x) (not (has (get_or parts i 0) (drop (i + 1) parts))) e).0
 

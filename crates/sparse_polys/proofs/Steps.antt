@@ -1,4 +1,4 @@
--- The pairs of a table that a loop has visited, and what changes if the loop visits one more pair.
+-- Lemmas for loops over the pairs of a table: the list of the pairs that have been visited, before and after one more pair is visited.
 use Rattle.std.proofs.Common.{◌≡◌, Bool, List, [], ◌∷◌, ◌++◌, pos, refl, ◌∙◌, inl, inr}
 use Rattle.std.specs.Prelude.{Option, Some}
 use Rattle.std.specs.List.{IsDistinct}
@@ -10,7 +10,7 @@ use Rattle.sparse_polys.specs.Combination.{terms_of, IsCombination}
 use Rattle.sparse_polys.specs.Refusal.{IsRefused}
 pub use Rattle.linear_combinations.proofs.Steps.{absent_before, error_is, all_done}
 
--- the ring does not refuse the sum of 0 and a scalar
+-- the checked sum of 0 and a scalar is never None
 module _ {R : Type 0} {is_held : R → Type 0} {value : R → Fraction} {checked : R → R → Option R} (answers : (a b : R) → is_held a → is_held b → AnswersSum value a b (checked a b)) where
   pub fits-zero_left : (a b : Fraction) → a ≡ whole (pos 0) → IsRefused is_held value checked a b → ⊥
   fits-zero_left a b e r = let h : checked r.left r.right ≡ Some r.right = (answers r.left r.right r.left_held r.right_held).zero_left (r.left_value ∙ e) in let f = r.refused in cc
@@ -19,7 +19,6 @@ pub IsCombination-empty : {L : Type 0} (eq : L → L → Bool) (is_label : L →
 unfolding IsDistinct
 IsCombination-empty eq is_label = record { distinct = tt; proper = refl }
 
--- for the pairs `done`, (k, a) and `rest`, one after another: k with the value of a is one of the terms of this list
 pub among-next : {L R : Type 0} (value : R → Fraction) (done : List (L × R)) (k : L) (a : R) (rest : List (L × R)) → Among (k, value a) (terms_of value (done ++ (k, a) ∷ rest))
 among-next value [] k a rest = inl refl
 among-next value (x ∷ done) k a rest = inr (among-next value done k a rest)

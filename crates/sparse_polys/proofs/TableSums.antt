@@ -1,7 +1,8 @@
--- Multiples and sums of tables with integer coefficients, as polynomials given by lists of terms.
---     Same-multiple, Same-sum        a table that is a multiple of a table, or a sum of two tables, is this multiple or sum as a polynomial
---     large_product, large_sum       if a multiple or a sum of tables is refused, one of its coefficients is 2^127 or more in absolute value
-use Rattle.std.proofs.Common.{◌≡◌, ◌^◌, ◌≤◌, Bool, true, false, sym, ◌∙◌, ap, ap₂, subst, refl, arith, ℤ, pos, ◌+ℤ◌, ◌*ℤ◌}
+-- Multiples and sums of tables with integer coefficients, as polynomials given by lists of terms. A *table* is a list of terms in which each label, a
+-- partition, occurs once, with a coefficient that is not 0.
+--     Same-multiple, Same-sum        the table computed as a multiple of a table, or as a sum of two tables, is this multiple or sum as a polynomial
+--     large_product, large_sum       if the checked multiple or sum is None, the exact one has a coefficient of absolute value 2^127 or more
+use Rattle.std.proofs.Common.{◌≡◌, ◌^◌, ◌≤◌, Bool, true, false, sym, ◌∙◌, ap, ap₂, subst, refl, arith, ℤ, pos, ◌+ℤ◌, ◌*ℤ◌, rules}
 use Rattle.std.specs.Prelude.{nat_abs, FitsSigned}
 use Rattle.std.specs.Int.{w128}
 use Rattle.coeff_rings.specs.Checked.{checked_i128}
@@ -20,22 +21,12 @@ use Rattle.sparse_polys.proofs.WholeLists.{coefficient-no_label, label-partition
 use lib.IntN.{*ℤ_comm}
 use Rattle.sym_model.proofs.PolynomialLaws.{plus_comm}
 
--- ---- tables whose coefficients are q times those of a table, or the sums of those of two tables
-
 pub Same-multiple : (old new : WholeTerms) (q : ℤ) → IsWholeTable old → IsWholeTable new → IsMultipleOf equal (pos 0) ◌*ℤ◌ old q new → Same new (scale q old)
-Same-multiple old new q is also multiples l =
-    coefficient_found new also.distinct l ∙ multiples l
-    ∙ ap (λ z. z *ℤ q) (sym (coefficient_found old is.distinct l))
-    ∙ *ℤ_comm (coefficient old l) q ∙ sym (coefficient_scale q old l)
+Same-multiple old new q is also multiples l = search (rules, coefficient_found, multiples, *ℤ_comm, coefficient_scale)
 
 pub Same-sum : (first second sum : WholeTerms) → IsWholeTable first → IsWholeTable second → IsWholeTable sum → IsSumOf equal (pos 0) ◌+ℤ◌ first second sum
     → Same sum (plus first second)
-Same-sum first second sum is js also sums l =
-    coefficient_found sum also.distinct l ∙ sums l
-    ∙ ap₂ ◌+ℤ◌ (sym (coefficient_found first is.distinct l)) (sym (coefficient_found second js.distinct l))
-    ∙ sym (coefficient_plus first second l)
-
--- ---- multiples and sums with a coefficient of 2^127 or more
+Same-sum first second sum is js also sums l = search (rules, coefficient_found, coefficient_plus)
 
 pub large_product : (old : WholeTerms) (q : ℤ) → IsWholeTable old
     → RefusesSomeProduct (FitsSigned w128) (λ (x y : ℤ). checked_i128 (x *ℤ y)) old q → HasLarge (scale q old)
@@ -62,8 +53,6 @@ large_sum first second is js (label, r) =
         (let none = ap nat_abs
         (coefficient_plus first second label ∙ ap₂ ◌+ℤ◌ (coefficient-no_label first is label e) (coefficient-no_label second js label e)) in
         omega arith)
-
--- ---- the sum of p times a list and q times a list
 
 pub HasLarge_respects : (A B : WholeTerms) → Same A B → HasLarge A → HasLarge B
 HasLarge_respects A B h x = record { label = x.label; partition = x.partition; large = subst (λ z. 2 ^ 127 ≤ nat_abs z) (h x.label) x.large }

@@ -1,5 +1,6 @@
--- Lists of fractions as tables over the ring of fractions.
---     terms-fractions      a list of fractions is its own list of terms
+-- Lists of terms with fractions as coefficients, as the case of lists of labels with scalars in which the scalars are fractions. A *combination* is a
+-- list in which each label occurs once, with a coefficient that is not 0. A *canonical* list is a combination with its labels in a given order.
+--     terms-fractions      if the scalars are fractions, replacing each of them by its value (`terms_of`) does not change the list
 --     term-tests           the tests that each term of a combination passes
 --     canonical-fractions  the tests of a canonical list
 --     table_gained         a list that is built by adding terms to the empty list is a combination
@@ -22,7 +23,6 @@ use Rattle.linear_combinations.proofs.Totals.{term-among}
 use Rattle.sparse_polys.specs.Combination.{terms_of, coefficient, are_terms, is_canonical_list}
 use Rattle.sparse_polys.specs.Combination.{IsCombination}
 
--- the list of terms of a list of pairs with fractions as scalars is this list itself
 pub terms-fractions : {L : Type 0} (terms : Terms L) → terms_of (λ (c : Fraction). c) terms ≡ terms
 terms-fractions [] = refl
 terms-fractions (t ∷ terms) = ap (λ ts. t ∷ ts) (terms-fractions terms)
@@ -58,7 +58,6 @@ module _ {L : Type 0} (is_label : L → Bool) where
   canonical-fractions order terms =
       ap₂ (λ a b. a && b) (is_ordered-fractions order terms) (are_terms-fractions terms)
 
-  -- in a combination, the coefficient of each label is in lowest terms
   pub lowest-coefficient : {eq : L → L → Bool} → IsEquivalence eq
       → ((x y : L) → eq x y ≡ true → x ≡ y) → (terms : Terms L)
       → are_terms is_label terms ≡ true → (k : L) → InLowestTerms (coefficient eq terms k)
@@ -66,7 +65,6 @@ module _ {L : Type 0} (is_label : L → Bool) where
       lowest-entry laws same is_label (λ (r : Fraction). r) (whole (pos 0))
       (InLowestTerms-whole (pos 0)) terms proper k
 
--- a list that is built by adding terms to the empty list (`GainsCleared`) is a combination
 pub table_gained : {L : Type 0} {eq : L → L → Bool} {is_label : L → Bool} (q : ℕ)
     (gained : WholeTermsOf L) (new : Terms L) → GainsCleared eq is_label q [] gained new
     → IsCombination eq is_label new

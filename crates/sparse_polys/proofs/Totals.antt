@@ -10,18 +10,14 @@ use Rattle.sparse_polys.specs.Combination.{coefficient, IsCombination, HasMoreAt
 
 module _ {L : Type 0} {eq : L → L → Bool} (laws : IsEquivalence eq) (same : (x y : L) → eq x y ≡ true → x ≡ y) where
   module _ {is_label : L → Bool} where
-    -- if t is a term of the first combination, and the second has the same coefficient at the label of t, then t is a term of the second
     pub carried : (first second : Terms L) → IsCombination eq is_label first → (t : L × Fraction) → Among t first → coefficient eq second t.0 ≡ coefficient eq first t.0 → Among t second
     carried first second is = Totals.carried laws same (whole (pos 0)) (λ (r : Fraction). r) refl first second is
 
     module _ (first second : Terms L) (is : IsCombination eq is_label first) (also : IsCombination eq is_label second) where
-      -- if two combinations have the same coefficient at every label, the sums of f over their terms are equal
       pub total_same : (f : L × Fraction → ℤ) → HasSameCoefficients eq first second → total f first ≡ total f second
       total_same =
           Totals.total_same laws same (whole (pos 0)) (λ (r : Fraction). r) refl first second is also
 
-  -- if f(l, 0) = 0 for all labels l, and `new` is `old` with c added at the label k, then (sum of f over `new`) + f(k, old
-  -- coefficient) = (sum of f over `old`) + f(k, new coefficient)
   pub total-more : (f : L → Fraction → ℤ) → ((l : L) → f l (whole (pos 0)) ≡ pos 0) → (k : L) → {is_label : L → Bool} (old new : Terms L)
       → IsCombination eq is_label old → IsCombination eq is_label new → (c : Fraction) → HasMoreAt eq old k c new
       → total (λ (t : L × Fraction). f t.0 t.1) new +ℤ f k (coefficient eq old k) ≡ total (λ (t : L × Fraction). f t.0 t.1) old +ℤ f k (coefficient eq new k)

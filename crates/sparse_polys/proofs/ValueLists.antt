@@ -1,9 +1,6 @@
 -- Properties of a list of entries (label, scalar), as properties of the list (label, value of the scalar).
-use Rattle.std.proofs.Common.{◌≡◌, Bool, true, false, ◌&&◌, List, [], ◌∷◌, length, pos, suc, refl, sym, ap, ap₂, ◌∙◌, subst, inl, inr, if◌then◌else◌}
-use Rattle.std.specs.Prelude.{Option, Some, None}
-use Rattle.std.specs.List.{IsDistinct}
-use Rattle.std.specs.Map.{lookup}
-use Rattle.std.specs.Option.{unwrap_or}
+use Rattle.std.proofs.Common.{◌≡◌, Bool, true, false, ◌&&◌, List, [], ◌∷◌, length, pos, suc, refl, sym, ap, ap₂, ◌∙◌, inl, inr, if◌then◌else◌, rules}
+use Rattle.std.specs.Prelude.{Option}
 use Rattle.std.specs.Ordering.{is_lt}
 use Rattle.std.specs.declared.cmp.Ordering.{Ordering}
 use Rattle.coeff_rings.specs.Fractions.{whole, fraction_sum}
@@ -16,8 +13,6 @@ use Rattle.sparse_polys.specs.Refusal.{IsRefused}
 use Rattle.sparse_polys.proofs.Coefficients.{coefficient-terms_of, keys-terms_of, value_at}
 
 module _ {L R : Type 0} (value : R → Fraction) where
-  -- ---- the list of values has the length of the list of entries
-
   pub length_values : (es : List (L × R)) → length (terms_of value es) ≡ length es
   length_values [] = refl
   length_values (e ∷ es) = ap suc (length_values es)
@@ -32,16 +27,10 @@ module _ {L R : Type 0} (value : R → Fraction) where
   is_ordered_values order (e ∷ f ∷ es) = ap (λ b. is_lt (order e.0 f.0) && b) (is_ordered_values order (f ∷ es))
 
   pub combination_values : (eq : L → L → Bool) (is_label : L → Bool) (es : List (L × R)) → Entries.IsCombination eq is_label value es → IsCombination eq is_label (terms_of value es)
-  combination_values eq is_label es is = record {
-    distinct = subst (IsDistinct eq) (sym (keys-terms_of value es)) is.distinct;
-    proper = are_terms_values is_label es ∙ is.proper;
-  }
+  combination_values eq is_label es is = search (rules, keys-terms_of, are_terms_values)
 
   pub values_combination : (eq : L → L → Bool) (is_label : L → Bool) (es : List (L × R)) → IsCombination eq is_label (terms_of value es) → Entries.IsCombination eq is_label value es
-  values_combination eq is_label es is = record {
-    distinct = subst (IsDistinct eq) (keys-terms_of value es) is.distinct;
-    proper = sym (are_terms_values is_label es) ∙ is.proper;
-  }
+  values_combination eq is_label es is = search (rules, keys-terms_of, are_terms_values)
 
   pub canonical_values : (order : L → L → Ordering) (is_label : L → Bool) (es : List (L × R)) → is_canonical_list order is_label (terms_of value es) ≡ Entries.is_canonical_list order is_label value es
   canonical_values order is_label es = ap₂ (λ a b. a && b) (is_ordered_values order es) (are_terms_values is_label es)
@@ -51,15 +40,9 @@ module _ {L R : Type 0} (value : R → Fraction) where
   among_values t (e ∷ es) (inl h) = inl (ap (λ (u : L × R). (u.0, value u.1)) h)
   among_values t (e ∷ es) (inr m) = inr (among_values t es m)
 
-  -- ---- the coefficients of a list of values
-
   module _ (zero : R) (none : value zero ≡ whole (pos 0)) (eq : L → L → Bool) where
     pub coefficient_values : (es : List (L × R)) (k : L) → value (Entries.coefficient eq zero es k) ≡ coefficient eq (terms_of value es) k
-    coefficient_values es k = by (lookup (eq k) es) ∙ sym (coefficient-terms_of eq value es k)
-      where
-        by : (o : Option R) → value (unwrap_or o zero) ≡ value_at value o
-        by None = none
-        by (Some c) = refl
+    coefficient_values es k = search (rules, coefficient-terms_of, value_at)
 
     module _ (sum : R → R → R) (sums : (a b : R) → value (sum a b) ≡ fraction_sum (value a) (value b)) where
       pub more_values : (old : List (L × R)) (k : L) (c : R) (new : List (L × R)) → Entries.HasMoreAt eq zero sum old k c new → HasMoreAt eq (terms_of value old) k (value c) (terms_of value new)
@@ -70,16 +53,6 @@ module _ {L R : Type 0} (value : R → Fraction) where
           by true = sums (Entries.coefficient eq zero old k) c ∙ ap (λ (r : Fraction). fraction_sum r (value c)) (coefficient_values old k)
           by false = coefficient_values old q
 
--- ---- sums and products that a ring refuses
-
 module _ {R : Type 0} (value : R → Fraction) (is_held : R → Type 0) (checked : R → R → Option R) where
   pub refused_values : (a b : R) (x y : Fraction) → value a ≡ x → value b ≡ y → Entries.IsRefused is_held checked a b → IsRefused is_held value checked x y
-  refused_values a b x y p q r = record {
-    left = a;
-    right = b;
-    left_held = r.left_held;
-    right_held = r.right_held;
-    left_value = p;
-    right_value = q;
-    refused = r.refused;
-  }
+  refused_values a b x y p q r = search rules

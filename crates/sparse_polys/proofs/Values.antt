@@ -1,8 +1,8 @@
 -- Combinations with the same coefficients have the same value as polynomials, whatever the order of their terms.
-use Rattle.std.proofs.Common.{◌≡◌, ℕ, ◌*◌, ◌/◌, ◌<◌, Bool, true, List, [], ◌∷◌, length, ℤ, pos, ◌+ℤ◌, ◌*ℤ◌, refl, sym, ap, ap₂, ◌∙◌, subst, inl, inr, arith}
+use Rattle.std.proofs.Common.{◌≡◌, ℕ, ◌*◌, ◌/◌, Bool, true, List, [], ◌∷◌, length, ℤ, pos, ◌*ℤ◌, refl, sym, ap, ◌∙◌, inl, inr, arith, rules}
 use Rattle.std.specs.Cmp.{IsEquivalence}
 use Rattle.sym_model.specs.Sum.{total, Among, Once, Within}
-use Rattle.sym_model.specs.Polynomial.{Poly, coefficient as coefficient_of, Same, scale}
+use Rattle.sym_model.specs.Polynomial.{Poly, coefficient as coefficient_of}
 use Rattle.sym_model.specs.Expansion.{Fraction, Terms, denominators, cleared, Represents}
 use Rattle.sym_model.proofs.Sums.{without, length-without, Within_tail, length_within, Within-without}
 use Rattle.sym_model.proofs.Polynomials.{coefficient_plus, coefficient_scale}
@@ -17,7 +17,6 @@ module _ {L : Type 0} where
   denominators-without x (y ∷ xs) (inr m) =
       ap (λ n. y.1.1 * n) (denominators-without x xs m) ∙ mul_left_comm y.1.1 x.1.1 (denominators (without x xs m))
 
-  -- if no element of ys occurs twice, each element of ys is in xs, and ys has the length of xs, then xs and ys have the same product of denominators
   denominators-within : (xs ys : Terms L) → Once ys → Within ys xs → length ys ≡ length xs → denominators ys ≡ denominators xs
   denominators-within [] [] o w l = refl
   denominators-within (x ∷ xs) [] o w l = absurd (omega arith)
@@ -28,43 +27,23 @@ module _ {L : Type 0} where
       let r = denominators-within (without y xs m) ys o.1 (Within-without y xs ys m o.0 (Within_tail y ys xs w)) k in
       ap (λ n. y.1.1 * n) r ∙ sym (denominators-without y xs m)
 
-  -- the summand of a term in the coefficient of x^α, after the fractions are multiplied by q
+  -- the part of the coefficient of x^α that comes from the term t, if all coefficients of the list are multiplied by q
   abbrev share : (L → Poly) → ℕ → List ℕ → L × Fraction → ℤ
   share polynomial q α t = (t.1.0 *ℤ pos (q / t.1.1)) *ℤ coefficient_of (polynomial t.0) α
 
   coefficient-cleared : (polynomial : L → Poly) (q : ℕ) (terms : Terms L) (α : List ℕ) → coefficient_of (cleared polynomial q terms) α ≡ total (share polynomial q α) terms
   coefficient-cleared polynomial q [] α = refl
-  coefficient-cleared polynomial q (t ∷ terms) α =
-      coefficient_plus (scale (t.1.0 *ℤ pos (q / t.1.1)) (polynomial t.0)) (cleared polynomial q terms) α
-      ∙ ap₂ ◌+ℤ◌ (coefficient_scale (t.1.0 *ℤ pos (q / t.1.1)) (polynomial t.0) α) (coefficient-cleared polynomial q terms α)
+  coefficient-cleared polynomial q (t ∷ terms) α = search (rules, coefficient_plus, coefficient_scale, (coefficient-cleared polynomial q terms α))
 
-  -- if, for every g, the sums of g over the terms of two lists are equal, and the lists have the same product of denominators, they represent the
-  -- same polynomials
   represents_same : (polynomial : L → Poly) (first second : Terms L) (f : Poly) (d : ℕ)
       → ((g : L × Fraction → ℤ) → total g first ≡ total g second) → denominators first ≡ denominators second
       → Represents polynomial first f d → Represents polynomial second f d
-  represents_same polynomial first second f d sums dens h = record {
-    positive = subst (λ q. 0 < q) dens h.positive;
-    equal = subst (λ q. Same (scale (pos d) (cleared polynomial q second)) (scale (pos q) f)) dens (λ α. same_value (denominators first) α ∙ h.equal α);
-  }
-    where
-      same_value : (q : ℕ) (α : List ℕ) → coefficient_of (scale (pos d) (cleared polynomial q second)) α ≡ coefficient_of (scale (pos d) (cleared polynomial q first)) α
-      same_value q α =
-          coefficient_scale (pos d) (cleared polynomial q second) α
-          ∙ ap (λ z. pos d *ℤ z) (coefficient-cleared polynomial q second α ∙ sym (sums (share polynomial q α)) ∙ sym (coefficient-cleared polynomial q first α))
-          ∙ sym (coefficient_scale (pos d) (cleared polynomial q first) α)
+  represents_same polynomial first second f d sums dens h = search (rules, coefficient_scale, coefficient-cleared)
 
 module _ {L : Type 0} {eq : L → L → Bool} (laws : IsEquivalence eq) (same : (x y : L) → eq x y ≡ true → x ≡ y) {is_label : L → Bool}
     (first second : Terms L) (is : IsCombination eq is_label first) (also : IsCombination eq is_label second) (equal : HasSameCoefficients eq first second) where
   pub denominators_same : denominators first ≡ denominators second
-  denominators_same =
-      let o = once laws same first is.distinct in
-      let p = once laws same second also.distinct in
-      let v : Within first second = λ t m. carried laws same first second is t m (equal t.0) in
-      let w : Within second first = λ t m. carried laws same second first also t m (sym (equal t.0)) in
-      let a = length_within first second p w in
-      let b = length_within second first o v in
-      denominators-within second first o v (omega arith)
+  denominators_same = search (rules, once, carried, length_within, denominators-within)
 
   pub represents-same_coefficients : (polynomial : L → Poly) (f : Poly) (d : ℕ) → Represents polynomial first f d → Represents polynomial second f d
   represents-same_coefficients polynomial f d h =

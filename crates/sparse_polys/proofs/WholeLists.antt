@@ -1,14 +1,15 @@
--- Tables with partitions as labels: look-ups and sums over the terms.
---     Same-from_look_ups         a list of integers is determined by the results of the look-ups
+-- Tables with partitions as labels: look-ups and sums over the terms. A *table* is a list of terms in which each label occurs once, with a
+-- coefficient that is not 0.
+--     Same-from_look_ups         the results of the look-ups in a table with integer coefficients determine it as a polynomial
 --     coefficient-no_label       a list of numbers that is not a label has the coefficient 0
 --     label-partition            each label is a partition
 --     Once-labels, Once-keys     no label occurs twice
-use Rattle.std.proofs.Common.{◌≡◌, ◌⊎◌, ℕ, false, cond, List, [], ◌∷◌, ◌++◌, map, sym, ◌∙◌, ap, subst, refl, inl, inr, ℤ, pos, ◌+ℤ◌, arith}
-use Rattle.std.specs.Prelude.{nat_abs, Option, Some, FitsSigned, Result, Ok, Err, IfOk}
+use Rattle.std.proofs.Common.{◌≡◌, ℕ, false, cond, List, [], ◌∷◌, ◌++◌, map, sym, ◌∙◌, ap, refl, inl, inr, ℤ, pos, ◌+ℤ◌, arith, rules}
+use Rattle.std.specs.Prelude.{nat_abs, Option, FitsSigned, Result, Ok, Err, IfOk}
 use Rattle.std.specs.Int.{w128}
 use Rattle.std.specs.Cmp.Lexicographic.{nat_list_eq_equiv}
 use Rattle.std.specs.List.{IsDistinct, AllByRecursion}
-use Rattle.std.specs.Map.{keys_of, lookup}
+use Rattle.std.specs.Map.{keys_of}
 use Rattle.std.specs.Option.{unwrap_or}
 use Rattle.std.proofs.lemmas.Bool.{and_parts, both_ways}
 use Rattle.std.proofs.lemmas.Map.Keys.{IsDistinct-head, IsDistinct-tail}
@@ -76,59 +77,38 @@ Same-from_look_ups terms W is h label = coefficient_found terms is.distinct labe
 -- if each look-up in the table `old` gives the coefficient in W, and `new` is `old` with c added at the label, each look-up in `new` gives the
 -- coefficient in W with the term (label, c) appended
 pub Finds-next : (old new W : WholeTerms) (label : List ℕ) (c : ℤ) → Finds old W → HasMoreAt equal (pos 0) ◌+ℤ◌ old label c new → Finds new (W ++ (label, c) ∷ [])
-Finds-next old new W label c h more l = more l ∙ by (same_or_not label l) ∙ sym (coefficient_plus W ((label, c) ∷ []) l)
-  where
-    by : (label ≡ l) ⊎ (label ≡ l → ⊥)
-        → cond (equal label l) (coefficient equal (pos 0) old label +ℤ c) (coefficient equal (pos 0) old l) ≡ coefficient_of W l +ℤ coefficient_of ((label, c) ∷ []) l
-    by (inl e) =
-        ap (λ b. cond b (coefficient equal (pos 0) old label +ℤ c) (coefficient equal (pos 0) old l)) (equal_from label l e)
-        ∙ ap (λ z. z +ℤ c) (ap (coefficient equal (pos 0) old) e ∙ h l)
-        ∙ ap (λ z. coefficient_of W l +ℤ z) (sym (ap (λ b. cond b c (pos 0) +ℤ pos 0) (same_from label l e) ∙ +ℤ_idr c))
-    by (inr n) =
-        ap (λ b. cond b (coefficient equal (pos 0) old label +ℤ c) (coefficient equal (pos 0) old l)) (equal_apart label l n)
-        ∙ h l
-        ∙ sym (ap (λ z. coefficient_of W l +ℤ z) (ap (λ b. cond b c (pos 0) +ℤ pos 0) (same_apart label l n)) ∙ +ℤ_idr (coefficient_of W l))
+Finds-next old new W label c h more l = search (rules, same_or_not, coefficient_plus, equal_from, same_from, +ℤ_idr, equal_apart, same_apart)
 
 -- a table that is the empty table with c added at one label is the list of the one term (label, c)
 pub Same-single : (new : WholeTerms) (label : List ℕ) (c : ℤ) → IsWholeTable new → HasMoreAt equal (pos 0) ◌+ℤ◌ [] label c new → Same new ((label, c) ∷ [])
 Same-single new label c is more = Same-from_look_ups new ((label, c) ∷ []) is (Finds-next [] new [] label c (λ l. refl) more)
 
--- the ring of integers below 2^127 does not refuse the sum of a = 0 and c
+-- the checked sum of a = 0 and an integer c of 128 bits is never None
 pub not_refused : (a c : ℤ) → a ≡ pos 0 → IsRefused (FitsSigned w128) (λ (x y : ℤ). checked_i128 (x +ℤ y)) a c → ⊥
 not_refused a c e = fits-zero_left {is_held = FitsSigned w128} {value = whole} {checked = λ (x y : ℤ). checked_i128 (x +ℤ y)} sum_answers_i128 a c (ap whole e)
 
 pub more_as : (old old' new : WholeTerms) (label label' : List ℕ) (c c' : ℤ) → old ≡ old' → label ≡ label' → c ≡ c'
     → HasMoreAt equal (pos 0) ◌+ℤ◌ old label c new → HasMoreAt equal (pos 0) ◌+ℤ◌ old' label' c' new
-more_as old old' new label label' c c' p q r h =
-    subst (λ o. HasMoreAt equal (pos 0) ◌+ℤ◌ o label' c' new) p
-    (subst (λ l. HasMoreAt equal (pos 0) ◌+ℤ◌ old l c' new) q (subst (λ z. HasMoreAt equal (pos 0) ◌+ℤ◌ old label z new) r h))
+more_as old old' new label label' c c' p q r h = search rules
 
 pub if_ok_both : {T E : Type 0} {P Q R : T → Type 0} (r : Result T E) → IfOk r P → IfOk r Q → ((x : T) → P x → Q x → R x) → IfOk r R
 if_ok_both (Ok x) h k f = f x h k
 if_ok_both (Err e) h k f = tt
 
--- no coefficient of a table is 0
 pub not_zero : (terms : WholeTerms) → IsWholeTable terms → (t : List ℕ × ℤ) → Among t terms → t.1 ≡ pos 0 → ⊥
 not_zero terms is t m e =
     let some = (is_reduced-tells (whole t.1) (and_parts (is_reduced (whole t.1)) _ (term-among is_label whole terms is.proper t m)).0).nonzero in
     let none = ap nat_abs e in
     omega arith
 
--- if all labels of W have the property P, so have those of each table with the coefficients of W
 pub labels-same : (P : List ℕ → Type 0) (terms W : WholeTerms) → IsWholeTable terms → Same terms W → HaveLabels P W → HaveLabels P terms
 labels-same P terms W is h each =
     gains_labels nat_list_eq_equiv same_partition [] W terms is
     (record { sums = λ φ. pair_determined terms W φ h ∙ sym (+ℤ_idl (over φ W)) }) P (not_zero terms is) (λ t m. absurd m) each
 
--- ---- look-ups in tables of fractions
-
--- looking up the label of a term of a table finds the coefficient of the term
 pub found-among : (terms : Terms (List ℕ)) → IsDistinct equal (keys_of terms) → (t : List ℕ × Fraction) → Among t terms → found terms t.0 ≡ t.1
 found-among terms d t m = ap (λ (o : Option Fraction). unwrap_or o (pos 0, 1)) (look_up-among nat_list_eq_equiv same_partition terms d t m)
 
--- if the label is not the label of a term of the list, looking it up gives 0
 pub found-absent : (terms : Terms (List ℕ)) (label : List ℕ) → (Among label (map (λ (t : List ℕ × Fraction). t.0) terms) → ⊥) → found terms label ≡ whole (pos 0)
 found-absent [] label n = refl
-found-absent (t ∷ terms) label n =
-    ap (λ b. unwrap_or (cond b (Some t.1) (lookup (equal label) terms)) (pos 0, 1)) (equal_apart label t.0 (λ e. n (inl e)))
-    ∙ found-absent terms label (λ m. n (inr m))
+found-absent (t ∷ terms) label n = search (rules, equal_apart, (found-absent terms label))

@@ -1,4 +1,5 @@
--- The search for the partitions ν in a product m_λ·m_μ, from the greatest part of ν to the least.
+-- The search for the partitions ν in a product m_λ·m_μ, from the greatest part of ν to the least. A *state* of the search consists of the parts of λ
+-- and of μ that remain, and of the number of ways to reach them (its count). The result is a list of entries, each a partition with a count.
 use Rattle.std.specs.Prelude.{◌≡◌, ℕ, ◌+◌, ◌==◌, nat_le, nat_lt, Bool, true, ◌&&◌, cond, Option}
 use Rattle.std.specs.Prelude.{Some, None, List, [], ◌∷◌, ◌++◌, All}
 use Rattle.sym_model.specs.Polynomial.{same}
@@ -39,7 +40,7 @@ found_behind m states (Some rest) = cond (falls_from m rest) (capped (ways state
 abbrev pub found : List ℕ → ℕ → List State → List ℕ → ℕ
 found prefix m states ν = found_behind m states (after_prefix prefix ν)
 
--- the parts of `prefix` are positive and weakly decreasing, and none is less than m
+-- the parts of `prefix` are positive, weakly decreasing and at least m
 pub record IsChosen (m : ℕ) (prefix : List ℕ) : Type 0 where
   pub falls : Falls (prefix ++ (m ∷ []))
   pub positive : ArePositive prefix

@@ -20,7 +20,7 @@ use std::cmp::Ordering;
 use std::hash::{Hash, Hasher};
 use std::marker::Model;
 
-/// The greatest number of exponents, and the greatest degree, of a monomial.
+/// The greatest number of exponents of a monomial; its greatest degree is `MAX_DEGREE`.
 const MAX_EXPONENTS: usize = 255;
 
 const MAX_DEGREE: u32 = 32385;

@@ -76,7 +76,7 @@ fn add_row<R: Ring>(
     Ok(())
 }
 
-/// The product of two polynomials, in every number of variables. Each product of a monomial of
+/// The product of two polynomials, which are given as lists of terms. Each product of a monomial of
 /// `left` and a monomial of `right` must have a degree of at most 32,385.
 ///
 /// Returns `Large` only if the weights of the two lists have a product of 2^127 or more. The weight

@@ -1,8 +1,9 @@
--- The list of terms that the transition rule computes represents the Stanley polynomial of w in m variables.
+-- The transition rule is applied to start = 1^m × w, that is, to w after m fixed letters: its Schubert polynomial in m variables is the Stanley
+-- polynomial of w. The result is a list of Schur polynomials with coefficients.
 --     sum_represents    the sum of the Schur polynomials of the list is the Stanley polynomial
---     labels_within     a list with the coefficients of a sum of s_κ, in which each κ has at most m rows, has labels of at most m rows
---     past_from         if S_start in m variables has a Schur coefficient of at least 2^127, so has the Stanley polynomial
---     none_past         if all coefficients of the list are of 128 bits, no Schur coefficient of the Stanley polynomial exceeds the limit
+--     labels_within     the partitions of the list have at most m rows
+--     past_from         if S_start in m variables has a Schur coefficient of at least 2^127, the Stanley polynomial has one, too
+--     none_past         if the coefficients of the list fit in 128 bits, no Schur coefficient of the Stanley polynomial exceeds 2^127 - 1
 use Rattle.std.proofs.Common.{◌≡◌, ℕ, ◌^◌, ◌≤◌, List, [], refl, sym, ◌∙◌, ap, subst, arith, ℤ, pos, ◌≤ℤ◌}
 use Rattle.std.specs.Prelude.{nat_eq}
 use Rattle.std.specs.Cmp.Lexicographic.{pointwise, nat_list_eq_equiv}
@@ -56,8 +57,8 @@ module _ (m : ℕ) (w start : List ℕ) (o : IsOneLine w) (e : start ≡ kept (b
     pub sum_represents : IsExpansionOf schurs (as_fractions sum) m (stanley_in w m) 1
     sum_represents = represents_sums (λ κ. schur κ m) sum (stanley_in w m) sum_pairs
 
-    -- if the labels of the table `sum` are partitions of at most m rows, and its coefficients have 128 bits (`AreShapes`), no Schur coefficient of
-    -- the Stanley polynomial exceeds 2^127 - 1
+    -- if the partitions of the table `sum` have at most m rows, and its coefficients fit in 128 bits (`AreShapes`), no Schur coefficient of the
+    -- Stanley polynomial exceeds 2^127 - 1
     pub none_past : AreShapes m sum → HasPast (IsCoefficientOfStanley m w) → ⊥
     none_past is (c, d, large) =
         let a : c ≡ over (only (pointwise nat_eq) d.parts) sum =

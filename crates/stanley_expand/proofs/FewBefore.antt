@@ -39,8 +39,6 @@ use Rattle.partitions.proofs.Growing.{not_more}
 
 -- ---- counts of greater letters in a prefix of a list
 
--- if each of the first q entries is at most x or greater than z, the number of them greater than x is at most the
--- number greater than z
 greater_gap : (x z q : ℕ) (w : List ℕ) → ((c : ℕ) → c < q → (get_or w c 0 ≤ x) ⊎ (z < get_or w c 0)) → greater x (take q w) ≤ greater z (take q w)
 greater_gap x z zero w h = omega arith
 greater_gap x z (suc q) [] h = omega arith
@@ -77,7 +75,6 @@ none_between low high (suc n) zero (y ∷ w) h l =
 none_between low high n (suc k) [] h l = absurd (omega arith)
 none_between low high n (suc k) (y ∷ w) h l = none_between low high n k w (λ c a b. h (suc c) (omega arith) (omega arith)) (omega arith)
 
--- either some entry before place q is the greatest of those smaller than x, or no entry before q is smaller than x
 find_smaller : (x q : ℕ) (w : List ℕ) → ((i : ℕ) × (i < q) × (get_or w i 0 < x) × ((c : ℕ) → c < q → (get_or w c 0 ≤ get_or w i 0) ⊎ (x ≤ get_or w c 0))) ⊎ ((c : ℕ) → c < q → x ≤ get_or w c 0)
 find_smaller x zero w = inr (λ c l. absurd (omega arith))
 find_smaller x (suc q) w = by (find_smaller x q w) (cases_lt (get_or w q 0) x)
@@ -98,8 +95,6 @@ find_smaller x (suc q) w = by (find_smaller x q w) (cases_lt (get_or w q 0) x)
 
 -- ---- the exchanges of w to v = w·t_rs and of v to v·t_ir in the transition rule, with places counted from 0
 
--- let q and b be the places of the transition rule for w, and let no letter of w have more than m greater letters before it; after the letters at q
--- and b are exchanged, each letter but the one at q has at most m greater letters before it
 down_few : (m q b p : ℕ) (w : List ℕ) → IsOneLine w → IsStep w q b → ((i : ℕ) → i < length w → before w i ≤ m) → p < length w → (p ≡ q → ⊥)
     → before (swap_at q b w) p ≤ m
 down_few m q b p w o s few i n =
@@ -145,8 +140,6 @@ down_few m q b p w o s few i n =
           | inr e ↦ let x = get_swap_other q b j 0 w e (λ z. omega arith) in let y = smaller_between q b j w o s (omega arith) l in omega arith
         ]
 
--- let q and b be the places of the transition rule for w; if the letter at b has at most m greater letters before it, it has fewer than m of them
--- after it is exchanged with the letter at q
 down_first : (m q b : ℕ) (w : List ℕ) → IsStep w q b → before w b ≤ m → before (swap_at q b w) q < m
 down_first m q b w s few =
     let order = s.order in
@@ -158,8 +151,6 @@ down_first m q b w s few =
     let c = sym (cond_below {X = ℕ} (get_or w b 0) (get_or w q 0) 1 0 s.falls) in
     omega arith
 
--- let u(i) be the greatest of the entries of u before q that are smaller than u(q); if u(q) has fewer than m greater entries before it, and each
--- other entry of u at most m, then each entry has at most m greater ones before it after u(i) and u(q) are exchanged
 up_few : (m i q p : ℕ) (u : List ℕ) → i < q → q < length u → get_or u i 0 < get_or u q 0
     → ((c : ℕ) → c < q → (c ≡ i → ⊥) → (get_or u c 0 < get_or u i 0) ⊎ (get_or u q 0 < get_or u c 0))
     → ((c : ℕ) → c < length u → (c ≡ q → ⊥) → before u c ≤ m) → before u q < m → p < length u → before (swap_at i q u) p ≤ m
@@ -255,7 +246,6 @@ some_left m q b w o s last few = by (find_smaller (get_or (swap_at q b w) q 0) q
               (λ c x n. down_few m q b c w o s few (omega arith) n) (down_first m q b w s (few b inside)) k,
         )
 
--- if each letter of v has at most m greater letters before it, so has each letter of v without the fixed letters at its end
 few_kept : (m : ℕ) (v : List ℕ) → IsOneLine v → ((p : ℕ) → p < length v → before v p ≤ m) → HasMoreBefore m (kept v) → ⊥
 few_kept m v o few more =
     let f = from_letters m (kept v) (one_line_kept v o) more in
@@ -295,8 +285,6 @@ some_cover w r s m o t h few =
           (eq-eqb (inversions (times_swap (suc left.0) (suc p.0) (swap_at p.0 p.1 w))) (inversions (swap_at p.0 p.1 w) + 1) i)),
       λ more. few_kept m (swap_at left.0 p.0 (swap_at p.0 p.1 w)) oy (λ j l. left.3 j (omega arith)) (subst (HasMoreBefore m) y more),
     )
-
--- ---- a positive Schur coefficient of the Schubert polynomial in m variables
 
 abbrev pub HasShape : ℕ → List ℕ → Type 0
 HasShape m u = (κ : List ℕ) × IsPartition κ × (rows κ ≤ m) × (pos 1 ≤ℤ pair (schubert_in u m) (schur_test m κ))

@@ -31,8 +31,6 @@ use Rattle.stanley_expand.specs.Grassmannian.{RisesTo, IsGrassmannian, front_bet
 use Rattle.stanley_expand.proofs.SortingPaths.{IsFront, pred}
 use Rattle.stanley_expand.proofs.Grassmannian.{AllRise, smaller_of_none, code_rising, grassmannian}
 
--- ---- the variable x_r is 0 in fewer than r variables
-
 unit_past : (m j : ℕ) → m ≤ j → fits_in m (replicate j 0 ++ (1 ∷ [])) ≡ false
 unit_past zero zero h = refl
 unit_past zero (suc j) h = ap (λ b. true && b) (unit_past zero j (omega arith))

@@ -1,6 +1,6 @@
 -- If a permutation is increasing at places 1 to m and after place m, its Schubert polynomial in m variables is a Schur polynomial.
 --     symmetric_front  the Schubert polynomial in n variables is symmetric, if the permutation is increasing at places 1 to n
---     grassmannian     the Schubert polynomial is a Schur polynomial, since a_ρ times each of them is the same alternant
+--     grassmannian     the Schubert polynomial is a Schur polynomial, since the products of a_ρ with these two polynomials are the same alternant
 use Rattle.std.proofs.Common.{◌≡◌, ℕ, zero, suc, ◌<◌, ◌≤◌, List, [], ◌∷◌, ◌++◌, map, reverse, length, replicate, refl, sym, ◌∙◌, ap, ap₂, subst, arith, inl, inr, ◌⊎◌, cond, nat_le, false, ℤ, pos, length-append}
 use Rattle.std.proofs.lemmas.Bool.{cases_eq, cond_below}
 use Rattle.std.proofs.lemmas.Bool.Decides.{nat_tests}
@@ -145,8 +145,6 @@ symmetric_front n u l r left a b right = by (cases_eq (length (left ++ (a ∷ b 
         let y = length-append left (b ∷ a ∷ right) in
         coefficient_outside n (schubert_in u n) (left ++ (a ∷ b ∷ right)) (In_restrict n (schubert u)) d
         ∙ sym (coefficient_outside n (schubert_in u n) (left ++ (b ∷ a ∷ right)) (In_restrict n (schubert u)) (λ e. d (omega arith)))
-
--- ---- Schubert polynomials of Grassmannian permutations
 
 -- for an increasing list w of m letters, the partition of the parts w(i) - i for i from m down to 1
 abbrev pub front_parts : List ℕ → List ℕ

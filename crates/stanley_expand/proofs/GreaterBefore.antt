@@ -33,8 +33,6 @@ use Rattle.stanley_expand.specs.GreaterBefore.{HasMoreBefore, greater_before}
 use Rattle.stanley_expand.proofs.FirstPlaces.{dropped, rises_past}
 use Rattle.std.proofs.Math.Seq.{take-set-lt}
 
--- ---- counts of greater letters in a prefix of a list
-
 pub greater_longer : (x p q : ℕ) (w : List ℕ) → p ≤ q → greater x (take p w) ≤ greater x (take q w)
 greater_longer x zero q w h = omega arith
 greater_longer x (suc p) zero w h = absurd (omega arith)
@@ -117,8 +115,6 @@ MoreBefore m w = (p : ℕ) × (p < length w) × (m < before w p)
 pub at_letter : (w : List ℕ) (p x : ℕ) → get_or w p 0 ≡ x → before w p ≡ greater x (take p w)
 at_letter w p x e = ap (λ z. greater z (take p w)) e
 
--- let j < q and u(j) < u(q), and let at least m letters before q be greater than u(q); after u(j) and u(q) are exchanged, some letter has more than m
--- greater letters before it
 up_there : (m j q : ℕ) (u : List ℕ) → j < q → q < length u → get_or u j 0 < get_or u q 0 → m ≤ before u q
     → MoreBefore m (swap_at j q u)
 up_there m j q u h k l f =
@@ -175,8 +171,6 @@ smaller_between q b c w o s h k =
     let inside = s.inside in
     strict_get w c b o.once (omega arith) inside (λ z. omega arith) (rises_chain q c b w s.rises h (omega arith) inside)
 
--- let q and b be the places of the transition rule for w; if the letter at b has more than m greater letters before it, it has at least m of them
--- after it is exchanged with the letter at q
 down_there : (m q b : ℕ) (w : List ℕ) → IsOneLine w → IsStep w q b → m < before w b → m ≤ before (swap_at q b w) q
 down_there m q b w o s f =
     let order = s.order in
@@ -351,8 +345,6 @@ more_on w r s m o t more x mem =
     let e : times_swap r s w ≡ kept (swap_at p.0 p.1 w) = ap₂ (λ i j. times_swap i j w) p.2 p.3 ∙ kept_swap w p.0 p.1 g.order g.inside in
     let c : covers_down r (times_swap r s w) ≡ covers_down (suc p.0) (swap_at p.0 p.1 w) = ap₂ covers_down p.2 e ∙ covers_down_kept (suc p.0) (swap_at p.0 p.1 w) ou in
     covers_more m p.0 p.1 w x o g (from_letters m w o more) (subst (Among x) c mem)
-
--- ---- if some letter of w has more than m greater letters before it, S_w in m variables is 0
 
 none_left : (m : ℕ) (w : List ℕ) → IsOneLine w → last_descent_place w ≤ m → HasMoreBefore m w → ⊥
 none_left m w o h more =

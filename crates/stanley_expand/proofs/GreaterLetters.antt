@@ -11,7 +11,7 @@ use Rattle.perm_codes.proofs.Prefixes.{one_more}
 pub greater-count_by : (a : ℕ) (w : List ℕ) → greater a w ≡ count_by (λ b. nat_lt a b) w
 greater-count_by a w = is_count_by (greater a) (λ b. nat_lt a b) refl (λ b v. one_more (nat_lt a b) (greater a v)) w
 
--- the number of letters greater than x before place k + 1 is that before place k, plus 1 if the letter at k is greater
+-- before place k + 1 there are as many letters greater than x as before place k, and one more if the letter at place k is greater than x
 pub greater_next : (x k : ℕ) (w : List ℕ) → k < length w → greater x (take (suc k) w) ≡ greater x (take k w) + cond (nat_lt x (get_or w k 0)) 1 0
 greater_next x k [] h = absurd (omega arith)
 greater_next x zero (y ∷ w) h = omega arith

@@ -1,5 +1,6 @@
--- If adding to the count of a permutation in the tables overflows, then the sum of all Schur and Schubert polynomials, with the added ones, has a
--- Schur coefficient of 2^127 or more.
+-- The transition rule keeps a sum of Schur polynomials, and tables of permutations still to be expanded, each with a count (specs/Walk). Let p be a
+-- permutation in which no letter has more than m greater letters before it. If adding c ≥ 0 to the count of p overflows, then the sum, plus the
+-- Schubert polynomials of the tables times their counts, plus c times the Schubert polynomial of p, has a Schur coefficient of 2^127 or more.
 use Rattle.std.proofs.Common.{◌≡◌, ℕ, zero, suc, ◌+◌, ◌≤◌, Bool, true, false, cond, List, [], ◌∷◌, get_or, refl, ◌∙◌, ap, subst, arith, inl, inr, ℤ, pos, ◌+ℤ◌, ◌*ℤ◌, ◌≤ℤ◌}
 use Rattle.std.specs.Prelude.{nat_eq}
 use Rattle.std.specs.Cmp.Lexicographic.{pointwise}
@@ -21,7 +22,6 @@ use Rattle.stanley_expand.proofs.Steps.{over_schurs, large_at}
 use Rattle.stanley_expand.proofs.Tables.{over_natural, rising_natural, table_natural, tables_natural, only_natural}
 use lib.IntN.{*ℤ-zero, zero-*ℤ}
 
--- if no count n(x) and no value f(x) of a table is negative, n(p)·f(p) is at most the sum of the products n(x)·f(x)
 at_least_one : (f : List ℕ → ℤ) (p : List ℕ) (table : WholeTerms) → AreCounts table → HaveLabels (λ x. pos 0 ≤ℤ f x) table
     → (over (only (pointwise nat_eq) p) table *ℤ f p) ≤ℤ over f table
 at_least_one f p [] counts values = let z = zero-*ℤ (f p) in omega (arith, ints)
@@ -43,8 +43,6 @@ at_least_one f p (t ∷ table) counts values =
         omega (arith, ints)
 
 module _ (m : ℕ) (κ : List ℕ) (q : IsPartition κ) (few : rows κ ≤ m) where
-  -- if no count of the tables is negative and each permutation is increasing at places 1 to m, the coefficient of s_κ in the sum over one table is at
-  -- most that in the sum over all tables
   one_table : (at : ℕ) (todo : List WholeTerms) → ((k : ℕ) → HaveLabels (IsRising m (m + 16)) (get_or todo k [])) → ((k : ℕ) → AreCounts (get_or todo k []))
       → over (λ p. pair (schubert_in p m) (schur_test m κ)) (get_or todo at []) ≤ℤ waited m (schur_test m κ) todo
   one_table at [] labels counts = omega (arith, ints)
@@ -56,8 +54,8 @@ module _ (m : ℕ) (κ : List ℕ) (q : IsPartition κ) (few : rows κ ≤ m) wh
       let b = one_table at todo (λ k. labels (suc k)) (λ k. counts (suc k)) in
       omega (arith, ints)
 
--- if adding c ≥ 0 to the count of p overflows, and no letter of p has more than m greater letters before it, some Schur coefficient is then at least
--- 2^127 (`OverflowsWith`)
+-- let no letter of p have more than m greater letters before it. If adding c ≥ 0 to the count of p overflows, then `sum`, plus the Schubert
+-- polynomials of the tables times their counts, plus c times the Schubert polynomial of p, has a Schur coefficient of 2^127 or more.
 pub large_waiting : (m at : ℕ) (p : List ℕ) (c : ℤ) (sum : WholeTerms) (todo : List WholeTerms) (table : WholeTerms) → WaitsAt m at p → (HasMoreBefore m p → ⊥) → pos 0 ≤ℤ c
     → table ≡ get_or todo at [] → Overflows (pointwise nat_eq) table ((p, c) ∷ []) → OverflowsWith m sum todo (λ φ. c *ℤ pair (schubert_in p m) φ)
 large_waiting m at p c sum todo table waits few positive e overflow waiting shapes =

@@ -29,7 +29,7 @@ use Rattle.stanley_expand.proofs.FirstPlaces.{dropped, still_rising, leaf}
 use Rattle.stanley_expand.proofs.FixedFront.{rising_behind, schubert_behind}
 use Rattle.sym_model.proofs.Integers.{cond-nonnegative}
 
--- ---- the beta list of a Grassmannian permutation is strictly decreasing
+-- ---- if the letters at the places 1 to m are increasing, the list of these letters from place m down to 1, each minus 1, is strictly decreasing
 
 pub front_strict : (m : ℕ) (u : List ℕ) → IsOneLine u → RisesTo m u → FallsStrictly (front_beta m u)
 front_strict zero u o r = tt
@@ -50,8 +50,6 @@ front_partition m u o r = from_beta_partition (front_beta m u) (front_strict m u
 
 pub front_rows : (m : ℕ) (u : List ℕ) → rows (front_shape m u) ≤ m
 front_rows m u = let a = rows-from_beta (front_beta m u) in let l = length_front m u in omega arith
-
--- ---- the permutations of the transition rule for a permutation that is increasing at places 1 to m
 
 pub rising_covers : (m n r s : ℕ) (w x : List ℕ) → IsRising m n w → IsTransition w r s → m < r → Among x (covers_down r (times_swap r s w)) → IsRising m n x
 rising_covers m n r s w x i t h mem =

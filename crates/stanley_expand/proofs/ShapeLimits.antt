@@ -1,4 +1,5 @@
--- The partition of a Grassmannian permutation of at most m + 16 letters, with m at most 64, is within the limits of a label.
+-- The partition of a Grassmannian permutation of at most m + 16 letters, with m at most 64, has at most 512 rows and at most 4,096 cells, as the
+-- partitions in a list of terms must have.
 use Rattle.std.proofs.Common.{◌≡◌, ℕ, zero, suc, ◌+◌, ◌-◌, ◌*◌, ◌≤◌, List, [], ◌∷◌, length, get_or, arith, inl, inr}
 use Rattle.std.proofs.lemmas.Bool.{cases_lt}
 use Rattle.sym_model.specs.Partition.{size}

@@ -1,7 +1,8 @@
--- The sum of c·A(α) over the terms c·x^α of a Schubert polynomial, for an alternating function A, by divided differences along the path that sorts
--- the first letters.
---     along_lowered      ∂ takes A at d + α to A at c + α, if d is c with 1 added to the first of two neighbouring equal entries of c
---     grassmannian_path  the differences along the path give the value of A at the sorted first letters, each minus 1
+-- For a list w of m first letters, the sum of c·A(α + d) over the terms c·x^α of a Schubert polynomial in m variables, with d = `rising_code w`. A is
+-- a function that changes its sign if two neighbouring entries of its argument are exchanged. The proof goes along the exchanges that sort w.
+--     along_lowered      if d is c with 1 added to the first of two equal neighbouring entries, and ∂ is the divided difference in the variables of
+--                        these entries, then the sum of b·A(d + γ) over the terms b·x^γ of ∂x^α is A(c + α)
+--     grassmannian_path  the sum of c·A(α + d) over the terms c·x^α is the value of A at the list w sorted to be decreasing, each letter minus 1
 use Rattle.std.proofs.Common.{◌≡◌, ℕ, zero, suc, ◌+◌, ◌-◌, ◌<◌, ◌≤◌, List, [], ◌∷◌, ◌++◌, map, length, replicate, refl, sym, ◌∙◌, ap, ap₂, subst, arith, inl, inr, ◌⊎◌, cond, Bool, true, false, None, ℤ, pos, neg_ℤ, length-append}
 use Rattle.std.proofs.lemmas.Int.{ints}
 use Rattle.std.proofs.lemmas.Bool.{cases_lt, cond_below}
@@ -65,8 +66,6 @@ along_lowered (suc k) (a ∷ c) (b ∷ d) (x ∷ α) A u h l =
     along_lowered k c d α (λ β. A ((b + x) ∷ β)) u.1 (λ j β m. h (suc j) ((b + x) ∷ β) (omega arith)) (omega arith)
     ∙ ap (λ t. A ((t + x) ∷ join c α)) (sym u.0)
 
--- ---- restriction commutes with divided differences in the variables that are kept
-
 across_if : (t : Bool) (φ : ℕ → ℕ → ℤ) (a b : ℕ) → across (λ c d. cond t (φ c d) (pos 0)) a b ≡ cond t (across φ a b) (pos 0)
 across_if true φ a b = refl
 across_if false φ a b = along_zero 0 (a ∷ b ∷ [])
@@ -120,8 +119,8 @@ sorted_exchange_at zero (a ∷ b ∷ w) = sorted-exchange [] b a w
 sorted_exchange_at (suc k) [] = refl
 sorted_exchange_at (suc k) (a ∷ w) = ap (put_falling a) (sorted_exchange_at k w)
 
--- w has the letters at the first places and z those after them, all different; for each x of w exactly x - 1 letters of w and z are smaller than x,
--- and z is increasing
+-- w is the list of the letters at the first places, and z the list of the letters after them; all these letters are different, and z is increasing.
+-- For each letter x of w, exactly x - 1 letters of w and z are smaller than x.
 pub record IsFront (w z : List ℕ) : Type 0 where
   pub once : Once (w ++ z)
   pub counts : (x : ℕ) → Among x w → 1 ≤ x
@@ -173,8 +172,6 @@ rising_code_falling : (w : List ℕ) → Once w → HasNoAscent w → rising_cod
 rising_code_falling [] o n = refl
 rising_code_falling (a ∷ w) o n =
     ap₂ ◌∷◌ (greater_of_none a w (λ y m. let b = greater_head a w o n y m in omega arith)) (rising_code_falling w o.1 (λ k. n (suc k)))
-
--- ---- divided differences along the path that sorts the first letters
 
 grassmannian_within : (n : ℕ) (w z : List ℕ) (A : List ℕ → ℤ) → rising_pairs w < n → Alternates A → IsFront w z → Falls (code w)
     → pair (schubert (w ++ z)) (restricted_test (length w) (λ α. A (join (rising_code w) α))) ≡ A (map pred (sorted_falling w))

@@ -1,5 +1,6 @@
--- One step of the transition rule in m variables, for the sums of c·φ(α) over the terms c·x^α: a permutation w is replaced by the covers v·t_ir, i <
--- r, of v = w·t_rs, or its Schur polynomial is added to the sum.
+-- One step of the transition rule in m variables: a permutation w is replaced by the covers v·t_ir, i < r, of v = w·t_rs; or, if w has no descent
+-- after place m, its Schur polynomial is added to the sum of the Schur polynomials found so far. The laws are about the sum of c·φ(α) over the terms
+-- c·x^α of a polynomial, for any function φ of exponents.
 use Rattle.std.proofs.Common.{◌≡◌, ℕ, ◌+◌, ◌-◌, ◌*◌, ◌^◌, ◌<◌, ◌≤◌, List, [], ◌∷◌, ◌∙◌, refl, sym, ap, subst, arith, inl, inr, Bool, true, false, cond, ℤ, pos, ◌+ℤ◌, ◌*ℤ◌, ◌≤ℤ◌, unwrap_or}
 use Rattle.std.specs.Prelude.{nat_abs, nat_eq}
 use Rattle.std.specs.Cmp.Lexicographic.{pointwise, nat_list_eq_equiv}
@@ -40,8 +41,6 @@ use Rattle.stanley_expand.proofs.Tables.{waited_natural}
 use Rattle.linear_combinations.specs.Entries.{IsWholeTable}
 use Rattle.transition_walk.proofs.Shares.{natural}
 
--- ---- the Schur coefficients of a sum of Schur polynomials
-
 -- for κ of at most m rows, the Schur coefficient at κ of a sum of Schur polynomials is the coefficient of κ in the list of its terms
 pub over_schurs : (m : ℕ) (κ : List ℕ) (terms : WholeTerms) → IsWholeTable terms → IsPartition κ → rows κ ≤ m
     → over (λ ν. pair (schur ν m) (schur_test m κ)) terms ≡ over (only (pointwise nat_eq) κ) terms
@@ -50,10 +49,8 @@ over_schurs m κ terms is q few =
     (λ t k. ap (λ z. t.1 *ℤ z) (schur_pairs m t.0 κ (is_label-tells t.0 (and_parts _ _ (term-among is_label whole terms is.proper t k)).1).partition q few))
     ∙ sym (coefficient_pair terms κ) ∙ coefficient_over terms κ
 
--- ---- a sum of Schur polynomials to which one term is added
-
--- if c ≥ 0 is added without overflow at a partition κ of at most m rows to a table of partitions with at most m rows and coefficients ≥ 0
--- (`AreShapes`), the result is such a table
+-- let `old` be a table of partitions of at most m rows, with coefficients ≥ 0 (`AreShapes`). If c ≥ 0 is added without overflow at a partition κ of
+-- at most m rows, the result is a table with the same property.
 pub more_shapes : (m : ℕ) (κ : List ℕ) (c : ℤ) (old new : WholeTerms) → rows κ ≤ m → pos 0 ≤ℤ c → Gains old ((κ, c) ∷ []) new → IsWholeTable new → IsHeld new
     → AreShapes m old → AreShapes m new
 more_shapes m κ c old new few natural gains table held was = record {
@@ -89,8 +86,6 @@ large_at κ c old distinct held counts positive o = by (pointwise nat_eq o.0 κ)
         let a = sym (natural (over (only (pointwise nat_eq) o.0) old) n) in
         absurd (omega (arith, ints))
 
--- ---- a permutation p replaced by the covers v·t_ir, i < r, of v = p·t_rs in the transition rule
-
 -- if p is increasing at the first m places and r > m, the Schubert polynomial of p in m variables is the sum of those of the covers v·t_ir, i < r, of
 -- v = p·t_rs
 pub covers_pair : (m n r s : ℕ) (p : List ℕ) (φ : List ℕ → ℤ) → IsRising m n p → IsTransition p r s → m < r
@@ -99,15 +94,13 @@ covers_pair m n r s p φ i t h =
     pair_determined (schubert_in p m) (schuberts_in (covers_down r (times_swap r s p)) m) φ (dropped p r s m i.short.one_line t h)
     ∙ pair_each (λ (x : List ℕ). schubert_in x m) (covers_down r (times_swap r s p)) φ
 
--- if p is increasing at the first m places and r > m, c times the Schubert polynomial of p in m variables is c times the sum of those of the covers
--- v·t_ir, i < r, of v = p·t_rs
 pub put_pair : (m n r s : ℕ) (p : List ℕ) (c : ℤ) (φ : List ℕ → ℤ) (covers : List (List ℕ)) → covers ≡ covers_down r (times_swap r s p) → IsRising m n p → IsTransition p r s → m < r
     → c *ℤ total (λ x. pair (schubert_in x m) φ) covers ≡ c *ℤ pair (schubert_in p m) φ
 put_pair m n r s p c φ covers e i t h =
     ap (λ xs. c *ℤ total (λ x. pair (schubert_in x m) φ) xs) e ∙ ap (λ z. c *ℤ z) (sym (covers_pair m n r s p φ i t h))
 
--- if p is increasing at the first m places and r > m, each cover x = v·t_ir, i < r, of v = p·t_rs is increasing at these places, and the number of
--- its table is smaller than that of p
+-- let p be increasing at the first m places, and let v = p·t_rs be its transition, with r > m. Each cover x = v·t_ir, i < r, is increasing at these
+-- places too, and is kept in a table with a smaller number than the table of p (`number`).
 pub covers_number : (m r s : ℕ) (p x : List ℕ) → m ≤ 64 → IsRising m (m + 16) p → IsTransition p r s → m < r → Among x (covers_down r (times_swap r s p))
     → IsRising m (m + 16) x × (number m x < number m p)
 covers_number m r s p x few i t h mem =
@@ -128,8 +121,6 @@ covers_number m r s p x few i t h mem =
       ],
     )
 
--- ---- adding the Schur polynomial of a Grassmannian permutation to the sum
-
 module _ (m n : ℕ) (p : List ℕ) (i : IsRising m n p) (h : last_descent_place p ≤ m) where
   pub shape_pairs : (φ : List ℕ → ℤ) → pair (schubert_in p m) φ ≡ pair (schur (front_shape m p) m) φ
   shape_pairs φ = pair_determined (schubert_in p m) (schur (front_shape m p) m) φ (leaf m p (record { one_line = i.short.one_line; rises = i.rises; last = h }))
@@ -146,8 +137,6 @@ module _ (m n : ℕ) (p : List ℕ) (i : IsRising m n p) (h : last_descent_place
     shapes = more_shapes m (front_shape m p) c old new (front_rows m p) natural gains table held;
   }
 
-  -- if adding the count c ≥ 0 at the partition of the Grassmannian permutation p overflows, some Schur coefficient is then at least 2^127
-  -- (`OverflowsWith`)
   pub large_shape : (c : ℤ) (old : WholeTerms) (todo : List WholeTerms) → pos 0 ≤ℤ c → Overflows (pointwise nat_eq) old ((front_shape m p, c) ∷ [])
       → OverflowsWith m old todo (λ φ. c *ℤ pair (schubert_in p m) φ)
   large_shape c old todo positive overflow waiting is =

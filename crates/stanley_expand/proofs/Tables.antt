@@ -1,8 +1,9 @@
--- The tables of permutations that are still to be expanded: sums over them, and how they change if one more permutation is added.
---     waited_natural    no Schur coefficient of the sum over the permutations of the tables is negative
---     put_step          one more permutation, with its count, added to its table
---     none_step, both_steps, as_step    `IsWorkedOff` for no step, for two steps one after the other, and for a step with an equal function `more`
---     large_with        a Schur coefficient of at least 2^127 stays so if something that is not negative is added
+-- The tables of permutations that are still to be expanded, each with a count. A step changes the sum of Schur polynomials and the tables, so that
+-- the value `walked m φ` of the two increases by `more φ` for every function φ of exponents (`IsWorkedOff`).
+--     waited_natural    no Schur coefficient of the sum of the Schubert polynomials of the permutations, times their counts, is negative
+--     put_step          one more permutation is added, with its count, to its table
+--     none_step, both_steps, as_step    no step, two steps one after the other, and a step with `more` replaced by an equal function
+--     large_with        a polynomial with a Schur coefficient of at least 2^127 still has one if no Schur coefficient is made smaller
 use Rattle.std.proofs.Common.{◌≡◌, ℕ, zero, suc, Bool, ◌+◌, ◌^◌, ◌<◌, ◌≤◌, List, [], ◌∷◌, ◌++◌, length, get_or, set, replicate, refl, sym, ◌∙◌, ap, subst, arith, inl, inr, ℤ, pos, ◌+ℤ◌, ◌*ℤ◌, ◌≤ℤ◌}
 use Rattle.std.specs.Prelude.{nat_eq}
 use Rattle.std.specs.Cmp.Lexicographic.{pointwise, nat_list_eq_equiv}
@@ -39,8 +40,6 @@ use Rattle.stanley_expand.specs.SchurPositive.{schur_test}
 use Rattle.stanley_expand.proofs.SchurPositive.{schur_positive, natural}
 use Rattle.stanley_expand.specs.Walk.{WaitsAt, AreWaiting, AreShapes, IsHeld, waited, walked, IsWorkedOff, HasLargeShape, OverflowsWith}
 
--- ---- sums over a table of counts that are not negative
-
 -- if no count of the table and no value of f on its labels is negative, the sum of the counts times the values of f is not negative
 pub over_natural : (f : List ℕ → ℤ) (table : WholeTerms) → AreCounts table → HaveLabels (λ p. pos 0 ≤ℤ f p) table → pos 0 ≤ℤ over f table
 over_natural f [] counts values = omega (arith, ints)
@@ -50,7 +49,6 @@ over_natural f (t ∷ table) counts values =
     omega (arith, ints)
 
 module _ (m : ℕ) (κ : List ℕ) (q : IsPartition κ) (few : rows κ ≤ m) where
-  -- if p is increasing at places 1 to m, the coefficient of s_κ in its Schubert polynomial in m variables is not negative
   pub rising_natural : (p : List ℕ) → IsRising m (m + 16) p → pos 0 ≤ℤ pair (schubert_in p m) (schur_test m κ)
   rising_natural p i = natural m (schubert_in p m) κ (schur_positive m (m + 16) p i) q few
 
@@ -119,7 +117,6 @@ overflows_as m sum todo f g e large waiting shapes =
 
 -- ---- the elements that a loop has visited, and those still to come
 
--- if `all` is `done` followed by `left`, and `left` is x followed by `rest`, then `all` is `done`, followed by x and `rest`
 pub still_all : {A : Type 0} (done rest left all : List A) (x : A) → left ≡ x ∷ rest → done ++ left ≡ all → done ++ x ∷ rest ≡ all
 still_all done rest left all x next e = ap (λ xs. done ++ xs) (sym next) ∙ e
 
@@ -162,12 +159,9 @@ large_count m sum sum2 todo mid done rest all t e rising counts step large waiti
     omega (arith, ints))
     (large (step.waiting waiting) (step.shapes shapes))
 
--- ---- one more permutation, with its count, added to the table that has the number of this permutation
-
 pub only_natural : (x y : List ℕ) → pos 0 ≤ℤ only (pointwise nat_eq) x y
 only_natural x y = cond-nonnegative (pointwise nat_eq x y) (pos 1) (omega (arith, ints))
 
--- if P holds of each table and of `new`, P holds of each table after the one at `at` is replaced by `new`
 set_all : (P : WholeTerms → Type 0) (todo : List WholeTerms) (at : ℕ) (new : WholeTerms) → at < length todo → P new → ((k : ℕ) → P (get_or todo k [])) → (k : ℕ) → P (get_or (set todo at new) k [])
 set_all P todo at new inside here old k = elim (cases_eq k at) [
   | inl e ↦ subst (λ n. P (get_or (set todo at new) n [])) (sym e) (subst P (sym (get_or-set_same todo at new [] inside)) here)
@@ -175,7 +169,6 @@ set_all P todo at new inside here old k = elim (cases_eq k at) [
 ]
 
 module _ (m at : ℕ) (p : List ℕ) (c : ℤ) (waits : WaitsAt m at p) (positive : pos 0 ≤ℤ c) where
-  -- if no count of the table `old` is negative, no count of `new`, in which c ≥ 0 is added at p, is negative
   pub more_counts : (old new : WholeTerms) {is_label : List ℕ → Bool} → IsCombination (pointwise nat_eq) is_label whole new → Gains old ((p, c) ∷ []) new
       → AreCounts old → AreCounts new
   more_counts old new is gains counts t i =
@@ -250,8 +243,6 @@ module _ (m : ℕ) (todo rest : List WholeTerms) (table : WholeTerms) (e : todo 
       let a = ap (total (λ t. over (λ p. pair (schubert_in p m) φ) t)) e ∙ total_append (λ t. over (λ p. pair (schubert_in p m) φ) t) rest (table ∷ []) in
       omega (arith, ints)
 
--- ---- lists of empty tables
-
 module _ (m : ℕ) where
   empty_table : (n at : ℕ) → ◌≡◌ {A = WholeTerms} (get_or (replicate n []) at []) []
   empty_table zero at = refl
@@ -269,8 +260,6 @@ module _ (m : ℕ) where
   pub empty_waited : (φ : List ℕ → ℤ) (n : ℕ) → waited m φ (replicate n []) ≡ pos 0
   empty_waited φ zero = refl
   empty_waited φ (suc n) = let a = empty_waited φ n in omega (arith, ints)
-
--- ---- the empty sum of Schur polynomials
 
 pub no_shapes : (m : ℕ) → AreShapes m []
 no_shapes m = record {

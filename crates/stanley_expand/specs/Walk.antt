@@ -55,13 +55,13 @@ pub record AreWaiting (m : ℕ) (todo : List WholeTerms) : Type 0 where
 abbrev pub waited : ℕ → (List ℕ → ℤ) → List WholeTerms → ℤ
 waited m φ todo = total (λ table. over (λ p. pair (schubert_in p m) φ) table) todo
 
--- the sum of k·c·φ(α) over the terms (κ, k) of `sum` and over the terms c·x^α of s_κ in m variables; plus the sum
--- `waited` of the tables, in which the Schubert polynomial S_p of each permutation p takes the place of s_κ
+-- the sum of k·c·φ(α) over the terms (κ, k) of `sum` and over the terms c·x^α of s_κ in m variables, plus the sum
+-- `waited m φ todo` over the permutations of the tables
 abbrev pub walked : ℕ → (List ℕ → ℤ) → WholeTerms → List WholeTerms → ℤ
 walked m φ sum todo = over (λ κ. pair (schur κ m) φ) sum +ℤ waited m φ todo
 
--- VALUE: for every φ, `walked` of `sum2` and `todo2` is `walked` of `sum` and `todo` plus `more φ`; the number of
--- tables is the same, and the invariants of the tables and of the sum are kept
+-- a step from `sum` and the tables `todo` to `sum2` and the tables `todo2`: for every φ, `walked` increases by `more φ`;
+-- the number of tables stays the same, and the invariants `AreWaiting` of the tables and `AreShapes` of the sum are kept
 pub record IsWorkedOff (m : ℕ) (sum : WholeTerms) (todo : List WholeTerms)
     (more : (List ℕ → ℤ) → ℤ) (sum2 : WholeTerms) (todo2 : List WholeTerms) : Type 0 where
   pub value : (φ : List ℕ → ℤ) → walked m φ sum2 todo2 ≡ walked m φ sum todo +ℤ more φ
@@ -69,14 +69,14 @@ pub record IsWorkedOff (m : ℕ) (sum : WholeTerms) (todo : List WholeTerms)
   pub waiting : AreWaiting m todo → AreWaiting m todo2
   pub shapes : AreShapes m sum → AreShapes m sum2
 
--- Let f be a polynomial in m variables such that, for each φ, `sum φ` is the sum of c·φ(α) over the terms c·x^α of f.
--- Then f has a Schur coefficient of 2^127 or more at some partition with at most m rows.
+-- the statement that a polynomial f in m variables has a Schur coefficient of 2^127 or more at some partition of at most m
+-- rows; f is given by the function `sum` that takes φ to the sum of c·φ(α) over the terms c·x^α of f
 abbrev pub HasLargeShape : ℕ → ((List ℕ → ℤ) → ℤ) → Type 0
 HasLargeShape m sum =
     (κ : List ℕ) × IsPartition κ × (rows κ ≤ m) × (pos (2 ^ 127) ≤ℤ sum (schur_test m κ))
 
--- OVERFLOW: if the tables `todo` and the sum satisfy their invariants, `walked` of them plus `more` has a Schur
--- coefficient of 2^127 or more (`HasLargeShape`)
+-- the statement that, if the tables `todo` and `sum` satisfy their invariants, the polynomial that they add up to
+-- (`walked`), plus the polynomial given by `more`, has a Schur coefficient of 2^127 or more (`HasLargeShape`)
 abbrev pub OverflowsWith : ℕ → WholeTerms → List WholeTerms → ((List ℕ → ℤ) → ℤ) → Type 0
 OverflowsWith m sum todo more = AreWaiting m todo → AreShapes m sum
     → HasLargeShape m (λ φ. walked m φ sum todo +ℤ more φ)

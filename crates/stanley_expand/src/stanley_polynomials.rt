@@ -1,4 +1,4 @@
-//! Stanley polynomials by the transition rule.
+//! Every Stanley polynomial is a sum of Schur polynomials.
 
 ghost use Rattle.std.specs.Prelude.{◌≡◌, ℕ, ◌≤◌, ◌≤ℤ◌, pos, List, [], ◌∷◌};
 ghost use Rattle.sym_model.specs.Alternant.{schur_coefficient};

@@ -1,25 +1,22 @@
--- Containment of shapes by parts, by cells and as a test.
---     `contains-tells`, `contains-from`  the test `contains` is true if and only if no part of inner is greater than that of outer
---     `cells-from`, `cells-tell`         no part of inner is greater than that of outer if and only if each cell of inner is a cell of outer
---     `cell`                             a row of outer/inner has a cell in each column after the part of inner, up to the part of outer
---     `Holds_below`, `Holds-..`          if inner is inside outer: its later rows are inside those of outer, and it has not more cells or long rows
-use Rattle.std.proofs.Common.{◌≡◌, ◌⊎◌, ℕ, zero, suc, ◌+◌, ◌-◌, ◌<◌, ◌≤◌, true, cond, List, [], ◌∷◌, drop, get_or, leb, eqb, subst, refl, sym, inl, inr, arith, ap, ap₂}
-use Rattle.std.proofs.lemmas.Bool.{cases_lt, eq-eqb, eqb-true, leb-true, le-leb, lt-leb, and_parts, and_from}
+-- Three equivalent ways to say that the shape `inner` lies inside the shape `outer`: by their parts (`Holds`), by their cells, and by a test.
+--     `contains-tells`, `contains-from`  the test `contains` is true if and only if no part of inner is greater than the same part of outer
+--     `cells-from`, `cells-tell`         no part of inner is greater than the same part of outer if and only if each cell of inner is a cell of outer
+--     `cell`                             row i of outer/inner has a cell in each column from (part i of inner) + 1 to (part i of outer)
+--     `Holds_below`, `Holds-..`          what follows if inner lies inside outer, such as: inner has at most as many cells as outer
+use Rattle.std.proofs.Common.{◌≡◌, ◌⊎◌, ℕ, zero, suc, ◌+◌, ◌-◌, ◌<◌, ◌≤◌, true, cond, List, [], ◌∷◌, drop, get_or, leb, eqb, subst, refl, inl, inr, arith, ap, ap₂, rules}
+use Rattle.std.proofs.lemmas.Bool.{cases_lt, eq-eqb, leb-true, le-leb, lt-leb, and_parts, and_from}
 use Rattle.sym_model.specs.Partition.{part, size, ArePositive, Holds, IsCell}
 use Rattle.sym_model.specs.Conjugate.{count_from}
 use Rattle.sym_model.proofs.Parts.{size-first}
 use Rattle.sym_model.specs.Schur.{contains}
 
--- no number of inner is greater than the number of outer at the same place
+-- each entry of the list `inner` is at most the entry of the list `outer` at the same index, with 0 for missing entries
 abbrev Under : List ℕ → List ℕ → Type 0
 Under outer inner = (j : ℕ) → get_or inner j 0 ≤ get_or outer j 0
 
 under-from_test : (outer inner : List ℕ) → contains outer inner ≡ true → Under outer inner
 under-from_test outer [] h j = omega arith
-under-from_test [] (b ∷ inner) h zero =
-    let p = and_parts (eqb b 0) (contains [] inner) h in
-    let e = eqb-true b 0 p.0 in
-    omega (arith, e)
+under-from_test [] (b ∷ inner) h zero = search rules
 under-from_test [] (b ∷ inner) h (suc j) = under-from_test [] inner (and_parts (eqb b 0) (contains [] inner) h).1 j
 under-from_test (a ∷ outer) (b ∷ inner) h zero = leb-true b a (and_parts (leb b a) (contains outer inner) h).0
 under-from_test (a ∷ outer) (b ∷ inner) h (suc j) = under-from_test outer inner (and_parts (leb b a) (contains outer inner) h).1 j
@@ -42,12 +39,7 @@ contains-from outer inner h =
     subst (λ k. get_or inner k 0 ≤ get_or outer k 0) e (h (j + 1)))
 
 pub cells-from : (outer inner : List ℕ) → Holds outer inner → (row column : ℕ) → IsCell inner [] row column → IsCell outer [] row column
-cells-from outer inner h row column c =
-    let a = c.row_counts in
-    let b = c.outside in
-    let d = c.within in
-    let l = h row in
-    record { row_counts = a; outside = b; within = omega (arith, d, l) }
+cells-from outer inner h row column c = search rules
 
 row_within : (outer inner : List ℕ) → ((row column : ℕ) → IsCell inner [] row column → IsCell outer [] row column) → (i : ℕ) → 1 ≤ i → part inner i ≤ part outer i
 row_within outer inner h i n = elim (cases_lt 0 (part inner i)) [
@@ -67,24 +59,20 @@ Holds-get_or outer inner h i =
 pub cell : (outer inner : List ℕ) (row column : ℕ) → 1 ≤ row → part inner row < column → column ≤ part outer row → IsCell outer inner row column
 cell outer inner row column a b c = record { row_counts = a; outside = b; within = c }
 
--- ---- the parts of a list without its first part, and containment of shapes without their first rows
-
 pub get_or-below : (parts : List ℕ) (n : ℕ) → get_or (drop 1 parts) n 0 ≡ get_or parts (suc n) 0
 get_or-below [] zero = refl
 get_or-below [] (suc n) = refl
 get_or-below (a ∷ parts) n = refl
 
 pub Holds_below : (outer inner : List ℕ) → Holds outer inner → Holds (drop 1 outer) (drop 1 inner)
-Holds_below outer inner h i =
-    subst (λ (n : ℕ). n ≤ get_or (drop 1 outer) (i - 1) 0) (sym (get_or-below inner (i - 1)))
-    (subst (λ (n : ℕ). get_or inner (suc (i - 1)) 0 ≤ n) (sym (get_or-below outer (i - 1))) (Holds-get_or outer inner h (suc (i - 1))))
+Holds_below outer inner h i = search (rules, get_or-below, Holds-get_or)
 
 pub Holds-size : (outer inner : List ℕ) → Holds outer inner → size inner ≤ size outer
 Holds-size outer [] h = omega arith
 Holds-size outer (b ∷ inner) h =
     omega (arith, h 1, Holds-size (drop 1 outer) inner (Holds_below outer (b ∷ inner) h), size-first outer)
 
--- a shape that contains another shape of its size is equal to it
+-- if outer contains inner and the two shapes have the same size, then they are equal
 pub Holds-same_size : (outer inner : List ℕ) → ArePositive outer → ArePositive inner → Holds outer inner → size outer ≡ size inner → outer ≡ inner
 Holds-same_size [] [] p q h e = refl
 Holds-same_size [] (b ∷ inner) p q h e = absurd (omega (arith, q.0))

@@ -1,9 +1,9 @@
--- The definition of the reduction into the alcove bounds the number of reflections. The bound is never reached: each reflection lowers the sum of the
--- squares of the entries.
---     `squares_fall`     if n is less than the spread (first entry minus last), a reflection lowers the sum of the squares
---     `enough`           any two bounds greater than this sum give the same result
---     `reflect_again`    the reduction of a list that is reflected is that of the sorted reflected list, with the sign of sorting
-use Rattle.std.proofs.Common.{◌≡◌, ℕ, zero, suc, ◌+◌, ◌-◌, ◌*◌, ◌<◌, ◌≤◌, ◌==◌, nat_lt, nat_le, Bool, true, false, cond, List, [], ◌∷◌, length, get_or, sym, ◌∙◌, ap, refl, inl, inr, ◌⊎◌, arith, pos, Some, None}
+-- The reduction of a strictly decreasing list into the alcove repeats one step, for a fixed number n: subtract n from the first entry, add n to the
+-- last entry (a reflection), and sort. Its definition bounds the number of reflections. The lemmas show that this bound is never reached.
+--     `squares_fall`     if n is less than the spread (first entry minus last), a reflection lowers the sum of the squares of the entries
+--     `enough`           any two bounds greater than the sum of the squares of the entries give the same result
+--     `reflect_again`    reducing b has the same result as reflecting and sorting b and then reducing, up to the sign of sorting
+use Rattle.std.proofs.Common.{◌≡◌, ℕ, zero, suc, ◌+◌, ◌-◌, ◌*◌, ◌<◌, ◌≤◌, nat_lt, true, false, List, [], ◌∷◌, length, get_or, sym, ◌∙◌, ap, refl, inl, inr, ◌⊎◌, arith, pos, Some, None, rules}
 use Rattle.std.proofs.lemmas.Bool.{cases_Bool, cases_lt}
 use Rattle.std.proofs.lemmas.Bool.Decides.{nat_tests}
 use Rattle.sym_model.specs.Partition.{part}
@@ -15,11 +15,7 @@ use Rattle.std.proofs.Math.Nat.{mul-pos}
 
 squares_put : (a : ℕ) (b : List ℕ) → squares (put_falling a b) ≡ a * a + squares b
 squares_put a [] = refl
-squares_put a (c ∷ b) = by (nat_le c a) (squares_put a b)
-  where
-    by : (t : Bool) → squares (put_falling a b) ≡ a * a + squares b → squares (cond t (a ∷ c ∷ b) (c ∷ put_falling a b)) ≡ a * a + (c * c + squares b)
-    by true e = refl
-    by false e = omega (arith, e)
+squares_put a (c ∷ b) = search (rules, (squares_put a b))
 
 pub squares_sorted : (b : List ℕ) → squares (sorted_falling b) ≡ squares b
 squares_sorted [] = refl
@@ -57,32 +53,23 @@ squares_fall n (a ∷ c ∷ b) h g =
     let s = closer a (last_of c b) n d (omega (arith, far)) (mul-pos h (omega (arith, far))) in
     omega (arith, r, s)
 
--- ---- reductions with a bound for the number of reflections that is greater than the sum of the squares of the entries
+-- ---- the reduction with a bound for the number of reflections
 
 step_again : (steps n : ℕ) (b : List ℕ) → n < spread b → has_equal_entries (reflected n b) ≡ false
     → reflected_within (suc steps) n b ≡ with_sign (sorting_sign (reflected n b)) (reflected_within steps n (sorted_falling (reflected n b)))
-step_again steps n b h e =
-    let p : nat_lt (spread b) n ≡ false = grind (arith, nat_tests) in
-    let q : (spread b == n) ≡ false = grind (arith, nat_tests) in
-    rw (p, q, e) refl
+step_again steps n b h e = search rules
 
 step_wall : (steps n : ℕ) (b : List ℕ) → spread b ≡ n → reflected_within (suc steps) n b ≡ None
-step_wall steps n b h =
-    let p : nat_lt (spread b) n ≡ false = grind (arith, nat_tests) in
-    let q : (spread b == n) ≡ true = grind (arith, nat_tests) in
-    rw (p, q) refl
+step_wall steps n b h = search rules
 
 step_equal : (steps n : ℕ) (b : List ℕ) → n < spread b → has_equal_entries (reflected n b) ≡ true → reflected_within (suc steps) n b ≡ None
-step_equal steps n b h e =
-    let p : nat_lt (spread b) n ≡ false = grind (arith, nat_tests) in
-    let q : (spread b == n) ≡ false = grind (arith, nat_tests) in
-    rw (p, q, e) refl
+step_equal steps n b h e = search rules
 
 step_stays : (steps n : ℕ) (b : List ℕ) → spread b < n → reflected_within (suc steps) n b ≡ Some (b, pos 1)
 step_stays steps n b h = let p : nat_lt (spread b) n ≡ true = grind (arith, nat_tests) in rw p refl
 
--- if s and t are both greater than the sum of the squares of the entries of b, reducing b with at most s reflections has the same result as with at
--- most t
+-- if s and t are greater than the sum of the squares of the entries of b, the reduction of b with at most s reflections and the reduction with at
+-- most t reflections have the same result
 pub enough : (s t n : ℕ) (b : List ℕ) → 1 ≤ n → squares b < s → squares b < t → reflected_within s n b ≡ reflected_within t n b
 enough zero t n b h p q = absurd (omega arith)
 enough (suc s) zero n b h p q = absurd (omega arith)
@@ -106,7 +93,7 @@ enough (suc s) (suc t) n b h p q =
         ∙ ap (with_sign (sorting_sign (reflected n b))) (later (below c))
         ∙ sym (step_again t n b c d)
 
--- ---- the reduction into the alcove, without a bound: a list that is not changed, a list that gives 0, and a list that is reflected
+-- ---- the reduction into the alcove
 
 pub reflect_stays : (n : ℕ) (b : List ℕ) → spread b < n → reflected_into_alcove n b ≡ Some (b, pos 1)
 reflect_stays n b h = step_stays (squares b) n b h
@@ -119,9 +106,4 @@ reflect_equal n b h e = step_equal (squares b) n b h e
 
 pub reflect_again : (n : ℕ) (b : List ℕ) → 1 ≤ n → n < spread b → has_equal_entries (reflected n b) ≡ false
     → reflected_into_alcove n b ≡ with_sign (sorting_sign (reflected n b)) (reflected_into_alcove n (sorted_falling (reflected n b)))
-reflect_again n b h g e =
-    let c = sorted_falling (reflected n b) in
-    let s = squares_sorted (reflected n b) in
-    let f = squares_fall n b h g in
-    step_again (squares b) n b g e
-    ∙ ap (with_sign (sorting_sign (reflected n b))) (enough (squares b) (suc (squares c)) n c h (omega (arith, s, f)) (omega arith))
+reflect_again n b h g e = search (rules, squares_sorted, squares_fall, step_again, enough)

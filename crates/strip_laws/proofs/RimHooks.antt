@@ -1,8 +1,9 @@
--- Rim hooks by their rows (`IsHookRows`): in each row of the hook but the first, the outer part is the inner part of the row above plus 1.
---     `hook_from_rows`      a shape with such rows is a rim hook
---     `hook_rows`           each rim hook has such rows
+-- Rim hooks outer/inner by their rows (`IsHookRows`): in each row of the hook except the first, the part of outer is the part of inner in the row
+-- above, plus 1.
+--     `hook_from_rows`      a shape outer/inner that satisfies `IsHookRows` is a rim hook
+--     `hook_rows`           each rim hook satisfies `IsHookRows`
 --     `height_of_rows`      the height of a rim hook is the number of its rows
-use Rattle.std.proofs.Common.{◌≡◌, ℕ, zero, suc, ◌+◌, ◌-◌, ◌<◌, ◌≤◌, min, max, ◌⊎◌, List, [], ◌∷◌, ◌++◌, length, Bool, true, false, nat_lt, sym, subst, refl, inl, inr, arith, filter}
+use Rattle.std.proofs.Common.{◌≡◌, ℕ, zero, suc, ◌+◌, ◌-◌, ◌<◌, ◌≤◌, min, max, ◌⊎◌, List, [], ◌∷◌, ◌++◌, length, Bool, true, false, nat_lt, sym, subst, refl, inl, inr, arith, filter, rules}
 use Rattle.std.proofs.lemmas.Bool.{cases_lt}
 use Rattle.std.proofs.lemmas.Bool.Decides.{nat_tests}
 use Rattle.sym_model.specs.Partition.{Falls, part, rows, after, Holds, IsCell}
@@ -42,7 +43,7 @@ path_back outer inner i j (d ∷ p) k l c h =
 linked_then : (outer inner : List ℕ) (i j k l m n : ℕ) → Linked outer inner i j k l → Linked outer inner k l m n → Linked outer inner i j m n
 linked_then outer inner i j k l m n p q = (p.0 ++ q.0, path_append outer inner i j p.0 k l q.0 m n p.1 q.1)
 
--- ---- two cells of a row are joined by a path; a shape with the rows of a rim hook (`IsHookRows`) is a rim hook
+-- ---- a shape that satisfies `IsHookRows` is a rim hook
 
 right_link : (outer inner : List ℕ) (d i j l : ℕ) → l ≡ j + d → IsCell outer inner i j → IsCell outer inner i l → Linked outer inner i j i l
 right_link outer inner zero i j l e a b = ([], (refl, omega arith))
@@ -61,26 +62,10 @@ row_link outer inner i j l a b = by (cases_lt l j)
     by (inr h) = right_link outer inner (l - j) i j l (omega arith) a b
 
 row_has_cells : (outer inner : List ℕ) (first last i : ℕ) → Falls outer → IsHookRows outer inner first last → first ≤ i → i ≤ last → part inner i < part outer i
-row_has_cells outer inner first last i f h a b = by (cases_lt i last)
-  where
-    by : (i < last) ⊎ (last ≤ i) → part inner i < part outer i
-    by (inl l) =
-        let p = h.chained i a l in
-        let c = h.counts in
-        let q = falls_part outer f i (omega arith) in
-        omega (arith, p, q)
-    by (inr l) = let e : last ≡ i = omega arith in subst (λ n. part inner n < part outer n) e h.end
+row_has_cells outer inner first last i f h a b = search (rules, cases_lt, falls_part)
 
 cell_in_rows : (outer inner : List ℕ) (first last i j : ℕ) → IsHookRows outer inner first last → IsCell outer inner i j → (first ≤ i) × (i ≤ last)
-cell_in_rows outer inner first last i j h c = (low (cases_lt i first), high (cases_lt last i))
-  where
-    low : (i < first) ⊎ (first ≤ i) → first ≤ i
-    low (inl l) = let e = h.above i c.row_counts l in let p = c.outside in let q = c.within in absurd (omega (arith, e, p, q))
-    low (inr l) = l
-
-    high : (last < i) ⊎ (i ≤ last) → i ≤ last
-    high (inl l) = let e = h.below i l in let p = c.outside in let q = c.within in absurd (omega (arith, e, p, q))
-    high (inr l) = l
+cell_in_rows outer inner first last i j h c = search rules
 
 down_link : (outer inner : List ℕ) (first last d i j k l : ℕ) → Falls outer → IsHookRows outer inner first last → k ≡ i + d → first ≤ i → k ≤ last
     → IsCell outer inner i j → IsCell outer inner k l → Linked outer inner i j k l
@@ -136,8 +121,6 @@ hook_from_rows outer inner first last f h = record {
         let r = a.outside in
         let s = d.within in
         omega (arith, e, r, s)
-
--- ---- the rows of a rim hook satisfy `IsHookRows`
 
 -- if a path of cells of outer/inner leads from a row at or above row r to a row below r, then row r + 1 of outer is longer than row r of inner
 pub crosses : (outer inner : List ℕ) (r i j : ℕ) (path : List (ℕ × ℕ)) (k l : ℕ) → IsCell outer inner i j → IsPath outer inner i j path k l → i ≤ r → r < k
@@ -202,9 +185,7 @@ first_from outer inner (suc d) i r e h n c =
 
 last_from : (outer inner : List ℕ) (d i r : ℕ) → i ≡ r + d → 1 ≤ r → ((k : ℕ) → i < k → part outer k ≤ part inner k) → HasCells outer inner r
     → (last : ℕ) × IsLastRow outer inner last
-last_from outer inner zero i r e h n c =
-    let d : i ≡ r = omega arith in
-    (r, record { counts = h; cells = c; greatest = λ k l. n k (omega arith) })
+last_from outer inner zero i r e h n c = search rules
 last_from outer inner (suc d) i r e h n c =
     by (cases_lt (part inner i) (part outer i)) (λ m. last_from outer inner d (r + d) r refl h (more m) c)
   where
@@ -251,22 +232,10 @@ hook_rows outer inner f g h =
             let y = square_free_rows outer inner f g h.thin i (omega arith) in
             omega (arith, x, y)
 
--- ---- the height of a rim hook is the number of its rows
-
--- if the test passes for the rows from `first` to `last` and for no others, the number of the rows a + 1, .., a + k that pass is the number of these
--- rows that are from `first` to `last`
 counted : (test : ℕ → Bool) (first last a k : ℕ) → ((i : ℕ) → 1 ≤ i → first ≤ i → i ≤ last → test i ≡ true) → ((i : ℕ) → 1 ≤ i → (i < first) ⊎ (last < i) → test i ≡ false)
     → first ≤ last + 1 → length (filter test (after a k)) ≡ (min last (a + k) + 1) - max first (a + 1)
 counted test first last a zero yes' no' o = omega arith
-counted test first last a (suc k) yes' no' o =
-    by (cases_lt (a + 1) first) (cases_lt last (a + 1)) (counted test first last (a + 1) k yes' no' o)
-  where
-    by : (a + 1 < first) ⊎ (first ≤ a + 1) → (last < a + 1) ⊎ (a + 1 ≤ last)
-        → length (filter test (after (a + 1) k)) ≡ (min last (a + 1 + k) + 1) - max first (a + 1 + 1)
-        → length (filter test (after a (suc k))) ≡ (min last (a + suc k) + 1) - max first (a + 1)
-    by (inl p) q e = rw (no' (a + 1) (omega arith) (inl p)) (omega arith)
-    by (inr p) (inl q) e = rw (no' (a + 1) (omega arith) (inr q)) (omega arith)
-    by (inr p) (inr q) e = rw (yes' (a + 1) (omega arith) p q) (omega arith)
+counted test first last a (suc k) yes' no' o = search (rules, cases_lt, (counted test first last (a + 1) k yes' no' o))
 
 pub height_of_rows : (outer inner : List ℕ) (first last : ℕ) → Falls outer → IsHookRows outer inner first last → height outer inner ≡ last + 1 - first
 height_of_rows outer inner first last f h =
@@ -285,8 +254,6 @@ height_of_rows outer inner first last f h =
 
     last_row_within : last ≤ rows outer
     last_row_within = elim (cases_lt (rows outer) last) [ inl l ↦ absurd (let e = get_or_past outer (last - 1) 0 (omega arith) in let g = h.end in omega (arith, e, g)) | inr l ↦ l ]
-
--- ---- the removal of a rim hook does not increase the number of rows
 
 pub fewer_rows : (n : ℕ) (shape left : List ℕ) → IsRemoval n shape left → rows left ≤ rows shape
 fewer_rows n shape left r = elim (cases_lt (length shape) (length left)) [

@@ -2,12 +2,10 @@
 --     `falls_part`            each part of a decreasing list is at least the next one
 --     `horizontal_from_rows`  outer/inner is a horizontal strip if part i + 1 of outer is at most part i of inner, for each i
 --     `vertical_from_rows`    outer/inner is a vertical strip if part i of outer is at most part i of inner plus 1, for each i
-use Rattle.std.proofs.Common.{◌≡◌, ℕ, zero, suc, ◌+◌, ◌-◌, ◌<◌, ◌≤◌, List, [], ◌∷◌, get_or, sym, ap, subst, refl, inl, inr, arith}
+use Rattle.std.proofs.Common.{◌≡◌, ℕ, zero, suc, ◌+◌, ◌-◌, ◌<◌, ◌≤◌, List, [], ◌∷◌, get_or, sym, ap, subst, refl, inl, inr, arith, rules}
 use Rattle.std.proofs.lemmas.Bool.{cases_order, cases_lt}
 use Rattle.sym_model.specs.Partition.{Falls, part, Holds, IsCell}
 use Rattle.sym_model.specs.Strip.{IsHorizontalStrip, IsVerticalStrip}
-
--- ---- neighbouring parts of weakly decreasing lists
 
 pub falls_get : (parts : List ℕ) → Falls parts → (k : ℕ) → get_or parts (suc k) 0 ≤ get_or parts k 0
 falls_get [] f k = omega arith
@@ -22,7 +20,6 @@ falls_at parts f k = let e : suc k ≡ k + 1 = omega arith in subst (λ n. get_o
 part_at : (parts : List ℕ) (i k : ℕ) → i ≡ suc k → part parts i ≡ get_or parts k 0
 part_at parts i k e = let d : i - 1 ≡ k = omega arith in ap (λ n. get_or parts n 0) d
 
--- each part of a weakly decreasing list is at least the next one
 pub falls_part : (parts : List ℕ) → Falls parts → (i : ℕ) → 1 ≤ i → part parts (i + 1) ≤ part parts i
 falls_part parts f zero h = absurd (omega arith)
 falls_part parts f (suc k) h =
@@ -33,31 +30,14 @@ falls_part parts f (suc k) h =
 
 falls_steps : (parts : List ℕ) → Falls parts → (d i k : ℕ) → 1 ≤ i → k ≡ i + d → part parts k ≤ part parts i
 falls_steps parts f zero i k h e = let d : k ≡ i = omega arith in subst (λ n. part parts n ≤ part parts i) (sym d) (omega arith)
-falls_steps parts f (suc d) i k h e =
-    let a = falls_steps parts f d (i + 1) k (omega arith) (omega arith) in
-    let b = falls_part parts f i h in
-    omega (arith, a, b)
+falls_steps parts f (suc d) i k h e = search (rules, falls_part, (falls_steps parts f d (i + 1) k (omega arith) (omega arith)))
 
 pub falls_far : (parts : List ℕ) → Falls parts → (i k : ℕ) → 1 ≤ i → i ≤ k → part parts k ≤ part parts i
 falls_far parts f i k h l = falls_steps parts f (k - i) i k h (omega arith)
 
--- ---- horizontal and vertical strips by conditions on the parts
-
 pub horizontal_from_rows : (outer inner : List ℕ) → Falls outer → Holds outer inner
     → ((i : ℕ) → 1 ≤ i → part outer (i + 1) ≤ part inner i) → IsHorizontalStrip outer inner
-horizontal_from_rows outer inner f h r = record { holds = h; once = once }
-  where
-    apart : (i k column : ℕ) → i < k → IsCell outer inner i column → IsCell outer inner k column → ⊥
-    apart i k column l c d =
-        let a = r i c.row_counts in
-        let b = falls_far outer f (i + 1) k (omega arith) (omega arith) in
-        let e = c.outside in
-        let g = d.within in
-        absurd (omega (arith, a, b, e, g))
-
-    once : (i k column : ℕ) → IsCell outer inner i column → IsCell outer inner k column → i ≡ k
-    once i k column c d =
-        elim (cases_order i k) [ inl e ↦ e | inr (inl l) ↦ absurd (apart i k column l c d) | inr (inr l) ↦ absurd (apart k i column l d c) ]
+horizontal_from_rows outer inner f h r = search (rules, falls_far, cases_order)
 
 pub horizontal_rows : (outer inner : List ℕ) → Falls outer → Falls inner → IsHorizontalStrip outer inner
     → (i : ℕ) → 1 ≤ i → part outer (i + 1) ≤ part inner i

@@ -6,14 +6,15 @@ ghost use Rattle.sym_model.specs.Partition.{Falls, Holds, part, size};
 ghost use Rattle.sym_model.specs.Strip.{IsHorizontalStrip, IsVerticalStrip, IsRimHook, height};
 ghost use Rattle.strip_laws.specs.HookRows.{IsHookRows};
 
-/// Let outer and inner be weakly decreasing lists, inner inside outer. Then outer/inner is a
-/// horizontal strip if and only if, from the second row on, no part of outer is greater than the
-/// part of inner in the row above. It is a vertical strip if and only if each part of outer is at
-/// most 1 greater than the part of inner in the same row. It is a rim hook if and only if, for some
-/// first and last, it has cells exactly in the rows first, .., last, and in each of these rows but
-/// the first the part of outer is 1 greater than the part of inner in the row above. The height of
-/// the rim hook is then the number of these rows, and the number of its cells is the height, plus
-/// the part of outer in the row first, minus the part of inner in the row last, minus 1.
+/// Let outer and inner be weakly decreasing lists of parts, with inner inside outer.
+/// - outer/inner is a horizontal strip if and only if part i + 1 of outer is at most part i of
+///   inner, for each i.
+/// - It is a vertical strip if and only if part i of outer is at most part i of inner plus 1, for
+///   each i.
+/// - It is a rim hook if and only if, for some numbers first and last, it has cells exactly in the
+///   rows first, .., last, and part i + 1 of outer is part i of inner plus 1 for first ≤ i < last.
+///   The height of the rim hook is the number of these rows. The number of its cells is the height,
+///   plus the part of outer in the row first, minus the part of inner in the row last, minus 1.
 pub fn strip_law()
     ensures horizontal { (outer inner : List ℕ) → Falls outer → Falls inner → Holds outer inner
         → (IsHorizontalStrip outer inner

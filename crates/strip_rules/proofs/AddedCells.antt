@@ -2,7 +2,7 @@
 --     added-none        for k = 0 only the partition itself
 --     rows-none, -next, -all     the partitions whose first row is shorter than a bound, one length after the other
 --     all_added         all partitions that contain `inner` and have k more cells
-use Rattle.std.proofs.Common.{◌≡◌, ◌⊎◌, ℕ, zero, suc, ◌+◌, ◌-◌, ◌<◌, ◌≤◌, max, min, List, [], ◌∷◌, ◌++◌, map, length, drop, get_or, refl, sym, ◌∙◌, ap, ap₂, subst, inl, inr, arith, append_assoc, append-nil}
+use Rattle.std.proofs.Common.{◌≡◌, ◌⊎◌, ℕ, zero, suc, ◌+◌, ◌-◌, ◌<◌, ◌≤◌, max, min, List, [], ◌∷◌, ◌++◌, map, length, drop, get_or, refl, sym, ◌∙◌, ap, ap₂, subst, inl, inr, arith, append_assoc, append-nil, rules}
 use Rattle.std.proofs.lemmas.Bool.{cases_lt}
 use Rattle.std.proofs.lemmas.List.{map-append}
 use Rattle.sym_model.specs.Sum.{Among}
@@ -16,13 +16,9 @@ use Rattle.sym_model.proofs.SortedParts.{rows_within_size}
 use Rattle.strip_laws.proofs.Containment.{Holds-get_or, Holds_below, Holds-size, Holds-same_size}
 use Rattle.strip_rules.specs.Rows.{AddsBelow, AddsCells, HasAdded}
 
--- if k > 0, `row` ≥ 1 and `row` is at least the first part of `parts`: the number of the other parts, plus the number of cells left to add after the
--- first row gets the length `row`, is less than the number of parts plus k
 pub fewer_left : (k row : ℕ) (parts : List ℕ) → 0 < k → 1 ≤ row → part parts 1 ≤ row → length (drop 1 parts) + (part parts 1 + k - row) < length parts + k
 fewer_left k row [] p some l = omega arith
 fewer_left k row (a ∷ parts) p some l = omega arith
-
--- ---- the partitions with k = 0 more cells
 
 pub adds_itself : (most : ℕ) (inner : List ℕ) → IsPartition inner → Falls (most ∷ inner) → AddsBelow most 0 inner inner
 adds_itself most inner p f = ((p, omega arith, λ i. omega arith), f)
@@ -62,8 +58,6 @@ rows-none most k inner above row old some e = record {
         omega arith
 
 module _ (most k row : ℕ) (inner : List ℕ) (p : IsPartition inner) (least : part inner 1 ≤ row) (some : 1 ≤ row) (fits : row ≤ most) (room : row ≤ part inner 1 + k) where
-  -- if ν contains the rows of `inner` after the first, has `part inner 1 + k - row` cells more than these rows, and has no row longer than `row`,
-  -- then row ∷ ν contains `inner`, has k cells more than `inner`, and has the first row `row`
   in_front_of : (ν : List ℕ) → AddsBelow row (part inner 1 + k - row) (drop 1 inner) ν → HasRow most k inner (row + 1) (row ∷ ν)
   in_front_of ν a =
       let s = a.0.1 in
@@ -81,8 +75,6 @@ module _ (most k row : ℕ) (inner : List ℕ) (p : IsPartition inner) (least : 
           by (v ∷ μ) l h zero = l
           by (v ∷ μ) l h (suc n) = Holds-get_or ν μ h n
 
-  -- if ν contains `inner`, has k more cells than `inner` and the first row `row`, then ν is row ∷ rest for some `rest` that contains `inner` without
-  -- its first row, has `part inner 1 + k - row` more cells than these rows and no row longer than `row`
   behind_it : (ν : List ℕ) → AddsBelow most k inner ν → part ν 1 ≡ row → (rest : List ℕ) × (ν ≡ row ∷ rest) × AddsBelow row (part inner 1 + k - row) (drop 1 inner) rest
   behind_it [] a e = absurd (omega arith)
   behind_it (x ∷ ν) a e =
@@ -154,12 +146,8 @@ rows-all most k row inner above old new e s = record {
         let u = size-first inner in
         omega arith
 
--- ---- all partitions that contain `inner` and have k more cells
-
 pub limits_all : (most k : ℕ) (inner ν : List ℕ) → size inner + k ≤ 512 → AddsBelow most k inner ν → IsWithinLimits ν
-limits_all most k inner ν h a =
-    let s = a.0.1 in
-    record { partition = a.0.0; few = omega (arith, rows_within_size ν a.0.0.positive); small = omega arith }
+limits_all most k inner ν h a = search (rules, rows_within_size)
 
 pub all_added : (k most : ℕ) (inner above : List ℕ) (old new : List (List ℕ)) → above ≡ [] → old ≡ [] → most ≡ size inner + k → HasAdded (AddsBelow most k inner) above old new → ListsEach (AddsCells k inner) new
 all_added k most inner above old new a b e s =

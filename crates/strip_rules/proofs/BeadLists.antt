@@ -1,7 +1,8 @@
--- Strictly decreasing lists of beads, and the moves of beads by which a horizontal or vertical strip is added to the partition.
+-- The beads of a partition λ with at most n rows are the numbers λ_i + n - i, one for each i from 1 to n (a beta set). This file is about strictly
+-- decreasing lists of beads, and about moves of beads to greater numbers, by which a horizontal or vertical strip is added to the partition.
 --     AreMoved             each bead moves up to a place below its limit
---     numbers-set_of       a strictly decreasing list is the list of the numbers of its set
-use Rattle.std.proofs.Common.{◌≡◌, ℕ, suc, ◌+◌, ◌*◌, ◌^◌, ◌<◌, ◌≤◌, List, [], ◌∷◌, length, refl, ap, ap₂, ◌∙◌, inl, arith}
+--     numbers-set_of       the code of a strictly decreasing list is a sum of powers of 2; the list of the numbers in this code is that list
+use Rattle.std.proofs.Common.{◌≡◌, ℕ, suc, ◌+◌, ◌*◌, ◌^◌, ◌<◌, ◌≤◌, List, [], ◌∷◌, length, refl, ap, ap₂, inl, arith, rules}
 use Rattle.std.proofs.Math.Nat.{pow-le-pow_right}
 use Rattle.sym_model.specs.Sum.{Among}
 use Rattle.sym_model.specs.Partition.{size}
@@ -11,10 +12,8 @@ use Rattle.beta_sets.proofs.GreatestPlaces.{numbers-greatest, numbers-none}
 use Rattle.strip_rules.specs.declared.bead_strips.Strip.{Strip}
 use Rattle.strip_rules.specs.declared.bead_strips.Strip.TheVariants.{Horizontal, Vertical}
 
--- ---- the limits below which the beads must be after their moves (barriers)
-
--- the limit for the new place of the bead below a bead that has moved from `old` to `new`: it must be below `old` in a horizontal strip, below `new`
--- in a vertical strip
+-- the limit for the new place of the next lower bead if a bead moves from `old` to `new`: this place must be below `old` in a horizontal strip, and
+-- below `new` in a vertical strip
 abbrev pub barrier : Strip → ℕ → ℕ → ℕ
 barrier Horizontal old new = old
 barrier Vertical old new = new
@@ -85,8 +84,6 @@ none_moved strip limit (b ∷ beads) (c ∷ moved) a e =
     let r = size_moved strip (barrier strip b c) beads moved a.1 in
     ap₂ (λ (x : ℕ) xs. x ∷ xs) (let i : c ≡ b = omega arith in i) (none_moved strip (barrier strip b c) beads moved a.1 (omega arith))
 
--- ---- the set of a list of numbers, and the list of the numbers of a set
-
 pub set_of-less : (limit : ℕ) (beads : List ℕ) → FallsBelow limit beads → set_of beads < 2 ^ limit
 unfolding set_of
 set_of-less limit [] f = let p = pow-le-pow_right {n = 2} (omega arith) {i = 0} {j = limit} (omega arith) in omega arith
@@ -100,6 +97,4 @@ set_of-less limit (b ∷ beads) f =
 pub numbers-set_of : (beads : List ℕ) → FallsBelow 64 beads → numbers (set_of beads) ≡ beads
 unfolding set_of
 numbers-set_of [] f = numbers-none
-numbers-set_of (b ∷ beads) f =
-    numbers-greatest b (set_of beads) f.0 (set_of-less b beads f.1)
-    ∙ ap (λ l. b ∷ l) (numbers-set_of beads (falls_wider b 64 beads (let h = f.0 in omega arith) f.1))
+numbers-set_of (b ∷ beads) f = search (rules, numbers-greatest, set_of-less, falls_wider, (numbers-set_of beads))

@@ -1,9 +1,9 @@
--- The partitions that result if beads move up as a horizontal or vertical strip allows (specs/BeadMoves).
+-- The partitions that result if the beads of a partition, that is, the numbers of its beta set, move up as a horizontal or vertical strip allows
+-- (specs/BeadMoves).
 --     strip_lists     the lists of moved beads are the beta lists of the partitions that result from adding a strip, each listed once
-use Rattle.std.proofs.Common.{◌≡◌, ℕ, zero, suc, ◌+◌, ◌-◌, ◌<◌, ◌≤◌, List, [], ◌∷◌, map, length, get_or, refl, sym, ap, ◌∙◌, subst, arith}
+use Rattle.std.proofs.Common.{◌≡◌, ℕ, zero, suc, ◌+◌, ◌-◌, ◌<◌, ◌≤◌, List, [], ◌∷◌, map, length, get_or, refl, sym, ap, ◌∙◌, subst, arith, rules}
 use Rattle.sym_model.specs.Sum.{Among, Once}
 use Rattle.sym_model.specs.Partition.{IsPartition, Holds, part, after, size, rows}
-use Rattle.sym_model.specs.Alternant.{staircase}
 use Rattle.sym_model.specs.BetaList.{beta, from_beta, less_the_rest}
 use Rattle.sym_model.proofs.Sums.{Among-map, Among_from_map, Once-map}
 use Rattle.sym_model.proofs.Parts.{get_or-le-size}
@@ -17,8 +17,6 @@ use Rattle.strip_rules.proofs.ShapeLists.{IsAround, rows_around}
 use Rattle.strip_rules.proofs.BeadLists.{barrier, AreMoved, falls_strictly, length-moved, moved_falls}
 use Rattle.strip_rules.proofs.CellMoves.{different}
 
--- ---- the rows of the partition of a list of beads after the beads have moved up
-
 rows_up : (strip : Strip) (limit : ℕ) (beads moved : List ℕ) → AreMoved strip limit beads moved → (i : ℕ) → get_or (less_the_rest beads) i 0 ≤ get_or (less_the_rest moved) i 0
 rows_up strip limit [] [] a i = omega arith
 rows_up strip limit [] (c ∷ moved) a i = absurd a
@@ -26,7 +24,6 @@ rows_up strip limit (b ∷ beads) [] a i = absurd a
 rows_up strip limit (b ∷ beads) (c ∷ moved) a zero = let u = a.0.up in let l = length-moved strip (barrier strip b c) beads moved a.1 in omega arith
 rows_up strip limit (b ∷ beads) (c ∷ moved) a (suc i) = rows_up strip (barrier strip b c) beads moved a.1 i
 
--- after the moves of a horizontal strip, row i + 1 is at most as long as row i was before
 rows_apart : (limit : ℕ) (beads moved : List ℕ) → AreMoved Horizontal limit beads moved → (i : ℕ) → get_or (less_the_rest moved) (suc i) 0 ≤ get_or (less_the_rest beads) i 0
 rows_apart limit [] [] a i = omega arith
 rows_apart limit [] (c ∷ moved) a i = absurd a
@@ -37,7 +34,6 @@ rows_apart limit (b ∷ e ∷ beads) (c ∷ []) a zero = absurd a.1
 rows_apart limit (b ∷ e ∷ beads) (c ∷ d ∷ moved) a zero = let h = a.1.0.below in let l = length-moved Horizontal e beads moved a.1.1 in omega arith
 rows_apart limit (b ∷ beads) (c ∷ moved) a (suc i) = rows_apart b beads moved a.1 i
 
--- after the moves of a vertical strip, each row has at most one cell more than before
 rows_near : (limit : ℕ) (beads moved : List ℕ) → AreMoved Vertical limit beads moved → (i : ℕ) → get_or (less_the_rest moved) i 0 ≤ get_or (less_the_rest beads) i 0 + 1
 rows_near limit [] [] a i = omega arith
 rows_near limit [] (c ∷ moved) a i = absurd a
@@ -78,18 +74,10 @@ module _ (n k limit : ℕ) (parts : List ℕ) (p : IsPartition parts) (few : row
     long = length-moved strip limit (beta n parts) m a ∙ length-beta n parts
 
     cells : size (from_beta m) ≡ size parts + k
-    cells =
-        let s = size-from_beta m strict in
-        let t = size-beta n parts p fits in
-        let u = ap (λ j. size (staircase j)) long in
-        omega arith
+    cells = search (rules, size-from_beta, strict, size-beta, fits, long)
 
     held : Holds (from_beta m) parts
-    held i =
-        let u = rows_up strip limit (beta n parts) m a (i - 1) in
-        let e = old_row i in
-        let f = part-from_beta m i in
-        omega arith
+    held i = search (rules, rows_up, old_row, part-from_beta)
 
   horizontal_sound : (m : List ℕ) → AreMoved Horizontal limit (beta n parts) m → size m ≡ size (beta n parts) + k → AddsHorizontalStrip k parts (from_beta m)
   horizontal_sound m a sum =
@@ -105,15 +93,7 @@ module _ (n k limit : ℕ) (parts : List ℕ) (p : IsPartition parts) (few : row
           omega arith
 
   vertical_sound : (m : List ℕ) → AreMoved Vertical limit (beta n parts) m → size m ≡ size (beta n parts) + k → AddsVerticalStrip k parts (from_beta m)
-  vertical_sound m a sum =
-      (from_beta_partition m (strict Vertical m a sum), cells Vertical m a sum, vertical_from_rows (from_beta m) parts (held Vertical m a sum) near)
-    where
-      near : (i : ℕ) → 1 ≤ i → part (from_beta m) i ≤ part parts i + 1
-      near i h =
-          let u = rows_near limit (beta n parts) m a (i - 1) in
-          let e = old_row i in
-          let f = part-from_beta m i in
-          omega arith
+  vertical_sound m a sum = search (rules, from_beta_partition, strict, cells, vertical_from_rows, held, rows_near, old_row, part-from_beta)
 
   sound : (strip : Strip) (m : List ℕ) → AreMoved strip limit (beta n parts) m → size m ≡ size (beta n parts) + k → AddsStrip strip k parts (from_beta m)
   sound Horizontal = horizontal_sound
@@ -123,7 +103,6 @@ module _ (n k limit : ℕ) (parts : List ℕ) (p : IsPartition parts) (few : row
   around Horizontal ν s = record { partition = s.0; cells = s.1; holds = s.2.holds }
   around Vertical ν s = record { partition = s.0; cells = s.1; holds = s.2.holds }
 
-  -- if ν results from `parts` by adding a vertical strip, each row of ν has at most one cell more than the same row of `parts`
   one_more : (strip : Strip) (ν : List ℕ) → AddsStrip strip k parts ν → strip ≡ Vertical → (i : ℕ) → 1 ≤ i → part ν i ≤ part parts i + 1
   one_more Horizontal ν s e i h = absurd (different e)
   one_more Vertical ν s e i h = vertical_rows ν parts s.2 i h
@@ -132,8 +111,6 @@ module _ (n k limit : ℕ) (parts : List ℕ) (p : IsPartition parts) (few : row
   next_below Horizontal ν s i h l = let r = horizontal_rows ν parts s.0.falls p.falls s.2 i h in omega arith
   next_below Vertical ν s i h l = let r = falls_part ν s.0.falls i h in omega arith
 
-  -- if ν results from `parts` by adding a strip of k cells, the beta list of ν is that of `parts` with the beads moved up as the strip allows, by k
-  -- places in all
   moved : (strip : Strip) (ν : List ℕ) → AddsStrip strip k parts ν → AreMoved strip limit (beta n parts) (beta n ν) × (size (beta n ν) ≡ size (beta n parts) + k) × (from_beta (beta n ν) ≡ ν)
   moved strip ν s =
       let r = around strip ν s in
@@ -150,8 +127,6 @@ module _ (n k limit : ℕ) (parts : List ℕ) (p : IsPartition parts) (few : row
         from_beta-beta n ν q fit,
       )
 
-  -- if `lists` has exactly the lists of beads of `parts` moved up as the strip allows, by k places in all, each once, then their partitions are
-  -- exactly those that result from `parts` by adding a strip of k cells, each once
   pub strip_lists : (strip : Strip) (lists : List (List ℕ)) → Once lists → ((m : List ℕ) → Among m lists → AreMoved strip limit (beta n parts) m × (size m ≡ size (beta n parts) + k))
       → ((m : List ℕ) → AreMoved strip limit (beta n parts) m → size m ≡ size (beta n parts) + k → Among m lists) → ListsEach (AddsStrip strip k parts) (map from_beta lists)
   strip_lists strip lists once tells there = record {

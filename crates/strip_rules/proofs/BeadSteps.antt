@@ -1,7 +1,8 @@
--- The beta sets that result from adding cells, added to a table one after another.
---     gains_next, overflows_next     the sets whose first cell is added by the bead at one more place
+-- The beta sets that result from adding cells to a given set are added to a table one after another, as terms. There is a bead at the place b for
+-- each number b of the set, and a cell is added by moving a bead up by one place. A loop goes over the places of the beads that may move first.
+--     gains_next, overflows_next     one step of the loop: the sets for which the bead at the next place b moves first are added
 --     cells_none, cells_some         the sets if no cell is left to add, and if at least one is
-use Rattle.std.proofs.Common.{◌≡◌, ℕ, zero, suc, ◌+◌, ◌-◌, ◌*◌, ◌^◌, ◌<◌, ◌≤◌, List, [], ◌∷◌, ◌++◌, refl, sym, ap, ◌∙◌, subst, arith, ℤ, pos, flat_map, append_assoc, append-nil, inl}
+use Rattle.std.proofs.Common.{◌≡◌, ℕ, zero, suc, ◌+◌, ◌-◌, ◌*◌, ◌^◌, ◌<◌, ◌≤◌, List, [], ◌∷◌, ◌++◌, refl, sym, ap, ◌∙◌, subst, arith, ℤ, pos, flat_map, append_assoc, append-nil, inl, rules}
 use Rattle.std.specs.Prelude.{nat_eq}
 use Rattle.std.proofs.lemmas.List.{map-append}
 use Rattle.std.proofs.lemmas.Grind.{flat_map-append}
@@ -15,7 +16,7 @@ use Rattle.beta_sets.specs.BetaSets.{numbers, IsSplit}
 use Rattle.strip_rules.specs.declared.bead_strips.Strip.{Strip}
 use Rattle.strip_rules.specs.declared.bead_strips.Strip.TheVariants.{Horizontal, Vertical}
 use Rattle.strip_rules.specs.BeadMoves.{next_bound, next_places, with_cells}
-use Rattle.strip_rules.proofs.CellMoves.{next_tells, place_low, power_within}
+use Rattle.strip_rules.proofs.CellMoves.{next_tells, place_low}
 
 -- the list of the sets, each with the coefficient 1
 abbrev pub ones : List ℕ → WholeTermsOf ℕ
@@ -30,9 +31,7 @@ ones-append xs ys = map-append (λ (s : ℕ). (s, pos 1)) xs ys
 
 module _ (c : ℤ) (done g : List ℕ) (old cur : WholeTermsOf ℕ) (so_far : Gains old (scaled c (ones done)) cur) where
   gains_more : (new : WholeTermsOf ℕ) → Gains cur (scaled c (ones g)) new → Gains old (scaled c (ones (done ++ g))) new
-  gains_more new more =
-      subst (λ l. Gains old l new) (sym (ap (scaled c) (ones-append done g) ∙ scaled_append c (ones done) (ones g)))
-      (gains_both old (scaled c (ones done)) cur (scaled c (ones g)) new so_far more)
+  gains_more new more = search (rules, ones-append, scaled_append, gains_both)
 
   overflows_then : (rest all : List ℕ) → (done ++ g) ++ rest ≡ all → Overflows nat_eq cur (scaled c (ones g)) → Overflows nat_eq old (scaled c (ones all))
   overflows_then rest all is large =
@@ -54,11 +53,7 @@ cells_some strip (suc k) bound set n =
 -- `others` come after b
 module _ (strip : Strip) (left bound set b : ℕ) (c : ℤ) (passed others : List ℕ) (old cur : WholeTermsOf ℕ) (so_far : Gains old (scaled c (ones (flat_map (from_bead strip left set) passed))) cur) where
   pub gains_next : (new : WholeTermsOf ℕ) → Gains cur (scaled c (ones (from_bead strip left set b))) new → Gains old (scaled c (ones (flat_map (from_bead strip left set) (passed ++ b ∷ [])))) new
-  gains_next new more =
-      let f = from_bead strip left set in
-      subst (λ (l : List ℕ). Gains old (scaled c (ones l)) new)
-      (ap (λ (l : List ℕ). flat_map f passed ++ l) (sym (append-nil (f b))) ∙ sym (flat_map-append f passed (b ∷ [])))
-      (gains_more c (flat_map f passed) (f b) old cur so_far new more)
+  gains_next new more = search (rules, append-nil, flat_map-append, gains_more)
 
   pub overflows_next : (left ≡ 0 → ⊥) → passed ++ b ∷ others ≡ next_places strip bound (numbers set) → Overflows nat_eq cur (scaled c (ones (from_bead strip left set b)))
       → Overflows nat_eq old (scaled c (ones (with_cells strip left bound set)))
@@ -73,9 +68,6 @@ pub gains_all : (strip : Strip) (left bound set : ℕ) (c : ℤ) (passed : List 
 gains_all strip left bound set c passed old new n all =
     subst (λ (l : List ℕ). Gains old (scaled c (ones l)) new) (ap (flat_map (from_bead strip left set)) all ∙ sym (cells_some strip left bound set n))
 
--- ---- at each call of `add_cells`, the numbers are within a machine word
-
--- if `set` is below 2^(63 - left), the next place b of the loop is below 63 - left, and 2^b is at most `set`
 pub bead_low : (strip : Strip) (bound left set places b : ℕ) (passed : List ℕ) → left ≤ 20 → set < 2 ^ (63 - left) → IsSplit places b (places - 2 ^ b) → passed ++ numbers places ≡ next_places strip bound (numbers set)
     → (b < 63 - left) × (2 ^ b ≤ set)
 bead_low strip bound left set places b passed l h split all =
@@ -94,6 +86,4 @@ raised_room left set b n l h p =
     omega arith
 
 pub word_room : (left set b : ℕ) → left ≤ 20 → set < 2 ^ (63 - left) → 2 ^ b ≤ set → set + 2 ^ b < 2 ^ 64
-word_room left set b l h p =
-    let w = power_within (63 - left) 63 (omega arith) in
-    omega arith
+word_room left set b l h p = search rules

@@ -1,9 +1,10 @@
--- Moves of beads as products of Schur polynomials with h_k and e_k (specs/FamilyShapes).
+-- A list of beta sets with coefficients c denotes the sum of c·s_λ, for λ the partition of the set. Moves of beads, that is, of numbers of the sets,
+-- multiply this sum by h_k or e_k (specs/FamilyShapes).
 --     strips_over, strips_within     the product of the Schur polynomial of one set and h_k or e_k
 --     list_times                     the product of a list and g, from the products of g and the Schur polynomials of the sets of the list
 --     shapes_of_one                  the list of the empty partition, whose polynomial is 1
---     shapes_expansion               if the list is f (`AreShapesOf`), the list of its partitions is the expansion of f in s
-use Rattle.std.proofs.Common.{◌≡◌, ℕ, zero, suc, true, ◌+◌, ◌-◌, ◌*◌, ◌^◌, ◌<◌, ◌≤◌, ◌++◌, List, [], ◌∷◌, map, length, take, get_or, refl, sym, ap, ap₂, ◌∙◌, subst, arith, ℤ, pos, ◌+ℤ◌, ◌*ℤ◌, flat_map}
+--     shapes_expansion               if the list denotes f (`AreShapesOf`), the partitions of its sets, with the coefficients, expand f in s
+use Rattle.std.proofs.Common.{◌≡◌, ℕ, zero, suc, true, ◌+◌, ◌-◌, ◌*◌, ◌^◌, ◌<◌, ◌≤◌, ◌++◌, List, [], ◌∷◌, map, length, take, get_or, refl, sym, ap, ap₂, ◌∙◌, subst, arith, ℤ, pos, ◌+ℤ◌, ◌*ℤ◌, flat_map, rules}
 use Rattle.std.specs.Prelude.{nat_eq, nat_abs}
 use Rattle.std.proofs.lemmas.Int.{ints}
 use Rattle.sym_model.specs.Sum.{Among, Once}
@@ -56,7 +57,7 @@ use Rattle.sym_model.proofs.Contents.{map-zeros}
 pub shape_partition : (set : ℕ) → IsPartition (shape set)
 shape_partition set = from_beta_partition (numbers set) (places_strict 64 set)
 
--- a beta set of n numbers whose partition has at most d cells is, as a number, below 2^(n + d)
+-- if a beta set has n numbers, and its partition has at most d cells, then its code, the sum of 2^b over its numbers b, is below 2^(n + d)
 pub rows_low : (n d set : ℕ) → IsInRows n d set → set < 2 ^ (n + d)
 rows_low n d set r = subst (λ s. s < 2 ^ (n + d)) (set_of-numbers set r.word) (set_of-less (n + d) (numbers set) (by (numbers set) refl (places_strict 64 set)))
   where
@@ -168,9 +169,6 @@ module _ (g : ℕ → Poly) (f : ℕ → Poly) (image : ℕ → WholeTermsOf ℕ
       ∙ pair_ext (g n) (λ α. over (λ s. pair (schur (shape s) n) (λ β. φ (join α β))) list) (λ α. pair (f n) (λ β. φ (join α β))) (λ α. here n (λ β. φ (join α β)))
       ∙ sym (pair_times (g n) (f n) φ)
 
--- ---- the list of the empty partition
-
--- the Schur polynomial of the empty partition is 1
 pub schur-nothing : (n : ℕ) → schur [] n ≡ one n
 schur-nothing n = ap (λ (l : List ℕ). (l, pos 1) ∷ []) (map-zeros 0 n)
 
@@ -203,8 +201,6 @@ shapes_of_one set c sum e f is gains = record {
     alone : (x : ℤ) → pos 0 +ℤ (pos 1 *ℤ x +ℤ pos 0) ≡ x
     alone x = omega (arith, ints)
 
--- ---- the list of the partitions of the sets as an expansion in s
-
 pub shapes_expansion : (f : ℕ → Poly) (d : ℕ) (list : WholeTermsOf ℕ) (answer : Terms (List ℕ)) → AreShapesOf f d list → IsFractionTable answer → Quotients 1 answer (shapes list)
     → (n : ℕ) → IsExpansionOf Basis.schurs answer n (f n) 1
 shapes_expansion f d list answer are is quotients n =
@@ -232,8 +228,8 @@ pub strips_mass : (strip : Strip) (k : ℕ) (list : WholeTermsOf ℕ) → k ≤ 
 strips_mass strip k list low within =
     mass_replaced (λ set. each_by (λ s. pos 1) (strips strip k set)) (20 ^ k) list (λ t m. strips_few strip k t.0 low (within t m))
 
--- if k ≤ 20, the sets of a list have 20 numbers and partitions of at most 20 - k cells, and the absolute values of its coefficients add up to at most
--- 20^(20 - k), then adding strips of k cells to the sets never overflows
+-- let k ≤ 20, let the sets of a list have 20 numbers and partitions of at most 20 - k cells, and let the absolute values of its coefficients add up
+-- to at most 20^(20 - k). Then adding strips of k cells to the sets never overflows
 pub strips_fit : (strip : Strip) (k : ℕ) (list : WholeTermsOf ℕ) → k ≤ 20 → HaveLabels (IsInRows 20 (20 - k)) list → mass list ≤ 20 ^ (20 - k) → Overflows nat_eq [] (replaced (λ set. each_by (λ s. pos 1) (strips strip k set)) list) → ⊥
 strips_fit strip k list low within few o =
     let l = overflow_mass nat_eq [] (replaced (λ set. each_by (λ s. pos 1) (strips strip k set)) list) o in
@@ -259,12 +255,9 @@ strip_times strip k d f list sum low are within is gains = record {
       omega arith;
 }
 
--- ---- the product over the parts, one part k after another
-
 pub room_left : (d k : ℕ) (list : WholeTermsOf ℕ) → d + k ≤ 20 → HaveLabels (IsInRows 20 d) list → HaveLabels (IsInRows 20 (20 - k)) list
 room_left d k list l w t m = let is = w t m in let c = is.cells in record { word = is.word; rows = is.rows; cells = omega arith }
 
--- as sums Σ c·φ(α) over the terms c·x^α: the product of P_k and the product of P over `rest` is the product of P over `rest` ++ [k]
 pub product_last : (P : ℕ → ℕ → Poly) (k : ℕ) (rest : List ℕ) (n : ℕ) (φ : List ℕ → ℤ) → pair (times (P k n) (product_over P rest n)) φ ≡ pair (product_over P (rest ++ k ∷ []) n) φ
 product_last P k [] n φ = refl
 product_last P k (a ∷ rest) n φ =
@@ -279,13 +272,7 @@ product_last P k (a ∷ rest) n φ =
     ∙ sym (pair_times g (product_over P (rest ++ k ∷ []) n) φ)
 
 pub more_parts : (P : ℕ → ℕ → Poly) (k : ℕ) (rest parts : List ℕ) (list : WholeTermsOf ℕ) → rest ++ k ∷ [] ≡ parts → AreShapesOf (λ n. times (P k n) (product_over P rest n)) (size rest + k) list → AreShapesOf (product_over P parts) (size parts) list
-more_parts P k rest parts list split are =
-    subst (λ (l : List ℕ). AreShapesOf (product_over P l) (size l) list) split
-    (record {
-      value = λ n φ. are.value n φ ∙ product_last P k rest n φ;
-      within = λ t m. let is = are.within t m in let c = is.cells in let e = size-append rest (k ∷ []) in record { word = is.word; rows = is.rows; cells = omega arith };
-      few = let f = are.few in subst (λ d. mass list ≤ 20 ^ d) (let e = size-append rest (k ∷ []) in let g : size rest + k ≡ size (rest ++ k ∷ []) = omega arith in g) f;
-    })
+more_parts P k rest parts list split are = search (rules, product_last, size-append)
 
 pub in_twenty : (d : ℕ) (list : WholeTermsOf ℕ) → d ≤ 20 → HaveLabels (IsInRows 20 d) list → HaveLabels (IsInRows 20 20) list
 in_twenty d list l w t m = let is = w t m in let c = is.cells in record { word = is.word; rows = is.rows; cells = omega arith }

@@ -1,11 +1,13 @@
--- The beta sets that result from adding cells one after another (specs/BeadMoves).
+-- The beta sets that result from adding cells one after another (specs/BeadMoves). There is a bead at the place b for each number b of a set, and a
+-- cell is added by moving a bead up by one place.
 --     cells-tell, among-cells     a set results from adding k cells if and only if its beads have moved up, as the strip allows, by k places in all
 --     once_cells                  the list `with_cells` of the sets that result from adding k cells has no set twice
 --     few_cells                   at most 20^k sets result from a set of 20 numbers
-use Rattle.std.proofs.Common.{◌≡◌, ◌⊎◌, ℕ, zero, suc, ◌+◌, ◌-◌, ◌*◌, ◌^◌, ◌<◌, ◌≤◌, nat_le, Bool, true, false, ◌||◌, ◌==◌, List, [], ◌∷◌, filter, length, refl, sym, ap, ap₂, ◌∙◌, subst, inl, inr, arith, flat_map, length-append}
+use Rattle.std.proofs.lemmas.Grind.{common_steps}
+use Rattle.std.proofs.Common.{◌≡◌, ◌⊎◌, ℕ, zero, suc, ◌+◌, ◌-◌, ◌*◌, ◌^◌, ◌<◌, ◌≤◌, nat_le, Bool, true, false, ◌||◌, List, [], ◌∷◌, filter, length, refl, sym, ap, ap₂, ◌∙◌, subst, inl, inr, arith, flat_map, length-append, rules}
 use Rattle.std.specs.Prelude.{nat_lt, not}
 use Rattle.std.proofs.Math.Nat.{pow-le-pow_right, mul-le-mul_right}
-use Rattle.std.proofs.lemmas.Bool.{cases_eq, cases_lt, ne_eqb, leb-true, ltb-true, lt-ltb, le-leb, not-true}
+use Rattle.std.proofs.lemmas.Bool.{cases_eq, cases_lt, ne_eqb, leb-true, ltb-true, not-true}
 use Rattle.sym_model.specs.Sum.{Among, Once}
 use Rattle.sym_model.specs.Bases.{has}
 use Rattle.sym_model.specs.Partition.{size}
@@ -24,9 +26,8 @@ use native.Mathlib.Nat.{eq_of_mul-eq-mul_right}
 use Rattle.std.proofs.lemmas.Nat.{pow-add}
 use Rattle.partitions.proofs.Growing.{not_more}
 
--- ---- lists of beads in which one bead has moved up by one place
-
--- `raised` is the list `beads`, of numbers below `limit`, with b replaced by b + 1, which is below `limit` and not in `beads`
+-- `raised` is the strictly decreasing list `beads` with its entry b replaced by b + 1, which is less than the entry before b, or less than `limit`
+-- if b is the first entry
 abbrev pub IsRaised : ℕ → ℕ → List ℕ → List ℕ → Type 0
 IsRaised b limit [] raised = ⊥
 IsRaised b limit (x ∷ beads) [] = ⊥
@@ -35,15 +36,8 @@ IsRaised b limit (x ∷ beads) (y ∷ raised) = ((x ≡ b) × (y ≡ b + 1) × (
 raised_falls : (b limit : ℕ) (beads raised : List ℕ) → FallsBelow limit beads → IsRaised b limit beads raised → FallsBelow limit raised
 raised_falls b limit [] raised f r = absurd r
 raised_falls b limit (x ∷ beads) [] f r = absurd r
-raised_falls b limit (x ∷ beads) (y ∷ raised) f (inl r) =
-    let e = r.0 in
-    let g = r.1 in
-    let l = r.3 in
-    (omega arith, subst (FallsBelow y) (sym r.2) (falls_wider x y beads (omega arith) f.1))
-raised_falls b limit (x ∷ beads) (y ∷ raised) f (inr r) =
-    let e = r.0 in
-    let l = f.0 in
-    (omega arith, falls_wider x y raised (omega arith) (raised_falls b x beads raised f.1 r.1))
+raised_falls b limit (x ∷ beads) (y ∷ raised) f (inl r) = search (rules, falls_wider)
+raised_falls b limit (x ∷ beads) (y ∷ raised) f (inr r) = search (rules, falls_wider, (raised_falls b x beads raised f.1 r.1))
 
 raised_length : (b limit : ℕ) (beads raised : List ℕ) → IsRaised b limit beads raised → length raised ≡ length beads
 raised_length b limit [] raised r = absurd r
@@ -61,24 +55,11 @@ raised_sum : (b limit : ℕ) (beads raised : List ℕ) → IsRaised b limit bead
 unfolding set_of
 raised_sum b limit [] raised r = absurd r
 raised_sum b limit (x ∷ beads) [] r = absurd r
-raised_sum b limit (x ∷ beads) (y ∷ raised) (inl r) =
-    let e : 2 ^ x ≡ 2 ^ b = ap (λ n. 2 ^ n) r.0 in
-    let g : 2 ^ y ≡ 2 ^ (b + 1) = ap (λ n. 2 ^ n) r.1 in
-    let p : 2 ^ (b + 1) ≡ 2 ^ suc b = ap (λ n. 2 ^ n) (let s : b + 1 ≡ suc b = omega arith in s) in
-    let d : 2 ^ suc b ≡ 2 * 2 ^ b = omega arith in
-    let h = ap set_of r.2 in
-    omega arith
-raised_sum b limit (x ∷ beads) (y ∷ raised) (inr r) =
-    let e : 2 ^ y ≡ 2 ^ x = ap (λ n. 2 ^ n) r.0 in
-    let h = raised_sum b x beads raised r.1 in
-    omega arith
+raised_sum b limit (x ∷ beads) (y ∷ raised) (inl r) = grind (arith, common_steps)
+raised_sum b limit (x ∷ beads) (y ∷ raised) (inr r) = search (rules, (raised_sum b x beads raised r.1))
 
 has_later : (a x : ℕ) (beads : List ℕ) → has a (x ∷ beads) ≡ false → has a beads ≡ false
-has_later a x beads e = by (x == a) e
-  where
-    by : (t : Bool) → (t || has a beads) ≡ false → has a beads ≡ false
-    by true e = cc
-    by false e = e
+has_later a x beads e = search rules
 
 pub member_below : (limit b : ℕ) (beads : List ℕ) → FallsBelow limit beads → Among b beads → b < limit
 member_below limit b [] f m = absurd m
@@ -106,21 +87,17 @@ moves_there b limit (x ∷ beads) (y ∷ raised) f (inr r) = let h = moves_there
 
 pub past_all : (a limit : ℕ) (beads : List ℕ) → FallsBelow limit beads → limit ≤ a → has a beads ≡ false
 past_all a limit [] f l = refl
-past_all a limit (x ∷ beads) f l =
-    let h = f.0 in
-    ap (λ t. t || has a beads) (ne_eqb x a (λ e. omega (arith, e, h, l))) ∙ past_all a x beads f.1 (omega arith)
+past_all a limit (x ∷ beads) f l = search (rules, ne_eqb, (past_all a x beads f.1 (omega arith)))
 
 next_free : (b limit : ℕ) (beads raised : List ℕ) → FallsBelow limit beads → IsRaised b limit beads raised → has (b + 1) beads ≡ false
 next_free b limit [] raised f r = absurd r
 next_free b limit (x ∷ beads) [] f r = absurd r
-next_free b limit (x ∷ beads) (y ∷ raised) f (inl r) =
-    let e = r.0 in
-    ap (λ t. t || has (b + 1) beads) (ne_eqb x (b + 1) (λ i. omega (arith, i, e))) ∙ past_all (b + 1) x beads f.1 (omega arith)
+next_free b limit (x ∷ beads) (y ∷ raised) f (inl r) = search (rules, ne_eqb, past_all)
 next_free b limit (x ∷ beads) (y ∷ raised) f (inr r) =
     let l = (moves_there b x beads raised f.1 r.1).1 in
     ap (λ t. t || has (b + 1) beads) (ne_eqb x (b + 1) (λ i. omega (arith, i, l))) ∙ next_free b x beads raised f.1 r.1
 
--- ---- moves in which each bead outside the bound stays at its place
+-- ---- moves in which only the beads within a bound may leave their places
 
 -- the place b is outside the bound for the next bead that moves: below it in a horizontal strip, and not below it in a vertical strip
 abbrev pub IsOutside : Strip → ℕ → ℕ → Type 0
@@ -153,8 +130,6 @@ all_inside strip limit (b ∷ beads) (c ∷ moved) f a =
     inside Horizontal l o = absurd (omega (arith, o))
     inside Vertical l o = absurd (omega (arith, o, l))
 
--- in a vertical strip, if beads have moved within a bound (`AreMovedWithin`) and all are below `other`, which is at most the bound, they have moved
--- within the bound `other`
 lower_bound : (bound other limit : ℕ) (beads moved : List ℕ) → FallsBelow other beads → other ≤ bound → AreMovedWithin Vertical bound limit beads moved → AreMovedWithin Vertical other limit beads moved
 lower_bound bound other limit [] [] f l a = tt
 lower_bound bound other limit [] (c ∷ moved) f l a = absurd a
@@ -169,7 +144,6 @@ higher_bound bound other limit (b ∷ beads) [] f l a = absurd a
 higher_bound bound other limit (b ∷ beads) (c ∷ moved) f l a =
     let h = f.0 in (a.0, λ o. absurd (omega (arith, o, h, l)), higher_bound bound other c beads moved (falls_wider b other beads (omega arith) f.1) l a.2)
 
--- in a horizontal strip, if all beads are below the bound and have moved within it (`AreMovedWithin`), none of them has moved
 none_below : (bound limit : ℕ) (beads moved : List ℕ) → FallsBelow bound beads → AreMovedWithin Horizontal bound limit beads moved → moved ≡ beads
 none_below bound limit [] [] f a = refl
 none_below bound limit [] (c ∷ moved) f a = absurd a
@@ -183,20 +157,12 @@ same_barrier Vertical b = refl
 
 stay_within : (strip : Strip) (bound limit : ℕ) (beads : List ℕ) → FallsBelow limit beads → AreMovedWithin strip bound limit beads beads
 stay_within strip bound limit [] f = tt
-stay_within strip bound limit (b ∷ beads) f = (
-  record { up = omega arith; below = f.0; one = λ e. omega arith },
-  λ o. refl,
-  stay_within strip bound (barrier strip b b) beads (subst (λ n. FallsBelow n beads) (sym (same_barrier strip b)) f.1),
-)
+stay_within strip bound limit (b ∷ beads) f = search (rules, barrier, same_barrier, (stay_within strip bound (barrier strip b b) beads))
 
 -- ---- k moves by one place: the first one, and then the other ones
 
 pub different : Horizontal ≡ Vertical → ⊥
-different e = subst is_vertical (sym e) tt
-  where
-    is_vertical : Strip → Type 0
-    is_vertical Horizontal = ⊥
-    is_vertical Vertical = Unit {0}
+different e = search rules
 
 -- if the bead at b, not outside the bound, moves up by one place, and the resulting beads `raised` move to `moved` within the bound for the next
 -- bead, then `beads` move to `moved` within the bound (`AreMovedWithin`)
@@ -206,41 +172,10 @@ moved_first strip bound limit b [] raised moved f r i a = absurd r
 moved_first strip bound limit b (x ∷ beads) [] moved f r i a = absurd r
 moved_first strip bound limit b (x ∷ beads) (y ∷ raised) [] f r i a = absurd a
 moved_first Horizontal bound limit b (x ∷ beads) (y ∷ raised) (c ∷ moved) f (inl r) i a =
-    let e = r.0 in
-    let g = r.1 in
-    let u = a.0.up in
-    let stays = none_below (b + 1) y raised moved (subst (FallsBelow (b + 1)) (sym r.2) (falls_wider x (b + 1) beads (omega arith) f.1)) a.2 in (
-      record { up = omega arith; below = a.0.below; one = λ v. absurd (different v) },
-      λ o. absurd (i (omega (arith, o, e))),
-      subst (AreMovedWithin Horizontal bound x beads) (sym (stays ∙ r.2)) (stay_within Horizontal bound x beads f.1),
-    )
+    search (rules, none_below, falls_wider, different, stay_within)
 moved_first Horizontal bound limit b (x ∷ beads) (y ∷ raised) (c ∷ moved) f (inr r) i a =
-    let e = r.0 in
-    let l = (moves_there b x beads raised f.1 r.1).1 in
-    let u = a.0.up in (
-      record { up = omega arith; below = a.0.below; one = λ v. absurd (different v) },
-      λ o. absurd (by i o (omega arith)),
-      moved_first Horizontal bound x b beads raised moved f.1 r.1 i (subst (λ n. AreMovedWithin Horizontal (b + 1) n raised moved) r.0 a.2),
-    )
-  where
-    by : (b < bound → ⊥) → x < bound → b < x → ⊥
-    by i o l = i (omega (arith, o, l))
-moved_first Vertical bound limit b (x ∷ beads) (y ∷ raised) (c ∷ moved) f (inl r) i a =
-    let e = r.0 in
-    let g = r.1 in
-    let up = a.0.up in
-    let same : c ≡ y = a.1 (omega arith) in (
-      record { up = omega arith; below = a.0.below; one = λ v. omega arith },
-      λ o. absurd (i (omega (arith, o, e))),
-      by (inside (cases_lt b bound)) (subst (λ l. AreMovedWithin Vertical b c l moved) r.2 a.2),
-    )
-  where
-    inside : (b < bound) ⊎ (bound ≤ b) → b < bound
-    inside (inl l) = l
-    inside (inr l) = absurd (i l)
-
-    by : b < bound → AreMovedWithin Vertical b c beads moved → AreMovedWithin Vertical bound c beads moved
-    by l m = higher_bound bound b c beads moved (subst (λ n. FallsBelow n beads) r.0 f.1) (omega arith) m
+    search (rules, moves_there, different, (moved_first Horizontal bound x b beads raised moved f.1 r.1 i))
+moved_first Vertical bound limit b (x ∷ beads) (y ∷ raised) (c ∷ moved) f (inl r) i a = search (rules, cases_lt, higher_bound)
 moved_first Vertical bound limit b (x ∷ beads) (y ∷ raised) (c ∷ moved) f (inr r) i a =
     let e = r.0 in
     let l = (moves_there b x beads raised f.1 r.1).1 in
@@ -348,16 +283,8 @@ test_tells Horizontal bound b t o = let l = leb-true bound b t in omega arith
 test_tells Vertical bound b t o = let l = ltb-true b bound t in omega arith
 
 test_from : (strip : Strip) (bound b : ℕ) → (IsOutside strip bound b → ⊥) → bound_test strip bound b ≡ true
-test_from Horizontal bound b i = by (cases_lt b bound)
-  where
-    by : (b < bound) ⊎ (bound ≤ b) → nat_le bound b ≡ true
-    by (inl l) = absurd (i l)
-    by (inr l) = le-leb bound b l
-test_from Vertical bound b i = by (cases_lt b bound)
-  where
-    by : (b < bound) ⊎ (bound ≤ b) → nat_lt b bound ≡ true
-    by (inl l) = lt-ltb b bound l
-    by (inr l) = absurd (i l)
+test_from Horizontal bound b i = search rules
+test_from Vertical bound b i = search rules
 
 pub next_tells : (strip : Strip) (bound b : ℕ) (beads : List ℕ) → Among b (next_places strip bound beads) → Among b beads × (has (b + 1) beads ≡ false) × (IsOutside strip bound b → ⊥)
 next_tells strip bound b beads m =
@@ -366,23 +293,13 @@ next_tells strip bound b beads m =
     (f.0, not-true (has (b + 1) beads) f.1, test_tells strip bound b s.1)
 
 next_from : (strip : Strip) (bound b : ℕ) (beads : List ℕ) → Among b beads → has (b + 1) beads ≡ false → (IsOutside strip bound b → ⊥) → Among b (next_places strip bound beads)
-next_from strip bound b beads m e i =
-    subst (Among b) (sym (next_are strip bound beads))
-    (Among-select (bound_test strip bound) b (free 1 beads) (Among-select (λ x. not (has (x + 1) beads)) b beads m (ap not e)) (test_from strip bound b i))
+next_from strip bound b beads m e i = search (rules, next_are, Among-select, test_from)
 
 next_length : (strip : Strip) (bound : ℕ) (beads : List ℕ) → length (next_places strip bound beads) ≤ length beads
-next_length strip bound beads =
-    let e = ap length (next_are strip bound beads) in
-    let f = length-filter-within (bound_test strip bound) (free 1 beads) in
-    let g = length-filter-within (λ x. not (has (x + 1) beads)) beads in
-    omega arith
-
--- ---- sums with products of powers of 2
+next_length strip bound beads = search (rules, next_are, length-filter-within)
 
 gathered : (set n x y z : ℕ) → set + x * z + n * (y * z) ≡ set + (x + n * y) * z
 gathered set n x y z = omega arith
-
--- ---- sets below a power of 2, before and after a bead moves up by one place
 
 pub power_within : (a b : ℕ) → a ≤ b → 2 ^ a ≤ 2 ^ b
 power_within a b l = pow-le-pow_right {n = 2} (omega arith) {i = a} {j = b} l
@@ -394,17 +311,7 @@ among_sum b (x ∷ beads) (inl e) = let p : 2 ^ b ≡ 2 ^ x = ap (λ n. 2 ^ n) e
 among_sum b (x ∷ beads) (inr m) = let r = among_sum b beads m in omega arith
 
 pub place_low : (m set b : ℕ) → m ≤ 63 → set < 2 ^ m → Among b (numbers set) → (b < m) × (2 ^ b ≤ set)
-place_low m set b l h i = by (cases_lt b m)
-  where
-    w : set < 2 ^ 64
-    w = let p = power_within m 64 (omega arith) in omega arith
-
-    there : 2 ^ b ≤ set
-    there = let e = set_of-numbers set w in let s = among_sum b (numbers set) i in omega arith
-
-    by : (b < m) ⊎ (m ≤ b) → (b < m) × (2 ^ b ≤ set)
-    by (inl k) = (k, there)
-    by (inr k) = let p = power_within m b k in let t = there in absurd (omega arith)
+place_low m set b l h i = search (rules, cases_lt, power_within, set_of-numbers, among_sum)
 
 pub low_falls : (m set : ℕ) → m ≤ 63 → set < 2 ^ m → FallsBelow m (numbers set)
 low_falls m set l h = falls_below m (numbers set) (places_strict 64 set) (λ c i. (place_low m set c l h i).0)
@@ -415,7 +322,7 @@ wide_falls m set l h = falls_wider m 64 (numbers set) (omega arith) (low_falls m
 in_word : (m set : ℕ) → m ≤ 63 → set < 2 ^ m → set < 2 ^ 64
 in_word m set l h = let p = power_within m 64 (omega arith) in omega arith
 
--- the bead at b of a set below 2^m, one that may move up next (`next_places`)
+-- let all numbers of `set` be below m, with m < 63, and let b be the place of one of its beads that may move up next (`next_places`)
 module _ (strip : Strip) (bound m set b : ℕ) (l : m < 63) (h : set < 2 ^ m) where
   can_raise : Among b (next_places strip bound (numbers set)) → (raised : List ℕ) × IsRaised b 64 (numbers set) raised
   can_raise i =
@@ -424,11 +331,7 @@ module _ (strip : Strip) (bound m set b : ℕ) (l : m < 63) (h : set < 2 ^ m) wh
       can_move b 64 (numbers set) (wide_falls m set (omega arith) h) t.0 t.1 (omega arith)
 
   numbers_raised : (raised : List ℕ) → IsRaised b 64 (numbers set) raised → numbers (set + 2 ^ b) ≡ raised
-  numbers_raised raised r =
-      let f = wide_falls m set (omega arith) h in
-      let e = set_of-numbers set (in_word m set (omega arith) h) in
-      ap numbers (let s = raised_sum b 64 (numbers set) raised r in let g : set + 2 ^ b ≡ set_of raised = omega arith in g)
-      ∙ numbers-set_of raised (raised_falls b 64 (numbers set) raised f r)
+  numbers_raised raised r = search (rules, wide_falls, set_of-numbers, in_word, raised_sum, numbers-set_of, raised_falls)
 
   raised_low : Among b (numbers set) → set + 2 ^ b < 2 ^ (m + 1)
   raised_low i =
@@ -445,9 +348,7 @@ pub record IsMadeOf (strip : Strip) (bound k set new : ℕ) : Type 0 where
   pub more : size (numbers new) ≡ size (numbers set) + k
 
 pub cells-tell : (strip : Strip) (k bound m set new : ℕ) → m + k ≤ 63 → set < 2 ^ m → Among new (with_cells strip k bound set) → IsMadeOf strip bound k set new
-cells-tell strip zero bound m set new l h (inl e) =
-    subst (IsMadeOf strip bound 0 set) (sym e)
-    (record { word = in_word m set (omega arith) h; moved = stay_within strip bound 64 (numbers set) (wide_falls m set (omega arith) h); more = omega arith })
+cells-tell strip zero bound m set new l h (inl e) = search (rules, in_word, stay_within, wide_falls)
 cells-tell strip zero bound m set new l h (inr i) = absurd i
 cells-tell strip (suc k) bound m set new l h i =
     let f = Among_from_each (λ b. with_cells strip k (next_bound strip b) (set + 2 ^ b)) new (next_places strip bound (numbers set)) i in
@@ -480,18 +381,13 @@ among-cells strip (suc k) bound m set moved l h a e =
     (among-cells strip k (next_bound strip b) (m + 1) (set + 2 ^ b) moved (omega arith) (raised_low strip bound m set b (omega arith) h there)
     (subst (λ l. AreMovedWithin strip (next_bound strip b) 64 l moved) (sym n) r.then) (omega arith))
 
--- ---- the list `with_cells` of the sets that result from adding k cells has no set twice
-
 pub once_falls : (limit : ℕ) (beads : List ℕ) → FallsBelow limit beads → Once beads
 once_falls limit [] f = tt
 once_falls limit (b ∷ beads) f = (λ m. let l = member_below b b beads f.1 m in omega arith, once_falls b beads f.1)
 
 once_next : (strip : Strip) (bound : ℕ) (beads : List ℕ) → Once beads → Once (next_places strip bound beads)
-once_next strip bound beads o =
-    subst (λ (l : List ℕ). Once l) (sym (next_are strip bound beads))
-    (Once-select (bound_test strip bound) (free 1 beads) (Once-select (λ x. not (has (x + 1) beads)) beads o))
+once_next strip bound beads o = search (rules, next_are, Once-select)
 
--- in a horizontal strip, each set that results from `set` by adding k cells, from places of at least `bound` on, is `set` plus a multiple of 2^bound
 multiple : (k bound set new : ℕ) → Among new (with_cells Horizontal k bound set) → (n : ℕ) × (new ≡ set + n * 2 ^ bound)
 multiple zero bound set new (inl e) = (0, omega arith)
 multiple zero bound set new (inr i) = absurd i
@@ -508,8 +404,6 @@ multiple (suc k) bound set new i =
         let q : 2 ^ (b + 1) ≡ 2 ^ (b + 1 - bound) * 2 ^ bound = sym ((sym (pow-add 2 (b + 1 - bound) bound) ∙ ap (λ n. 2 ^ n) (sym (omega arith)))) in
         (2 ^ (b - bound) + n * 2 ^ (b + 1 - bound), e ∙ ap₂ (λ x y. set + x + n * y) p q ∙ gathered set n (2 ^ (b - bound)) (2 ^ (b + 1 - bound)) (2 ^ bound))
 
--- in a vertical strip, each set that results from `set` by adding k cells, by beads at places below `bound`, is at least `set` and less than `set` +
--- 2^bound
 less_more : (k bound set new : ℕ) → Among new (with_cells Vertical k bound set) → (set ≤ new) × (new < set + 2 ^ bound)
 less_more zero bound set new (inl e) = let p = power_within 0 bound (omega arith) in (omega arith, omega arith)
 less_more zero bound set new (inr i) = absurd i
@@ -526,7 +420,6 @@ less_more (suc k) bound set new i =
     by b u v (inl l) n = let p = power_within (suc b) bound l in let d : 2 ^ suc b ≡ 2 * 2 ^ b = omega arith in (omega arith, omega arith)
     by b u v (inr l) n = absurd (n l)
 
--- if b < d, no odd multiple of 2^b is an odd multiple of 2^d
 odd_multiple : (b d m n : ℕ) → b < d → 2 ^ b + m * 2 ^ (b + 1) ≡ 2 ^ d + n * 2 ^ (d + 1) → ⊥
 odd_multiple b d m n l e =
     let q = 2 ^ (d - b - 1) in
@@ -576,16 +469,9 @@ once_cells strip (suc k) bound m set l h =
     by b d new x y (inr g) (inl o) = absurd (apart_low strip k set new d b o y x)
     by b d new x y (inr g) (inr o) = omega arith
 
--- ---- at most 20^k sets result from adding k cells to a set of 20 numbers
-
 length_each : {A B : Type 0} (f : A → List B) (c : ℕ) (xs : List A) → ((x : A) → Among x xs → length (f x) ≤ c) → length (flat_map f xs) ≤ length xs * c
 length_each f c [] h = omega arith
-length_each f c (x ∷ xs) h =
-    let r = length_each f c xs (λ y m. h y (inr m)) in
-    let e = length-append (f x) (flat_map f xs) in
-    let here = h x (inl refl) in
-    let d : suc (length xs) * c ≡ c + length xs * c = omega arith in
-    omega arith
+length_each f c (x ∷ xs) h = search (rules, length-append, (length_each f c xs))
 
 pub few_cells : (strip : Strip) (k bound m set : ℕ) → m + k ≤ 63 → set < 2 ^ m → length (numbers set) ≡ 20 → length (with_cells strip k bound set) ≤ 20 ^ k
 few_cells strip zero bound m set l h e = let p : 20 ^ 0 ≡ 1 = refl in omega arith

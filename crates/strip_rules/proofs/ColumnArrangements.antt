@@ -2,7 +2,7 @@
 --     column-raised     the coefficient after a last row is added, of length c in μ and c + 1 in ν
 --     column-kept       the coefficient after a last row of length c is added to both μ and ν
 --     column-strips     the coefficient is 0 unless ν/μ is a vertical strip
-use Rattle.std.proofs.Common.{◌≡◌, ◌⊎◌, ℕ, zero, suc, ◌+◌, ◌-◌, ◌*◌, ◌<◌, ◌≤◌, Bool, true, false, ◌&&◌, ◌||◌, cond, ◌==◌, eqb, leb, List, [], ◌∷◌, ◌++◌, length, sym, ◌∙◌, ap, ap₂, refl, inl, inr, arith, ℤ, pos, ◌+ℤ◌, ◌*ℤ◌}
+use Rattle.std.proofs.Common.{◌≡◌, ◌⊎◌, ℕ, zero, suc, ◌+◌, ◌-◌, ◌*◌, ◌<◌, ◌≤◌, Bool, true, false, ◌&&◌, ◌||◌, cond, ◌==◌, eqb, leb, List, [], ◌∷◌, ◌++◌, length, sym, ◌∙◌, ap, ap₂, refl, inl, inr, arith, ℤ, pos, ◌+ℤ◌, ◌*ℤ◌, rules}
 use Rattle.std.proofs.lemmas.Bool.{cases_eq, cases_lt, le-leb, lt-leb, eq-eqb, ne_eqb, and_parts}
 use Rattle.std.proofs.lemmas.Int.{ints}
 use Rattle.sym_model.specs.Sum.{total, Among}
@@ -31,17 +31,11 @@ use Rattle.std.proofs.Math.Nat.{mul_comm}
 use Rattle.monomial_laws.proofs.AtomTerms.{Falls-ones}
 use Rattle.partitions.proofs.Arrangings.{same-insert_part}
 
--- ---- products with lists of one term
-
 pub column-lists : (k : ℕ) (left : WholeTerms) (ν : List ℕ)
     → product_coefficient left ((column k, pos 1) ∷ []) ν
     ≡ pair left (λ μ. pos (arrangements μ (column k) ν))
-column-lists k left ν =
-    product_coefficient-arrangements left ((column k, pos 1) ∷ []) ν
-    ∙ pair_ext left (λ μ. pair ((column k, pos 1) ∷ []) (λ r. pos (arrangements μ r ν)))
-    (λ μ. pos (arrangements μ (column k) ν)) (λ μ. single_term (pos (arrangements μ (column k) ν)))
+column-lists k left ν = search (rules, product_coefficient-arrangements, left, pair_ext, single_term)
 
--- if ν and ρ sort to the same parts, `arrangements l r` has the same value at ν and at ρ
 pub arrangements-sorted : (l r ν ρ : List ℕ) → sorted_parts ν ≡ sorted_parts ρ → arrangements l r ν
     ≡ arrangements l r ρ
 arrangements-sorted l r ν ρ e = pos_equal
@@ -61,10 +55,7 @@ arrangements-sorted l r ν ρ e = pos_equal
 pub sorted_parts-last : (c : ℕ) (α : List ℕ) → sorted_parts (α ++ c ∷ [])
     ≡ insert_part c (sorted_parts α)
 sorted_parts-last c [] = refl
-sorted_parts-last c (a ∷ α) = ap (insert_part a) (sorted_parts-last c α)
-    ∙ insert_part_comm a c (sorted_parts α)
-
--- ---- the partition (1^k)
+sorted_parts-last c (a ∷ α) = search (rules, insert_part_comm, (sorted_parts-last c α))
 
 column-first : (k : ℕ) → insert_part 1 (column k) ≡ column (suc k)
 column-first zero = refl
@@ -82,26 +73,15 @@ column-few zero = refl
 column-few (suc k) = omega
     (arith, column-few k, ap (λ (b : Bool). cond {A = ℕ} b 1 0) (lt-leb 2 1 (omega arith)))
 
--- ---- the number of zeros of a list, and the multiplicities of its numbers
-
 zeros-sorted : (α : List ℕ) → times_in 0 α + length (sorted_parts α) ≡ length α
 zeros-sorted [] = omega arith
 zeros-sorted (zero ∷ α) = omega (arith, zeros-sorted α)
-zeros-sorted (suc a ∷ α) = omega (
-  arith,
-  zeros-sorted α,
-  length-insert_part a (sorted_parts α),
-  ap
-      (λ (b : Bool). cond {A = ℕ} b 1 0) (ne_eqb (suc a) 0 (λ e. omega arith)),
-)
+zeros-sorted (suc a ∷ α) = search (rules, length-insert_part, ne_eqb, (zeros-sorted α))
 
--- if α and β have the same length and sort to the same parts, each number occurs as often in α as in β
 times_in-sorted : (c : ℕ) (α β : List ℕ) → length α ≡ length β → sorted_parts α ≡ sorted_parts β
     → times_in c α ≡ times_in c β
 times_in-sorted zero α β l e = omega (arith, l, zeros-sorted α, zeros-sorted β, ap length e)
-times_in-sorted (suc c) α β l e =
-    sym (times_in-sorted_parts (suc c) α (omega arith)) ∙ ap (times_in (suc c)) e
-    ∙ times_in-sorted_parts (suc c) β (omega arith)
+times_in-sorted (suc c) α β l e = search (rules, times_in-sorted_parts)
 
 -- ---- the change of the coefficient of m_ν in m_μ·e_k by one more row, of length c in μ and of length c + 1 in ν
 
@@ -111,8 +91,7 @@ are_labels l r x y = cond (same x l && same y r) (pos 1) (pos 0)
 
 arrangements-total : (l r ν : List ℕ) → pos (arrangements l r ν)
     ≡ sorted_total (λ x y. are_labels l r x y) ν
-arrangements-total l r ν = length-select
-    (λ (s : List ℕ × List ℕ). same (sorted_parts s.0) l && same (sorted_parts s.1) r) (splits ν)
+arrangements-total l r ν = search (rules, length-select)
 
 second_unequal : (p q : Bool) → q ≡ false → cond (p && q) (pos 1) (pos 0) ≡ pos 0
 second_unequal true q e = ap (λ (b : Bool). cond b (pos 1) (pos 0)) e
@@ -120,9 +99,6 @@ second_unequal false q e = refl
 
 module _ (c k : ℕ) (α ν : List ℕ) (long : length α ≡ length ν)
     (above : (d : ℕ) → Among d ν → c < d) where
-  -- a split of (c + 1) ∷ ν is a pair of lists that add up to it, place by place; of these, take those whose first list sorts to c and the parts of α,
-  -- and whose second list sorts to (1^(k + 1)): the number of times that c occurs in the first list, summed over these splits, is the number of these
-  -- splits times 1 more than the multiplicity of c in α
   left : total (λ (s : List ℕ × List ℕ). pos (times_in c s.0) *ℤ are_labels
       (insert_part c (sorted_parts α)) (column (suc k)) (sorted_parts s.0) (sorted_parts s.1))
       (splits (suc c ∷ ν))
@@ -256,27 +232,14 @@ module _ (c k : ℕ) (α ν : List ℕ) (long : length α ≡ length ν)
       ∙ raised-front
       ∙ mul_comm (suc (times_in (suc c) ν)) (arrangements (sorted_parts α) (column k) ν)
 
--- ---- the coefficient of m_ν in m_μ·e_k with one more row of length c in both μ and ν, and labels with too many parts
+-- ---- the coefficient of m_ν in m_μ·e_k with one more row of length c in both μ and ν
 
 pub arrangements-long : (l r ν : List ℕ) → length ν < length r → arrangements l r ν ≡ 0
-arrangements-long l r ν h =
-    pos_equal
-    (arrangements-total l r ν
-    ∙ total_none (λ (s : List ℕ × List ℕ). are_labels l r (sorted_parts s.0) (sorted_parts s.1))
-    (splits ν)
-    (λ s m.
-    second_unequal (same (sorted_parts s.0) l) (same (sorted_parts s.1) r)
-    (same_apart (sorted_parts s.1) r
-    (λ e. absurd (omega (arith, h, ap length e, rows-sorted_parts s.1, (length-splits ν s m).1))))))
+arrangements-long l r ν h = search (rules, pos_equal, arrangements-total, total_none, second_unequal, same_apart, rows-sorted_parts, length-splits)
 
 total-column : (f : ℕ → ℤ) (k : ℕ) → f 1 ≡ pos 0 → total f (distinct (column k)) ≡ pos 0
 total-column f zero e = refl
-total-column f (suc k) e = by (has 1 (column k)) (total-column f k e)
-  where
-    by : (b : Bool) → total f (distinct (column k)) ≡ pos 0
-        → total f (cond b (distinct (column k)) (1 ∷ distinct (column k))) ≡ pos 0
-    by true r = r
-    by false r = omega (arith, ints)
+total-column f (suc k) e = search (rules, ints, (total-column f k e))
 
 lacks_less : (c a : ℕ) (μ : List ℕ) → ((b : ℕ) → Among b μ → c ≤ b) → a < c → has a μ ≡ false
 lacks_less c a [] h l = refl
@@ -358,12 +321,9 @@ column-kept c k μ ν h p long above =
     ∙ arrangements-sorted (insert_part c μ) (column k) (ν ++ c ∷ []) (c ∷ ν) (sorted_parts-last c ν)
     ∙ kept-front c k μ ν h p long above
 
--- ---- the coefficient of m_ν in m_μ·e_k is 0 unless ν/μ is a vertical strip
-
 among-count : (k a : ℕ) (numbers : List ℕ) → k ≤ a → Among a numbers → 0 < count_from k numbers
 among-count k a [] h m = absurd m
-among-count k a (b ∷ numbers) h (inl e) = let l = le-leb k b
-    (let d : k ≤ b = omega arith in d) in rw l (omega arith)
+among-count k a (b ∷ numbers) h (inl e) = search rules
 among-count k a (b ∷ numbers) h (inr m) = omega (arith, among-count k a numbers h m)
 
 pub column-strips : (k : ℕ) (μ ν : List ℕ) → IsPartition μ → IsPartition ν

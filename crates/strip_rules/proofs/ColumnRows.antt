@@ -2,7 +2,7 @@
 --     `rises`     if i ≤ n, the coefficient for the first i rows is at most that for the first n rows
 --     `at_end`    the coefficient for all rows is that of m_ν in m_μ·e_k
 --     fraction, row_.., next_..   how the coefficient changes if one more row is counted
-use Rattle.std.proofs.Common.{◌≡◌, ◌⊎◌, ℕ, zero, suc, ◌+◌, ◌-◌, ◌*◌, ◌<◌, ◌≤◌, List, [], ◌∷◌, ◌++◌, length, get_or, refl, sym, ap, ap₂, ◌∙◌, inl, inr, arith}
+use Rattle.std.proofs.Common.{◌≡◌, ◌⊎◌, ℕ, zero, suc, ◌+◌, ◌-◌, ◌*◌, ◌<◌, ◌≤◌, List, [], ◌∷◌, ◌++◌, length, get_or, refl, sym, ap, ap₂, ◌∙◌, inl, inr, arith, rules}
 use Rattle.std.proofs.lemmas.Bool.{cases_lt, cases_eq}
 use Rattle.sym_model.specs.Sum.{Among}
 use Rattle.sym_model.specs.Partition.{IsPartition, size, sorted_parts}
@@ -20,14 +20,14 @@ use Rattle.monomial_laws.specs.MonomialProduct.{arrangements}
 use Rattle.strip_rules.specs.StripProduct.{column}
 use Rattle.strip_rules.proofs.ColumnArrangements.{column-kept, column-raised}
 
--- the coefficient for the first i rows: that of m_ν' in m_μ'·e_j, with μ' and ν' the first i rows of μ and ν, and j the number of cells of ν'/μ'
+-- the coefficient of m_ν' in m_μ'·e_j, where μ' and ν' are the first i rows of μ and ν, and j is the number of cells of ν'/μ'
 abbrev pub so_far : List ℕ → List ℕ → ℕ → ℕ
 so_far μ ν i =
     arrangements (sorted_parts (resize i μ)) (column (size (resize i ν) - size (resize i μ)))
     (resize i ν)
 
--- the state before row i + 1: `count` is the coefficient for the first i rows, `run` the number of these rows that are as long in ν as row i + 1 of
--- ν, and `longer` the number of those `run` rows that are longer in ν than in μ
+-- before row i + 1 is counted: `count` is the coefficient for the first i rows (`so_far`), `run` is the number of these rows that are as long in ν as
+-- row i + 1 of ν, and `longer` is the number of these rows of μ that are shorter by one than row i + 1 of ν (if that row is not empty)
 pub record IsCounted (μ ν : List ℕ) (i count run longer : ℕ) : Type 0 where
   pub count_is : count ≡ so_far μ ν i
   pub run_is : run ≡ times_in (get_or ν i 0) (resize i ν)
@@ -35,8 +35,8 @@ pub record IsCounted (μ ν : List ℕ) (i count run longer : ℕ) : Type 0 wher
   pub few_rows : run ≤ i
   pub few_longer : longer ≤ i
 
--- the state after row i + 1: `count` is the coefficient for the first i + 1 rows, `run` the number of these rows that are as long in ν as row i + 1
--- of ν, and `longer` the number of those `run` rows that are longer in ν than in μ
+-- after row i + 1 is counted: `count` is the coefficient for the first i + 1 rows (`so_far`), `run` is the number of these rows that are as long in ν
+-- as row i + 1 of ν, and `longer` is the number of these first rows that are shorter in μ by one than row i + 1 of ν (if that row is not empty)
 pub record IsRow (μ ν : List ℕ) (i count run longer : ℕ) : Type 0 where
   pub count_is : count ≡ so_far μ ν (suc i)
   pub run_is : run ≡ times_in (get_or ν i 0) (resize (suc i) ν)
@@ -45,13 +45,7 @@ pub record IsRow (μ ν : List ℕ) (i count run longer : ℕ) : Type 0 where
   pub few_longer : longer ≤ suc i
 
 pub counted-none : (μ ν : List ℕ) → IsCounted μ ν 0 1 0 0
-counted-none μ ν = record {
-  count_is = refl;
-  run_is = refl;
-  longer_is = λ c e. refl;
-  few_rows = omega arith;
-  few_longer = omega arith;
-}
+counted-none μ ν = search rules
 
 module _ (μ ν : List ℕ) (p : IsPartition μ) (q : IsPartition ν) (s : IsVerticalStrip ν μ) where
   within : (i : ℕ) → get_or μ i 0 ≤ get_or ν i 0
@@ -73,9 +67,7 @@ module _ (μ ν : List ℕ) (p : IsPartition μ) (q : IsPartition ν) (s : IsVer
       ≡ arrangements (sorted_parts (resize i μ ++ get_or μ i 0 ∷ []))
       (column (size (resize i ν ++ get_or ν i 0 ∷ []) - size (resize i μ ++ get_or μ i 0 ∷ [])))
       (resize i ν ++ get_or ν i 0 ∷ [])
-  one_row_more i =
-      ap₂ (λ (a b : List ℕ). arrangements (sorted_parts a) (column (size b - size a)) b)
-      (resize-next i μ) (resize-next i ν)
+  one_row_more i = search (rules, resize-next)
 
   kept : (i : ℕ) → i < length ν → get_or μ i 0 ≡ get_or ν i 0 → so_far μ ν (suc i) ≡ so_far μ ν i
   kept i h e =
@@ -121,8 +113,6 @@ module _ (μ ν : List ℕ) (p : IsPartition μ) (q : IsPartition ν) (s : IsVer
       ∙ column-raised c k (resize i μ) (resize i ν) (both-first i)
       (λ d m. omega (arith, next-resize i ν d q.falls m))
 
-  -- if row i of ν, counted from 0, has length c + 1, and j ≤ i: the number of rows of length c among the first j rows of μ is at most the number of
-  -- rows of length c + 1 among the first j rows of ν
   few : (i c j : ℕ) → get_or ν i 0 ≡ suc c → j ≤ i
       → times_in c (resize j μ) ≤ times_in (suc c) (resize j ν)
   few i c zero e h = omega arith
@@ -193,21 +183,10 @@ module _ (μ ν : List ℕ) (p : IsPartition μ) (q : IsPartition ν) (s : IsVer
       by (inr l) = omega arith
 
   pub at_end : (k : ℕ) → size ν ≡ size μ + k → so_far μ ν (length ν) ≡ arrangements μ (column k) ν
-  at_end k e =
-      let inner = sorted_parts-resize (length ν) μ p rows-few in
-      let outer = resize_same (length ν) ν refl in
-      let left : size (resize (length ν) ν) - size (resize (length ν) μ) ≡ k = omega (
-        arith,
-        ap size outer,
-        ap size inner,
-        size-sorted_parts (resize (length ν) μ),
-      ) in
-      ap₂ (λ (l : List ℕ) (j : ℕ). arrangements l (column j) (resize (length ν) ν)) inner left
-      ∙ ap (arrangements μ (column k)) outer
+  at_end k e = search (rules, sorted_parts-resize, rows-few, resize_same, size-sorted_parts)
 
   -- ---- the loop over the rows of ν that computes the coefficient
 
-  -- if the next row, with index i, is longer in ν than in μ, it multiplies the coefficient by (run + 1)/(longer + 1)
   pub fraction : (i count run longer : ℕ) → IsCounted μ ν i count run longer
       → get_or μ i 0 < get_or ν i 0
       → so_far μ ν (suc i) * (longer + 1) ≡ count * (run + 1)
@@ -223,47 +202,17 @@ module _ (μ ν : List ℕ) (p : IsPartition μ) (q : IsPartition ν) (s : IsVer
 
   row_run : (i run : ℕ) → run ≡ times_in (get_or ν i 0) (resize i ν)
       → run + 1 ≡ times_in (get_or ν i 0) (resize (suc i) ν)
-  row_run i run e = omega (
-    arith,
-    e,
-    ap (times_in (get_or ν i 0)) (resize-next i ν),
-    times_in-last (get_or ν i 0) (get_or ν i 0) (resize i ν) refl,
-  )
+  row_run i run e = search (rules, resize-next, times_in-last)
 
   pub row_raised : (i count run longer more : ℕ) → IsCounted μ ν i count run longer
       → get_or μ i 0 < get_or ν i 0 → more ≡ so_far μ ν (suc i)
       → IsRow μ ν i more (run + 1) (longer + 1)
-  row_raised i count run longer more h l e = record {
-    count_is = e;
-    run_is = row_run i run h.run_is;
-    longer_is = λ c f. omega (
-      arith,
-      h.longer_is c f,
-      ap (times_in c) (resize-next i μ),
-      times_in-last c (get_or μ i 0) (resize i μ) (omega (arith, l, f, near i)),
-    );
-    few_rows = omega (arith, h.few_rows);
-    few_longer = omega (arith, h.few_longer);
-  }
+  row_raised i count run longer more h l e = search (rules, row_run, resize-next, times_in-last, near)
 
   pub row_kept : (i count run longer : ℕ) → IsCounted μ ν i count run longer → i < length ν
       → get_or ν i 0 ≤ get_or μ i 0 → IsRow μ ν i count (run + 1) longer
-  row_kept i count run longer h n l =
-      let e : get_or μ i 0 ≡ get_or ν i 0 = omega (arith, within i) in
-      record {
-        count_is = h.count_is ∙ sym (kept i n e);
-        run_is = row_run i run h.run_is;
-        longer_is = λ c f. omega (
-          arith,
-          h.longer_is c f,
-          ap (times_in c) (resize-next i μ),
-          times_in-last_other c (get_or μ i 0) (resize i μ) (λ g. omega (arith, e, f, g)),
-        );
-        few_rows = omega (arith, h.few_rows);
-        few_longer = omega (arith, h.few_longer);
-      }
+  row_kept i count run longer h n l = search (rules, within, kept, row_run, resize-next, times_in-last_other)
 
-  -- if the next row of ν is shorter than the current one, `run` and `longer` are 0 for the next row
   pub next_shorter : (i count run longer : ℕ) → IsRow μ ν i count run longer
       → get_or ν (suc i) 0 < get_or ν i 0 → IsCounted μ ν (suc i) count 0 0
   next_shorter i count run longer h l = record {
@@ -278,15 +227,6 @@ module _ (μ ν : List ℕ) (p : IsPartition μ) (q : IsPartition ν) (s : IsVer
     few_longer = omega arith;
   }
 
-  -- if the next row of ν is as long as the current one, `run` and `longer` after the current row are those before the next row
   pub next_same : (i count run longer : ℕ) → IsRow μ ν i count run longer
       → get_or ν i 0 ≤ get_or ν (suc i) 0 → IsCounted μ ν (suc i) count run longer
-  next_same i count run longer h l =
-      let e : get_or ν (suc i) 0 ≡ get_or ν i 0 = omega (arith, falls_get ν q.falls i) in
-      record {
-        count_is = h.count_is;
-        run_is = h.run_is ∙ ap (λ r. times_in r (resize (suc i) ν)) (sym e);
-        longer_is = λ c f. h.longer_is c (sym e ∙ f);
-        few_rows = h.few_rows;
-        few_longer = h.few_longer;
-      }
+  next_same i count run longer h l = search (rules, falls_get)

@@ -1,7 +1,8 @@
--- The products of m_μ and e_k, and of a list in m and e_k, as sums over vertical strips.
---     column_sums                        the sum over all partitions ν is that over the ν for which ν/μ is a vertical strip
---     product_value, product_large       the coefficients of a list times e_k, and when one of them is 2^127 or more
-use Rattle.std.proofs.Common.{◌≡◌, ◌⊎◌, ℕ, ◌+◌, ◌^◌, ◌<◌, ◌≤◌, List, sym, ap, ◌∙◌, subst, inl, inr, arith, ℤ, pos, ◌*ℤ◌}
+-- The products of e_k with m_μ, and with a linear combination of monomial symmetric polynomials (a list in m), as sums over vertical strips.
+--     column_sums       the sum of φ(ν) times the coefficient of m_ν in m_μ·e_k needs only the ν for which ν/μ is a vertical strip
+--     product_value     the coefficients of a list times e_k
+--     product_large     a coefficient of 2^127 or more in the product of e_k and a list with its coefficients replaced by their absolute values
+use Rattle.std.proofs.Common.{◌≡◌, ◌⊎◌, ℕ, ◌+◌, ◌^◌, ◌<◌, ◌≤◌, List, sym, ap, ◌∙◌, subst, inl, inr, arith, ℤ, pos, ◌*ℤ◌, rules}
 use Rattle.std.specs.Prelude.{nat_abs, ◌≤ℤ◌}
 use Rattle.std.proofs.lemmas.Bool.{cases_lt}
 use Rattle.std.proofs.lemmas.Int.{ints}
@@ -14,10 +15,9 @@ use Rattle.sym_model.proofs.PartitionLists.{Among-partitions_of, Once-FallsLexic
 use Rattle.sym_model.proofs.Polynomials.{pair_ext}
 use Rattle.sym_model.proofs.Sums.{total_map, total_part}
 use Rattle.monomial_laws.specs.ExpressionTerms.{absolute, elementary_terms}
-use Rattle.monomial_laws.specs.MonomialProduct.{arrangements, product_coefficient}
+use Rattle.monomial_laws.specs.MonomialProduct.{product_coefficient}
 use Rattle.monomial_laws.proofs.Arrangements.{arrangements-comm}
 use Rattle.monomial_laws.proofs.Splits.{product_coefficient-arrangements}
-use Rattle.strip_rules.specs.StripProduct.{column}
 use Rattle.strip_rules.proofs.ColumnArrangements.{column-strips}
 use Rattle.strip_rules.proofs.ShapeCounts.{column-shapes}
 use Rattle.linear_combinations.specs.Gains.{over, only, mass_at, counted, replaced, HaveLabels}
@@ -70,17 +70,9 @@ module _ (k : ℕ) (μ : List ℕ) (p : IsPartition μ) where
       ∙ sym (coefficient_over (counted (column_count k μ) shapes) ν)
       ∙ column-shapes k μ shapes p (Once-FallsLexicographically shapes strips.falls) strips.members ν q
 
--- ---- the product of a list in m and e_k
-
--- the coefficient of m_ν in the product of a list in m and e_k is the sum, over the terms c·m_μ of the list, of c times the coefficient of m_ν in
--- m_μ·e_k
 by_labels : (k : ℕ) (list : WholeTerms) (ν : List ℕ)
     → pair list (λ μ. pos (column_count k μ ν)) ≡ product_coefficient (elementary_terms k) list ν
-by_labels k list ν =
-    pair_ext list (λ μ. pos (arrangements μ (column k) ν)) (λ μ. pos (arrangements (column k) μ ν))
-    (λ μ. ap pos (arrangements-comm μ (column k) ν))
-    ∙ sym (single_term (pair list (λ μ. pos (arrangements (column k) μ ν))))
-    ∙ sym (product_coefficient-arrangements (elementary_terms k) list ν)
+by_labels k list ν = search (rules, pair_ext, arrangements-comm, single_term, product_coefficient-arrangements)
 
 pub product_value : (k : ℕ) (list : WholeTerms) (ν : List ℕ) → HaveLabels IsPartition list
     → IsPartition ν

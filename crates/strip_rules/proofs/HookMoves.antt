@@ -1,11 +1,12 @@
--- The beta sets that result from adding rim hooks (specs/HookMoves).
+-- The beta sets that result from adding rim hooks of k cells (specs/HookMoves). There is a bead at the place b for each number b of a set, and a rim
+-- hook is added by moving a bead up by k places. A list of beta sets with coefficients c denotes the sum of c·s_λ, for λ the partition of the set.
 --     hooks_over, hooks_within     the product of the Schur polynomial of one set and p_k
 --     hook_times                   the product of a list and p_k
-use Rattle.std.proofs.Common.{◌≡◌, ◌⊎◌, ℕ, zero, suc, ◌+◌, ◌-◌, ◌*◌, ◌^◌, ◌<◌, ◌≤◌, true, false, ◌||◌, cond, List, [], ◌∷◌, ◌++◌, map, length, refl, sym, ap, ap₂, ◌∙◌, subst, inl, inr, arith, append_assoc, length-append, ℤ, ◌*ℤ◌}
-use Rattle.std.specs.Prelude.{nat_eq, nat_lt, nat_abs, not}
+use Rattle.std.proofs.Common.{◌≡◌, ◌⊎◌, ℕ, zero, suc, ◌+◌, ◌-◌, ◌*◌, ◌^◌, ◌<◌, ◌≤◌, true, false, ◌||◌, cond, List, [], ◌∷◌, ◌++◌, map, length, refl, sym, ap, ap₂, ◌∙◌, subst, inl, inr, arith, append_assoc, length-append, ℤ, ◌*ℤ◌, rules}
+use Rattle.std.specs.Prelude.{nat_eq, nat_abs, not}
 use Rattle.std.specs.Cmp.{nat_eq_equiv}
 use Rattle.std.proofs.Math.Nat.{mul-le-mul_right, pow-le-pow_right}
-use Rattle.std.proofs.lemmas.Bool.{cases_eq, cases_lt, lt-ltb, ne_eqb, not-true}
+use Rattle.std.proofs.lemmas.Bool.{cases_lt, lt-ltb, ne_eqb, not-true}
 use Rattle.std.proofs.lemmas.Bool.Decides.{nat_tests}
 use Rattle.std.proofs.lemmas.Nat.{pow-add}
 use Rattle.coeff_rings.specs.Fractions.{whole}
@@ -20,7 +21,7 @@ use Rattle.sym_model.specs.Schur.{schur}
 use Rattle.sym_model.specs.Strip.{height}
 use Rattle.sym_model.specs.WholeTerms.{WholeTermsOf}
 use Rattle.sym_model.proofs.Sums.{total_among, total_map, Among-map, Among_from_map, Among-append_right, Among-select, Among_from_select, Once-map, Once-select}
-use Rattle.sym_model.proofs.SortedParts.{rows_within_size, not_first}
+use Rattle.sym_model.proofs.SortedParts.{rows_within_size}
 use Rattle.beta_list_laws.specs.StrictFall.{FallsStrictly}
 use Rattle.beta_list_laws.proofs.BetaRemovals.{before, lowered, shown_removal, shown_height}
 use Rattle.beta_list_laws.proofs.BetaLowerings.{removal_as_lowered}
@@ -46,14 +47,9 @@ use Rattle.strip_rules.proofs.TermProducts.{hooks_value}
 use Rattle.sym_model.proofs.Lists.{length-filter-within}
 use native.Mathlib.Nat.{eq_of_mul-eq-mul_right}
 
--- ---- a list of beads, split at a bead and at a free place above it
-
 greater_none : (a limit : ℕ) (beads : List ℕ) → FallsBelow limit beads → limit ≤ a + 1 → greater a beads ≡ 0
 greater_none a limit [] f l = refl
-greater_none a limit (x ∷ beads) f l =
-    let h = f.0 in
-    let e : nat_lt a x ≡ false = grind (arith, nat_tests) in
-    ap (λ t. cond {A = ℕ} t 1 0 + greater a beads) e ∙ (let r = greater_none a x beads f.1 (omega arith) in let g : 0 + greater a beads ≡ 0 = omega arith in g)
+greater_none a limit (x ∷ beads) f l = search (rules, nat_tests, (greater_none a x beads f.1 (omega arith)))
 
 greater_more : (a x : ℕ) (beads : List ℕ) → a < x → greater a (x ∷ beads) ≡ 1 + greater a beads
 greater_more a x beads l = ap (λ t. cond {A = ℕ} t 1 0 + greater a beads) (lt-ltb a x l)
@@ -97,11 +93,7 @@ record IsDivided (limit b c : ℕ) (beads : List ℕ) : Type 0 where
   count : length middle + greater c beads ≡ greater b beads
 
 has_later : (a x : ℕ) (beads : List ℕ) → has a (x ∷ beads) ≡ false → (has a beads ≡ false) × (x ≡ a → ⊥)
-has_later a x beads e = (later (cases_eq x a), not_first a x beads e)
-  where
-    later : (x ≡ a) ⊎ (x ≡ a → ⊥) → has a beads ≡ false
-    later (inl i) = absurd (not_first a x beads e i)
-    later (inr n) = sym (ap (λ t. t || has a beads) (ne_eqb x a n)) ∙ e
+has_later a x beads e = search rules
 
 divide : (limit b c : ℕ) (beads : List ℕ) → FallsBelow limit beads → Among b beads → has c beads ≡ false → b < c → c < limit → IsDivided limit b c beads
 divide limit b c [] f m h l k = absurd m
@@ -138,8 +130,6 @@ divide limit b c (x ∷ beads) f m h l k = by (has_later c x beads h) (λ i n g.
         strict n g (inl o) = o
         strict n g (inr o) = absurd (n (omega (arith, g, o)))
 
--- ---- the set of a list after one of its beads has moved
-
 set_of-append : (xs ys : List ℕ) → set_of (xs ++ ys) ≡ set_of xs + set_of ys
 unfolding set_of
 set_of-append [] ys = omega arith
@@ -150,16 +140,8 @@ unfolding set_of
 set_of-front c l = refl
 
 moved_sum : (k y set : ℕ) (front middle back : List ℕ) → set_of (lowered y front middle back) ≡ set → set_of (before k y front middle back) ≡ set - 2 ^ y + 2 ^ (y + k)
-moved_sum k y set front middle back e =
-    let f = set_of-append front (middle ++ y ∷ back) in
-    let g = set_of-append middle (y ∷ back) in
-    let h = set_of-front y back in
-    let p = set_of-append front ((y + k) ∷ (middle ++ back)) in
-    let q = set_of-front (y + k) (middle ++ back) in
-    let r = set_of-append middle back in
-    omega arith
+moved_sum k y set front middle back e = search (rules, set_of-append, set_of-front)
 
--- if the set of a strictly decreasing list is below 2^64, its numbers are below 64
 low_list : (l : List ℕ) → FallsStrictly l → set_of l < 2 ^ 64 → FallsBelow 64 l
 low_list l f h = falls_below 64 l f (λ c m. by c (among_sum c l m) (cases_lt c 64))
   where
@@ -184,10 +166,7 @@ absent_front c limit (x ∷ front) rest l f h =
     ap (λ t. t || has c (front ++ l)) (ne_eqb x c (λ e. omega (arith, e, k))) ∙ absent_front c x front rest l f.1 h
 
 free_place : (c limit most y : ℕ) (front middle back : List ℕ) → FallsBelow limit (front ++ c ∷ (middle ++ back)) → FallsBelow most (lowered y front middle back) → y < c → has c (lowered y front middle back) ≡ false
-free_place c limit most y front middle back f g l =
-    let s = (falls_suffix limit front (c ∷ (middle ++ back)) f).1 in
-    let t = falls_suffix most front (middle ++ y ∷ back) g in
-    absent_front c limit front (middle ++ back) (middle ++ y ∷ back) f (past_all c c (middle ++ y ∷ back) (below_both c t.0 y middle back s.1 t.1 l) (omega arith))
+free_place c limit most y front middle back f g l = search (rules, falls_suffix, absent_front, past_all, below_both)
 
 module _ (k set : ℕ) (one : 1 ≤ k) (low : k ≤ 20) (within : IsInRows 20 (20 - k) set) where
   set_low : set < 2 ^ (40 - k)
@@ -241,11 +220,7 @@ module _ (k set : ℕ) (one : 1 ≤ k) (low : k ≤ 20) (within : IsInRows 20 (2
         (shown_removal k b d.front d.middle d.back one new_strict old_strict))
 
     heights : height (shape (set - 2 ^ b + 2 ^ (b + k))) (shape set) ≡ passed k set b + 1
-    heights =
-        let d = divided in
-        ap₂ height new_shape (ap from_beta d.is)
-        ∙ shown_height k b d.front d.middle d.back one new_strict old_strict
-        ∙ (let c = d.count in let e : length d.middle + 1 ≡ passed k set b + 1 = omega arith in e)
+    heights = search (rules, divided, new_shape, shown_height, new_strict, old_strict)
 
     adds : AddsRimHook k (shape set) (shape (set - 2 ^ b + 2 ^ (b + k)))
     adds = (shape_partition (set - 2 ^ b + 2 ^ (b + k)), removal.cells, removal.hook)
@@ -368,8 +343,8 @@ twenty_more d k one =
     let q : 20 ^ suc d ≡ 20 * 20 ^ d = omega arith in
     omega arith
 
--- if 1 ≤ k ≤ 20, the sets of a list have 20 numbers and partitions of at most 20 - k cells, and the absolute values of its coefficients add up to at
--- most 20^(20 - k), then adding rim hooks of k cells to the sets never overflows
+-- let 1 ≤ k ≤ 20, let the sets of a list have 20 numbers and partitions of at most 20 - k cells, and let the absolute values of its coefficients add
+-- up to at most 20^(20 - k). Then adding rim hooks of k cells to the sets never overflows
 pub hooks_fit : (k : ℕ) (list : WholeTermsOf ℕ) → 1 ≤ k → k ≤ 20 → HaveLabels (IsInRows 20 (20 - k)) list → mass list ≤ 20 ^ (20 - k) → Overflows nat_eq [] (replaced (hooks k) list) → ⊥
 hooks_fit k list one low within few o =
     let l = overflow_mass nat_eq [] (replaced (hooks k) list) o in
@@ -396,22 +371,20 @@ hook_times k d f list sum one low are within is gains = record {
       omega arith;
 }
 
--- ---- coefficients times (-1)^m
-
 -- ---- the beta sets after a rim hook is added, as terms that are added to a table one after another
 
 pub hook_alone : (k set b new : ℕ) (c number : ℤ) (times : ℕ) → new ≡ set - 2 ^ b + 2 ^ (b + k) → number ≡ minus_one_to times *ℤ c → times ≡ passed k set b → (new, number) ∷ [] ≡ scaled c (hook_from k set b ∷ [])
 hook_alone k set b new c number times e f g =
     ap₂ (λ (s : ℕ) (z : ℤ). (s, z) ∷ []) e (f ∙ ap (λ t. minus_one_to t *ℤ c) g ∙ *ℤ_comm (minus_one_to (passed k set b)) c)
 
--- if |c| is 2^127 or more, adding c, with the sign of the hook, at the set after the bead has moved from b to b + k overflows
+-- if |c| ≥ 2^127, adding c, with the sign of the rim hook, to the coefficient of the set in which the bead has moved from b to b + k overflows
 pub hook_past : (k set b : ℕ) (c : ℤ) (old : WholeTermsOf ℕ) → 2 ^ 127 ≤ nat_abs c → Overflows nat_eq old (scaled c (hook_from k set b ∷ []))
 hook_past k set b c old l =
     overflows_alone nat_eq_equiv same_set old (set - 2 ^ b + 2 ^ (b + k)) (c *ℤ minus_one_to (passed k set b))
     (let s = nat_abs-product c (minus_one_to (passed k set b)) in let o = sign_size (passed k set b) in let d = ap (λ n. nat_abs c * n) o in let e : nat_abs c * 1 ≡ nat_abs c = omega arith in omega arith)
 
--- if `set` has 20 numbers and a partition of at most 20 - k cells, the next place b of the loop over the beads that can move up by k places has b + k
--- < 63 and 2^b ≤ set < 2^63
+-- let `set` have 20 numbers and a partition of at most 20 - k cells: the next place b of the loop over the beads that can move up by k places
+-- satisfies b + k < 63 and 2^b ≤ set < 2^63
 pub free_low : (k set places b : ℕ) (passed : List ℕ) → 1 ≤ k → k ≤ 20 → IsInRows 20 (20 - k) set → IsSplit places b (places - 2 ^ b) → passed ++ numbers places ≡ free k (numbers set) → (b + k < 63) × (2 ^ b ≤ set) × (set < 2 ^ 63)
 free_low k set places b passed one low within split all =
     let p = place k set one low within b (subst (Among b) all (Among-append_right b passed (numbers places) (subst (Among b) (sym split.numbers) (inl refl)))) in
@@ -422,10 +395,7 @@ free_low k set places b passed one low within split all =
 
 module _ (k set b : ℕ) (c : ℤ) (passed others : List ℕ) (old cur : WholeTermsOf ℕ) (so_far : Gains old (scaled c (map (hook_from k set) passed)) cur) where
   pub hooks_next : (new : WholeTermsOf ℕ) → Gains cur (scaled c (hook_from k set b ∷ [])) new → Gains old (scaled c (map (hook_from k set) (passed ++ b ∷ []))) new
-  hooks_next new more =
-      let f = hook_from k set in
-      subst (λ l. Gains old l new) (sym (ap (scaled c) (map-append f passed (b ∷ [])) ∙ scaled_append c (map f passed) (f b ∷ [])))
-      (gains_both old (scaled c (map f passed)) cur (scaled c (f b ∷ [])) new so_far more)
+  hooks_next new more = search (rules, map-append, scaled_append, gains_both)
 
   pub hooks_overflow : passed ++ b ∷ others ≡ free k (numbers set) → Overflows nat_eq cur (scaled c (hook_from k set b ∷ [])) → Overflows nat_eq old (scaled c (hooks k set))
   hooks_overflow all large =
@@ -438,13 +408,5 @@ module _ (k set b : ℕ) (c : ℤ) (passed others : List ℕ) (old cur : WholeTe
       ∙ sym (map-append f (passed ++ b ∷ []) others) ∙ ap (map f) (append_assoc passed (b ∷ []) others ∙ all)))
       (overflows_more nat_eq old (scaled c (map f passed) ++ scaled c (f b ∷ [])) (scaled c (map f others)) (overflows_both nat_eq old (scaled c (map f passed)) cur (scaled c (f b ∷ [])) so_far large))
 
--- ---- the product over the parts k ∷ rest, from the product over `rest`
-
 pub first_part : (P : ℕ → ℕ → Poly) (k : ℕ) (rest parts : List ℕ) (list : WholeTermsOf ℕ) → k ∷ rest ≡ parts → AreShapesOf (λ n. times (P k n) (product_over P rest n)) (size rest + k) list → AreShapesOf (product_over P parts) (size parts) list
-first_part P k rest parts list split are =
-    subst (λ (l : List ℕ). AreShapesOf (product_over P l) (size l) list) split
-    (record {
-      value = are.value;
-      within = λ t m. let is = are.within t m in let c = is.cells in record { word = is.word; rows = is.rows; cells = omega arith };
-      few = let f = are.few in subst (λ d. mass list ≤ 20 ^ d) (let g : size rest + k ≡ size (k ∷ rest) = omega arith in g) f;
-    })
+first_part P k rest parts list split are = search rules

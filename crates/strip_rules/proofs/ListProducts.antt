@@ -1,14 +1,14 @@
--- The product of f and a list in s, as the sum of the products of f and the terms of the list; the weights of the list and of the product.
---     AddsList-none, AddsList-next    the sum of the products of no term, and of one more term
---     list_large                      if D, the common denominator, or D times the sum of the |c| is at least 2^127, so is the weight
---     weight_within                   the weight of the product
-use Rattle.std.proofs.Common.{◌≡◌, ℕ, zero, suc, ◌+◌, ◌*◌, ◌/◌, ◌^◌, ◌<◌, ◌≤◌, max, List, [], ◌∷◌, ◌++◌, refl, sym, ap, ap₂, ◌∙◌, subst, inl, inr, arith, ℤ, ◌+ℤ◌, ◌*ℤ◌}
+-- The product of f and a linear combination of Schur polynomials (a list in s), as the sum of the products of f and the terms of the list. The
+-- *weight* of a list is max(1, D·A)·D, with D the least common denominator and A the sum of the absolute values |c| of its coefficients.
+--     AddsList-none, AddsList-next    the sum of the products of f and the terms visited so far, for no term and after one more term
+--     list_large                      if D or D·A is at least 2^127, so is the weight
+--     weight_within                   a bound for the weight of the product
+use Rattle.std.proofs.Common.{◌≡◌, ℕ, zero, suc, ◌+◌, ◌*◌, ◌/◌, ◌^◌, ◌<◌, ◌≤◌, max, List, [], ◌∷◌, ◌++◌, refl, sym, ap, ap₂, ◌∙◌, subst, inl, inr, arith, ℤ, ◌+ℤ◌, ◌*ℤ◌, rules}
 use Rattle.std.specs.Prelude.{nat_eq, nat_abs}
 use Rattle.std.specs.Int.{◌∣◌}
 use Rattle.std.specs.Cmp.Lexicographic.{pointwise, nat_list_eq_equiv}
 use Rattle.std.proofs.Math.Nat.{div-mul_cancel, div-mul-le_self, dvd_of_mul-dvd-mul_right, mul-dvd-mul_right, one-dvd, one-le-pow, pow-le-pow_left}
 use Rattle.std.proofs.lemmas.Bool.{and_parts, cases_lt}
-use Rattle.std.proofs.lemmas.Int.{ints}
 use Rattle.std.proofs.lemmas.Nat.Gcd.{le_of_dvd}
 use Rattle.sym_model.specs.Sum.{Among}
 use Rattle.sym_model.specs.Canonical.{gcd, is_label}
@@ -50,10 +50,8 @@ use native.Mathlib.Nat.{mul-le-mul_left, pow-zero, le-div_iff_mul-le}
 use Rattle.linear_combinations.proofs.Weighed.{gains_mass}
 use lib.IntN.{+ℤ_idr}
 
--- ---- the sum of the products of the terms visited so far
-
--- q·`sum` is the sum of the products of f with the terms of q·`done`, the terms of `list` visited so far; with bounds for the coefficients and the
--- labels
+-- `done` are the terms of `list` visited so far: q·`sum` is the sum of the products of f and the terms of q·`done`, and the coefficients and labels
+-- that were added are bounded
 pub record AddsList (f : ℕ → Poly) (k q : ℕ) (list done sum : Terms (List ℕ)) : Type 0 where
   pub gained : WholeTerms
   pub gains : GainsCleared (pointwise nat_eq) is_label q [] gained sum
@@ -74,8 +72,6 @@ AddsList-none f k q list = record {
 
 module _ {R : Type 0} (value : R → Fraction) (f : ℕ → Poly) (k q : ℕ) (done : List (List ℕ × R)) (list cur : Terms (List ℕ)) (label : List ℕ) (v : R)
     (h : AddsList f k q list (terms_of value done) cur) (terms : WholeTerms) (p : IsProduct f k label terms) where
-  -- the absolute values of the coefficients that were added at a label ν, with those of the product of the next term, add up to at most the sum of
-  -- |q·c| over the coefficients c of the terms visited so far and of the next one
   once_next : (ν : List ℕ) → mass_at (pointwise nat_eq) ν (h.gained ++ gained_times (numerator_over q (value v)) terms) ≤ mass (numerators_over q (terms_of value done)) + nat_abs (numerator_over q (value v))
   once_next ν =
       let z = numerator_over q (value v) in
@@ -135,8 +131,6 @@ module _ {R : Type 0} (value : R → Fraction) (f : ℕ → Poly) (k q : ℕ) (d
             (omega arith, omega arith)));
       }
 
-  -- if adding v times the terms of a product overflows, and q < 2^127 is a multiple of the denominator of v, the sum of |q·c| over the coefficients c
-  -- of the list is at least 2^127
   pub refused_large : (rest : List (List ℕ × R)) → terms_of value (done ++ (label, v) ∷ rest) ≡ list → IsDenominator q (value v) → q < 2 ^ 127
       → OverflowsMultiple (pointwise nat_eq) (value v) terms cur → 2 ^ 127 ≤ absolute_sum q list
   refused_large rest whole d small e =
@@ -148,13 +142,12 @@ module _ {R : Type 0} (value : R → Fraction) (f : ℕ → Poly) (k q : ℕ) (d
       let i = ap (λ l. mass (numerators_over q l)) whole ∙ mass_over q list in
       omega arith
 
--- ---- the sum of the products of all terms of a list
+-- ---- the sum of the products of f and all terms of a list
 
 module _ {f : ℕ → Poly} {k q : ℕ} {list done sum : Terms (List ℕ)} (some : 0 < q) (a : AddsList f k q list done sum) where
   pub list_table : IsFractionTable sum
   list_table = table_gained q a.gained sum a.gains
 
-  -- q is a multiple of the denominator of each term of `sum`
   pub list_divides : (t : List ℕ × Fraction) → Among t sum → t.1.1 ∣ q
   list_divides = divides_terms q sum list_table (λ ν p. a.gains.cleared ν)
 
@@ -162,10 +155,7 @@ module _ {f : ℕ → Poly} {k q : ℕ} {list done sum : Terms (List ℕ)} (some
   table = table_over q sum list_table some list_divides
 
   pub list_sums : (n : ℕ) (φ : List ℕ → ℤ) → pair (numerators_over q sum) (λ ν. pair (schur ν n) φ) ≡ pair (numerators_over q done) (λ label. pair (times (f n) (schur label n)) φ)
-  list_sums n φ =
-      let s = a.gains.gains.sums (λ ν. pair (schur ν n) φ) in
-      let v = a.value n φ in
-      omega (arith, ints)
+  list_sums n φ = search rules
 
   pub list_grows : absolute_sum q sum ≤ absolute_sum q done * (greatest_size list + k) ^ k
   list_grows =
@@ -181,7 +171,6 @@ module _ {f : ℕ → Poly} {k q : ℕ} {list done sum : Terms (List ℕ)} (some
       (λ u n. absurd n) (a.small cells lengths within) (t.0, numerator_over q t.1)
       (Among-map (λ (u : List ℕ × Fraction). (u.0, numerator_over q u.1)) t sum m)
 
--- if the labels of the entries have at most `cells` cells and `lengths` rows (`AreWithin`), so have those of the list of the values of the entries
 pub within_values : {R : Type 0} (value : R → Fraction) (cells lengths : ℕ) (entries : List (List ℕ × R)) → AreWithin cells lengths entries → AreWithin cells lengths (terms_of value entries)
 within_values {R} value cells lengths entries h t m =
     let u = Among_from_map (λ (p : List ℕ × R). (p.0, value p.1)) t entries m in
@@ -197,28 +186,17 @@ entry_term value entries is t m =
     let p = and_parts _ _ (term-among is_label value entries is.proper t m) in
     ((is_label-tells t.0 p.1).partition, lowest-is_reduced (value t.1) p.0)
 
--- p, the next pair of a loop over the list `all`, is in this list
 pub pair_here : {A : Type 0} (done rest left begun items all : List A) (p : A) → left ≡ p ∷ rest → done ++ left ≡ begun → begun ≡ items → items ≡ all → Among p all
 pair_here done rest left begun items all p steps so_far given is =
     subst (Among p) (all_pairs done rest left begun items all p steps so_far given is) (next_among done p rest)
 
--- ---- the weight of a list
-
 -- let D be the least common denominator of a list: if D ≥ 2^127, or the absolute values of D times the coefficients add up to at least 2^127, the
 -- weight of the list is at least 2^127
 pub list_large : (terms : Terms (List ℕ)) → IsFractionTable terms → (common_denominator terms < 2 ^ 127 → 2 ^ 127 ≤ absolute_sum (common_denominator terms) terms) → 2 ^ 127 ≤ list_weight terms
-list_large terms is h = by (absolute_sum (common_denominator terms) terms) (common_denominator terms) (least-denominators terms is).positive h
-  where
-    by : (a d : ℕ) → 0 < d → (d < 2 ^ 127 → 2 ^ 127 ≤ a) → 2 ^ 127 ≤ max 1 a * d
-    by a d some h =
-        let one : 1 ≤ max 1 a = omega arith in
-        let x = mul-le-mul_left d one in
-        let y = mul-le-mul_left (max 1 a) (let o : 1 ≤ d = omega arith in o) in
-        elim (cases_lt d (2 ^ 127)) [ inl l ↦ (let g = h l in omega arith) | inr l ↦ omega arith ]
+list_large terms is h = search (rules, least-denominators, mul-le-mul_left, cases_lt)
 
 -- ---- the least common denominator of a list divides each common denominator
 
--- if d is a multiple of a and of b, the least common multiple of a and b divides d
 lcm-divides : (a b d : ℕ) → 0 < b → a ∣ d → b ∣ d → lcm a b ∣ d
 lcm-divides a b d some h k =
     let g = gcd a b in

@@ -1,7 +1,7 @@
 -- The splits of a list ν, that is, the pairs of lists that add up to ν place by place, with one place of the first list marked.
---     marking            a sum over the splits and over the places with b in the first list, as a sum over the places of ν
---     marked-equal, marked-from      the sum of z over the places of ν with the number v, or with a number of at least v
-use Rattle.std.proofs.Common.{◌≡◌, ℕ, ◌+◌, ◌-◌, cond, eqb, leb, List, [], ◌∷◌, sym, ◌∙◌, ap, ap₂, refl, inl, inr, arith, ℤ, pos, ◌+ℤ◌, ◌*ℤ◌}
+--     marking            a sum over the splits and over the places of a number b in the first list, as a sum over the places of ν
+--     marked-equal, marked-from      the sum of a constant z over the places of ν with the number v, or with a number of at least v
+use Rattle.std.proofs.Common.{◌≡◌, ℕ, ◌+◌, ◌-◌, cond, eqb, leb, List, [], ◌∷◌, sym, ◌∙◌, ap, ap₂, refl, inl, inr, arith, ℤ, pos, ◌+ℤ◌, ◌*ℤ◌, rules}
 use Rattle.sym_model.specs.Sum.{total, Among}
 use Rattle.sym_model.specs.Partition.{insert_part, sorted_parts}
 use Rattle.sym_model.specs.Bases.{down_from}
@@ -15,7 +15,7 @@ use Rattle.monomial_laws.specs.MonomialProduct.{splits}
 use Rattle.monomial_laws.proofs.Splits.{total_splits, sorted_total}
 use lib.IntN.{+ℤ_idr, zero-*ℤ, *ℤ-zero}
 
--- the sum, over the places of a list ν, of f at the number d at this place and the list of the other numbers of ν
+-- the sum of f(d, rest) over the places of a list ν, where d is the number at the place and `rest` is the list of the other numbers of ν
 abbrev pub marked : (ℕ → List ℕ → ℤ) → List ℕ → ℤ
 marked f [] = pos 0
 marked f (d ∷ ν) = f d ν +ℤ marked (λ (e : ℕ) (rest : List ℕ). f e (d ∷ rest)) ν
@@ -64,14 +64,12 @@ marked_scale c f (d ∷ ν) =
 pub marked-equal : (v : ℕ) (z : ℤ) (ν : List ℕ)
     → marked (λ (d : ℕ) (rest : List ℕ). cond (eqb d v) z (pos 0)) ν ≡ pos (times_in v ν) *ℤ z
 marked-equal v z [] = sym (zero-*ℤ z)
-marked-equal v z (d ∷ ν) = ap (λ y. cond (eqb d v) z (pos 0) +ℤ y) (marked-equal v z ν)
-    ∙ sym (counted-product (eqb d v) (times_in v ν) z)
+marked-equal v z (d ∷ ν) = search (rules, counted-product, (marked-equal v z ν))
 
 pub marked-from : (v : ℕ) (z : ℤ) (ν : List ℕ)
     → marked (λ (d : ℕ) (rest : List ℕ). cond (leb v d) z (pos 0)) ν ≡ pos (count_from v ν) *ℤ z
 marked-from v z [] = sym (zero-*ℤ z)
-marked-from v z (d ∷ ν) = ap (λ y. cond (leb v d) z (pos 0) +ℤ y) (marked-from v z ν)
-    ∙ sym (counted-product (leb v d) (count_from v ν) z)
+marked-from v z (d ∷ ν) = search (rules, counted-product, (marked-from v z ν))
 
 pub marking : (ν : List ℕ) (b : ℕ) (ψ : List ℕ → List ℕ → ℤ)
     → total (λ (s : List ℕ × List ℕ). pos (times_in b s.0) *ℤ ψ (sorted_parts s.0)

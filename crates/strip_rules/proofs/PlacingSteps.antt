@@ -1,5 +1,5 @@
--- `placings` of μ and ν (specs/StripProduct), the number of lists as long as ν that consist of the parts of μ and zeros, in some order, and have at
--- each place at most the number of ν. It is computed row by row from the last row on.
+-- `placings` of μ and ν (specs/StripProduct) is the number of lists as long as ν that consist of the parts of μ and zeros, in some order, and whose
+-- entry at each place is at most the entry of ν there. It is computed row by row from the last row on.
 --     placings-row      the number for one more row in front of μ and ν
 use Rattle.std.proofs.Common.{◌≡◌, ℕ, suc, ◌-◌, ◌*◌, ◌<◌, ◌≤◌, cond, List, [], ◌∷◌, length, take, drop, get_or, sym, ◌∙◌, ap, ap₂, subst, arith}
 use Rattle.std.proofs.lemmas.Bool.{le-leb}
@@ -42,10 +42,8 @@ pub no_rows : (inner shape : List ℕ) → length inner < 1 → 1 ≡ placings i
 no_rows [] shape h = sym (placings-first shape)
 no_rows (v ∷ μ) shape h = absurd (omega arith)
 
--- ---- two partitions without their first rows
-
--- `inner` and `shape` each have a first row; without their first rows they are partitions, that of `inner` inside that of `shape`, and `fewer` and
--- `step` compare the number `placings` of these two partitions with that of `inner` and `shape`
+-- `inner` and `shape` each have a first row. Without their first rows they are partitions, and the shorter `inner` lies inside the shorter `shape`.
+-- `fewer` and `step` compare `placings` of the two partitions without their first rows with `placings` of `inner` and `shape`.
 pub record HaveRows (inner shape : List ℕ) : Type 0 where
   pub first : 1 ≤ length shape
   pub inner_below : IsPartition (take (length inner - 1) (drop 1 inner))

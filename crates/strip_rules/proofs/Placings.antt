@@ -1,7 +1,7 @@
--- `placings` of a partition μ and a list ν (specs/StripProduct): the number of lists as long as ν that consist of the parts of μ and zeros, in some
--- order, and have at each place at most the number of ν.
+-- `placings` of a partition μ and a list ν (specs/StripProduct) is the number of lists as long as ν that consist of the parts of μ and zeros, in some
+-- order, and whose entry at each place is at most the entry of ν there.
 --     placings-next     the number for one more part v, which is at most the parts before it
-use Rattle.std.proofs.Common.{◌≡◌, ◌⊎◌, ℕ, suc, ◌+◌, ◌-◌, ◌*◌, ◌<◌, ◌≤◌, Bool, true, false, cond, ◌==◌, eqb, leb, List, [], ◌∷◌, ◌++◌, length, sym, ◌∙◌, ap, ap₂, subst, refl, inl, inr, arith, ℤ, pos, ◌*ℤ◌}
+use Rattle.std.proofs.Common.{◌≡◌, ◌⊎◌, ℕ, suc, ◌+◌, ◌-◌, ◌*◌, ◌<◌, ◌≤◌, Bool, true, false, cond, ◌==◌, eqb, leb, List, [], ◌∷◌, ◌++◌, length, sym, ◌∙◌, ap, ap₂, subst, refl, inl, inr, arith, ℤ, pos, ◌*ℤ◌, rules}
 use Rattle.std.proofs.lemmas.Bool.{cases_eq, le-leb, eq-eqb, ne_eqb, eqb-true, leb-true}
 use Rattle.std.proofs.lemmas.Int.{ints}
 use Rattle.sym_model.specs.Sum.{total, Among}
@@ -39,11 +39,10 @@ repeats (v ∷ μ) = suc (times_in v μ) * repeats μ
 
 pub repeats-positive : (μ : List ℕ) → 0 < repeats μ
 repeats-positive [] = omega arith
-repeats-positive (v ∷ μ) = mul-pos (let p : 0 < suc (times_in v μ) = omega arith in p)
-    (repeats-positive μ)
+repeats-positive (v ∷ μ) = search (rules, mul-pos, (repeats-positive μ))
 
--- the number of ways to write the parts of μ one after another into the free places of ν, each into a place whose number is at least the part, if j
--- places of ν are occupied; the parts must be weakly decreasing, and the numbers at the occupied places at least the first part
+-- the number of ways to write the parts of μ one after another into free places of ν, each part into a place whose number is at least the part, if j
+-- places of ν are already occupied. The parts of μ must be weakly decreasing, and the numbers at the occupied places at least the first part.
 abbrev pub placed : ℕ → List ℕ → List ℕ → ℕ
 placed j ν [] = 1
 placed j ν (v ∷ μ) = (count_from v ν - j) * placed (suc j) ν μ
@@ -118,8 +117,6 @@ placings-placed (v ∷ μ) ν p =
     front : insert_part v μ ≡ v ∷ μ
     front = insert_part-front v μ p.positive.0 p.falls
 
-    -- a split of ν is a pair of lists that add up to ν, place by place: the number of times that v occurs in the first list, summed over the splits
-    -- whose first list sorts to v ∷ μ, is the number of these splits times 1 more than the multiplicity of v in μ
     left : total (λ (s : List ℕ × List ℕ). pos (times_in v s.0) *ℤ at_only (v ∷ μ)
         (sorted_parts s.0)) (splits ν) ≡ pos (suc (times_in v μ) * placings (v ∷ μ) ν)
     left =
@@ -165,15 +162,8 @@ placings-placed (v ∷ μ) ν p =
 
 placed-last : (j v : ℕ) (ν μ : List ℕ) → placed j ν (μ ++ v ∷ [])
     ≡ placed j ν μ * (count_from v ν - (j + length μ))
-placed-last j v ν [] = let e : (count_from v ν - j) * 1
-    ≡ 1 * (count_from v ν - (j + 0)) = omega arith in e
-placed-last j v ν (w ∷ μ) =
-    let r = placed-last (suc j) v ν μ in
-    let e : suc j + length μ ≡ j + suc (length μ) = omega arith in
-    ap (λ n. (count_from w ν - j) * n) (r ∙ ap (λ n. placed (suc j) ν μ * (count_from v ν - n)) e)
-    ∙ (let a : (count_from w ν - j) * (placed (suc j) ν μ * (count_from v ν - (j + suc (length μ))))
-    ≡ (count_from w ν - j) * placed
-    (suc j) ν μ * (count_from v ν - (j + suc (length μ))) = omega arith in a)
+placed-last j v ν [] = search rules
+placed-last j v ν (w ∷ μ) = search (rules, (placed-last (suc j) v ν μ))
 
 times_in-last : (u v : ℕ) (μ : List ℕ) → times_in u (μ ++ v ∷ [])
     ≡ times_in u μ + cond (eqb v u) 1 0
@@ -204,9 +194,7 @@ repeats-last v (u ∷ μ) =
 front_of : (v : ℕ) (μ : List ℕ) → IsPartition (μ ++ v ∷ []) → IsPartition μ
 front_of v [] p = record { falls = tt; positive = tt }
 front_of v (a ∷ []) p = record { falls = tt; positive = (p.positive.0, tt) }
-front_of v (a ∷ b ∷ μ) p =
-    let r = front_of v (b ∷ μ) (IsPartition_tail a (b ∷ μ ++ v ∷ []) p) in
-    record { falls = (p.falls.0, r.falls); positive = (p.positive.0, r.positive) }
+front_of v (a ∷ b ∷ μ) p = search (rules, (front_of v (b ∷ μ)))
 
 pub placings-next : (v : ℕ) (μ ν : List ℕ) → IsPartition (μ ++ v ∷ [])
     → placings (μ ++ v ∷ []) ν * suc (times_in v μ) ≡ placings μ ν * (count_from v ν - length μ)
@@ -228,8 +216,6 @@ placings-next v μ ν p =
     grouped : (x y z : ℕ) → x * y * z ≡ z * y * x
     grouped x y z = omega arith
 
--- ---- the partitions ν with `placings μ ν` > 0
-
 pub placings-hold : (μ ν : List ℕ) → IsPartition μ → IsPartition ν → 0 < placings μ ν → Holds ν μ
 placings-hold μ ν p q h =
     let s = some_split (λ (s : List ℕ × List ℕ). same (sorted_parts s.0) μ) ν h in
@@ -242,7 +228,7 @@ placings-hold μ ν p q h =
       ap (count_from k) (same_true (sorted_parts s.0.0) μ s.2),
     ))
 
--- ---- the product of a list in m and the sum of the m_λ with λ of size k
+-- ---- the product of a linear combination of monomial symmetric polynomials and h_k, the sum of the m_λ with λ of size k
 
 pub placings-lists : (k : ℕ) (left right : WholeTerms)
     → ((parts : List ℕ) → IsPartition parts → coefficient right parts

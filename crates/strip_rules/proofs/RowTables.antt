@@ -1,14 +1,16 @@
--- m_μ·h_k as a sum over the partitions that contain μ, and the product of a list in m and h_k.
---     row_sums                         the partitions that contain μ give all of m_μ·h_k
---     product-at, product-large        the coefficients of a list times h_k, and when one of them is 2^127 or more
-use Rattle.std.proofs.Common.{◌≡◌, ◌⊎◌, ℕ, ◌+◌, ◌^◌, ◌<◌, ◌≤◌, Bool, true, false, cond, ◌==◌, List, [], refl, sym, ◌∙◌, ap, subst, inl, inr, arith, ℤ, pos, ◌*ℤ◌}
+-- m_μ·h_k as a sum over the partitions that contain μ, and the product of a linear combination of monomial symmetric polynomials (a list in m) and
+-- h_k.
+--     row_sums          the partitions that contain μ give all of m_μ·h_k
+--     product-at        the coefficients of a list times h_k
+--     product-large     a coefficient of 2^127 or more in the product of h_k and a list with its coefficients replaced by their absolute values
+use Rattle.std.proofs.Common.{◌≡◌, ℕ, ◌+◌, ◌^◌, ◌≤◌, Bool, true, false, cond, ◌==◌, List, [], sym, ◌∙◌, subst, arith, ℤ, pos, ◌*ℤ◌, rules}
 use Rattle.std.specs.Prelude.{nat_abs, ◌≤ℤ◌}
 use Rattle.std.proofs.lemmas.Bool.{cases_lt, eqb-true, eq-eqb, both_ways}
 use Rattle.std.proofs.lemmas.Int.{ints}
-use Rattle.sym_model.specs.Sum.{total, Among}
+use Rattle.sym_model.specs.Sum.{total}
 use Rattle.sym_model.specs.Partition.{IsPartition, size}
 use Rattle.sym_model.specs.PartitionList.{partitions_of}
-use Rattle.sym_model.specs.Polynomial.{coefficient, same}
+use Rattle.sym_model.specs.Polynomial.{coefficient}
 use Rattle.sym_model.specs.WholeTerms.{WholeTerms}
 use Rattle.sym_model.proofs.Sums.{total_map, total_none, total_only, total_part}
 use Rattle.sym_model.proofs.Exponents.{same_from, same_apart}
@@ -32,38 +34,14 @@ use lib.IntN.{zero-*ℤ}
 pub row_sums : (k : ℕ) (μ : List ℕ) (shapes : List (List ℕ)) → IsPartition μ → ListsEach (AddsCells k μ) shapes
     → (φ : List ℕ → ℤ) → over φ (with_placings μ shapes) ≡ over φ (row_terms k μ)
 row_sums k μ shapes p l φ =
-    each_by-over (λ ν. pos (placings μ ν)) φ shapes
-    ∙ total_part (λ (ν : List ℕ). pos (placings μ ν) *ℤ φ ν) shapes (partitions_of (size μ + k)) l.once (Once-partitions_of (size μ + k))
-    (λ ν m. let a = (l.members ν).0 m in Among-partitions_of (size μ + k) ν a.0 a.1)
-    (λ ν m n. let t = partitions_of-tells (size μ + k) ν m in none ν t.0 t.1 n (cases_lt 0 (placings μ ν)))
-    ∙ sym (each_by-over (λ ν. pos (placings μ ν)) φ (partitions_of (size μ + k)))
-  where
-    none : (ν : List ℕ) → IsPartition ν → size ν ≡ size μ + k → (Among ν shapes → ⊥) → (0 < placings μ ν) ⊎ (placings μ ν ≤ 0) → pos (placings μ ν) *ℤ φ ν ≡ pos 0
-    none ν q e n (inl h) = absurd (n ((l.members ν).1 (q, e, placings-hold μ ν p q h)))
-    none ν q e n (inr h) = let z : placings μ ν ≡ 0 = omega arith in ap (λ i. pos i *ℤ φ ν) z ∙ zero-*ℤ (φ ν)
+    search (rules, each_by-over, total_part, Once-partitions_of, Among-partitions_of, partitions_of-tells, cases_lt, placings-hold, zero-*ℤ)
 
--- ---- the coefficients of a list of partitions with counts
-
--- in the list of all partitions of d, each with its count, the coefficient of ν is `count ν` if |ν| = d, and 0 otherwise; b is true if and only if
--- |ν| = d
+-- in the list of all partitions ρ of d with the coefficients count(ρ), the coefficient of ν is count(ν) if |ν| = d, and 0 otherwise; b is true if and
+-- only if |ν| = d
 listed_at : (d : ℕ) (count : List ℕ → ℕ) (ν : List ℕ) → IsPartition ν → (b : Bool) → (b ≡ true → size ν ≡ d) → (b ≡ false → size ν ≡ d → ⊥)
     → coefficient (counted count (partitions_of d)) ν ≡ cond b (pos (count ν)) (pos 0)
 listed_at d count ν p b here there =
-    total_map (λ (t : List ℕ × ℤ). cond (same t.0 ν) t.1 (pos 0)) (λ (ρ : List ℕ). (ρ, pos (count ρ))) (partitions_of d)
-    ∙ by b here there
-  where
-    at : List ℕ → ℤ
-    at ρ = cond (same ρ ν) (pos (count ρ)) (pos 0)
-
-    by : (b : Bool) → (b ≡ true → size ν ≡ d) → (b ≡ false → size ν ≡ d → ⊥) → total at (partitions_of d) ≡ cond b (pos (count ν)) (pos 0)
-    by true here there =
-        total_only at ν (partitions_of d) (Once-partitions_of d) (Among-partitions_of d ν p (here refl))
-        (λ ρ n e. ap (λ (b : Bool). cond b (pos (count ρ)) (pos 0)) (same_apart ρ ν e))
-        ∙ ap (λ (b : Bool). cond b (pos (count ν)) (pos 0)) (same_from ν ν refl)
-    by false here there =
-        total_none at (partitions_of d)
-        (λ ρ m. ap (λ (b : Bool). cond b (pos (count ρ)) (pos 0))
-        (same_apart ρ ν (λ e. there refl (ap size (sym e) ∙ (partitions_of-tells d ρ m).1))))
+    search (rules, total_map, total_only, Once-partitions_of, Among-partitions_of, same_apart, same_from, total_none, partitions_of-tells)
 
 complete_at : (k : ℕ) (parts : List ℕ) → IsPartition parts → coefficient (complete_terms k) parts ≡ cond (size parts == k) (pos 1) (pos 0)
 complete_at k parts p =
@@ -95,8 +73,6 @@ module _ (k : ℕ) (ν : List ℕ) (p : IsPartition ν) where
       subst (λ (z : ℤ). pos (2 ^ 127) ≤ℤ z)
       (sym (total_map (λ (t : List ℕ × ℤ). t.1 *ℤ row_at t.0) (λ (t : List ℕ × ℤ). (t.0, pos (nat_abs t.1))) list)
       ∙ sym (placings-lists k (absolute list) (complete_terms k) (complete_at k) ν)) h
-
--- ---- coefficients of the product with h_k that are 2^127 or more in absolute value
 
 pub product-large : (k : ℕ) (list old : WholeTerms) → old ≡ [] → Overflows equal old (replaced (row_terms k) list)
     → (ν : List ℕ) × IsPartition ν × (pos (2 ^ 127) ≤ℤ product_coefficient (absolute list) (complete_terms k) ν)

@@ -3,7 +3,7 @@
 --     rows_around, shape_limits                    a partition with k more cells has at most k more rows
 --     height_positive                              the height of a rim hook is at least 1
 --     among_next, next_on, so_far_on               the position of a loop in the list of partitions
-use Rattle.std.proofs.Common.{◌≡◌, ℕ, suc, ◌+◌, ◌≤◌, List, [], ◌∷◌, ◌++◌, get_or, refl, subst, inl, arith}
+use Rattle.std.proofs.Common.{◌≡◌, ℕ, suc, ◌+◌, ◌≤◌, List, [], ◌∷◌, ◌++◌, get_or, refl, subst, inl, arith, rules}
 use Rattle.sym_model.specs.Sum.{Among}
 use Rattle.sym_model.specs.Partition.{IsPartition, ArePositive, Holds, size, rows}
 use Rattle.sym_model.specs.Strip.{height}
@@ -32,7 +32,6 @@ pub record IsAround (k : ℕ) (inner outer : List ℕ) : Type 0 where
   pub cells : size outer ≡ size inner + k
   pub holds : Holds outer inner
 
--- if outer contains inner, then (rows of outer) - (rows of inner) is at most (cells of outer) - (cells of inner)
 rows_grow : (inner outer : List ℕ) → ArePositive inner → ArePositive outer → ((j : ℕ) → get_or inner j 0 ≤ get_or outer j 0) → rows outer + size inner ≤ rows inner + size outer
 rows_grow [] [] p q h = omega arith
 rows_grow [] (b ∷ outer) p q h = let r = rows_grow [] outer tt q.1 (λ j. omega arith) in let s = q.0 in omega arith
@@ -40,10 +39,7 @@ rows_grow (a ∷ inner) [] p q h = absurd (let l = h 0 in let s = p.0 in omega a
 rows_grow (a ∷ inner) (b ∷ outer) p q h = let r = rows_grow inner outer p.1 q.1 (λ j. h (suc j)) in let l = h 0 in omega arith
 
 pub rows_around : (k : ℕ) (inner outer : List ℕ) → IsPartition inner → IsAround k inner outer → rows outer ≤ rows inner + k
-rows_around k inner outer p a =
-    let r = rows_grow inner outer p.positive a.partition.positive (Holds-get_or outer inner a.holds) in
-    let c = a.cells in
-    omega arith
+rows_around k inner outer p a = search (rules, rows_grow, Holds-get_or)
 
 pub shape_limits : (k : ℕ) (inner outer : List ℕ) → IsPartition inner → size inner + k ≤ 4096 → rows inner + k ≤ 512 → IsAround k inner outer → IsWithinLimits outer
 shape_limits k inner outer p cells few a =
@@ -67,8 +63,6 @@ height_positive k parts list p h ν m =
     let e = height_of_rows ν parts r.0 r.1 f.0.falls r.2 in
     let o = r.2.ordered in
     omega arith
-
--- ---- the partitions that an iterator returns, one after another
 
 pub among_next : (done rest all : List (List ℕ)) (k : List ℕ) → done ++ k ∷ rest ≡ all → Among k all
 among_next done rest all k e = subst (Among k) e (Among-append_right k done (k ∷ rest) (inl refl))

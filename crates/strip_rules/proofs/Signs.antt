@@ -1,6 +1,6 @@
 -- The signs of rim hooks by their heights.
 --     signed_one, _odd, _even     a coefficient times the sign of a height
---     negation_large              a negation is refused only if the coefficient is too large
+--     negation_large              a negation overflows only if the coefficient is too large
 --     height_here                 the height that an iterator of rim hooks returns is that of its current partition
 use Rattle.std.proofs.Common.{◌≡◌, ◌⊎◌, ℕ, ◌-◌, ◌/◌, ◌%◌, ◌^◌, ◌<◌, ◌≤◌, inl, inr, refl, sym, ap, ◌∙◌, subst, arith, pos, neg_ℤ, unsigned_abs}
 use Rattle.std.specs.Prelude.{◌≢◌, List, Option, Some, None, IfSome}
@@ -45,7 +45,8 @@ signed_even h c d l e f = elim (parity_of (h - 1)) [
           ∙ sym (product-negation (scaled q c) (pos 1));
     }
 
--- if the ring refuses the negation of a coefficient c, then |q·c| is at least 2^127 for each common denominator q of c
+-- if the negation of a coefficient c overflows in the ring of coefficients (the result is None), then |q·c| is at least 2^127 for each common
+-- denominator q of c
 pub negation_large : {R : Type 0} (value : R → Fraction) (c : R) → AnswersNegation value c None → (q : ℕ) → IsDenominator q (value c) → 2 ^ 127 ≤ magnitude q (value c)
 negation_large value c answers q d = by (cases_lt (magnitude (value c).1 (value c)) (2 ^ 127))
   where

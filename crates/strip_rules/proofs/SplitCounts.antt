@@ -1,11 +1,11 @@
 -- The splits of a list, that is, the pairs of lists that add up to it place by place: the number of entries that are at least k in the first list,
 -- compared with that in the whole list.
---     counts-splits     the first list has at most as many numbers that are at least k as the whole
---     counts-near       if the second list has only 0 and 1, the whole has at most as many numbers that are at least k + 1
---                       as the first list has that are at least k
+--     counts-splits     the first list has at most as many numbers ≥ k as the whole list
+--     counts-near       if the second list has only 0 and 1, the whole list has at most as many numbers ≥ k + 1
+--                       as the first list has numbers ≥ k
 --     some_split        if the number of splits that pass a test is not 0, some split passes it
-use Rattle.std.proofs.Common.{◌≡◌, ◌⊎◌, ℕ, zero, suc, ◌+◌, ◌-◌, ◌<◌, ◌≤◌, Bool, true, false, cond, leb, List, [], ◌∷◌, map, length, refl, sym, ap, ◌∙◌, subst, inl, inr, arith, filter}
-use Rattle.std.proofs.lemmas.Bool.{cases_lt, le-leb, lt-leb}
+use Rattle.std.proofs.Common.{◌≡◌, ◌⊎◌, ℕ, zero, suc, ◌+◌, ◌-◌, ◌<◌, ◌≤◌, Bool, true, cond, leb, List, [], ◌∷◌, map, length, refl, sym, ap, subst, inl, inr, arith, filter, rules}
+use Rattle.std.proofs.lemmas.Bool.{cases_lt, lt-leb}
 use Rattle.sym_model.specs.Sum.{Among}
 use Rattle.sym_model.specs.Partition.{IsPartition, Holds, part, insert_part, sorted_parts}
 use Rattle.sym_model.specs.Conjugate.{count_from}
@@ -38,10 +38,7 @@ first_place c ν s m =
     record { first = r.0; rest = u.0; low = down_from-below c r.0 r.1; among = u.1; is = u.2 }
 
 reaches : (k a b : ℕ) → a ≤ b → cond (leb k a) 1 0 ≤ cond (leb k b) 1 0
-reaches k a b h = elim (cases_lt a k) [
-  | inl l ↦ rw (lt-leb k a l) (omega arith)
-  | inr l ↦ rw (le-leb k a l, le-leb k b (omega arith)) (omega arith)
-]
+reaches k a b h = search rules
 
 pub counts-splits : (ν : List ℕ) (s : List ℕ × List ℕ) (k : ℕ) → Among s (splits ν)
     → count_from k s.0 ≤ count_from k ν
@@ -73,29 +70,16 @@ counts-near (c ∷ ν) s k m h =
           (λ a n. h a (subst (λ (q : List ℕ × List ℕ). Among a q.1) (sym p.is) (inr n))),
     )
 
--- ---- the number of entries of a list that are at least k
-
 count_from-insert_part : (k a : ℕ) (parts : List ℕ) → 0 < k → count_from k (insert_part a parts)
     ≡ cond (leb k a) 1 0 + count_from k parts
 count_from-insert_part k zero parts h = rw (lt-leb k 0 h) (omega arith)
 count_from-insert_part k (suc a) [] h = refl
-count_from-insert_part k (suc a) (c ∷ parts) h = by (leb c (suc a))
-    (count_from-insert_part k (suc a) parts h)
-  where
-    by : (b : Bool) → count_from k (insert_part (suc a) parts)
-        ≡ cond (leb k (suc a)) 1 0 + count_from k parts
-        → count_from k (cond b (suc a ∷ c ∷ parts) (c ∷ insert_part (suc a) parts))
-        ≡ cond (leb k (suc a)) 1 0 + (cond (leb k c) 1 0 + count_from k parts)
-    by true e = refl
-    by false e = omega (arith, e)
+count_from-insert_part k (suc a) (c ∷ parts) h = search (rules, (count_from-insert_part k (suc a) parts h))
 
 pub count_from-sorted_parts : (k : ℕ) (α : List ℕ) → 0 < k → count_from k (sorted_parts α)
     ≡ count_from k α
 count_from-sorted_parts k [] h = refl
-count_from-sorted_parts k (a ∷ α) h = count_from-insert_part k a (sorted_parts α) h
-    ∙ ap (λ n. cond (leb k a) 1 0 + n) (count_from-sorted_parts k α h)
-
--- ---- containment of partitions, by the numbers of their parts that are at least k
+count_from-sorted_parts k (a ∷ α) h = search (rules, count_from-insert_part, (count_from-sorted_parts k α h))
 
 pub holds_from_counts : (outer inner : List ℕ) → IsPartition outer → IsPartition inner
     → ((k : ℕ) → 0 < k → count_from k inner ≤ count_from k outer) → Holds outer inner
@@ -127,8 +111,6 @@ vertical_from_counts outer inner p q h n =
         let b = count_from-most k inner (i - 1) q.falls (omega arith) in
         absurd (omega (arith, a, b, n k (omega arith)))
     by i (inr l) = l
-
--- ---- splits of a list that pass a test
 
 pub some_split : (test : List ℕ × List ℕ → Bool) (ν : List ℕ) → 0 < length (filter test (splits ν))
     → (s : List ℕ × List ℕ) × Among s (splits ν) × (test s ≡ true)

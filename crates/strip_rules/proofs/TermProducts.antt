@@ -1,9 +1,11 @@
--- The product of one Schur polynomial, and of a list in s, with h_k, e_k or p_k (specs/Adding).
---     strips_value, hooks_value                 the sum over the partitions with an added strip or rim hook is the product
---     horizontal_product, vertical_, hooks_     these partitions with their signs are the product (`IsProduct`)
---     list_value                                the products of the terms of a list add up to the product of the list
---     expansion                                 a list expands f if its sums Σ c·φ(α), for every φ, are those of f
-use Rattle.std.proofs.Common.{◌≡◌, ℕ, suc, ◌+◌, ◌-◌, ◌*◌, ◌^◌, ◌≤◌, Bool, true, false, cond, List, [], ◌∷◌, length, refl, sym, ap, ap₂, ◌∙◌, subst, inl, inr, arith, ℤ, pos, ◌+ℤ◌, ◌*ℤ◌, flat_map}
+-- The products of h_k, e_k or p_k with one Schur polynomial, and with a linear combination of Schur polynomials (a list in s) (specs/Adding).
+-- For a function φ of exponent lists, the pairing of a polynomial with φ is the sum of c·φ(α) over its terms c·x^α.
+--     strips_value, hooks_value                 the pairing of the product with φ is a sum over the partitions with an added strip or rim hook
+--     horizontal_product, vertical_, hooks_     the list of these partitions, each with its sign, expands the product in s (`IsProduct`)
+--     list_value                                the product of a polynomial f and a list is the sum of the products of f and the terms of the list
+--     expansion                                 let d be a common denominator of a list, and f a polynomial: if d times the list and f have the same
+--                                               pairings, then the list expands f/d
+use Rattle.std.proofs.Common.{◌≡◌, ℕ, suc, ◌+◌, ◌-◌, ◌*◌, ◌^◌, ◌≤◌, List, [], ◌∷◌, length, refl, sym, ap, ap₂, ◌∙◌, subst, arith, ℤ, pos, ◌*ℤ◌, flat_map, rules}
 use Rattle.std.specs.Prelude.{nat_eq, nat_abs}
 use Rattle.std.specs.Int.{◌∣◌}
 use Rattle.std.specs.Cmp.Lexicographic.{pointwise}
@@ -19,9 +21,7 @@ use Rattle.sym_model.specs.Expansion.{Basis, Fraction, Terms, denominators, clea
 use Rattle.sym_model.proofs.Ring.{one-product}
 use Rattle.sym_model.proofs.Sums.{total_ext, total_map, Among_from_map}
 use Rattle.sym_model.proofs.Polynomials.{pair_ext, pair_plus, pair_scale, pair_each, pair_times, pair_total, pair_factor, pair_determined, same_from_pair}
-use Rattle.coeff_rings.specs.Fractions.{scaled}
 use Rattle.linear_combinations.specs.Gains.{mass, mass_at}
-use Rattle.linear_combinations.specs.Labels.{same_partition}
 use Rattle.monomial_laws.specs.ExpressionTerms.{over}
 use Rattle.sparse_polys.proofs.Expansions.{common-denominators}
 use Rattle.sparse_polys.proofs.PolynomialValues.{two_denominators}
@@ -39,8 +39,6 @@ use Rattle.sym_model.proofs.Integers.{sign_size}
 use Rattle.linear_combinations.specs.Gains.{each_by}
 use native.Mathlib.Nat.{pow-suc, pow-zero}
 
--- ---- the product of one Schur polynomial and h_k, e_k or p_k
-
 pub strips_value : (f : Poly) (n : ℕ) (parts : List ℕ) (list : List (List ℕ)) (φ : List ℕ → ℤ) → Same (times f (schur parts n)) (flat_map (λ ν. schur ν n) list)
     → total (λ ν. pos 1 *ℤ pair (schur ν n) φ) list ≡ pair (times f (schur parts n)) φ
 strips_value f n parts list φ h =
@@ -56,7 +54,6 @@ hooks_value k n parts list φ h p l =
     ∙ sym (pair_each (λ (ν : List ℕ). scale (sign ν) (schur ν n)) list φ)
     ∙ sym (pair_determined (times (power_sum_of k n) (schur parts n)) (flat_map (λ (ν : List ℕ). scale (sign ν) (schur ν n)) list) φ (rim_hooks n k parts list h p l))
 
--- at most (size + k)^k partitions result from adding a rim hook of k cells to a partition with the given size
 hook_count : (k : ℕ) (parts : List ℕ) (list : List (List ℕ)) → 1 ≤ k → IsPartition parts → ListsEach (AddsRimHook k parts) list → length list ≤ (size parts + k) ^ k
 hook_count k parts list h p l =
     let c = hooks_within k parts list p l in
@@ -67,7 +64,7 @@ hook_count k parts list h p l =
     first_power : (n : ℕ) → n ^ 1 ≡ n
     first_power n = let a = pow-suc n 0 in let b = pow-zero n in let c = ap (λ m. m * n) b in omega arith
 
--- ---- the partitions of the product of one term, with their signs
+-- ---- the partitions in the product of h_k, e_k or p_k and one Schur polynomial, with their signs
 
 module _ (sign : List ℕ → ℤ) (unit : (ν : List ℕ) → nat_abs (sign ν) ≡ 1) where
   mass_signs : (shapes : List (List ℕ)) → mass (each_by sign shapes) ≡ length shapes
@@ -76,28 +73,12 @@ module _ (sign : List ℕ → ℤ) (unit : (ν : List ℕ) → nat_abs (sign ν)
 
   none_signs : (ν : List ℕ) (shapes : List (List ℕ)) → (Among ν shapes → ⊥) → mass_at (pointwise nat_eq) ν (each_by sign shapes) ≡ 0
   none_signs ν [] h = refl
-  none_signs ν (μ ∷ shapes) h = by (pointwise nat_eq ν μ) refl (none_signs ν shapes (λ m. h (inr m)))
-    where
-      by : (b : Bool) → pointwise nat_eq ν μ ≡ b → mass_at (pointwise nat_eq) ν (each_by sign shapes) ≡ 0
-          → cond b (nat_abs (sign μ)) 0 + mass_at (pointwise nat_eq) ν (each_by sign shapes) ≡ 0
-      by true e r = absurd (h (inl (same_partition ν μ e)))
-      by false e r = omega arith
+  none_signs ν (μ ∷ shapes) h = search (rules, (none_signs ν shapes))
 
   once_signs : (ν : List ℕ) (shapes : List (List ℕ)) → Once shapes → mass_at (pointwise nat_eq) ν (each_by sign shapes) ≤ 1
   once_signs ν [] o = omega arith
-  once_signs ν (μ ∷ shapes) o = by (pointwise nat_eq ν μ) refl (once_signs ν shapes o.1)
-    where
-      by : (b : Bool) → pointwise nat_eq ν μ ≡ b → mass_at (pointwise nat_eq) ν (each_by sign shapes) ≤ 1
-          → cond b (nat_abs (sign μ)) 0 + mass_at (pointwise nat_eq) ν (each_by sign shapes) ≤ 1
-      by true e r =
-          let none = none_signs ν shapes (subst (λ (l : List ℕ). Among l shapes → ⊥) (sym (same_partition ν μ e)) o.0) in
-          let u = unit μ in
-          omega arith
-      by false e r = omega arith
+  once_signs ν (μ ∷ shapes) o = search (rules, none_signs, (once_signs ν shapes o.1))
 
-  -- if the shapes are different partitions, at most (|label| + k)^k in number, that contain the label and have k more cells, and the sum of
-  -- sign(ν)·s_ν over the shapes ν is f·s_label in every number of variables, then the shapes with their signs are the product of f and s_label
-  -- (`IsProduct`)
   signs_product : (f : ℕ → Poly) (k : ℕ) (label : List ℕ) (shapes : List (List ℕ)) → IsPartition label
       → ((n : ℕ) (φ : List ℕ → ℤ) → total (λ ν. sign ν *ℤ pair (schur ν n) φ) shapes ≡ pair (times (f n) (schur label n)) φ)
       → length shapes ≤ (size label + k) ^ k → Once shapes → ((ν : List ℕ) → Among ν shapes → IsAround k label ν)
@@ -137,14 +118,10 @@ hooks_product k parts base list h p e hooks =
     (signs_product (λ ν. minus_one_to (height ν parts - 1)) (λ ν. sign_size (height ν parts - 1)) (power_sum_of k) k parts list p
     (λ n φ. hooks_value k n parts list φ h p l) (hook_count k parts list h p l) l.once (hook_around k parts list l))
 
--- ---- the product of f and a list in s, from the products of f and the Schur polynomials of its labels
-
 pair_cleared : (n q : ℕ) (terms : Terms (List ℕ)) (φ : List ℕ → ℤ)
     → pair (cleared (λ ν. basis_polynomial Basis.schurs ν n) q terms) φ ≡ pair (over q terms) (λ ν. pair (schur ν n) φ)
 pair_cleared n q [] φ = refl
-pair_cleared n q (t ∷ terms) φ =
-    pair_plus (scale (scaled q t.1) (schur t.0 n)) (cleared (λ ν. basis_polynomial Basis.schurs ν n) q terms) φ
-    ∙ ap₂ ◌+ℤ◌ (pair_scale (scaled q t.1) (schur t.0 n) φ) (pair_cleared n q terms φ)
+pair_cleared n q (t ∷ terms) φ = search (rules, pair_plus, pair_scale, (pair_cleared n q terms φ))
 
 pub list_value : (f : Poly) (n : ℕ) (terms : Terms (List ℕ)) (φ : List ℕ → ℤ)
     → pair (over (denominators terms) terms) (λ label. pair (times f (schur label n)) φ) ≡ pair (times f (value Basis.schurs terms n)) φ
@@ -158,8 +135,6 @@ list_value f n terms φ =
     (λ t.
     pair_factor t.1 f (λ α. pair (schur t.0 n) (λ β. φ (join α β)))
     ∙ ap (λ z. t.1 *ℤ z) (sym (pair_times f (schur t.0 n) φ))) list)
-
--- ---- a list of terms in s expands f if, for every function φ, its sum Σ c·φ(α) over its monomials c·x^α is that of f
 
 pub expansion : (terms : Terms (List ℕ)) (d n : ℕ) (f : Poly) → IsFractionTable terms → ((t : List ℕ × Fraction) → Among t terms → t.1.1 ∣ d)
     → ((φ : List ℕ → ℤ) → pair (over d terms) (λ ν. pair (schur ν n) φ) ≡ pair f φ) → IsExpansionOf Basis.schurs terms n f d

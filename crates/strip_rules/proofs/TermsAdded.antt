@@ -25,8 +25,6 @@ use Rattle.linear_combinations.specs.Gains.{each_by}
 use Rattle.linear_combinations.proofs.Counted.{scaled_each_by-append}
 use Rattle.strip_rules.specs.Adding.{IsSigned}
 
--- ---- partitions that are added with signs, one after another
-
 module _ (c : Fraction) (sign : List ℕ → ℤ) (done : List (List ℕ)) (k : List ℕ)
     (old cur : Terms (List ℕ)) (a : GainsMultiple (pointwise nat_eq) is_label c
     (each_by sign done) old cur) where
@@ -47,8 +45,6 @@ module _ (c : Fraction) (sign : List ℕ → ℤ) (done : List (List ℕ)) (k : 
       subst (λ l. OverflowsCleared (pointwise nat_eq) q old (scaled z (each_by sign l))) on
       (Overflows-next (λ xs. scaled z (each_by sign xs)) (scaled_each_by-append sign z) q done k old cur x rest (e q d small x.cleared))
 
--- ---- one term with the sign s, added to a table over any ring
-
 module _ {R : Type 0} (value : R → Fraction) (zero : R) (none : value zero ≡ whole (pos 0))
     (c : Fraction) (s : ℤ) (k : List ℕ) (v : R) (entries : List (List ℕ × R))
     (is : IsSigned c s (value v))
@@ -67,7 +63,6 @@ module _ {R : Type 0} (value : R → Fraction) (zero : R) (none : value zero ≡
       Gains-entry value zero none q entries k v was d.positive (signed_divides q d) cleared sum
       sums after low also more (numerator_over q c *ℤ s) (is.value q)
 
-  -- if v is the sign s times c, and the ring refuses the sum of v and the coefficient of k, then adding c·s at k overflows (`OverflowsMultiple`)
   pub Overflows-signed : (is_held : R → Type 0) (checked : R → R → Option R)
       → ((a b : R) → is_held a → is_held b → AnswersSum value a b (checked a b))
       → Entries.IsRefused is_held checked (Entries.coefficient (pointwise nat_eq) zero entries k) v

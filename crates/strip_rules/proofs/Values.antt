@@ -1,4 +1,5 @@
--- A list in m with the coefficients of the product of a list in m with e_k or h_k is this product, as a polynomial.
+-- If a linear combination of monomial symmetric polynomials (a list in m) has the coefficients of the product of a list in m and e_k or h_k, it is
+-- this product, as a polynomial.
 use Rattle.std.proofs.Common.{◌≡◌, ℕ, List}
 use Rattle.sym_model.specs.Bases.{elementary_of, complete_of}
 use Rattle.sym_model.specs.Partition.{IsPartition}

@@ -14,13 +14,14 @@ ghost use Rattle.strip_rules.specs.StripProduct.{column};
 /// The coefficient of m_ν in m_μ·e_k, for e_k = m_(1^k), is 0 unless ν/μ is a vertical strip of k
 /// cells.
 ///
-/// If ν/μ is one, the coefficient is computed row by row from the first row on, beginning with 1;
-/// the rows of μ are followed by zeros. A row of length c in both μ and ν leaves it unchanged. A
-/// row of length c + 1 in ν and c in μ multiplies it by a fraction: the numerator is the number of
-/// rows of ν up to this one that have length c + 1, and the denominator is the number of these that
-/// have length c in μ. So the coefficient is the product of the binomial coefficients of these two
-/// numbers, one for each different part of ν (Macdonald, I.2). The list of all ν for which ν/μ is a
-/// vertical strip of k cells, each with this number, has the coefficients of the product.
+/// If ν/μ is such a strip, the coefficient is computed row by row from the first row on, beginning
+/// with 1; the rows of μ are followed by zeros. A row of length c in both μ and ν leaves the
+/// coefficient unchanged. A row of length c + 1 in ν and c in μ multiplies it by a fraction: the
+/// numerator is the number of rows of ν up to this one that have length c + 1, and the denominator
+/// is the number of these rows that have length c in μ. So the coefficient is a product of binomial
+/// coefficients: for each different part of ν, the number of its rows over the number of those rows
+/// that are shorter in μ (Macdonald, I.2). The list of all ν for which ν/μ is a vertical strip of k
+/// cells, each with this number, has the coefficients of the product.
 ///
 /// Examples: m_(2,1)·e_2 has m_(2,2,1) twice, and m_(1,1)·e_1 has m_(1,1,1) three times.
 pub fn column_product_law()

@@ -1,4 +1,4 @@
-//! Products of lists of monomial symmetric polynomials and h_k.
+//! Products of linear combinations of monomial symmetric polynomials (lists in m) and h_k.
 ghost use Rattle.std.specs.Prelude.{◌≡◌, ◌+◌, ◌^◌, ◌<◌, ◌≤◌, ◌≤ℤ◌, ◌*ℤ◌, pos, nat_abs};
 ghost use Rattle.std.specs.Prelude.{ℕ, List, [], ◌∷◌, ◌++◌, drop, MatchResult, SomeIff};
 ghost use Rattle.std.specs.Prelude.{IfOk, OnOk, IsErrOf};
@@ -37,12 +37,13 @@ fn rows_from(rows: &[u16], v: u16) -> usize
 }
 
 /// The number of ways to give each row of a partition ν (`shape`) a part of a partition μ (`inner`)
-/// or 0, such that each part of μ is used once and no row is shorter than its number; `None` if
-/// this number of ways is 2^128 or more. Exchanging equal parts gives no new way. ν must contain μ.
+/// or 0, such that each part of μ is used once and no row is shorter than the number given to it;
+/// `None` if there are 2^128 ways or more. Exchanging equal parts gives no new way. ν must contain
+/// μ.
 ///
-/// Let v be the first part of μ. The number for μ and ν, times the number of parts of μ that are at
-/// least v, is the number for μ and ν without their first rows, times the number of rows of ν that
-/// are at least v. So the number without the first rows is not greater.
+/// Let v be the first part of μ. The number of ways for μ and ν, times the number of parts of μ
+/// that are at least v, is the number of ways for μ and ν without their first rows, times the
+/// number of rows of ν that are at least v. So there are not more ways without the first rows.
 fn placings(inner: &[u16], shape: &[u16]) -> Option<u128>
     requires inner { IsPartition inner.now }
     requires shape { IsPartition shape.now }
@@ -171,10 +172,10 @@ fn with_cells(alloc: Global, inner: &Partition, k: u16) -> Result<Vec<Partition>
     Ok(shapes)
 }
 
-/// The rule that multiplies by h_k: m_μ·h_k is the sum of the m_ν over the partitions ν with k more
-/// cells than μ, each times a number of ways. It is the number of ways to give each row of ν a part
-/// of μ or 0, such that each part of μ is used once and no row is shorter than its number;
-/// exchanging equal parts gives no new way.
+/// The rule that multiplies by h_k: m_μ·h_k is the sum of c_ν·m_ν over the partitions ν with k more
+/// cells than μ. Here c_ν is the number of ways to give each row of ν a part of μ or 0, such that
+/// each part of μ is used once and no row is shorter than the number given to it; exchanging equal
+/// parts gives no new way.
 #[derive(Drop)]
 struct TimesComplete {
     alloc: Global,
@@ -195,9 +196,9 @@ impl Rule<Partition, Partition> for TimesComplete {
     }
 }
 
-/// The product of a list of monomial symmetric polynomials and h_k, in every number of variables
-/// (Macdonald, I.2); h_k is the sum of all m_λ with λ of size k. Each label has at most 512 - k
-/// cells.
+/// The product of a linear combination of monomial symmetric polynomials (a list in m) and h_k, in
+/// every number of variables (Macdonald, I.2); h_k is the sum of all m_λ with λ of size k. Each
+/// label has at most 512 - k cells.
 ///
 /// Replace the coefficients of the list by their absolute values. Returns `Large` only if some
 /// coefficient of the product of the resulting list and h_k is 2^127 or more.

@@ -1,4 +1,4 @@
-//! Products of lists of monomial symmetric polynomials and e_k.
+//! Products of linear combinations of monomial symmetric polynomials (lists in m) and e_k.
 ghost use Rattle.std.specs.Prelude.{◌≡◌, ℕ, ◌+◌, ◌^◌, ◌≤◌, ◌*ℤ◌, pos, [], ◌∷◌, get_or};
 ghost use Rattle.std.specs.Prelude.{FitsSigned, MatchOption, IfOk, OnOk, IsErrOf};
 ghost use Rattle.std.specs.Int.{w128};
@@ -40,8 +40,8 @@ fn coefficient_at(inner: &Partition, outer: &Partition) -> Option<u128>
     let shorter = inner.parts();
     let rows = outer.parts();
     let mut count: u128 = 1;
-    // `run` is the number of rows before the row `at` that are as long as it in `outer`, and
-    // `longer` is the number of these that are longer in `outer` than in `inner`.
+    // Of the rows above the row `at`, `run` counts those that are as long as this row in `outer`,
+    // and `longer` counts those of them that are longer in `outer` than in `inner`.
     let mut run = 0;
     let mut longer = 0;
     for at in 0..rows.len() {
@@ -105,8 +105,8 @@ impl Rule<Partition, Partition> for TimesElementary {
     }
 }
 
-/// The product of a list in m and e_k, in every number of variables. Each label has at most 4,096 -
-/// k cells and at most 512 - k rows.
+/// The product of a linear combination of monomial symmetric polynomials (a list in m) and e_k, in
+/// every number of variables. Each label has at most 4,096 - k cells and at most 512 - k rows.
 ///
 /// Replace the coefficients of the list by their absolute values. Returns `Large` only if some
 /// coefficient of the product of the resulting list and e_k is 2^127 or more.

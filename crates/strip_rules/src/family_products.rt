@@ -1,5 +1,5 @@
-//! Expands products of several h_k, of several e_k and of several p_k in s, by moving beads in beta
-//! sets.
+//! Expands products of several h_k, of several e_k and of several p_k in Schur polynomials (in s),
+//! by moving beads in beta sets: there is a bead at the place b for each beta number b.
 ghost use Rattle.std.specs.Prelude.{◌+◌, ◌-◌, ◌^◌, ◌≤◌, ℕ, IfOk, IsErrOf};
 ghost use Rattle.sym_model.specs.Bases.{complete_of, elementary_of, power_sum_of, product_over};
 ghost use Rattle.sym_model.specs.Expansion.{schurs, IsExpansionOf};
@@ -21,7 +21,7 @@ use std::alloc::Global;
 /// The number of rows, and of beta numbers, of each beta set.
 const ROWS: u16 = 20;
 
-/// The list of beta sets with the one term 1 at the empty partition.
+/// The list with one term: the beta set of the empty partition, with the coefficient 1.
 fn one(alloc: Global) -> Result<Shapes, SumFault>
     ensures value { IfOk result (AreShapesOf one_of 0) }
     ensures small { ¬ IsErrOf result SumFault.Large }

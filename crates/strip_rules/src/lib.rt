@@ -28,8 +28,8 @@
 //! weight of a list is max(1, D·A)·D, with D its least common denominator and A the sum of the
 //! absolute values of its coefficients. The weight of the product is at most (m + k)^k times that
 //! of the list, for the greatest size m of a label of the list. `Large` is returned only if the
-//! weight of the list is 2^127 or more. `times_family` calls one of these three functions, chosen
-//! by a family.
+//! weight of the list is 2^127 or more. `times_family` computes the same three products; its
+//! argument `family` says whether the factor is h_k, e_k or p_k.
 //!
 //! `rows_product`, `columns_product`, `hooks_product`: the products of h_k, of e_k and of p_k over
 //! the parts k of a partition of at most 20 cells, in s, in every number of variables: cells and

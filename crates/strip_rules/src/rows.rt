@@ -12,15 +12,15 @@ ghost use Rattle.monomial_laws.specs.MonomialProduct.{product_coefficient};
 ghost use Rattle.strip_rules.specs.StripProduct.{placings};
 
 /// The coefficient of m_ν in m_μ·h_k, for |ν| = |μ| + k, is the number of ways to give each row of
-/// ν a part of μ or 0, such that each part of μ is used once and no row is shorter than its number;
-/// exchanging equal parts gives no new way. (h_k is the sum of all m_λ with λ of size k.) The
-/// coefficient is 0 unless ν contains μ.
+/// ν a part of μ or 0, such that each part of μ is used once and no row is shorter than the number
+/// given to it; exchanging equal parts gives no new way. (h_k is the sum of all m_λ with λ of size
+/// k.) The coefficient is 0 unless ν contains μ.
 ///
-/// It is computed from the greatest part of μ on, beginning with 1: a part v after i parts, r of
-/// which are v, multiplies it by (ν'_v - i)/(r + 1), with ν'_v the number of parts of ν that are at
-/// least v. So it is the product, over the different parts v of μ, of the binomial coefficient "n
-/// over r", with n = ν'_v less the number of parts of μ that are greater than v, and r the
-/// multiplicity of v in μ (Macdonald, I.2).
+/// The coefficient is computed from the greatest part of μ on, beginning with 1. After i parts, r
+/// of which are v, the next part v multiplies it by (ν'_v - i)/(r + 1), where ν'_v is the number of
+/// parts of ν that are at least v. So it is the product, over the different parts v of μ, of the
+/// binomial coefficient "n over r", with n = ν'_v less the number of parts of μ that are greater
+/// than v, and r the multiplicity of v in μ (Macdonald, I.2).
 ///
 /// Examples: m_(1)·h_2 has m_(2,1) twice, and m_(2,1)·h_1 has m_(2,2) twice.
 pub fn row_product_law()

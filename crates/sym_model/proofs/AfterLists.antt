@@ -1,5 +1,5 @@
 -- The lists `after a k` of the k numbers a + 1, .., a + k (specs/Partition): their lengths, members and pieces.
-use Rattle.std.proofs.Common.{◌≡◌, ℕ, zero, suc, ◌+◌, ◌<◌, ◌≤◌, Bool, cond, nat_le, [], ◌∷◌, ◌++◌, length, ℤ, pos, ◌+ℤ◌, refl, sym, ◌∙◌, ap, ap₂, inl, inr, arith, add-one}
+use Rattle.std.proofs.Common.{◌≡◌, ℕ, zero, suc, ◌+◌, ◌<◌, ◌≤◌, Bool, cond, nat_le, [], ◌∷◌, ◌++◌, length, ℤ, pos, refl, ◌∙◌, ap, inl, inr, arith, add-one, rules}
 use Rattle.std.proofs.lemmas.Bool.{cases_eq, le-leb, lt-leb}
 use Rattle.sym_model.specs.Sum.{Among, Once, total}
 use Rattle.sym_model.specs.Partition.{after}
@@ -9,7 +9,6 @@ pub length_after : (a k : ℕ) → length (after a k) ≡ k
 length_after a zero = refl
 length_after a (suc k) = ap suc (length_after (a + 1) k)
 
--- each member of `after a k` is greater than a and at most a + k
 pub after_among : (a k z : ℕ) → Among z (after a k) → (a < z) × (z ≤ a + k)
 after_among a zero z m = absurd m
 after_among a (suc k) z (inl e) = (omega arith, omega arith)
@@ -19,12 +18,10 @@ pub among_after : (a k z : ℕ) → a < z → z ≤ a + k → Among z (after a k
 among_after a zero z h l = absurd (omega arith)
 among_after a (suc k) z h l = elim (cases_eq z (a + 1)) [ inl e ↦ inl e | inr d ↦ inr (among_after (a + 1) k z (omega arith) (omega arith)) ]
 
--- no number occurs twice in `after a k`
 pub once_after : (a k : ℕ) → Once (after a k)
 once_after a zero = tt
 once_after a (suc k) = ((λ m. let h = after_among (a + 1) k (a + 1) m in absurd (omega arith)), once_after (a + 1) k)
 
--- the list a + 1, .., a + n + 1 is the list a + 1, .., a + n followed by a + n + 1
 pub after-last : (a n : ℕ) → after a (suc n) ≡ after a n ++ ((a + suc n) ∷ [])
 after-last a zero = refl
 after-last a (suc n) =
@@ -35,10 +32,7 @@ total_after a zero n g h =
     total_none (λ (x : ℕ). cond (nat_le x (a + 0)) (g x) (pos 0)) (after a n)
     (λ x m. let r = after_among a n x m in let l = r.0 in ap (λ (b : Bool). cond b (g x) (pos 0)) (lt-leb x (a + 0) (omega arith)))
 total_after a (suc k) zero g h = absurd (omega arith)
-total_after a (suc k) (suc n) g h =
-    let e : a + suc k ≡ a + 1 + k = omega arith in
-    ap₂ ◌+ℤ◌ (ap (λ (b : Bool). cond b (g (a + 1)) (pos 0)) (le-leb (a + 1) (a + suc k) (omega arith)))
-    (ap (λ (i : ℕ). total (λ (x : ℕ). cond (nat_le x i) (g x) (pos 0)) (after (a + 1) n)) e ∙ total_after (a + 1) k n g (omega arith))
+total_after a (suc k) (suc n) g h = search (rules, le-leb, (total_after (a + 1) k n g (omega arith)))
 
 pub after-append : (a m k : ℕ) → after a (m + k) ≡ after a m ++ after (a + m) k
 after-append a zero k = let e : zero + k ≡ k = omega arith in let d : a ≡ a + 0 = omega arith in ap (after a) e ∙ ap (λ c. after c k) d
@@ -49,6 +43,4 @@ after-append a (suc m) k =
 
 pub after-more : (a k : ℕ) → after a (k + 1) ≡ after a k ++ (a + k + 1) ∷ []
 after-more a zero = rw (add-one 0) (ap (λ n. n ∷ []) (omega arith))
-after-more a (suc k) =
-    let e : a + 1 + k + 1 ≡ a + suc k + 1 = omega arith in
-    rw (add-one (suc k)) (ap (λ l. (a + 1) ∷ l) (ap (after (a + 1)) (sym (add-one k)) ∙ after-more (a + 1) k ∙ ap (λ n. after (a + 1) k ++ n ∷ []) e))
+after-more a (suc k) = search (rules, add-one, (after-more (a + 1) k))

@@ -1,5 +1,5 @@
--- Lists of terms with strictly increasing labels: if each label is less than the next one, it is less than all later
--- ones; and a test that each term of a list passes.
+-- Lists of terms with strictly increasing labels: if each label is less than the next one, then each label is less than
+-- all later ones. If `each_term test` is true of a list, then each term of the list passes `test`.
 use Rattle.std.proofs.Common.{◌≡◌, Bool, true, [], ◌∷◌, map, refl, sym, ap, ◌∙◌, subst, inl, inr}
 use Rattle.std.specs.Ordering.{is_lt}
 use Rattle.std.specs.declared.cmp.Ordering.{Ordering}
@@ -46,7 +46,6 @@ is_ordered-tells order trans (t ∷ u ∷ terms) h =
     let rest = is_ordered-tells order trans (u ∷ terms) p.1 in
     ((e, stands_before-weaker order trans t.0 u.0 terms e rest.0), rest)
 
--- if each label of a list of terms is less than all later ones, by a total order, no label occurs twice
 pub labels-once : {Label : Type 0} (order : Label → Label → Ordering) → IsTotalOrder order → (terms : Terms Label) → IsOrdered order terms → Once (map (λ (t : Label × Fraction). t.0) terms)
 labels-once order total [] h = tt
 labels-once {Label = Label} order total (t ∷ terms) h =

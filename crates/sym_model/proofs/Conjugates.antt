@@ -1,6 +1,6 @@
 -- The conjugate of a partition λ, the list whose entry j is the number of parts of λ that are at least j: it is a
 -- partition of the same size as λ.
-use Rattle.std.proofs.Common.{◌≡◌, ◌⊎◌, leb, eqb, sym, ap, ap₂, refl, ℕ, zero, suc, ◌+◌, ◌-◌, ◌<◌, ◌≤◌, nat_le, Bool, true, false, cond, List, [], ◌∷◌, map, length, get_or, ◌∙◌, inl, inr, arith}
+use Rattle.std.proofs.Common.{◌≡◌, ◌⊎◌, leb, eqb, sym, ap, ap₂, refl, ℕ, zero, suc, ◌+◌, ◌-◌, ◌<◌, ◌≤◌, nat_le, Bool, true, false, cond, List, [], ◌∷◌, map, length, get_or, ◌∙◌, inl, inr, arith, rules}
 use Rattle.std.proofs.lemmas.Bool.{cases_lt, cases_eq, le-leb, lt-leb, eq-eqb, ne_eqb}
 use Rattle.sym_model.specs.Sum.{Among}
 use Rattle.sym_model.specs.Schur.{times_in}
@@ -11,7 +11,6 @@ use Rattle.sym_model.proofs.SortedParts.{Falls_tail}
 use Rattle.sym_model.proofs.AfterLists.{length_after}
 use Rattle.sym_model.proofs.Parts.{size-map_add, size-map_none}
 
--- if the list with the first entry a and then `parts` is weakly decreasing, each entry of `parts` is at most a
 pub under_first : (a : ℕ) (parts : List ℕ) (r : ℕ) → Falls (a ∷ parts) → get_or parts r 0 ≤ a
 under_first a [] r f = omega arith
 under_first a (b ∷ parts) zero f = f.0
@@ -40,25 +39,15 @@ count_from-bound j [] = omega arith
 count_from-bound j (a ∷ parts) = omega (arith, one_at_most (nat_le j a), count_from-bound j parts)
 
 reaches_less : (a j k : ℕ) → j ≤ k → cond (nat_le k a) 1 0 ≤ cond (nat_le j a) 1 0
-reaches_less a j k h = elim (cases_lt a k) [
-  | inl l ↦ rw (lt-leb k a l) (omega arith)
-  | inr l ↦ rw (le-leb k a l, le-leb j a (omega arith)) (omega arith)
-]
+reaches_less a j k h = search rules
 
 pub count_from-falls : (parts : List ℕ) (j k : ℕ) → j ≤ k → count_from k parts ≤ count_from j parts
 count_from-falls [] j k h = omega arith
 count_from-falls (a ∷ parts) j k h = omega (arith, reaches_less a j k h, count_from-falls parts j k h)
 
--- ---- the conjugate has the size of the partition
-
 ones_until : (a s c : ℕ) → a ≤ s + c → size (map (λ j. cond (nat_le j a) 1 0) (after s c)) ≡ a - s
 ones_until a s zero h = omega arith
-ones_until a s (suc c) h =
-    let more = ones_until a (s + 1) c (omega arith) in
-    elim (cases_lt a (s + 1)) [
-      | inl l ↦ rw (lt-leb (s + 1) a l) (omega arith)
-      | inr l ↦ rw (le-leb (s + 1) a l) (omega arith)
-    ]
+ones_until a s (suc c) h = search (rules, cases_lt, lt-leb, le-leb, (ones_until a (s + 1) c (omega arith)))
 
 pub size-counts : (c : ℕ) (parts : List ℕ) → ((r : ℕ) → get_or parts r 0 ≤ c) → size (map (λ j. count_from j parts) (after 0 c)) ≡ size parts
 size-counts c [] h = size-map_none (after 0 c)
@@ -69,8 +58,6 @@ size-counts c (a ∷ parts) h =
       ones_until a 0 c (omega (arith, h 0)),
       size-counts c parts (λ r. h (suc r)),
     )
-
--- ---- the conjugate of a weakly decreasing list is a partition
 
 falls_after : (f : ℕ → ℕ) (a k : ℕ) → ((i j : ℕ) → i ≤ j → f j ≤ f i) → Falls (map f (after a k))
 falls_after f a zero h = tt

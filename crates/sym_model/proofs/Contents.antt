@@ -1,6 +1,6 @@
 -- The number of times that a letter occurs in a word, and the content of a word: `times_in` and `content` of
 -- specs/Schur.
-use Rattle.std.proofs.Common.{◌+◌, Bool, List, ap, arith, cond, suc, ℕ, ◌∙◌, ◌∷◌, ◌≡◌, ◌++◌, [], map, refl, replicate, zero, ◌==◌, false, length, true, ◌≤◌, ◌<◌, eqb, inl, inr, sym}
+use Rattle.std.proofs.Common.{◌+◌, Bool, List, ap, arith, cond, suc, ℕ, ◌∙◌, ◌∷◌, ◌≡◌, ◌++◌, [], map, refl, replicate, zero, length, ◌≤◌, ◌<◌, eqb, inl, inr, sym, rules}
 use Rattle.std.proofs.lemmas.Bool.{eq-eqb, ne_eqb, cases_eq}
 use Rattle.sym_model.specs.Schur.{times_in, content}
 use Rattle.sym_model.specs.Partition.{after, size}
@@ -22,7 +22,6 @@ pub times_in-append : (k : ℕ) (v w : List ℕ) → times_in k (v ++ w) ≡ tim
 times_in-append k [] w = omega arith
 times_in-append k (a ∷ v) w = omega (arith, times_in-append k v w)
 
--- if c = k, the word v followed by the letter c has the letter k once more than v
 pub times_in-last : (k c : ℕ) (v : List ℕ) → c ≡ k → times_in k (v ++ c ∷ []) ≡ times_in k v + 1
 times_in-last k c v e = omega (arith, times_in-append k v (c ∷ []), times_in-here k c [] e)
 
@@ -38,37 +37,21 @@ content-none n = map-zeros 0 n
 
 pub times_in-most : (j : ℕ) (v : List ℕ) → times_in j v ≤ length v
 times_in-most j [] = omega arith
-times_in-most j (a ∷ v) = by (a == j) (times_in-most j v)
-  where
-    by : (b : Bool) → times_in j v ≤ length v → cond b 1 0 + times_in j v ≤ suc (length v)
-    by true h = omega arith
-    by false h = omega arith
+times_in-most j (a ∷ v) = search (rules, (times_in-most j v))
 
--- 1 if the letter a is j, and 0 otherwise
+-- for letters a and j, in this order: 1 if a = j, and 0 otherwise
 one_at : ℕ → ℕ → ℕ
 one_at a j = cond (eqb a j) 1 0
 
 none-after : (a m k : ℕ) → a ≤ m → size (map (one_at a) (after m k)) ≡ 0
 unfolding one_at
 none-after a m zero h = refl
-none-after a m (suc k) h =
-    let rest = none-after a (m + 1) k (omega arith) in
-    let first : cond {A = ℕ} (eqb a (m + 1)) 1 0 ≡ 0 = ap (λ b. cond b 1 0) (ne_eqb a (m + 1) (λ e. omega arith)) in
-    omega arith
+none-after a m (suc k) h = search (rules, ne_eqb, (none-after a (m + 1) k (omega arith)))
 
 one-after : (a m k : ℕ) → m < a → a ≤ m + k → size (map (one_at a) (after m k)) ≡ 1
 unfolding one_at
 one-after a m zero h l = absurd (omega arith)
-one-after a m (suc k) h l = elim (cases_eq a (m + 1)) [
-  | inl e ↦
-      let first : cond {A = ℕ} (eqb a (m + 1)) 1 0 ≡ 1 = ap (λ b. cond b 1 0) (eq-eqb a (m + 1) e) in
-      let rest = none-after a (m + 1) k (omega arith) in
-      omega arith
-  | inr n ↦
-      let first : cond {A = ℕ} (eqb a (m + 1)) 1 0 ≡ 0 = ap (λ b. cond b 1 0) (ne_eqb a (m + 1) n) in
-      let rest = one-after a (m + 1) k (omega (arith, n)) (omega arith) in
-      omega arith
-]
+one-after a m (suc k) h l = search (rules, cases_eq, eq-eqb, none-after, ne_eqb, (one-after a (m + 1) k))
 
 pub size-content : (k : ℕ) (w : List ℕ) → AreLetters k w → size (content k w) ≡ length w
 unfolding one_at

@@ -1,6 +1,5 @@
--- Exponent lists: the test `same` of their equality, their sums (`join`), and lists cut or padded to n places
--- (`resize`).
-use Rattle.std.proofs.Common.{◌≡◌, ℕ, zero, suc, ◌+◌, ◌≤◌, max, ◌⊎◌, Bool, true, false, ◌&&◌, ◌==◌, List, [], ◌∷◌, length, replicate, sym, ◌∙◌, ap, ap₂, subst, refl, inl, inr, arith, eqb-true, eq-eqb, add-zero, add_comm, add_assoc, get_or}
+-- Exponent lists: the test `same` for equality, sums (`join`), and lists cut or padded to n places (`resize`).
+use Rattle.std.proofs.Common.{◌≡◌, ℕ, zero, suc, ◌+◌, ◌≤◌, max, ◌⊎◌, Bool, true, false, ◌&&◌, ◌==◌, List, [], ◌∷◌, length, replicate, sym, ◌∙◌, ap, ap₂, subst, refl, inl, inr, arith, eqb-true, eq-eqb, add-zero, add_comm, add_assoc, get_or, rules}
 use Rattle.std.proofs.lemmas.Bool.{and_parts, and_from, cases_Bool, false_from_ne_true, both_ways}
 use Rattle.std.proofs.Math.Bool.{and-true}
 use Rattle.sym_model.specs.Polynomial.{same, join, resize, all_zero, fits_in}
@@ -9,7 +8,6 @@ use Rattle.sym_model.specs.Sum.{Among}
 use Rattle.std.specs.Prelude.{nat_eq}
 use Rattle.std.specs.Cmp.Lexicographic.{pointwise}
 
--- two truth values are equal if each of them implies the other
 pub tests_agree : (x y : Bool) → (x ≡ true → y ≡ true) → (y ≡ true → x ≡ true) → x ≡ y
 tests_agree true y f g = sym (f refl)
 tests_agree false true f g = g refl
@@ -36,7 +34,6 @@ same_false α β e d = both_ways (same α β) e (same_from α β d)
 pub same_apart : (α β : List ℕ) → (α ≡ β → ⊥) → same α β ≡ false
 same_apart α β h = false_from_ne_true (same α β) (λ e. h (same_true α β e))
 
--- two exponent lists α and β are equal, or they are not equal
 pub same_or_not : (α β : List ℕ) → (α ≡ β) ⊎ (α ≡ β → ⊥)
 same_or_not α β = elim (cases_Bool (same α β)) [ inl e ↦ inl (same_true α β e) | inr e ↦ inr (same_false α β e) ]
 
@@ -68,7 +65,6 @@ length-join (a ∷ α) (b ∷ β) = let e = length-join α β in omega arith
 pub length-join_same : (n : ℕ) (α β : List ℕ) → length α ≡ n → length β ≡ n → length (join α β) ≡ n
 length-join_same n α β d e = omega (arith, length-join α β)
 
--- if n ≤ length α, the sum of a list of n zeros and α is α
 pub join_zeros : (n : ℕ) (α : List ℕ) → n ≤ length α → join (replicate n 0) α ≡ α
 join_zeros zero α h = refl
 join_zeros (suc n) [] h = absurd (omega arith)
@@ -90,7 +86,7 @@ size-join [] β = omega arith
 size-join (a ∷ α) [] = omega arith
 size-join (a ∷ α) (b ∷ β) = let h = size-join α β in omega arith
 
--- ---- exponent lists cut or padded to n places (`resize`), and the tests `all_zero` and `fits_in`
+-- ---- exponent lists cut or padded to n places (`resize`), and the tests for zeros everywhere or after place n (`all_zero`, `fits_in`)
 
 pub length-resize : (n : ℕ) (α : List ℕ) → length (resize n α) ≡ n
 length-resize zero α = refl
@@ -120,12 +116,7 @@ resize-join (suc n) (a ∷ α) [] = ap₂ ◌∷◌ (sym (add-zero a)) (ap (resi
 resize-join (suc n) (a ∷ α) (b ∷ β) = ap₂ ◌∷◌ refl (resize-join n α β)
 
 zero_sum : (a b : ℕ) → (a + b == 0) ≡ ((a == 0) && (b == 0))
-zero_sum a b =
-    tests_agree
-    (a + b == 0)
-    ((a == 0) && (b == 0))
-    (λ e. let d = eqb-true (a + b) 0 e in and_from (a == 0) (b == 0) (eq-eqb a 0 (omega arith)) (eq-eqb b 0 (omega arith)))
-    (λ e. let p = and_parts (a == 0) (b == 0) e in let c = eqb-true a 0 p.0 in let d = eqb-true b 0 p.1 in eq-eqb (a + b) 0 (omega arith))
+zero_sum a b = search rules
 
 pub and_exchange : (p q r s : Bool) → ((p && q) && (r && s)) ≡ ((p && r) && (q && s))
 and_exchange true true r s = refl
@@ -153,7 +144,6 @@ fits_in_zeros zero k = all_zero_zeros k
 fits_in_zeros (suc n) zero = refl
 fits_in_zeros (suc n) (suc k) = fits_in_zeros n k
 
--- an exponent list of at most n places has no positive exponent after place n
 pub fits_in_length : (n : ℕ) (α : List ℕ) → length α ≤ n → fits_in n α ≡ true
 fits_in_length zero [] h = refl
 fits_in_length zero (a ∷ α) h = absurd (omega arith)

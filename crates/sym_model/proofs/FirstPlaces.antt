@@ -1,15 +1,13 @@
 -- The first n entries of a list, with zeros for missing entries: `resize n` of specs/Polynomial, entry by entry.
-use Rattle.std.proofs.Common.{◌≡◌, ◌⊎◌, ℕ, zero, suc, ◌+◌, ◌≤◌, List, [], ◌∷◌, ◌++◌, length, get_or, sym, ◌∙◌, ap, subst, refl, inl, inr, arith}
+use Rattle.std.proofs.Common.{◌≡◌, ◌⊎◌, ℕ, zero, suc, ◌+◌, ◌≤◌, List, [], ◌∷◌, ◌++◌, length, get_or, sym, ap, subst, refl, inl, inr, arith, rules}
 use Rattle.sym_model.specs.Sum.{Among}
 use Rattle.sym_model.specs.Polynomial.{resize}
-use Rattle.sym_model.specs.Partition.{Falls, IsPartition, size, insert_part, sorted_parts}
+use Rattle.sym_model.specs.Partition.{Falls, IsPartition, size, sorted_parts}
 use Rattle.sym_model.proofs.Exponents.{resize-nil}
 use Rattle.sym_model.proofs.Parts.{size-append, Falls-zeros}
 use Rattle.sym_model.proofs.SortedParts.{insert_part-front, IsPartition_tail}
 use Rattle.sym_model.proofs.Sums.{Among_from_append}
 
--- the first n + 1 entries of xs, with zeros for missing ones, are its first n entries followed by the entry at place
--- n, counted from 0
 pub resize-next : (n : ℕ) (xs : List ℕ) → resize (suc n) xs ≡ resize n xs ++ get_or xs n 0 ∷ []
 resize-next zero [] = refl
 resize-next zero (a ∷ xs) = refl
@@ -26,8 +24,6 @@ Falls-resize (suc zero) (a ∷ xs) f = tt
 Falls-resize (suc (suc n)) (a ∷ []) f = (omega arith, Falls-resize (suc n) [] tt)
 Falls-resize (suc (suc n)) (a ∷ b ∷ xs) f = (f.0, Falls-resize (suc n) (b ∷ xs) f.1)
 
--- in a weakly decreasing list xs, the entry at place n, counted from 0, is at most each of the first n entries; a
--- missing entry counts as 0
 pub next-resize : (n : ℕ) (xs : List ℕ) (a : ℕ) → Falls xs → Among a (resize n xs) → get_or xs n 0 ≤ a
 next-resize zero xs a f m = absurd m
 next-resize (suc n) [] a f m = omega arith
@@ -37,8 +33,6 @@ next-resize (suc zero) (b ∷ c ∷ xs) a f (inr m) = absurd m
 next-resize (suc (suc n)) (b ∷ c ∷ xs) a f (inl e) = omega (arith, e, f.0, next-resize (suc n) (c ∷ xs) c f.1 (inl refl))
 next-resize (suc (suc n)) (b ∷ c ∷ xs) a f (inr m) = next-resize (suc n) (c ∷ xs) a f.1 m
 
--- in a weakly decreasing list xs, the entry at place n, counted from 0, is at most each of the first n + 1 entries; a
--- missing entry counts as 0
 pub last-resize : (n : ℕ) (xs : List ℕ) (a : ℕ) → Falls xs → Among a (resize (suc n) xs) → get_or xs n 0 ≤ a
 last-resize n xs a f m =
     by (Among_from_append a (resize n xs) (get_or xs n 0 ∷ []) (subst (Among a) (resize-next n xs) m))
@@ -48,11 +42,9 @@ last-resize n xs a f m =
     by (inr (inl e)) = omega arith
     by (inr (inr m)) = absurd m
 
--- the parts of a partition with at most n parts, padded with zeros to n places, sort to that partition
 pub sorted_parts-resize : (n : ℕ) (parts : List ℕ) → IsPartition parts → length parts ≤ n → sorted_parts (resize n parts) ≡ parts
 sorted_parts-resize zero [] p h = refl
 sorted_parts-resize zero (a ∷ parts) p h = absurd (omega arith)
 sorted_parts-resize (suc n) [] p h = sorted_parts-resize n [] p (omega arith)
 sorted_parts-resize (suc n) (a ∷ parts) p h =
-    ap (insert_part a) (sorted_parts-resize n parts (IsPartition_tail a parts p) (omega arith))
-    ∙ insert_part-front a parts p.positive.0 p.falls
+    search (rules, insert_part-front, (sorted_parts-resize n parts (IsPartition_tail a parts p) (omega arith)))

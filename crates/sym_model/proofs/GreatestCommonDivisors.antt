@@ -1,6 +1,5 @@
--- Euclid's rule computes the greatest common divisor of two numbers, with any number of steps greater than the second
--- number.
-use Rattle.std.proofs.Common.{◌≡◌, ℕ, zero, suc, ◌+◌, ◌*◌, ◌/◌, ◌%◌, ◌<◌, ◌≤◌, refl, sym, subst, ap, ◌∙◌, arith, add-one}
+-- Euclid's rule gives the greatest common divisor of a and b if more than b steps are allowed.
+use Rattle.std.proofs.Common.{◌≡◌, ℕ, zero, suc, ◌+◌, ◌*◌, ◌/◌, ◌%◌, ◌<◌, ◌≤◌, refl, sym, subst, ap, ◌∙◌, arith, add-one, rules}
 use Rattle.std.specs.Int.{IsGcd, ◌∣◌}
 use Rattle.std.proofs.lemmas.Nat.Gcd.{IsGcd-from_zero, IsGcd-from_mod, same_from_IsGcd, le_from_IsGcd, dvd_refl, dvd-zero}
 use Rattle.std.proofs.Math.Nat.{div-mul_cancel}
@@ -9,8 +8,6 @@ use Rattle.sym_model.specs.Canonical.{gcd_within, gcd}
 below_next : (a b k : ℕ) → suc b < suc k → a % suc b < k
 below_next a b k h = omega arith
 
--- if k and m are both greater than b, Euclid's rule gives for a and b in at most k steps the same result as in at
--- most m steps
 gcd_within-enough : (k m a b : ℕ) → b < k → b < m → gcd_within k a b ≡ gcd_within m a b
 gcd_within-enough zero m a b h l = absurd (omega arith)
 gcd_within-enough (suc k) zero a b h l = absurd (omega arith)
@@ -18,12 +15,8 @@ gcd_within-enough (suc k) (suc m) a zero h l = refl
 gcd_within-enough (suc k) (suc m) a (suc b) h l =
     gcd_within-enough k m (suc b) (a % suc b) (below_next a b k h) (below_next a b m l)
 
--- gcd(a, b + 1) is gcd(b + 1, a mod (b + 1)), one step of Euclid's rule
 gcd-step_suc : (a b : ℕ) → gcd a (suc b) ≡ gcd (suc b) (a % suc b)
-gcd-step_suc a b =
-    let r : a % suc b < suc b = omega arith in
-    ap (λ k. gcd_within k a (suc b)) (add-one (suc b))
-    ∙ gcd_within-enough (suc b) (a % suc b + 1) (suc b) (a % suc b) r (omega arith)
+gcd-step_suc a b = search (rules, add-one, gcd_within-enough)
 
 pub gcd-step : (a b : ℕ) → 0 < b → gcd a b ≡ gcd b (a % b)
 gcd-step a zero h = absurd (omega arith)
@@ -45,7 +38,6 @@ gcd-only a b g h = same_from_IsGcd a b (gcd a b) g (IsGcd-gcd a b) h
 mul-zero_at : (n g : ℕ) → g ≡ 0 → n * g ≡ 0
 mul-zero_at n g e = ap (λ x. n * x) e ∙ omega arith
 
--- gcd(a, b) is positive if a is positive
 pub gcd-positive : (a b : ℕ) → 0 < a → 0 < gcd a b
 gcd-positive a b h = by (gcd a b) refl
   where

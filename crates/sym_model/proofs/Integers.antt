@@ -1,6 +1,6 @@
--- Integers: absolute values, products and signs, and the test `is_past` of specs/PastLimit for an integer over 2^127
--- - 1.
-use Rattle.std.proofs.Common.{ℕ, ◌+◌, ◌+ℤ◌, arith, negsuc, pos, ℤ, ◌≤◌, inl, inr, refl, suc, zero, ◌≡◌, ◌⊎◌, ◌*ℤ◌, ◌^◌, true, neg_ℤ, ◌*◌, Bool, cond, false, ◌<◌, ap, ◌&&◌}
+-- Integers: absolute values, products and signs, and the test `is_past` of specs/PastLimit, whether an integer exceeds
+-- 2^127 - 1.
+use Rattle.std.proofs.Common.{ℕ, ◌+◌, ◌+ℤ◌, arith, negsuc, pos, ℤ, ◌≤◌, inl, inr, refl, suc, zero, ◌≡◌, ◌⊎◌, ◌*ℤ◌, ◌^◌, true, neg_ℤ, ◌*◌, Bool, cond, false, ◌<◌, ◌&&◌, rules}
 use Rattle.std.proofs.lemmas.Int.{ints}
 use Rattle.std.specs.Prelude.{nat_abs, ◌≤ℤ◌}
 use native.Mathlib.Nat.{eq_of_mul-eq-mul_right, add-mul, mul-le-mul_left}
@@ -74,7 +74,6 @@ pub at_most_absolute : (z : ℤ) → z ≤ℤ pos (nat_abs z)
 at_most_absolute (pos n) = omega (arith, ints)
 at_most_absolute (negsuc n) = omega (arith, ints)
 
--- an integer that is not negative and not 0 is at least 1
 pub at_least_one : (z : ℤ) → pos 0 ≤ℤ z → (z ≡ pos 0 → ⊥) → pos 1 ≤ℤ z
 at_least_one (pos zero) g n = absurd (n refl)
 at_least_one (pos (suc a)) g n = omega (arith, ints)
@@ -91,13 +90,8 @@ abbrev pub sign_of : ℤ → ℤ
 sign_of (pos n) = pos 1
 sign_of (negsuc n) = negsuc 0
 
--- if x·d = y·d for a positive d, then x = y
 pub product_cancel : (x y : ℤ) (d : ℕ) → 0 < d → x *ℤ pos d ≡ y *ℤ pos d → x ≡ y
-product_cancel x y d some e =
-    let both : (up x + down y) * d ≡ (up y + down x) * d =
-    omega (arith, ints, ap up e, ap down e, add-mul (up x) (down y) d, add-mul (up y) (down x) d) in
-    let parts : up x + down y ≡ up y + down x = eq_of_mul-eq-mul_right d some (up x + down y) (up y + down x) both in
-    omega (arith, ints)
+product_cancel x y d some e = search (rules, up, down, ints, add-mul, eq_of_mul-eq-mul_right)
 
 pub product-neg_one : (c : ℤ) → c *ℤ negsuc 0 ≡ neg_ℤ c
 product-neg_one c = omega (arith, ints)
@@ -105,7 +99,6 @@ product-neg_one c = omega (arith, ints)
 pub neg_one-product : (c : ℤ) → negsuc 0 *ℤ c ≡ neg_ℤ c
 neg_one-product c = omega (arith, ints)
 
--- natural numbers that are equal as integers are equal
 pub pos_equal : {a b : ℕ} → pos a ≡ pos b → a ≡ b
 pos_equal {a} {b} e = omega (arith, ints)
 
@@ -121,11 +114,5 @@ pub sign_size : (n : ℕ) → nat_abs (minus_one_to n) ≡ 1
 sign_size zero = refl
 sign_size (suc n) = let h = sign_size n in omega (arith, ints)
 
--- if c is not 0 and most ≤ n, then most ≤ |c·n|
 pub nat_abs-multiple : (c : ℤ) (n most : ℕ) → (c ≡ pos 0 → ⊥) → most ≤ n → most ≤ nat_abs (c *ℤ pos n)
-nat_abs-multiple c n most some h = by c some (nat_abs-product c (pos n))
-  where
-    by : (c : ℤ) → (c ≡ pos 0 → ⊥) → nat_abs (c *ℤ pos n) ≡ nat_abs c * n → most ≤ nat_abs (c *ℤ pos n)
-    by (pos zero) some e = absurd (some refl)
-    by (pos (suc a)) some e = omega (arith, e, mul-le-mul_left n (let o : 1 ≤ suc a = omega arith in o))
-    by (negsuc a) some e = omega (arith, e, mul-le-mul_left n (let o : 1 ≤ suc a = omega arith in o))
+nat_abs-multiple c n most some h = search (rules, nat_abs-product, mul-le-mul_left)

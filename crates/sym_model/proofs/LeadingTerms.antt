@@ -1,7 +1,7 @@
 -- The lexicographic order of exponent lists, and greatest monomials: if x^α and x^β are the greatest monomials of f
 -- and g, then the coefficient of f·g at α + β is the product of their coefficients, so a polynomial whose greatest
 -- monomial has the coefficient 1 or -1 can be cancelled from a product.
-use Rattle.std.proofs.Common.{◌≡◌, ℕ, zero, suc, ◌+◌, ◌≤◌, ◌<◌, ◌⊎◌, Bool, true, false, cond, not, List, [], ◌∷◌, length, sym, ◌∙◌, ap, ap₂, subst, refl, inl, inr, arith, ℤ, pos, ◌*ℤ◌, neg_ℤ}
+use Rattle.std.proofs.Common.{◌≡◌, ℕ, zero, suc, ◌+◌, ◌≤◌, ◌<◌, ◌⊎◌, cond, not, List, [], ◌∷◌, length, sym, ◌∙◌, ap, ap₂, subst, refl, inl, inr, arith, ℤ, pos, ◌*ℤ◌, neg_ℤ, rules}
 use Rattle.std.proofs.lemmas.Bool.{cases_eq, cases_Bool, cases_order}
 use Rattle.std.proofs.lemmas.Int.{ints}
 use Rattle.sym_model.specs.Sum.{Among}
@@ -30,21 +30,11 @@ Above_trans (a ∷ α) (b ∷ β) (c ∷ γ) (inl h) (inr k) = let e = k.0 in in
 Above_trans (a ∷ α) (b ∷ β) (c ∷ γ) (inr h) (inl k) = let e = h.0 in inl (omega arith)
 Above_trans (a ∷ α) (b ∷ β) (c ∷ γ) (inr h) (inr k) = inr (h.0 ∙ k.0, Above_trans α β γ h.1 k.1)
 
--- of two exponent lists, one is above the other one in lexicographic order, or they are equal
 pub Above_total : (α β : List ℕ) → (α ≡ β) ⊎ (Above α β ⊎ Above β α)
 Above_total [] [] = inl refl
 Above_total [] (b ∷ β) = inr (inr tt)
 Above_total (a ∷ α) [] = inr (inl tt)
-Above_total (a ∷ α) (b ∷ β) =
-    elim (cases_order a b) [
-      | inl e ↦ elim (Above_total α β) [
-        | inl d ↦ inl (ap₂ ◌∷◌ e d)
-        | inr (inl h) ↦ inr (inl (inr (e, h)))
-        | inr (inr h) ↦ inr (inr (inr (sym e, h)))
-      ]
-      | inr (inl h) ↦ inr (inr (inl h))
-      | inr (inr h) ↦ inr (inl (inl h))
-    ]
+Above_total (a ∷ α) (b ∷ β) = search (rules, cases_order, (Above_total α β))
 
 -- for α, δ, τ, β of one length: if α + δ is above τ + β, then α is above τ or δ is above β
 pub Above_from_join : (α δ τ β : List ℕ) → length α ≡ length τ → length δ ≡ length β → length α ≡ length δ → Above (join α δ) (join τ β) → Above α τ ⊎ Above δ β
@@ -54,22 +44,8 @@ Above_from_join (a ∷ α) [] τ β k l m h = absurd (omega arith)
 Above_from_join (a ∷ α) (d ∷ δ) [] β k l m h = absurd (omega arith)
 Above_from_join (a ∷ α) (d ∷ δ) (t ∷ τ) [] k l m h = absurd (omega arith)
 Above_from_join (a ∷ α) (d ∷ δ) (t ∷ τ) (b ∷ β) k l m h =
-    by (cases_order a t) (cases_order d b) h (Above_from_join α δ τ β (omega arith) (omega arith) (omega arith))
-  where
-    by : (a ≡ t) ⊎ ((a < t) ⊎ (t < a)) → (d ≡ b) ⊎ ((d < b) ⊎ (b < d)) → (t + b < a + d) ⊎ ((a + d ≡ t + b) × Above (join α δ) (join τ β))
-        → (Above (join α δ) (join τ β) → Above α τ ⊎ Above δ β) → Above (a ∷ α) (t ∷ τ) ⊎ Above (d ∷ δ) (b ∷ β)
-    by (inr (inr p)) q h rest = inl (inl p)
-    by p (inr (inr q)) h rest = inr (inl q)
-    by (inl p) (inl q) (inl h) rest = absurd (omega arith)
-    by (inl p) (inl q) (inr h) rest = elim (rest h.1) [ inl x ↦ inl (inr (p, x)) | inr y ↦ inr (inr (q, y)) ]
-    by (inl p) (inr (inl q)) (inl h) rest = absurd (omega arith)
-    by (inl p) (inr (inl q)) (inr h) rest = let e = h.0 in absurd (omega arith)
-    by (inr (inl p)) (inl q) (inl h) rest = absurd (omega arith)
-    by (inr (inl p)) (inl q) (inr h) rest = let e = h.0 in absurd (omega arith)
-    by (inr (inl p)) (inr (inl q)) (inl h) rest = absurd (omega arith)
-    by (inr (inl p)) (inr (inl q)) (inr h) rest = let e = h.0 in absurd (omega arith)
+    search (rules, cases_order, (Above_from_join α δ τ β (omega arith) (omega arith) (omega arith)))
 
--- for α, τ, δ of one length: if α is above τ, then α + δ is above τ + δ
 pub Above-join : (α τ δ : List ℕ) → length α ≡ length τ → length δ ≡ length α → Above α τ → Above (join α δ) (join τ δ)
 Above-join [] τ δ k l h = absurd h
 Above-join (a ∷ α) [] δ k l h = absurd (omega arith)
@@ -77,7 +53,6 @@ Above-join (a ∷ α) (t ∷ τ) [] k l h = absurd (omega arith)
 Above-join (a ∷ α) (t ∷ τ) (d ∷ δ) k l (inl h) = inl (omega arith)
 Above-join (a ∷ α) (t ∷ τ) (d ∷ δ) k l (inr h) = inr (ap (λ x. x + d) h.0, Above-join α τ δ (omega arith) (omega arith) h.1)
 
--- for α, δ, τ, β of one length: if α + δ = τ + β and τ is above α, then δ is above β
 pub Above_rest : (α δ τ β : List ℕ) → length α ≡ length τ → length δ ≡ length β → length α ≡ length δ → Above τ α → join α δ ≡ join τ β → Above δ β
 Above_rest α δ τ β k l m h e =
     elim (Above_from_join τ δ τ β refl l (sym k ∙ m) (subst (λ γ. Above (join τ δ) γ) e (Above-join τ α δ (sym k) (sym m ∙ k) h))) [
@@ -85,15 +60,11 @@ Above_rest α δ τ β k l m h e =
       | inr x ↦ x
     ]
 
--- ---- coefficients of a product at and above the sum of the exponents of the greatest monomials of its factors
+-- ---- the coefficients of a product f·g at and above the product of the greatest monomials of f and g
 
--- the coefficient of x^γ in f·g is the sum, over the terms a·x^α of f, of a times the sum of the b over the terms
--- b·x^δ of g with α + δ = γ
 coefficient_times : (f g : Poly) (γ : List ℕ) → coefficient (times f g) γ ≡ pair f (λ α. pair g (λ δ. at_only γ (join α δ)))
 coefficient_times f g γ = coefficient_pair (times f g) γ ∙ pair_times f g (at_only γ)
 
--- if g has the coefficient 0 at each δ with α + δ = γ, then the sum of the b over the terms b·x^δ of g with α + δ = γ
--- is 0
 asks_nothing : (g : Poly) (α γ : List ℕ) → ((δ : List ℕ) → join α δ ≡ γ → coefficient g δ ≡ pos 0) → pair g (λ δ. at_only γ (join α δ)) ≡ pos 0
 asks_nothing g α γ h =
     pair_agree g (λ δ. at_only γ (join α δ)) (λ δ. pos 0) (λ δ. elim (cases_Bool (same (join α δ) γ)) [
@@ -102,7 +73,6 @@ asks_nothing g α γ h =
     ])
     ∙ pair_zero g
 
--- for a polynomial f in n variables: f has the coefficient 0 at α, or α has n places
 places_or_none : (n : ℕ) (f : Poly) (α : List ℕ) → In n f → (coefficient f α ≡ pos 0) ⊎ (length α ≡ n)
 places_or_none n f α i = elim (cases_eq (length α) n) [ inl e ↦ inr e | inr d ↦ inl (coefficient_outside n f α i d) ]
 
@@ -167,8 +137,6 @@ none_above_times n f g τ β i j k l a b γ h =
       ]
     ]
 
--- ---- the greatest exponents of the terms of a polynomial
-
 -- if no term of f has exponents above `top`, each monomial above x^top has the coefficient 0 in f
 pub none_above_terms : (f : Poly) (top : List ℕ) → ((t : Term) → Among t f → Above t.0 top → ⊥) → IsNoneAbove f top
 none_above_terms f top h α x =
@@ -207,19 +175,8 @@ greatest t (v ∷ f) = by (greatest v f)
 -- if c is 1 or -1 and the exponents of all terms of f are below `top`, then x^top is the greatest monomial of
 -- c·x^top + f, with the coefficient 1 or -1
 pub leads_first : (top : List ℕ) (c : ℤ) (f : Poly) → (c ≡ pos 1) ⊎ (c ≡ neg_ℤ (pos 1)) → ((t : Term) → Among t f → Above top t.0) → Leads ((top, c) ∷ f) top
-leads_first top c f u below = record { unit_at_top = elim u [ inl e ↦ inl (at_top ∙ e) | inr e ↦ inr (at_top ∙ e) ]; none_above = none_above_terms ((top, c) ∷ f) top no_higher }
-  where
-    at_top : coefficient ((top, c) ∷ f) top ≡ c
-    at_top =
-        let z = total_none (λ (t : Term). cond (same t.0 top) t.1 (pos 0)) f (λ t m. ap (λ b. cond b t.1 (pos 0)) (same_apart t.0 top (λ e. Above_irrefl top (subst (λ γ. Above top γ) e (below t m))))) in
-        let e = ap (λ b. cond b c (pos 0)) (same_refl top) in
-        omega (arith, ints)
+leads_first top c f u below = search (rules, none_above_terms, total_none, same_apart, Above_irrefl, same_refl, ints, Above_trans)
 
-    no_higher : (t : Term) → Among t ((top, c) ∷ f) → Above t.0 top → ⊥
-    no_higher t (inl e) h = Above_irrefl top (subst (λ (s : Term). Above s.0 top) e h)
-    no_higher t (inr m) h = Above_irrefl top (Above_trans top t.0 top (below t m) h)
-
--- if x^top is the greatest monomial of f (`Leads`), and f is a polynomial in n variables, then `top` has n places
 pub length_top : (n : ℕ) (f : Poly) (top : List ℕ) → In n f → Leads f top → length top ≡ n
 length_top n f top i l = elim (places_or_none n f top i) [
   | inl z ↦ elim l.unit_at_top [ inl e ↦ absurd (omega (arith, ints)) | inr e ↦ absurd (omega (arith, ints)) ]
@@ -239,12 +196,10 @@ leads_times n f g τ β i j p q =
     at : coefficient (times f g) (join τ β) ≡ coefficient f τ *ℤ coefficient g β
     at = coefficient_at_top n f g τ β i j (length_top n f τ i p) (length_top n g β j q) p.none_above q.none_above
 
--- if c is 1 or -1, c·d is 0 only if d is 0
 unit_times : (c d : ℤ) → (c ≡ pos 1) ⊎ (c ≡ neg_ℤ (pos 1)) → c *ℤ d ≡ pos 0 → d ≡ pos 0
 unit_times c d (inl e) z = let k = one-product d in let h = ap (λ x. x *ℤ d) e in omega (arith, ints)
 unit_times c d (inr e) z = let k = one-product d in let m = negation-product (pos 1) d in let h = ap (λ x. x *ℤ d) e in omega (arith, ints)
 
--- if f has the coefficient 0 at β, then f without its terms at β is the same polynomial as f
 same_others : (β : List ℕ) (f : Poly) → coefficient f β ≡ pos 0 → Same (others β f) f
 same_others β f z α = elim (same_or_not β α) [
   | inl e ↦ subst (λ γ. coefficient (others β f) γ ≡ coefficient f γ) e (others_there β f ∙ sym z)
@@ -253,15 +208,8 @@ same_others β f z α = elim (same_or_not β α) [
 
 length_others_member : (s : Term) (f : Poly) → Among s f → length (others s.0 f) < length f
 length_others_member s [] m = absurd m
-length_others_member s (t ∷ f) (inl e) =
-    let h = length_others s.0 f in
-    let c = ap (λ b. length (cond (not b) (t ∷ others s.0 f) (others s.0 f))) (same_from t.0 s.0 (ap (λ (v : Term). v.0) (sym e))) in
-    omega arith
-length_others_member s (t ∷ f) (inr m) = by (same t.0 s.0) (length_others_member s f m)
-  where
-    by : (b : Bool) → length (others s.0 f) < length f → length (cond (not b) (t ∷ others s.0 f) (others s.0 f)) < suc (length f)
-    by true h = omega arith
-    by false h = omega arith
+length_others_member s (t ∷ f) (inl e) = search (rules, length_others, others, same_from)
+length_others_member s (t ∷ f) (inr m) = search (rules, others, (length_others_member s f m))
 
 nothing_by_length : (k n : ℕ) (f d : Poly) (τ : List ℕ) → length d ≤ k → In n f → In n d → Leads f τ → Same (times f d) nothing → Same d nothing
 nothing_by_length k n f [] τ h i j l z = Same_refl nothing

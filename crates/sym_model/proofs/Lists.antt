@@ -1,5 +1,5 @@
 -- Lists: `flat_map`, `filter` and `map` over lists that are appended or mapped, and the element at a place of a list.
-use Rattle.std.proofs.Common.{◌<◌, List, [], arith, get_or, length, refl, suc, ℕ, ◌∷◌, ◌≡◌, ◌++◌, ap, sym, ◌∙◌, append-nil, drop, ap₂, inl, inr, map, Bool, cond, false, true, ◌+◌, filter, flat_map, ◌≤◌, nat_lt, take, ◌==◌, zero}
+use Rattle.std.proofs.Common.{◌<◌, List, [], arith, get_or, length, refl, suc, ℕ, ◌∷◌, ◌≡◌, ◌++◌, ap, sym, ◌∙◌, append-nil, drop, ap₂, inl, inr, map, Bool, cond, false, true, ◌+◌, filter, flat_map, ◌≤◌, take, ◌==◌, zero, rules}
 use Rattle.std.proofs.Math.Seq.{split_at}
 use Rattle.std.proofs.lemmas.List.{take_more}
 use Rattle.sym_model.specs.Sum.{Among}
@@ -34,11 +34,7 @@ some_items (x ∷ xs) h = omega arith
 
 pub length-filter-within : {A : Type 0} (test : A → Bool) (xs : List A) → length (filter test xs) ≤ length xs
 length-filter-within test [] = omega arith
-length-filter-within {A} test (x ∷ xs) = by (test x) (length-filter-within test xs)
-  where
-    by : (b : Bool) → length (filter test xs) ≤ length xs → length (cond {A = List A} b (x ∷ filter test xs) (filter test xs)) ≤ suc (length xs)
-    by true h = omega arith
-    by false h = omega arith
+length-filter-within {A} test (x ∷ xs) = search (rules, (length-filter-within test xs))
 
 pub map-among : {A B : Type 0} (f g : A → B) (xs : List A) → ((x : A) → Among x xs → f x ≡ g x) → map f xs ≡ map g xs
 map-among f g [] h = refl
@@ -50,12 +46,7 @@ select-each test f (x ∷ xs) = filter-append test (f x) (flat_map f xs) ∙ ap 
 
 pub select-map : {A B : Type 0} (test : B → Bool) (g : A → B) (xs : List A) → filter test (map g xs) ≡ map g (filter (λ (x : A). test (g x)) xs)
 select-map test g [] = refl
-select-map test g (x ∷ xs) = by (test (g x)) (select-map test g xs)
-  where
-    by : (b : Bool) → filter test (map g xs) ≡ map g (filter (λ x. test (g x)) xs)
-        → cond b (g x ∷ filter test (map g xs)) (filter test (map g xs)) ≡ map g (cond b (x ∷ filter (λ x. test (g x)) xs) (filter (λ x. test (g x)) xs))
-    by true e = ap (λ l. g x ∷ l) e
-    by false e = e
+select-map test g (x ∷ xs) = search (rules, (select-map test g xs))
 
 pub select-none : (test : List ℕ → Bool) (xs : List (List ℕ)) → ((x : List ℕ) → Among x xs → test x ≡ false) → filter test xs ≡ []
 select-none test [] h = refl
@@ -74,16 +65,9 @@ pub map-map : {A B C : Type 0} (f : B → C) (h : A → B) (xs : List A) → map
 map-map f h [] = refl
 map-map f h (x ∷ xs) = ap (λ l. f (h x) ∷ l) (map-map f h xs)
 
--- the number of letters of w that are smaller than a is at most the length of w
 pub smaller-within : (a : ℕ) (w : List ℕ) → smaller a w ≤ length w
 smaller-within a [] = omega arith
-smaller-within a (b ∷ w) = by (nat_lt b a) (smaller-within a w)
-  where
-    by : (t : Bool) → smaller a w ≤ length w → cond t 1 0 + smaller a w ≤ suc (length w)
-    by true h = omega arith
-    by false h = omega arith
-
--- ---- a list is its first i elements, the element at place i, counted from 0, and the elements after it
+smaller-within a (b ∷ w) = search (rules, (smaller-within a w))
 
 pub take-read : {A : Type 0} (xs : List A) (i : ℕ) (x : A) → i < length xs → x ≡ get_or xs i x → take i xs ++ x ∷ [] ≡ take (i + 1) xs
 take-read xs i x h e = ap (λ y. take i xs ++ y ∷ []) e ∙ sym (take_more xs i x h)

@@ -1,6 +1,6 @@
--- The polynomials of specs/Bases by their coefficients and their pairings (`pair`) with functions of exponents: sums
--- of monomials, m_λ and p_a.
-use Rattle.std.proofs.Common.{◌≡◌, ◌⊎◌, ℕ, zero, suc, ◌+◌, ◌-◌, ◌<◌, ◌≤◌, Bool, true, false, ◌&&◌, cond, eqb, leb, List, [], ◌∷◌, map, length, replicate, sym, ◌∙◌, ap, ap₂, subst, refl, inl, inr, arith, ℤ, pos, ◌+ℤ◌, filter, flat_map}
+-- The polynomials of specs/Bases (sums of monomials, m_λ and p_a): their coefficients, and their pairings. The pairing
+-- `pair f φ` of a polynomial f and a function φ of exponents is the sum of c·φ(α) over the terms c·x^α of f.
+use Rattle.std.proofs.Common.{◌≡◌, ℕ, zero, suc, ◌+◌, ◌-◌, ◌<◌, ◌≤◌, Bool, true, false, ◌&&◌, cond, eqb, leb, List, [], ◌∷◌, map, length, replicate, sym, ◌∙◌, ap, ap₂, refl, arith, ℤ, pos, ◌+ℤ◌, filter, flat_map, rules}
 use Rattle.std.proofs.lemmas.Int.{ints}
 use Rattle.std.proofs.lemmas.Bool.{cases_lt, cases_eq, le-leb, lt-leb, leb-true, eq-eqb, ne_eqb, eqb-true, cond-true, cond-false, true≢false, and_parts, and_from}
 use Rattle.sym_model.specs.Sum.{total, Among}
@@ -17,27 +17,9 @@ use Rattle.sym_model.proofs.Integers.{nested_tests, tests_exchanged}
 -- ---- sums over numbers or exponent lists in which only one term is not 0
 
 pub total_down_from-only : (g : ℕ → ℤ) (c d : ℕ) → total (λ (a : ℕ). cond (eqb a c) (g a) (pos 0)) (down_from d) ≡ cond (leb c d) (g c) (pos 0)
-total_down_from-only g c zero = by (cases_eq 0 c)
-  where
-    by : (0 ≡ c) ⊎ (0 ≡ c → ⊥) → cond (eqb 0 c) (g 0) (pos 0) +ℤ pos 0 ≡ cond (leb c 0) (g c) (pos 0)
-    by (inl e) = rw (eq-eqb 0 c e, le-leb c 0 (omega arith)) (omega (arith, ints, ap g e))
-    by (inr n) = rw (ne_eqb 0 c n, lt-leb c 0 (omega arith)) refl
-total_down_from-only g c (suc d) = by (cases_eq (suc d) c) (cases_lt d c) (total_down_from-only g c d)
-  where
-    rest : ℤ
-    rest = total (λ (a : ℕ). cond (eqb a c) (g a) (pos 0)) (down_from d)
-
-    by : (suc d ≡ c) ⊎ (suc d ≡ c → ⊥) → (d < c) ⊎ (c ≤ d) → total (λ (a : ℕ). cond (eqb a c) (g a) (pos 0)) (down_from d) ≡ cond (leb c d) (g c) (pos 0)
-        → cond (eqb (suc d) c) (g (suc d)) (pos 0) +ℤ total (λ (a : ℕ). cond (eqb a c) (g a) (pos 0)) (down_from d) ≡ cond (leb c (suc d)) (g c) (pos 0)
-    by (inl e) u r =
-        let r0 = r ∙ cond-false (leb c d) (g c) (pos 0) (lt-leb c d (omega arith)) in
-        rw (eq-eqb (suc d) c e, le-leb c (suc d) (omega arith)) (omega (arith, ints, ap g e))
-    by (inr n) (inl u) r =
-        let r0 = r ∙ cond-false (leb c d) (g c) (pos 0) (lt-leb c d u) in
-        rw (ne_eqb (suc d) c n, lt-leb c (suc d) (omega arith)) (omega (arith, ints))
-    by (inr n) (inr u) r =
-        let r0 = r ∙ cond-true (leb c d) (g c) (pos 0) (le-leb c d u) in
-        rw (ne_eqb (suc d) c n, le-leb c (suc d) (omega arith)) (omega (arith, ints))
+total_down_from-only g c zero = search rules
+total_down_from-only g c (suc d) =
+    search (rules, cases_eq, cases_lt, cond-false, lt-leb, eq-eqb, le-leb, ints, ne_eqb, cond-true, (total_down_from-only g c d))
 
 -- whether γ has n places and the sum d
 abbrev pub is_exponent_list : ℕ → ℕ → List ℕ → Bool
@@ -46,23 +28,9 @@ is_exponent_list n d γ = eqb (length γ) n && eqb (size γ) d
 -- the sum of φ(α) over the members α of `exponent_lists n d` that are equal to γ is φ(γ) if γ has n places and the
 -- sum d, and otherwise 0
 pub total_exponent_lists-only : (φ : List ℕ → ℤ) (γ : List ℕ) (n d : ℕ) → total (λ (α : List ℕ). cond (same α γ) (φ α) (pos 0)) (exponent_lists n d) ≡ cond (is_exponent_list n d γ) (φ γ) (pos 0)
-total_exponent_lists-only φ [] zero d = by (cases_eq d 0)
-  where
-    by : (d ≡ 0) ⊎ (d ≡ 0 → ⊥) → total (λ (α : List ℕ). cond (same α []) (φ α) (pos 0)) (cond (eqb d 0) ([] ∷ []) []) ≡ cond (is_exponent_list 0 d []) (φ []) (pos 0)
-    by (inl e) = rw (eq-eqb d 0 e, eq-eqb 0 d (sym e)) (+ℤ_idr (φ []))
-    by (inr n) = rw (ne_eqb d 0 n, ne_eqb 0 d (λ e. n (sym e))) refl
-total_exponent_lists-only φ (c ∷ γ) zero d = by (eqb d 0)
-  where
-    by : (b : Bool) → total (λ (α : List ℕ). cond (same α (c ∷ γ)) (φ α) (pos 0)) (cond b ([] ∷ []) []) ≡ cond (is_exponent_list 0 d (c ∷ γ)) (φ (c ∷ γ)) (pos 0)
-    by true = rw (ne_eqb (suc (length γ)) 0 (λ e. omega arith)) refl
-    by false = rw (ne_eqb (suc (length γ)) 0 (λ e. omega arith)) refl
-total_exponent_lists-only φ [] (suc n) d =
-    total_each (λ (α : List ℕ). cond (same α []) (φ α) (pos 0)) (λ (a : ℕ). map (λ (α : List ℕ). a ∷ α) (exponent_lists n (d - a))) (down_from d)
-    ∙ total_none
-    (λ (a : ℕ). total (λ (α : List ℕ). cond (same α []) (φ α) (pos 0)) (map (λ (α : List ℕ). a ∷ α) (exponent_lists n (d - a))))
-    (down_from d)
-    (λ a m. total_map (λ (α : List ℕ). cond (same α []) (φ α) (pos 0)) (λ (α : List ℕ). a ∷ α) (exponent_lists n (d - a)) ∙ total_zero (exponent_lists n (d - a)))
-    ∙ rw (ne_eqb 0 (suc n) (λ e. omega arith)) refl
+total_exponent_lists-only φ [] zero d = search rules
+total_exponent_lists-only φ (c ∷ γ) zero d = search rules
+total_exponent_lists-only φ [] (suc n) d = search (rules, total_each, total_none, total_map, total_zero, ne_eqb)
 total_exponent_lists-only φ (c ∷ γ) (suc n) d =
     total_each F (λ (a : ℕ). map (λ (α : List ℕ). a ∷ α) (exponent_lists n (d - a))) (down_from d)
     ∙ total_ext
@@ -102,8 +70,6 @@ total_exponent_lists-only φ (c ∷ γ) (suc n) d =
         and_from (leb c d) (is_exponent_list n (d - c) γ) (le-leb c d (omega arith))
         (and_from (eqb (length γ) n) (eqb (size γ) (d - c)) (eq-eqb (length γ) n (omega arith)) (eq-eqb (size γ) (d - c) (omega arith)))
 
--- ---- the coefficients of a sum of monomials that pass a test, and of m_λ
-
 -- the coefficient of x^γ in the sum of the monomials of degree d in n variables that pass a test is 1 if γ has n
 -- places, has the sum d and passes the test; otherwise it is 0
 pub coefficient-monomials : (test : List ℕ → Bool) (n d : ℕ) (γ : List ℕ) → coefficient (monomials test n d) γ ≡ cond (is_exponent_list n d γ) (cond (test γ) (pos 1) (pos 0)) (pos 0)
@@ -130,19 +96,8 @@ coefficient-monomial parts n γ =
     by true false d true e =
         absurd (true≢false (sym (eq-eqb (size γ) (size parts) (sym (size-sorted_parts γ) ∙ ap size (same_true (sorted_parts γ) parts e))) ∙ d))
 
--- ---- the members of `exponent_lists n d` are lists of n places with the sum d
-
--- each list of `exponent_lists n d` has n places and the sum d
 pub members_of-exponent_lists : (α : List ℕ) (n d : ℕ) → Among α (exponent_lists n d) → (length α ≡ n) × (size α ≡ d)
-members_of-exponent_lists α zero d m = by (cases_eq d 0) m
-  where
-    by : (d ≡ 0) ⊎ (d ≡ 0 → ⊥) → Among α (exponent_lists 0 d) → (length α ≡ 0) × (size α ≡ d)
-    by (inl e) m = none (subst (λ b. Among α (cond b ([] ∷ []) [])) (eq-eqb d 0 e) m)
-      where
-        none : Among α ([] ∷ []) → (length α ≡ 0) × (size α ≡ d)
-        none (inl u) = (ap length u, ap size u ∙ sym e)
-        none (inr u) = absurd u
-    by (inr n) m = absurd (subst (λ b. Among α (cond b ([] ∷ []) [])) (ne_eqb d 0 n) m)
+members_of-exponent_lists α zero d m = search rules
 members_of-exponent_lists α (suc n) d m =
     let r = Among_from_each (λ (a : ℕ). map (λ (β : List ℕ). a ∷ β) (exponent_lists n (d - a))) α (down_from d) m in
     let s = Among_from_map (λ (β : List ℕ). r.0 ∷ β) α (exponent_lists n (d - r.0)) r.2 in
@@ -163,7 +118,6 @@ abbrev pub one_place : ℕ → ℕ → List (List ℕ)
 one_place a zero = []
 one_place a (suc n) = (a ∷ replicate n 0) ∷ map (λ (α : List ℕ). 0 ∷ α) (one_place a n)
 
--- a sum of φ over the exponent lists of n places with the sum 0 is the value of φ at the list of n zeros
 pub total_exponent_lists-zero : (φ : List ℕ → ℤ) (n : ℕ) → total φ (exponent_lists n 0) ≡ φ (replicate n 0)
 total_exponent_lists-zero φ zero = +ℤ_idr (φ [])
 total_exponent_lists-zero φ (suc n) =
@@ -172,14 +126,10 @@ total_exponent_lists-zero φ (suc n) =
     ∙ total_map φ (λ (α : List ℕ). 0 ∷ α) (exponent_lists n 0)
     ∙ total_exponent_lists-zero (λ α. φ (0 ∷ α)) n
 
--- if g is 0 at 1, .., d, the sum of g over d, .., 1, 0 is g(0)
 pub total_down_from-last : (g : ℕ → ℤ) (d : ℕ) → ((c : ℕ) → 0 < c → c ≤ d → g c ≡ pos 0) → total g (down_from d) ≡ g 0
 total_down_from-last g zero z = +ℤ_idr (g 0)
-total_down_from-last g (suc d) z =
-    ap (λ n. n +ℤ total g (down_from d)) (z (suc d) (omega arith) (omega arith)) ∙ +ℤ_idl (total g (down_from d))
-    ∙ total_down_from-last g d (λ c l h. z c l (omega arith))
+total_down_from-last g (suc d) z = search (rules, +ℤ_idl, (total_down_from-last g d))
 
--- if a is greater than the sum of the entries of α, then a is not an entry of α
 pub has_above_size : (a : ℕ) (α : List ℕ) → size α < a → has a α ≡ false
 has_above_size a [] h = refl
 has_above_size a (c ∷ α) h = rw (ne_eqb c a (λ e. omega arith)) (has_above_size a α (omega arith))
@@ -223,7 +173,4 @@ total_power_sum a (suc n) φ =
 -- lists of x_1^a, .., x_n^a
 pub pair-power_sum_of : (a n : ℕ) (φ : List ℕ → ℤ) → 0 < a → pair (power_sum_of a n) φ ≡ total φ (one_place a n)
 pair-power_sum_of zero n φ h = absurd (omega arith)
-pair-power_sum_of (suc a) n φ h =
-    pair_monomials (filter (has (suc a)) (exponent_lists n (suc a))) φ
-    ∙ total_select φ (has (suc a)) (exponent_lists n (suc a))
-    ∙ total_power_sum a n φ
+pair-power_sum_of (suc a) n φ h = search (rules, pair_monomials, total_select, total_power_sum)

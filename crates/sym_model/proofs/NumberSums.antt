@@ -5,32 +5,24 @@
 --     sum_by-part                       the sum over a list whose elements are among those of another list
 --     sum_by-none, -zeros, -most        sums that are 0, and an upper bound of a sum
 --     sum_by-total                      the sum as an integer
-use Rattle.std.proofs.Common.{◌≡◌, sym, ℕ, zero, suc, ◌+◌, ◌*◌, ◌<◌, ◌≤◌, Bool, true, false, cond, List, [], ◌∷◌, ◌++◌, map, flat_map, length, get_or, set, take, drop, refl, sym, ap, ap₂, ◌∙◌, inl, inr, arith, pos}
+use Rattle.std.proofs.Common.{◌≡◌, sym, ℕ, zero, suc, ◌+◌, ◌*◌, ◌<◌, ◌≤◌, Bool, true, false, cond, List, [], ◌∷◌, ◌++◌, map, flat_map, length, get_or, set, take, drop, refl, sym, ap, ap₂, ◌∙◌, inl, inr, arith, pos, rules}
 use Rattle.std.specs.List.{insert}
 use Rattle.std.proofs.lemmas.Int.{ints}
 use Rattle.std.proofs.lemmas.List.{take-append-drop}
 use Rattle.sym_model.specs.Sum.{total, sum_by, Among, Once, Within}
 use Rattle.sym_model.proofs.Sums.{without, Within-without, Within_tail}
 
--- ---- the sums of two functions over one list, compared
-
 pub sum_by-ext : {A : Type 0} (f g : A → ℕ) → ((x : A) → f x ≡ g x) → (xs : List A) → sum_by f xs ≡ sum_by g xs
 sum_by-ext f g e [] = refl
 sum_by-ext f g e (x ∷ xs) = ap₂ ◌+◌ (e x) (sum_by-ext f g e xs)
 
--- two functions that agree on the elements of a list have the same sum over that list
 pub sum_by-among : {A : Type 0} (f g : A → ℕ) (xs : List A) → ((x : A) → Among x xs → f x ≡ g x) → sum_by f xs ≡ sum_by g xs
 sum_by-among f g [] e = refl
 sum_by-among f g (x ∷ xs) e = ap₂ ◌+◌ (e x (inl refl)) (sum_by-among f g xs (λ y m. e y (inr m)))
 
 pub sum_by-within : {A : Type 0} (f g : A → ℕ) (xs : List A) → ((x : A) → Among x xs → f x ≤ g x) → sum_by f xs ≤ sum_by g xs
 sum_by-within f g [] h = omega arith
-sum_by-within f g (x ∷ xs) h =
-    let a = h x (inl refl) in
-    let b = sum_by-within f g xs (λ y m. h y (inr m)) in
-    omega arith
-
--- ---- sums over lists that are built from other lists by `++`, `map` and `flat_map`
+sum_by-within f g (x ∷ xs) h = search (rules, (sum_by-within f g xs))
 
 pub sum_by-append : {A : Type 0} (f : A → ℕ) (xs ys : List A) → sum_by f (xs ++ ys) ≡ sum_by f xs + sum_by f ys
 sum_by-append f [] ys = omega arith
@@ -43,8 +35,6 @@ sum_by-map f g (x ∷ xs) = ap (λ s. f (g x) + s) (sum_by-map f g xs)
 pub sum_by-each : {A B : Type 0} (f : B → ℕ) (g : A → List B) (xs : List A) → sum_by f (flat_map g xs) ≡ sum_by (λ (x : A). sum_by f (g x)) xs
 sum_by-each f g [] = refl
 sum_by-each f g (x ∷ xs) = sum_by-append f (g x) (flat_map g xs) ∙ ap (λ s. sum_by f (g x) + s) (sum_by-each f g xs)
-
--- ---- the sum over a list, and over the list with one element inserted, replaced or left out
 
 pub sum_by-at : {A : Type 0} (f : A → ℕ) (xs : List A) (i : ℕ) (x : A) → i < length xs → x ≡ get_or xs i x → f x ≤ sum_by f xs
 sum_by-at f [] i x h e = absurd (omega arith)
@@ -68,7 +58,6 @@ sum_by-without f x [] m = absurd m
 sum_by-without f x (y ∷ xs) (inl e) = ap (λ z. f z + sum_by f xs) (sym e)
 sum_by-without f x (y ∷ xs) (inr m) = let r = sum_by-without f x xs m in omega arith
 
--- if ys has no repeats and each element of ys is in xs, the sum of f over ys is at most the sum of f over xs
 pub sum_by-part : {A : Type 0} (f : A → ℕ) (ys xs : List A) → Once ys → Within ys xs → sum_by f ys ≤ sum_by f xs
 sum_by-part f [] xs o w = omega arith
 sum_by-part f (y ∷ ys) xs o w =
@@ -77,25 +66,16 @@ sum_by-part f (y ∷ ys) xs o w =
     let r = sum_by-part f ys (without y xs m) o.1 (Within-without y xs ys m o.0 (Within_tail y ys xs w)) in
     omega arith
 
--- ---- sums that are 0, and an upper bound of a sum
-
 pub sum_by-none : {A : Type 0} (f : A → ℕ) (xs : List A) → ((x : A) → Among x xs → f x ≡ 0) → sum_by f xs ≡ 0
 sum_by-none f [] e = refl
-sum_by-none f (x ∷ xs) e =
-    let here = e x (inl refl) in
-    let rest = sum_by-none f xs (λ y m. e y (inr m)) in
-    omega arith
+sum_by-none f (x ∷ xs) e = search (rules, (sum_by-none f xs))
 
 pub sum_by-zero : {A : Type 0} (xs : List A) → sum_by (λ (x : A). 0) xs ≡ 0
 sum_by-zero xs = sum_by-none (λ x. 0) xs (λ x m. refl)
 
--- if f(x) = 0 for each x with g(x) = 0, and the sum of g over xs is 0, then the sum of f over xs is 0
 pub sum_by-zeros : {A : Type 0} (f g : A → ℕ) (xs : List A) → ((x : A) → g x ≡ 0 → f x ≡ 0) → sum_by g xs ≡ 0 → sum_by f xs ≡ 0
 sum_by-zeros f g [] e h = refl
-sum_by-zeros f g (x ∷ xs) e h =
-    let a = e x (omega arith) in
-    let r = sum_by-zeros f g xs e (omega arith) in
-    omega arith
+sum_by-zeros f g (x ∷ xs) e h = search (rules, (sum_by-zeros f g xs e (omega arith)))
 
 pub sum_by-cond : {A : Type 0} (b : Bool) (f : A → ℕ) (xs : List A) → sum_by (λ (x : A). cond b (f x) 0) xs ≡ cond b (sum_by f xs) 0
 sum_by-cond true f xs = refl
@@ -103,13 +83,7 @@ sum_by-cond false f xs = sum_by-zero xs
 
 pub sum_by-most : {A : Type 0} (f : A → ℕ) (xs : List A) (most : ℕ) → ((x : A) → Among x xs → f x ≤ most) → sum_by f xs ≤ length xs * most
 sum_by-most f [] most h = omega arith
-sum_by-most f (x ∷ xs) most h =
-    let a = h x (inl refl) in
-    let b = sum_by-most f xs most (λ y m. h y (inr m)) in
-    let c : suc (length xs) * most ≡ length xs * most + most = omega arith in
-    omega arith
-
--- ---- a sum of natural numbers as a sum of integers
+sum_by-most f (x ∷ xs) most h = search (rules, (sum_by-most f xs most))
 
 pub sum_by-total : {A : Type 0} (f : A → ℕ) (xs : List A) → pos (sum_by f xs) ≡ total (λ (x : A). pos (f x)) xs
 sum_by-total f [] = refl

@@ -1,5 +1,5 @@
 -- Natural numbers: powers, factorials, products, and tests that compare them.
-use Rattle.std.proofs.Common.{arith, nat_le, suc, ℕ, ◌≡◌, ◌⊎◌, inl, inr, ◌^◌, pow-suc, zero, ◌≤◌, ◌<◌, ◌==◌, sym, cond, nat_lt, ap, true, false, ◌*◌, List, [], ◌∷◌, Bool, ◌||◌, refl, ◌+◌, ◌∙◌, ◌&&◌, ◌-◌}
+use Rattle.std.proofs.Common.{arith, nat_le, suc, ℕ, ◌≡◌, ◌⊎◌, inl, inr, ◌^◌, pow-suc, zero, ◌≤◌, ◌<◌, ◌==◌, sym, cond, nat_lt, ap, true, false, ◌*◌, List, [], ◌∷◌, Bool, ◌||◌, refl, ◌+◌, ◌∙◌, ◌&&◌, ◌-◌, rules}
 use Rattle.std.proofs.lemmas.Bool.Decides.{nat_tests}
 use Rattle.std.proofs.Math.Nat.{pow-zero, le_of_mul-le-mul_right}
 use Rattle.std.proofs.lemmas.Bool.{eq-eqb, eqb-true, cases_lt, ne_eqb, cond_below}
@@ -45,12 +45,7 @@ counts-not_less x a h = grind (arith, nat_tests)
 
 pub greater_fewer : (x y : ℕ) (w : List ℕ) → y ≤ x → greater x w ≤ greater y w
 greater_fewer x y [] h = omega arith
-greater_fewer x y (z ∷ w) h =
-    let e = greater_fewer x y w h in
-    elim (cases_lt x z) [
-      | inl l ↦ let p = sym (cond_below {X = ℕ} x z 1 0 l) in let q = sym (cond_below {X = ℕ} y z 1 0 (omega arith)) in omega arith
-      | inr l ↦ let p = counts-not_less x z l in omega arith
-    ]
+greater_fewer x y (z ∷ w) h = search (rules, cases_lt, cond_below, counts-not_less, (greater_fewer x y w h))
 
 pub nat_le-trans : (a b c : ℕ) → nat_le a b ≡ true → nat_le b c ≡ true → nat_le a c ≡ true
 nat_le-trans a b c h k = grind (arith, nat_tests)
@@ -69,11 +64,9 @@ pub below_more : (k l : ℕ) (w : List ℕ) → k ≤ l → AreBelow k w → Are
 below_more k l [] le h = tt
 below_more k l (a ∷ w) le h = (omega (arith, h.0), below_more k l w le h.1)
 
--- if a·b = c·d and 0 < b ≤ d, then c ≤ a
 pub other_factor : (a b c d : ℕ) → a * b ≡ c * d → 0 < b → b ≤ d → c ≤ a
 other_factor a b c d e some h = le_of_mul-le-mul_right (let l = mul-le-mul_left c h in omega arith) some
 
--- if f(i) ≤ f(i + 1) for each i < n, then f(i) ≤ f(j) for all i ≤ j ≤ n
 pub grows_from_steps : (f : ℕ → ℕ) (n : ℕ) → ((i : ℕ) → i < n → f i ≤ f (suc i)) → (i j : ℕ) → i ≤ j → j ≤ n → f i ≤ f j
 grows_from_steps f n step i zero h l = let z : i ≡ 0 = omega arith in omega (arith, ap f z)
 grows_from_steps f n step i (suc j) h l = by (cases_lt j i) (λ g. grows_from_steps f n step i j g (omega arith))

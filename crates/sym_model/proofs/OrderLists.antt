@@ -1,14 +1,12 @@
 -- The orders of the places 1, .., n, listed by `orders (places n)`: the lists that have each place exactly once and no other entry.
 --     orders_once         `orders xs` has each list at most once, if xs has no repeats
-use Rattle.std.proofs.Common.{◌≡◌, ℕ, suc, ◌⊎◌, ◌==◌, true, false, cond, List, [], ◌∷◌, map, length, sym, ◌∙◌, ap, subst, refl, inl, inr, arith}
+use Rattle.std.proofs.Common.{◌≡◌, ℕ, suc, ◌⊎◌, ◌==◌, true, false, cond, List, [], ◌∷◌, map, length, sym, ◌∙◌, ap, subst, refl, inl, inr, arith, rules}
 use Rattle.std.proofs.lemmas.Bool.Decides.{nat_tests}
 use Rattle.sym_model.specs.Sum.{Among, Once, Within}
 use Rattle.sym_model.specs.PlaceOrders.{insertions, orders, places}
 use Rattle.sym_model.proofs.Sums.{Among-map, Among_from_map, Among-each, Among_from_each, Once-map, Once-each, without, length-without, Among-without, Within_tail}
 use Rattle.sym_model.proofs.AfterLists.{length_after, once_after}
 use Rattle.sym_model.specs.RaisedPart.{without_one}
-
--- ---- each list of the length of xs in which all entries of xs occur is in `orders xs`, if xs has no repeats
 
 insertion_of : (x : ℕ) (w : List ℕ) (m : Among x w) → Among w (insertions x (without x w m))
 insertion_of x [] m = absurd m
@@ -19,8 +17,6 @@ insertion_of x (y ∷ w) (inl e) = at_front w
     at_front (z ∷ v) = inl (ap (λ a. a ∷ z ∷ v) (sym e))
 insertion_of x (y ∷ w) (inr m) = inr (Among-map (λ (zs : List ℕ). y ∷ zs) w (insertions x (without x w m)) (insertion_of x w m))
 
--- if each element of xs is in w and x is not in xs, then each element of xs is in the list that is w with the
--- occurrence m of x removed
 within_rest : (x : ℕ) (w xs : List ℕ) (m : Among x w) → (Among x xs → ⊥) → Within xs w → Within xs (without x w m)
 within_rest x w xs m d h z n = elim (Among-without z x w m (h z n)) [ inl e ↦ absurd (d (subst (λ u. Among u xs) e n)) | inr r ↦ r ]
 
@@ -43,7 +39,6 @@ insertion_length x (y ∷ v) w (inr m) =
     let r = Among_from_map (λ (zs : List ℕ). y ∷ zs) w (insertions x v) m in
     ap length r.2 ∙ ap suc (insertion_length x v r.0 r.1)
 
--- if w is v with x inserted, then x and each entry of v are among the entries of w
 insertion_has : (x : ℕ) (v w : List ℕ) (z : ℕ) → Among w (insertions x v) → (z ≡ x) ⊎ Among z v → Among z w
 insertion_has x [] w z (inl e) (inl d) = subst (Among z) (sym e) (inl d)
 insertion_has x [] w z (inl e) (inr d) = absurd d
@@ -72,19 +67,10 @@ order_has [] w m z n = absurd n
 order_has (x ∷ xs) w m z (inl e) = let r = Among_from_each (insertions x) w (orders xs) m in insertion_has x r.0 w z r.2 (inl e)
 order_has (x ∷ xs) w m z (inr n) = let r = Among_from_each (insertions x) w (orders xs) m in insertion_has x r.0 w z r.2 (inr (order_has xs r.0 r.1 z n))
 
--- if w is v with x inserted, then each entry of w is x or an entry of v
 insertion_from : (x : ℕ) (v w : List ℕ) (z : ℕ) → Among w (insertions x v) → Among z w → (z ≡ x) ⊎ Among z v
-insertion_from x [] w z (inl e) n = by (subst (Among z) e n)
-  where
-    by : Among z (x ∷ []) → (z ≡ x) ⊎ Among z []
-    by (inl d) = inl d
-    by (inr d) = absurd d
+insertion_from x [] w z (inl e) n = search rules
 insertion_from x [] w z (inr m) n = absurd m
-insertion_from x (y ∷ v) w z (inl e) n = by (subst (Among z) e n)
-  where
-    by : Among z (x ∷ y ∷ v) → (z ≡ x) ⊎ Among z (y ∷ v)
-    by (inl d) = inl d
-    by (inr d) = inr d
+insertion_from x (y ∷ v) w z (inl e) n = search rules
 insertion_from x (y ∷ v) w z (inr m) n =
     let r = Among_from_map (λ (zs : List ℕ). y ∷ zs) w (insertions x v) m in
     by r.0 (subst (Among z) r.2 n) (insertion_from x v r.0 z r.1)
@@ -103,8 +89,6 @@ order_from (x ∷ xs) w z m n =
     by : (v : List ℕ) → Among v (orders xs) → (z ≡ x) ⊎ Among z v → (Among z v → Among z xs) → Among z (x ∷ xs)
     by v a (inl d) later = inl d
     by v a (inr d) later = inr (later d)
-
--- ---- no list occurs twice in `orders xs`, if xs has no repeats
 
 taken_insertion : (x : ℕ) (v w : List ℕ) → (Among x v → ⊥) → Among w (insertions x v) → without_one x w ≡ v
 taken_insertion x [] w n (inl e) = ap (without_one x) e ∙ (let t : (x == x) ≡ true = grind (arith, nat_tests) in ap (λ b. cond b [] (x ∷ [])) t)
@@ -137,13 +121,8 @@ orders_once (x ∷ xs) o =
     (λ v m. insertions_once x v (λ a. o.0 (order_from xs v x m a)))
     (λ v u w m n p q. sym (taken_insertion x v w (λ a. o.0 (order_from xs v x m a)) p) ∙ taken_insertion x u w (λ a. o.0 (order_from xs u x n a)) q)
 
--- ---- the list of the orders of the places 1, .., n has each of them exactly once
-
 pub place_orders_once : (n : ℕ) → Once (orders (places n))
 place_orders_once n = orders_once (places n) (once_after 0 n)
 
 pub place_orders_members : (n : ℕ) (w : List ℕ) → (Among w (orders (places n)) → (length w ≡ n) × Within (places n) w) × ((length w ≡ n) × Within (places n) w → Among w (orders (places n)))
-place_orders_members n w = (
-  (λ m. (order_length (places n) w m ∙ length_after 0 n, order_has (places n) w m)),
-  (λ h. listed (places n) w (once_after 0 n) (h.0 ∙ sym (length_after 0 n)) h.1),
-)
+place_orders_members n w = search (rules, order_length, length_after, order_has, listed, once_after)

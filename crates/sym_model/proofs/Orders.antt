@@ -1,6 +1,6 @@
--- The printed order of partitions and the tests of a canonical list: the order is total, partitions that compare as
--- equal are equal, and each test passes if and only if the list or fraction has the property that the test is named
--- after.
+-- The printed order, in which the partitions of an answer are printed, is a total order, and partitions that compare as
+-- equal are equal. The tests `is_partition`, `is_label` and `is_reduced` are true if and only if `IsPartition`, `IsLabel`
+-- and `IsReduced` hold.
 use Rattle.std.proofs.Common.{◌≡◌, ℕ, zero, suc, ◌+◌, ◌<◌, ◌≤◌, true, ◌&&◌, List, [], ◌∷◌, length, eqb, leb, ltb, nat_abs, refl, sym, ap, ◌∙◌, subst, arith}
 use Rattle.std.specs.Int.{IsGcd}
 use Rattle.std.specs.Cmp.{IsTotalOrder}
@@ -21,8 +21,6 @@ use Rattle.sym_model.proofs.GreatestCommonDivisors.{IsGcd-gcd, gcd-only}
 abbrev falling : ℕ → ℕ → Ordering
 falling = flip_args nat_cmp
 
--- for lists xs and ys of at most n numbers, decreasing lexicographic order is the comparison, entry by entry in the
--- reversed order of numbers, of these lists padded with zeros to n entries
 falling_lexicographic-padded : (n : ℕ) (xs ys : List ℕ) → length xs ≤ n → length ys ≤ n → falling_lexicographic xs ys ≡ slice_cmp falling (resize n xs) (resize n ys)
 falling_lexicographic-padded zero [] [] h k = refl
 falling_lexicographic-padded zero [] (y ∷ ys) h k = absurd (omega arith)
@@ -64,8 +62,6 @@ falling_lexicographic-total = record { antisymm = antisymm; trans = trans; congr
 pub printed_order-total : IsTotalOrder printed_order
 printed_order-total = then_total (on_total size (back_total nat_cmp_total)) falling_lexicographic-total
 
--- let o and p be the results of comparisons by two orders: if the result for the first order and then the second,
--- `ordering_then o p`, is `Equal`, then o and p are `Equal`
 pub then-equal : (o p : Ordering) → ordering_then o p ≡ Equal → (o ≡ Equal) × (p ≡ Equal)
 then-equal Less p h = cc
 then-equal Equal p h = (refl, h)
@@ -74,7 +70,6 @@ then-equal Greater p h = cc
 pub nat_cmp-equal : (a b : ℕ) → nat_cmp a b ≡ Equal → a ≡ b
 nat_cmp-equal a b h = subst (λ o. MatchOrdering o (a < b) (a ≡ b) (b < a)) h (ranked a b (nat_cmp a b) refl)
 
--- if two lists of positive numbers compare as equal in decreasing lexicographic order, they are equal
 pub falling_lexicographic-equal : (x y : List ℕ) → ArePositive x → ArePositive y → falling_lexicographic x y ≡ Equal → x ≡ y
 falling_lexicographic-equal [] [] h k e = refl
 falling_lexicographic-equal [] (b ∷ y) h k e =
@@ -90,7 +85,6 @@ pub printed_order-equal : (x y : List ℕ) → ArePositive x → ArePositive y �
 printed_order-equal x y h k e =
     falling_lexicographic-equal x y h k (then-equal (nat_cmp (size y) (size x)) _ e).1
 
--- if the test `is_partition` passes, the list is a partition
 pub is_partition-tells : (parts : List ℕ) → is_partition parts ≡ true → IsPartition parts
 is_partition-tells [] h = record { falls = tt; positive = tt }
 is_partition-tells (a ∷ []) h = record { falls = tt; positive = (ltb-true 0 a h, tt) }
@@ -107,7 +101,7 @@ is_partition-from (a ∷ []) h = lt-ltb 0 a h.positive.0
 is_partition-from (a ∷ b ∷ parts) h =
     and_from (leb b a) (is_partition (b ∷ parts)) (le-leb b a h.falls.0) (is_partition-from (b ∷ parts) (record { falls = h.falls.1; positive = h.positive.1 }))
 
--- the list may be the label of a term: a partition of at most 512 rows and 4096 cells
+-- the list may be the label of a term: it is a partition with at most 512 rows and at most 4096 cells
 pub record IsLabel (parts : List ℕ) : Type 0 where
   pub partition : IsPartition parts
   pub rows : rows parts ≤ 512

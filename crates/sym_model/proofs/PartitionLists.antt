@@ -1,6 +1,6 @@
 -- The list `partitions_of d` has each partition of d exactly once and nothing else, in decreasing lexicographic
 -- order.
-use Rattle.std.proofs.Common.{◌≡◌, ℕ, zero, suc, ◌-◌, ◌<◌, ◌≤◌, min, List, [], ◌∷◌, ◌++◌, map, length, sym, ◌∙◌, ap, ap₂, subst, refl, inl, inr, ⊎_elim, arith, flat_map}
+use Rattle.std.proofs.Common.{◌≡◌, ℕ, zero, suc, ◌-◌, ◌<◌, ◌≤◌, min, List, [], ◌∷◌, ◌++◌, map, length, sym, ◌∙◌, ap, ap₂, subst, refl, inl, inr, ⊎_elim, arith, flat_map, rules}
 use Rattle.std.proofs.Math.Nat.{eq-or-lt_of_le, min-le_left, min-le_right, le-min}
 use Rattle.std.proofs.lemmas.Cmp.{nat_cmp_total, tied_itself}
 use Rattle.std.specs.Cmp.{nat_cmp_is}
@@ -13,8 +13,6 @@ use Rattle.sym_model.specs.PartitionList.{down_to_one, partitions_within, partit
 use Rattle.sym_model.proofs.Sums.{Among-map, Among_from_map, Among-each, Among_from_each, Among_from_append}
 use Rattle.sym_model.proofs.Orders.{falling_lexicographic-total}
 use Rattle.sym_model.proofs.SortedParts.{rows_within_size, Falls_tail, Falls_first}
-
--- ---- the list of the numbers from k down to 1
 
 pub down_to_one-tells : (k a : ℕ) → Among a (down_to_one k) → (0 < a) × (a ≤ k)
 down_to_one-tells zero a m = absurd m
@@ -89,7 +87,6 @@ columns_few : (parts : List ℕ) → columns parts ≤ size parts
 columns_few [] = omega arith
 columns_few (a ∷ parts) = omega arith
 
--- each list of `partitions_of d` is a partition of d
 pub partitions_of-tells :
     (d : ℕ) (parts : List ℕ) → Among parts (partitions_of d) → IsPartition parts × (size parts ≡ d)
 partitions_of-tells d parts m =
@@ -97,14 +94,7 @@ partitions_of-tells d parts m =
 
 pub Among-partitions_of :
     (d : ℕ) (parts : List ℕ) → IsPartition parts → size parts ≡ d → Among parts (partitions_of d)
-Among-partitions_of d parts p s =
-    let w : IsWithin d d parts = record {
-      falls = p.falls;
-      positive = p.positive;
-      sum = s;
-      first = omega (arith, columns_few parts);
-    } in
-    Among-partitions_within d d d parts w (omega (arith, rows_within_size parts p.positive))
+Among-partitions_of d parts p s = search (rules, columns_few, Among-partitions_within, rows_within_size)
 
 -- ---- the list `partitions_of d` is in strictly decreasing lexicographic order, so no partition occurs twice in it
 
@@ -175,9 +165,6 @@ Once-FallsLexicographically (x ∷ xs) f =
 pub Once-partitions_of : (d : ℕ) → Once (partitions_of d)
 Once-partitions_of d =
     Once-FallsLexicographically (partitions_of d) (FallsLexicographically-partitions_within d d d)
-
--- ---- `partitions_within d most rows`, the partitions of d with bounded parts and rows, does not depend on the bound
--- `rows` if this is at least d
 
 each-among :
     (f g : ℕ → List (List ℕ)) (xs : List ℕ) → ((a : ℕ) → Among a xs → f a ≡ g a) → flat_map f xs ≡ flat_map g xs

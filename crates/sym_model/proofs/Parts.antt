@@ -10,7 +10,6 @@ pub size-map_add : (f g : ℕ → ℕ) (xs : List ℕ) → size (map (λ j. f j 
 size-map_add f g [] = refl
 size-map_add f g (x ∷ xs) = omega (arith, size-map_add f g xs)
 
--- the list xs with a zero appended, and xs itself, are the same list once the zeros at their ends are dropped
 pub without_last_zeros-zero : (xs : List ℕ) → without_last_zeros (xs ++ 0 ∷ []) ≡ without_last_zeros xs
 without_last_zeros-zero [] = refl
 without_last_zeros-zero (x ∷ xs) = ap (in_front x) (without_last_zeros-zero xs)
@@ -41,7 +40,6 @@ positive-at [] k h l = absurd (omega arith)
 positive-at (a ∷ parts) zero h l = h.0
 positive-at (a ∷ parts) (suc k) h l = positive-at parts k h.1 (omega arith)
 
--- if the parts of inner are positive and at most those of outer, place by place, inner has at most as many parts
 pub rows_held : (inner outer : List ℕ) → ArePositive inner → ((k : ℕ) → get_or inner k 0 ≤ get_or outer k 0) → length inner ≤ length outer
 rows_held [] outer p h = omega arith
 rows_held (a ∷ inner) [] p h = let q = p.0 in let r = h 0 in absurd (omega arith)
@@ -66,12 +64,10 @@ size-drop zero (a ∷ parts) = omega arith
 size-drop (suc i) [] = omega arith
 size-drop (suc i) (a ∷ parts) = let h = size-drop i parts in omega arith
 
--- a list with at least one part is its first part followed by the list of the parts after it
 pub split_first : (parts : List ℕ) → 1 ≤ length parts → get_or parts 0 0 ∷ take (length parts - 1) (drop 1 parts) ≡ parts
 split_first [] h = absurd (omega arith)
 split_first (k ∷ parts) h = ap (λ r. k ∷ r) (take_all (length (k ∷ parts) - 1) parts (omega arith))
 
--- `in_front a l` and a ∷ l have the same number at each place n, with 0 for a missing number
 pub get_or-in_front : (a n : ℕ) (l : List ℕ) → get_or (in_front a l) n 0 ≡ get_or (a ∷ l) n 0
 get_or-in_front zero zero [] = refl
 get_or-in_front zero (suc n) [] = refl
@@ -168,13 +164,11 @@ part-in_front zero [] = refl
 part-in_front zero (b ∷ parts) = refl
 part-in_front (suc a) parts = refl
 
--- a weakly decreasing list without its last entry is weakly decreasing
 pub falls_front : (front : List ℕ) (last : ℕ) → Falls (front ++ last ∷ []) → Falls front
 falls_front [] last f = tt
 falls_front (a ∷ []) last f = tt
 falls_front (a ∷ b ∷ front) last f = (f.0, falls_front (b ∷ front) last f.1)
 
--- a weakly decreasing list without its first entry is weakly decreasing
 pub falls_after : (parts : List ℕ) → Falls parts → Falls (drop 1 parts)
 falls_after [] f = tt
 falls_after (a ∷ []) f = tt

@@ -1,13 +1,11 @@
--- The laws of the ring of polynomials, and of restriction to fewer variables, proved by pairings with functions of
--- exponents.
-use Rattle.std.proofs.Common.{◌≡◌, ℕ, Bool, true, false, ◌&&◌, cond, List, sym, ◌∙◌, ap, ap₂, refl, arith, ℤ, pos, ◌+ℤ◌, ◌*ℤ◌, neg_ℤ}
+-- The laws of the ring of polynomials, and of restriction to fewer variables. They are proved by pairings: the pairing
+-- of a polynomial f with a function φ of exponents is the sum of c·φ(α) over the terms c·x^α of f (`pair f φ`).
+use Rattle.std.proofs.Common.{◌≡◌, ℕ, Bool, true, false, ◌&&◌, cond, List, sym, ◌∙◌, ap, ap₂, refl, arith, ℤ, pos, ◌+ℤ◌, neg_ℤ, rules}
 use Rattle.std.proofs.lemmas.Int.{ints}
 use Rattle.sym_model.specs.Polynomial.{Poly, Same, In, nothing, no_exponents, one, join, plus, scale, negate, times, pair, resize, fits_in, restrict}
 use Rattle.sym_model.proofs.Exponents.{join_comm, join_assoc, join_zeros, resize_zeros, resize-join, fits_in-join, fits_in_zeros}
 use Rattle.sym_model.proofs.Polynomials.{pair_ext, pair_in, pair_add, pair_factor, pair_opposite, pair_zero, pair_exchange, pair_plus, pair_scale, pair_negate, pair_times, pair_one, pair_restrict, same_from_pair, Same_trans, pair_determined}
 use Rattle.std.specs.Prelude.{◌-ℤ◌}
-
--- ---- laws of sums of polynomials
 
 pub plus_comm : (f g : Poly) → Same (plus f g) (plus g f)
 plus_comm f g = same_from_pair (plus f g) (plus g f) (λ φ. omega (arith, ints, pair_plus f g φ, pair_plus g f φ))
@@ -26,15 +24,7 @@ times_comm f g =
     ∙ sym (pair_times g f φ))
 
 pub times_assoc : (f g h : Poly) → Same (times (times f g) h) (times f (times g h))
-times_assoc f g h =
-    same_from_pair (times (times f g) h) (times f (times g h)) (λ φ.
-    pair_times (times f g) h φ
-    ∙ pair_times f g (λ α. pair h (λ γ. φ (join α γ)))
-    ∙ pair_ext f (λ α. pair g (λ β. pair h (λ γ. φ (join (join α β) γ)))) (λ α. pair (times g h) (λ β. φ (join α β))) (λ α.
-    pair_ext g (λ β. pair h (λ γ. φ (join (join α β) γ))) (λ β. pair h (λ γ. φ (join α (join β γ)))) (λ β.
-    pair_ext h (λ γ. φ (join (join α β) γ)) (λ γ. φ (join α (join β γ))) (λ γ. ap φ (join_assoc α β γ)))
-    ∙ sym (pair_times g h (λ β. φ (join α β))))
-    ∙ sym (pair_times f (times g h) φ))
+times_assoc f g h = search (rules, same_from_pair, pair_times, pair_ext, join_assoc)
 
 pub one-times : (n : ℕ) (f : Poly) → In n f → Same (times (one n) f) f
 one-times n f i =
@@ -47,49 +37,25 @@ pub times-one : (n : ℕ) (f : Poly) → In n f → Same (times f (one n)) f
 times-one n f i = Same_trans (times f (one n)) (times (one n) f) f (times_comm f (one n)) (one-times n f i)
 
 pub times-plus : (f g h : Poly) → Same (times f (plus g h)) (plus (times f g) (times f h))
-times-plus f g h =
-    same_from_pair (times f (plus g h)) (plus (times f g) (times f h)) (λ φ.
-    pair_times f (plus g h) φ
-    ∙ pair_ext f (λ α. pair (plus g h) (λ β. φ (join α β))) (λ α. pair g (λ β. φ (join α β)) +ℤ pair h (λ β. φ (join α β))) (λ α. pair_plus g h (λ β. φ (join α β)))
-    ∙ pair_add f (λ α. pair g (λ β. φ (join α β))) (λ α. pair h (λ β. φ (join α β)))
-    ∙ sym (pair_plus (times f g) (times f h) φ ∙ ap₂ ◌+ℤ◌ (pair_times f g φ) (pair_times f h φ)))
+times-plus f g h = search (rules, same_from_pair, pair_times, pair_ext, pair_plus, pair_add)
 
 pub scale-times : (c : ℤ) (f g : Poly) → Same (scale c (times f g)) (times (scale c f) g)
-scale-times c f g =
-    same_from_pair (scale c (times f g)) (times (scale c f) g) (λ φ.
-    pair_scale c (times f g) φ
-    ∙ ap (λ n. c *ℤ n) (pair_times f g φ)
-    ∙ sym (pair_times (scale c f) g φ ∙ pair_scale c f (λ α. pair g (λ β. φ (join α β)))))
+scale-times c f g = search (rules, same_from_pair, pair_scale, pair_times)
 
 pub times-scale : (c : ℤ) (f g : Poly) → Same (times f (scale c g)) (scale c (times f g))
-times-scale c f g =
-    same_from_pair (times f (scale c g)) (scale c (times f g)) (λ φ.
-    pair_times f (scale c g) φ
-    ∙ pair_ext f (λ α. pair (scale c g) (λ β. φ (join α β))) (λ α. c *ℤ pair g (λ β. φ (join α β))) (λ α. pair_scale c g (λ β. φ (join α β)))
-    ∙ pair_factor c f (λ α. pair g (λ β. φ (join α β)))
-    ∙ sym (pair_scale c (times f g) φ ∙ ap (λ n. c *ℤ n) (pair_times f g φ)))
+times-scale c f g = search (rules, same_from_pair, pair_times, pair_ext, pair_scale, pair_factor)
 
 pub times-negate : (f g : Poly) → Same (times f (negate g)) (negate (times f g))
-times-negate f g =
-    same_from_pair (times f (negate g)) (negate (times f g)) (λ φ.
-    pair_times f (negate g) φ
-    ∙ pair_ext f (λ α. pair (negate g) (λ β. φ (join α β))) (λ α. neg_ℤ (pair g (λ β. φ (join α β)))) (λ α. pair_negate g (λ β. φ (join α β)))
-    ∙ pair_opposite f (λ α. pair g (λ β. φ (join α β)))
-    ∙ sym (pair_negate (times f g) φ ∙ ap neg_ℤ (pair_times f g φ)))
+times-negate f g = search (rules, same_from_pair, pair_times, pair_ext, neg_ℤ, pair_negate, pair_opposite)
 
 -- ---- laws of restriction to fewer variables
 
--- the function ψ of exponents such that, for each polynomial f, the sum of c·ψ(α) over the terms c·x^α of f is the
--- sum of c·φ(α) over the terms of f restricted to n variables
+-- the function of exponents whose pairing with each polynomial f is the pairing of φ with f restricted to n variables
 abbrev pub restricted_test : ℕ → (List ℕ → ℤ) → List ℕ → ℤ
 restricted_test n φ α = cond (fits_in n α) (φ (resize n α)) (pos 0)
 
 pub restrict-plus : (n : ℕ) (f g : Poly) → Same (restrict n (plus f g)) (plus (restrict n f) (restrict n g))
-restrict-plus n f g =
-    same_from_pair (restrict n (plus f g)) (plus (restrict n f) (restrict n g)) (λ φ.
-    pair_restrict n (plus f g) φ
-    ∙ pair_plus f g (restricted_test n φ)
-    ∙ sym (pair_plus (restrict n f) (restrict n g) φ ∙ ap₂ ◌+ℤ◌ (pair_restrict n f φ) (pair_restrict n g φ)))
+restrict-plus n f g = search (rules, same_from_pair, pair_restrict, pair_plus)
 
 restricted_join : (n : ℕ) (φ : List ℕ → ℤ) (g : Poly) (α : List ℕ) → pair g (λ β. restricted_test n φ (join α β)) ≡ restricted_test n (λ γ. pair g (restricted_test n (λ β. φ (join γ β)))) α
 restricted_join n φ g α = by (fits_in n α) refl
@@ -114,17 +80,10 @@ restrict-times n f g =
     ap (λ m. cond (fits_in n α) m (pos 0)) (pair_restrict n g (λ β. φ (join (resize n α) β))))))
 
 pub restrict-one : (n k : ℕ) → Same (restrict n (one k)) (one n)
-restrict-one n k =
-    same_from_pair (restrict n (one k)) (one n) (λ φ.
-    pair_restrict n (one k) φ
-    ∙ pair_one k (restricted_test n φ)
-    ∙ ap₂ (λ b γ. cond b (φ γ) (pos 0)) (fits_in_zeros n k) (resize_zeros n k)
-    ∙ sym (pair_one n φ))
+restrict-one n k = search (rules, same_from_pair, pair_restrict, pair_one, fits_in_zeros, resize_zeros)
 
 pub restrict-scale : (n : ℕ) (c : ℤ) (f : Poly) → Same (restrict n (scale c f)) (scale c (restrict n f))
-restrict-scale n c f =
-    same_from_pair (restrict n (scale c f)) (scale c (restrict n f)) (λ φ.
-    pair_restrict n (scale c f) φ ∙ pair_scale c f (restricted_test n φ) ∙ sym (pair_scale c (restrict n f) φ ∙ ap (λ m. c *ℤ m) (pair_restrict n f φ)))
+restrict-scale n c f = search (rules, same_from_pair, pair_restrict, pair_scale)
 
 pub pair_times_comm : (p f : Poly) (φ : List ℕ → ℤ) → pair (times p f) φ ≡ pair (times f p) φ
 pair_times_comm p f φ = pair_determined (times p f) (times f p) φ (times_comm p f)

@@ -2,7 +2,7 @@
 -- terms c·x^α. Two polynomials are the same if and only if all their pairings agree (`pair_determined`,
 -- `same_from_pair`); the pairing of a sum, product or restriction is given by pairings of its operands, so that a law
 -- of polynomials is a law of finite sums.
-use Rattle.std.proofs.Common.{◌≡◌, ℕ, zero, suc, ◌+◌, ◌≤◌, ◌⊎◌, Bool, true, false, cond, not, List, [], ◌∷◌, ◌++◌, map, length, length-append, sym, ◌∙◌, ap, ap₂, subst, refl, inl, inr, arith, ℤ, pos, ◌+ℤ◌, ◌*ℤ◌, neg_ℤ, filter, flat_map}
+use Rattle.std.proofs.Common.{◌≡◌, ℕ, zero, suc, ◌+◌, ◌≤◌, ◌⊎◌, Bool, true, false, cond, not, List, [], ◌∷◌, ◌++◌, map, length, length-append, sym, ◌∙◌, ap, ap₂, subst, refl, inl, inr, arith, ℤ, pos, ◌+ℤ◌, ◌*ℤ◌, neg_ℤ, filter, flat_map, rules}
 use Rattle.std.proofs.lemmas.Int.{ints}
 use Rattle.std.proofs.lemmas.Bool.{cases_eq}
 use Rattle.std.proofs.lemmas.List.{length-replicate}
@@ -27,19 +27,13 @@ pub pair_in : (n : ℕ) (f : Poly) (φ ψ : List ℕ → ℤ) → In n f → ((�
 pair_in n f φ ψ i e = total_among (λ (t : Term). t.1 *ℤ φ t.0) (λ (t : Term). t.1 *ℤ ψ t.0) f (λ t m. ap (λ c. t.1 *ℤ c) (e t.0 (i t m)))
 
 pub pair_add : (f : Poly) (φ ψ : List ℕ → ℤ) → pair f (λ α. φ α +ℤ ψ α) ≡ pair f φ +ℤ pair f ψ
-pair_add f φ ψ =
-    total_ext (λ (t : Term). t.1 *ℤ (φ t.0 +ℤ ψ t.0)) (λ (t : Term). t.1 *ℤ φ t.0 +ℤ t.1 *ℤ ψ t.0) (λ t. distributes_left t.1 (φ t.0) (ψ t.0)) f
-    ∙ total_add (λ (t : Term). t.1 *ℤ φ t.0) (λ (t : Term). t.1 *ℤ ψ t.0) f
+pair_add f φ ψ = search (rules, total_ext, distributes_left, total_add)
 
 pub pair_factor : (c : ℤ) (f : Poly) (φ : List ℕ → ℤ) → pair f (λ α. c *ℤ φ α) ≡ c *ℤ pair f φ
-pair_factor c f φ =
-    total_ext (λ (t : Term). t.1 *ℤ (c *ℤ φ t.0)) (λ (t : Term). c *ℤ (t.1 *ℤ φ t.0)) (λ t. product_left_comm t.1 c (φ t.0)) f
-    ∙ total_scale c (λ (t : Term). t.1 *ℤ φ t.0) f
+pair_factor c f φ = search (rules, total_ext, product_left_comm, total_scale)
 
 pub pair_opposite : (f : Poly) (φ : List ℕ → ℤ) → pair f (λ α. neg_ℤ (φ α)) ≡ neg_ℤ (pair f φ)
-pair_opposite f φ =
-    total_ext (λ (t : Term). t.1 *ℤ neg_ℤ (φ t.0)) (λ (t : Term). neg_ℤ (t.1 *ℤ φ t.0)) (λ t. product-negation t.1 (φ t.0)) f
-    ∙ total_neg (λ (t : Term). t.1 *ℤ φ t.0) f
+pair_opposite f φ = search (rules, total_ext, neg_ℤ, product-negation, total_neg)
 
 pub pair_zero : (f : Poly) → pair f (λ α. pos 0) ≡ pos 0
 pair_zero f = total_none (λ (t : Term). t.1 *ℤ pos 0) f (λ t m. *ℤ-zero t.1)
@@ -61,37 +55,24 @@ pub pair_plus : (f g : Poly) (φ : List ℕ → ℤ) → pair (plus f g) φ ≡ 
 pair_plus f g φ = total_append (λ (t : Term). t.1 *ℤ φ t.0) f g
 
 pub pair_scale : (c : ℤ) (f : Poly) (φ : List ℕ → ℤ) → pair (scale c f) φ ≡ c *ℤ pair f φ
-pair_scale c f φ =
-    total_map (λ (t : Term). t.1 *ℤ φ t.0) (λ (t : Term). (t.0, c *ℤ t.1)) f
-    ∙ total_ext (λ (t : Term). (c *ℤ t.1) *ℤ φ t.0) (λ (t : Term). c *ℤ (t.1 *ℤ φ t.0)) (λ t. product_assoc c t.1 (φ t.0)) f
-    ∙ total_scale c (λ (t : Term). t.1 *ℤ φ t.0) f
+pair_scale c f φ = search (rules, total_map, total_ext, product_assoc, total_scale)
 
 pub pair_negate : (f : Poly) (φ : List ℕ → ℤ) → pair (negate f) φ ≡ neg_ℤ (pair f φ)
-pair_negate f φ =
-    total_map (λ (t : Term). t.1 *ℤ φ t.0) (λ (t : Term). (t.0, neg_ℤ t.1)) f
-    ∙ total_ext (λ (t : Term). neg_ℤ t.1 *ℤ φ t.0) (λ (t : Term). neg_ℤ (t.1 *ℤ φ t.0)) (λ t. negation-product t.1 (φ t.0)) f
-    ∙ total_neg (λ (t : Term). t.1 *ℤ φ t.0) f
+pair_negate f φ = search (rules, total_map, neg_ℤ, total_ext, negation-product, total_neg)
 
 pub pair_each : {A : Type 0} (h : A → Poly) (xs : List A) (φ : List ℕ → ℤ) → pair (flat_map h xs) φ ≡ total (λ (x : A). pair (h x) φ) xs
 pair_each h xs φ = total_each (λ (t : Term). t.1 *ℤ φ t.0) h xs
 
 -- if f is the sum of the monomials x^α over a list of exponents α, then `pair f φ` is the sum of the φ(α)
 pub pair_monomials : (αs : List (List ℕ)) (φ : List ℕ → ℤ) → pair (map (λ (α : List ℕ). (α, pos 1)) αs) φ ≡ total φ αs
-pair_monomials αs φ =
-    total_map (λ (t : Term). t.1 *ℤ φ t.0) (λ (α : List ℕ). (α, pos 1)) αs
-    ∙ total_ext (λ (α : List ℕ). pos 1 *ℤ φ α) φ (λ α. one-product (φ α)) αs
+pair_monomials αs φ = search (rules, total_map, total_ext, one-product)
 
 -- for a term s = c·x^α: `pair (s·g) φ` is c times the pairing of g with the function that takes β to φ(α + β)
 pub pair_shift : (s : Term) (g : Poly) (φ : List ℕ → ℤ) → pair (map (λ (t : Term). (join s.0 t.0, s.1 *ℤ t.1)) g) φ ≡ s.1 *ℤ pair g (λ β. φ (join s.0 β))
-pair_shift s g φ =
-    total_map (λ (t : Term). t.1 *ℤ φ t.0) (λ (t : Term). (join s.0 t.0, s.1 *ℤ t.1)) g
-    ∙ total_ext (λ (t : Term). (s.1 *ℤ t.1) *ℤ φ (join s.0 t.0)) (λ (t : Term). s.1 *ℤ (t.1 *ℤ φ (join s.0 t.0))) (λ t. product_assoc s.1 t.1 (φ (join s.0 t.0))) g
-    ∙ total_scale s.1 (λ (t : Term). t.1 *ℤ φ (join s.0 t.0)) g
+pair_shift s g φ = search (rules, total_map, total_ext, product_assoc, total_scale)
 
 pub pair_times : (f g : Poly) (φ : List ℕ → ℤ) → pair (times f g) φ ≡ pair f (λ α. pair g (λ β. φ (join α β)))
-pair_times f g φ =
-    pair_each (λ (s : Term). map (λ (t : Term). (join s.0 t.0, s.1 *ℤ t.1)) g) f φ
-    ∙ total_ext (λ (s : Term). pair (map (λ (t : Term). (join s.0 t.0, s.1 *ℤ t.1)) g) φ) (λ (s : Term). s.1 *ℤ pair g (λ β. φ (join s.0 β))) (λ s. pair_shift s g φ) f
+pair_times f g φ = search (rules, pair_each, total_ext, pair_shift)
 
 pub pair_times_each : {A : Type 0} (f : Poly) (h : A → Poly) (xs : List A) (φ : List ℕ → ℤ) → pair (times f (flat_map h xs)) φ ≡ total (λ (x : A). pair (times f (h x)) φ) xs
 pair_times_each {A} f h xs φ =
@@ -104,23 +85,13 @@ pub pair_one : (n : ℕ) (φ : List ℕ → ℤ) → pair (one n) φ ≡ φ (no_
 pair_one n φ = omega (arith, ints, one-product (φ (no_exponents n)))
 
 pub pair_restrict : (n : ℕ) (f : Poly) (φ : List ℕ → ℤ) → pair (restrict n f) φ ≡ pair f (λ α. cond (fits_in n α) (φ (resize n α)) (pos 0))
-pair_restrict n f φ =
-    total_map (λ (t : Term). t.1 *ℤ φ t.0) (λ (t : Term). (resize n t.0, t.1)) (filter (λ (t : Term). fits_in n t.0) f)
-    ∙ total_select (λ (t : Term). t.1 *ℤ φ (resize n t.0)) (λ (t : Term). fits_in n t.0) f
-    ∙ total_ext (λ (t : Term). cond (fits_in n t.0) (t.1 *ℤ φ (resize n t.0)) (pos 0)) (λ (t : Term). t.1 *ℤ cond (fits_in n t.0) (φ (resize n t.0)) (pos 0)) (λ t. times_chosen (fits_in n t.0) t.1 (φ (resize n t.0))) f
+pair_restrict n f φ = search (rules, total_map, total_select, total_ext, times_chosen)
 
--- for a term s = c·x^α in variables in front of those of g: `pair (s·g) φ` is c times the pairing of g with the
--- function that takes β to φ(α followed by β)
 pair_behind : (s : Term) (g : Poly) (φ : List ℕ → ℤ) → pair (map (λ (t : Term). (s.0 ++ t.0, s.1 *ℤ t.1)) g) φ ≡ s.1 *ℤ pair g (λ β. φ (s.0 ++ β))
-pair_behind s g φ =
-    total_map (λ (t : Term). t.1 *ℤ φ t.0) (λ (t : Term). (s.0 ++ t.0, s.1 *ℤ t.1)) g
-    ∙ total_ext (λ (t : Term). (s.1 *ℤ t.1) *ℤ φ (s.0 ++ t.0)) (λ (t : Term). s.1 *ℤ (t.1 *ℤ φ (s.0 ++ t.0))) (λ t. product_assoc s.1 t.1 (φ (s.0 ++ t.0))) g
-    ∙ total_scale s.1 (λ (t : Term). t.1 *ℤ φ (s.0 ++ t.0)) g
+pair_behind s g φ = search (rules, total_map, total_ext, product_assoc, total_scale)
 
 pub pair_beside : (f g : Poly) (φ : List ℕ → ℤ) → pair (beside f g) φ ≡ pair f (λ α. pair g (λ β. φ (α ++ β)))
-pair_beside f g φ =
-    pair_each (λ (s : Term). map (λ (t : Term). (s.0 ++ t.0, s.1 *ℤ t.1)) g) f φ
-    ∙ total_ext (λ (s : Term). pair (map (λ (t : Term). (s.0 ++ t.0, s.1 *ℤ t.1)) g) φ) (λ (s : Term). s.1 *ℤ pair g (λ β. φ (s.0 ++ β))) (λ s. pair_behind s g φ) f
+pair_beside f g φ = search (rules, pair_each, total_ext, pair_behind)
 
 -- ---- coefficients as pairings, and pairings of polynomials with the same coefficients
 
@@ -140,29 +111,13 @@ others α f = filter (λ (t : Term). not (same t.0 α)) f
 
 pub length_others : (α : List ℕ) (f : Poly) → length (others α f) ≤ length f
 length_others α [] = omega arith
-length_others α (t ∷ f) = by (same t.0 α) (length_others α f)
-  where
-    by : (b : Bool) → length (others α f) ≤ length f → length (cond (not b) (t ∷ others α f) (others α f)) ≤ suc (length f)
-    by true h = omega arith
-    by false h = omega arith
+length_others α (t ∷ f) = search (rules, (length_others α f))
 
 pub others_there : (α : List ℕ) (f : Poly) → coefficient (others α f) α ≡ pos 0
-others_there α f =
-    total_select (λ (t : Term). cond (same t.0 α) t.1 (pos 0)) (λ (t : Term). not (same t.0 α)) f
-    ∙ total_none (λ (t : Term). cond (not (same t.0 α)) (cond (same t.0 α) t.1 (pos 0)) (pos 0)) f (λ t m. by (same t.0 α) t.1)
-  where
-    by : (b : Bool) (c : ℤ) → cond (not b) (cond b c (pos 0)) (pos 0) ≡ pos 0
-    by true c = refl
-    by false c = refl
+others_there α f = search (rules, total_select, total_none)
 
 pub others_elsewhere : (α β : List ℕ) (f : Poly) → (α ≡ β → ⊥) → coefficient (others α f) β ≡ coefficient f β
-others_elsewhere α β f h =
-    total_select (λ (t : Term). cond (same t.0 β) t.1 (pos 0)) (λ (t : Term). not (same t.0 α)) f
-    ∙ total_ext (λ (t : Term). cond (not (same t.0 α)) (cond (same t.0 β) t.1 (pos 0)) (pos 0)) (λ (t : Term). cond (same t.0 β) t.1 (pos 0)) (λ t. by t (same t.0 α) refl) f
-  where
-    by : (t : Term) (b : Bool) → same t.0 α ≡ b → cond (not b) (cond (same t.0 β) t.1 (pos 0)) (pos 0) ≡ cond (same t.0 β) t.1 (pos 0)
-    by t true e = ap (λ d. cond d t.1 (pos 0)) (sym (same_apart t.0 β (λ d. h (sym (same_true t.0 α e) ∙ d))))
-    by t false e = refl
+others_elsewhere α β f h = search (rules, total_select, total_ext, same_apart, same_true)
 
 -- `pair f φ` is φ(α) times the coefficient of f at α, plus the sum of c·φ(β) over the terms c·x^β of f with β not
 -- equal to α
@@ -182,8 +137,6 @@ pair_others α f φ =
     by t true e = let d = ap (λ γ. t.1 *ℤ φ γ) (same_true t.0 α e) in let k = *ℤ_comm t.1 (φ α) in omega (arith, ints)
     by t false e = let z = *ℤ-zero (φ α) in omega (arith, ints)
 
--- the coefficient of t + f at the exponents of the term t is the coefficient of t plus the coefficient of f at these
--- exponents
 coefficient_first : (t : Term) (f : Poly) → coefficient (t ∷ f) t.0 ≡ t.1 +ℤ coefficient f t.0
 coefficient_first t f = ap (λ b. cond b t.1 (pos 0) +ℤ coefficient f t.0) (same_refl t.0)
 
@@ -195,8 +148,6 @@ pair_first t f φ =
     let k = *ℤ_comm t.1 (φ t.0) in
     omega (arith, ints)
 
--- if f has at most n terms, and φ and ψ agree at each α at which f has a coefficient other than 0, then the sums of
--- c·φ(α) and of c·ψ(α) over the terms c·x^α of f are equal
 agree_by_length : (n : ℕ) (f : Poly) (φ ψ : List ℕ → ℤ) → length f ≤ n → ((α : List ℕ) → (coefficient f α ≡ pos 0) ⊎ (φ α ≡ ψ α)) → pair f φ ≡ pair f ψ
 agree_by_length n [] φ ψ l h = refl
 agree_by_length zero (t ∷ f) φ ψ l h = absurd (omega arith)
@@ -252,7 +203,6 @@ Same_sym f g e α = sym (e α)
 pub Same_trans : (f g h : Poly) → Same f g → Same g h → Same f h
 Same_trans f g h d e α = d α ∙ e α
 
--- if the formal sums f and g are equal lists of terms, they are the same polynomial
 pub same_of_equal : (f g : Poly) → f ≡ g → Same f g
 same_of_equal f g e α = ap (λ h. coefficient h α) e
 
@@ -277,9 +227,7 @@ times_respects f g h k d e =
     ∙ sym (pair_times g k φ))
 
 pub restrict_respects : (n : ℕ) (f g : Poly) → Same f g → Same (restrict n f) (restrict n g)
-restrict_respects n f g e =
-    same_from_pair (restrict n f) (restrict n g) (λ φ.
-    pair_restrict n f φ ∙ pair_determined f g (λ α. cond (fits_in n α) (φ (resize n α)) (pos 0)) e ∙ sym (pair_restrict n g φ))
+restrict_respects n f g e = search (rules, same_from_pair, pair_restrict, pair_determined)
 
 -- ---- polynomials in n variables, whose exponent lists have n places
 
@@ -308,9 +256,7 @@ pub In_negate : (n : ℕ) (f : Poly) → In n f → In n (negate f)
 In_negate n f i = In_map n (λ (t : Term). (t.0, neg_ℤ t.1)) f i
 
 pub In_times : (n : ℕ) (f g : Poly) → In n f → In n g → In n (times f g)
-In_times n f g i j =
-    In_each n (λ (s : Term). map (λ (t : Term). (join s.0 t.0, s.1 *ℤ t.1)) g) f (λ s m.
-    In_map n (λ (t : Term). (join s.0 t.0, s.1 *ℤ t.1)) g (λ t k. length-join_same n s.0 t.0 (i s m) (j t k)))
+In_times n f g i j = search (rules, In_each, In_map, length-join_same)
 
 pub In_beside : (n k : ℕ) (f g : Poly) → In n f → In k g → In (n + k) (beside f g)
 In_beside n k f g i j =
@@ -320,13 +266,9 @@ In_beside n k f g i j =
 pub In_restrict : (n : ℕ) (f : Poly) → In n (restrict n f)
 In_restrict n f = In_map n (λ (t : Term). (resize n t.0, t.1)) (filter (λ (t : Term). fits_in n t.0) f) (λ t m. length-resize n t.0)
 
--- a polynomial in n variables has the coefficient 0 at each list whose length is not n
 pub coefficient_outside : (n : ℕ) (f : Poly) (α : List ℕ) → In n f → (length α ≡ n → ⊥) → coefficient f α ≡ pos 0
-coefficient_outside n f α i h =
-    total_none (λ (t : Term). cond (same t.0 α) t.1 (pos 0)) f (λ t m.
-    ap (λ b. cond b t.1 (pos 0)) (same_apart t.0 α (λ e. h (ap length (sym e) ∙ i t m))))
+coefficient_outside n f α i h = search (rules, total_none, same_apart)
 
--- if f and g are polynomials in n variables with the same coefficients at lists of n places, they are the same polynomial
 pub same_in : (n : ℕ) (f g : Poly) → In n f → In n g → ((α : List ℕ) → length α ≡ n → coefficient f α ≡ coefficient g α) → Same f g
 same_in n f g i j e α =
     elim (cases_eq (length α) n) [
@@ -349,8 +291,4 @@ pub coefficient_restrict : (n : ℕ) (f : Poly) (α : List ℕ) → coefficient 
 coefficient_restrict n f α = coefficient_pair (restrict n f) α ∙ pair_restrict n f (at_only α)
 
 pub at_only-nonnegative : (α β : List ℕ) → pos 0 ≤ℤ at_only α β
-at_only-nonnegative α β = by (same β α)
-  where
-    by : (b : Bool) → pos 0 ≤ℤ cond b (pos 1) (pos 0)
-    by true = omega (arith, ints)
-    by false = omega (arith, ints)
+at_only-nonnegative α β = search rules

@@ -2,25 +2,22 @@
 --     coefficient_restrict_padded    a coefficient of f restricted to k variables is the coefficient of f at the exponents padded with zeros
 --     restrict-monomials             sums of the monomials that pass a test which does not depend on zeros at the end
 --     restrict-product_over          products of polynomials over a list of parts
-use Rattle.std.proofs.Common.{◌≡◌, ℕ, zero, suc, ◌+◌, ◌-◌, ◌<◌, ◌≤◌, Bool, true, false, ◌&&◌, ◌||◌, cond, eqb, leb, List, [], ◌∷◌, ◌++◌, length, replicate, sym, ◌∙◌, ap, subst, refl, inl, inr, arith, pos, length-append}
+use Rattle.std.proofs.Common.{◌≡◌, ℕ, zero, suc, ◌+◌, ◌-◌, ◌<◌, ◌≤◌, Bool, true, false, ◌&&◌, ◌||◌, cond, eqb, leb, List, [], ◌∷◌, ◌++◌, length, replicate, sym, ◌∙◌, ap, subst, refl, inl, inr, arith, pos, length-append, rules}
 use Rattle.std.proofs.lemmas.List.{length-replicate}
 use Rattle.std.proofs.lemmas.Bool.{eq-eqb, ne_eqb, eqb-true}
 use Rattle.std.proofs.Math.Bool.{and-true, and-false}
 use Rattle.sym_model.specs.Sum.{Among}
-use Rattle.sym_model.specs.Polynomial.{Poly, same, coefficient, Same, In, nothing, times, pair, resize, all_zero, fits_in, restrict}
+use Rattle.sym_model.specs.Polynomial.{Poly, same, coefficient, Same, In, nothing, pair, resize, all_zero, fits_in, restrict}
 use Rattle.sym_model.specs.Partition.{ArePositive, size, sorted_parts, rows}
 use Rattle.sym_model.specs.Bases.{monomials, at_most_one, has, monomial, elementary_of, complete_of, power_sum_of, product_over, elementary, complete, power_sum}
 use Rattle.sym_model.proofs.Exponents.{same_true}
-use Rattle.sym_model.proofs.Polynomials.{at_only, coefficient_pair, coefficient_restrict, pair_in, pair_zero, Same_trans, times_respects}
+use Rattle.sym_model.proofs.Polynomials.{at_only, coefficient_pair, coefficient_restrict, pair_in, pair_zero, times_respects}
 use Rattle.sym_model.proofs.PolynomialLaws.{restrict-times, restrict-one}
 use Rattle.sym_model.proofs.SortedParts.{sorted_parts-padded, rows-sorted_parts, has_past}
 use Rattle.sym_model.proofs.Monomials.{coefficient-monomials, coefficient-monomial, In-monomials}
 use Rattle.std.proofs.Math.Dec.{eqb-suc-suc}
 use Rattle.sym_model.proofs.Integers.{nested_tests}
 
--- ---- the coefficients of a polynomial restricted to fewer variables
-
--- a list of m numbers is all zeros if and only if it is the list of m zeros
 all_zero-same : (m : ℕ) (β : List ℕ) → length β ≡ m → all_zero β ≡ same β (replicate m 0)
 all_zero-same zero [] l = refl
 all_zero-same zero (b ∷ β) l = absurd (omega arith)
@@ -33,18 +30,12 @@ and_middle true false z = refl
 and_middle false true z = refl
 and_middle false false z = refl
 
--- for β with k + m places: x^β restricted to k variables is x^γ if and only if γ has k places and β is γ followed by
--- m zeros
 restricts_to : (k m : ℕ) (β γ : List ℕ) → length β ≡ k + m → (fits_in k β && same (resize k β) γ) ≡ (eqb (length γ) k && same β (γ ++ replicate m 0))
 restricts_to zero m β [] l = and-true (all_zero β) ∙ all_zero-same m β (omega arith)
 restricts_to zero m β (c ∷ γ) l = and-false (all_zero β) ∙ rw (ne_eqb (suc (length γ)) 0 (λ e. omega arith)) refl
 restricts_to (suc k) m [] γ l = absurd (omega arith)
 restricts_to (suc k) m (b ∷ β) [] l = and-false (fits_in k β) ∙ rw (ne_eqb 0 (suc k) (λ e. omega arith)) refl
-restricts_to (suc k) m (b ∷ β) (c ∷ γ) l =
-    and_middle (fits_in k β) (eqb b c) (same (resize k β) γ)
-    ∙ ap (λ t. eqb b c && t) (restricts_to k m β γ (omega arith))
-    ∙ and_middle (eqb b c) (eqb (length γ) k) (same β (γ ++ replicate m 0))
-    ∙ ap (λ t. t && (eqb b c && same β (γ ++ replicate m 0))) (sym (eqb-suc-suc (length γ) k))
+restricts_to (suc k) m (b ∷ β) (c ∷ γ) l = search (rules, and_middle, eqb-suc-suc, (restricts_to k m β γ (omega arith)))
 
 -- for f in k + m variables: the coefficient at γ of f restricted to k variables is the coefficient of f at γ followed
 -- by m zeros if γ has k places, and 0 otherwise
@@ -112,13 +103,7 @@ restrict-power_sum_of d k n p h = restrict-monomials (has d) k n d (has-padded d
 
 pub restrict-product_over : (f : ℕ → ℕ → Poly) (parts : List ℕ) (k n : ℕ) → ((d : ℕ) → Among d parts → Same (restrict k (f d n)) (f d k)) → Same (restrict k (product_over f parts n)) (product_over f parts k)
 restrict-product_over f [] k n h = restrict-one k n
-restrict-product_over f (d ∷ parts) k n h =
-    Same_trans
-    (restrict k (times (f d n) (product_over f parts n)))
-    (times (restrict k (f d n)) (restrict k (product_over f parts n)))
-    (times (f d k) (product_over f parts k))
-    (restrict-times k (f d n) (product_over f parts n))
-    (times_respects (restrict k (f d n)) (f d k) (restrict k (product_over f parts n)) (product_over f parts k) (h d (inl refl)) (restrict-product_over f parts k n (λ c m. h c (inr m))))
+restrict-product_over f (d ∷ parts) k n h = search (rules, restrict-times, times_respects, (restrict-product_over f parts k n))
 
 pub positive_among : (d : ℕ) (parts : List ℕ) → ArePositive parts → Among d parts → 0 < d
 positive_among d [] p m = absurd m

@@ -1,6 +1,6 @@
 -- Powers of -1: the product of two of them is the power whose exponent is the sum of the exponents; a power is 1 if its exponent is even, and -1 if
 -- it is odd.
-use Rattle.std.proofs.Common.{◌≡◌, ℕ, zero, suc, ◌+◌, ◌%◌, ◌==◌, ◌⊎◌, inl, inr, cond, refl, sym, ◌∙◌, ap, arith, pos, negsuc, ℤ, ◌*ℤ◌, neg_ℤ}
+use Rattle.std.proofs.Common.{◌≡◌, ℕ, zero, suc, ◌+◌, ◌%◌, ◌==◌, cond, refl, sym, ◌∙◌, ap, arith, pos, negsuc, ℤ, ◌*ℤ◌, neg_ℤ, rules}
 use Rattle.std.proofs.lemmas.Int.{ints}
 use Rattle.std.proofs.lemmas.Bool.{cases_eq, eq-eqb, ne_eqb}
 use Rattle.sym_model.specs.PlaceOrders.{minus_one_to}
@@ -27,16 +27,10 @@ sign-odd (suc zero) h = refl
 sign-odd (suc (suc k)) h = twice k ∙ sign-odd k (omega arith)
 
 pub sign-parity : (k : ℕ) → minus_one_to k ≡ cond (k % 2 == 1) (negsuc 0) (pos 1)
-sign-parity k = by (cases_eq (k % 2) 1)
-  where
-    by : (k % 2 ≡ 1) ⊎ (k % 2 ≡ 1 → ⊥) → minus_one_to k ≡ cond (k % 2 == 1) (negsuc 0) (pos 1)
-    by (inl e) = sign-odd k e ∙ sym (ap (λ b. cond b (negsuc 0) (pos 1)) (eq-eqb (k % 2) 1 e))
-    by (inr n) = sign-even k (omega (arith, n)) ∙ sym (ap (λ b. cond b (negsuc 0) (pos 1)) (ne_eqb (k % 2) 1 n))
+sign-parity k = search (rules, cases_eq, sign-odd, eq-eqb, sign-even, ne_eqb)
 
--- for even m, (-1)^m·z = z
 pub even_sign : (m : ℕ) (z : ℤ) → m % 2 ≡ 0 → z ≡ minus_one_to m *ℤ z
 even_sign m z h = sym (ap (λ s. s *ℤ z) (sign-even m h) ∙ one-product z)
 
--- for odd m, (-1)^m·z = -z
 pub odd_sign : (m : ℕ) (z : ℤ) → (m % 2 ≡ 0 → ⊥) → neg_ℤ z ≡ minus_one_to m *ℤ z
 odd_sign m z n = sym (ap (λ s. s *ℤ z) (sign-odd m (omega (arith, n))) ∙ neg_one-product z)

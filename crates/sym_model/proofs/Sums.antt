@@ -4,7 +4,7 @@
 --     total_exchange              a double sum is the same in either order
 --     total_within                if ys has no repeats, its members are in xs, and it has the length of xs, both lists have the same sums
 --     total_same_members, total_part, total_reindex, total_bijection, total_cancel      consequences of total_within
-use Rattle.std.proofs.Common.{◌≡◌, suc, ◌≤◌, ◌⊎◌, Bool, true, false, cond, not, List, [], ◌∷◌, ◌++◌, map, length, sym, ◌∙◌, ap, ap₂, subst, refl, inl, inr, arith, ℤ, pos, ◌+ℤ◌, ◌*ℤ◌, neg_ℤ, ◌<◌, get_or, zero, ℕ, filter, flat_map, reverse, nat_le}
+use Rattle.std.proofs.Common.{◌≡◌, suc, ◌≤◌, ◌⊎◌, Bool, true, false, cond, not, List, [], ◌∷◌, ◌++◌, map, length, sym, ◌∙◌, ap, ap₂, subst, refl, inl, inr, arith, ℤ, pos, ◌+ℤ◌, ◌*ℤ◌, neg_ℤ, ◌<◌, get_or, zero, ℕ, filter, flat_map, reverse, nat_le, rules}
 use Rattle.std.proofs.lemmas.Int.{ints}
 use Rattle.sym_model.specs.Sum.{total, Among, Once, Within}
 use Rattle.sym_model.proofs.Ring.{distributes_left}
@@ -15,13 +15,10 @@ use Rattle.std.proofs.lemmas.Bool.{cases_lt, le-leb, and_from}
 use Rattle.sym_model.specs.Tableau.{are_letters}
 use lib.IntN.{+ℤ_idl, *ℤ-zero}
 
--- ---- sums of integers over a list (`total`)
-
 pub total_ext : {A : Type 0} (f g : A → ℤ) → ((x : A) → f x ≡ g x) → (xs : List A) → total f xs ≡ total g xs
 total_ext f g e [] = refl
 total_ext f g e (x ∷ xs) = ap₂ ◌+ℤ◌ (e x) (total_ext f g e xs)
 
--- two functions that agree on the members of a list have the same sum over that list
 pub total_among : {A : Type 0} (f g : A → ℤ) (xs : List A) → ((x : A) → Among x xs → f x ≡ g x) → total f xs ≡ total g xs
 total_among f g [] e = refl
 total_among f g (x ∷ xs) e = ap₂ ◌+ℤ◌ (e x (inl refl)) (total_among f g xs (λ y m. e y (inr m)))
@@ -34,7 +31,6 @@ pub total_zero : {A : Type 0} (xs : List A) → total (λ (x : A). pos 0) xs ≡
 total_zero [] = refl
 total_zero (x ∷ xs) = +ℤ_idl (total (λ _. pos 0) xs) ∙ total_zero xs
 
--- the sum of f over xs is 0 if f is 0 at each member of xs
 pub total_none : {A : Type 0} (f : A → ℤ) (xs : List A) → ((x : A) → Among x xs → f x ≡ pos 0) → total f xs ≡ pos 0
 total_none f xs e = total_among f (λ _. pos 0) xs e ∙ total_zero xs
 
@@ -60,15 +56,8 @@ total_each f h (x ∷ xs) = total_append f (h x) (flat_map h xs) ∙ ap (λ n. t
 
 pub total_select : {A : Type 0} (f : A → ℤ) (test : A → Bool) (xs : List A) → total f (filter test xs) ≡ total (λ (x : A). cond (test x) (f x) (pos 0)) xs
 total_select f test [] = refl
-total_select {A} f test (x ∷ xs) = by (test x) (total_select f test xs)
-  where
-    by : (b : Bool) → total f (filter test xs) ≡ total (λ (y : A). cond (test y) (f y) (pos 0)) xs
-        → total f (cond b (x ∷ filter test xs) (filter test xs)) ≡ cond b (f x) (pos 0) +ℤ total (λ (y : A). cond (test y) (f y) (pos 0)) xs
-    by true e = ap (λ n. f x +ℤ n) e
-    by false e = e ∙ sym (+ℤ_idl _)
+total_select {A} f test (x ∷ xs) = search (rules, +ℤ_idl, (total_select f test xs))
 
--- the sum of f over xs is its sum over the elements that pass a test plus its sum over the elements that fail the
--- test
 pub total_split : {A : Type 0} (f : A → ℤ) (test : A → Bool) (xs : List A) → total f xs ≡ total f (filter test xs) +ℤ total f (filter (λ (x : A). not (test x)) xs)
 total_split f test [] = refl
 total_split {A} f test (x ∷ xs) = by (test x) (total_split f test xs)
@@ -81,7 +70,6 @@ pub total_exchange : {A B : Type 0} (f : A → B → ℤ) (xs : List A) (ys : Li
 total_exchange f [] ys = sym (total_zero ys)
 total_exchange {A} {B} f (x ∷ xs) ys = ap (λ n. total (λ (y : B). f x y) ys +ℤ n) (total_exchange f xs ys) ∙ sym (total_add (λ (y : B). f x y) (λ (y : B). total (λ (z : A). f z y) xs) ys)
 
--- the sum of a constant c over a list is c times its length
 pub total_constant : {A : Type 0} (c : ℤ) (xs : List A) → total (λ (x : A). c) xs ≡ c *ℤ pos (length xs)
 total_constant c [] = sym (*ℤ-zero c)
 total_constant c (x ∷ xs) = let e = total_constant c xs in let d = distributes_left c (pos 1) (pos (length xs)) in omega (arith, ints)
@@ -128,20 +116,11 @@ Among_from_each {A} f y (z ∷ xs) m = by (Among_from_append y (f z) (flat_map f
 pub Among-select : {A : Type 0} (test : A → Bool) (x : A) (xs : List A) → Among x xs → test x ≡ true → Among x (filter test xs)
 Among-select test x [] m t = absurd m
 Among-select test x (y ∷ xs) (inl e) t = subst (λ b. Among x (cond b (y ∷ filter test xs) (filter test xs))) (sym t ∙ ap test e) (inl e)
-Among-select {A} test x (y ∷ xs) (inr m) t = by (test y) (Among-select test x xs m t)
-  where
-    by : (b : Bool) → Among x (filter test xs) → Among x (cond b (y ∷ filter test xs) (filter test xs))
-    by true n = inr n
-    by false n = n
+Among-select {A} test x (y ∷ xs) (inr m) t = search (rules, (Among-select test x xs m t))
 
 pub Among_from_select : {A : Type 0} (test : A → Bool) (x : A) (xs : List A) → Among x (filter test xs) → Among x xs × (test x ≡ true)
 Among_from_select test x [] m = absurd m
-Among_from_select {A} test x (y ∷ xs) m = by (test y) refl m (Among_from_select test x xs)
-  where
-    by : (b : Bool) → test y ≡ b → Among x (cond b (y ∷ filter test xs) (filter test xs)) → (Among x (filter test xs) → Among x xs × (test x ≡ true)) → Among x (y ∷ xs) × (test x ≡ true)
-    by true t (inl e) rest = (inl e, ap test e ∙ t)
-    by true t (inr n) rest = let r = rest n in (inr r.0, r.1)
-    by false t n rest = let r = rest n in (inr r.0, r.1)
+Among_from_select {A} test x (y ∷ xs) m = search (rules, (Among_from_select test x xs))
 
 pub Within_tail : {A : Type 0} (x : A) (xs ys : List A) → Within (x ∷ xs) ys → Within xs ys
 Within_tail x xs ys w z m = w z (inr m)
@@ -157,11 +136,7 @@ Once-map {A} {B} f (x ∷ xs) inj o = (apart, Once-map f xs (λ a b m n. inj a b
 
 pub Once-select : {A : Type 0} (test : A → Bool) (xs : List A) → Once xs → Once (filter test xs)
 Once-select test [] o = tt
-Once-select {A} test (x ∷ xs) o = by (test x) (Once-select test xs o.1)
-  where
-    by : (b : Bool) → Once (filter test xs) → Once (cond b (x ∷ filter test xs) (filter test xs))
-    by true p = (λ m. o.0 (Among_from_select test x xs m).0, p)
-    by false p = p
+Once-select {A} test (x ∷ xs) o = search (rules, Among_from_select, (Once-select test xs o.1))
 
 pub Once-append : {A : Type 0} (xs ys : List A) → Once xs → Once ys → ((x : A) → Among x xs → Among x ys → ⊥) → Once (xs ++ ys)
 Once-append [] ys o p d = p
@@ -250,10 +225,7 @@ total_within f xs (y ∷ ys) o w l =
 
 -- if two lists have no repeats and the same members, f has the same sum over both lists
 pub total_same_members : {A : Type 0} (f : A → ℤ) (xs ys : List A) → Once xs → Once ys → Within xs ys → Within ys xs → total f xs ≡ total f ys
-total_same_members f xs ys o p v w =
-    let a = length_within xs ys p w in
-    let b = length_within ys xs o v in
-    total_within f ys xs o v (omega arith)
+total_same_members f xs ys o p v w = search (rules, length_within, total_within)
 
 -- if xs and ys have no repeats, each member of xs is in ys, and f is 0 at each member of ys that is not in xs, then f
 -- has the same sum over xs as over ys
@@ -314,7 +286,6 @@ total_only {A} f a xs o m zero_at =
     others : (x : A) → Among x (without a xs m) → f x ≡ pos 0
     others x n = zero_at x (Among_from_without x a xs m n) (λ e. Once-without a xs m o (subst (λ u. Among u (without a xs m)) e n))
 
--- if b is true, the sum of the terms `cond b (f x) 0` is the sum of the f(x), and if b is false it is 0
 pub total_cond : {A : Type 0} (b : Bool) (f : A → ℤ) (xs : List A) → total (λ (x : A). cond b (f x) (pos 0)) xs ≡ cond b (total f xs) (pos 0)
 total_cond true f xs = refl
 total_cond false f xs = total_zero xs
@@ -324,17 +295,10 @@ Among-get_or [] i w h e = absurd (omega arith)
 Among-get_or (x ∷ todo) zero w h e = inl e
 Among-get_or (x ∷ todo) (suc i) w h e = inr (Among-get_or todo i w (omega arith) e)
 
--- the number of elements of xs that pass a test is the sum of 1 over these elements
 pub length-select : {A : Type 0} (test : A → Bool) (xs : List A) → pos (length (filter test xs)) ≡ total (λ (x : A). cond (test x) (pos 1) (pos 0)) xs
 length-select test [] = refl
-length-select {A} test (x ∷ xs) = by (test x) (length-select test xs)
-  where
-    by : (b : Bool) → pos (length (filter test xs)) ≡ total (λ (y : A). cond (test y) (pos 1) (pos 0)) xs
-        → pos (length (cond b (x ∷ filter test xs) (filter test xs))) ≡ cond b (pos 1) (pos 0) +ℤ total (λ (y : A). cond (test y) (pos 1) (pos 0)) xs
-    by true e = omega (arith, ints)
-    by false e = omega (arith, ints)
+length-select {A} test (x ∷ xs) = search (rules, ints, (length-select test xs))
 
--- a sum of integers that are at least 0 is at least 0
 pub total_not_negative : {A : Type 0} (f : A → ℤ) (xs : List A) → ((x : A) → pos 0 ≤ℤ f x) → pos 0 ≤ℤ total f xs
 total_not_negative f [] h = omega (arith, ints)
 total_not_negative f (x ∷ xs) h = let r = total_not_negative f xs h in let k = h x in omega (arith, ints)

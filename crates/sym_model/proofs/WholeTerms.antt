@@ -1,5 +1,5 @@
--- Lists of terms with integer coefficients (specs/WholeTerms): the polynomial that a list stands for depends only on
--- the sum of the coefficients of each label.
+-- Lists of terms with integer coefficients (specs/WholeTerms). For polynomials p(label), the sum of c·p(label) over the
+-- terms (label, c) of a list depends only on the sum of the coefficients of each label.
 use Rattle.std.proofs.Common.{◌≡◌, ℕ, List, [], ◌∷◌, ◌++◌, ◌+◌, map, sym, ◌∙◌, ap, ap₂, subst, refl, inl, inr, arith, ℤ, pos, ◌*ℤ◌}
 use Rattle.sym_model.specs.Sum.{total, Among}
 use Rattle.sym_model.specs.Polynomial.{Poly, coefficient, Same, pair, plus, scale}
@@ -9,8 +9,8 @@ use Rattle.sym_model.proofs.Ring.{product-one}
 use Rattle.sym_model.proofs.Sums.{total_ext}
 use Rattle.sym_model.proofs.Polynomials.{at_only, coefficient_pair, pair_each, pair_scale, pair_determined, scale_respects}
 
--- let f be the sum of c·p(label) over the terms (label, c): the sum of b·φ(α) over the terms b·x^α of f (`pair f φ`)
--- is the sum of c times `pair p(label) φ` over the terms (label, c); p is `polynomial`
+-- let p be `polynomial`, and f the sum of c·p(label) over the terms (label, c) of a list. The sum of b·φ(α) over the
+-- terms b·x^α of f (`pair f φ`) is the sum of c times `pair p(label) φ` over the terms (label, c) of the list.
 pub pair_of_combined : {Label : Type 0} (polynomial : Label → Poly) (terms : WholeTermsOf Label) (φ : List ℕ → ℤ) → pair (combined polynomial terms) φ ≡ total (λ (t : Label × ℤ). t.1 *ℤ pair (polynomial t.0) φ) terms
 pair_of_combined {Label = Label} polynomial terms φ =
     pair_each (λ (t : Label × ℤ). scale t.1 (polynomial t.0)) terms φ
@@ -28,8 +28,6 @@ coefficient_of_combined {Label = Label} polynomial terms α =
 pub coefficient-combined : (polynomial : List ℕ → Poly) (terms : WholeTerms) (α : List ℕ) → coefficient (combined polynomial terms) α ≡ pair terms (λ label. coefficient (polynomial label) α)
 coefficient-combined polynomial terms α = coefficient_of_combined polynomial terms α
 
--- ---- lists of terms all of whose labels have the property P (`HaveLabels`)
-
 module _ {Label : Type 0} (P : Label → Type 0) where
   pub labels_append : (xs ys : WholeTermsOf Label) → HaveLabels P xs → HaveLabels P ys → HaveLabels P (xs ++ ys)
   labels_append [] ys h k t m = k t m
@@ -44,10 +42,8 @@ module _ {Label : Type 0} (P : Label → Type 0) where
   pub labels_scaled : (c : ℤ) (xs : WholeTermsOf Label) → HaveLabels P xs → HaveLabels P (scale c xs)
   labels_scaled c xs h = labels_map (λ (t : Label × ℤ). (t.0, c *ℤ t.1)) xs h
 
--- ---- collecting the terms of equal labels does not change the polynomial of a list
-
--- if two lists of terms have the same sum of coefficients at each label, then the sums of c·p(label) over their terms
--- (label, c) are the same polynomial
+-- let p be `polynomial`: if two lists of terms have the same sum of coefficients at each label, then the sums of
+-- c·p(label) over their terms (label, c) are the same polynomial
 pub combined_respects : (polynomial : List ℕ → Poly) (terms others : WholeTerms) → Same terms others → Same (combined polynomial terms) (combined polynomial others)
 combined_respects polynomial terms others e α =
     coefficient-combined polynomial terms α ∙ pair_determined terms others (λ label. coefficient (polynomial label) α) e ∙ sym (coefficient-combined polynomial others α)
@@ -62,7 +58,8 @@ cleared-as_fractions : {Label : Type 0} (polynomial : Label → Poly) (terms : W
 cleared-as_fractions polynomial [] = refl
 cleared-as_fractions polynomial (t ∷ terms) = ap₂ plus (ap (λ c. scale c (polynomial t.0)) (product-one t.1)) (cleared-as_fractions polynomial terms)
 
--- the value of a list of terms with coefficients c/1 is the sum of c·p(label) over the terms; p is `polynomial`
+-- let p be `polynomial`: the polynomial that a list of terms (label, c/1) denotes (`value_by`) is the sum of c·p(label)
+-- over these terms
 pub value_by-as_fractions : {Label : Type 0} (polynomial : Label → Poly) (terms : WholeTermsOf Label) → value_by polynomial (as_fractions terms) ≡ combined polynomial terms
 value_by-as_fractions polynomial terms =
     ap (λ q. cleared polynomial q (as_fractions terms)) (denominators-as_fractions terms) ∙ cleared-as_fractions polynomial terms
@@ -80,8 +77,8 @@ value_by-whole polynomial terms w = ap (λ l. value_by polynomial l) (sym (as_fr
 pub value_of_whole : (basis : Basis) (terms : Terms (List ℕ)) (n : ℕ) → AreWhole terms → value basis terms n ≡ combined (λ label. basis_polynomial basis label n) (numerators terms)
 value_of_whole basis terms n w = value_by-whole (λ label. basis_polynomial basis label n) terms w
 
--- let all coefficients of a list have the denominator 1: if the sum of c·p(label) over its terms with the
--- coefficients c/1 is the polynomial f, then the list represents f/1 (`Represents`); p is `polynomial`
+-- let p be `polynomial`, and let all coefficients of a list of terms have the denominator 1: if the sum of c·p(label)
+-- over the terms (label, c/1) is the polynomial f, then the list represents f/1 (`Represents`)
 pub represents-whole : {Label : Type 0} (polynomial : Label → Poly) (terms : Terms Label) (f : Poly) → AreWhole terms → Same (combined polynomial (numerators terms)) f → Represents polynomial terms f 1
 represents-whole polynomial terms f w e = record {
   positive = omega (arith, denominators_of_whole terms w);

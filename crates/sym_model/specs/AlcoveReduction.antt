@@ -27,7 +27,7 @@ abbrev pub reflected : ℕ → List ℕ → List ℕ
 reflected n [] = []
 reflected n (a ∷ b) = (a - n) ∷ last_raised n b
 
--- if the argument is a list with a sign, the same list with t times the sign; None for None
+-- the given list with its sign multiplied by t; None if there is no list
 abbrev pub with_sign : ℤ → Option (List ℕ × ℤ) → Option (List ℕ × ℤ)
 with_sign t None = None
 with_sign t (Some answer) = Some (answer.0, t *ℤ answer.1)
@@ -45,14 +45,14 @@ reflected_within (suc steps) n b =
     cond (nat_lt (spread b) n) (Some (b, pos 1))
     (cond ((spread b == n) || has_equal_entries next) None later)
 
--- the result of the rule of `reflected_within` for the strictly decreasing list b, with enough steps: for n ≥ 1, a
--- reflection of a list whose first entry minus its last exceeds n decreases the sum of the squares of the entries, so
--- 1 more step than that sum of b is enough
+-- the result of the rule of `reflected_within` for the strictly decreasing list b, with enough steps. One more step
+-- than the sum of the squares of the entries of b is enough if n ≥ 1: this sum is decreased by the reflection of each
+-- list whose first entry minus its last entry exceeds n.
 abbrev pub reflected_into_alcove : ℕ → List ℕ → Option (List ℕ × ℤ)
 reflected_into_alcove n b = reflected_within (suc (squares b)) n b
 
--- if the argument is a strictly decreasing list with a sign: the partition whose beta list is this list, with the same
--- sign; None for None
+-- the partition whose beta list is the given strictly decreasing list, with the sign of that list; None if there is no
+-- list
 abbrev pub as_partition : Option (List ℕ × ℤ) → Option (List ℕ × ℤ)
 as_partition None = None
 as_partition (Some answer) = Some (from_beta answer.0, answer.1)

@@ -10,8 +10,8 @@ use Rattle.sym_model.specs.PrintedBlock.{block_by}
 pub data Answer : Type 0 where
   answer : (kind : Kind) → Terms (Label kind) → Answer
 
--- the number that a list of the kind `number` stands for: the numerator of its first coefficient, or 0 if the list
--- has no term
+-- the number that a list of the kind `number` denotes: the numerator of its first coefficient, or 0 if the list has no
+-- term
 abbrev pub number_in : Terms (Label number) → ℤ
 number_in [] = pos 0
 number_in (t ∷ terms) = t.1.0
@@ -20,8 +20,9 @@ number_in (t ∷ terms) = t.1.0
 abbrev pub answer_text : Answer → List ℕ
 answer_text (answer kind terms) = block_by (label_rules kind) terms
 
--- the terms of the answer are a canonical list of its kind (`IsCanonicalBy`), and each numerator and denominator of a
--- coefficient is at least -2^127 and less than 2^127
+-- the terms of the answer are a canonical list of its kind: the labels are in the printed order, and the coefficients
+-- are in lowest terms and not 0 (`IsCanonicalBy`). Each numerator and denominator is at least -2^127 and less than
+-- 2^127.
 abbrev pub IsPrintable : Answer → Type 0
 IsPrintable (answer kind terms) =
     IsCanonicalBy (label_rules kind) terms × IsTrue (is_printable terms)

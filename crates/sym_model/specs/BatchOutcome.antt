@@ -1,5 +1,6 @@
 -- The outcomes of the commands that run other commands: `batch` runs the lines of its input, and `work` runs lines
--- that it generates. `IsOutcomeOf` defines the outcomes of every list of words, for these commands and all others.
+-- that it generates. An outcome is a text that a run may write, with its ending. A batch writes a block for each line
+-- that it runs. `IsOutcomeOf` defines the outcomes of every list of words, for these commands and all others.
 use Rattle.std.specs.Prelude.{◌≡◌, ℕ, Bool, true, false, ◌&&◌, cond, List, [], ◌∷◌, map, codes}
 use Rattle.sym_model.specs.TableauText.{separated}
 use Rattle.sym_model.specs.Workload.{work_lines, summary_text}
@@ -62,7 +63,7 @@ pub record RunsWorkload (entries : List Entry) (lines seed : ℕ) (text : List �
   pub are_blocks : AreBlocks entries (map batch_line (work_lines lines seed)) blocks
   pub summed : text ≡ summary_text (map (λ (b : Block). b.0) blocks)
 
--- for the given input, the text and the ending are an outcome of the command, if its words have no error; `entries`
+-- for the given input, the text and the ending are an outcome of a command that was read without an error; `entries`
 -- are the commands that a line of `batch` or `work` may be
 abbrev pub AnswersWith : List Entry → List ℕ → Command → List ℕ → Ending → Type 0
 AnswersWith entries input batch text ending = RunsInput entries input text ending

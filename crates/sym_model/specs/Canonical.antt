@@ -33,8 +33,8 @@ abbrev pub each_term : {Label : Type 0} → (Label × Fraction → Bool) → Ter
 each_term test [] = true
 each_term test (t ∷ terms) = test t && each_term test terms
 
--- whether a fraction may be a coefficient of a canonical list: it is not 0, is in lowest terms, and has the
--- denominator 1 unless `has_fractions` is true
+-- whether a fraction may be a coefficient of a canonical list (labels in order): it is not 0, is in lowest terms, and
+-- has the denominator 1 unless `has_fractions` is true
 abbrev pub is_coefficient : Bool → Fraction → Bool
 is_coefficient has_fractions c = (has_fractions || (c.1 == 1)) && is_reduced c
 
@@ -46,7 +46,8 @@ is_canonical_by rules terms =
     is_ordered rules.order terms
     && each_term (λ t. is_coefficient rules.has_fractions t.1 && rules.is_within_limits t.0) terms
 
--- the list of terms is canonical by `rules`, as the test `is_canonical_by` decides
+-- the list of terms is canonical by `rules` (labels in order, coefficients in lowest terms and not 0), as the test
+-- `is_canonical_by` decides
 abbrev pub IsCanonicalBy : {Label : Type 0} → LabelRules Label → Terms Label → Type 0
 IsCanonicalBy rules terms = IsTrue (is_canonical_by rules terms)
 

@@ -18,8 +18,8 @@ pub data Command : Type 0 where
   -- tab outer inner after: the lattice tableaux of outer/inner; if `after` is Some column reading, only those listed
   -- after the tableau with this reading
   tab : List ℕ → List ℕ → Option (List ℕ) → Command
-  -- quantum rows columns factors: the quantum product of the partitions `factors` for this number of rows and of
-  -- columns
+  -- quantum rows columns factors: the product of the partitions `factors` in the quantum cohomology of the Grassmannian,
+  -- for partitions with at most `rows` rows and at most `columns` columns
   quantum : ℕ → ℕ → List (List ℕ) → Command
   -- fusion rows level factors: the fusion product of the partitions `factors` for this number of rows at this level
   fusion : ℕ → ℕ → List (List ℕ) → Command
@@ -33,7 +33,7 @@ pub data Command : Type 0 where
   unrsk : List (List ℕ) → List (List ℕ) → Command
   -- rect outer inner rows: the rectification of the tableau of the shape outer/inner with these rows
   rect : List ℕ → List ℕ → List (List ℕ) → Command
-  -- growth permutation: the growth grid of the permutation
+  -- growth permutation: the growth grid of the permutation, the grid of partitions that Fomin's local rules give
   growth : List ℕ → Command
   -- plethysm target outer inner: outer[inner] expanded in the basis `target`, that is, the polynomial of `outer` with
   -- the monomials of `inner` in place of its variables

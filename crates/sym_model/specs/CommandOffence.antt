@@ -1,5 +1,6 @@
--- The errors in the numbers that a command's words give (a limit is exceeded, or numbers do not fit each other), each
--- error with its word, its byte and its kind; and the first error of a list of errors.
+-- The errors in the numbers that a command's words give, each error with its word, its byte and its kind; and the first
+-- error of a list of errors. The kinds are: literal, a number over 2^127 - 1; range, another limit is exceeded; shape,
+-- numbers do not fit each other or are not allowed.
 use Rattle.std.specs.Prelude.{◌≡◌, ◌⊎◌, ◌<◌, ℕ, ◌+◌, ◌-◌, ◌*◌, ◌==◌, nat_le, nat_lt, Bool, false}
 use Rattle.std.specs.Prelude.{◌&&◌, ◌||◌, cond, List, [], ◌∷◌, ◌++◌, map, length, drop, slice_get}
 use Rattle.std.specs.Prelude.{Option, Some, None, flat_map}
@@ -38,9 +39,8 @@ abbrev pub first_offence : List Offence → Option Offence
 first_offence [] = None
 first_offence (o ∷ os) = earlier_of o (first_offence os)
 
--- the second list of errors if the first list is empty, otherwise no error. The second list has the errors that are
--- found if a list of words is compared with an earlier one; they count only if the earlier list of words has no errors
--- of its own, which are the first list.
+-- the second list of errors if the first list is empty, and otherwise the empty list. The second list has the errors
+-- found by a comparison with earlier words of the command, and the first list has the errors of these earlier words.
 abbrev pub judged_against : List Offence → List Offence → List Offence
 judged_against [] found = found
 judged_against (o ∷ earlier) found = []
@@ -273,8 +273,8 @@ standard_offences count earlier upper (row ∷ rows) =
 abbrev pub entries : List PlacedRow → List (List ℕ)
 entries rows = map (λ (row : PlacedRow). row.1) rows
 
--- the rows of a tableau of the shape outer/inner, given as they are typed: if outer has no parts, a single row
--- without entries is read as no row
+-- the rows of a tableau of the shape outer/inner, read from its typed rows: if outer has no parts, a single typed row
+-- without entries gives no row
 abbrev pub rows_in : List ℕ → List (List ℕ) → List (List ℕ)
 rows_in [] ([] ∷ []) = []
 rows_in outer rows = rows

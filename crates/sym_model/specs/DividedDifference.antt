@@ -15,8 +15,8 @@ x_to α = (α, pos 1) ∷ []
 abbrev pub x_to_in : List ℕ → ℕ → Poly
 x_to_in α n = restrict n (x_to α)
 
--- the variable x_i (`variable i`), and the same in n variables (`variable_in i n`), which is 0 if i > n; i counts
--- from 1
+-- the variable x_i (`variable i`), and the variable x_i as a polynomial in n variables (`variable_in i n`), which is 0 if
+-- i > n; i counts from 1
 abbrev pub variable : ℕ → Poly
 variable i = x_to (replicate (i - 1) 0 ++ (1 ∷ []))
 

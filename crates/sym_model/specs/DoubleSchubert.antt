@@ -26,8 +26,8 @@ difference_product n m =
     (after 0 n))
 
 -- S(w; x, y), the double Schubert polynomial of a list w of n letters, in m variables x and m variables y, for m ≥ n:
--- the divided differences along the first ascents of w (`schubert_over`), in the x only, of the product of all
--- x_i - y_j with i + j ≤ n
+-- the divided differences of `schubert_over` for w, in the x only, are applied to the product of all x_i - y_j with
+-- i + j ≤ n
 abbrev pub double_schubert : List ℕ → ℕ → Poly
 double_schubert w m = schubert_over (difference_product (length w) m) w
 

@@ -1,5 +1,6 @@
--- For any list of entries, each of which gives the form of the words of one command: the commands that a list of words
--- spells, the lists of words that begin a command, and the first error of words that spell a command.
+-- The grammar of the commands is a list of entries; each entry gives the form of the words of one command. For any
+-- such list: the commands that a list of words spells, the lists of words that begin a command, and the first error of
+-- words that spell a command.
 use Rattle.std.specs.Prelude.{◌≡◌, ℕ, List, Option, None}
 use Rattle.sym_model.specs.Form.{Form, Written, SomeOf, Has, Begins, Awaits}
 use Rattle.sym_model.specs.Command.{Command}

@@ -1,5 +1,5 @@
--- The polynomial that a list of terms stands for, multiplied by the denominators of the coefficients; and expansions
--- of polynomials in the five bases of symmetric functions.
+-- The sum of c·polynomial(label) over the terms (label, c) of a list, multiplied by the denominators of the coefficients;
+-- and expansions of polynomials in the five bases of symmetric functions.
 use Rattle.std.specs.Prelude.{ℕ, ◌<◌, ◌*◌, ◌/◌, ℤ, pos, ◌*ℤ◌, List, [], ◌∷◌, ◌++◌, map, flat_map}
 use Rattle.sym_model.specs.Polynomial.{Term, Poly, Same, nothing, plus, scale}
 use Rattle.sym_model.specs.Bases.{monomial, elementary, complete, power_sum}

@@ -17,9 +17,9 @@ pub data Tree : Type 0 where
   difference : Tree → Tree → Tree
   product : Tree → Tree → Tree
 
--- the degree of an expression: 0 for a number or a fraction, the size of the partition for an atom, the degree of the
--- operand for a negation, the greater of the two degrees for a sum or a difference, and the sum of the two degrees
--- for a product
+-- the degree of an expression: 0 for a number or a fraction, the size of the partition for an atom (a basis element),
+-- the degree of the operand for a negation, the greater of the two degrees for a sum or a difference, and the sum of
+-- the two degrees for a product
 abbrev pub degree : Tree → ℕ
 degree (number a) = 0
 degree (fraction a b) = 0
@@ -29,8 +29,8 @@ degree (sum e f) = max (degree e) (degree f)
 degree (difference e f) = max (degree e) (degree f)
 degree (product e f) = degree e + degree f
 
--- the nesting of an expression: 1 for a number, a fraction or an atom, and otherwise 1 more than the greatest nesting
--- of an operand
+-- the nesting of an expression: 1 for a number, a fraction or an atom (a basis element), and otherwise 1 more than the
+-- greatest nesting of an operand
 abbrev pub nesting : Tree → ℕ
 nesting (number a) = 1
 nesting (fraction a b) = 1
@@ -44,9 +44,9 @@ nesting (product e f) = max (nesting e) (nesting f) + 1
 abbrev pub lcm : ℕ → ℕ → ℕ
 lcm a b = a / gcd a b * b
 
--- D, a common denominator of the coefficients of an expression: 1 for a number or an atom, b for a fraction a/b, the
--- denominator of the operand for a negation, the least common multiple of the denominators of both operands for a sum
--- or a difference, and their product for a product
+-- a common denominator of the coefficients of an expression: 1 for a number or an atom (a basis element), b for a
+-- fraction a/b, the denominator of the operand for a negation, the least common multiple of the denominators of both
+-- operands for a sum or a difference, and their product for a product
 abbrev pub denominator : Tree → ℕ
 denominator (number a) = 1
 denominator (fraction a b) = b
@@ -56,7 +56,7 @@ denominator (sum e f) = lcm (denominator e) (denominator f)
 denominator (difference e f) = lcm (denominator e) (denominator f)
 denominator (product e f) = denominator e * denominator f
 
--- V, the polynomial in n variables that is the value of the expression e times its common denominator `denominator e`
+-- the polynomial in n variables that is the value of the expression e times its common denominator `denominator e`
 abbrev pub cleared_value : Tree → ℕ → Poly
 cleared_value (number a) n = scale (pos a) (one n)
 cleared_value (fraction a b) n = scale (pos a) (one n)

@@ -1,5 +1,6 @@
--- The errors of an expression (a limit is exceeded, a number of an atom is greater than the one before it, a
--- denominator is 0, ..), each with its byte in the word and its kind; and the first error of a list of errors.
+-- The errors of an expression (a limit is exceeded, a number of an atom such as s[2,1] is greater than the one before
+-- it, a denominator is 0, ..), each with its byte in the word and its kind; and the first error of a list of errors.
+-- Most errors are found at marks: a *mark* says what begins at a byte of the expression, for example a number (`Mark`).
 use Rattle.std.specs.Prelude.{◌≡◌, ℕ, ◌+◌, ◌^◌, ◌<◌, ◌==◌, nat_le, nat_lt, Bool, false, ◌&&◌, ◌||◌}
 use Rattle.std.specs.Prelude.{cond, List, [], ◌∷◌, ◌++◌, length, Option, Some, None, ◌⊎◌, flat_map}
 use Rattle.sym_model.specs.Expansion.{Basis, monomials, schurs}
@@ -47,17 +48,16 @@ is_offence (entry count before n) shape = rises before n
 is_offence (denominator n) shape = n == 0
 is_offence _ _ = false
 
--- the marks of `words`, number words in the list of an atom with one comma between two neighbours: the first of
--- `words` begins at `byte`, and in front of it the list has `count` numbers, of which the last is `before` (None if
--- `count` is 0)
+-- the marks of `words`, which are numbers in the list of an atom, with one comma between two neighbours. The first of
+-- `words` begins at `byte`. The list has `count` numbers before `words`, the last of them `before` (None if `count` is 0).
 abbrev pub entry_marks : ℕ → ℕ → Option ℕ → List (List ℕ) → List (ℕ × Mark)
 entry_marks byte count before [] = []
 entry_marks byte count before (word ∷ words) =
     (byte, entry count before (decimal_value word))
     ∷ entry_marks (byte + length word + 1) (count + 1) (Some (decimal_value word)) words
 
--- the marks of a phrase that begins at byte `byte` of the word, from left to right; `depth` parentheses are open in
--- front of it
+-- the marks of an expression as it is written (`Phrase`), from left to right; the expression begins at byte `byte` of
+-- the word, and `depth` parentheses are open in front of it
 abbrev pub marks : ℕ → ℕ → Phrase → List (ℕ × Mark)
 marks depth byte (numeral digits) = (byte, value (decimal_value digits)) ∷ []
 marks depth byte (ratio num den) =

@@ -24,8 +24,8 @@ pub data Form : Type 0 where
   either : Form → Form → Form
   many : Form → Form
 
--- the type of the values that words of the class denote: no value for a fixed text, the digits for a number, the
--- basis for a letter, the phrase for an expression
+-- the type of the values that words of the class denote: no value for a fixed text, the digits for a number, the basis
+-- for the letter of a basis, and a parse tree (`Phrase`) for an expression
 abbrev pub WrittenWord : Class → Type 0
 WrittenWord (exact text) = Unit {0}
 WrittenWord number = List ℕ
@@ -66,8 +66,8 @@ abbrev pub EachOf : {A : Type 0} → (A → Type 0) → List A → Type 0
 EachOf P [] = Unit {0}
 EachOf P (x ∷ xs) = P x × EachOf P xs
 
--- the value x is denoted by a word of the class c: the digits are a number word, the basis is one of `bases`, the
--- phrase is an expression of the grammar
+-- the value x is denoted by a word of the class c: the digits are a number word (a word of decimal digits), the basis
+-- is one of `bases`, the phrase is an expression of the grammar
 abbrev pub MayBe : (c : Class) → WrittenWord c → Type 0
 MayBe (exact text) x = Unit {0}
 MayBe number digits = IsNumberWord digits
@@ -163,7 +163,8 @@ abbrev pub one_more : List Form → ℕ → ℕ
 one_more [] n = 0
 one_more (f ∷ forms) n = n + 1
 
--- the number of words in the longest prefix of the given words that begins a list of words of one of these forms
+-- the number of words in the longest prefix of the given words that can be continued to a list of words of one of the
+-- forms, if each class of words in the forms has a word (`can_be`)
 abbrev pub taken : (List ℕ → Bool) → List Form → List (List ℕ) → ℕ
 taken reads forms [] = 0
 taken reads forms (text ∷ words) =
@@ -184,7 +185,7 @@ after_words reads forms (text ∷ words) = after_words reads (after_word reads f
 abbrev pub are_words_of : (List ℕ → Bool) → Form → List (List ℕ) → Bool
 are_words_of reads f words = has_skippable (after_words reads (f ∷ []) words)
 
--- whether the first word of a list of words of the form can be an expression
+-- whether the first word of a list of words of the form can be one that the form leaves to an expression (`word formula`)
 abbrev pub awaits_next : Form → Bool
 awaits_next (word formula) = true
 awaits_next (sequence f g) = awaits_next f || (is_skippable f && awaits_next g)
@@ -192,7 +193,7 @@ awaits_next (either f g) = awaits_next f || awaits_next g
 awaits_next (many f) = awaits_next f
 awaits_next f = false
 
--- whether the first word of a list of words of one of these forms can be an expression
+-- whether the first word of a list of words of one of these forms can be one that the form leaves to an expression
 abbrev pub some_awaits_next : List Form → Bool
 some_awaits_next [] = false
 some_awaits_next (f ∷ forms) = awaits_next f || some_awaits_next forms

@@ -1,5 +1,6 @@
--- Column readings, good tableaux and their counts (Stembridge, A concise proof of the
--- Littlewood–Richardson rule).
+-- Column readings, good tableaux and their counts (Stembridge, A concise proof of the Littlewood–Richardson rule).
+-- A tableau is good for a partition if, for each j, the partition plus the content of the columns to the right of
+-- column j is weakly decreasing. It is a lattice tableau if it is good for the empty partition.
 use Rattle.std.specs.Prelude.{ℕ, ◌+◌, ◌-◌, nat_le, nat_lt, Bool, true, false, ◌&&◌, ◌||◌, cond}
 use Rattle.std.specs.Prelude.{List, [], ◌∷◌, ◌++◌, map, length, reverse, take, drop, filter}
 use Rattle.std.specs.Prelude.{flat_map}

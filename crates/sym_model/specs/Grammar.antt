@@ -1,6 +1,7 @@
 -- The grammar of commands: for each command the form of its words, the command that words of this form spell, and
--- their errors. In the comments, NUM is a number, BASIS the letter of a basis, EXPR an expression, and PART, PERM,
--- ROWS, FORM, FROM and TABLEAU are the forms of the file WordForms.
+-- their errors. In the comments, NUM is a number, BASIS the letter of a basis, EXPR an expression, PART a partition,
+-- PERM a permutation, TABLEAU a tableau, ROWS the option `-r NUM`, FORM the option `-m`, and FROM the option
+-- `-from TABLEAU` (specs/WordForms). The signs ?, * and + mean: at most once, any number of times, at least once.
 use Rattle.std.specs.Prelude.{ℕ, ◌+◌, cond, List, [], ◌∷◌, ◌++◌, map, length, codes, Option, Some}
 use Rattle.std.specs.Prelude.{None}
 use Rattle.std.proofs.Common.{inl, inr}

@@ -9,8 +9,9 @@ use Rattle.sym_model.specs.Answer.{answer}
 use Rattle.sym_model.specs.Command.{Command}
 use Rattle.sym_model.specs.Target.{Meets}
 
--- if the text is read back in the printed form of the command, the result is a canonical list of terms, and this list
--- is the answer that the command asks for (`Meets`)
+-- if the text is read back in the printed form of the command, the result is a canonical list of terms (labels in the
+-- printed order, coefficients in lowest terms and not 0), and this list is the answer that the command asks for
+-- (`Meets`)
 pub record ReadsBack (command : Command) (text : List ℕ) : Type 0 where
   pub kind : Kind
   pub terms : Terms (Label kind)

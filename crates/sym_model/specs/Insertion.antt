@@ -23,8 +23,8 @@ inserted rows None = rows
 inserted [] (Some a) = (a ∷ []) ∷ []
 inserted (row ∷ rows) (Some a) = row_with a row ∷ inserted rows (bumped a row)
 
--- the recording tableau q with k appended to its first row that is shorter than the same row of p; a row that q does
--- not have counts as empty
+-- the recording tableau q with k appended to its first row that is shorter than the row of p at the same place; a row
+-- that q does not have counts as empty
 abbrev pub with_step : ℕ → List (List ℕ) → List (List ℕ) → List (List ℕ)
 with_step k [] q = q
 with_step k (row ∷ p) [] = (k ∷ []) ∷ []

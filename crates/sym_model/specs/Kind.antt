@@ -1,4 +1,5 @@
--- The kinds of answers, and the rules by which a block prints and reads the labels of each kind.
+-- The kinds of answers, which are lists of terms, and for each kind the rules by which the labels of its terms are
+-- printed and read.
 use Rattle.std.specs.Prelude.{◌≡◌, ℕ, Bool, true, false, List, [], ◌∷◌, ◌++◌, codes, decimal}
 use Rattle.std.specs.declared.cmp.Ordering.{Ordering}
 use Rattle.std.specs.declared.cmp.Ordering.TheVariants.{Equal}
@@ -9,9 +10,9 @@ use Rattle.sym_model.specs.PrintedOrder.{printed_order, pair_order, power_order,
 use Rattle.sym_model.specs.PrintedOrder.{shifted_order}
 use Rattle.sym_model.specs.Bounded.{Lacks}
 
--- The rules by which a printed block treats its labels: the text that follows the coefficient on a line, the label
--- that such a text spells, the order of the lines, the limits of the labels, and whether a coefficient may be a
--- fraction.
+-- The rules for the labels of the terms of an answer, which is printed with one term on each line: the text of a label,
+-- which follows the coefficient on the line; the label that such a text spells; the order of the lines; the limits of
+-- the labels; and whether a coefficient may be a fraction.
 pub record LabelRules (Label : Type 0) : Type 0 where
   pub text : Label → List ℕ
   pub spelled : List ℕ → Label
@@ -53,7 +54,8 @@ abbrev pub after_one : List ℕ → List ℕ
 after_one [] = []
 after_one (first ∷ text) = text
 
--- the text of a label that is a list of numbers: two spaces and the list, as after the 2 in `2  (2,1)`
+-- the text of a label that is a list of numbers: two spaces and the list. In the line `2  (2,1)` of a term, this text
+-- follows the coefficient 2.
 abbrev pub list_text : List ℕ → List ℕ
 list_text numbers = codes "  " ++ label_text numbers
 
@@ -61,8 +63,8 @@ list_text numbers = codes "  " ++ label_text numbers
 abbrev pub list_of : List ℕ → List ℕ
 list_of text = label_of (after_two text)
 
--- the text of a label that is a pair of lists: two spaces, the first list, a space and the second list, as after the
--- first 1 in `1  (2) (1)`
+-- the text of a label that is a pair of lists: two spaces, the first list, a space and the second list. In the line
+-- `1  (2) (1)` of a term, this text follows the coefficient 1.
 abbrev pub pair_text : List ℕ × List ℕ → List ℕ
 pair_text pair = codes "  " ++ (label_text pair.0 ++ (codes " " ++ label_text pair.1))
 
@@ -74,7 +76,7 @@ pair_of text =
     (label_of cut.0, label_of (after_one cut.1))
 
 -- the text of a label that is a power of q with a partition: two spaces, `q^` and the power, two spaces and the
--- partition, as after the first 1 in `1  q^1  (2,1)`
+-- partition. In the line `1  q^1  (2,1)` of a term, this text follows the coefficient 1.
 abbrev pub power_text : ℕ × List ℕ → List ℕ
 power_text label = codes "  q^" ++ (decimal label.0 ++ list_text label.1)
 

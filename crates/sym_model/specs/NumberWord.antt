@@ -1,4 +1,4 @@
--- Number words, that is, numbers written with decimal digits; and lists of number words with commas between them.
+-- Number words, that is, words of decimal digits; and lists of number words with commas between them.
 use Rattle.std.specs.Prelude.{ℕ, ◌<◌, ◌≤◌, List, [], ◌∷◌, length}
 use Rattle.std.specs.List.{join_with_byte}
 

@@ -10,7 +10,7 @@ use Rattle.sym_model.specs.Kind.{LabelRules}
 use Rattle.sym_model.specs.Canonical.{is_canonical_by, is_printable}
 use Rattle.sym_model.specs.Phrase.{letter}
 
--- the text of an atom: the letter of the basis and the numbers of the label in brackets, as s[2,1]
+-- the text of an atom (a basis element): the letter of the basis and the numbers of the label in brackets, as s[2,1]
 abbrev pub atom_text : Basis → List ℕ → List ℕ
 atom_text basis numbers = letter basis ++ (codes "[" ++ (numbers_text numbers ++ codes "]"))
 
@@ -22,8 +22,8 @@ without_sign c = (pos (nat_abs c.0), c.1)
 abbrev pub is_unit : Fraction → Bool
 is_unit c = (nat_abs c.0 == 1) && (c.1 == 1)
 
--- the text of a term without its sign: the absolute value of the coefficient and `*`, both left out if that value is
--- 1; and then the atom
+-- the text of a term without its sign: the absolute value of the coefficient and `*`, both left out if that value is 1;
+-- and then the atom, such as s[2,1]
 abbrev pub unsigned_text : Basis → List ℕ × Fraction → List ℕ
 unsigned_text basis t =
     cond (is_unit t.1) [] (fraction_text (without_sign t.1) ++ codes "*") ++ atom_text basis t.0
@@ -67,7 +67,7 @@ abbrev pub pieces_of : List ℕ → List (List ℕ)
 pieces_of [] = []
 pieces_of (byte ∷ text) = before_first byte (cut_at_signs text)
 
--- the numbers that the text of an atom spells: the text between its brackets, split at its commas
+-- the numbers that the text of an atom such as s[2,1] spells: the text between its brackets, split at its commas
 abbrev pub numbers_in_atom : List ℕ → List ℕ
 numbers_in_atom (basis ∷ bracket ∷ text) = numbers_of (without_last text)
 numbers_in_atom _ = []
@@ -79,7 +79,8 @@ abbrev pub term_of_cut : List ℕ × List ℕ → List ℕ × Fraction
 term_of_cut (atom, []) = (numbers_in_atom atom, (pos 1, 1))
 term_of_cut (coefficient, star ∷ atom) = (numbers_in_atom atom, fraction_of coefficient)
 
--- the term that a text without a sign spells: a coefficient, `*` (the byte 42) and an atom, or only an atom
+-- the term that a text without a sign spells: a coefficient, `*` (the byte 42) and an atom such as s[2,1], or only an
+-- atom
 abbrev pub unsigned_term : List ℕ → List ℕ × Fraction
 unsigned_term text = term_of_cut (cut_at 42 text)
 
@@ -102,15 +103,16 @@ terms_on_line text =
     cond (same text (codes "0\n")) []
     (map {B = List ℕ × Fraction} term_of_piece (pieces_of (without_last text)))
 
--- `Some terms` if the list of terms is canonical by `rules`, its numerators and denominators fit in 128 bits with a
--- sign, and the text is its one-line form; otherwise None
+-- `Some terms` if the list of terms is canonical by `rules` (labels in order, coefficients in lowest terms and not 0),
+-- its numerators and denominators fit in 128 bits with a sign, and the text is its one-line form; otherwise None
 abbrev pub accepted_line : Basis → LabelRules (List ℕ) → List ℕ → Terms (List ℕ)
     → Option (Terms (List ℕ))
 accepted_line basis rules text terms =
     cond (is_canonical_by rules terms && is_printable terms && same (one_line basis terms) text)
     (Some terms) None
 
--- the list of terms that is canonical by `rules`, has numerators and denominators of 128 bits with a sign, and has
--- this text as its one-line form; None if there is no such list
+-- the list of terms that is canonical by `rules` (labels in order, coefficients in lowest terms and not 0), has
+-- numerators and denominators of 128 bits with a sign, and has this text as its one-line form; None if there is no such
+-- list
 abbrev pub read_one_line : Basis → LabelRules (List ℕ) → List ℕ → Option (Terms (List ℕ))
 read_one_line basis rules text = accepted_line basis rules text (terms_on_line text)

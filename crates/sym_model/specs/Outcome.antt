@@ -59,7 +59,8 @@ abbrev pub MustBeLarge : Command → Type 0
 MustBeLarge command = HasPastCoefficient command
 
 -- the command may be refused because its answer is too large: a coefficient that the answer has by its definition
--- exceeds 2^127 - 1 (`HasPastCoefficient`), or a weight of the command is 2^127 or more (`IsHeavy`)
+-- exceeds 2^127 - 1 (`HasPastCoefficient`), or a weight of the command, which bounds all numbers of a computation, is
+-- 2^127 or more (`IsHeavy`)
 abbrev pub MayBeLarge : Command → Type 0
 MayBeLarge command = HasPastCoefficient command ⊎ IsHeavy command
 

@@ -1,5 +1,6 @@
--- Coefficients that exceed 2^127 - 1 and weights of 2^127 or more: the coefficients that the answers to commands are
--- defined to have, and the weights of pairs of permutations.
+-- Numbers that are too large for 128 bits with a sign: coefficients of the answers to commands, as the definitions of
+-- the answers give them, that exceed 2^127 - 1; and weights of 2^127 or more. A weight, for example of a pair of
+-- permutations, bounds all numbers of a computation.
 use Rattle.std.specs.Prelude.{◌≡◌, ℕ, ◌+◌, ◌*◌, ◌^◌, ◌≤◌, nat_le, nat_abs, max, Bool, false, cond}
 use Rattle.std.specs.Prelude.{ℤ, pos, negsuc, List, map, length, Option, Some, None}
 use Rattle.std.specs.Prelude.{IsTrue}

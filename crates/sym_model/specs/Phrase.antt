@@ -13,8 +13,9 @@ pub data Operator : Type 0 where
   minus : Operator
   times : Operator
 
--- an expression or a part of one as it is typed: a number or a fraction by its digits, an atom by its basis and
--- number words, parentheses around a phrase, a minus sign in front of a phrase, or an operator between two phrases
+-- an expression or a part of one as it is typed: a number or a fraction by its digits, an atom (a basis element such as
+-- s[2,1]) by its basis and the digits of its numbers, parentheses around a phrase, a minus sign in front of a phrase,
+-- or an operator between two phrases
 pub data Phrase : Type 0 where
   numeral : List ℕ → Phrase
   ratio : List ℕ → List ℕ → Phrase
@@ -23,7 +24,7 @@ pub data Phrase : Type 0 where
   minus_first : Phrase → Phrase
   operation : Operator → Phrase → Phrase → Phrase
 
--- the levels EXPR, TERM and FACTOR of the grammar
+-- the levels of phrases in the grammar of expressions (`Is`): EXPR, TERM and FACTOR
 pub data Level : Type 0 where
   expression : Level
   term : Level
@@ -50,8 +51,8 @@ level_after plus = term
 level_after minus = term
 level_after times = factor
 
--- the grammar: a phrase is of a level by these rules, by which sums,
--- differences and products group to the left
+-- the phrase has the level by these rules of the grammar; sums, differences
+-- and products group to the left
 --   EXPR   := '-'? TERM (('+' | '-') TERM)*
 --   TERM   := FACTOR ('*' FACTOR)*
 --   FACTOR := NUM | NUM '/' NUM | LETTER '[' (NUM (',' NUM)*)? ']' | '(' EXPR ')'
@@ -93,8 +94,8 @@ join_trees plus e f = sum e f
 join_trees minus e f = difference e f
 join_trees times e f = product e f
 
--- the expression that a phrase stands for, as a tree: parentheses leave no trace, and zeros at the end of an atom's
--- list are dropped
+-- the expression that a phrase denotes, as a tree: parentheses leave no trace, and zeros at the end of the list of an
+-- atom, such as s[2,1,0], are dropped
 abbrev pub tree : Phrase → Tree
 tree (numeral digits) = number (decimal_value digits)
 tree (ratio num den) = fraction (decimal_value num) (decimal_value den)

@@ -1,4 +1,6 @@
--- The printed block of a list of terms, one line for each term, and the list of terms that such a text spells.
+-- The printed block of a list of terms, one line for each term, and the list of terms that such a text spells. A list
+-- of terms is canonical if its labels are within limits and strictly increasing in the printed order, and its
+-- coefficients are not 0, in lowest terms, and whole numbers unless fractions are allowed.
 use Rattle.std.specs.Prelude.{ℕ, ◌&&◌, nat_lt, nat_abs, List, [], ◌∷◌, ◌++◌, cond, codes, Option}
 use Rattle.std.specs.Prelude.{Some, None}
 use Rattle.sym_model.specs.Polynomial.{same}
@@ -23,13 +25,12 @@ abbrev pub block_by : {Label : Type 0} → LabelRules Label → Terms Label → 
 block_by rules [] = codes "0\n"
 block_by rules (t ∷ terms) = lines_by rules (t ∷ terms)
 
--- the list of the one term with this coefficient and the label that the text after it spells; empty if the
--- coefficient is 0
+-- the list of one term, with the coefficient c and the label that `text` spells by `rules`; the empty list if c is 0
 abbrev pub term_of_parts : {Label : Type 0} → LabelRules Label → Fraction → List ℕ → Terms Label
 term_of_parts rules c text = cond (nat_lt 0 (nat_abs c.0)) ((rules.spelled text, c) ∷ []) []
 
--- the list of the term that a line spells, given two pieces of the line, cut in front of its first space (the byte
--- 32): the first piece is the coefficient, and the second spells the label
+-- the list of the term that a line spells; the empty list if the coefficient is 0. The line is given as two pieces, cut
+-- in front of its first space (the byte 32): the coefficient, and the text of the label.
 abbrev pub term_of_line : {Label : Type 0} → LabelRules Label → List ℕ × List ℕ → Terms Label
 term_of_line rules cut = term_of_parts rules (fraction_of cut.0) cut.1
 
@@ -43,8 +44,8 @@ terms_of_lines rules (line ∷ lines) =
 abbrev pub terms_of : {Label : Type 0} → LabelRules Label → List ℕ → Terms Label
 terms_of rules text = terms_of_lines rules (split_at 10 text)
 
--- `Some terms` if the list of terms is canonical by `rules`, its numerators and denominators fit in 128 bits with a
--- sign, and the text is its printed block; otherwise None
+-- `Some terms` if the list of terms is canonical by `rules` (labels in order, coefficients in lowest terms and not 0),
+-- its numerators and denominators fit in 128 bits with a sign, and the text is its printed block; otherwise None
 abbrev pub accepted : {Label : Type 0} → LabelRules Label → List ℕ → Terms Label
     → Option (Terms Label)
 accepted rules text terms =
@@ -70,7 +71,8 @@ lines_text terms = lines_by (label_rules expansion) terms
 abbrev pub block : Terms (List ℕ) → List ℕ
 block terms = block_by (label_rules expansion) terms
 
--- the canonical list of terms, with partitions as labels and numerators and denominators of 128 bits with a sign,
--- whose printed block is this text; None if there is no such list
+-- the list of terms in the printed order, with coefficients in lowest terms and not 0, whose printed block is this
+-- text; the labels are partitions, and the numerators and denominators have 128 bits with a sign. None if there is no
+-- such list
 abbrev pub read : List ℕ → Option (Terms (List ℕ))
 read text = read_by (label_rules expansion) text

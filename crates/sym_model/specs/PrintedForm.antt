@@ -8,7 +8,7 @@ use Rattle.sym_model.specs.OneLine.{one_line, read_one_line}
 use Rattle.sym_model.specs.Answer.{Answer, answer}
 use Rattle.sym_model.specs.Command.{Command, mult, skew, expand}
 
--- the form in which an answer is printed: a block of lines, or one line with the atoms of a basis
+-- the form in which an answer is printed: a block of lines, or one line in a basis, as s[2,1]+2*s[1,1,1]
 pub data PrintedForm : Type 0 where
   as_block : PrintedForm
   as_line : Basis → PrintedForm
@@ -27,8 +27,9 @@ text_in (as_line basis) expansion terms = one_line basis terms
 text_in (as_line basis) product terms = one_line basis terms
 text_in _ kind terms = block_by (label_rules kind) terms
 
--- the canonical list of terms of a kind whose text in the printed form is the given text; None if there is no such
--- list
+-- the list of terms of a kind whose text in the printed form is the given text, and that is canonical: its labels are
+-- within limits and strictly increasing in the printed order, its coefficients are not 0 and in lowest terms, and they
+-- are whole numbers unless the kind allows fractions; None if there is no such list
 abbrev pub read_in : PrintedForm → (kind : Kind) → List ℕ → Option (Terms (Label kind))
 read_in (as_line basis) expansion text = read_one_line basis (label_rules expansion) text
 read_in (as_line basis) product text = read_one_line basis (label_rules product) text

@@ -1,6 +1,6 @@
--- Lists of terms as expansions: expansions of products, skew Schur polynomials and coproducts in Schur polynomials,
--- and of products of Schubert polynomials in Schubert polynomials. The product of Schur polynomials in k variables is
--- also defined as a list of terms.
+-- What it means that a list of terms is an expansion: of a product of Schur polynomials, a skew Schur polynomial or a
+-- coproduct in Schur polynomials; or of a product of Schubert polynomials in Schubert polynomials. The product of Schur
+-- polynomials in k variables is also defined as a list of terms.
 use Rattle.std.specs.Prelude.{◌≡◌, ℕ, ◌+◌, ◌≤◌, nat_le, nat_lt, nat_abs, ℤ, List, [], ◌∷◌}
 use Rattle.std.specs.Prelude.{map, Option, Some, None, filter}
 use Rattle.sym_model.specs.Sum.{Among}
@@ -25,7 +25,7 @@ schur_product (parts ∷ []) n = schur parts n
 schur_product (parts ∷ next ∷ factors) n = times (schur parts n) (schur_product (next ∷ factors) n)
 
 -- the list of terms expands f in Schur polynomials: for every n, f n is the sum of c·s_λ in n variables over the terms
--- (λ, c). If a number k is given, this is asked only for n = k, and each label has at most k rows.
+-- (λ, c). If a number k is given, f n must be this sum only for n = k, and each label must have at most k rows.
 abbrev pub ExpandsInSchurs : Option ℕ → (ℕ → Poly) → Terms (List ℕ) → Type 0
 ExpandsInSchurs None f terms = (n : ℕ) → IsExpansionOf schurs terms n (f n) 1
 ExpandsInSchurs (Some k) f terms =
@@ -69,8 +69,8 @@ abbrev pub IsSchubertProductOf : List ℕ → List ℕ → Terms (List ℕ) → 
 IsSchubertProductOf u v terms =
     (n : ℕ) → Represents (λ w. schubert_in w n) terms (times (schubert_in u n) (schubert_in v n)) 1
 
--- the list of terms, whose labels (w, β) stand for y^β·S_w(x; y), expands the product of the double Schubert
--- polynomials of u and v, in every number n of variables x and of variables y
+-- the list of terms, whose labels (w, β) denote y^β·S_w(x; y), expands the product of the double Schubert polynomials
+-- of u and v, in every number n of variables x and of variables y
 abbrev pub IsDoubleProductOf : List ℕ → List ℕ → Terms (List ℕ × List ℕ) → Type 0
 IsDoubleProductOf u v terms =
     (n : ℕ) → Represents (λ label. shifted_in label n) terms

@@ -1,5 +1,6 @@
--- Quantum and fusion products of several factors, reduced after each factor, and the weights of the multiplications
--- by one factor.
+-- Quantum and fusion products of several factors. A list of terms, at first only the first factor, is multiplied by one
+-- further factor after another, and after each multiplication it is reduced, by rim hooks or into the alcove. Each such
+-- step has a weight, which bounds the coefficients in it.
 use Rattle.std.specs.Prelude.{◌≡◌, ℕ, ◌+◌, Bool, false, ℤ, pos, ◌*ℤ◌, List, [], ◌∷◌}
 use Rattle.std.specs.Prelude.{◌++◌, map, ◌⊎◌, flat_map}
 use Rattle.sym_model.specs.Sum.{Among}
@@ -20,8 +21,9 @@ AreCollected {Label = Label} test (t ∷ terms) =
 
 -- ---- the product of a list of terms and one factor, reduced
 
--- `reductions` has one list for each term: for a term with the partition λ, it lists the reductions, by rim hooks of
--- n cells, of the partitions in the classical product of λ and the factor in k variables
+-- `reductions` has one list for each of the terms. Let λ be the partition of a term, and let P be the classical product
+-- of λ and the factor in k variables. Then the list for this term consists of the reductions of the partitions in P, by
+-- rim hooks of n cells.
 abbrev pub ReduceEach : ℕ → ℕ → List ℕ → WholeTermsOf (ℕ × List ℕ) → List (List Reduction) → Type 0
 ReduceEach k n factor [] [] = Unit {0}
 ReduceEach k n factor (t ∷ terms) (r ∷ reductions) =

@@ -20,17 +20,17 @@ AreReductions k n (t ∷ terms) (r ∷ reductions) =
     ReducesTo k n t.0 r × AreReductions k n terms reductions
 AreReductions k n _ _ = ⊥
 
--- the terms after their reduction: each label is replaced by its reduction in the second list, a power of q and a
--- partition, and the coefficient is multiplied by the sign of the reduction; a term with the reduction `None` is left
--- out
+-- the terms after their reduction by rim hooks: each label is replaced by its reduction in the second list, a power of
+-- q and a partition, and the coefficient is multiplied by the sign of the reduction; a term with the reduction `None`
+-- is left out
 abbrev pub reduced_terms : WholeTerms → List Reduction → WholeTermsOf (ℕ × List ℕ)
 reduced_terms (t ∷ terms) (Some r ∷ reductions) =
     ((r.2, r.0), t.1 *ℤ r.1) ∷ reduced_terms terms reductions
 reduced_terms (t ∷ terms) (None ∷ reductions) = reduced_terms terms reductions
 reduced_terms _ _ = []
 
--- let each coefficient of the list `terms` be replaced by its numerator, and each partition of the list `classical`,
--- all with at most k rows, by its reduction by rim hooks of n cells: the two lists are then the same formal sum
+-- the list `terms`, with the numerators of its coefficients, is as a formal sum the list `classical` with each partition
+-- replaced by its reduction by rim hooks of n cells; the partitions of `classical` have at most k rows
 pub record IsRimHookReduction (k n : ℕ) (classical : WholeTerms)
     (terms : Terms (ℕ × List ℕ)) : Type 0 where
   pub reductions : List Reduction
@@ -39,8 +39,8 @@ pub record IsRimHookReduction (k n : ℕ) (classical : WholeTerms)
       → coefficient_by same_power (numerators terms) label
       ≡ coefficient_by same_power (reduced_terms classical reductions) label
 
--- for a reduction into the alcove that is a partition with a sign: the list with this partition as its one term, with
--- c times the sign as the coefficient; for None the empty list
+-- the list of the one term that a reduction into the alcove gives, for a label with the coefficient c: the partition
+-- of the reduction, with c times its sign as the coefficient; the empty list if the reduction is None
 abbrev pub reflected_term : ℤ → Option (List ℕ × ℤ) → WholeTerms
 reflected_term c None = []
 reflected_term c (Some reduced) = (reduced.0, c *ℤ reduced.1) ∷ []
@@ -51,7 +51,7 @@ abbrev pub reflected_terms : ℕ → ℕ → WholeTerms → WholeTerms
 reflected_terms k n terms =
     flat_map (λ (t : List ℕ × ℤ). reflected_term t.1 (alcove_reduction k n t.0)) terms
 
--- let each coefficient of the list `terms` be replaced by its numerator, and each partition of the list `classical` by
--- its reduction into the alcove of k rows and level n - k: the two lists are then the same formal sum
+-- the list `terms`, with the numerators of its coefficients, is as a formal sum the list `classical` with each partition
+-- replaced by its reduction into the alcove of k rows and level n - k
 abbrev pub IsAlcoveReductionOf : ℕ → ℕ → WholeTerms → Terms (List ℕ) → Type 0
 IsAlcoveReductionOf k n classical terms = Same (numerators terms) (reflected_terms k n classical)

@@ -1,5 +1,5 @@
--- The lines that are written for a refusal: for an error of the words, a line with the kind and the place of the
--- error; and the line for an answer that is too large.
+-- The lines that are written if a command is refused: for an error in its words, a line with the kind of the error, the
+-- number of the word and the byte in it; and the line for an answer that is too large.
 use Rattle.std.specs.Prelude.{ℕ, List, ◌++◌, codes, decimal}
 use Rattle.sym_model.specs.ExpressionOffence.{OffenceKind, literal, range, shape}
 use Rattle.sym_model.specs.CommandOffence.{Offence}
@@ -16,7 +16,7 @@ refusal_line name word byte =
     codes "! " ++ (name ++ (codes " "
     ++ (decimal word ++ (codes ":" ++ (decimal byte ++ codes "\n")))))
 
--- the line of a refusal of words with this first error
+-- the line of a refusal because of this error, the first one in the words of the command
 abbrev pub offence_line : Offence → List ℕ
 offence_line offence = refusal_line (offence_name offence.2) offence.0 offence.1
 

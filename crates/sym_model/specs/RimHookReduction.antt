@@ -28,9 +28,9 @@ GoesTo k n shape end sign (suc power) =
     × GoesTo k n left end t power
     × (sign ≡ minus_one_to (k - height shape left) *ℤ t)
 
--- the partition `shape`, with at most k rows, reduces to each partition with at most n - k columns to which it goes
--- (`GoesTo`), with the sign and the power of q with which it goes there; and it reduces to None if it goes to a
--- partition with more than n - k columns
+-- the partition `shape`, with at most k rows, reduces by rim hooks of n cells to the given result: if `shape` goes
+-- (`GoesTo`) to a partition with at most n - k columns, the result is this partition with the sign and the power of q;
+-- if `shape` goes to a partition with more than n - k columns, the result is None
 abbrev pub ReducesTo : ℕ → ℕ → List ℕ → Option (List ℕ × ℤ × ℕ) → Type 0
 ReducesTo k n shape None =
     (end : List ℕ) × (sign : ℤ) × (power : ℕ) × GoesTo k n shape end sign power

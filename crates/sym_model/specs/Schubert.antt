@@ -14,8 +14,8 @@ descended g zero w = g
 descended g (suc fuel) w =
     option_map_or (λ i. divided_difference i (descended g fuel (exchanged i w))) (first_ascent w) g
 
--- the divided differences of g along first ascents, beginning with the first ascent of w, until no ascent is left. The
--- number of steps is the number of pairs of places i < j with w_i < w_j: each exchange at an ascent decreases it by 1.
+-- ∂_i of `schubert_over g (w·s_i)`, with i the first ascent of w; and g if w has no ascent. The number of these steps
+-- is the number of pairs of places i < j with w_i < w_j: each exchange at an ascent decreases it by 1.
 abbrev pub schubert_over : Poly → List ℕ → Poly
 schubert_over g w = descended g (rising_pairs w) w
 

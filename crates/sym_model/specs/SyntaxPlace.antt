@@ -5,8 +5,8 @@ use Rattle.sym_model.specs.Phrase.{BeginsExpression}
 use Rattle.sym_model.specs.Command.{Command}
 use Rattle.sym_model.specs.Entry.{Entry, SpellsCommand, BeginsCommand, AwaitsExpression}
 
--- `word` is the number, counted from 0, of one of the words, and by the form of some command an expression may come
--- next after the words before it
+-- the list `words` has a word at the index `word`, and by the form of one of the entries, an expression may come
+-- directly after the words before this index
 pub record IsExpressionWord (entries : List Entry) (words : List (List ℕ)) (word : ℕ) : Type 0 where
   pub is_there : word < length words
   pub awaited : AwaitsExpression entries (take word words)

@@ -24,8 +24,8 @@ use Rattle.sym_model.specs.PastLimit.{IsCoproductCoefficient, IsCoefficientOfSch
 use Rattle.sym_model.specs.PastLimit.{IsCoefficientOfStanley, pair_weight, double_weight}
 use Rattle.sym_model.specs.ReductionSteps.{IsQuantumWeight, IsFusionWeight}
 
--- the given answer is the one that the command asks for; false if the answer is of another kind than the command's,
--- and for `tab`, `rsk`, `unrsk`, `rect`, `growth`, `batch` and `work`, whose answers are not lists of terms
+-- the given answer is the one that the command asks for; false if the answer is not of the kind that the command asks
+-- for, and for `tab`, `rsk`, `unrsk`, `rect`, `growth`, `batch` and `work`, whose answers are not lists of terms
 abbrev pub Meets : Command → Answer → Type 0
 Meets (mult variables one_line factors) (answer product terms) =
     ExpandsInSchurs variables (schur_product factors) terms

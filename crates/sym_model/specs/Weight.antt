@@ -4,8 +4,8 @@ use Rattle.sym_model.specs.Expansion.{Basis, monomials, schurs}
 use Rattle.sym_model.specs.Expression.{Tree, number, fraction, atom, negation, sum, difference}
 use Rattle.sym_model.specs.Expression.{product, degree, denominator, lcm}
 
--- N, a bound for an expression e with the denominator D: if D·e is multiplied out into a sum of products of atoms,
--- the absolute values of its coefficients add up to at most N
+-- N, a bound for an expression e with the denominator D: if D·e is multiplied out into a sum of products of basis
+-- elements, the absolute values of its coefficients add up to at most N
 abbrev pub numerator : Tree → ℕ
 numerator (number a) = max 1 a
 numerator (fraction a b) = max 1 a

@@ -1,4 +1,5 @@
--- Lists of terms with integer coefficients, and the polynomial that such a list stands for.
+-- Lists of terms (label, c) with integers c, and the polynomial that a list gives: the sum of c·polynomial(label) over
+-- its terms (label, c).
 use Rattle.std.specs.Prelude.{◌≡◌, ℕ, ◌+◌, ◌*◌, ℤ, pos, ◌≤ℤ◌, nat_abs, ◌==◌, Bool, ◌&&◌, cond}
 use Rattle.std.specs.Prelude.{List, [], ◌∷◌}
 use Rattle.std.specs.Prelude.{map, flat_map}
@@ -6,17 +7,17 @@ use Rattle.sym_model.specs.Sum.{total, sum_by, Among}
 use Rattle.sym_model.specs.Polynomial.{Poly, same, scale}
 use Rattle.sym_model.specs.Expansion.{Terms, Fraction}
 
--- a list of terms (label, c) with integers c, which stands for the formal sum of the c times the labels
+-- a list of terms (label, c) with integers c, read as the formal sum of c·label over the terms
 abbrev pub WholeTermsOf : Type 0 → Type 0
 WholeTermsOf Label = List (Label × ℤ)
 
 -- a list of terms whose labels are partitions and whose coefficients are integers. `coefficient terms label` is the
--- sum of the coefficients of a label; two lists are `Same` if these sums agree at every label, so collecting, zeros
--- and order make no difference.
+-- sum of the coefficients of a label. Two lists are `Same` if these sums agree at every label: they may differ in the
+-- order of the terms, in terms with the coefficient 0, and in terms of the same label that are collected into one.
 abbrev pub WholeTerms : Type 0
 WholeTerms = WholeTermsOf (List ℕ)
 
--- the coefficient of a label: the sum of the coefficients of all terms whose label is the given one, by `test`
+-- the sum of the coefficients of all terms whose label is the given one; `test` decides whether two labels are equal
 abbrev pub coefficient_by : {Label : Type 0} → (Label → Label → Bool) → WholeTermsOf Label → Label
     → ℤ
 coefficient_by {Label = Label} test terms label =

@@ -1,5 +1,5 @@
--- The forms of parts of commands (partitions, permutations, options, tableaux), and the values that words of these
--- forms denote.
+-- The forms (patterns of words) of parts of commands: partitions, permutations, options and tableaux; and the values
+-- that words of these forms denote. In the comments, NUM is a word that is a number.
 use Rattle.std.specs.Prelude.{ℕ, ◌+◌, Bool, true, false, cond, List, [], ◌∷◌, map, length, codes}
 use Rattle.std.specs.Prelude.{Option, Some, None}
 use Rattle.std.proofs.Common.{zero, suc, inl, inr}
@@ -20,7 +20,7 @@ in_turn [] = empty
 in_turn (f ∷ []) = f
 in_turn (f ∷ g ∷ forms) = sequence f (in_turn (g ∷ forms))
 
--- the form that the empty list of words has, and each list of words that has the form f
+-- the form of the empty list of words and of each list of words that has the form f
 abbrev pub optional : Form → Form
 optional f = either empty f
 
@@ -32,11 +32,11 @@ partition_words = many (word number)
 abbrev pub permutation_words : Form
 permutation_words = sequence (word number) partition_words
 
--- the form of the option of a number of rows, ROWS := '-r' NUM
+-- the form of the option that limits the number of rows, ROWS := '-r' NUM
 abbrev pub rows_words : Form
 rows_words = sequence (the (codes "-r")) (word number)
 
--- the form of the option of one line, FORM := '-m'
+-- the form of the option that asks for an answer on one line, FORM := '-m'
 abbrev pub form_words : Form
 form_words = the (codes "-m")
 
@@ -56,15 +56,15 @@ row_words = either (the (codes ".")) permutation_words
 abbrev pub tableau_words : Form
 tableau_words = sequence row_words (many (sequence (the (codes "/")) row_words))
 
--- the form of the option that names a tableau of `tab`, FROM := '-from' TABLEAU
+-- the form of the option of the command `tab` that gives the tableau after which the list begins, FROM := '-from' TABLEAU
 abbrev pub from_words : Form
 from_words = sequence (the (codes "-from")) tableau_words
 
--- the numbers that number words denote
+-- the numbers that words of decimal digits denote
 abbrev pub numbers : List (List ℕ) → List ℕ
 numbers digits = map decimal_value digits
 
--- the partition that number words denote: their numbers without the zeros at the end
+-- the partition that words of decimal digits denote: their numbers without the zeros at the end
 abbrev pub partition : List (List ℕ) → List ℕ
 partition digits = without_last_zeros (numbers digits)
 
@@ -128,9 +128,9 @@ tableau_of (n ∷ []) = row_of n
 tableau_of (n ∷ m ∷ lengths) =
     sequence (row_of n) (sequence (the (codes "/")) (tableau_of (m ∷ lengths)))
 
--- the shape error of a command that ends with `words`, the first of them word k, if these are not a tableau with rows
--- of the given lengths; otherwise no error. The error is at the word after the longest prefix of `words` that begins
--- such a tableau, which is the place after the last word if `words` ends too early.
+-- the errors of shape of `words`, the last words of a command, the first of which is word k. If `words` are a tableau
+-- with rows of the given lengths, there is none. Otherwise there is one, at the word after the longest prefix of `words`
+-- that begins such a tableau; this is the place after the last word if `words` ends too early.
 abbrev pub shape_offences : ℕ → List ℕ → List (List ℕ) → List Offence
 shape_offences k lengths words =
     cond

@@ -1,4 +1,5 @@
--- The command `work`: the generator of the lines that it runs, and the summary of the texts that these lines give.
+-- The command `work`: the generator of the lines that it runs, and the summary of the texts that these lines give. The
+-- state of the generator is a number, and each draw replaces it by the next state (`draw`).
 use Rattle.std.specs.Prelude.{ℕ, zero, suc, ◌+◌, ◌*◌, ◌%◌, List, [], ◌∷◌, ◌++◌, map, length, cond}
 use Rattle.std.specs.Prelude.{codes, decimal}
 use Rattle.sym_model.specs.Polynomial.{same}

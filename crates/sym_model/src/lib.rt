@@ -7,10 +7,11 @@
 //!
 //! `poly_ring_law`: polynomials are a commutative ring. `leading_cancel_law`: a polynomial whose
 //! greatest monomial has the coefficient 1 or -1 can be cancelled from a product.
-//! `restriction_law`: m_λ, e_λ, h_λ and p_λ in n variables, restricted to fewer variables, are m_λ,
-//! e_λ, h_λ and p_λ in these. `partitions_of_law`, `place_orders_law`: the lists `partitions_of d`
-//! and `orders (places n)` contain each partition of d and each permutation of 1, .., n exactly
-//! once. `greatest_common_divisor_law`: Euclid's rule gives the greatest common divisor.
+//! `restriction_law`: m_λ, e_λ, h_λ and p_λ in n variables, restricted to k ≤ n variables, are m_λ,
+//! e_λ, h_λ and p_λ in k variables. `partitions_of_law`, `place_orders_law`: the lists
+//! `partitions_of d` and `orders (places n)` contain each partition of d and each permutation of
+//! 1, .., n exactly once. `greatest_common_divisor_law`: Euclid's rule gives the greatest common
+//! divisor.
 #![tactic(auto)]
 
 mod divisors;

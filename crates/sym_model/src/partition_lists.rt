@@ -1,5 +1,5 @@
-//! The list of the partitions of d has each of them exactly once, in decreasing lexicographic
-//! order.
+//! The list of the partitions of d has each partition of d exactly once, in decreasing
+//! lexicographic order.
 
 ghost use Rattle.std.specs.Prelude.{◌≡◌, ◌↔◌, ℕ, List, [], ◌∷◌};
 ghost use Rattle.sym_model.specs.Sum.{Among, Once};

@@ -6,10 +6,9 @@ ghost use Rattle.sym_model.specs.Polynomial.{Same, nothing, restrict};
 ghost use Rattle.sym_model.specs.Partition.{ArePositive, rows};
 ghost use Rattle.sym_model.specs.Bases.{monomial, elementary, complete, power_sum};
 
-/// The polynomial m, e, h or p of a label in n variables, restricted to k ≤ n variables, is the
-/// polynomial of that label in k variables. The monomial symmetric polynomial of a list with more
-/// parts than variables is 0. The parts of a power sum must be positive; the labels of the others
-/// may be any lists of numbers.
+/// The polynomial m_λ, e_λ, h_λ or p_λ in n variables, restricted to k ≤ n variables, is the same
+/// polynomial in k variables. If λ has more parts than there are variables, m_λ is 0. For p_λ the
+/// parts of λ must be positive; for the other polynomials λ may be any list of numbers.
 pub fn restriction_law()
     ensures monomial { (parts : List ℕ) (k n : ℕ) → k ≤ n
         → Same (restrict k (monomial parts n)) (monomial parts k) }

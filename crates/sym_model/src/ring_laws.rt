@@ -7,7 +7,8 @@ ghost use Rattle.sym_model.specs.Polynomial.{times, restrict};
 /// Polynomials form a commutative ring with 1: sum and product are associative and commutative,
 /// have their units, and distribute; each polynomial has a negative. Sum, product and multiples
 /// depend only on the coefficients, and restricting to n variables respects sums, products and 1.
-/// Of polynomials in n variables, 1, sums, products and negatives are in n variables.
+/// If f and g are polynomials in n variables, then f + g, f·g, -f and 1 are polynomials in n
+/// variables.
 pub fn poly_ring_law()
     ensures plus_associative { (f g h : Poly) → Same (plus (plus f g) h) (plus f (plus g h)) }
     ensures plus_commutative { (f g : Poly) → Same (plus f g) (plus g f) }

@@ -1,4 +1,7 @@
--- The position (`position_of`) of a board (`IsBoard`): when the board is made, and after a letter is written on it or removed.
+-- A *board* (`IsBoard`) has a word, which the code writes letter by letter in reading order, and the entrywise sum of a partition `start` and the
+-- content of the letters written so far. Its *position* (`position_of`) consists of the word, these sums, and the data that decide which letters fit;
+-- the position is ready at an index if all letters before the index fit (`IsReady`). Here: positions of a new board, and of a board after a letter is
+-- written or removed.
 use Rattle.std.proofs.Common.{◌≡◌, ℕ, ◌+◌, ◌-◌, ◌<◌, ◌≤◌, min, ◌==◌, Bool, true, false, ◌&&◌, cond, List, [], ◌∷◌, ◌++◌, length, take, get_or, ◌∙◌, ap, ap₂, sym, refl, subst, inl, inr, arith}
 use Rattle.std.proofs.Math.ListN.{set}
 use Rattle.std.proofs.lemmas.Bool.{and_parts, cases_eq, eq-eqb, ne_eqb}
@@ -41,7 +44,7 @@ board k outer inner near start sums word n l small fits few count =
       few = omega arith;
     }
 
--- if `sums` is start plus the content of v, then with 1 added to the entry for the letter a it becomes start plus the content of v with a appended
+-- if `sums` is start plus the content of v, then adding 1 to the entry of `sums` for the letter a gives start plus the content of v with a appended
 pub sums-put :
     (start sums v : List ℕ) (k a : ℕ) → rows start ≤ k → 1 ≤ a → a ≤ k → sums ≡ join start (content k v)
     → set sums (a - 1) (get_or sums (a - 1) 0 + 1) ≡ join start (content k (v ++ a ∷ []))
@@ -73,8 +76,8 @@ sums-put start sums v k a few low high e =
           )
     ])
 
--- if `sums` is start plus the content of v with the letter a appended, the entry for a is at least 1, and with 1 subtracted from this entry `sums`
--- becomes start plus the content of v
+-- if `sums` is start plus the content of v with the letter a appended, then the entry of `sums` for a is at least 1, and subtracting 1 from this
+-- entry gives start plus the content of v
 pub sums-take :
     (start sums v : List ℕ) (k a : ℕ) → rows start ≤ k → 1 ≤ a → a ≤ k → sums ≡ join start (content k (v ++ a ∷ []))
     → (1 ≤ get_or sums (a - 1) 0) × (set sums (a - 1) (get_or sums (a - 1) 0 - 1) ≡ join start (content k v))
@@ -113,8 +116,6 @@ sums-take start sums v k a few low high e =
 sum-small : (start v : List ℕ) (k i : ℕ) → rows start ≤ k → i < k → get_or (join start (content k v)) i 0 ≤ size start + length v
 sum-small start v k i few h = omega (arith, sum-at start v k i few h, get_or-le-size start i, times_in-most (i + 1) v)
 
--- ---- the least and the greatest letter allowed by the neighbours at an index of the board
-
 pub ceiling-most : (right most word : List ℕ) (place : ℕ) → ceiling_at right most word place ≤ get_or most place 0
 ceiling-most right most word place = by (get_or right place 0 == 0)
   where
@@ -150,8 +151,6 @@ letter-within rule counts start near sums word place a b h e =
     let low = told.0 in
     (omega arith, told.1)
 
--- ---- a board after a letter that fits is written
-
 pub put-tells :
     (rule : Rule) (counts start : List ℕ) (near : Neighbours) (sums word : List ℕ) (place a : ℕ) → IsBoard near start sums word → place < length word
     → IsReady place (position_of rule counts start near sums word)
@@ -182,8 +181,6 @@ put-tells rule counts start near sums word place a b h r e =
             ∙ sym (ap₂ (λ k v. join start (content k v)) same front);
       },
     )
-
--- ---- a board after the last letter is removed
 
 pub take-tells :
     (rule : Rule) (counts start : List ℕ) (near : Neighbours) (sums word : List ℕ) (place : ℕ) → IsBoard near start sums word → place < length word
@@ -263,7 +260,8 @@ take-read rule counts start near sums word place a n p is b h r letter same =
           ),
     )
 
--- let p be the position of a board, ready at `place`: if `least` is `floor_at` and `most` is `ceiling_at` for `place`, `IsPlace` holds for them
+-- let p be the position of a board, ready at `place`. If `least` and `most` are the values of `floor_at` and `ceiling_at` at `place` for the lists of
+-- the board, then they are the bounds for the letter at `place` (`IsPlace`)
 pub place-read :
     (rule : Rule) (counts start : List ℕ) (near : Neighbours) (sums word : List ℕ) (place least most : ℕ) (p : Position)
     → position_of rule counts start near sums word ≡ p → IsBoard near start sums word → place < length p.word → IsReady place p

@@ -1,5 +1,6 @@
--- The column readings of the good tableaux, of all tableaux, and of the tableaux with a given content: each list has the words in which every letter
--- fits, by the rule of the list, after the letters before it (`fits_by`).
+-- The column readings of three kinds of tableaux: those that are good for a partition `start` (for each column, start plus the content of that column
+-- and of those right of it is a partition; the rule `Falling`), all tableaux (`Free`), and those with a given content (`Limited`). Each list has the
+-- words in which every letter fits, by the rule of the list, after the letters before it (`fits_by`).
 use Rattle.std.proofs.Common.{◌≡◌, ℕ, zero, suc, ◌-◌, ◌<◌, ◌≤◌, min, Bool, true, ◌&&◌, ◌==◌, cond, nat_le, nat_lt, List, [], ◌∷◌, ◌++◌, map, length, take, get_or, ◌∙◌, ap, ap₂, sym, refl, arith, append-nil, append_assoc, filter}
 use Rattle.std.proofs.lemmas.Bool.{and_parts, le-leb, leb-true, lt-ltb, ltb-true, false_from_ne_true}
 use Rattle.std.proofs.lemmas.List.{length-take, get_or-take}
@@ -29,8 +30,6 @@ use Rattle.sym_model.specs.Bounded.{AreLetters}
 use Rattle.sym_model.proofs.Contents.{size-content}
 use Rattle.sym_model.proofs.Tableaux.{word_tells}
 use Rattle.std.proofs.Math.Bool.{and-false}
-
--- ---- words in which each letter fits after the letters before it, index by index
 
 pub all_fit-at :
     (fits : List ℕ → ℕ → Bool) (front w : List ℕ) (p : ℕ) → all_fit fits front w ≡ true → p < length w → fits (front ++ take p w) (get_or w p 0) ≡ true
@@ -96,8 +95,8 @@ front-stands near w p h a r e =
 
 -- ---- the readings of those tableaux whose letters a rule allows are the words in which each letter fits
 
--- outer/inner is a skew shape, `lines` and `ranks` are the rows and the columns of its cells in reading order, and `near` has their neighbours for
--- letters from 1 to k
+-- outer/inner is a skew shape, and `lines` and `ranks` are the rows and the columns of its cells in reading order. For letters from 1 to k, `near`
+-- has, for each cell, the indices of the neighbours above and on the right, and a bound for its letter (`IsGreatest`)
 pub record Around (k : ℕ) (outer inner lines ranks : List ℕ) (near : Neighbours) : Type 0 where
   pub outside : Falls outer
   pub inside : Falls inner
@@ -112,8 +111,6 @@ back k outer inner lines ranks near p a h =
     let count = lines-length outer inner lines ranks a.cells in
     ((a.near_cells.above.each p (omega arith)).within, (a.near_cells.right.each p (omega arith)).within)
 
--- if w is the column reading of a tableau of outer/inner with letters from 1 to k, and the rule allows each letter of w after those before it, then
--- each letter of w fits
 fits-from :
     (rule : Rule) (counts start : List ℕ) (k : ℕ) (outer inner lines ranks : List ℕ) (near : Neighbours) (w : List ℕ)
     → Around k outer inner lines ranks near → length w ≡ length (reading_cells outer inner) → AreLetters k w → is_tableau (filled_with outer inner w) ≡ true
@@ -202,8 +199,6 @@ content-fits counts k outer inner lines ranks near w a few all m =
     (λ p h.
     let letter = within-at k w p word.1 h in
     (letter.0, letter.1, told.1 p h))))
-
--- ---- the lists of the readings of good tableaux, of all tableaux, and of tableaux with one content
 
 pub good_readings-fits :
     (counts start : List ℕ) (k : ℕ) (outer inner lines ranks : List ℕ) (near : Neighbours) → Around k outer inner lines ranks near

@@ -1,5 +1,5 @@
--- The sums of `start` and the contents of the prefixes of a word: the condition that each of these sums is weakly decreasing, in terms of the
--- letters.
+-- The sums of a partition `start` and the contents of the prefixes of a word: the condition that all these sums are weakly decreasing, expressed by
+-- the letters of the word (the rule `Falling`).
 use Rattle.std.proofs.Common.{◌≡◌, ℕ, zero, suc, ◌+◌, ◌-◌, ◌<◌, ◌≤◌, true, false, ◌&&◌, ◌||◌, ◌==◌, cond, nat_le, nat_lt, List, [], ◌∷◌, ◌++◌, map, length, take, get_or, reverse, ◌∙◌, ap, ap₂, sym, refl, subst, inl, inr, arith, length-append, filter, flat_map}
 use Rattle.std.proofs.lemmas.Bool.{cases_eq, eq-eqb, ne_eqb, and_parts, le-leb, leb-true, lt-ltb, ltb-true}
 use Rattle.std.proofs.lemmas.List.{length-map, map-append, take_more}
@@ -85,8 +85,6 @@ one_more k start v a few within falls allowed i h = elim (cases_eq a (suc i + 1)
       )
 ]
 
--- if `start` is weakly decreasing, and the rule `Falling` allows each letter of w after those before it, the entries of start plus the content of the
--- first e letters of w are weakly decreasing
 fronts_fall :
     (k : ℕ) (start w : List ℕ) (e : ℕ) → length start ≤ k → ((i : ℕ) → get_or start (suc i) 0 ≤ get_or start i 0)
     → ((p : ℕ) → p < length w → (get_or w p 0 ≤ k) × (allows Falling [] (join start (content k (take p w))) (get_or w p 0) ≡ true)) → e ≤ length w
@@ -134,8 +132,6 @@ good-at k start outer inner T j e h = by j h
         ap (λ j. is_falling (join start (content k (reading_right_of j outer inner T)))) same
         ∙ every_after-at (λ j. is_falling (join start (content k (reading_right_of j outer inner T)))) 0 (columns outer) i parts.1 (omega arith)
 
--- in a tableau with the letter f(row, column) in each cell, the letter of a cell (r + 1, j) is at most that of a cell (r + 1 + d, j) of the same
--- column
 down :
     (f : ℕ → ℕ → ℕ) (outer inner : List ℕ) (r j d : ℕ) → (are_letters (letters_of (rows_by f outer inner)) && semistandard inner (rows_by f outer inner)) ≡ true
     → Falls outer → Falls inner → IsCell outer inner (r + 1) j → j ≤ part outer (r + 1 + d) → f (r + 1) j ≤ f (r + 1 + d) j
@@ -168,7 +164,6 @@ times_in-none b g (c ∷ cells) h =
     let first : cond {A = ℕ} (g c == b) 1 0 ≡ 0 = ap (λ t. cond t 1 0) (ne_eqb (g c) b (λ e. omega (arith, h c (inl refl)))) in
     omega (arith, first, times_in-none b g cells (λ d m. h d (inr m)))
 
--- if the cells in reading order are `front` followed by `back`, the first letters of w are those that the filling of w has in the cells of `front`
 first-letters :
     (outer inner w : List ℕ) (front back : List (ℕ × ℕ)) → reading_cells outer inner ≡ front ++ back → length w ≡ length (reading_cells outer inner)
     → take (length front) w ≡ map (λ (c : ℕ × ℕ). letter_of_cell c.0 c.1 (reading_cells outer inner) w) front

@@ -1,4 +1,5 @@
--- The search of walk.rt for the next word: the letters before an index are kept, and the later ones are replaced.
+-- How the code of walk.rt finds the next word, in lexicographic order, in which each letter fits: it keeps the letters before an index and replaces
+-- the later ones. A *position* has the current word and the data that decide which letters fit.
 use Rattle.std.proofs.Common.{◌≡◌, ℕ, suc, ◌+◌, ◌-◌, ◌<◌, ◌≤◌, Bool, true, false, List, [], ◌∷◌, ◌++◌, length, take, drop, get_or, ◌∙◌, ap, ap₂, sym, refl, subst, inl, inr, arith}
 use Rattle.std.proofs.lemmas.Bool.{cases_lt}
 use Rattle.std.proofs.lemmas.List.{length-drop, length-take, take_more, take-take, take_all, get_or-take, nil_from_length, drop_more}
@@ -47,8 +48,6 @@ later-equal :
 later-equal t u k m f g v w a b c d =
     ap (λ t. later t k f v) a ∙ ap (λ k. later u k f v) b ∙ ap₂ (λ f v. later u m f v) c d
 
--- let `Begins place q list` hold, let `front` be the first `place` letters of the word of q and w the other ones, and let p have the greatest letter
--- and the test `passes` of q: then the list is w followed by `later` of p for `front` and w
 begins-as :
     (place : ℕ) (p q : Position) (list : List (List ℕ)) (front w : List ℕ) → Begins place q list
     → passes q ≡ passes p → q.setting.letters ≡ p.setting.letters → take place q.word ≡ front → drop place q.word ≡ w
@@ -62,7 +61,6 @@ begins-from :
 begins-from place p q list front w e t k f d =
     e ∙ sym (ap₂ (λ x xs. x ∷ xs) d (later-equal (passes q) (passes p) q.setting.letters p.setting.letters (take place q.word) front (drop place q.word) w t k f d))
 
--- if the first place + 1 letters of a word are `front` and a, the letter at the index `place` is a
 letter_at : (word front : List ℕ) (place a : ℕ) → place < length word → length front ≡ place → take (place + 1) word ≡ front ++ a ∷ [] → get_or word place 0 ≡ a
 letter_at word front place a h l e =
     let next : place < place + 1 = omega arith in
@@ -71,8 +69,6 @@ letter_at word front place a h l e =
 
 -- ---- letters tried at an index one after another
 
--- if no letter b with tried < b < letter fits at `place`, each word that fits, with the same letters before `place` and a letter greater than `tried`
--- at `place`, has a letter of at least `letter` at `place`
 skipped :
     (old : Position) (place tried letter : ℕ) (list : List (List ℕ)) → tried < letter → letter ≤ old.setting.letters
     → ((b : ℕ) → tried < b → b < letter → (fits_in old.setting) (take place old.word) b ≡ false)
@@ -136,7 +132,8 @@ tried-none old b put place tried letter list h m l skip s sp e none is =
     ∙ none)
     ∙ ap (continued (passes old) old.setting.letters (length old.word - (place + 1)) (take place old.word)) (sym up)
 
--- if no letter greater than `tried` fits at `place`, no word that fits has the same letters before `place` and a letter greater than `tried` there
+-- if no letter greater than `tried` fits at `place`, no word that fits has the letters of `old` before `place` and a letter greater than `tried` at
+-- `place`
 pub tried-all :
     (old : Position) (place tried : ℕ) (list : List (List ℕ))
     → ((c : ℕ) → tried < c → c ≤ old.setting.letters → (fits_in old.setting) (take place old.word) c ≡ false)
@@ -149,8 +146,6 @@ tried-all old place tried list skip is = elim (cases_lt tried old.setting.letter
       (λ b m n. misfit (fits_in old.setting) old.setting.letters (length old.word - (place + 1)) (take place old.word) b (skip b m n))
       ∙ continued-none (passes old) old.setting.letters (length old.word - (place + 1)) (take place old.word) old.setting.letters (omega arith)
 ]
-
--- ---- the words that continue a prefix: if it is the whole word, and if at least one letter is missing
 
 pub end-found :
     (old new : Position) (place : ℕ) → place ≡ length old.word → new ≡ old → passes old old.word ≡ true
@@ -205,8 +200,8 @@ next-inside old new place h s found =
     (ap (later (passes old) old.setting.letters front) (drop_more old.word place 0 h) ∙ later-same (passes old) old.setting.letters front v w a long inner)
     same (letters-same (place + 1) old new s) less.front (drop_more new.word place 0 within ∙ ap (λ b. b ∷ w) letter)
 
--- if no later word that fits has the same letters up to and including `place`, the later words with the same letters before `place` are those with a
--- greater letter at `place`
+-- let w be the word of `old`, and let no fitting word after w begin with w_0, .., w_place. Then the fitting words after w that begin with
+-- w_0, .., w_(place - 1) are the fitting words that begin with these letters and have a letter greater than w_place at `place`
 pub next-outside :
     (old b : Position) (place : ℕ) → place < length old.word → IsSameUpTo (place + 1) old b
     → later (passes old) old.setting.letters (take (place + 1) old.word) (drop (place + 1) old.word) ≡ []
@@ -223,8 +218,9 @@ next-outside old b place h s none =
     ∙ sym (continued-same (passes b) (passes old) b.setting.letters old.setting.letters (length b.word - (place + 1)) (length v) a (take place b.word) front
     (passes-same (place + 1) old b s) (letters-same (place + 1) old b s) (sym long) less.front)
 
--- let old, b and taken have the same letters before `place`, and b the letter `letter` at `place`: if no later word that fits has the same letters as
--- old up to and including `place`, the later words with the same letters before `place` are those with a letter greater than `letter` there
+-- let the words of `old`, b and `taken` begin with the same letters w_0, .., w_place, and let `letter` be w_place. If no fitting word after the word
+-- of `old` begins with these letters, then the fitting words after it that begin with w_0, .., w_(place - 1) are those fitting words that begin with
+-- w_0, .., w_(place - 1) and have a letter greater than `letter` at `place`
 pub next-taken :
     (old b taken : Position) (place letter : ℕ) → place < length old.word → IsSameUpTo (place + 1) old b → IsSameUpTo (place + 1) b taken
     → letter ≡ get_or b.word place 0
@@ -237,8 +233,6 @@ next-taken old b taken place letter h s u is none =
     is ∙ sym (get_or-take (place + 1) b.word place 0 here) ∙ ap (λ v. get_or v place 0) s.front ∙ get_or-take (place + 1) old.word place 0 here in
     next-outside old taken place h (IsSameUpTo-then (place + 1) old b taken s u) none
     ∙ ap (continued (passes taken) taken.setting.letters (length taken.word - (place + 1)) (take place taken.word)) (sym same)
-
--- ---- the statement P of a clause `OnTrue b P` or `OnFalse b P`, if the value of b is known
 
 pub from_true : (b : Bool) (P : Type 0) → OnTrue b P → b ≡ true → P
 from_true true P h e = h

@@ -1,4 +1,5 @@
--- A word with letters from 1 to k is the reading of a good tableau if and only if its filling is a tableau and passes `is_good`.
+-- A word with letters from 1 to k is the column reading of a tableau that is good for a partition `start` if and only if its filling is a tableau and
+-- passes `is_good`.
 use Rattle.std.proofs.Common.{◌≡◌, ◌⊎◌, ℕ, zero, suc, ◌+◌, ◌-◌, ◌<◌, ◌≤◌, Bool, true, false, ◌&&◌, ◌==◌, cond, List, [], ◌∷◌, map, length, get_or, ◌∙◌, ap, ap₂, sym, refl, subst, inl, inr, arith, filter}
 use Rattle.std.proofs.lemmas.Bool.{and_parts, le-leb, eq-eqb, true≢false}
 use Rattle.std.proofs.lemmas.List.{length-map}
@@ -55,8 +56,6 @@ filling_from n (k ∷ lengths) (row ∷ T) l h =
     Among-each (λ row. map (λ rest. row ∷ rest) (fillings_of n lengths)) row (row ∷ T) (words n k) (word_from n k row first h.0)
     (Among-map (λ rest. row ∷ rest) T (fillings_of n lengths) (filling_from n lengths T others h.1))
 
--- ---- the filling of a word with letters from 1 to n has letters from 1 to n
-
 letter_within : (n i j : ℕ) (cells : List (ℕ × ℕ)) (w : List ℕ) → length w ≡ length cells → AreLetters n w → Among (i, j) cells → (1 ≤ letter_of_cell i j cells w) × (letter_of_cell i j cells w ≤ n)
 letter_within n i j [] w l h m = absurd m
 letter_within n i j (c ∷ cells) [] l h m = absurd (omega arith)
@@ -90,8 +89,6 @@ filling-within n outer inner w f l h =
     (λ j q r.
     let cell : IsCell outer inner i j = record { row_counts = omega arith; outside = q; within = omega arith } in
     letter_within n i j (reading_cells outer inner) w l h (Among-reading outer inner i j f cell)))
-
--- ---- each filling is given by a function of the cells
 
 pub list_by : {B : Type 0} (xs : List B) (g : ℕ → B) (a n : ℕ) (d : B) → length xs ≡ n → ((i : ℕ) → i < n → get_or xs i d ≡ g (a + i + 1)) → xs ≡ map g (after a n)
 list_by [] g a zero d l h = refl
@@ -140,8 +137,6 @@ pub select-among : (test other : List ℕ → Bool) (xs : List (List ℕ)) → (
 select-among test other [] h = refl
 select-among test other (x ∷ xs) h = ap₂ (λ b l. cond b (x ∷ l) l) (h x (inl refl)) (select-among test other xs (λ y m. h y (inr m)))
 
--- a word w with letters from 1 to k is in the list of the readings of those tableaux of outer/inner that pass a test if and only if its filling is a
--- tableau and passes the test
 selected-listed :
     (k : ℕ) (test : List (List ℕ) → Bool) (outer inner w : List ℕ) → Falls outer → contains outer inner ≡ true
     → Among w (words k (length (cells outer inner)))

@@ -1,4 +1,4 @@
--- The letters that fit at an index, given by the bounds of its neighbours and by the rule.
+-- The letters that fit at an index of a word that is written letter by letter: they are given by the letters of the neighbouring cells and by a rule.
 use Rattle.std.proofs.Common.{◌≡◌, ℕ, ◌<◌, ◌≤◌, max, true, false, ◌&&◌, nat_le, nat_lt, List, length, take, get_or, Option, Some, None, ◌∙◌, ap, ap₂, sym, subst, inl, inr, arith}
 use Rattle.std.proofs.lemmas.Bool.{and_parts, cases_lt, le-leb, leb-true, le-ltb, lt-ltb, ltb-true, lt-leb}
 use Rattle.sym_model.specs.Polynomial.{join}
@@ -11,8 +11,8 @@ use Rattle.tableau_iter.specs.declared.rule.Rule.{Rule}
 use Rattle.tableau_iter.specs.Positions.{Position, Setting, fits_in}
 use Rattle.tableau_iter.proofs.FittingWords.{ceiling-front, floor-front}
 
--- `place` is an index of the word, its neighbours have earlier indices, `sums` is start plus the content of the letters before it, and `least` and
--- `most` are its `floor_at` and `ceiling_at`
+-- `place` is an index of the word, and the neighbours of its cell have earlier indices. The list `sums` is start plus the content of the letters
+-- before `place`. The letter at `place` must be greater than `least` (`floor_at`) and at most `most` (`ceiling_at`)
 pub record IsPlace (s : Setting) (word sums : List ℕ) (place least most : ℕ) : Type 0 where
   pub within : place < length word
   pub above_back : get_or s.near.above place 0 ≤ place
@@ -81,7 +81,6 @@ none-fits s word sums place least most tried p n b h l = elim (cases_lt least b)
   ]
 ]
 
--- if the letter b fits at `place`, it is greater than `least` and at most the greatest letter of the setting
 pub fitting_letter :
     (s : Setting) (word sums : List ℕ) (place least most b : ℕ) → IsPlace s word sums place least most → fits_in s (take place word) b ≡ true
     → (least < b) × (b ≤ s.letters)
@@ -94,8 +93,9 @@ fitting_letter s word sums place least most b p e =
     let high = leb-true b most parts.1 in
     (low, omega arith)
 
--- let `least` and `most` be the bounds at `place` (`IsPlace`): if `found` is the least letter greater than from = max(tried, least) and at most
--- `most` that the rule allows, or None if there is no such letter, it is the least letter greater than `tried` that fits at `place`, or None
+-- let `least` and `most` be the bounds at `place` (`IsPlace`). Let `found` be the least letter that the rule allows, that is greater than
+-- from = max(tried, least) and at most `most`; or None if there is no such letter. Then `found` is the least letter greater than `tried` that fits at
+-- `place`, or None if there is no such letter
 pub next-letter :
     (p : Position) (sums : List ℕ) (place least most tried from : ℕ) (found : Option ℕ) (rule : Rule) (counts : List ℕ) → IsPlace p.setting p.word sums place least most
     → p.setting.rule ≡ rule → p.setting.counts ≡ counts → from ≡ max tried least

@@ -1,4 +1,5 @@
--- Words in which no letter occurs more often than a given number of times, and the counts of their prefixes.
+-- Words in which no letter occurs more often than a given number of times (the rule `Limited`), and the numbers of occurrences of the letters in
+-- their prefixes.
 use Rattle.std.proofs.Common.{◌≡◌, ℕ, zero, suc, ◌+◌, ◌-◌, ◌<◌, ◌≤◌, true, ◌==◌, cond, List, [], ◌∷◌, ◌++◌, length, take, drop, get_or, ◌∙◌, ap, ap₂, sym, refl, inl, inr, arith}
 use Rattle.std.proofs.lemmas.Bool.{cases_eq, eq-eqb, ne_eqb, lt-ltb, ltb-true}
 use Rattle.std.proofs.lemmas.List.{length-map, take_more, take_all, take-append-drop, get_or_past}
@@ -14,9 +15,6 @@ use Rattle.tableau_iter.specs.declared.rule.Rule.TheVariants.{Limited}
 use Rattle.tableau_iter.proofs.FrontContents.{sum-at, times_in-one}
 use Rattle.sym_model.specs.Bounded.{AreLetters}
 
--- ---- the numbers of a content add up to the length of the word
-
--- if xs and ys have the same length and no entry of xs is greater than that of ys at the same index, the sum of xs is at most that of ys
 size-less : (xs ys : List ℕ) → length xs ≡ length ys → ((i : ℕ) → i < length xs → get_or xs i 0 ≤ get_or ys i 0) → size xs ≤ size ys
 size-less [] [] l h = omega arith
 size-less [] (y ∷ ys) l h = omega arith
@@ -34,7 +32,7 @@ same-size (x ∷ xs) (y ∷ ys) l h s =
     let rest = size-less xs ys (omega arith) (λ i m. h (suc i) (omega arith)) in
     ap₂ ◌∷◌ (omega arith) (same-size xs ys (omega arith) (λ i m. h (suc i) (omega arith)) (omega arith))
 
--- ---- the rule `Limited` for each letter, and the number of occurrences of each letter in the whole word
+-- ---- the rule `Limited` as a bound on the number of occurrences of each letter in the word
 
 content-at : (k i : ℕ) (w : List ℕ) → i < k → get_or (content k w) i 0 ≡ times_in (i + 1) w
 content-at k i w h =

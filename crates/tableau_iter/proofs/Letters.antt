@@ -1,4 +1,4 @@
--- The loop of `is_lattice`: the letters of a word counted one after another.
+-- The loop of `is_lattice`, the test of lattice words: it counts the letters of a word one after another.
 use Rattle.std.proofs.Common.{◌≡◌, ℕ, ◌+◌, ◌-◌, ◌<◌, ◌≤◌, ◌==◌, nat_le, nat_lt, true, false, ◌&&◌, ◌||◌, List, [], length, take, set, get_or, sym, ap, ◌∙◌, arith}
 use Rattle.std.proofs.lemmas.Bool.{and_parts, leb-true, true≢false, false_from_ne_true}
 use Rattle.std.proofs.lemmas.List.{length-take, take_more}
@@ -11,7 +11,6 @@ use Rattle.tableau_iter.proofs.FrontContents.{length-sums, sum-at}
 use Rattle.tableau_iter.proofs.Walking.{all_fit-one}
 use Rattle.tableau_iter.specs.LatticeWords.{is_allowed, may_follow, is_lattice_word}
 
--- if `counts` is the content of v in letters from 1 to k, the tests `is_allowed` (by counts) and `may_follow` (by v) of a letter a agree
 counts_say : (k : ℕ) (counts now v : List ℕ) (a : ℕ) → now ≡ counts → counts ≡ content k v → is_allowed (length now) now a ≡ may_follow k v a
 counts_say k counts now v a n e =
     ap (λ xs. is_allowed (length xs) xs a) (n ∙ e) ∙ ap (λ m. is_allowed m (content k v) a) (length-sums [] v k (omega arith))
@@ -22,8 +21,8 @@ refused k w counts now p h n e f =
     sym (false_from_ne_true (is_lattice_word k w)
     (λ t. true≢false (sym (all_fit-at (may_follow k) [] w p t h) ∙ sym (counts_say k counts now (take p w) (get_or w p 0) n e) ∙ f)))
 
--- the letter at the index p of w is from 1 to k; its entry in `counts` is at most the length of w; if this entry is raised by 1, `counts` becomes the
--- content of the first p + 1 letters of w; and each of these letters may follow the letters before it
+-- the letter at the index p of w is from 1 to k, and its entry in `counts` is at most the length of w. If this entry is raised by 1, `counts` becomes
+-- the content of the first p + 1 letters of w. Each of these p + 1 letters may follow the letters before it.
 pub record IsNext (k : ℕ) (w counts : List ℕ) (p : ℕ) : Type 0 where
   pub low : 1 ≤ get_or w p 0
   pub high : get_or w p 0 ≤ k

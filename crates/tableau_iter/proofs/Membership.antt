@@ -1,4 +1,5 @@
--- The test of whether a word is among the readings of the lattice tableaux of a skew shape.
+-- The test of whether a word is among the readings of the lattice tableaux of a skew shape. These are the tableaux that are good for the empty
+-- partition, called the empty start: their column readings are lattice words.
 use Rattle.std.proofs.Common.{◌≡◌, ℕ, suc, ◌<◌, ◌≤◌, Bool, true, false, ◌&&◌, cond, nat_le, List, [], ◌∷◌, map, length, take, get_or, ◌∙◌, ap, ap₂, sym, refl, arith, filter}
 use Rattle.std.proofs.lemmas.Bool.{and_parts, le-leb, leb-true, true≢false, false_from_ne_true}
 use Rattle.sym_model.specs.Sum.{Among}
@@ -39,7 +40,6 @@ listed_from outer inner w m h =
     (Among-select (λ v. is_among v (map (column_reading outer inner) (good_tableaux (length outer) [] outer inner))) w
     (words (length outer) (length (cells outer inner))) m h)
 
--- if outer does not contain inner, outer/inner has no lattice readings
 pub none_outside : (outer inner w : List ℕ) → contains outer inner ≡ false → is_among w (lattice_readings outer inner) ≡ false
 none_outside outer inner w n =
     false_from_ne_true (is_among w (lattice_readings outer inner))
@@ -62,14 +62,11 @@ none_outside outer inner w n =
         n
         ∙ empty (nat_le 0 (length outer))
 
--- a word w of the right length, with letters from 1 to the number of rows of outer, is the reading of a good tableau for the empty start if and only
--- if its filling is a tableau and is good
 listed_is : (outer inner w : List ℕ) → Falls outer → contains outer inner ≡ true → Among w (words (length outer) (length (cells outer inner)))
     → is_among w (map (column_reading outer inner) (good_tableaux (length outer) [] outer inner))
     ≡ (is_tableau (filled_with outer inner w) && is_good (length outer) [] outer inner (filling_of outer inner w))
 listed_is outer inner w f c m = good-listed (length outer) [] outer inner w f c (omega arith) m
 
--- if the filling of w is not a tableau, w is not among the lattice readings of outer/inner
 pub none_disordered : (outer inner w : List ℕ) → Falls outer → contains outer inner ≡ true → is_tableau (filled_with outer inner w) ≡ false
     → is_among w (lattice_readings outer inner) ≡ false
 none_disordered outer inner w f c n =

@@ -17,8 +17,6 @@ use Rattle.skew_shapes.proofs.CellRows.{map_after-at, row_of-rows_by, cell_row}
 use Rattle.skew_shapes.proofs.RowOrder.{tests-rows}
 use Rattle.tableau_iter.proofs.Orders.{Once-reading, letters-front, reading_cell}
 
--- ---- tests that each of the numbers a + 1, .., a + k must pass
-
 pub every_after-at : (test : ℕ → Bool) (a k i : ℕ) → every test (after a k) ≡ true → i < k → test (a + i + 1) ≡ true
 every_after-at test a zero i e h = absurd (omega arith)
 every_after-at test a (suc k) zero e h =

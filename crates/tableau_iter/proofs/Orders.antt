@@ -87,8 +87,6 @@ Once-reading outer inner =
     (λ x y p q e. ap (λ (c : ℕ × ℕ). c.0) e) (Once-select (reaches outer inner j) (after 0 (rows outer)) (once_after 0 (rows outer))))
     (λ x z c m n p q. sym (column_cell outer inner x c p).1 ∙ (column_cell outer inner z c q).1)
 
--- ---- the list `cells`, row by row, has each cell of outer/inner once
-
 pub row_cell : (outer inner : List ℕ) (c : ℕ × ℕ) → Among c (cells outer inner) → IsCell outer inner c.0 c.1
 row_cell outer inner c m =
     let found = Among_from_each (row_cells outer inner) c (after 0 (rows outer)) m in
@@ -124,7 +122,6 @@ Once-cells outer inner =
         let inside = Among_from_map {B = ℕ × ℕ} (λ j. (i, j)) c (after (part inner i) (part outer i - part inner i)) m in
         ap (λ (d : ℕ × ℕ). d.0) inside.2
 
--- the list of the cells in reading order is as long as the list of the cells row by row
 pub length-reading : (outer inner : List ℕ) → Falls outer → length (reading_cells outer inner) ≡ length (cells outer inner)
 length-reading outer inner f =
     let less = length_within (cells outer inner) (reading_cells outer inner) (Once-reading outer inner)
@@ -161,7 +158,7 @@ letters-front (c ∷ front) back (a ∷ w) o h =
     (other_cell c d (λ e. o.0 (subst (λ x. Among x (front ++ back)) e (Among-append_left d front back m)))))
     ∙ letters-front front back w o.1 (omega arith))
 
--- if c is a listed cell, and the word has f(d) for each listed cell d in the order of the list, the letter of the cell c is f(c)
+-- if c is a listed cell, and the word has the letters f(d) for the listed cells d in the order of the list, then the letter of the cell c is f(c)
 pub letter-read : (f : ℕ → ℕ → ℕ) (cells : List (ℕ × ℕ)) (c : ℕ × ℕ) → Among c cells → letter_of_cell c.0 c.1 cells (map (λ (d : ℕ × ℕ). f d.0 d.1) cells) ≡ f c.0 c.1
 letter-read f [] c m = elim m [ ]
 letter-read f (d ∷ cells) c m = elim (cases_eq d.0 c.0) [

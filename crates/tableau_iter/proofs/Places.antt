@@ -47,8 +47,6 @@ place_behind front rest p c o h e =
     let longer : length front < length (front ++ c ∷ rest) = omega (arith, length-append front (c ∷ rest)) in
     sym (place_unique (front ++ c ∷ rest) (length front) p c o longer h (get_or-append_seam front c rest c) e)
 
--- ---- the cells read before and after the cell (r + 1, j)
-
 -- the cells of the columns right of column j, followed by those of column j in the rows 1 to r: these are read before (r + 1, j)
 abbrev pub front_of : List ℕ → List ℕ → ℕ → ℕ → List (ℕ × ℕ)
 front_of outer inner j r = cells_right_of outer inner j ++ cells_above outer inner j r

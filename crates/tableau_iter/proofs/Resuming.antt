@@ -16,8 +16,6 @@ use Rattle.tableau_iter.proofs.Walking.{completions-first, continued-next}
 use Rattle.sym_model.specs.Bounded.{AreLetters}
 use Rattle.sym_model.proofs.Tableaux.{word_tells}
 
--- ---- whether a word is in the list of the words that pass a test
-
 pub not_among-completions :
     (test : List ℕ → Bool) (k n : ℕ) (w : List ℕ) → ((length w ≡ n) × AreLetters k w → ⊥) → is_among w (completions test k n []) ≡ false
 not_among-completions test k n w h =

@@ -22,21 +22,18 @@ pub reading_in : (outer inner : List ℕ) (rows : List (List ℕ)) → map lengt
 reading_in outer inner rows l =
     sym (reading-rows_by (letter_in_rows inner rows) outer inner) ∙ ap (column_reading outer inner) (sym (rows-by_cells outer inner rows l))
 
--- two lists of the same length with the same number at each index are equal
 alike : (xs ys : List ℕ) → length xs ≡ length ys → ((i : ℕ) → i < length ys → get_or xs i 0 ≡ get_or ys i 0) → xs ≡ ys
 alike [] [] l h = refl
 alike [] (y ∷ ys) l h = absurd (omega (arith, l))
 alike (x ∷ xs) [] l h = absurd (omega (arith, l))
 alike (x ∷ xs) (y ∷ ys) l h = ap₂ ◌∷◌ (h 0 (omega arith)) (alike xs ys (omega (arith, l)) (λ i m. h (suc i) (omega (arith, m))))
 
--- if the number of rows is not the number of parts of outer, the rows do not have the lengths of the rows of outer/inner
 pub other_count : {A : Type 0} (f : A → List ℕ) (outer inner : List ℕ) (xs : List A) → (length xs ≡ length outer → ⊥)
     → false ≡ same (map length (map f xs)) (row_lengths outer inner)
 other_count f outer inner xs n =
     sym (false_from_ne_true (same (map length (map f xs)) (row_lengths outer inner))
     (λ e. n (rows_count f outer inner xs (same_true (map length (map f xs)) (row_lengths outer inner) e))))
 
--- if the length of row i is not that of row i of outer/inner, the rows do not have the lengths of the rows of outer/inner
 pub other_length : {A : Type 0} (f : A → List ℕ) (outer inner : List ℕ) (xs : List A) (i : ℕ)
     → (get_or (map length (map f xs)) i 0 ≡ get_or outer i 0 - get_or inner i 0 → ⊥) → false ≡ same (map length (map f xs)) (row_lengths outer inner)
 other_length f outer inner xs i n =
@@ -59,7 +56,6 @@ length_at f [] i x h e = absurd (omega (arith, h))
 length_at f (y ∷ xs) zero x h e = ap (λ z. length (f z)) (sym e)
 length_at f (y ∷ xs) (suc i) x h e = length_at f xs i x (omega (arith, h)) e
 
--- if each of the rows 0, .., n has the length of that row of outer/inner, then so has row i for i < n + 1
 pub one_more : (lengths outer inner : List ℕ) (n i : ℕ) → ((j : ℕ) → j < n → get_or lengths j 0 ≡ get_or outer j 0 - get_or inner j 0)
     → get_or lengths n 0 ≡ get_or outer n 0 - get_or inner n 0 → i < n + 1 → get_or lengths i 0 ≡ get_or outer i 0 - get_or inner i 0
 one_more lengths outer inner n i h e m = elim (cases_eq i n) [

@@ -1,4 +1,5 @@
--- The words that a new board lists: all readings of its tableaux, and those after a given reading.
+-- A *board* is the state of the code that lists column readings of tableaux one after another. Its *position* has the current word of the board, and
+-- the setting, that is, the data that decide which letters fit. A new board lists all readings that its rule allows, or those after a given reading.
 use Rattle.std.proofs.Common.{◌≡◌, ℕ, ◌≤◌, true, false, List, [], ◌++◌, map, length, take, get_or, ◌∙◌, ap, ap₂, sym, arith}
 use Rattle.std.proofs.lemmas.Bool.{and_parts, true≢false, false_from_ne_true}
 use Rattle.sym_model.specs.Sum.{Among}
@@ -34,7 +35,6 @@ around k outer inner near s n = record {
   near_cells = n.near_cells;
 }
 
--- if p is the position of a new board, the words w for which `passes p w` holds are those whose letters fit by its rule
 new-list :
     (rule : Rule) (counts start : List ℕ) (k : ℕ) (outer inner : List ℕ) (p : Position) → IsNewBoard rule counts start k outer inner p
     → completions (passes p) p.setting.letters (length p.word) []
@@ -64,9 +64,6 @@ content-list counts outer inner p b all =
     new-list Limited counts [] (length counts) outer inner p b
     ∙ content_readings-fits counts outer inner b.near_in.lines b.near_in.ranks p.setting.near (around (length counts) outer inner p.setting.near b.shape b.near_in) all
 
--- ---- a given word in the list of a new board, and the words after it
-
--- if p is the position of a new board, w is as long as the word of p, and `passes p w` holds, the letters of w are from 1 to the greatest letter of p
 fitting-within :
     (rule : Rule) (counts start : List ℕ) (k : ℕ) (outer inner w : List ℕ) (p : Position) → IsNewBoard rule counts start k outer inner p
     → length w ≡ length p.word → passes p w ≡ true → AreLetters p.setting.letters w
@@ -122,14 +119,13 @@ resumed-fails counts start k outer inner w p b falls few e =
     (is_among-tells w (completions (passes p) p.setting.letters (length p.word) []) t)).1
     ∙ e))
 
--- if the length of w is not the number of cells of outer/inner, w is not the reading of a good tableau of outer/inner
 pub wrong-length :
     (start : List ℕ) (k : ℕ) (outer inner w : List ℕ) → (length w ≡ length (cells outer inner) → ⊥) → is_among w (good_readings k start outer inner) ≡ false
 wrong-length start k outer inner w n =
     not_among-completions (λ v. is_among v (map (column_reading outer inner) (good_tableaux k start outer inner))) k (length (cells outer inner)) w (λ h. n h.0)
 
--- let p be the position of a new board with the rule `Falling`: if w has a letter for each cell and `passes p w` holds, and q has the setting of p
--- and the word w, the later words of q are those after w in the list of the good readings
+-- let p be the position of a new board with the rule `Falling`, and let w have a letter for each cell, such that `passes p w` holds. If the position
+-- q has the setting of p and the word w, then the words that `later` gives for q are those after w in the list of the good readings
 pub resumed-rest :
     (counts start : List ℕ) (k : ℕ) (outer inner w : List ℕ) (p q : Position) → IsNewBoard Falling counts start k outer inner p → Falls start → rows start ≤ k
     → length w ≡ length p.word → passes p w ≡ true → IsSameUpTo 0 p q → q.word ≡ w

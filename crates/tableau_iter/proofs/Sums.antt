@@ -1,4 +1,5 @@
--- The sum of `start` and the content of a prefix of a word, and a test of good tableaux by the prefixes that end with a column.
+-- The sum of a partition `start` and the content of a prefix of a word. A tableau is good for `start` if this sum is weakly decreasing for each
+-- prefix of its reading that ends with a column.
 use Rattle.std.proofs.Common.{◌≡◌, ℕ, zero, suc, ◌+◌, ◌-◌, ◌<◌, ◌≤◌, Bool, ◌&&◌, List, [], ◌∷◌, map, length, get_or, reverse, ◌∙◌, ap, ap₂, sym, refl, arith, length-append, take, flat_map}
 use Rattle.sym_model.specs.Partition.{columns, rows, after}
 use Rattle.sym_model.specs.Polynomial.{join}
@@ -9,8 +10,6 @@ use Rattle.skew_shapes.specs.Rows.{cells_right_of}
 use Rattle.skew_shapes.proofs.CellRows.{map_after-ext}
 use Rattle.tableau_iter.proofs.GoodWords.{list_by}
 use Rattle.tableau_iter.proofs.Orders.{reading_split, reading-prefix}
-
--- ---- the entries of start plus the content of a word
 
 pub join_after :
     (start : List ℕ) (g : ℕ → ℕ) (a k : ℕ) → length start ≤ k
@@ -61,8 +60,6 @@ ends-within outer inner word l =
     let rest = flat_map (column_cells outer inner) (reverse (after 0 j)) in
     omega (arith, l, ap (λ (cells : List (ℕ × ℕ)). length cells) split, length-append (cells_right_of outer inner j) rest) in
     (below 0 (omega arith), within_map g 0 (columns outer) (length word) below)
-
--- ---- a filling is good if and only if start plus content is weakly decreasing for each prefix that ends with a column
 
 every-after : (f g : ℕ → Bool) (a k : ℕ) → ((j : ℕ) → j ≤ a + k → f j ≡ g j) → every f (after a k) ≡ every g (after a k)
 every-after f g a zero h = refl

@@ -90,8 +90,6 @@ rights k outer inner w lines ranks near p l cells n good h most =
         ] in
         subst (λ b. get_or w p 0 ≤ cond b (get_or near.most p 0) (min (get_or near.most p 0) (get_or w (suc q - 1) 0))) (sym (eqb-suc-zero q)) (omega (arith, less, most))
 
--- if each letter is greater than its `floor_at`, and each of the `count` cells read directly after that at p is below the one before it, then for d ≤
--- count the letter d cells below p is at least the letter at p plus d
 chain :
     (above w : List ℕ) (p count d : ℕ) → ((q : ℕ) → q < length w → floor_at above w q < get_or w q 0)
     → ((d : ℕ) → d < count → (p + d + 1 < length above) × (get_or above (p + d + 1) 0 ≡ p + d + 1)) → length above ≡ length w → d ≤ count
@@ -142,7 +140,7 @@ stands-tableau k outer inner w lines ranks near p falls l cells n within good h 
     λ q m. floors k outer inner w lines ranks near q falls l cells n within good m in
     (f p h, rights k outer inner w lines ranks near p l cells n good h (mosts k w lines ranks near p n (omega arith) within f h))
 
--- ---- words in which each letter is within its bounds (`Stands`): they are readings of tableaux
+-- ---- words in which each letter is within its bounds (`Stands`) are readings of tableaux
 
 letters-from : (g : ℕ → ℕ) (a m : ℕ) → ((j : ℕ) → a < j → j ≤ a + m → 1 ≤ g j) → are_letters (map g (after a m)) ≡ true
 letters-from g a zero h = refl
@@ -244,7 +242,6 @@ rise-tableau f outer inner rise falls =
     let before : i ≡ i - 1 + 1 = omega arith in
     ap (row_passes inner T) before ∙ passes-row f outer inner (i - 1) rise falls (omega arith))
 
--- if the cell at the index q of the reading is (i, j), `lines` has i and `ranks` has j at q
 line-of :
     (outer inner lines ranks : List ℕ) (q i j : ℕ) → AreCells outer inner lines ranks → q < length (reading_cells outer inner)
     → get_or (reading_cells outer inner) q (i, j) ≡ (i, j) → (get_or lines q 0 ≡ i) × (get_or ranks q 0 ≡ j)

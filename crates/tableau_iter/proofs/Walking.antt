@@ -1,4 +1,4 @@
--- The words that continue a prefix and pass a test, by their first letter.
+-- The words that continue a prefix and pass a test, listed by their first letter.
 use Rattle.std.proofs.Common.{◌≡◌, ℕ, zero, suc, ◌+◌, ◌-◌, ◌<◌, ◌≤◌, Bool, true, false, ◌&&◌, cond, List, [], ◌∷◌, ◌++◌, map, length, ◌∙◌, ap, ap₂, sym, refl, arith, append_assoc, append-nil, filter, flat_map}
 use Rattle.sym_model.specs.Partition.{after}
 use Rattle.sym_model.specs.Schur.{words}
@@ -58,8 +58,6 @@ continued-found test k n front w a h l e =
     ∙ ap (λ xs. map (λ w. (a + 1) ∷ w) xs ++ continued test k n front (a + 1)) e
     ∙ ap (λ m. ((a + 1) ∷ w) ∷ (map (λ w. (a + 1) ∷ w) (later test k (front ++ (a + 1) ∷ []) w) ++ continued test k m front (a + 1))) (sym l)
 
--- if no word completes `front` followed by a + 1, the words that continue `front` with a first letter greater than a are those with a first letter
--- greater than a + 1
 pub continued-passed :
     (test : List ℕ → Bool) (k n : ℕ) (front : List ℕ) (a : ℕ) → a < k → completions test k n (front ++ (a + 1) ∷ []) ≡ []
     → continued test k n front a ≡ continued test k n front (a + 1)
@@ -85,7 +83,6 @@ pub later-none : (test : List ℕ → Bool) (k : ℕ) (front : List ℕ) → lat
 unfolding later
 later-none test k front = refl
 
--- if `front` passes the test, the only word of 0 letters that completes it is the empty one
 pub completions-end :
     (test : List ℕ → Bool) (k : ℕ) (front : List ℕ) → test front ≡ true → completions test k 0 front ≡ [] ∷ []
 completions-end test k front e = ap (λ b. cond b ([] ∷ []) []) (ap test (append-nil front) ∙ e)

@@ -8,7 +8,7 @@ use Rattle.sym_model.specs.TableauList.{reading_cells}
 use Rattle.tableau_iter.specs.declared.rule.Rule.{Rule}
 use Rattle.tableau_iter.specs.declared.rule.Rule.TheVariants.{Free, Falling, Limited}
 
--- whether the test `fits` accepts each letter of the word w after the prefix that consists of `front` and of the letters of w before it
+-- whether, for each letter of the word w, the test `fits` accepts this letter after the prefix that consists of `front` and the earlier letters of w
 abbrev pub all_fit : (List ℕ → ℕ → Bool) → List ℕ → List ℕ → Bool
 all_fit fits front [] = true
 all_fit fits front (a ∷ w) = fits front a && all_fit fits (front ++ a ∷ []) w
@@ -20,12 +20,12 @@ pub record Neighbours : Type 0 where
   pub right : List ℕ
   pub most : List ℕ
 
--- the letter of the word in the cell above that at the index p; 0 if there is no such cell
+-- the letter of the word in the cell above the cell at the index p; 0 if there is no such cell
 abbrev pub floor_at : List ℕ → List ℕ → ℕ → ℕ
 floor_at above word p =
     cond (slice_index above p == 0) 0 (slice_index word (slice_index above p - 1))
 
--- the smaller of most_p and the letter of the word in the cell right of that at the index p; most_p if there is no such cell
+-- the smaller of most_p and the letter of the word in the cell on the right of the cell at the index p; most_p if there is no such cell
 abbrev pub ceiling_at : List ℕ → List ℕ → List ℕ → ℕ → ℕ
 ceiling_at right most word p =
     cond (slice_index right p == 0) (slice_index most p)
@@ -38,16 +38,16 @@ stands_right near front a =
     nat_lt (floor_at near.above front (length front)) a
     && nat_le a (ceiling_at near.right near.most front (length front))
 
--- whether the rule allows one more letter a after a prefix, if `sums` is start plus the content of the prefix: always for `Free`; for `Falling` if a
--- = 1 or sums_a < sums_(a-1); for `Limited` if sums_a < counts_a
+-- whether the rule allows one more letter a after a prefix, where `sums` is the partition `start` plus the content of the prefix. The rule `Free`
+-- always allows a; `Falling` allows a if it is 1 or sums_a < sums_(a-1); `Limited` allows a if sums_a < counts_a.
 abbrev pub allows : Rule → List ℕ → List ℕ → ℕ → Bool
 allows Free counts sums a = true
 allows Falling counts sums a =
     (a == 1) || nat_lt (slice_index sums (a - 1)) (slice_index sums (a - 2))
 allows Limited counts sums a = nat_lt (slice_index sums (a - 1)) (slice_index counts (a - 1))
 
--- whether a can follow the prefix `front`: it respects the letters above and on the right and the cells below (`stands_right`), and the rule allows
--- a, given start plus the content of the prefix in letters from 1 to k
+-- whether the letter a can follow the prefix `front`: a respects the letters above and on the right and the cells below (`stands_right`), and the
+-- rule allows a, given the partition `start` plus the content of the prefix in letters from 1 to k
 abbrev pub fits_by : Rule → List ℕ → List ℕ → ℕ → Neighbours → List ℕ → ℕ → Bool
 fits_by rule counts start k near front a =
     stands_right near front a && allows rule counts (join start (content k front)) a
@@ -74,15 +74,15 @@ IsRun above place count =
     (d : ℕ) → d < count → (place + d + 1 < length above)
     × (slice_index above (place + d + 1) ≡ place + d + 1)
 
--- `most` is k - count for some number `count` such that the `count` cells that are read directly after the cell at `place` are each below the one
--- before: the letters of these cells must be greater
+-- `most` is k - count, for a number `count` of cells that are read directly after the cell at `place`, each of them below the one before: the letters
+-- of these cells must be greater than the letter at `place`
 pub record IsGreatest (k : ℕ) (above : List ℕ) (place most : ℕ) : Type 0 where
   pub count : ℕ
   pub value : most ≡ k - count
   pub run : IsRun above place count
 
--- `near` has, for the cells with the rows `lines` and the columns `ranks`, the neighbours above and on the right, and the greatest letters if all
--- letters are from 1 to k
+-- `near` has, for each of the cells with the rows `lines` and the columns `ranks`, the neighbours above and on the right, and a bound for its letter
+-- (`IsGreatest`) if all letters are from 1 to k
 pub record AreNear (k : ℕ) (lines ranks : List ℕ) (near : Neighbours) : Type 0 where
   pub above : AreNeighbours lines ranks 1 0 near.above
   pub right : AreNeighbours lines ranks 0 1 near.right

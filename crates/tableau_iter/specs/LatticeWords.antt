@@ -3,7 +3,7 @@ use Rattle.std.specs.Prelude.{ℕ, ◌-◌, ◌==◌, nat_le, nat_lt, Bool, ◌&
 use Rattle.sym_model.specs.Schur.{content}
 use Rattle.tableau_iter.specs.Fits.{all_fit}
 
--- whether a is a letter from 1 to k, and is 1 or has a smaller entry in `counts` than a - 1
+-- whether a is a letter from 1 to k, and either a is 1 or the entry of `counts` for a is smaller than that for a - 1
 abbrev pub is_allowed : ℕ → List ℕ → ℕ → Bool
 is_allowed k counts a =
     (nat_le 1 a && nat_le a k) && ((a == 1)

@@ -1,4 +1,4 @@
--- The state of a lister of tableaux: the column readings still to be listed, and the current one.
+-- The state of a lister, which lists tableaux one after another: the column readings still to be listed, and the current one.
 use Rattle.std.specs.Prelude.{ℕ, List, [], length, Option, Some, None}
 use Rattle.tableau_iter.specs.declared.stage.Stage.{Stage}
 use Rattle.tableau_iter.specs.declared.stage.Stage.TheVariants.{New, Listing, Passed, Ended}
@@ -13,15 +13,15 @@ pub record Listed : Type 0 where
   pub start : List ℕ
   pub letters : ℕ
 
--- the words still to be listed by a lister at this stage: at `New` all words that fit, at `Listing` and `Passed` those after the word of the
--- position, and at `Ended` no words
+-- the words still to be listed, by the stage and the position of a lister: at `New` all words whose letters fit (`passes`), at `Listing` and `Passed`
+-- those of them that come after the word of the position, and at `Ended` no words
 abbrev pub rest_at : Stage → Position → List (List ℕ)
 rest_at New p = completions (passes p) p.setting.letters (length p.word) []
 rest_at Listing p = later (passes p) p.setting.letters [] p.word
 rest_at Passed p = later (passes p) p.setting.letters [] p.word
 rest_at Ended p = []
 
--- the current word of a lister at this stage: the word of the position at `Listing`, otherwise None
+-- the current word, by the stage and the position of a lister: the word of the position at `Listing`, otherwise None
 abbrev pub item_at : Stage → Position → Option (List ℕ)
 item_at New p = None
 item_at Listing p = Some p.word

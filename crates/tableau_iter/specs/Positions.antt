@@ -1,4 +1,5 @@
--- A word in the cells of a skew shape, written letter by letter in the order of the column reading, and the letters that fit in it.
+-- A *board*: a word in the cells of a skew shape, written letter by letter in the order of the column reading, and the letters that fit in it. The
+-- content of the letters written so far is added to a partition, `start`.
 use Rattle.std.specs.Prelude.{◌≡◌, ℕ, ◌+◌, ◌<◌, ◌≤◌, Bool, true, slice_index, List, [], ◌∷◌, length}
 use Rattle.std.specs.Prelude.{take, drop}
 use Rattle.sym_model.specs.Partition.{rows, size}
@@ -75,7 +76,8 @@ abbrev pub position_of : Rule → List ℕ → List ℕ → Neighbours → List 
 position_of rule counts start near sums word =
     record { setting = setting_of rule counts start (length sums) near; word = word; sums = sums }
 
--- `near` has the neighbours and the greatest letters of the cells of outer/inner, for letters from 1 to k
+-- `near` has, for each cell of outer/inner, the neighbours above and on the right, and a bound for its letter (`IsGreatest`) if all letters are from
+-- 1 to k
 pub record IsNearIn (k : ℕ) (outer inner : List ℕ) (near : Neighbours) : Type 0 where
   pub lines : List ℕ
   pub ranks : List ℕ

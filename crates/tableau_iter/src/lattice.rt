@@ -1,4 +1,5 @@
-//! A lister of the good tableaux of a skew shape for a start partition.
+//! A lister of the good tableaux of a skew shape for a partition `start`: those such that, for each
+//! column, start plus the content of that column and of those right of it is a partition.
 ghost use Rattle.std.specs.Prelude.{◌≡◌, ◌++◌, ◌↔◌, ℕ, ◌+◌, ◌<◌, ◌≤◌, [], ◌∷◌, IsTrue, false, true};
 ghost use Rattle.std.specs.Prelude.{length, IfOk, IfSome, IsErrOf, IsSome, None, OnOk};
 ghost use Rattle.std.specs.Option.{option_to_list};

@@ -97,7 +97,8 @@ fn cells_below(above: &[u16], place: usize) -> u16
     count
 }
 
-/// The letter of `word` in the cell above that at the index `place`; 0 if there is no such cell.
+/// The letter of `word` in the cell above the cell at the index `place`; 0 if there is no such
+/// cell.
 pub(crate) fn floor(above: &[u16], word: &[u16], place: usize) -> u16
     requires place { place < length above.now }
     requires back { slice_index above.now place ≤ length word.now }
@@ -107,8 +108,8 @@ pub(crate) fn floor(above: &[u16], word: &[u16], place: usize) -> u16
     if found == 0 { 0 } else { word[found - 1] }
 }
 
-/// The smaller of `most[place]` and the letter of `word` in the cell right of that at `place`;
-/// `most[place]` if there is no such cell.
+/// The smaller of `most[place]` and the letter of `word` in the cell on the right of the cell at
+/// the index `place`; `most[place]` if there is no such cell.
 pub(crate) fn ceiling(right: &[u16], most: &[u16], word: &[u16], place: usize) -> u16
     requires place { place < length right.now }
     requires most { place < length most.now }

@@ -5,8 +5,8 @@ ghost use Rattle.tableau_iter.specs.Fits.{allows};
 ghost use Rattle.tableau_iter.specs.NextLetters.{IsNextLetter};
 
 /// The condition on the content of each prefix of a column reading. `Free`: no condition.
-/// `Falling`: start plus the content is a partition. `Limited`: no letter occurs more often than a
-/// given number of times.
+/// `Falling`: the sum of the partition `start` and the content is a partition. `Limited`: no letter
+/// occurs more often than a given number of times.
 #[derive(Clone, Copy)]
 pub(crate) enum Rule {
     Free,

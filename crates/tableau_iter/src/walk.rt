@@ -1,5 +1,5 @@
-//! The search for the next word whose letters all fit in a board (`Board::admits`); it is written
-//! over the current one.
+//! The search for the next word whose letters all fit in a board (`Board::admits`). The word found
+//! is written over the current word of the board.
 ghost use Rattle.std.specs.Prelude.{◌≡◌, ◌+◌, ◌-◌, ◌<◌, ◌≤◌, true, false, [], length, take, drop};
 ghost use Rattle.std.specs.Bool.{OnTrue, OnFalse};
 ghost use Rattle.tableau_iter.specs.Positions.{Begins, IsReady, IsSameUpTo, passes};

@@ -1,4 +1,5 @@
--- The counts of products and of skew shapes as sums over the ways to choose a tableau column by column (`over_columns`).
+-- Counts of tableaux as sums over the ways to choose a tableau column by column (`over_columns`). Here a tableau is *good* for a partition `start` if
+-- start plus the content of the columns right of column j is a partition, for each j ≥ 0. A *good reading* is the column reading of a good tableau.
 use Rattle.std.proofs.Common.{◌≡◌, ℕ, zero, suc, ◌+◌, ◌≤◌, true, cond, ◌&&◌, List, [], ◌∷◌, length, replicate, nat_le, sym, ◌∙◌, ap, ap₂, refl, arith, ℤ, pos}
 use Rattle.std.proofs.lemmas.Bool.{and_from, le-leb}
 use Rattle.sym_model.specs.Sum.{total}
@@ -17,8 +18,6 @@ use Rattle.tableau_laws.proofs.ColumnReadings.{content-reading}
 use Rattle.tableau_laws.proofs.ColumnSums.{of_good_columns, total_good_columns}
 use Rattle.tableau_laws.proofs.GoodReadings.{of_good, total_good_readings}
 
--- ---- the partition start, padded with zeros to n parts
-
 join_zeros_resize : (n : ℕ) (start : List ℕ) → length start ≤ n → join start (replicate n 0) ≡ resize n start
 join_zeros_resize n [] h = sym (resize-nil n)
 join_zeros_resize zero (a ∷ start) h = absurd (omega arith)
@@ -35,8 +34,6 @@ falling-resize (suc zero) (a ∷ parts) f = refl
 falling-resize (suc (suc n)) (a ∷ []) f = and_from (nat_le 0 a) (is_falling (0 ∷ resize n [])) (le-leb 0 a (omega arith)) (falling-resize (suc n) [] tt)
 falling-resize (suc (suc n)) (a ∷ b ∷ parts) f = and_from (nat_le b a) (is_falling (b ∷ resize n parts)) (le-leb b a f.0) (falling-resize (suc n) (b ∷ parts) f.1)
 
--- ---- the sum of f(start + content) over the good readings, as a sum over the ways to choose the columns
-
 pub total_readings_by_columns : (n : ℕ) (start outer inner : List ℕ) (f : List ℕ → ℤ)
     → IsPartition start → IsPartition outer → IsPartition inner → contains outer inner ≡ true → rows start ≤ n
     → total (λ w. f (join start (content n w))) (good_readings n start outer inner) ≡ over_columns n (column_lines outer inner) (λ ν right. f ν) (resize n start) []
@@ -48,8 +45,6 @@ total_readings_by_columns n start outer inner f s o i holds h =
     ∙ total_good_columns n start (column_lines outer inner) (λ ν right. f ν)
     ∙ ap (λ ν. cond (is_falling ν) (over_columns n (column_lines outer inner) (λ ν' right. f ν') ν []) (pos 0)) (sum_at_start n start h)
     ∙ ap (λ b. cond b (over_columns n (column_lines outer inner) (λ ν right. f ν) (resize n start) []) (pos 0)) (falling-resize n start s.falls)
-
--- ---- each shape contains the empty one; `product_count` and `skew_count` as sums over the ways to choose the columns
 
 pub contains_nothing : (parts : List ℕ) → contains parts [] ≡ true
 contains_nothing [] = refl

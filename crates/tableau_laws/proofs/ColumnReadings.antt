@@ -1,10 +1,12 @@
--- The columns of a filling of a skew shape and its column reading, computed from its rows padded with zeros.
-use Rattle.std.proofs.Common.{◌≡◌, ℕ, zero, suc, ◌+◌, ◌-◌, ◌<◌, ◌≤◌, ◌⊎◌, ◌==◌, Bool, true, false, cond, ◌&&◌, List, [], ◌∷◌, ◌++◌, length, replicate, reverse, take, drop, get_or, nat_lt, sym, ◌∙◌, ap, ap₂, refl, inl, inr, arith, append-nil, flat_map}
+-- The columns and the column reading of a filling of a skew shape, computed from its rows padded on the left with zeros at the cells of the inner
+-- shape. A padded row or column is a *line*. A tableau is *good* for a partition `start` if start plus the content of the columns right of column j
+-- is a partition, for each j ≥ 0.
+use Rattle.std.proofs.Common.{◌≡◌, ℕ, zero, suc, ◌+◌, ◌-◌, ◌<◌, ◌≤◌, ◌==◌, Bool, cond, ◌&&◌, List, [], ◌∷◌, ◌++◌, length, replicate, reverse, take, drop, get_or, sym, ◌∙◌, ap, ap₂, refl, inl, inr, arith, append-nil, flat_map, rules}
 use Rattle.std.proofs.lemmas.Bool.{lt-ltb, le-ltb, ne_eqb, cases_Bool, ltb-true, ltb-false}
 use Rattle.std.proofs.lemmas.List.{reverse-append, drop_all}
 use Rattle.std.proofs.Math.Seq.{drop-cons}
 use Rattle.sym_model.specs.Sum.{Among}
-use Rattle.sym_model.specs.Partition.{ArePositive, part, columns, after}
+use Rattle.sym_model.specs.Partition.{ArePositive, columns, after}
 use Rattle.sym_model.specs.Polynomial.{join}
 use Rattle.sym_model.specs.Schur.{times_in, letters_of, content}
 use Rattle.sym_model.specs.GoodTableau.{letter_in, column, reading_right_of, column_reading, is_falling, every, is_good}
@@ -17,22 +19,14 @@ use Rattle.sym_model.proofs.Contents.{times_in-append}
 use Rattle.std.proofs.lemmas.Grind.{flat_map-append}
 use Rattle.std.proofs.Math.Bool.{and-true}
 
--- ---- words without their zeros (`filled`)
-
 pub filled-append : (v w : List ℕ) → filled (v ++ w) ≡ filled v ++ filled w
 filled-append [] w = refl
-filled-append (a ∷ v) w = by (nat_lt 0 a) (filled-append v w)
-  where
-    by : (b : Bool) → filled (v ++ w) ≡ filled v ++ filled w → cond b (a ∷ filled (v ++ w)) (filled (v ++ w)) ≡ cond b (a ∷ filled v) (filled v) ++ filled w
-    by true e = ap (λ l. a ∷ l) e
-    by false e = e
+filled-append (a ∷ v) w = search (rules, (filled-append v w))
 
 filled_letter : (a : ℕ) (w : List ℕ) → 0 < a → filled (a ∷ w) ≡ a ∷ filled w
 filled_letter a w h = ap (λ b. cond b (a ∷ filled w) (filled w)) (lt-ltb 0 a h)
 
--- ---- the letter at one place of a row of a filling
-
--- the word that consists of the letter at place i, counted from 0; the empty word if i is after the end
+-- `at_place i w`: the one-letter word with the letter of w at the index i; the empty word if w has no such index
 abbrev pub at_place : {A : Type 0} → ℕ → List A → List A
 at_place i w = take 1 (drop i w)
 
@@ -43,21 +37,13 @@ filled_one zero (a ∷ row) h = filled_letter a [] h.0
 filled_one (suc i) (a ∷ row) h = filled_one i row h.1
 
 letter_in-padded : (c i : ℕ) (row : List ℕ) → ArePositive row → letter_in c row (suc i) ≡ filled (at_place i (replicate c 0 ++ row))
-letter_in-padded zero i row h =
-    let e : suc i - (0 + 1) ≡ i = omega arith in
-    ap₂ (λ (b : Bool) (k : ℕ). cond b (take 1 (drop k row)) []) (lt-ltb 0 (suc i) (omega arith)) e ∙ sym (filled_one i row h)
+letter_in-padded zero i row h = search (rules, lt-ltb, filled_one)
 letter_in-padded (suc c) zero row h = ap (λ (b : Bool). cond b (take 1 (drop (1 - (suc c + 1)) row)) []) (le-ltb (suc c) 1 (omega arith))
-letter_in-padded (suc c) (suc i) row h =
-    ap₂ (λ (b : Bool) (k : ℕ). cond b (take 1 (drop k row)) []) (same_test (cases_Bool (nat_lt c (suc i)))) (let e : suc (suc i) - (suc c + 1) ≡ suc i - (c + 1) = omega arith in e)
-    ∙ letter_in-padded c i row h
-  where
-    same_test : (nat_lt c (suc i) ≡ true) ⊎ (nat_lt c (suc i) ≡ false) → nat_lt (suc c) (suc (suc i)) ≡ nat_lt c (suc i)
-    same_test (inl e) = let l = ltb-true c (suc i) e in lt-ltb (suc c) (suc (suc i)) (omega arith) ∙ sym e
-    same_test (inr e) = let l = ltb-false c (suc i) e in le-ltb (suc c) (suc (suc i)) (omega arith) ∙ sym e
+letter_in-padded (suc c) (suc i) row h = search (rules, cases_Bool, ltb-true, lt-ltb, ltb-false, le-ltb, (letter_in-padded c i row h))
 
--- ---- column i + 1 of a filling: the word at place i of the transposed padded rows, without zeros
+-- ---- column i + 1 of a filling is the line at the index i of the transposed padded rows, without its zeros
 
--- the line at place i of a list of lines, counted from 0; the empty line if i is after the end
+-- the line at the index i of a list of lines; the empty line if the list has no such index
 abbrev pub line_at : ℕ → List (List ℕ) → List ℕ
 line_at i lines = get_or lines i []
 
@@ -76,15 +62,8 @@ line_at-put (suc i) (x ∷ row) (c ∷ lines) = line_at-put i row lines
 pub column-padded : (inner : List ℕ) (rows : List (List ℕ)) (i : ℕ) → ArePositiveRows rows → column inner rows (suc i) ≡ filled (line_at i (transposed (padded inner rows)))
 column-padded inner [] zero h = refl
 column-padded inner [] (suc i) h = refl
-column-padded inner (row ∷ rows) i h =
-    ap₂ ◌++◌ (letter_in-padded (part inner 1) i row h.0) (column-padded (drop 1 inner) rows i h.1)
-    ∙ sym (filled-append (at_place i (replicate (part inner 1) 0 ++ row)) (line_at i (transposed (padded (drop 1 inner) rows))))
-    ∙ ap filled (sym (line_at-put i (replicate (part inner 1) 0 ++ row) (transposed (padded (drop 1 inner) rows))))
+column-padded inner (row ∷ rows) i h = search (rules, letter_in-padded, filled-append, line_at-put, (column-padded (drop 1 inner) rows i h.1))
 
--- ---- the column reading of the columns to the right of a column
-
--- if f(i + 1) is line i, counted from 0, without zeros, then the words f(j + k), .., f(j + 1), joined in this order, are the column reading of the
--- lines after the first j; j + k is the number of lines
 columns_between : (f : ℕ → List ℕ) (lines : List (List ℕ)) (j k : ℕ) → ((i : ℕ) → f (suc i) ≡ filled (line_at i lines)) → j + k ≡ length lines
     → flat_map f (reverse (after j k)) ≡ reading_of (drop j lines)
 columns_between f lines j zero e l = ap reading_of (sym (drop_all j lines (omega arith)))
@@ -105,28 +84,19 @@ pub column_reading-padded : (outer inner : List ℕ) (rows : List (List ℕ)) �
     → column_reading outer inner rows ≡ reading_of (transposed (padded inner rows))
 column_reading-padded outer inner rows p l = reading-padded 0 outer inner rows p l (omega arith)
 
--- ---- the content of the column reading of lines is the content of the lines
-
 pub times_in-filled : (k : ℕ) (w : List ℕ) → 0 < k → times_in k (filled w) ≡ times_in k w
 times_in-filled k [] h = refl
-times_in-filled k (zero ∷ w) h =
-    let d : (0 == k) ≡ false = ne_eqb 0 k (λ i. absurd (omega arith)) in
-    times_in-filled k w h ∙ sym (ap (λ (p : Bool). cond p 1 0 + times_in k w) d ∙ omega arith)
+times_in-filled k (zero ∷ w) h = search (rules, ne_eqb, (times_in-filled k w h))
 times_in-filled k (suc a ∷ w) h = ap (times_in k) (filled_letter (suc a) w (omega arith)) ∙ ap (λ x. cond (suc a == k) 1 0 + x) (times_in-filled k w h)
 
 times_in-reading : (k : ℕ) (lines : List (List ℕ)) → 0 < k → times_in k (reading_of lines) ≡ times_in k (letters_of lines)
 times_in-reading k [] h = refl
-times_in-reading k (c ∷ lines) h =
-    let e = times_in-reading k lines h in
-    let a = times_in-append k (reading_of lines) (filled c) in
-    let b = times_in-append k c (letters_of lines) in
-    let d = times_in-filled k c h in
-    omega arith
+times_in-reading k (c ∷ lines) h = search (rules, times_in-append, times_in-filled, (times_in-reading k lines h))
 
 pub content-reading : (n : ℕ) (lines : List (List ℕ)) → content n (reading_of lines) ≡ content n (letters_of lines)
 content-reading n lines = content_same n (reading_of lines) (letters_of lines) (λ k h. times_in-reading k lines h)
 
--- ---- tests of all elements of a list; a tableau is good for start if and only if its padded columns are (`is_good_by_columns`)
+-- ---- a tableau is good for `start` if and only if its padded columns pass `is_good_by_columns`
 
 every_among : (f g : ℕ → Bool) (xs : List ℕ) → ((x : ℕ) → Among x xs → f x ≡ g x) → every f xs ≡ every g xs
 every_among f g [] e = refl
@@ -134,19 +104,12 @@ every_among f g (x ∷ xs) e = ap₂ (λ (p q : Bool). p && q) (e x (inl refl)) 
 
 every_later : (f : ℕ → Bool) (a k : ℕ) → every f (after (suc a) k) ≡ every (λ i. f (suc i)) (after a k)
 every_later f a zero = refl
-every_later f a (suc k) =
-    let e : suc a + 1 ≡ suc (a + 1) = omega arith in
-    ap (λ i. f i && every f (after i k)) e ∙ ap (λ p. f (suc (a + 1)) && p) (every_later f (a + 1) k)
+every_later f a (suc k) = search (rules, (every_later f (a + 1) k))
 
--- start plus the content of the lines after the first j is weakly decreasing for each j from 0 to the number of lines if and only if
--- `is_good_by_columns` is true
 good_drops : (n : ℕ) (start : List ℕ) (lines : List (List ℕ))
     → every (λ j. is_falling (sum_reached n start (drop j lines))) (0 ∷ after 0 (length lines)) ≡ is_good_by_columns n start lines
 good_drops n start [] = and-true (is_falling (sum_reached n start []))
-good_drops n start (c ∷ lines) =
-    ap (λ p. is_falling (sum_reached n start (c ∷ lines)) && (is_falling (sum_reached n start lines) && p))
-    (every_later (λ j. is_falling (sum_reached n start (drop j (c ∷ lines)))) 0 (length lines))
-    ∙ ap (λ p. is_falling (sum_reached n start (c ∷ lines)) && p) (good_drops n start lines)
+good_drops n start (c ∷ lines) = search (rules, every_later, (good_drops n start lines))
 
 pub good-padded : (n : ℕ) (start outer inner : List ℕ) (rows : List (List ℕ)) → ArePositiveRows rows → length (transposed (padded inner rows)) ≡ columns outer
     → is_good n start outer inner rows ≡ is_good_by_columns n start (transposed (padded inner rows))

@@ -1,23 +1,22 @@
--- The sum over the good fillings that are given by columns is the sum over all ways to choose the columns one by one from the right (`over_columns`).
-use Rattle.std.proofs.Common.{◌≡◌, ℕ, Bool, true, false, cond, ◌&&◌, List, [], ◌∷◌, ◌++◌, nat_le, sym, ◌∙◌, ap, refl, arith, ℤ, pos}
+-- The sum over the good tableaux, given by their columns, is the sum over the ways to choose the columns one by one from the right (`over_columns`).
+-- A tableau is *good* for a partition `start` if start plus the content of the columns right of column j is a partition, for each j ≥ 0.
+use Rattle.std.proofs.Common.{◌≡◌, ℕ, Bool, true, false, cond, ◌&&◌, List, [], ◌∷◌, ◌++◌, ◌∙◌, refl, arith, ℤ, pos, rules}
 use Rattle.sym_model.specs.Sum.{total}
 use Rattle.sym_model.specs.Polynomial.{join}
-use Rattle.sym_model.specs.Schur.{content, letters_of}
+use Rattle.sym_model.specs.Schur.{content}
 use Rattle.sym_model.specs.GoodTableau.{is_falling}
 use Rattle.sym_model.proofs.Sums.{total_ext, total_zero, total_exchange}
 use Rattle.sym_model.proofs.Exponents.{join_assoc, join_comm}
 use lib.IntN.{+ℤ_idr}
 use Rattle.tableau_laws.specs.PaddedRows.{words_over, fillings_over}
-use Rattle.tableau_laws.specs.Grid.{is_chain, pass_by_place, first_line, may_stand_above, are_tableau_columns}
+use Rattle.tableau_laws.specs.Grid.{first_line, are_tableau_columns}
 use Rattle.tableau_laws.specs.ColumnFold.{sum_reached, is_good_by_columns, may_be_next, next_columns, over_columns}
 use Rattle.tableau_laws.proofs.Transposing.{fillings_sum}
 use Rattle.tableau_laws.proofs.Contents.{content-append}
 
--- `sum_reached`, start plus the content of the columns, with one more column c: the content of c is added
+-- one more column c adds the content of c to `sum_reached`, which is start plus the content of the columns
 pub sum_reached-cons : (n : ℕ) (start c : List ℕ) (columns : List (List ℕ)) → sum_reached n start (c ∷ columns) ≡ join (sum_reached n start columns) (content n c)
-sum_reached-cons n start c columns =
-    ap (join start) (content-append n c (letters_of columns) ∙ join_comm (content n c) (content n (letters_of columns)))
-    ∙ sym (join_assoc start (content n (letters_of columns)) (content n c))
+sum_reached-cons n start c columns = search (rules, content-append, join_comm, join_assoc)
 
 pub total_under : {A : Type 0} (b : Bool) (test : A → Bool) (f : A → ℤ) (xs : List A)
     → total (λ (x : A). cond (b && test x) (f x) (pos 0)) xs ≡ cond b (total (λ (x : A). cond (test x) (f x) (pos 0)) xs) (pos 0)
@@ -36,11 +35,7 @@ add_column : (n : ℕ) (start : List ℕ) (f : List ℕ → List ℕ → ℤ) (c
     → of_good_columns n start f (c ∷ columns)
     ≡ cond ((are_tableau_columns columns && is_good_by_columns n start columns) && may_be_next n (sum_reached n start columns) (first_line columns) c)
     (f (join (sum_reached n start columns) (content n c)) c) (pos 0)
-add_column n start f c columns =
-    ap (λ s. cond ((is_chain may_stand_above c && (pass_by_place nat_le c (first_line columns) && are_tableau_columns columns)) && (is_falling s && is_good_by_columns n start columns)) (f s c) (pos 0))
-    (sum_reached-cons n start c columns)
-    ∙ ap (λ b. cond b (f (join (sum_reached n start columns) (content n c)) c) (pos 0))
-    (regroup (is_chain may_stand_above c) (pass_by_place nat_le c (first_line columns)) (are_tableau_columns columns) (is_falling (join (sum_reached n start columns) (content n c))) (is_good_by_columns n start columns))
+add_column n start f c columns = search (rules, sum_reached-cons, regroup)
 
 pub total_good_columns : (n : ℕ) (start : List ℕ) (lines : List (List Bool)) (f : List ℕ → List ℕ → ℤ)
     → total (of_good_columns n start f) (fillings_over n lines)
@@ -55,8 +50,9 @@ total_good_columns n start (line ∷ lines) f =
     (fillings_over n lines)
     ∙ total_good_columns n start lines (next_columns n line f)
 
--- if `line` is the rightmost line, the sum over the ways to choose the columns of all lines (`over_columns`) is the sum, over the columns c of `line`
--- that can be added left of `right`, of the sum over the ways to choose the columns of `lines` left of c
+-- let the lines (lists of booleans, true at the cells of a column) be `lines` and then `line`. Then the sum over all choices of columns
+-- (`over_columns`) is a sum over the rightmost column c, which fills `line` and can be added left of `right`; the summand of c is the sum over the
+-- choices of the columns left of c
 pub over_columns-last : (n : ℕ) (lines : List (List Bool)) (line : List Bool) (f : List ℕ → List ℕ → ℤ) (ν right : List ℕ)
     → over_columns n (lines ++ (line ∷ [])) f ν right ≡ next_columns n line (over_columns n lines f) ν right
 over_columns-last n [] line f ν right = refl

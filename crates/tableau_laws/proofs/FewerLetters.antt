@@ -31,8 +31,6 @@ up_to-append : (k : ℕ) (v w : List ℕ) → are_up_to k (v ++ w) ≡ (are_up_t
 up_to-append k [] w = refl
 up_to-append k (a ∷ v) w = ap (λ b. nat_le a k && b) (up_to-append k v w) ∙ sym (and_assoc (nat_le a k) (are_up_to k v) (are_up_to k w))
 
--- ---- sums over the letters, words and fillings with letters up to n in which no letter is greater than k
-
 total_letters : (k n : ℕ) (p : Bool) (g : ℕ → ℤ) → k ≤ n → total (λ (x : ℕ). cond (nat_le x k) (g x) (pos 0)) (letters_at n p) ≡ total g (letters_at k p)
 total_letters k n true g h =
     let e : k ≡ 0 + k = omega arith in
@@ -67,8 +65,7 @@ total_up_to k n (line ∷ pattern) g h =
     ∙ total_words k n line (λ (w : List ℕ). total (λ (rest : List (List ℕ)). g (w ∷ rest)) (fillings_over k pattern)) h
     ∙ sym (fillings_sum k line pattern g)
 
--- ---- lists of function values, cut to k places; the content of a word has zeros after place k if and only if no letter of the word is greater than
--- k
+-- ---- no letter of a word is greater than k if and only if the content of the word has only zeros after the first k entries
 
 resize_map : (f : ℕ → ℕ) (a k n : ℕ) → k ≤ n → resize k (map f (after a n)) ≡ map f (after a k)
 resize_map f a zero n h = refl
@@ -146,8 +143,6 @@ filling_within n [] [] f = tt
 filling_within n [] (w ∷ rows) f = absurd f
 filling_within n (line ∷ pattern) [] f = absurd f
 filling_within n (line ∷ pattern) (w ∷ rows) f = within_append n w (letters_of rows) (word_within n line w f.0) (filling_within n pattern rows f.1)
-
--- ---- skew Schur polynomials: their pairings as sums over tableaux, and their restrictions to k variables
 
 pub pair-skew_schur : (n : ℕ) (outer inner : List ℕ) (χ : List ℕ → ℤ) → pair (skew_schur outer inner n) χ ≡ total (λ (T : List (List ℕ)). χ (content n (letters_of T))) (tableaux n outer inner)
 pair-skew_schur n outer inner χ =

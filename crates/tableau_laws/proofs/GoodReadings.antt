@@ -1,6 +1,7 @@
 -- Sums over the good readings are sums over the good tableaux, given by their columns: each good reading is the column reading of exactly one good
--- tableau.
-use Rattle.std.proofs.Common.{◌≡◌, ℕ, zero, suc, ◌+◌, ◌-◌, ◌≤◌, Bool, true, false, cond, ◌&&◌, List, [], ◌∷◌, ◌++◌, map, length, replicate, drop, nat_le, nat_lt, slice_index, sym, ◌∙◌, ap, ap₂, subst, refl, inl, inr, arith, ℤ, pos, filter, flat_map}
+-- tableau. A tableau is *good* for a partition `start` if start plus the content of the columns right of column j is a partition, for each j ≥ 0. A
+-- *pattern* is a list of lines of booleans that are true at the cells of a shape.
+use Rattle.std.proofs.Common.{◌≡◌, ℕ, zero, suc, ◌+◌, ◌-◌, ◌≤◌, Bool, true, false, cond, ◌&&◌, List, [], ◌∷◌, ◌++◌, map, length, replicate, drop, nat_le, nat_lt, slice_index, sym, ◌∙◌, ap, ap₂, subst, refl, inl, inr, arith, ℤ, pos, filter, flat_map, rules}
 use Rattle.std.proofs.lemmas.Bool.{or_cases, or_left, or_right, lt-ltb, and_parts}
 use Rattle.std.proofs.lemmas.List.{length-append, length-map, append_cancel_left}
 use Rattle.sym_model.specs.Sum.{total, Among, Once}
@@ -23,8 +24,6 @@ use Rattle.tableau_laws.proofs.PatternFillings.{Once-fronts, Fits, AllFit, MaySt
 use Rattle.sym_model.proofs.AfterLists.{length_after}
 use Rattle.sym_model.proofs.Integers.{nested_tests}
 
--- ---- the test `is_among` is true if and only if the word is in the list
-
 pub is_among-tells : (w : List ℕ) (ws : List (List ℕ)) → is_among w ws ≡ true → Among w ws
 is_among-tells w [] e = absurd (cc)
 is_among-tells w (v ∷ ws) e = elim (or_cases (same w v) (is_among w ws) e) [ inl s ↦ inl (same_true w v s) | inr r ↦ inr (is_among-tells w ws r) ]
@@ -36,7 +35,6 @@ is_among-from w (v ∷ ws) (inr m) = or_right (same w v) (is_among w ws) (is_amo
 
 -- ---- the column reading determines the columns
 
--- the number of cells (entries true) of a line of a pattern
 cells_in : List Bool → ℕ
 cells_in [] = 0
 cells_in (true ∷ line) = suc (cells_in line)
@@ -117,8 +115,6 @@ reading_determines n (line ∷ lines) (c ∷ cs) (d ∷ ds) f g e =
     let r = split_append (reading_of cs) (filled c) (reading_of ds) (filled d) (a ∙ sym b) e in
     ap₂ ◌∷◌ (filled_determines n line c d f.0 g.0 r.1) (reading_determines n lines cs ds f.1 g.1 r.0)
 
--- ---- the number of cells of the lines of a pattern and of its columns
-
 cells_first : (p : Bool) (line : List Bool) → cells_in (p ∷ line) ≡ cond p 1 0 + cells_in line
 unfolding cells_in
 cells_first true line = omega arith
@@ -127,16 +123,8 @@ cells_first false line = omega arith
 cells_put : (line : List Bool) (lines : List (List Bool)) → all_cells (put_row line lines) ≡ cells_in line + all_cells lines
 unfolding cells_in all_cells
 cells_put [] lines = omega arith
-cells_put (p ∷ line) [] =
-    let e = cells_put line [] in
-    let a = cells_first p line in
-    let b = cells_first p [] in
-    omega arith
-cells_put (p ∷ line) (c ∷ lines) =
-    let e = cells_put line lines in
-    let a = cells_first p line in
-    let b = cells_first p c in
-    omega arith
+cells_put (p ∷ line) [] = search (rules, cells_first, (cells_put line))
+cells_put (p ∷ line) (c ∷ lines) = search (rules, cells_first, (cells_put line lines))
 
 cells_transposed : (lines : List (List Bool)) → all_cells (transposed lines) ≡ all_cells lines
 unfolding cells_in all_cells
@@ -172,12 +160,7 @@ length_each f a (x ∷ outer) inner e =
         ap (λ j. length (f j)) k ∙ e (suc i) ∙ ap (λ j. slice_index outer i - j) (later_part inner i)
 
 length_cells : (outer inner : List ℕ) → length (cells outer inner) ≡ all_cells (transposed (pattern_of outer inner))
-length_cells outer inner =
-    length_each (λ row. map (λ column. (row, column)) (after (part inner row) (part outer row - part inner row))) 0 outer inner
-    (λ i. length-map (after (part inner (0 + suc i)) (part outer (0 + suc i) - part inner (0 + suc i))) (λ column. (0 + suc i, column))
-    ∙ length_after (part inner (0 + suc i)) (part outer (0 + suc i) - part inner (0 + suc i))
-    ∙ (let k : 0 + suc i - 1 ≡ i = omega arith in ap (λ j. slice_index outer j - slice_index inner j) k))
-    ∙ sym (cells_transposed (pattern_of outer inner))
+length_cells outer inner = search (rules, length_each, length-map, length_after, slice_index, cells_transposed)
 
 -- ---- the padded columns determine the filling
 
@@ -209,9 +192,7 @@ same_number : (R S : List (List ℕ)) → map length R ≡ map length S → Fall
 same_number [] [] e f = refl
 same_number [] (s ∷ S) e f = absurd (cc)
 same_number (r ∷ R) [] e f = absurd (cc)
-same_number (r ∷ R) (s ∷ S) e f =
-    let first : length r ≡ length s = cc in
-    length_columns r R f ∙ first ∙ sym (length_columns s S (subst Falls e f))
+same_number (r ∷ R) (s ∷ S) e f = search (rules, length_columns)
 
 transposed_injective : (R S : List (List ℕ)) → map length R ≡ map length S → Falls (map length R) → transposed R ≡ transposed S → R ≡ S
 transposed_injective [] [] e f h = refl
@@ -248,9 +229,6 @@ transposed_fits n [] (r ∷ R) f = absurd f
 transposed_fits n (line ∷ pattern) [] f = absurd f
 transposed_fits n (line ∷ pattern) (r ∷ R) f = put_fits n line (transposed pattern) r (transposed R) f.0 (transposed_fits n pattern R f.1)
 
--- ---- a filling T of outer/inner with letters from 1 to n: its letters are positive, and its padded rows fit the pattern and have the lengths of
--- outer
-
 record IsFillingOf (n : ℕ) (outer inner : List ℕ) (T : List (List ℕ)) : Type 0 where
   positive : ArePositiveRows T
   fits : AllFit n (pattern_of outer inner) (padded inner T)
@@ -261,9 +239,7 @@ number_of_columns : (outer : List ℕ) (R : List (List ℕ)) → Falls outer →
 number_of_columns [] [] f e = refl
 number_of_columns [] (r ∷ R) f e = absurd (cc)
 number_of_columns (a ∷ outer) [] f e = absurd (cc)
-number_of_columns (a ∷ outer) (r ∷ R) f e =
-    let first : length r ≡ a = cc in
-    length_columns r R (subst Falls (sym e) f) ∙ first
+number_of_columns (a ∷ outer) (r ∷ R) f e = search (rules, length_columns)
 
 filling_gives : (n : ℕ) (outer inner : List ℕ) (T : List (List ℕ)) → Falls outer → contains outer inner ≡ true → Among T (fillings_of n (row_lengths outer inner)) → IsFillingOf n outer inner T
 filling_gives n outer inner T falls holds m =
@@ -272,9 +248,9 @@ filling_gives n outer inner T falls holds m =
     let l = filling_lengths n (pattern_of outer inner) (padded inner T) f ∙ pattern_lengths outer inner holds in
     record { positive = filling_positive n (row_lengths outer inner) T m; fits = f; lengths = l; columns = number_of_columns outer (padded inner T) falls l }
 
--- ---- two tests, one after the other; sums over the good tableaux as sums over their padded columns
+-- ---- sums over the good tableaux as sums over their padded columns
 
--- h of the padded columns if they are the columns of a semistandard tableau that is good for start; otherwise 0
+-- h(cs) if cs are the padded columns of a semistandard tableau that is good for start; otherwise 0
 abbrev pub of_good : ℕ → List ℕ → (List (List ℕ) → ℤ) → List (List ℕ) → ℤ
 of_good n start h cs = cond (are_tableau_columns cs && is_good_by_columns n start cs) (h cs) (pos 0)
 
@@ -291,8 +267,6 @@ total_good_tableaux n start outer inner f h falls inner_falls holds e =
     ap₂ (λ (b : Bool) (x : ℤ). cond b x (pos 0)) (good-padded n start outer inner T g.positive g.columns) (e T m))
     ∙ total_ext (of_columns (λ (cs : List (List ℕ)). cond (is_good_by_columns n start cs) (h cs) (pos 0))) (of_good n start h)
     (λ cs. nested_tests (are_tableau_columns cs) (is_good_by_columns n start cs) (h cs)) (fillings_over n (transposed (pattern_of outer inner))))
-
--- ---- the good readings are the column readings of the good tableaux, and each is the reading of one good tableau
 
 good_member : (n : ℕ) (start outer inner : List ℕ) (T : List (List ℕ)) → Among T (good_tableaux n start outer inner) → Among T (fillings_of n (row_lengths outer inner))
 good_member n start outer inner T m = by (nat_le (rows start) n) m
@@ -314,21 +288,12 @@ once_under true xs o = o
 once_under false xs o = tt
 
 good_once : (n : ℕ) (start outer inner : List ℕ) → Once (good_tableaux n start outer inner)
-good_once n start outer inner =
-    once_under (nat_le (rows start) n) (filter (is_good n start outer inner) (tableaux n outer inner))
-    (Once-select (is_good n start outer inner) (tableaux n outer inner)
-    (once_under (contains outer inner) (filter (semistandard inner) (fillings_of n (row_lengths outer inner)))
-    (Once-select (semistandard inner) (fillings_of n (row_lengths outer inner)) (literal_once n (row_lengths outer inner)))))
+good_once n start outer inner = search (rules, once_under, Once-select, literal_once)
 
 reading_injective : (n : ℕ) (outer inner : List ℕ) (T U : List (List ℕ)) → Falls outer → IsFillingOf n outer inner T → IsFillingOf n outer inner U
     → column_reading outer inner T ≡ column_reading outer inner U → T ≡ U
 reading_injective n outer inner T U falls t u e =
-    padded_injective inner T U (
-    transposed_injective (padded inner T) (padded inner U) (t.lengths ∙ sym u.lengths) (subst Falls (sym t.lengths) falls)
-    (reading_determines n (transposed (pattern_of outer inner)) (transposed (padded inner T)) (transposed (padded inner U))
-    (transposed_fits n (pattern_of outer inner) (padded inner T) t.fits)
-    (transposed_fits n (pattern_of outer inner) (padded inner U) u.fits)
-    (sym (column_reading-padded outer inner T t.positive t.columns) ∙ e ∙ column_reading-padded outer inner U u.positive u.columns)))
+    search (rules, padded_injective, transposed_injective, reading_determines, transposed_fits, column_reading-padded)
 
 reading_listed : (n : ℕ) (outer inner : List ℕ) (T : List (List ℕ)) → IsFillingOf n outer inner T → Among (column_reading outer inner T) (words n (length (cells outer inner)))
 reading_listed n outer inner T t =
@@ -392,7 +357,4 @@ good_falls n start outer inner T falls m = by (nat_le (rows start) n) m
 -- the sum of f(content of w) over the good readings w is the sum of f(content of T) over the good tableaux T
 pub total_good_contents : (n : ℕ) (start outer inner : List ℕ) (f : List ℕ → ℤ) → Falls outer → contains outer inner ≡ true
     → total (λ w. f (content n w)) (good_readings n start outer inner) ≡ total (λ (T : List (List ℕ)). f (content n (letters_of T))) (good_tableaux n start outer inner)
-total_good_contents n start outer inner f falls holds =
-    readings_total n start outer inner (λ w. f (content n w)) falls holds
-    ∙ total_among (λ (T : List (List ℕ)). f (content n (column_reading outer inner T))) (λ (T : List (List ℕ)). f (content n (letters_of T))) (good_tableaux n start outer inner)
-    (λ T m. ap f (content_of_reading n outer inner T (filling_gives n outer inner T falls holds (good_member n start outer inner T m))))
+total_good_contents n start outer inner f falls holds = search (rules, readings_total, total_among, content_of_reading, filling_gives, good_member)

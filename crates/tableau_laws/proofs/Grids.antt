@@ -1,19 +1,15 @@
 -- A list of rows is a grid (`is_grid`) for two tests if the first holds of neighbours in a row and the second of neighbours in a column. If no row is
 -- longer than the one above, the rows are a grid for two tests if and only if the columns are a grid for the tests in the opposite order.
-use Rattle.std.proofs.Common.{◌≡◌, ℕ, ◌≤◌, Bool, true, ◌&&◌, List, [], ◌∷◌, map, length, sym, ◌∙◌, ap, ap₂, refl, arith}
+use Rattle.std.proofs.Common.{◌≡◌, ℕ, ◌≤◌, Bool, true, ◌&&◌, List, [], ◌∷◌, map, length, sym, ◌∙◌, ap, ap₂, refl, arith, rules}
 use Rattle.sym_model.specs.Partition.{Falls}
 use Rattle.tableau_laws.specs.PaddedRows.{put_row, transposed}
 use Rattle.tableau_laws.specs.Grid.{may_precede, is_chain, pass_by_place, first_line, is_grid}
 
--- ---- columns with a row on top (`put_row`)
-
--- no column of the list is empty
 AreNonempty : List (List ℕ) → Type 0
 AreNonempty [] = Unit {0}
 AreNonempty ([] ∷ columns) = ⊥
 AreNonempty ((x ∷ c) ∷ columns) = AreNonempty columns
 
--- the first letters of the columns
 heads : List (List ℕ) → List ℕ
 heads [] = []
 heads ([] ∷ columns) = []
@@ -49,8 +45,6 @@ pub pass-nothing : (test : ℕ → ℕ → Bool) (w : List ℕ) → pass_by_plac
 pass-nothing test [] = refl
 pass-nothing test (a ∷ w) = refl
 
--- let x ∷ row be on top of the column c and the later `columns`: the first two columns pass the test place by place if and only if the test holds of
--- x and the first letter of `row`, and c and the first of `columns` pass it place by place
 pass-first : (test : ℕ → ℕ → Bool) (x : ℕ) (c row : List ℕ) (columns : List (List ℕ)) → length columns ≤ length row
     → pass_by_place test (x ∷ c) (first_line (put_row row columns)) ≡ (may_precede test x row && pass_by_place test c (first_line columns))
 pass-first test x c [] [] h = sym (pass-nothing test c)
@@ -63,28 +57,15 @@ grid-put : (along between : ℕ → ℕ → Bool) (row : List ℕ) (columns : Li
 unfolding AreNonempty heads
 grid-put along between [] [] h n = refl
 grid-put along between [] (c ∷ columns) h n = absurd (omega arith)
-grid-put along between (x ∷ row) [] h n =
-    let e = grid-put along between row [] (omega arith) tt in
-    let first = pass-first along x [] row [] (omega arith) in
-    ap₂ (λ (p q : Bool). p && q) first (e ∙ ap (λ (p : Bool). is_chain along row && (p && true)) (pass-nothing between row))
-    ∙ regroup_short (may_precede along x row) (is_chain along row)
+grid-put along between (x ∷ row) [] h n = search (rules, pass-first, pass-nothing, regroup_short, (grid-put along between row))
 grid-put along between (x ∷ row) ([] ∷ columns) h n = absurd n
 grid-put along between (x ∷ row) ((y ∷ c) ∷ columns) h n =
-    let e = grid-put along between row columns (omega arith) n in
-    let first = pass-first along x (y ∷ c) row columns (omega arith) in
-    ap₂ (λ (p q : Bool). (between x y && is_chain between (y ∷ c)) && (p && q)) first e
-    ∙ regroup (between x y) (is_chain between (y ∷ c)) (may_precede along x row) (pass_by_place along (y ∷ c) (first_line columns)) (is_chain along row) (pass_by_place between row (heads columns)) (is_grid between along columns)
-
--- ---- the number of columns of a list of rows, and the columns of a grid
+    search (rules, pass-first, regroup, heads, (grid-put along between row columns (omega arith) n))
 
 pub length-transposed : {A : Type 0} (rows : List (List A)) → Falls (map length rows) → (row : List A) → Falls (map length (row ∷ rows)) → length (transposed rows) ≤ length row
 length-transposed [] f row g = omega arith
 length-transposed (lower ∷ []) f row g = let e = length-put lower [] (omega arith) in let l = g.0 in omega (arith, e, l)
-length-transposed (lower ∷ next ∷ rows) f row g =
-    let below = length-transposed (next ∷ rows) f.1 lower f in
-    let e = length-put lower (transposed (next ∷ rows)) below in
-    let l = g.0 in
-    omega (arith, e, l)
+length-transposed (lower ∷ next ∷ rows) f row g = search (rules, length-put, (length-transposed (next ∷ rows) f.1 lower f))
 
 pub falls_below : {A : Type 0} (row : List A) (rows : List (List A)) → Falls (map length (row ∷ rows)) → Falls (map length rows)
 falls_below row [] f = tt

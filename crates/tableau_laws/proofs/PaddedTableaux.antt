@@ -1,5 +1,6 @@
--- The padded rows of a filling pass the test `is_padded_tableau` if and only if the filling is semistandard.
-use Rattle.std.proofs.Common.{◌≡◌, ℕ, zero, suc, ◌+◌, ◌-◌, ◌<◌, ◌≤◌, Bool, true, ◌&&◌, List, [], ◌∷◌, ◌++◌, drop, replicate, nat_le, nat_lt, sym, ◌∙◌, ap, ap₂, subst, refl, arith}
+-- The rows of a filling, padded on the left with zeros at the cells of the inner shape, pass the test `is_padded_tableau` if and only if the filling
+-- is semistandard.
+use Rattle.std.proofs.Common.{◌≡◌, ℕ, zero, suc, ◌+◌, ◌-◌, ◌<◌, ◌≤◌, Bool, true, ◌&&◌, List, [], ◌∷◌, ◌++◌, drop, replicate, nat_le, nat_lt, sym, ◌∙◌, ap, ap₂, refl, arith, rules}
 use Rattle.std.proofs.lemmas.Bool.{le-leb, lt-ltb}
 use Rattle.std.proofs.Math.Bool.{and-true, and_assoc}
 use Rattle.sym_model.specs.Partition.{Falls, ArePositive, part}
@@ -9,8 +10,6 @@ use Rattle.tableau_laws.proofs.Grids.{pass-nothing}
 use Rattle.tableau_laws.specs.Grid.{is_chain, pass_by_place, may_stand_above, is_padded_tableau}
 use Rattle.sym_model.proofs.Parts.{falls_after, part-drop}
 use Rattle.sym_model.proofs.Tableaux.{columns_rise-nothing}
-
--- ---- one padded row: it is weakly increasing if and only if the row without the zeros is
 
 zero_first : (w : List ℕ) → is_chain nat_le (0 ∷ w) ≡ is_chain nat_le w
 zero_first [] = refl
@@ -25,7 +24,7 @@ chain_row [] = refl
 chain_row (a ∷ []) = refl
 chain_row (a ∷ b ∷ w) = ap (λ p. nat_le a b && p) (chain_row (b ∷ w))
 
--- ---- two neighbouring padded rows: `may_stand_above` holds at each place if and only if the columns of the two rows are strictly increasing
+-- ---- two neighbouring padded rows pass `may_stand_above` at each place if and only if their columns are strictly increasing
 
 above_zero : (b : ℕ) → may_stand_above 0 b ≡ true
 above_zero b = lt-ltb 0 (b + 1) (omega arith)
@@ -33,15 +32,11 @@ above_zero b = lt-ltb 0 (b + 1) (omega arith)
 above_letter : (a b : ℕ) → 0 < a → may_stand_above a b ≡ nat_lt a b
 above_letter a b h = let e : b + (1 - a) ≡ b = omega arith in ap (nat_lt a) e
 
--- if two rows begin in the same column and the letters of the upper one are positive, `may_stand_above` holds at each place if and only if the
--- columns of the two rows are strictly increasing
 pass_rows : (upper lower : List ℕ) → ArePositive upper → pass_by_place may_stand_above upper lower ≡ columns_rise upper lower
 pass_rows [] lower h = refl
 pass_rows (a ∷ upper) [] h = refl
 pass_rows (a ∷ upper) (b ∷ lower) h = ap₂ (λ (p q : Bool). p && q) (above_letter a b h.0) (pass_rows upper lower h.1)
 
--- let the upper row have positive letters and begin d places further right than the lower row: padded with d zeros, it passes `may_stand_above` with
--- the lower row at each place if and only if its columns with the lower row without the first d letters are strictly increasing
 pass_shifted : (d : ℕ) (upper lower : List ℕ) → ArePositive upper → pass_by_place may_stand_above (replicate d 0 ++ upper) lower ≡ columns_rise upper (drop d lower)
 pass_shifted zero upper lower h = pass_rows upper lower h
 pass_shifted (suc d) upper [] h = sym (columns_rise-nothing upper)
@@ -63,8 +58,6 @@ pass_padded b c upper lower h p =
     ∙ pass_zeros c (replicate (b - c) 0 ++ upper) lower
     ∙ pass_shifted (b - c) upper lower p
 
--- ---- the padded rows of a filling with positive letters pass `is_padded_tableau` if and only if the filling is semistandard
-
 -- all letters of all rows of the filling are positive
 abbrev pub ArePositiveRows : List (List ℕ) → Type 0
 ArePositiveRows [] = Unit {0}
@@ -77,13 +70,6 @@ falls_first (b ∷ c ∷ inner) f = f.0
 
 pub padded-semistandard : (inner : List ℕ) (rows : List (List ℕ)) → Falls inner → ArePositiveRows rows → is_padded_tableau (padded inner rows) ≡ semistandard inner rows
 padded-semistandard inner [] f p = refl
-padded-semistandard inner (row ∷ []) f p =
-    ap₂ (λ (a b : Bool). a && (b && true)) (zeros_first (part inner 1) row ∙ chain_row row) (pass-nothing may_stand_above (replicate (part inner 1) 0 ++ row))
-    ∙ and-true (row_rises row)
+padded-semistandard inner (row ∷ []) f p = search (rules, zeros_first, chain_row, pass-nothing, and-true)
 padded-semistandard inner (row ∷ lower ∷ rows) f p =
-    ap₂ (λ (a b : Bool). a && b) (zeros_first (part inner 1) row ∙ chain_row row)
-    (ap₂ (λ (a b : Bool). a && b)
-    (pass_padded (part inner 1) (part (drop 1 inner) 1) row lower (subst (λ k. k ≤ part inner 1) (sym (part-drop inner)) (falls_first inner f)) p.0
-    ∙ ap (λ k. columns_rise row (drop (part inner 1 - k) lower)) (part-drop inner))
-    (padded-semistandard (drop 1 inner) (lower ∷ rows) (falls_after inner f) p.1))
-    ∙ sym (and_assoc (row_rises row) (columns_rise row (drop (part inner 1 - part inner 2) lower)) (semistandard (drop 1 inner) (lower ∷ rows)))
+    search (rules, zeros_first, chain_row, pass_padded, part-drop, falls_first, falls_after, and_assoc, (padded-semistandard (drop 1 inner) (lower ∷ rows) (falls_after inner f) p.1))

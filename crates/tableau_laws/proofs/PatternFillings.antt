@@ -1,11 +1,10 @@
--- The words over a line (`words_over`) and the fillings of a pattern (`fillings_over`): which ones are listed, and that each is listed once.
+-- The words over a line of booleans (`words_over`) are those with an allowed letter at each place: from 1 to n at a cell (true), and 0 outside the
+-- shape (false). The fillings of a pattern, that is, of a list of lines, have such a word for each line. Each word and each filling is listed once.
 use Rattle.std.proofs.Common.{◌≡◌, ℕ, suc, ◌<◌, ◌≤◌, Bool, true, false, List, [], ◌∷◌, map, length, sym, ap, ap₂, subst, refl, inl, inr, arith, flat_map}
 use Rattle.sym_model.specs.Sum.{Among, Once}
 use Rattle.sym_model.proofs.Sums.{Among-map, Among_from_map, Among-each, Among_from_each, Once-map, Once-each}
 use Rattle.tableau_laws.specs.PaddedRows.{letters_at, words_over, fillings_over}
 use Rattle.sym_model.proofs.AfterLists.{after_among, among_after, once_after}
-
--- ---- lists of lists that begin with one of given elements and continue with one of given lists
 
 -- the lists x ∷ rest with x from `firsts` and rest from `rests`
 abbrev pub fronts : {A : Type 0} → List A → List (List A) → List (List A)
@@ -35,8 +34,6 @@ Once-fronts {A} firsts rests o p =
         let d : w ≡ x ∷ r.0 = r.2 in
         let e : w ≡ z ∷ s.0 = s.2 in
         cc
-
--- ---- the words over a line: those with an allowed letter at each place, each listed once
 
 -- the letter a is allowed at a place: it is from 1 to n if the place is a cell (true), and 0 if it is outside the shape (false)
 abbrev pub MayStand : ℕ → Bool → ℕ → Type 0
@@ -85,8 +82,6 @@ fits_length n [] [] f = refl
 fits_length n [] (a ∷ w) f = absurd f
 fits_length n (p ∷ line) [] f = absurd f
 fits_length n (p ∷ line) (a ∷ w) f = ap suc (fits_length n line w f.1)
-
--- ---- the fillings of a pattern: those with a word for each line, each listed once
 
 -- the filling has one word for each line of the pattern, and each word fits its line (`Fits`)
 abbrev pub AllFit : ℕ → List (List Bool) → List (List ℕ) → Type 0

@@ -1,7 +1,8 @@
--- Sums over the semistandard tableaux of a skew shape as sums over the fillings of its pattern by padded rows, and by padded columns.
-use Rattle.std.proofs.Common.{◌≡◌, ℕ, zero, suc, ◌-◌, ◌≤◌, Bool, true, false, cond, List, [], ◌∷◌, map, length, replicate, drop, nat_le, sym, ◌∙◌, ap, ap₂, subst, refl, inl, inr, arith, ℤ, pos, filter}
+-- Sums over the semistandard tableaux of a skew shape as sums over the fillings of its pattern by padded rows, and by padded columns. The *pattern*
+-- is a list of lines of booleans that are true at the cells of the shape.
+use Rattle.std.proofs.lemmas.Grind.{common_steps}
+use Rattle.std.proofs.Common.{◌≡◌, ℕ, zero, suc, ◌-◌, ◌≤◌, Bool, true, false, cond, List, [], ◌∷◌, map, length, drop, nat_le, sym, ◌∙◌, ap₂, subst, refl, inl, inr, arith, ℤ, pos, filter, rules}
 use Rattle.std.proofs.lemmas.Bool.{and_parts, leb-true}
-use Rattle.std.proofs.lemmas.List.{length-append, length-replicate}
 use Rattle.sym_model.specs.Sum.{total, Among}
 use Rattle.sym_model.specs.Partition.{Falls, ArePositive, part, after}
 use Rattle.sym_model.specs.Schur.{words, row_lengths, fillings_of, semistandard, contains, tableaux}
@@ -14,8 +15,6 @@ use Rattle.tableau_laws.proofs.Grids.{grid-transposed}
 use Rattle.tableau_laws.proofs.PaddedTableaux.{ArePositiveRows, padded-semistandard}
 use Rattle.tableau_laws.proofs.PatternFillings.{Among_from_fronts, filling_tells, filling_lengths}
 use Rattle.sym_model.proofs.AfterLists.{after_among}
-
--- ---- all letters of the listed fillings are positive
 
 word_positive : (n k : ℕ) (w : List ℕ) → Among w (words n k) → ArePositive w
 word_positive n zero w (inl e) = subst ArePositive (sym e) tt
@@ -32,8 +31,6 @@ filling_positive n (k ∷ lengths) rows m =
     let r = Among_from_fronts rows (words n k) (fillings_of n lengths) m in
     subst ArePositiveRows (sym r.4) (word_positive n k r.0 r.2, filling_positive n lengths r.1 r.3)
 
--- ---- the members of `tableaux n outer inner`: the fillings that are semistandard, if outer contains inner
-
 pub tableau_tells : (n : ℕ) (outer inner : List ℕ) (T : List (List ℕ)) → Among T (tableaux n outer inner)
     → Among T (fillings_of n (row_lengths outer inner)) × ((semistandard inner T ≡ true) × (contains outer inner ≡ true))
 tableau_tells n outer inner T m = by (contains outer inner) refl m
@@ -45,7 +42,7 @@ tableau_tells n outer inner T m = by (contains outer inner) refl m
 
 -- ---- sums over the tableaux as sums over padded rows
 
--- g of the padded rows if they are the rows of a semistandard tableau; otherwise 0
+-- g(rows) if `rows` are the padded rows of a semistandard tableau; otherwise 0
 abbrev pub of_tableaux : (List (List ℕ) → ℤ) → List (List ℕ) → ℤ
 of_tableaux g rows = cond (is_padded_tableau rows) (g rows) (pos 0)
 
@@ -53,30 +50,13 @@ pub total_tableaux : (n : ℕ) (outer inner : List ℕ) (f g : List (List ℕ) �
     → ((rows : List (List ℕ)) → Among rows (fillings_of n (row_lengths outer inner)) → f rows ≡ g (padded inner rows))
     → total f (tableaux n outer inner) ≡ total (of_tableaux g) (fillings_over n (pattern_of outer inner))
 total_tableaux n outer inner f g falls holds e =
-    ap (λ (b : Bool). total f (cond b (filter (semistandard inner) (fillings_of n (row_lengths outer inner))) [])) holds
-    ∙ total_select f (semistandard inner) (fillings_of n (row_lengths outer inner))
-    ∙ total_among (λ (rows : List (List ℕ)). cond (semistandard inner rows) (f rows) (pos 0)) (λ (rows : List (List ℕ)). of_tableaux g (padded inner rows))
-    (fillings_of n (row_lengths outer inner))
-    (λ rows m. ap₂ (λ (b : Bool) (x : ℤ). cond b x (pos 0))
-    (sym (padded-semistandard inner rows falls (filling_positive n (row_lengths outer inner) rows m))) (e rows m))
-    ∙ sym (total_map (of_tableaux g) (padded inner) (fillings_of n (row_lengths outer inner)))
-    ∙ ap (total (of_tableaux g)) (padded-fillings n outer inner)
-
--- ---- the lines of the pattern of outer/inner have the lengths of the parts of outer
+    search (rules, total_select, total_among, padded-semistandard, filling_positive, total_map, padded-fillings)
 
 pub length_line : (a b : ℕ) → b ≤ a → length (line_of b (a - b)) ≡ a
-length_line a b h =
-    let e = length-append (replicate b false) (replicate (a - b) true) in
-    let p = length-replicate b false in
-    let q = length-replicate (a - b) true in
-    omega arith
+length_line a b h = grind (arith, common_steps)
 
 pub contains_rest : (a : ℕ) (outer inner : List ℕ) → contains (a ∷ outer) inner ≡ true → (part inner 1 ≤ a) × (contains outer (drop 1 inner) ≡ true)
-contains_rest a outer [] h = (omega arith, contains_nothing outer)
-  where
-    contains_nothing : (parts : List ℕ) → contains parts [] ≡ true
-    contains_nothing [] = refl
-    contains_nothing (b ∷ parts) = refl
+contains_rest a outer [] h = search rules
 contains_rest a outer (b ∷ inner) h = let p = and_parts (nat_le b a) (contains outer inner) h in (leb-true b a p.0, p.1)
 
 pub pattern_lengths : (outer inner : List ℕ) → contains outer inner ≡ true → map length (pattern_of outer inner) ≡ outer
@@ -85,24 +65,18 @@ pattern_lengths (a ∷ outer) inner h =
     let r = contains_rest a outer inner h in
     ap₂ ◌∷◌ (length_line a (part inner 1) r.0) (pattern_lengths outer (drop 1 inner) r.1)
 
--- ---- sums over the tableaux as sums over padded columns
-
--- h of the padded columns if they are the columns of a semistandard tableau; otherwise 0
+-- h(columns) if `columns` are the padded columns of a semistandard tableau; otherwise 0
 abbrev pub of_columns : (List (List ℕ) → ℤ) → List (List ℕ) → ℤ
 of_columns h columns = cond (are_tableau_columns columns) (h columns) (pos 0)
 
--- if no line of a pattern is longer than the one above, the sum of h(columns of T) over the tableaux T that fill the pattern by rows is the sum of h
--- over those fillings of the transposed pattern that are the columns of a tableau
+-- if no line of a pattern is longer than the one above, the sum of h(columns of T) over the tableaux T that fill the pattern is the sum of h over the
+-- fillings of the transposed pattern that are the columns of a tableau
 pub total_rows : (n : ℕ) (pattern : List (List Bool)) (h : List (List ℕ) → ℤ) → Falls (map length pattern)
     → total (of_tableaux (λ (rows : List (List ℕ)). h (transposed rows))) (fillings_over n pattern) ≡ total (of_columns h) (fillings_over n (transposed pattern))
-total_rows n pattern h falls =
-    total_among (of_tableaux (λ (rows : List (List ℕ)). h (transposed rows))) (λ (rows : List (List ℕ)). of_columns h (transposed rows)) (fillings_over n pattern)
-    (λ rows m. ap (λ (b : Bool). cond b (h (transposed rows)) (pos 0))
-    (grid-transposed _ _ rows (subst Falls (sym (filling_lengths n pattern rows (filling_tells n pattern rows m))) falls)))
-    ∙ transposed-sum n pattern (of_columns h)
+total_rows n pattern h falls = search (rules, total_among, grid-transposed, filling_lengths, filling_tells, transposed-sum)
 
--- if f of each filling is h of its padded columns, the sum of f over the tableaux of outer/inner is the sum of h over the lists of padded columns
--- that are those of a tableau
+-- if f(T) = h(padded columns of T) for each filling T, then the sum of f over the tableaux of outer/inner is the sum of h over the lists of padded
+-- columns of tableaux
 pub total_columns : (n : ℕ) (outer inner : List ℕ) (f h : List (List ℕ) → ℤ) → Falls outer → Falls inner → contains outer inner ≡ true
     → ((rows : List (List ℕ)) → Among rows (fillings_of n (row_lengths outer inner)) → f rows ≡ h (transposed (padded inner rows)))
     → total f (tableaux n outer inner) ≡ total (of_columns h) (fillings_over n (transposed (pattern_of outer inner)))

@@ -1,5 +1,6 @@
--- A sum over the fillings of a pattern is a sum over the fillings of the transposed pattern: a filling is listed by its rows or by its columns.
-use Rattle.std.proofs.Common.{◌≡◌, ℕ, Bool, List, [], ◌∷◌, map, sym, ◌∙◌, refl, ℤ}
+-- A sum over the fillings of a pattern (a list of lines of booleans that are true at the cells) is a sum over the fillings of the transposed pattern:
+-- a filling is listed by its rows or by its columns.
+use Rattle.std.proofs.Common.{◌≡◌, ℕ, Bool, List, [], ◌∷◌, sym, ◌∙◌, refl, ℤ, rules}
 use lib.IntN.{+ℤ_idr}
 use Rattle.sym_model.specs.Sum.{total}
 use Rattle.sym_model.proofs.Sums.{total_ext, total_map, total_each, total_exchange}
@@ -8,21 +9,13 @@ use Rattle.tableau_laws.specs.PaddedRows.{put_row, transposed, letters_at, words
 -- the sum over the words of a line is a double sum: over the first letter, and over the words of the other places
 pub words_sum : (n : ℕ) (p : Bool) (line : List Bool) (g : List ℕ → ℤ)
     → total g (words_over n (p ∷ line)) ≡ total (λ (a : ℕ). total (λ (w : List ℕ). g (a ∷ w)) (words_over n line)) (letters_at n p)
-words_sum n p line g =
-    total_each g (λ (a : ℕ). map (λ (w : List ℕ). a ∷ w) (words_over n line)) (letters_at n p)
-    ∙ total_ext (λ (a : ℕ). total g (map (λ (w : List ℕ). a ∷ w) (words_over n line))) (λ (a : ℕ). total (λ (w : List ℕ). g (a ∷ w)) (words_over n line))
-    (λ a. total_map g (λ (w : List ℕ). a ∷ w) (words_over n line)) (letters_at n p)
+words_sum n p line g = search (rules, total_each, total_ext, total_map)
 
 -- the sum over the fillings of a pattern is a double sum: over the words of its first line, and over the fillings of its other lines
 pub fillings_sum : (n : ℕ) (line : List Bool) (pattern : List (List Bool)) (f : List (List ℕ) → ℤ)
     → total f (fillings_over n (line ∷ pattern)) ≡ total (λ (w : List ℕ). total (λ (rest : List (List ℕ)). f (w ∷ rest)) (fillings_over n pattern)) (words_over n line)
-fillings_sum n line pattern f =
-    total_each f (λ (w : List ℕ). map (λ (rest : List (List ℕ)). w ∷ rest) (fillings_over n pattern)) (words_over n line)
-    ∙ total_ext (λ (w : List ℕ). total f (map (λ (rest : List (List ℕ)). w ∷ rest) (fillings_over n pattern)))
-    (λ (w : List ℕ). total (λ (rest : List (List ℕ)). f (w ∷ rest)) (fillings_over n pattern))
-    (λ w. total_map f (λ (rest : List (List ℕ)). w ∷ rest) (fillings_over n pattern)) (words_over n line)
+fillings_sum n line pattern f = search (rules, total_each, total_ext, total_map)
 
--- the sum of f, over the words of a line and the fillings of the columns below it, is the sum over the fillings of the columns with that line on top
 put_sum : (n : ℕ) (line : List Bool) (columns : List (List Bool)) (f : List (List ℕ) → ℤ)
     → total (λ (w : List ℕ). total (λ (cols : List (List ℕ)). f (put_row w cols)) (fillings_over n columns)) (words_over n line)
     ≡ total f (fillings_over n (put_row line columns))

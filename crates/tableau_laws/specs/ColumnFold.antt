@@ -1,5 +1,6 @@
--- Tableaux built column by column from the rightmost one on: whether a column may be added depends only on the sum reached, which is start plus the
--- content of the columns chosen so far, and on the column to its right. A column is written as a word with zeros at the places outside the shape.
+-- Tableaux built column by column from the rightmost one on. Whether a column may be added depends only on the column to its right and on the *sum
+-- reached*: this is a given partition, `start`, plus the content of the columns chosen so far. A column is written as a word with zeros at the places
+-- outside the shape.
 use Rattle.std.specs.Prelude.{ℕ, nat_le, nat_lt, Bool, ◌&&◌, cond, ℤ, pos, List, [], ◌∷◌, ◌++◌}
 use Rattle.std.specs.Prelude.{filter}
 use Rattle.sym_model.specs.Sum.{total}
@@ -37,8 +38,8 @@ may_be_next n ν right c =
     is_chain may_stand_above c
     && (pass_by_place nat_le c right && is_falling (join ν (content n c)))
 
--- `next_columns n line f ν right`: the sum of f(ν + content(c), c) over the columns c that have a letter from 1 to n at each place that is true in
--- `line`, and 0 at the other places, and that can be added left of `right` if ν is the sum reached
+-- `next_columns n line f ν right`: the sum of f(ν + content(c), c) over the columns c that can be added left of `right` if ν is the sum reached. Each
+-- c has a letter from 1 to n at each place that is true in `line`, and 0 at the other places.
 abbrev pub next_columns : ℕ → List Bool → (List ℕ → List ℕ → ℤ) → List ℕ → List ℕ → ℤ
 next_columns n line f ν right =
     total (λ c. cond (may_be_next n ν right c) (f (join ν (content n c)) c) (pos 0))
@@ -50,8 +51,8 @@ abbrev pub over_columns : ℕ → List (List Bool) → (List ℕ → List ℕ �
 over_columns n [] f ν right = f ν right
 over_columns n (line ∷ lines) f ν right = over_columns n lines (next_columns n line f) ν right
 
--- for each column of outer/inner, from the leftmost one on, its line: true for a cell and false for a place outside the shape, for each row of outer
--- that reaches this column
+-- the lines of the columns of outer/inner, from the leftmost column on. The line of a column has an entry for each row of outer that reaches the
+-- column: true for a cell, and false for a place outside the shape.
 abbrev pub column_lines : List ℕ → List ℕ → List (List Bool)
 column_lines outer inner = transposed (pattern_of outer inner)
 

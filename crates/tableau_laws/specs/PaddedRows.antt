@@ -1,5 +1,5 @@
--- Fillings of a skew shape, given by rows with zeros at the cells of the inner shape, so that every column begins in the first row; the columns of
--- such fillings; and the fillings of a pattern, that is, of a list of lines of booleans that are true at the cells.
+-- The rows of a filling of a skew shape, padded on the left with zeros at the cells of the inner shape, so that every row begins in the first column;
+-- and the columns of padded rows. A *pattern* is a list of lines of booleans that are true at the cells; its fillings have a word for each line.
 use Rattle.std.specs.Prelude.{ℕ, ◌-◌, Bool, true, false, List, [], ◌∷◌, ◌++◌, map, replicate, drop}
 use Rattle.std.specs.Prelude.{flat_map}
 use Rattle.sym_model.specs.Partition.{part, after}

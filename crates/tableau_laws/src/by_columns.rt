@@ -8,12 +8,12 @@ ghost use Rattle.sym_model.specs.Schur.{contains, content};
 ghost use Rattle.sym_model.specs.GoodTableau.{good_readings, product_count, skew_count};
 ghost use Rattle.tableau_laws.specs.ColumnFold.{next_columns, over_columns, column_lines, is_sum};
 
-/// The good tableaux of outer/inner for a start are those for which start plus the content of the
-/// columns right of column j is a partition, for each j ≥ 0. They are listed by choosing the
-/// columns one by one from the right: whether a column may be added depends only on the sum
-/// reached, which is start plus the content so far, and on the column to its right. So the sum of
-/// f(start + content) over the good tableaux, for any function f, is a sum over these choices
-/// (`over_columns`), and the counts of products and of skew shapes are such sums.
+/// A tableau of outer/inner is good for a partition `start` if start plus the content of the
+/// columns right of column j is a partition, for each j ≥ 0. The good tableaux are listed by
+/// choosing the columns one by one from the right: whether a column may be added depends only on
+/// the sum reached, which is start plus the content so far, and on the column to its right. So the
+/// sum of f(start + content) over the good tableaux, for any function f, is a sum over these
+/// choices (`over_columns`), and the counts of products and of skew shapes are such sums.
 ///
 /// Example: two of the good tableaux of the shape (2,1) for the start (2,1) reach the sum (3,2,1).
 pub fn column_counting_law()

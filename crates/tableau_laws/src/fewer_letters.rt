@@ -1,4 +1,5 @@
-//! The restriction of a skew Schur polynomial to fewer variables.
+//! If all variables after the k-th are set to 0, a skew Schur polynomial becomes the skew Schur
+//! polynomial of the same shape in k variables.
 
 ghost use Rattle.std.specs.Prelude.{ℕ, ◌≤◌, List};
 ghost use Rattle.sym_model.specs.Partition.{IsPartition};

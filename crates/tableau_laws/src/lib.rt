@@ -5,9 +5,10 @@
 //!
 //! What is proved:
 //!
-//! `column_counting_law`: good tableaux are counted column by column. `schur_restriction_law`: a
-//! skew Schur polynomial with the last variables set to 0 is the skew Schur polynomial of the same
-//! shape in fewer variables.
+//! `column_counting_law`: good tableaux are counted column by column. Here a tableau is good for a
+//! partition λ if λ plus the content of the columns right of column j is a partition, for each
+//! j ≥ 0. `schur_restriction_law`: a skew Schur polynomial with the last variables set to 0 is the
+//! skew Schur polynomial of the same shape in fewer variables.
 #![tactic(auto)]
 
 mod by_columns;

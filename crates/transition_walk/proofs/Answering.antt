@@ -1,4 +1,5 @@
--- Lists of terms (x, c) that represent a polynomial (`Represents`): sums over such a list, and lists with the same coefficients.
+-- A list of terms (x, c), each a label x with a coefficient c, represents a polynomial f (`Represents`) if f is the sum of c times the polynomial of
+-- x over the terms. The pairing of a polynomial with a function φ of exponents is the sum of b·φ(α) over its terms b·x^α.
 use Rattle.std.proofs.Common.{◌≡◌, Bool, true, pos, List, ℕ, ℤ, ◌*ℤ◌, sym, ap, ◌∙◌}
 use Rattle.std.specs.Cmp.{IsEquivalence}
 use Rattle.coeff_rings.specs.Fractions.{whole}
@@ -13,14 +14,12 @@ use Rattle.linear_combinations.specs.Entries.{IsCombination, HasSameCoefficients
 use Rattle.linear_combinations.specs.Gains.{over}
 use Rattle.linear_combinations.proofs.Masses.{over_same, represents_sums}
 
--- if f and g are the same polynomial, each list that represents f represents g
 pub represents_as : {L : Type 0} (polynomial : L → Poly) (terms : Terms L) (f g : Poly) → Same f g → Represents polynomial terms f 1 → Represents polynomial terms g 1
 represents_as polynomial terms f g e h = record {
   positive = h.positive;
   equal = Same_trans (scale (pos 1) (value_by polynomial terms)) (scale (pos (denominators terms)) f) (scale (pos (denominators terms)) g) h.equal (scale_respects (pos (denominators terms)) f g e);
 }
 
--- if f and g agree on all labels, the sums of c·f(x) and of c·g(x) over the terms (x, c) of a list are equal
 pub sums_as : {L : Type 0} (f g : L → ℤ) → ((x : L) → f x ≡ g x) → (list : WholeTermsOf L) → over f list ≡ over g list
 sums_as {L} f g e list = total_ext (λ (t : L × ℤ). t.1 *ℤ f t.0) (λ (t : L × ℤ). t.1 *ℤ g t.0) (λ t. ap (λ z. t.1 *ℤ z) (e t.0)) list
 
@@ -36,7 +35,8 @@ sums_represented polynomial terms f h φ =
     ∙ ap (λ d. pos d *ℤ pair f φ) (denominators-as_fractions terms)
     ∙ one-product (pair f φ)
 
--- if a table represents a polynomial, so does each table with the same coefficients
+-- let two lists of terms have the same coefficients, and let each of them have every label at most once. If the first list represents a polynomial,
+-- then so does the second
 pub represents_same : {L : Type 0} {eq : L → L → Bool} (laws : IsEquivalence eq) (same : (x y : L) → eq x y ≡ true → x ≡ y) {is_label : L → Bool}
     (first second : WholeTermsOf L) → IsCombination eq is_label whole first → IsCombination eq is_label whole second → HasSameCoefficients eq (pos 0) first second
     → (polynomial : L → Poly) (f : Poly) → Represents polynomial (as_fractions first) f 1 → Represents polynomial (as_fractions second) f 1

@@ -1,4 +1,5 @@
--- The covers of a permutation in which the letter at a given place is exchanged with another one: their number, and the number of their letters.
+-- The covers of a permutation w that exchange the letter at a given place r with another letter: the number of these covers, and the number of their
+-- letters.
 use Rattle.std.proofs.Common.{ℕ, ◌+◌, ◌-◌, ◌<◌, ◌≤◌, ◌==◌, max, List, map, length, sym, ap, subst, arith, length-append}
 use Rattle.sym_model.specs.Sum.{Among}
 use Rattle.sym_model.specs.Partition.{after}

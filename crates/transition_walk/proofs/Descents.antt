@@ -1,5 +1,5 @@
--- The last descent r of a permutation w of n letters: 1 ≤ r < n and w(r) > w(r + 1); and no letter of w is greater than a fixed letter after the end
--- of w.
+-- The last descent r of a permutation w of n letters: 1 ≤ r < n and w(r) > w(r + 1). Also: each letter of w is smaller than the fixed letters n + 1,
+-- n + 2, .. after the end of w.
 use Rattle.std.proofs.Common.{◌≡◌, ℕ, suc, ◌+◌, ◌-◌, ◌<◌, ◌≤◌, List, length, get_or, ap, ◌∙◌, arith, Some}
 use Rattle.sym_model.specs.Permutation.{IsOneLine, letter, last_descent}
 use Rattle.schubert_laws.proofs.Transition.{last_descent_is}

@@ -1,4 +1,4 @@
--- The sum of two lists, computed by adding the shorter one to the longer one.
+-- The sum of two lists of terms (label, c), computed by adding the shorter list to the longer one.
 use Rattle.std.proofs.Common.{◌≡◌, ◌+◌, Bool, true, false, cond, [], ◌∷◌, refl, ap, ap₂, ◌∙◌, arith, ℤ, pos, ◌+ℤ◌, ◌*ℤ◌}
 use Rattle.std.specs.Prelude.{Option, nat_abs}
 use Rattle.std.specs.Cmp.{IsEquivalence}
@@ -21,7 +21,6 @@ given_gains sum list longer shorter new first second h =
     record { sums = λ φ. let a = h.sums φ in let b = ap (over φ) first in let d = ap (over φ) second in omega (arith, ints) }
 
 module _ {L : Type 0} {eq : L → L → Bool} (laws : IsEquivalence eq) (same : (x y : L) → eq x y ≡ true → x ≡ y) where
-  -- in a table, in which each label occurs at most once, the sum of the absolute values at a label x is the absolute value of the coefficient of x
   mass_once : (x : L) (terms : WholeTermsOf L) → IsDistinct eq (keys_of terms) → mass_at eq x terms ≡ nat_abs (over (only eq x) terms)
   mass_once x [] distinct = refl
   mass_once x (t ∷ terms) distinct = by (eq x t.0) refl (mass_once x terms (IsDistinct-tail eq t.0 (keys_of terms) distinct))

@@ -1,6 +1,7 @@
--- Lists of terms added to the lists of waiting permutations (`Joins` of specs/Waiting).
---     joined, joined_overflow                  one list added at one permutation
---     joins_none, joins_both, overflows_both   nothing added, and two lists of entries added one after the other
+-- Terms added to the lists of waiting permutations (`Joins` of specs/Waiting). A permutation is *waiting* if the transition rule has not yet replaced
+-- it; an *entry* is such a permutation with the list of terms by which its Schubert polynomial is multiplied.
+--     joined, joined_overflow                  one list of terms added at one permutation
+--     joins_none, joins_both, overflows_both   no entry added, and two lists of entries added one after the other
 --     joins_swapped, overflows_swapped         two lists of entries added in the other order
 --     each_append, each_value, each_growth     the same list of terms added at each of several permutations
 use Rattle.std.proofs.Common.{◌≡◌, ℕ, ◌+◌, ◌<◌, ◌≤◌, Bool, true, List, [], ◌∷◌, ◌++◌, length, get_or, set, refl, sym, ap, ◌∙◌, subst, inl, inr, arith, ℤ, ◌+ℤ◌}
@@ -26,11 +27,9 @@ use Rattle.linear_combinations.proofs.Weighed.{weighed_zero, weighed_add, gains_
 use lib.IntN.{+ℤ_idr}
 use Rattle.schubert_laws.proofs.Swaps.{among_set}
 
--- `entry w factor`: the permutation of w with the list `factor` in place of its own
+-- `entry w factor`: the entry that has the permutation of w and the list `factor`
 abbrev pub entry : {L : Type 0} → WithList L → WholeTermsOf L → WithList L
 entry w factor = record { perm = w.perm; factor = factor }
-
--- ---- one list of terms added at one permutation
 
 module _ {L : Type 0} (old mid : List (WithList L)) (perm : List ℕ) (none : WholeTermsOf L) (empty : none ≡ []) (gain : MayGain old (record { perm = perm; factor = none }) mid)
     (at : ℕ) (w : WithList L) (inside : at < length mid) (is : w ≡ get_or mid at w) (same : w.perm ≡ perm) (order : AreInOrder old → AreInOrder mid) (factor gained : WholeTermsOf L) where
@@ -87,8 +86,6 @@ module _ {L : Type 0} (old mid : List (WithList L)) (perm : List ℕ) (none : Wh
           omega arith;
     }
 
--- ---- two lists of entries added one after the other
-
 module _ {L : Type 0} where
   pub joins_none : (old : List (WithList L)) → Joins old [] old
   joins_none old = record {
@@ -140,7 +137,6 @@ module _ {L : Type 0} where
         omega arith;
   }
 
-  -- if `new` results from adding the entries g and then h to `old`, it results from adding h and then g to `old`
   pub joins_swapped : (old g h new : List (WithList L)) → Joins old (g ++ h) new → Joins old (h ++ g) new
   joins_swapped old g h new a = record {
     value = λ φ.
@@ -172,13 +168,10 @@ module _ {L : Type 0} where
         omega arith;
   }
 
-  -- ---- one list of terms added at each of several permutations
-
   pub each_append : (list : WholeTermsOf L) (xs ys : List (List ℕ)) → each_waits list (xs ++ ys) ≡ each_waits list xs ++ each_waits list ys
   each_append list [] ys = refl
   each_append list (x ∷ xs) ys = ap (λ (l : List (WithList L)). (record { perm = x; factor = list }) ∷ l) (each_append list xs ys)
 
-  -- if xs is `rest` followed by x, the entries of `rest`, each with `list`, followed by x with `list`, are the entries of xs, each with `list`
   pub each_popped : (list : WholeTermsOf L) (xs rest : List (List ℕ)) (x : List ℕ) → xs ≡ rest ++ x ∷ []
       → each_waits list rest ++ (record { perm = x; factor = list }) ∷ [] ≡ each_waits list xs
   each_popped list xs rest x e = sym (each_append list rest (x ∷ [])) ∙ ap (each_waits list) (sym e)

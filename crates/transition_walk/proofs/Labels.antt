@@ -32,6 +32,5 @@ label_one_line w h =
     let d = and_parts (are_letters (length w) w) (not (has_equal_entries w)) c in
     record { letters = letters_tell (length w) w d.0; once = once_tells w (not-true (has_equal_entries w) d.1) }
 
--- (1), the identity of one letter, is a permutation
 pub one_one_line : IsOneLine (1 ∷ [])
 one_one_line = record { letters = λ a m. elim m [ inl e ↦ (omega arith, omega arith) | inr k ↦ absurd k ]; once = ((λ m. m), tt) }

@@ -109,7 +109,6 @@ monomials_below n (suc k) w short below = monomials_by n k w (λ v s l. monomial
 pub schubert_monomials : (n : ℕ) (w : List ℕ) → IsShort n w → HasMonomials (schubert_in w n)
 schubert_monomials n w short = monomials_below n (suc (rank (suc n) w)) w short (omega arith)
 
--- if f is a polynomial in n variables, f and its restriction to n variables have the same pairing (`pair`) with each φ
 pub restrict_pair : (n : ℕ) (f : Poly) (φ : List ℕ → ℤ) → In n f → pair (restrict n f) φ ≡ pair f φ
 restrict_pair n f φ i =
     pair_restrict n f φ

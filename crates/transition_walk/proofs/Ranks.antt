@@ -1,5 +1,6 @@
--- The weights of permutations, which decrease with each step of the transition rule.
---     weights_less    at most 255 permutations of a rank (`rank 256`) below b together weigh less than one of rank b
+-- The weight of a permutation is 256^b, with b its rank (`rank 256`): the number (ℓ·256 + r)·256 + w_r, for a permutation w with ℓ inversions and the
+-- last descent r. The weights decrease with each step of the transition rule.
+--     weights_less    at most 255 permutations with ranks below b together weigh less than one permutation with the rank b
 use Rattle.std.proofs.Common.{◌≡◌, ℕ, zero, suc, ◌+◌, ◌-◌, ◌*◌, ◌^◌, ◌<◌, ◌≤◌, List, ap, ◌∙◌, arith}
 use Rattle.transition_walk.specs.Transitions.{rank, weight}
 use native.Mathlib.Nat.{mul-le-mul_left, pow-suc}
@@ -20,7 +21,6 @@ pow_more (suc k) a =
 pub pow_below : (a b : ℕ) → a < b → 256 ^ a ≤ 256 ^ (b - 1)
 pow_below a b h = let m = pow_more (b - 1 - a) a in let e : a + (b - 1 - a) ≡ b - 1 = omega arith in let p = ap (λ n. 256 ^ n) e in omega arith
 
--- r·256^(b - 1) < 256^b for b > 0 and r from 1 to 255
 pub weights_less : (b r : ℕ) → 0 < b → 1 ≤ r → r ≤ 255 → (r - 1) * 256 ^ (b - 1) + 256 ^ (b - 1) < 256 ^ b
 weights_less b r h first last =
     let m : ℕ = 256 ^ (b - 1) in

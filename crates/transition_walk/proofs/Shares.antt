@@ -1,9 +1,9 @@
--- The value of a Schubert polynomial with each variable 1, by the transition rule, and bounds that no step of the rule increases (`IsShare` of
--- specs/Growth).
+-- The value of a Schubert polynomial with each variable 1, by the transition rule. A *share* is a function of a permutation and of the label of a
+-- term, and no step of the rule increases it (`IsShare` of specs/Growth). The *extent* of a label is a number that each step increases by at most 1.
 --     ones_positive, ones_step    the value at w is positive, and is the sum of the values at w·t_rs and at the covers in the rule
 --     share_step                  no step increases S_w(1, .., 1)·base^l, with l inversions of w, if one term becomes at most `base` terms at w·t_rs
 --     ones_limit                  the value of S_w in one variable for each letter of w is the value of the whole polynomial
---     limit_share                 S_w(1, .., 1)·base^l, with l inversions of w, is a bound that no step increases
+--     limit_share                 S_w(1, .., 1)·base^l, with l inversions of w, is a share for a suitable base
 use Rattle.std.proofs.Common.{◌≡◌, ℕ, suc, zero, ◌+◌, ◌-◌, ◌*◌, ◌^◌, ◌≤◌, true, cond, List, [], ◌∷◌, length, refl, sym, ap, ◌∙◌, inl, inr, arith, ℤ, pos, negsuc, ◌*ℤ◌, ◌≤ℤ◌}
 use Rattle.std.specs.Prelude.{nat_abs}
 use Rattle.std.proofs.lemmas.Int.{ints}
@@ -33,8 +33,9 @@ use Rattle.std.proofs.Math.Nat.{pow-zero, mul-pos}
 abbrev pub ones : ℕ → List ℕ → ℕ
 ones n w = nat_abs (value_at_ones (schubert_in w n))
 
--- `share n base w`: the value `ones n w` times base^l, with l the number of inversions of w; it bounds the number of terms that one term at w becomes
--- if each step of the transition rule turns a term into at most `base` terms at w·t_rs
+-- `share n base w`: the value `ones n w` times base^l, with l the number of inversions of w. Let w have at most n letters, and let each step of the
+-- transition rule turn a term in the list of a permutation v into at most `base` terms in the list of v·t_rs. Then a term in the list of w becomes at
+-- most `share n base w` terms
 abbrev pub share : ℕ → ℕ → List ℕ → ℕ
 share n base w = ones n w * base ^ inversions w
 
@@ -49,7 +50,6 @@ pub natural : (z : ℤ) → pos 0 ≤ℤ z → z ≡ pos (nat_abs z)
 natural (pos n) h = refl
 natural (negsuc n) h = absurd (omega (arith, ints))
 
--- if w has at most n letters, the value of its Schubert polynomial with each of n variables 1 is a positive integer
 at_least_one : (n : ℕ) (w : List ℕ) → IsShort n w → pos 1 ≤ℤ pair (schubert_in w n) (λ α. pos 1)
 at_least_one n w short =
     let m = schubert_monomials n w short in
@@ -112,7 +112,6 @@ share_positive n base w short some = mul-pos (ones_positive n w short) (power n 
     power zero (a ∷ w) h k = absurd (omega arith)
     power (suc n) w h k = power_positive base (inversions w) (omega arith)
 
--- if all permutations x of xs have k inversions, the sum of S_x(1, .., 1)·base^k over them is the sum of S_x(1, .., 1), times base^k
 share_sum : (n base k : ℕ) (xs : List (List ℕ)) → ((x : List ℕ) → Among x xs → inversions x ≡ k) → sum_by (share n base) xs ≡ sum_by (ones n) xs * base ^ k
 share_sum n base k [] h = omega arith
 share_sum n base k (x ∷ xs) h =
@@ -143,7 +142,7 @@ share_step n r s base few m w short t h =
         let s : m * ((a + b) * y) ≡ m * (a * y) + m * (b * y) = omega arith in
         omega arith
 
--- if a factor turns each label of extent at most k into a list with Σ|c| ≤ k + extra, then S_w(1, .., 1)·(top + extra)^l, with l the number of
+-- if a factor turns each label of extent at most k into terms (x, c) with Σ|c| ≤ k + extra, then S_w(1, .., 1)·(top + extra)^l, with l the number of
 -- inversions of w, is a share: no step of the transition rule increases it
 pub limit_share : {L : Type 0} (images : ℕ → List ℕ → L → WholeTermsOf L) (extent : L → ℕ) (takes : ℕ → List ℕ → L → Type 0) (most extra n top : ℕ) → top ≤ most + 1
     → ((k r : ℕ) (v : List ℕ) (label : L) → IsShort k v → 1 ≤ r → r ≤ k → r ≤ 255 → k ≤ most → extent label ≤ k → GrowsBy extent (takes r v) (images r v) k extra label)

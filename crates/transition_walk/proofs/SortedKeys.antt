@@ -16,7 +16,6 @@ use Rattle.std.proofs.lemmas.List.{map-append}
 
 -- ---- the keys of a list with one element replaced, and of a prefix of a list
 
--- if an element is replaced by one with the same key, the list of keys is unchanged
 pub keys_set : {X K : Type 0} (key : X → K) (xs : List X) (i : ℕ) (x y : X) → i < length xs → x ≡ get_or xs i x → key y ≡ key x → map key (set xs i y) ≡ map key xs
 keys_set key [] i x y h e k = absurd (omega arith)
 keys_set key (z ∷ xs) zero x y h e k = ap (λ j. j ∷ map key xs) (k ∙ ap key e)
@@ -31,7 +30,6 @@ unfolding IsStrictlySortedBy
 sorted_front R [] ls s = tt
 sorted_front R (k ∷ ks) ls s = (all_front (λ l. R k l ≡ Less) ks ls s.0, sorted_front R ks ls s.1)
 
--- if the keys of a list are strictly sorted, so are those of its first elements
 pub sorted_rest : {X K : Type 0} (key : X → K) (R : K → K → Ordering) (all xs ys : List X) → all ≡ xs ++ ys → IsStrictlySortedBy R (map key all) → IsStrictlySortedBy R (map key xs)
 sorted_rest key R all xs ys e s = sorted_front R (map key xs) (map key ys) (subst (IsStrictlySortedBy R) (ap (map key) e ∙ map-append key xs ys) s)
 
@@ -39,7 +37,7 @@ pub sorted_one : {X K : Type 0} (key : X → K) (R : K → K → Ordering) (all 
 unfolding IsStrictlySortedBy
 sorted_one key R all x e = subst (λ l. IsStrictlySortedBy R (map key l)) (sym e) (tt, tt)
 
--- ---- the place that a search finds, and inserting an element there
+-- ---- the index that a binary search finds, and an element inserted at this index
 
 module _ {X K : Type 0} (key : X → K) (R : K → K → Ordering) (o : IsTotalOrder R) where
   head_below : (k : K) (xs : List X) (j : ℕ) (d : X) → AllByRecursion (λ l. R k l ≡ Less) (map key xs) → j < length xs → R k (key (get_or xs j d)) ≡ Less
@@ -66,7 +64,6 @@ module _ {X K : Type 0} (key : X → K) (R : K → K → Ordering) (o : IsTotalO
       by Equal e = let p = ap ordering_index (sym (alike_right o b k a e) ∙ h) in omega arith
       by Greater e = let p = ap ordering_index e in let q = index_most (R a k) in omega arith
 
-  -- if the keys of xs are strictly sorted, the results of comparing them with the key k are non-decreasing, as a binary search requires
   pub comparisons_rise : (xs : List X) (k : K) → IsStrictlySortedBy R (map key xs) → IsNonDecreasingBy (λ x. ordering_index (R (key x) k)) xs
   comparisons_rise xs k s i j d h l = elim (cases_lt i j) [
     | inl f ↦ index_rises (key (get_or xs i d)) (key (get_or xs j d)) k (below xs i j d s f l)
@@ -78,7 +75,6 @@ module _ {X K : Type 0} (key : X → K) (R : K → K → Ordering) (o : IsTotalO
   absent_where (x ∷ xs) k h (inl e) = h 0 x (omega arith) (ap (λ l. R l k) (sym e) ∙ tied_itself o k)
   absent_where (x ∷ xs) k h (inr m) = absent_where xs k (λ j d l. h (suc j) d (omega arith)) m
 
-  -- if the keys before the index `at` are less than k and those from `at` on are greater, k is not one of the keys
   pub absent : (xs : List X) (k : K) (at : ℕ) → IsPartitionPoint (λ x. R (key x) k ≡ Less) (λ x. R (key x) k ≡ Greater) xs at → Among k (map key xs) → ⊥
   absent xs k at p = absent_where xs k (λ j d l e. elim (cases_lt j at) [ inl f ↦ let q = p.0 j d (omega arith) f in cc | inr f ↦ let q = p.1 j d f l in cc ])
 
@@ -90,7 +86,6 @@ module _ {X K : Type 0} (key : X → K) (R : K → K → Ordering) (o : IsTotalO
   member_above k (x ∷ xs) w a (inl e) = subst (λ y. R k (key y) ≡ Less) (sym e) a.0
   member_above k (x ∷ xs) w a (inr m) = member_above k xs w a.1 m
 
-  -- if the keys of a list are strictly sorted, and the key at an index is that of an element w, then w is at the index
   pub found_entry : (xs : List X) (at : ℕ) (w : X) → IsStrictlySortedBy R (map key xs) → at < length xs → ((x : X) → x ≡ get_or xs at x → key x ≡ key w) → Among w xs
       → slice_get xs at ≡ Some w
   found_entry [] at w s h same m = absurd m
@@ -112,8 +107,6 @@ module _ {X K : Type 0} (key : X → K) (R : K → K → Ordering) (o : IsTotalO
   all_insert k (y ∷ xs) zero x a h = (h, a)
   all_insert k (y ∷ xs) (suc at) x a h = (a.0, all_insert k xs at x a.1 h)
 
-  -- if the keys are strictly sorted, those before the index `at` less than that of x and those from `at` on greater, they stay strictly sorted after
-  -- x is inserted at `at`
   pub sorted_insert : (xs : List X) (at : ℕ) (x : X) → at ≤ length xs → IsPartitionPoint (λ y. R (key y) (key x) ≡ Less) (λ y. R (key y) (key x) ≡ Greater) xs at
       → IsStrictlySortedBy R (map key xs) → IsStrictlySortedBy R (map key (insert xs at x))
   unfolding IsStrictlySortedBy

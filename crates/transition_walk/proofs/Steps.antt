@@ -1,7 +1,10 @@
--- The entries by which the transition rule replaces a waiting permutation w (`stepped` of specs/Waiting).
---     step_value        the products of these entries add up to that of w
---     step_growth       the shares of these entries add up to at most the share of w
---     step_waiting      these entries have the bounds of w (`IsWaiting`)
+-- The entries by which the transition rule replaces a waiting permutation w (`stepped` of specs/Waiting). A permutation is *waiting* if the rule has
+-- not yet replaced it; its entry has the list of terms by which its Schubert polynomial is multiplied, and the result is the product of the entry. A
+-- *share* is a function of a permutation and a label that no step increases; the *extent* of a label is a number that each step increases by at most
+-- 1.
+--     step_value        the products of these entries add up to the product of the entry of w
+--     step_growth       the shares of the terms of these entries add up to at most the shares of the terms of the entry of w
+--     step_waiting      these entries have the bounds of the entry of w for letters and extents (`IsWaiting`)
 --     step_load         the weights of the permutations of these entries add up to less than the weight of w
 use Rattle.std.proofs.Common.{◌≡◌, ℕ, ◌+◌, ◌-◌, ◌*◌, ◌^◌, ◌<◌, ◌≤◌, Bool, true, List, [], ◌∷◌, ◌++◌, length, sym, ap, ◌∙◌, subst, inl, inr, arith, ℤ, ◌+ℤ◌, ◌*ℤ◌}
 use Rattle.std.proofs.lemmas.Int.{ints}
@@ -35,16 +38,12 @@ use Rattle.linear_combinations.specs.Gains.{weighed}
 use Rattle.linear_combinations.proofs.Weighed.{weighed_add, weighed_replaced, weighed_within}
 use lib.IntN.{+ℤ_idr}
 
--- the test `is_label` is true for the label of each term of a table
 pub are_labels : {L : Type 0} {eq : L → L → Bool} {is_label : L → Bool} (list : WholeTermsOf L) → IsCombination eq is_label whole list → HaveLabels (λ label. is_label label ≡ true) list
 are_labels {L} {eq} {is_label} list is t m = (and_parts _ (is_label t.0) (term-among is_label whole list is.proper t m)).1
 
--- if a list is empty, all of its labels have the property P
 pub no_labels : {L : Type 0} (P : L → Type 0) (list : WholeTermsOf L) → list ≡ [] → HaveLabels P list
 no_labels {L} P list empty = subst (λ (l : WholeTermsOf L). HaveLabels P l) (sym empty) (λ t m. absurd m)
 
--- over the terms (e, c) of a list, the sum of c·(f(e) + Σ g(x, e)), with Σ over the x in xs, is the sum of c·f(e) plus, for each x in xs, the sum of
--- c·g(x, e)
 over_sum : {L : Type 0} (f : L → ℤ) (g : List ℕ → L → ℤ) (xs : List (List ℕ)) (terms : WholeTermsOf L)
     → over (λ e. f e +ℤ total (λ (x : List ℕ). g x e) xs) terms ≡ over f terms +ℤ total (λ (x : List ℕ). over (g x) terms) xs
 over_sum {L} f g xs terms =
@@ -96,7 +95,6 @@ module _ {L : Type 0} (image : List ℕ → L → WholeTermsOf L) (r s : ℕ) (w
           place = omega arith;
         }
 
-    -- if w has at most n letters, so has each permutation in the list `stepped`, by which the transition rule at r and s replaces w
     pub step_short : (x : WithList L) → Among x (stepped image r s w) → IsShort n x.perm
     step_short x m = elim (Among_from_append x (each_waits w.factor (covers_down r (times_swap r s w.perm))) ((record { perm = times_swap r s w.perm; factor = replaced (image (times_swap r s w.perm)) w.factor }) ∷ []) m) [
       | inl l ↦
@@ -206,8 +204,8 @@ step_load {L} image r s w short t =
     let c = covers_weigh_less 255 r s w.perm (omega arith) short t in
     omega arith
 
--- if `lower` is v = w·t_rs, `down` lists the covers v·t_ir with i < r, and `factor` is that of v, then the entries of `down` with the list of w,
--- followed by v with the image of this list, are `stepped`
+-- let `lower` be v = w·t_rs, let `down` list the covers v·t_ir with i < r, and let `factor` be the factor that `made` gives for v. Then `stepped`
+-- consists of one entry for each cover in `down`, with the list of w, and of an entry for v, with the image of the list of w under `factor`
 pub stepped_as : {L T : Type 0} (image : T → L → WholeTermsOf L) (made : List ℕ → T) (r s : ℕ) (w : WithList L) (down : List (List ℕ)) (lower : List ℕ) (factor : T)
     → lower ≡ times_swap r s w.perm → down ≡ covers_down r lower → factor ≡ made lower
     → each_waits w.factor down ++ (record { perm = lower; factor = replaced (image factor) w.factor }) ∷ [] ≡ stepped (λ v. image (made v)) r s w

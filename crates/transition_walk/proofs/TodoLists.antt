@@ -1,4 +1,5 @@
--- Lists of waiting permutations with one entry inserted, or with the factor of an entry replaced (specs/Todo).
+-- Lists of waiting permutations (those that the transition rule has not yet replaced), each with a factor: an entry is inserted into the list, or the
+-- factor of an entry is replaced (specs/Todo).
 use Rattle.std.proofs.Common.{◌≡◌, ◌⊎◌, ℕ, zero, suc, ◌+◌, ◌<◌, ◌≤◌, List, [], ◌∷◌, ◌++◌, length, get_or, set, take, drop, sym, ap, ◌∙◌, subst, inl, inr, arith, ℤ, pos, ◌+ℤ◌}
 use Rattle.std.specs.List.{insert}
 use Rattle.std.proofs.lemmas.Int.{ints}
@@ -39,7 +40,6 @@ among_insert todo i w x m = elim (Among_from_append x (take i todo) (w ∷ drop 
   ]
 ]
 
--- if w is inserted at the index i, the entry of the new list at i is w
 pub inserted_at : {A : Type 0} (todo : List A) (i : ℕ) (w x : A) → i ≤ length todo → x ≡ get_or (insert todo i w) i x → x ≡ w
 inserted_at [] zero w x h e = e
 inserted_at [] (suc i) w x h e = absurd (omega arith)
@@ -60,8 +60,6 @@ pub among_gain : {A : Type 0} (P : A → Type 0) (old new : List A) (w : A) → 
 among_gain P old new w (inl e) here all x m = all x (subst (Among x) e m)
 among_gain P old new w (inr (i, e)) here all x m = elim (among_insert old i w x (subst (Among x) e m)) [ inl s ↦ subst P (sym s) here | inr k ↦ all x k ]
 
--- if `new` is `todo` with w inserted at the index `at`, the entry of `new` at `at` has the permutation of w
-
 pub has_inserted : {F : Type 0} (todo new : List (Waiting F)) (at : ℕ) (w : Waiting F) → at ≤ length todo → new ≡ insert todo at w → (at < length new) × HasPermutation w.perm new at
 has_inserted {F} todo new at w h e =
     let l = ap length e in
@@ -69,8 +67,6 @@ has_inserted {F} todo new at w h e =
       omega arith,
       λ x is. ap (λ (y : Waiting F). y.perm) (inserted_at todo at w x h (is ∙ ap (λ (xs : List (Waiting F)). get_or xs at x) e)),
     )
-
--- ---- an entry of a list replaced by another
 
 pub total_set : {A : Type 0} (f : A → ℤ) (todo : List A) (i : ℕ) (w v : A) → i < length todo → w ≡ get_or todo i w
     → total f (set todo i v) +ℤ f w ≡ total f todo +ℤ f v

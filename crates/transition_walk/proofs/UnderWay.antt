@@ -1,4 +1,6 @@
--- The invariant of the loop that expands S_w times a label by the transition rule: at the start, after one step and at the end.
+-- The invariant of the loop that expands S_w times the polynomial of a label by the transition rule: at the start, after one step and at the end. A
+-- permutation is *waiting* if the rule has not yet replaced it; it has a list of terms by which its Schubert polynomial is multiplied. A *share* is a
+-- function of a permutation and a label that no step increases; the *extent* of a label is a number that each step increases by at most 1.
 use Rattle.std.proofs.Common.{◌≡◌, ℕ, ◌+◌, ◌*◌, ◌^◌, ◌<◌, ◌≤◌, List, [], ◌∷◌, ◌++◌, length, refl, sym, ap, ◌∙◌, subst, inl, inr, arith, ℤ, ◌+ℤ◌}
 use Rattle.std.proofs.lemmas.Int.{ints}
 use Rattle.sym_model.specs.PlaceOrders.{inversions}
@@ -17,8 +19,9 @@ use Rattle.linear_combinations.specs.Gains.{weighed}
 use lib.IntN.{+ℤ_idr, +ℤ_idl}
 
 module _ {L : Type 0} (product : ℕ → (List ℕ → ℤ) → List ℕ → L → ℤ) (images : ℕ → List ℕ → L → WholeTermsOf L) (extent : L → ℕ) (most : ℕ) (w : List ℕ) (label : L) where
-  -- the products for `sum` and the waiting lists add up to that for w and its label, and their shares to at most the share of w and its label; the
-  -- waiting lists keep their bounds (`IsWaiting`), and the waiting permutations are in order, so all different
+  -- `value`: `product n φ w label` is the sum of c·product(n, φ, v, x) over the terms (x, c) of the lists of all waiting permutations v, plus the sum
+  -- over the terms of `sum`, with v the identity. `grows`: the sum of |c|·share(v, x) over all these terms is at most share(w, label). The other two:
+  -- the waiting lists are within their bounds (`IsWaiting`), and the waiting permutations are in order, so all different.
   pub record IsUnderWay (todo : List (WithList L)) (sum : WholeTermsOf L) : Type 0 where
     pub value : (n : ℕ) (φ : List ℕ → ℤ) → over (product n φ (1 ∷ [])) sum +ℤ value_of (product n φ) todo ≡ product n φ w label
     pub grows : (share : List ℕ → L → ℕ) → IsShare images extent (length w) (top_of w (extent label)) share → weighed (share (1 ∷ [])) sum + growth share todo ≤ share w label
@@ -76,8 +79,6 @@ module _ {L : Type 0} (product : ℕ → (List ℕ → ℤ) → List ℕ → L �
         omega arith
 
     module _ (high : top_of w (extent label) ≤ most + 1) where
-      -- if the last waiting permutation is not the identity, it has at most `most` letters, and each label of its list has an extent of at most
-      -- `most`
       pub popped_few : 0 < inversions last.perm → length last.perm ≤ most
       popped_few some = let p = popped_last in let f = p.few in let i = p.inside in omega arith
 
@@ -103,7 +104,7 @@ module _ {L : Type 0} (product : ℕ → (List ℕ → ℤ) → List ℕ → L �
             large = λ share falls some. let a = popped_growth share falls in let b = p.large share falls some in omega arith;
           }
 
-  -- if `rest` is empty, then `todo` is empty too, and `sum` is the product for w and `label`
+  -- if `rest` is empty, then `todo` is empty too, and the sums in `IsUnderWay` have only the terms of `sum`
   module _ (todo rest : List (WithList L)) (sum : WholeTermsOf L) (is : IsUnderWay todo sum) (popped : todo ≡ rest ++ []) (none : rest ≡ []) where
     nothing : todo ≡ []
     nothing = popped ∙ ap (λ (l : List (WithList L)). l ++ []) none
@@ -117,7 +118,6 @@ module _ {L : Type 0} (product : ℕ → (List ℕ → ℤ) → List ℕ → L �
     pub shared : (share : List ℕ → L → ℕ) → IsShare images extent (length w) (top_of w (extent label)) share → weighed (share (1 ∷ [])) sum ≤ share w label
     shared share falls = let a = is.grows share falls in omega arith
 
-  -- if the computation for w and the label overflows (`SharesOverflow`), the bound `limit_of` for w and the label is at least 2^127
   pub limited : (takes : ℕ → List ℕ → L → Type 0) (extra : ℕ) → top_of w (extent label) ≤ most + 1
       → ((k r : ℕ) (v : List ℕ) (label : L) → IsShort k v → 1 ≤ r → r ≤ k → r ≤ 255 → k ≤ most → extent label ≤ k → GrowsBy extent (takes r v) (images r v) k extra label)
       → SharesOverflow images extent (length w) (top_of w (extent label)) (λ share. share w label) → 2 ^ 127 ≤ limit_of w (extent label) extra

@@ -1,4 +1,6 @@
--- The order of waiting permutations (`waiting_order`): it is total, and permutations that compare as equal are the same.
+-- The order of waiting permutations (`waiting_order`), that is, of those that the transition rule has not yet replaced: it is total, and permutations
+-- that compare as equal are the same. A *gap* for a permutation is an index such that the permutations before it are less, and those from it on are
+-- greater.
 use Rattle.std.proofs.Common.{◌≡◌, ℕ, ◌<◌, ◌≤◌, List, [], ◌∷◌, ◌++◌, length, get_or, set, sym, ap, ◌∙◌, subst}
 use Rattle.std.specs.Prelude.{Result, Ok, Err, MatchResult, IfErr, Some, slice_get}
 use Rattle.std.specs.Cmp.{IsTotalOrder, nat_cmp_total, on_total, back_total, then_total}
@@ -26,7 +28,7 @@ waiting_order-equal v w e =
     sym (same_partition w v (texts_ties w v ∙ ap is_eq t.1))
 
 -- a binary search of `todo` by `waiting_order` returns the index of an entry with the permutation `perm` as `Ok`, or an index of at most the length
--- of `todo` as `Err`; if `todo` is in order, it is then a gap for `perm`
+-- of `todo` as `Err`. If `todo` is in order, an index returned as `Err` is a gap for `perm`, and no entry has the permutation `perm`
 
 pub found_place : {F : Type 0} (todo : List (Waiting F)) (perm : List ℕ) (r : Result ℕ ℕ) → IsSearchInRange r (length todo)
     → IsBinarySearchResult (λ (w : Waiting F). waiting_order w.perm perm) todo r
@@ -44,8 +46,8 @@ pub found_absent : {F : Type 0} (todo : List (Waiting F)) (perm : List ℕ) (r :
 found_absent todo perm (Ok at) gap = tt
 found_absent {F} todo perm (Err at) gap = λ order m. absent (λ (w : Waiting F). w.perm) waiting_order waiting_order-total todo perm at (gap order) m
 
--- let `todo` be in order, and let its entry at the index `at` have the permutation `perm`: if w is an entry of `todo` with this permutation, the
--- entry at `at` is w
+-- let `todo` be in order, and let w be an entry of `todo` with the permutation `perm`. If the entry at the index `at` has this permutation too, it is
+-- w
 
 pub found_there : {F : Type 0} (todo seen : List (Waiting F)) (perm : List ℕ) (at : ℕ) → seen ≡ todo → (at < length seen) × HasPermutation perm seen at
     → AreInOrder todo → (w : Waiting F) → Among w todo → w.perm ≡ perm → slice_get todo at ≡ Some w

@@ -1,5 +1,6 @@
--- Bounds for the lists of terms of waiting permutations, that is, of those that the transition rule has not yet
--- replaced.
+-- Bounds for the lists of terms of waiting permutations, that is, of those that the transition rule has not yet replaced. A *share* is a function of
+-- a permutation and a label that no step of the rule increases (`IsShare`); the *extent* of a label is a number that each step increases by at most
+-- 1.
 use Rattle.std.specs.Prelude.{◌≡◌, ℕ, ◌+◌, ◌*◌, ◌^◌, ◌<◌, ◌≤◌, max, nat_abs, ℤ, ◌+ℤ◌, List, [], ◌∷◌}
 use Rattle.std.specs.Prelude.{length}
 use Rattle.sym_model.specs.PastLimit.{value_at_ones}
@@ -88,9 +89,9 @@ abbrev pub all_of : {L : Type 0} → WholeTermsOf L → List (WithList L) → Wi
 all_of sum todo w share =
     weighed (share (1 ∷ [])) sum + growth share todo + weighed (share w.perm) w.factor
 
--- one step of the transition rule for w, by which `sum` becomes `sum2`, and `todo` becomes `todo2`: the sum of all
--- products stays the same, the sum of the shares does not increase, the waiting lists keep their bounds and their
--- order, and the sum of the weights of the waiting permutations, w included, decreases
+-- one step of the transition rule for w, by which `sum` becomes `sum2`, and `todo` becomes `todo2`: the sum of the products of all terms stays the
+-- same, the sum of their shares does not increase, the waiting lists keep their bounds and their order, and the sum of the weights of the waiting
+-- permutations, w included, decreases
 pub record WorksOff {L : Type 0} (product : ℕ → (List ℕ → ℤ) → List ℕ → L → ℤ)
     (image : ℕ → List ℕ → L → WholeTermsOf L) (extent : L → ℕ) (most : ℕ)
     (sum : WholeTermsOf L) (todo : List (WithList L)) (w : WithList L) (sum2 : WholeTermsOf L)

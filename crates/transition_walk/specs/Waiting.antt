@@ -49,9 +49,9 @@ stepped image r s w = each_waits w.factor (covers_down r (times_swap r s w.perm)
       factor = replaced (image (times_swap r s w.perm)) w.factor;
     }) ∷ []
 
--- VALUE: the entries of `more` have been added to `old`, which gives `new`: for each φ, the values of `old` and
--- `more` add up to that of `new` (`value_of`); the shares and the load of `new` are at most the sums of those of
--- `old` and `more`; and the bounds and the order of `old` are kept
+-- VALUE: the entries of `more` have been added to `old`, which gives `new`. For each φ, the value of `new` is the sum of the values of `old` and
+-- `more` (`value_of`). For each function share, `growth share new` is at most the sum of `growth` of `old` and `more`, and `load new` is at most the
+-- sum of their loads. The bounds (`AreWaiting`) and the order of `old` are kept
 pub record Joins {L : Type 0} (old more new : List (WithList L)) : Type 0 where
   pub value : (φ : List ℕ → L → ℤ) → value_of φ new ≡ value_of φ old +ℤ value_of φ more
   pub grows : (share : List ℕ → L → ℕ) → growth share new ≤ growth share old + growth share more
@@ -60,8 +60,8 @@ pub record Joins {L : Type 0} (old more new : List (WithList L)) : Type 0 where
   pub ordered : AreInOrder old → AreInOrder new
   pub loaded : load new ≤ load old + load more
 
--- OVERFLOW: there are an entry of `more` and a label such that the shares of `old` and `more` have a sum of at least
--- 2^127 for every share that is at least 1 at the permutation of this entry and this label
+-- OVERFLOW: there are an entry of `more` and a label such that `growth share old` + `growth share more` is at least 2^127 for every function share
+-- that is at least 1 at the permutation of this entry and this label
 pub record WaitingOverflows {L : Type 0} (old more : List (WithList L)) : Type 0 where
   pub entry : WithList L
   pub added : Among entry more
@@ -69,8 +69,8 @@ pub record WaitingOverflows {L : Type 0} (old more : List (WithList L)) : Type 0
   pub large : (share : List ℕ → L → ℕ) → 1 ≤ share entry.perm label
       → 2 ^ 127 ≤ growth share old + growth share more
 
--- REFUSAL: `old` is in order and has an entry with the permutation of `more`, and the list of this entry refuses the
--- first term of the list of `more` (`RefusesFirst`)
+-- REFUSAL: `old` is in order and has an entry with the permutation of `more`, and the list of this entry refuses the first term of the list of
+-- `more`: the sum of the coefficients at its label does not fit i128 (`RefusesFirst`)
 pub record WaitingRefuses {L : Type 0} (eq : L → L → Bool) (old : List (WithList L))
     (more : WithList L) : Type 0 where
   pub ordered : AreInOrder old

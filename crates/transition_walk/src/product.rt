@@ -21,11 +21,12 @@ use std::alloc::Global;
 /// The product of the Schubert polynomial of a permutation w and the polynomial of a label, as a
 /// list of labels.
 ///
-/// Let m be the greater one of the number of letters of w and the extent of the label, and let l be
-/// the number of inversions of w. The sum m + l must be at most `most` + 1; `most` and `extra` are
-/// those of the `Factor`. Returns `Large` only if the value of the Schubert polynomial at 1 in each
-/// variable, times (m + l + `extra`)^l, is 2^127 or more; and only if the condition `OverflowsFrom`
-/// on the shares of w and the label holds.
+/// Let m be the greater one of the number of letters of w and the `extent` of the label, and let l
+/// be the number of inversions of w. The sum m + l must be at most `most` + 1; `extent`, `most` and
+/// `extra` belong to the trait `Factor`. Returns `Large` only if the value of the Schubert
+/// polynomial at 1 in each variable, times (m + l + `extra`)^l, is 2^127 or more, and only if
+/// `OverflowsFrom` holds. That is a condition on the shares of w and the label; a share is a
+/// function of a permutation and a label that no step of the transition rule increases.
 ///
 /// The list `todo` has the permutations that are not yet expanded, each with the list of terms by
 /// which its Schubert polynomial is multiplied. The transition rule replaces the greatest of these

@@ -1,5 +1,6 @@
--- The lists of words that an expression can follow in words of a given form, found with the derivatives of the form.
-use Rattle.std.proofs.Common.{◌≡◌, ℕ, Bool, true, false, ◌&&◌, cond, List, [], ◌∷◌, ◌++◌, map, append_assoc, refl, sym, ap, ◌∙◌, subst, ◌⊎◌, inl, inr}
+-- A *form* describes lists of words, much like a regular expression, and some of the words may be expressions. The derivative of a form by a word
+-- describes the words that may follow this word. Here derivatives decide whether a form allows an expression after given words.
+use Rattle.std.proofs.Common.{◌≡◌, ℕ, Bool, true, false, ◌&&◌, cond, List, [], ◌∷◌, ◌++◌, map, append_assoc, refl, sym, ap, ◌∙◌, subst, ◌⊎◌, inl, inr, rules}
 use Rattle.std.proofs.lemmas.Bool.{and_parts, and_from, or_cases, or_left, or_right}
 use Rattle.sym_model.specs.Sum.{Among}
 use Rattle.sym_model.proofs.Sums.{Among-append_left, Among-append_right, Among_from_append, Among-map, Among_from_map, Among-each, Among_from_each}
@@ -8,29 +9,14 @@ use Rattle.word_laws.proofs.Derivatives.{sequence_parts, has_more, has_none, ski
 use Rattle.word_laws.proofs.LongestPrefixes.{some_in, some_out}
 use Rattle.word_laws.specs.Words.{Words}
 
--- ---- forms of which an expression can be the first word
-
 pub next_sound : (f : Form) → awaits_next f ≡ true → Awaits f []
 next_sound empty h = cc
 next_sound (word (exact text)) h = cc
 next_sound (word number) h = cc
 next_sound (word (target bases)) h = cc
 next_sound (word formula) h = refl
-next_sound (sequence f g) h =
-    by (or_cases (awaits_next f) (is_skippable f && awaits_next g) h) (next_sound f) (next_sound g)
-  where
-    by : (awaits_next f ≡ true) ⊎ ((is_skippable f && awaits_next g) ≡ true)
-        → (awaits_next f ≡ true → Awaits f []) → (awaits_next g ≡ true → Awaits g []) → Awaits (sequence f g) []
-    by (inl e) l r = inl (l e)
-    by (inr e) l r =
-        let p = and_parts (is_skippable f) (awaits_next g) e in inr ([], [], refl, skipped f p.0, r p.1)
-next_sound (either f g) h =
-    by (or_cases (awaits_next f) (awaits_next g) h) (next_sound f) (next_sound g)
-  where
-    by : (awaits_next f ≡ true) ⊎ (awaits_next g ≡ true)
-        → (awaits_next f ≡ true → Awaits f []) → (awaits_next g ≡ true → Awaits g []) → Awaits (either f g) []
-    by (inl e) l r = inl (l e)
-    by (inr e) l r = inr (r e)
+next_sound (sequence f g) h = search (rules, or_cases, and_parts, skipped, (next_sound f), (next_sound g))
+next_sound (either f g) h = search (rules, or_cases, (next_sound f), (next_sound g))
 next_sound (many f) h = ([], [], refl, has_none f, next_sound f h)
 
 pub next_complete : (f : Form) → Awaits f [] → awaits_next f ≡ true
@@ -50,7 +36,7 @@ next_complete (either f g) (inl h) = or_left (awaits_next f) (awaits_next g) (ne
 next_complete (either f g) (inr h) = or_right (awaits_next f) (awaits_next g) (next_complete g h)
 next_complete (many f) h = let p = no_append h.0 h.1 (sym h.2) in next_complete f (subst (Awaits f) p.1 h.4)
 
--- ---- an expression can follow one word and then further words in a form (`AwaitsAfter`)
+-- ---- forms that allow an expression after one word and then further words (`AwaitsAfter`)
 
 -- f has a derivative by the word `text` in which an expression can follow the words ws
 pub record AwaitsAfter (reads : List ℕ → Bool) (f : Form) (text : List ℕ) (ws : Words) : Type 0 where
@@ -94,20 +80,8 @@ awaits_after reads tells (sequence f g) text ws (inr h) =
               (among_cond_true (is_skippable f) n.next (derivatives reads g text) (skippable f h.3.written (sym h.3.spelled ∙ e)) n.among);
           awaits = n.awaits;
         }
-awaits_after reads tells (either f g) text ws (inl h) =
-    let n = awaits_after reads tells f text ws h in
-    record {
-      next = n.next;
-      among = Among-append_left n.next (derivatives reads f text) (derivatives reads g text) n.among;
-      awaits = n.awaits;
-    }
-awaits_after reads tells (either f g) text ws (inr h) =
-    let n = awaits_after reads tells g text ws h in
-    record {
-      next = n.next;
-      among = Among-append_right n.next (derivatives reads f text) (derivatives reads g text) n.among;
-      awaits = n.awaits;
-    }
+awaits_after reads tells (either f g) text ws (inl h) = search (rules, Among-append_left, (awaits_after reads tells f text ws h))
+awaits_after reads tells (either f g) text ws (inr h) = search (rules, Among-append_right, (awaits_after reads tells g text ws h))
 awaits_after reads tells (many f) text ws h =
     by (splits h.0 h.1 text ws (sym h.2)) (awaits_after reads tells f text ws)
   where
@@ -186,18 +160,14 @@ awaits_before reads tells (many f) h text ws m a =
       w.4.4,
     )
 
--- ---- an expression can follow several words in one of several forms (`AwaitsOne`)
+-- ---- `AwaitsOne`: one of several forms allows an expression after the words
 
 abbrev pub AwaitsOne : List Form → Words → Type 0
 AwaitsOne forms ws = SomeOf (λ f. Awaits f ws) forms
 
 nothing_sound : (forms : List Form) → some_awaits_next forms ≡ true → AwaitsOne forms []
 nothing_sound [] h = cc
-nothing_sound (f ∷ forms) h = by (or_cases (awaits_next f) (some_awaits_next forms) h) (nothing_sound forms)
-  where
-    by : (awaits_next f ≡ true) ⊎ (some_awaits_next forms ≡ true) → (some_awaits_next forms ≡ true → AwaitsOne forms []) → AwaitsOne (f ∷ forms) []
-    by (inl e) r = inl (next_sound f e)
-    by (inr e) r = inr (r e)
+nothing_sound (f ∷ forms) h = search (rules, or_cases, next_sound, (nothing_sound forms))
 
 nothing_complete : (forms : List Form) → AwaitsOne forms [] → some_awaits_next forms ≡ true
 nothing_complete [] h = absurd h

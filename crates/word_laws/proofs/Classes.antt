@@ -1,7 +1,8 @@
--- The classes of words: the test `fits` passes exactly for the words of a class, and if `has_words` passes, the class has a word.
-use Rattle.std.proofs.Common.{◌≡◌, ℕ, ◌<◌, nat_le, Bool, true, List, [], ◌∷◌, refl, sym, subst, arith, ◌⊎◌, inl, inr}
+-- A class is a set of words that is allowed at a place of a command. The test `fits` passes exactly for the words of a class, and if the test
+-- `has_words` passes for a class, then some word is of the class.
+use Rattle.std.proofs.Common.{◌≡◌, ℕ, ◌<◌, nat_le, Bool, true, List, [], ◌∷◌, refl, sym, arith, inl, inr, rules}
 use Rattle.std.specs.Prelude.{codes}
-use Rattle.std.proofs.lemmas.Bool.{leb-true, le-leb, and_parts, and_from, or_cases, or_left, or_right}
+use Rattle.std.proofs.lemmas.Bool.{leb-true, le-leb, and_parts, and_from, or_cases, or_right}
 use Rattle.sym_model.specs.Polynomial.{same}
 use Rattle.sym_model.proofs.Exponents.{same_refl, same_true}
 use Rattle.sym_model.specs.Expansion.{Basis}
@@ -19,10 +20,7 @@ digits_sound (byte ∷ text) h =
 
 digits_complete : (text : List ℕ) → AreDigits text → are_digits text ≡ true
 digits_complete [] h = refl
-digits_complete (byte ∷ text) h =
-    and_from (is_digit byte) (are_digits text)
-    (and_from (nat_le 48 byte) (nat_le byte 57) (le-leb 48 byte h.0.0) (le-leb byte 57 h.0.1))
-    (digits_complete text h.1)
+digits_complete (byte ∷ text) h = search (rules, and_from, le-leb, (digits_complete text h.1))
 
 pub number_sound : (text : List ℕ) → is_number_word text ≡ true → IsNumberWord text
 number_sound [] h = cc
@@ -35,19 +33,11 @@ number_complete (byte ∷ text) h = digits_complete (byte ∷ text) h.digits
 letter_sound : (bases : List Basis) (text : List ℕ) → is_letter_of bases text ≡ true
     → (basis : Basis) × SomeOf (λ b. basis ≡ b) bases × (text ≡ letter basis)
 letter_sound [] text h = cc
-letter_sound (b ∷ bases) text h = by (or_cases (same (letter b) text) (is_letter_of bases text) h) (letter_sound bases text)
-  where
-    by : (same (letter b) text ≡ true) ⊎ (is_letter_of bases text ≡ true)
-        → (is_letter_of bases text ≡ true → (basis : Basis) × SomeOf (λ b. basis ≡ b) bases × (text ≡ letter basis))
-        → (basis : Basis) × SomeOf (λ b. basis ≡ b) (b ∷ bases) × (text ≡ letter basis)
-    by (inl e) rest = (b, inl refl, sym (same_true (letter b) text e))
-    by (inr e) rest = let r = rest e in (r.0, inr r.1, r.2)
+letter_sound (b ∷ bases) text h = search (rules, or_cases, same_true, (letter_sound bases text))
 
 pub letter_complete : (bases : List Basis) (basis : Basis) → SomeOf (λ b. basis ≡ b) bases → is_letter_of bases (letter basis) ≡ true
 letter_complete [] basis h = absurd h
-letter_complete (b ∷ bases) basis (inl e) =
-    or_left (same (letter b) (letter basis)) (is_letter_of bases (letter basis))
-    (subst (λ c. same (letter c) (letter basis) ≡ true) e (same_refl (letter basis)))
+letter_complete (b ∷ bases) basis (inl e) = search rules
 letter_complete (b ∷ bases) basis (inr h) =
     or_right (same (letter b) (letter basis)) (is_letter_of bases (letter basis)) (letter_complete bases basis h)
 

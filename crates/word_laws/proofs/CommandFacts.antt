@@ -23,7 +23,7 @@ pub has_words : (basis : Basis) (bases : List Basis) → EachOf (λ (e : Entry).
 has_words basis bases =
     let can : CanBe (forms_of (entries_of (basis ∷ bases))) = search parts 64 in each_has (entries_of (basis ∷ bases)) can
 
--- the target of a command `expand`; the basis m for any other command
+-- the target basis of a command `expand`; the basis m for any other command
 abbrev target_of : Command → Basis
 target_of (expand target form e) = target
 target_of _ = monomials
@@ -32,8 +32,8 @@ abbrev expression_of : Command → Tree
 expression_of (expand target form e) = e
 expression_of _ = number 0
 
--- if words of a command with the entry e have no error, the degree of the command's expression is at most the greatest degree that its target basis
--- allows (for a command without an expression, the degree is that of the number 0, and the basis is m)
+-- let e be an entry of the list of commands. If words of its form have no error, the degree of the command's expression is at most the greatest
+-- degree that its target basis allows (for a command without an expression, the degree is that of the number 0, and the basis is m)
 abbrev Within : Entry → Type 0
 Within e = (x : Written e.form) → first_offence (e.offends x) ≡ None → degree (expression_of (e.says x)) ≤ degree_limit (target_of (e.says x))
 

@@ -1,6 +1,7 @@
--- Words that begin with a part of a command (a number, a letter of a basis, an expression, `-r` and a number, `-m`), and for words that do not begin
--- with this part, the place of the error.
-use Rattle.std.proofs.Common.{◌≡◌, ℕ, true, List, [], ◌∷◌, ◌++◌, length, refl, sym, ap, ◌∙◌, subst, arith, inl, inr, flat_map}
+-- Words that begin with one part of a command: a number, a letter of a basis, an expression, `-r` and a number, or `-m`. A form (a pattern of
+-- words) *takes* words from the front of a list of words (`IsTaken`). If a list does not begin with words of the form, the place of the error is
+-- found.
+use Rattle.std.proofs.Common.{◌≡◌, ℕ, true, List, [], ◌∷◌, ◌++◌, length, refl, sym, ap, ◌∙◌, subst, arith, inl, inr, flat_map, rules}
 use Rattle.std.specs.Prelude.{codes}
 use Rattle.sym_model.specs.Expansion.{Basis, monomials, elementaries, completes, power_sums, schurs}
 use Rattle.sym_model.specs.Grammar.{all_bases}
@@ -13,7 +14,6 @@ use Rattle.word_laws.proofs.Classes.{number_sound, number_complete, letter_compl
 use Rattle.word_laws.proofs.Readings.{OfOne, Unlike}
 use Rattle.word_laws.proofs.Cuts.{IsTaken, StopsIn, ends_unlike, stops_first, stops_right, optional_taken, optional_absent, optional_stops}
 
--- the only word of the class `exact text` is this text
 pub is_exact : (c : Class) (x : WrittenWord c) (text : List ℕ) → c ≡ exact text → word_of c x ≡ text
 is_exact (exact a) x text e = cc
 is_exact number x text e = cc
@@ -31,13 +31,8 @@ unlike_kind P cs [] h b = tt
 unlike_kind P cs (t ∷ words) h b = λ o. b (h t o)
 
 unlike_nothing : (words : Words) → Unlike [] words
-unlike_nothing words = unlike_kind (λ t. ⊥) [] words (λ t o. o.among) (nothing words)
-  where
-    nothing : (ws : Words) → BeginsOtherwise (λ t. ⊥) ws
-    nothing [] = tt
-    nothing (t ∷ ws) = λ n. n
+unlike_nothing words = search rules
 
--- if P holds for `word_of c x` for each value x that denotes a word of the class c, it holds for each word of the class c
 of_class : (c : Class) (P : List ℕ → Type 0) → ((x : WrittenWord c) → MayBe c x → P (word_of c x)) → (t : List ℕ) → OfOne (c ∷ []) t → P t
 of_class c P h t o = elim (o.among) as (λ m. P t) [
   | inl e ↦ subst P (sym o.spelled) (subst (λ k. (x : WrittenWord k) → MayBe k x → P (word_of k x)) (sym e) h o.written o.allowed)
@@ -51,7 +46,6 @@ pub unlike_text : (text : List ℕ) (words : Words) → BeginsOtherwise (λ t. t
 unlike_text text words b =
     unlike_kind (λ t. t ≡ text) (exact text ∷ []) words (of_class (exact text) (λ t. t ≡ text) (λ x m. refl)) b
 
--- if each of the words ns is a number, each is allowed by the form of one number
 pub may_be : (ns : Words) → EachOf IsNumber ns → EachOf (May (word number)) ns
 may_be [] e = tt
 may_be (t ∷ ns) e = (number_sound t e.0, may_be ns e.1)
@@ -62,16 +56,9 @@ singles (t ∷ ns) = ap (λ ws. t ∷ ws) (singles ns)
 
 -- ---- words that begin with a word of one class, with numbers, or with the letters of a permutation
 
--- if words begin with a word of the class c, the form of one word of this class takes this word (`IsTaken`)
 word_taken : (c : Class) (x : WrittenWord c) (piece rest words : Words) → MayBe c x → piece ≡ word_of c x ∷ [] → words ≡ word_of c x ∷ rest
     → IsTaken (word c) piece rest words
-word_taken c x piece rest words m p e = record {
-  written = x;
-  allowed = m;
-  piece_is = p;
-  words_are = e ∙ ap (λ us. us ++ rest) (sym p);
-  ends = ends_unlike (word c) refl x m rest (unlike_nothing rest);
-}
+word_taken c x piece rest words m p e = search rules
 
 pub the_taken : (text : List ℕ) (piece rest words : Words) → piece ≡ text ∷ [] → words ≡ text ∷ rest → IsTaken (the text) piece rest words
 the_taken text piece rest words p e = word_taken (exact text) tt piece rest words tt p e
@@ -99,10 +86,7 @@ letter_taken basis rest words e = word_taken (target all_bases) basis (letter ba
 
 pub letter_wrong : (words : Words) → BeginsOtherwise (λ t. is_letter_of all_bases t ≡ true) words
     → StopsIn (word (target all_bases)) words (length words)
-letter_wrong words b =
-    stops_first (word (target all_bases)) words refl refl
-    (unlike_kind (λ t. is_letter_of all_bases t ≡ true) (target all_bases ∷ []) words
-    (of_class (target all_bases) (λ t. is_letter_of all_bases t ≡ true) (letter_complete all_bases)) b)
+letter_wrong words b = search (rules, stops_first, unlike_kind, of_class, letter_complete)
 
 abbrev pub IsExpressionText : List ℕ → Type 0
 IsExpressionText text = (phrase : Phrase) × SpellsPhrase text phrase
@@ -140,8 +124,6 @@ letters_taken t more (u ∷ ns) rest words f i e n b = record {
 
 pub letters_wrong : (words : Words) → BeginsOtherwise IsNumber words → StopsIn permutation_words words (length words)
 letters_wrong words b = stops_first permutation_words words refl refl (unlike_numbers words b)
-
--- ---- words that begin with `-r` and a number of rows, and the place of the error in other words
 
 pub rows_taken : (digits : List ℕ) (piece rest words : Words) → IsNumber digits → piece ≡ codes "-r" ∷ digits ∷ [] → words ≡ codes "-r" ∷ digits ∷ rest
     → IsTaken rows_words piece rest words

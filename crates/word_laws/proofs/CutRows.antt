@@ -1,18 +1,17 @@
--- Words that begin with the rows of a tableau, and the place of the error in words that do not begin with such rows.
-use Rattle.std.proofs.Common.{◌≡◌, ℕ, true, ◌<◌, List, [], ◌∷◌, ◌++◌, append_assoc, length, length-append, refl, sym, ap, ◌∙◌, subst, arith, inl, inr}
+-- Words that begin with the rows of a tableau, and the place of the error in words that do not begin with such rows. A list of words *fails* inside
+-- a form, a pattern of words (`StopsIn`), if it is not of the form and its first error is not directly after complete words of the form.
+use Rattle.std.proofs.lemmas.Grind.{common_steps}
+use Rattle.std.proofs.Common.{◌≡◌, ℕ, true, ◌<◌, List, [], ◌∷◌, ◌++◌, append_assoc, length, length-append, refl, sym, ap, ◌∙◌, subst, arith, inl, inr, rules}
 use Rattle.std.specs.Prelude.{codes}
-use Rattle.sym_model.specs.Sum.{Among}
 use Rattle.sym_model.specs.Form.{Form, sequence, many, Written, words_of, May, Has, EachOf, is_number_word}
 use Rattle.sym_model.specs.WordForms.{the, optional, row_words, tableau_words, from_words}
 use Rattle.word_laws.specs.FirstWords.{IsNumber, BeginsOtherwise}
 use Rattle.word_laws.specs.OneReading.{are_apart, firsts, continuing}
 use Rattle.word_laws.specs.Words.{Words}
 use Rattle.word_laws.proofs.Classes.{number_complete}
-use Rattle.word_laws.proofs.Readings.{OfOne, Unlike, unlike}
+use Rattle.word_laws.proofs.Readings.{OfOne, Unlike}
 use Rattle.word_laws.proofs.Cuts.{StartsAs, EndsAt, IsTaken, StopsIn, unlike_second, unlike_last, ends_unlike, stops_first, stops_left, stops_right, optional_taken, optional_absent, optional_stops}
 use Rattle.word_laws.proofs.CutParts.{is_exact, is_number, unlike_kind, unlike_text, the_taken, letters_taken}
-
--- ---- words of one form followed by further words
 
 starts_behind : (q r rest : Words) → StartsAs r rest → StartsAs (q ++ r) (q ++ rest)
 starts_behind [] r rest s = s
@@ -34,15 +33,8 @@ sequence_taken f g p q behind rest ws a k l = record {
       (unlike_last f g s u);
 }
 
--- ---- words that begin with the words of one row
-
--- a word that can be the first word of a row and is not `.` is a number
 of_row : (t : List ℕ) → OfOne (firsts row_words) t → (t ≡ codes "." → ⊥) → IsNumber t
-of_row t o n = elim (o.among) as (λ m. IsNumber t) [
-  | inl e ↦ absurd (n (o.spelled ∙ is_exact o.class o.written (codes ".") e))
-  | inr (inl e) ↦ subst IsNumber (sym o.spelled) (is_number o.class o.written o.allowed e)
-  | inr (inr m) ↦ absurd m
-]
+of_row t o n = search (rules, is_exact, is_number)
 
 pub dot_taken : (rest words : Words) → words ≡ codes "." ∷ rest → IsTaken row_words (codes "." ∷ []) rest words
 dot_taken rest words e = record { written = inl tt; allowed = tt; piece_is = refl; words_are = e; ends = ends }
@@ -112,17 +104,7 @@ may_rows (inl x) m = tt
 may_rows (inr x) m = m
 
 unlike_more : (ws : Words) → Unlike (continuing further_rows) ws → Unlike (continuing (optional more_rows)) ws
-unlike_more ws u = unlike (continuing (optional more_rows)) (continuing further_rows) ws of_more u
-  where
-    of_more : (t : List ℕ) → OfOne (continuing (optional more_rows)) t → OfOne (continuing further_rows) t
-    of_more t o = record { class = o.class; among = by o.among; written = o.written; allowed = o.allowed; spelled = o.spelled }
-      where
-        by : Among o.class (continuing (optional more_rows)) → Among o.class (continuing further_rows)
-        by (inl e) = inl e
-        by (inr (inl e)) = inr (inl e)
-        by (inr (inr (inl e))) = inr (inl e)
-        by (inr (inr (inr (inl e)))) = inl e
-        by (inr (inr (inr (inr m)))) = absurd m
+unlike_more ws u = search rules
 
 rows_taken : (p rest ws : Words) → IsTaken (optional more_rows) p rest ws → IsTaken further_rows p rest ws
 rows_taken p rest ws k = record {
@@ -144,13 +126,8 @@ next_taken p more behind ws e k =
 
 pub further_taken : (p q more behind rest ws : Words) → ws ≡ codes "/" ∷ more → IsTaken row_words p behind more → IsTaken further_rows q rest behind
     → IsTaken further_rows ((codes "/" ∷ p) ++ q) rest ws
-further_taken p q more behind rest ws e k l =
-    rows_taken ((codes "/" ∷ p) ++ q) rest ws
-    (optional_taken more_rows ((codes "/" ∷ p) ++ q) rest ws refl
-    (sequence_taken next_row further_rows (codes "/" ∷ p) q behind rest ws refl (next_taken p more behind ws e k) l))
+further_taken p q more behind rest ws e k l = search (rules, rows_taken, optional_taken, sequence_taken, next_taken)
 
--- if the words ws fail (`StopsIn`) after their first word inside the form of one or more rows, each after a `/`, they fail at the same place inside
--- the form of any number of such rows
 stops_more : (ws : Words) (left : ℕ) → left < length ws → StopsIn more_rows ws left → StopsIn further_rows ws left
 stops_more ws left l w =
     let o = optional_stops more_rows ws left l w in (
@@ -172,15 +149,8 @@ stops_more ws left l w =
     has_more : (us : Words) → Has further_rows us → Has (optional more_rows) us
     has_more us h = record { written = as_more h.written; allowed = may_more h.written h.allowed; spelled = h.spelled ∙ sym (words_more h.written) }
 
--- if ws is a word followed by us, and the words us fail inside the form f (`StopsIn`) with `left` words left, `left` is less than the number of words
--- of ws
 fewer_left : (f : Form) (us ws : Words) (t : List ℕ) (left : ℕ) → ws ≡ t ∷ us → StopsIn f us left → left < length ws
-fewer_left f us ws t left e w =
-    let a = ap length e in
-    let b = ap length w.0.words_are in
-    let c = length-append w.0.before w.0.after in
-    let d = w.0.left_is in
-    omega (arith, a, b, c, d)
+fewer_left f us ws t left e w = grind (arith, common_steps)
 
 pub next_stops : (more ws : Words) (left : ℕ) → ws ≡ codes "/" ∷ more → StopsIn row_words more left → StopsIn further_rows ws left
 next_stops more ws left e w =
@@ -212,12 +182,7 @@ pub record RowsPassed (rest words : Words) : Type 0 where
   pub stops : (left : ℕ) → StopsIn further_rows rest left → StopsIn tableau_words words left
 
 pub first_passed : (p rest words : Words) → IsTaken row_words p rest words → RowsPassed rest words
-first_passed p rest words k = record {
-  front = p;
-  words_are = k.words_are;
-  taken = λ q tail l. sequence_taken row_words further_rows p q rest tail words refl k l;
-  stops = λ left w. stops_right row_words further_rows p rest words left refl k w;
-}
+first_passed p rest words k = search (rules, sequence_taken, stops_right)
 
 pub first_stops : (words : Words) (left : ℕ) → StopsIn row_words words left → StopsIn tableau_words words left
 first_stops words left w = stops_left row_words further_rows words left refl refl w
@@ -235,8 +200,6 @@ next_passed p rest more behind words r e k = record {
       (r.taken ((codes "/" ∷ p) ++ q) tail (further_taken p q more behind tail rest e k l));
   stops = λ left w. r.stops left (further_stops p more behind rest left e k w);
 }
-
--- ---- the optional word `-from` and a tableau
 
 pub from_absent : (words : Words) → BeginsOtherwise (λ t. t ≡ codes "-from") words → IsTaken (optional from_words) [] words words
 from_absent words b = optional_absent from_words words refl (unlike_text (codes "-from") words b)

@@ -1,6 +1,6 @@
--- Words that begin with words of one form and then of another one; and, for words that are not of a form, the place of the error: after their longest
--- prefix that is also the beginning of some words of the form.
-use Rattle.std.proofs.Common.{◌≡◌, ℕ, zero, suc, ◌+◌, ◌-◌, ◌<◌, ◌≤◌, Bool, true, false, ◌&&◌, cond, List, [], ◌∷◌, ◌++◌, append_assoc, length, length-append, take, refl, sym, ap, ◌∙◌, subst, arith, ◌⊎◌, inl, inr}
+-- Forms are patterns of words. A list of words is cut into words of one form and then words of another one; and for words that are not of a form,
+-- the place of the error is found: after their longest prefix that is also the beginning of some words of the form.
+use Rattle.std.proofs.Common.{◌≡◌, ℕ, zero, suc, ◌+◌, ◌-◌, ◌<◌, ◌≤◌, Bool, true, false, ◌&&◌, cond, List, [], ◌∷◌, ◌++◌, append_assoc, length, length-append, take, refl, sym, ap, ◌∙◌, subst, arith, ◌⊎◌, inl, inr, rules}
 use Rattle.std.proofs.lemmas.Bool.{and_parts}
 use Rattle.std.proofs.lemmas.List.{append-nil}
 use Rattle.std.proofs.Math.Seq.{take-append_seam, take-append-add, get_or-append_seam}
@@ -23,8 +23,9 @@ abbrev pub StartsAs : Words → Words → Type 0
 StartsAs [] rest = Unit {0}
 StartsAs (t ∷ r) rest = (u : Words) × (rest ≡ t ∷ u)
 
--- let x denote words of the form f, and let r be empty or begin with the first word of `rest`: if the words of x followed by r are also words of f
--- followed by s, and s does not begin with a word that can continue words of f, then s is r
+-- `EndsAt f x rest`: of the words of x followed by `rest`, the form f takes exactly the words of x. Precisely: let r be empty or begin with the first
+-- word of `rest`. If the words of x followed by r are also words of f followed by s, and s does not begin with a word that can continue words of f,
+-- then s is r
 abbrev pub EndsAt : (f : Form) → Written f → Words → Type 0
 EndsAt f x rest =
     (y : Written f) (r s : Words) → May f y → StartsAs r rest → words_of f x ++ r ≡ words_of f y ++ s → Unlike (continuing f) s → r ≡ s
@@ -37,7 +38,8 @@ pub record IsTaken (f : Form) (piece rest words : Words) : Type 0 where
   pub words_are : words ≡ piece ++ rest
   pub ends : EndsAt f written rest
 
--- the words are not of the form f, and `left` of them come after their longest prefix that is also the beginning of some words of f
+-- The words are not of the form f. They are `before` followed by `after`. More words can be added to `before` so that the result is of the form f
+-- (`Begins`), but not if the first word of `after` comes next. `left` is the number of words of `after`; if it is 0, further words are missing.
 pub record GoesWrong (f : Form) (words : Words) (left : ℕ) : Type 0 where
   pub before : Words
   pub after : Words
@@ -47,13 +49,13 @@ pub record GoesWrong (f : Form) (words : Words) (left : ℕ) : Type 0 where
   pub stops : (t : List ℕ) (rest : Words) → after ≡ t ∷ rest → Begins f (before ++ t ∷ []) → ⊥
   pub is_none : Has f words → ⊥
 
--- the words fail (`GoesWrong`) inside the form f: if the words before the failure are us and vs, and us is of the form f, then vs begins with a word
--- that can continue words of f
+-- the words fail (`GoesWrong`) inside the form f, not directly after complete words of f: if the words before the failure are us followed by vs, and
+-- us is of the form f, then vs begins with a word that can continue words of f
 abbrev pub StopsIn : Form → Words → ℕ → Type 0
 StopsIn f words left =
     (w : GoesWrong f words left) × ((us vs : Words) → w.before ≡ us ++ vs → Has f us → Unlike (continuing f) vs → ⊥)
 
--- ---- lists that are empty or begin with the first word of another list (`StartsAs`), and a list that is split at two places
+-- ---- lists that are empty or begin with the first word of another list (`StartsAs`)
 
 starts_unlike : (r rest : Words) → StartsAs r rest → (f : Form) → Unlike (continuing f) rest → Unlike (continuing f) r
 starts_unlike [] rest s f u = tt
@@ -88,7 +90,6 @@ seam (u ∷ us) t vs (x ∷ first) second e = by (seam us t vs first second cc)
     by (short v h) = short v (ap (λ ws. u ∷ ws) h ∙ ap (λ y. y ∷ (first ++ v)) (sym same))
     by (long v h) = long v (ap (λ ws. x ∷ ws) h ∙ ap (λ y. y ∷ ((us ++ t ∷ []) ++ v)) same)
 
--- if us is `first` followed by v, and us, t, vs are together `first` followed by `second`, then `second` is v followed by t and vs
 seam_rest : (us : Words) (t : List ℕ) (vs first second v : Words) → us ≡ first ++ v → (us ++ t ∷ []) ++ vs ≡ first ++ second → second ≡ v ++ t ∷ vs
 seam_rest us t vs first second v i e = same first (sym e ∙ append_assoc us (t ∷ []) vs ∙ ap (λ ws. ws ++ t ∷ vs) i ∙ append_assoc first v (t ∷ vs))
   where
@@ -96,7 +97,6 @@ seam_rest us t vs first second v i e = same first (sym e ∙ append_assoc us (t 
     same [] h = h
     same (x ∷ first) h = same first cc
 
--- if no first word of the form g can continue words of the form f, words of g do not begin with a word that can continue words of f
 unlike_words : (f g : Form) (ws : Words) → are_apart (continuing f) (firsts g) ≡ true → Has g ws → Unlike (continuing f) ws
 unlike_words f g ws a h =
     subst (Unlike (continuing f)) (append-nil (words_of g h.written) ∙ sym h.spelled) (unlike_front (continuing f) g h.written h.allowed [] a (λ e. tt))
@@ -107,18 +107,9 @@ pub ends_unlike : (f : Form) → is_unambiguous f ≡ true → (x : Written f) �
 ends_unlike f h x a rest u =
     λ y r s b st e v. (reads_once one_phrase f h x y a b r s e (starts_unlike r rest st f u) v).1
 
--- let no first word of g continue words of f, let f take p from the front of words (`IsTaken`), and let q be empty or begin with the word after p: if
--- p followed by q is of the form `sequence f g`, then q is of the form g
 has_right : (f g : Form) (p rest ws q : Words) → are_apart (continuing f) (firsts g) ≡ true → IsTaken f p rest ws → StartsAs q rest
     → Has (sequence f g) (p ++ q) → Has g q
-has_right f g p rest ws q a k s h = record {
-  written = h.written.1;
-  allowed = h.allowed.1;
-  spelled =
-      k.ends h.written.0 q (words_of g h.written.1) h.allowed.0 s
-      (ap (λ us. us ++ q) (sym k.piece_is) ∙ h.spelled)
-      (unlike_words f g (words_of g h.written.1) a (record { written = h.written.1; allowed = h.allowed.1; spelled = refl }));
-}
+has_right f g p rest ws q a k s h = search (rules, unlike_words)
 
 taken_has : (f : Form) (p rest ws : Words) → IsTaken f p rest ws → Has f p
 taken_has f p rest ws k = record { written = k.written; allowed = k.allowed; spelled = k.piece_is }
@@ -145,14 +136,11 @@ wrong_right f g p rest ws left a k w = record {
   is_none = λ h. w.is_none (has_right f g p rest ws rest a k (starts_itself rest) (subst (Has (sequence f g)) k.words_are h));
 }
 
--- if no first word of g can continue words of f, and vs does not begin with a word that can continue words of `sequence f g`, then the words of z
--- followed by vs do not begin with a word that can continue words of f
+-- let no first word of g continue words of f (`are_apart`), and let vs not begin with a word that can continue words of `sequence f g`. Then words of
+-- g followed by vs do not begin with a word that can continue words of f
 pub unlike_second : (f g : Form) (z : Written g) → May g z → (vs : Words) → are_apart (continuing f) (firsts g) ≡ true
     → Unlike (continuing (sequence f g)) vs → Unlike (continuing f) (words_of g z ++ vs)
-unlike_second f g z m vs a u =
-    unlike_front (continuing f) g z m vs a (λ n.
-    unlike (continuing f) (continuing (sequence f g)) vs
-    (λ t o. of_right (continuing g) (cond (is_skippable g) (continuing f) []) t (of_cond (is_skippable g) (continuing f) t n o)) u)
+unlike_second f g z m vs a u = search (rules, unlike_front, unlike, of_right, of_cond)
 
 pub unlike_last : (f g : Form) (vs : Words) → Unlike (continuing (sequence f g)) vs → Unlike (continuing g) vs
 unlike_last f g vs u = unlike (continuing g) (continuing (sequence f g)) vs (λ t o. of_left (continuing g) (cond (is_skippable g) (continuing f) []) t o) u
@@ -172,8 +160,6 @@ stops_right f g p rest ws left a k w = (
 
 -- ---- words that fail inside a form (`StopsIn`)
 
--- if no first word of g can continue words of f, and words fail inside f at the word t (`StopsIn`), then no words of f followed by words of g begin
--- with the words up to and including t
 none_within : (f g : Form) (words : Words) (left : ℕ) → are_apart (continuing f) (firsts g) ≡ true → (w : StopsIn f words left) (t : List ℕ) (more tail : Words)
     → w.0.after ≡ t ∷ more → Parts f g ((w.0.before ++ t ∷ []) ++ tail) → ⊥
 none_within f g words left a w t more tail k p = next (seam w.0.before t tail p.before p.after p.are)
@@ -219,8 +205,8 @@ stops_left f g words left a c w =
         (sequence_parts f g ((w.0.before ++ t ∷ []) ++ more)
         (subst (Has (sequence f g)) (ap (λ us. w.0.before ++ us) k ∙ sym (append_assoc w.0.before (t ∷ []) more)) h))
 
--- if f allows some words, but not the empty list, and ws is empty or begins with a word that cannot be the first of words of f, then ws fails inside
--- f at its start (`StopsIn`)
+-- if f allows some words, but not the empty list, and ws is empty or begins with a word that cannot be the first of words of f, then ws fails
+-- inside f (`StopsIn`) at the first word of ws
 pub stops_first : (f : Form) (ws : Words) → can_be f ≡ true → is_skippable f ≡ false → Unlike (firsts f) ws → StopsIn f ws (length ws)
 stops_first f ws c n b =
     let some = some_words f c in (
@@ -247,7 +233,7 @@ stops_first f ws c n b =
     nothing [] vs e h = never h
     nothing (u ∷ us) vs e h = cc
 
--- ---- words that an optional form takes (`IsTaken`), and words that fail inside it (`StopsIn`)
+-- ---- optional forms: the words that such a form takes (`IsTaken`), and words that fail inside such a form (`StopsIn`)
 
 pub optional_taken : (f : Form) (p rest ws : Words) → is_skippable f ≡ false → IsTaken f p rest ws → IsTaken (optional f) p rest ws
 optional_taken f p rest ws n k = record { written = inr k.written; allowed = k.allowed; piece_is = k.piece_is; words_are = k.words_are; ends = ends }
@@ -334,18 +320,8 @@ optional_stops f ws left l w = (
         w.1 us vs e (record { written = x; allowed = m; spelled = k })
         (unlike (continuing f) (continuing (optional f)) vs (λ t o. of_left (continuing f) (firsts f ++ cond (is_skippable f) [] []) t o) u)
 
--- ---- words that are left after the words of a form
-
 pub end_wrong : (ws : Words) → 0 < length ws → GoesWrong empty ws (length ws)
-end_wrong ws l = record {
-  before = [];
-  after = ws;
-  words_are = refl;
-  left_is = refl;
-  begins = ([], record { written = tt; allowed = tt; spelled = refl });
-  stops = λ t rest e h. let k = h.1.spelled in cc;
-  is_none = λ h. let k = ap length h.spelled in absurd (omega (arith, k, l));
-}
+end_wrong ws l = search rules
 
 -- if the form f takes p (`IsTaken`) and words are left after p, the words fail (`GoesWrong`) at the first word after p
 pub left_over : (f : Form) (p rest ws : Words) (left : ℕ) → IsTaken f p rest ws → GoesWrong empty rest left → GoesWrong f ws left
@@ -371,8 +347,6 @@ left_over f p rest ws left k w = record {
 
     all : rest ≡ w.after
     all = w.words_are ∙ ap (λ us. us ++ w.after) (nothing w.before w.begins.0 w.begins.1.spelled)
-
--- ---- forms in which no word can be an expression
 
 abbrev pub is_plain : Form → Bool
 is_plain empty = true
@@ -408,7 +382,7 @@ abbrev pub IsByte : Form → Words → Words → ℕ → Type 0
 IsByte f before after byte =
     ((a : IsAwaited f before after) × IsLongestPrefix BeginsExpression a.0 byte) ⊎ ((IsAwaited f before after → ⊥) × (byte ≡ 0))
 
--- the words are not of the form f, and the first error is at this byte of the first of the last `left` words (`GoesWrong`, `IsByte`)
+-- the words are not of the form f, and their first error is at the byte `byte` of the first of the last `left` words (`GoesWrong`, `IsByte`)
 abbrev pub IsWrongAt : Form → Words → ℕ → ℕ → Type 0
 IsWrongAt f words left byte = (w : GoesWrong f words left) × IsByte f w.before w.after byte
 
@@ -452,7 +426,6 @@ expression_byte words left byte w l z = at (view w.0.before)
                   record { written = p.0; allowed = p.1.allowed; spelled = ap (λ us. (us ++ t ∷ []) ++ []) e ∙ ap (λ u. u ∷ []) p.1.spelled },
                 ))
 
--- if an expression can follow the words ws in the form g, then the first of ws, if ws is not empty, is of a class of first words of g
 awaits_first : (g : Form) (ws : Words) → Awaits g ws → (t : List ℕ) (more : Words) → ws ≡ t ∷ more → OfOne (firsts g) t
 awaits_first empty ws a t more e = absurd a
 awaits_first (word (exact text)) ws a t more e = absurd a

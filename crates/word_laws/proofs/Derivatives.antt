@@ -1,13 +1,13 @@
--- Derivatives of forms: a word followed by ws is of a form if and only if ws is of one of the derivatives of the form by this word.
-use Rattle.std.proofs.Common.{◌≡◌, ℕ, Bool, true, false, cond, List, [], ◌∷◌, ◌++◌, map, refl, sym, ap, ◌∙◌, subst, ◌⊎◌, inl, inr, flat_map}
+-- Derivatives of forms, which are patterns of words: a word followed by ws is of a form if and only if ws is of one of the derivatives of the form
+-- by this word.
+use Rattle.std.proofs.Common.{◌≡◌, ℕ, Bool, true, false, cond, List, [], ◌∷◌, ◌++◌, map, refl, sym, ap, ◌∙◌, subst, ◌⊎◌, inl, inr, flat_map, rules}
 use Rattle.std.proofs.lemmas.Bool.{and_parts, and_from, or_cases, or_left, or_right}
 use Rattle.sym_model.specs.Sum.{Among}
 use Rattle.sym_model.proofs.Sums.{Among-append_left, Among-append_right, Among_from_append, Among-map, Among_from_map}
-use Rattle.sym_model.specs.Form.{Form, empty, word, sequence, either, many, Written, word_of, words_of, May, Has, fits, is_skippable, derivatives, TellsExpressions}
+use Rattle.sym_model.specs.Form.{Form, empty, word, sequence, either, many, Written, words_of, May, Has, is_skippable, derivatives, TellsExpressions}
 use Rattle.word_laws.proofs.Classes.{fits_sound, fits_complete}
 use Rattle.word_laws.specs.Words.{Words}
 
--- if the words us are of the form f and the words vs of the form g, us followed by vs is of the form `sequence f g`
 pub has_sequence : (f g : Form) (us vs : Words) → Has f us → Has g vs → Has (sequence f g) (us ++ vs)
 has_sequence f g us vs h k = record {
   written = (h.written, k.written);
@@ -23,13 +23,7 @@ pub record Parts (f g : Form) (ws : Words) : Type 0 where
   pub second : Has g after
 
 pub sequence_parts : (f g : Form) (ws : Words) → Has (sequence f g) ws → Parts f g ws
-sequence_parts f g ws h = record {
-  before = words_of f h.written.0;
-  after = words_of g h.written.1;
-  are = h.spelled;
-  first = record { written = h.written.0; allowed = h.allowed.0; spelled = refl };
-  second = record { written = h.written.1; allowed = h.allowed.1; spelled = refl };
-}
+sequence_parts f g ws h = search rules
 
 pub has_left : (f g : Form) (ws : Words) → Has f ws → Has (either f g) ws
 has_left f g ws h = record { written = inl h.written; allowed = h.allowed; spelled = h.spelled }
@@ -47,7 +41,6 @@ has_more f us vs h k = record {
 pub has_none : (f : Form) → Has (many f) []
 has_none f = record { written = []; allowed = tt; spelled = refl }
 
--- if the test `is_skippable` passes for a form, the empty list of words is of the form
 pub skipped : (f : Form) → is_skippable f ≡ true → Has f []
 skipped empty h = record { written = tt; allowed = tt; spelled = refl }
 skipped (word c) h = cc
@@ -88,22 +81,7 @@ among_cond_true false x xs h m = cc
 pub derivative_sound : (reads : List ℕ → Bool) → TellsExpressions reads → (f h : Form) (text : List ℕ) (ws : Words)
     → Among h (derivatives reads f text) → Has h ws → Has f (text ∷ ws)
 derivative_sound reads tells empty h text ws m k = absurd m
-derivative_sound reads tells (word c) h text ws m k =
-    let p = among_cond (fits reads c text) h (empty ∷ []) m in
-    let x = fits_sound reads tells c text p.0 in
-    let e = by p.1 in
-    record {
-      written = x.0;
-      allowed = x.1;
-      spelled = ap (λ w. text ∷ w) (nothing h e k) ∙ ap (λ t. t ∷ []) x.2;
-    }
-  where
-    by : Among h (empty ∷ []) → h ≡ empty
-    by (inl e) = e
-    by (inr e) = absurd e
-
-    nothing : (g : Form) → g ≡ empty → Has g ws → ws ≡ []
-    nothing g e k = let n = subst (λ f. Has f ws) e k in n.spelled
+derivative_sound reads tells (word c) h text ws m k = search (rules, among_cond, fits_sound)
 derivative_sound reads tells (sequence f g) h text ws m k =
     by
     (Among_from_append h (map (λ h. sequence h g) (derivatives reads f text)) (cond (is_skippable f) (derivatives reads g text) []) m)
@@ -193,30 +171,12 @@ many_complete reads f l (x ∷ xs) a text ws h =
 -- if a word followed by ws is of the form f, then ws is of some derivative of f by this word
 pub derivative_complete : (reads : List ℕ → Bool) → TellsExpressions reads → (f : Form) → CompleteAt reads f
 derivative_complete reads tells empty x a text ws h = cc
-derivative_complete reads tells (word c) x a text ws h =
-    let e : word_of c x ≡ text = cc in
-    let k : [] ≡ ws = cc in
-    record {
-      next = empty;
-      among = among_cond_true (fits reads c text) empty (empty ∷ [])
-          (subst (λ t. fits reads c t ≡ true) e (fits_complete reads tells c x a)) (inl refl);
-      has = record { written = tt; allowed = tt; spelled = sym k };
-    }
+derivative_complete reads tells (word c) x a text ws h = search (rules, among_cond_true, fits_complete)
 derivative_complete reads tells (sequence f g) x a text ws h =
     sequence_complete reads f g (derivative_complete reads tells f) (derivative_complete reads tells g) x a text ws h
 derivative_complete reads tells (either f g) (inl x) a text ws h =
-    let n = derivative_complete reads tells f x a text ws h in
-    record {
-      next = n.next;
-      among = Among-append_left n.next (derivatives reads f text) (derivatives reads g text) n.among;
-      has = n.has;
-    }
+    search (rules, Among-append_left, (derivative_complete reads tells f x a text ws h))
 derivative_complete reads tells (either f g) (inr x) a text ws h =
-    let n = derivative_complete reads tells g x a text ws h in
-    record {
-      next = n.next;
-      among = Among-append_right n.next (derivatives reads f text) (derivatives reads g text) n.among;
-      has = n.has;
-    }
+    search (rules, Among-append_right, (derivative_complete reads tells g x a text ws h))
 derivative_complete reads tells (many f) x a text ws h =
     many_complete reads f (derivative_complete reads tells f) x a text ws h

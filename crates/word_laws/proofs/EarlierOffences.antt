@@ -1,11 +1,12 @@
 -- The first error of two lists together, and the first error of a list, which depends only on the multiplicity of each error in the list.
-use Rattle.std.proofs.Common.{◌≡◌, ℕ, ◌+◌, ◌<◌, ◌==◌, nat_le, nat_lt, Bool, true, false, not, ◌&&◌, ◌||◌, cond, List, [], ◌∷◌, ◌++◌, refl, sym, ap, ◌∙◌, subst, arith, Option, Some, None, inl, inr}
+use Rattle.std.proofs.lemmas.Grind.{common_steps}
+use Rattle.std.proofs.Common.{◌≡◌, ℕ, ◌+◌, ◌<◌, ◌==◌, nat_le, nat_lt, Bool, true, false, not, ◌&&◌, ◌||◌, cond, List, [], ◌∷◌, ◌++◌, refl, sym, ap, ◌∙◌, subst, arith, Option, Some, None, inl, inr, rules}
 use Rattle.std.proofs.lemmas.Bool.Decides.{nat_tests}
 use Rattle.std.proofs.lemmas.Bool.{and_parts}
 use Rattle.sym_model.specs.Sum.{Among}
-use Rattle.sym_model.specs.ExpressionOffence.{OffenceKind, literal, range, shape, rank}
+use Rattle.sym_model.specs.ExpressionOffence.{rank}
 use Rattle.sym_model.specs.CommandOffence.{Offence, is_no_later, earlier_of, first_offence}
-use Rattle.sym_model.proofs.Numbers.{nat_le-trans, not_le-trans}
+use Rattle.sym_model.proofs.Numbers.{nat_le-trans}
 use Rattle.word_laws.proofs.FirstOffences.{first-among, first_none}
 use Rattle.word_laws.specs.JudgedRows.{earlier}
 
@@ -24,70 +25,23 @@ goes_on a b c false true false f h k = grind (arith, nat_tests)
 goes_on a b c false false true f h k = grind (arith, nat_tests)
 goes_on a b c false false false f h k = grind (arith, nat_tests)
 
-goes_not : (a b c : ℕ) (s t u : Bool) → (s ≡ false → t ≡ false → u ≡ false) → goes a b s ≡ false → goes b c t ≡ false → goes a c u ≡ false
-goes_not a b c false false false f h k = grind (arith, nat_tests)
-goes_not a b c false false true f h k = absurd (let e = f refl refl in cc)
-goes_not a b c true true true f h k = grind (arith, nat_tests)
-goes_not a b c true true false f h k = grind (arith, nat_tests)
-goes_not a b c true false true f h k = grind (arith, nat_tests)
-goes_not a b c true false false f h k = grind (arith, nat_tests)
-goes_not a b c false true true f h k = grind (arith, nat_tests)
-goes_not a b c false true false f h k = grind (arith, nat_tests)
-
-both_ways : (a b : ℕ) (s t : Bool) → goes a b s ≡ true → goes b a t ≡ true → (a ≡ b) × (s ≡ true) × (t ≡ true)
-both_ways a b true true h k = (grind (arith, nat_tests), refl, refl)
-both_ways a b true false h k = absurd (grind (arith, nat_tests))
-both_ways a b false true h k = absurd (grind (arith, nat_tests))
-both_ways a b false false h k = absurd (grind (arith, nat_tests))
-
-ranks_both : (a b : ℕ) → nat_le a b ≡ true → nat_le b a ≡ true → a ≡ b
-ranks_both a b h k = grind (arith, nat_tests)
-
 abbrev inner : Offence → Offence → Bool
 inner o p = goes o.1 p.1 (nat_le (rank o.2) (rank p.2))
 
 pub later_on : (o p q : Offence) → is_no_later o p ≡ true → is_no_later p q ≡ true → is_no_later o q ≡ true
-later_on o p q =
-    goes_on o.0 p.0 q.0 (inner o p) (inner p q) (inner o q)
-    (goes_on o.1 p.1 q.1 (nat_le (rank o.2) (rank p.2)) (nat_le (rank p.2) (rank q.2)) (nat_le (rank o.2) (rank q.2)) (nat_le-trans (rank o.2) (rank p.2) (rank q.2)))
+later_on o p q = search (rules, goes_on, nat_le-trans)
 
 pub later_not : (o p q : Offence) → is_no_later o p ≡ false → is_no_later p q ≡ false → is_no_later o q ≡ false
-later_not o p q =
-    goes_not o.0 p.0 q.0 (inner o p) (inner p q) (inner o q)
-    (goes_not o.1 p.1 q.1 (nat_le (rank o.2) (rank p.2)) (nat_le (rank p.2) (rank q.2)) (nat_le (rank o.2) (rank q.2)) (not_le-trans (rank o.2) (rank p.2) (rank q.2)))
-
-same_kind : (a b : OffenceKind) → rank a ≡ rank b → a ≡ b
-same_kind literal literal h = refl
-same_kind literal range h = absurd (omega (arith, h))
-same_kind literal shape h = absurd (omega (arith, h))
-same_kind range literal h = absurd (omega (arith, h))
-same_kind range range h = refl
-same_kind range shape h = absurd (omega (arith, h))
-same_kind shape literal h = absurd (omega (arith, h))
-same_kind shape range h = absurd (omega (arith, h))
-same_kind shape shape h = refl
-
-at_one_place : (a b c d : ℕ) (k l : OffenceKind) → a ≡ c → b ≡ d → k ≡ l → ◌≡◌ {A = Offence} (a, b, k) (c, d, l)
-at_one_place a b c d k l e f g =
-    ap (λ x. (x, b, k)) e ∙ ap (λ x. (c, x, k)) f ∙ ap (λ x. (c, d, x)) g
+later_not o p q = grind (arith, common_steps)
 
 pub one_place : (o p : Offence) → is_no_later o p ≡ true → is_no_later p o ≡ true → o ≡ p
-one_place o p h k =
-    let x = both_ways o.0 p.0 (inner o p) (inner p o) h k in
-    let y = both_ways o.1 p.1 (nat_le (rank o.2) (rank p.2)) (nat_le (rank p.2) (rank o.2)) x.1 x.2 in
-    at_one_place o.0 o.1 p.0 p.1 o.2 p.2 x.0 y.0 (same_kind o.2 p.2 (ranks_both (rank o.2) (rank p.2) y.1 y.2))
+one_place o p h k = grind (arith, common_steps)
 
 itself : (q : Offence) → is_no_later q q ≡ true
 itself q = grind (arith, nat_tests)
 
 pub or_later : (o p : Offence) → is_no_later o p ≡ false → is_no_later p o ≡ true
-or_later o p h = by (is_no_later p o) refl
-  where
-    by : (b : Bool) → is_no_later p o ≡ b → b ≡ true
-    by true e = refl
-    by false e = let l = later_not o p o h e in let m = itself o in cc
-
--- ---- the first error of two lists together
+or_later o p h = grind (arith, common_steps)
 
 regrouped : (x a b : Offence) (xa ab xb : Bool) → is_no_later x a ≡ xa → is_no_later a b ≡ ab → is_no_later x b ≡ xb
     → (xa ≡ true → ab ≡ true → xb ≡ true) → (xa ≡ false → ab ≡ false → xb ≡ false)
@@ -101,11 +55,7 @@ regrouped x a b false false false e f g t n = ap (λ c. cond c (Some x) (Some b)
 
 earlier_both : (x : Offence) (p q : Option Offence) → earlier_of x (earlier p q) ≡ earlier (earlier_of x p) q
 earlier_both x None q = refl
-earlier_both x (Some a) None = by (is_no_later x a)
-  where
-    by : (c : Bool) → cond c (Some x) (Some a) ≡ earlier (cond c (Some x) (Some a)) None
-    by true = refl
-    by false = refl
+earlier_both x (Some a) None = search rules
 earlier_both x (Some a) (Some b) =
     regrouped x a b (is_no_later x a) (is_no_later a b) (is_no_later x b) refl refl refl (later_on x a b) (later_not x a b)
 
@@ -126,7 +76,6 @@ pub tally_append : (f : Offence → ℕ) (xs ys : List Offence) → tally f (xs 
 tally_append f [] ys = omega arith
 tally_append f (x ∷ xs) ys = let e = tally_append f xs ys in omega (arith, e)
 
--- if o is the first error of a list (`first_offence`), it is no later than any error p of the list
 first_least : (os : List Offence) (o p : Offence) → first_offence os ≡ Some o → Among p os → is_no_later o p ≡ true
 first_least [] o p h m = absurd m
 first_least (x ∷ os) o p h m = by (first_offence os) refl h m (first_least os)
@@ -163,10 +112,7 @@ is_at o p = is_no_later o p && is_no_later p o
 
 some_at : (o : Offence) (os : List Offence) → Among o os → 0 < tally (λ p. one_if (is_at o p)) os
 some_at o [] m = absurd m
-some_at o (x ∷ os) (inl e) =
-    let t : is_at o x ≡ true = subst (λ q. is_at o q ≡ true) e (ap (λ b. b && b) (itself o)) in
-    let k : one_if (is_at o x) ≡ 1 = ap one_if t in
-    omega (arith, k)
+some_at o (x ∷ os) (inl e) = search rules
 some_at o (x ∷ os) (inr m) = let r = some_at o os m in omega (arith, r)
 
 at_some : (o : Offence) (os : List Offence) → 0 < tally (λ p. one_if (is_at o p)) os → Among o os
@@ -182,10 +128,7 @@ at_some o (x ∷ os) h = by (is_at o x) refl (λ l. at_some o os l)
 none_before : (o : Offence) (os : List Offence) → ((p : Offence) → Among p os → is_no_later o p ≡ true)
     → tally (λ p. one_if (not (is_no_later o p))) os ≡ 0
 none_before o [] h = refl
-none_before o (x ∷ os) h =
-    let k : one_if (not (is_no_later o x)) ≡ 0 = ap (λ b. one_if (not b)) (h x (inl refl)) in
-    let r = none_before o os (λ p m. h p (inr m)) in
-    omega (arith, k, r)
+none_before o (x ∷ os) h = search (rules, (none_before o os))
 
 before_none : (o : Offence) (os : List Offence) → tally (λ p. one_if (not (is_no_later o p))) os ≡ 0
     → (p : Offence) → Among p os → is_no_later o p ≡ true

@@ -1,5 +1,5 @@
 -- Laws of lists of commands, from laws of the forms of their words: the place of the first error of syntax, and the one command that words spell.
-use Rattle.std.proofs.Common.{◌≡◌, ℕ, ◌<◌, nat_lt, Bool, true, false, not, ◌&&◌, cond, List, [], ◌∷◌, ◌++◌, length, take, refl, sym, ap, ◌∙◌, subst, arith, inl, inr, Option, Some, None}
+use Rattle.std.proofs.Common.{◌≡◌, ℕ, ◌<◌, nat_lt, Bool, true, false, not, ◌&&◌, cond, List, [], ◌∷◌, ◌++◌, length, take, refl, sym, ap, ◌∙◌, subst, arith, inl, inr, Option, Some, None, rules}
 use Rattle.std.specs.Prelude.{slice_index_or}
 use Rattle.std.proofs.lemmas.Bool.{ltb-true, lt-ltb, and_parts, both_ways}
 use Rattle.sym_model.specs.LongestPrefix.{IsLongestPrefix}
@@ -11,7 +11,7 @@ use Rattle.sym_model.specs.CommandOffence.{Offence, first_offence}
 use Rattle.sym_model.specs.Entry.{Entry, SpellsCommand, HasFirstOffence, BeginsCommand}
 use Rattle.sym_model.specs.SyntaxPlace.{IsSyntaxByte, IsSyntaxPlace}
 use Rattle.word_laws.specs.OneReading.{are_apart, firsts, is_unambiguous, is_told_from, are_unambiguous}
-use Rattle.word_laws.specs.Reading.{is_expression, bytes_taken, forms_of, is_command, syntax_word, syntax_byte, syntax_place}
+use Rattle.word_laws.specs.Reading.{is_expression, bytes_taken, forms_of, syntax_word, syntax_byte, syntax_place}
 use Rattle.word_laws.proofs.LongestPrefixes.{CanBe, HasOne, BeginsOne, taken_longest, whole_sound, whole_complete}
 use Rattle.word_laws.proofs.AwaitedExpressions.{awaits_sound, awaits_complete}
 use Rattle.word_laws.proofs.Readings.{OnePhrase, told_apart, one_written}
@@ -45,8 +45,6 @@ has_spells [] words h = absurd h
 has_spells (e ∷ entries) words (inl h) = (e.says h.written, inl (record { has = h; says_it = refl }))
 has_spells (e ∷ entries) words (inr h) = let r = has_spells entries words h in (r.0, inr r.1)
 
--- ---- the place of the first error of syntax
-
 begins_entry : (entries : List Entry) (ws : Words) → BeginsOne (forms_of entries) ws → BeginsCommand entries ws
 begins_entry entries ws h = of_forms (λ f. Begins f ws) entries h
 
@@ -61,9 +59,7 @@ prefix_entry entries words k h = record {
 -- `syntax_word` is the length of the longest prefix of the words that is also the beginning of some command
 pub word_longest : (entries : List Entry) → CanBe (forms_of entries) → 0 < length entries → (words : Words)
     → IsLongestPrefix (BeginsCommand entries) words (syntax_word entries words)
-word_longest entries c n words =
-    prefix_entry entries words (syntax_word entries words)
-    (taken_longest is_expression tells_expressions (forms_of entries) c (some_length entries n) words)
+word_longest entries c n words = search (rules, prefix_entry, taken_longest, tells_expressions, some_length)
 
 pub byte_is : (entries : List Entry) (words : Words) (word : ℕ) → IsSyntaxByte entries words word (syntax_byte entries words word)
 byte_is entries words word = by (nat_lt word (length words)) (some_awaits_next (after_words is_expression (forms_of entries) (take word words))) refl refl
@@ -94,37 +90,13 @@ byte_is entries words word = by (nat_lt word (length words)) (some_awaits_next (
 -- if `syntax_place` gives a word and a byte, the words spell no command, and their first error of syntax is at this word and byte
 pub syntax_sound : (entries : List Entry) → CanBe (forms_of entries) → 0 < length entries → (words : Words) (word byte : ℕ)
     → syntax_place entries words ≡ Some (word, byte) → IsSyntaxPlace entries words word byte
-syntax_sound entries c n words word byte h = by (is_command entries words) refl h
-  where
-    by : (b : Bool) → is_command entries words ≡ b
-        → cond {A = Option (ℕ × ℕ)} b None (Some (syntax_word entries words, syntax_byte entries words (syntax_word entries words))) ≡ Some (word, byte)
-        → IsSyntaxPlace entries words word byte
-    by true e h = cc
-    by false e h =
-        let same = some_pair_parts (syntax_word entries words) word (syntax_byte entries words (syntax_word entries words)) byte h in
-        let w = same.0 in
-        let k = same.1 in
-        record {
-          no_command = λ command s.
-              both_ways (is_command entries words) e
-              (whole_complete is_expression tells_expressions (forms_of entries) words (spells_has entries words command s));
-          word_is = subst (IsLongestPrefix (BeginsCommand entries) words) w (word_longest entries c n words);
-          byte_is =
-              subst (λ v. IsSyntaxByte entries words v byte) w
-              (subst (IsSyntaxByte entries words (syntax_word entries words)) k (byte_is entries words (syntax_word entries words)));
-        }
+syntax_sound entries c n words word byte h =
+    search (rules, some_pair_parts, both_ways, whole_complete, tells_expressions, spells_has, word_longest, byte_is)
 
 -- if `syntax_place` gives no place, the words spell a command
 pub command_sound : (entries : List Entry) (words : Words) → syntax_place entries words ≡ None
     → (command : Command) × SpellsCommand entries words command
-command_sound entries words h = by (is_command entries words) refl h
-  where
-    by : (b : Bool) → is_command entries words ≡ b
-        → cond {A = Option (ℕ × ℕ)} b None (Some (syntax_word entries words, syntax_byte entries words (syntax_word entries words))) ≡ None
-        → (command : Command) × SpellsCommand entries words command
-    by false e h = cc
-    by true e h =
-        has_spells entries words (whole_sound is_expression tells_expressions (forms_of entries) words e)
+command_sound entries words h = search (rules, has_spells, whole_sound, tells_expressions)
 
 -- ---- words spell at most one command
 
@@ -155,11 +127,7 @@ pub record Told (e : Entry) (entries : List Entry) : Type 0 where
   pub others : are_unambiguous (forms_of entries) ≡ true
 
 told : (e : Entry) (entries : List Entry) → are_unambiguous (forms_of (e ∷ entries)) ≡ true → Told e entries
-told e entries h =
-    let p = and_parts (is_unambiguous e.form) (not (is_skippable e.form) && (is_told_from e.form (forms_of entries) && are_unambiguous (forms_of entries))) h in
-    let q = and_parts (not (is_skippable e.form)) (is_told_from e.form (forms_of entries) && are_unambiguous (forms_of entries)) p.1 in
-    let r = and_parts (is_told_from e.form (forms_of entries)) (are_unambiguous (forms_of entries)) q.1 in
-    record { clear = p.0; apart = r.0; others = r.1 }
+told e entries h = search rules
 
 only_has : {B : Type 0} (f : (e : Entry) → Written e.form → B) (words : Words) (b : B) (entries : List Entry)
     → SomeOf (λ (e : Entry). (h : Has e.form words) × (b ≡ f e h.written)) entries → HasOne (forms_of entries) words
@@ -205,14 +173,10 @@ pub one_offence : OnePhrase → (entries : List Entry) → are_unambiguous (form
 one_offence one entries u words o p h k =
     said_once one (λ e x. first_offence (e.offends x)) entries u words o p (offence_pairs entries words o h) (offence_pairs entries words p k)
 
--- ---- the place of the first error of syntax is unique
-
 one_length : {A : Type 0} (P : List A → Type 0) (xs : List A) (k j : ℕ) → IsLongestPrefix P xs k → IsLongestPrefix P xs j → k ≡ j
-one_length P xs k j h l =
-    let up = l.longest k h.within h.begins in
-    let down = h.longest j l.within l.begins in omega arith
+one_length P xs k j h l = search rules
 
--- if two places are the place of the first error of syntax of the same words, they are equal
+-- given words have at most one place of the first error of syntax
 pub one_place : (entries : List Entry) (words : Words) (word byte other at : ℕ)
     → IsSyntaxPlace entries words word byte → IsSyntaxPlace entries words other at → (word ≡ other) × (byte ≡ at)
 one_place entries words word byte other at h k =

@@ -1,5 +1,5 @@
 -- Words that are expressions, and the longest prefix of a text that is also the beginning of some expression, found by reading bytes from the left.
-use Rattle.std.proofs.Common.{◌≡◌, ℕ, zero, suc, ◌+◌, ◌≤◌, Bool, true, false, cond, List, [], ◌∷◌, length, take, refl, sym, ap, ◌∙◌, subst, arith, Option, Some, None}
+use Rattle.std.proofs.Common.{◌≡◌, ℕ, zero, suc, ◌+◌, ◌≤◌, Bool, true, false, cond, List, [], ◌∷◌, length, take, refl, sym, ap, ◌∙◌, subst, arith, Option, Some, None, rules}
 use Rattle.std.specs.Prelude.{is_some}
 use Rattle.std.proofs.Math.Numerals.{suc-eq-add-one}
 use Rattle.sym_model.specs.LongestPrefix.{IsLongestPrefix}
@@ -25,12 +25,10 @@ tells_expressions = record {
 abbrev Live : State Phrase (List ℕ) → List ℕ → Type 0
 Live state text = is_live (run phrases text state) ≡ true
 
--- if the state after reading a text from a given state is not `dead`, the given state is not `dead` either
 live_before : (text : List ℕ) (state : State Phrase (List ℕ)) → Live state text → is_live state ≡ true
 live_before text dead h = sym (ap is_live (read-dead text)) ∙ h
 live_before text (at p t f o) h = refl
 
--- from a state that is not `dead`, `bytes_taken` is the length of the longest prefix of the text after which the state is not `dead`
 live_longest : (text : List ℕ) (state : State Phrase (List ℕ)) → is_live state ≡ true
     → IsLongestPrefix (Live state) text (bytes_taken state text)
 live_longest [] state h = record { within = omega arith; begins = h; longest = λ j k b. k }
@@ -63,12 +61,6 @@ live_longest (byte ∷ text) state h =
         longest a zero k b = omega arith
         longest a (suc j) k b = let q = a.longest j (omega arith) b in omega arith
 
--- `bytes_taken` from the start is the length of the longest prefix of the text that is also the beginning of some expression
+-- `bytes_taken` from the state `start` is the length of the longest prefix of the text that is also the beginning of some expression
 pub bytes_longest : (text : List ℕ) → IsLongestPrefix BeginsExpression text (bytes_taken start text)
-bytes_longest text =
-    let l = live_longest text start refl in
-    record {
-      within = l.within;
-      begins = begins-from_live (take (bytes_taken start text) text) l.begins;
-      longest = λ j k b. l.longest j k (live-from_begins (take j text) b);
-    }
+bytes_longest text = search (rules, live_longest, begins-from_live, live-from_begins)

@@ -1,19 +1,14 @@
--- The first of a list of the errors of words is one of them, and no other one is before it.
-use Rattle.std.proofs.Common.{◌≡◌, ℕ, ◌<◌, ◌==◌, nat_le, nat_lt, Bool, true, false, ◌&&◌, ◌||◌, cond, List, [], ◌∷◌, refl, sym, ap, ◌∙◌, subst, arith, Option, Some, None, ◌⊎◌, inl, inr}
+-- The first error of a list of errors is in the list, and no error of the list comes before it.
+use Rattle.std.proofs.Common.{◌≡◌, ℕ, ◌<◌, ◌==◌, nat_le, nat_lt, Bool, true, false, ◌&&◌, ◌||◌, List, [], ◌∷◌, refl, sym, ap, ◌∙◌, subst, arith, Option, Some, None, ◌⊎◌, inl, inr, rules}
 use Rattle.std.proofs.lemmas.Bool.Decides.{nat_tests}
 use Rattle.sym_model.specs.Sum.{Among}
 use Rattle.sym_model.specs.CommandOffence.{Offence, is_no_later, ComesBefore, earlier_of, first_offence}
 use Rattle.sym_model.specs.ExpressionOffence.{rank}
 use Rattle.expression_laws.proofs.FirstOffences.{one_of}
 
--- an error does not come before itself (`ComesBefore`)
 never_itself : (o : Offence) → ComesBefore o o → ⊥
 never_itself o (inl h) = omega arith
-never_itself o (inr h) = by h.1
-  where
-    by : (o.1 < o.1) ⊎ ((o.1 ≡ o.1) × (rank o.2 < rank o.2)) → ⊥
-    by (inl k) = omega arith
-    by (inr k) = let l = k.1 in omega arith
+never_itself o (inr h) = search rules
 
 -- the triple (a, b, c) is lexicographically before (d, e, f): this is the order of errors, with a and d their words, b and e their bytes, and c and f
 -- the ranks of their kinds
@@ -33,7 +28,6 @@ first_before a b c d e f (inl x) = grind (arith, nat_tests)
 first_before a b c d e f (inr (x, inl y)) = grind (arith, nat_tests)
 first_before a b c d e f (inr (x, inr y)) = grind (arith, nat_tests)
 
--- if the error p is before x, and x is no later than y, p is before y
 before-first : (p x y : Offence) → ComesBefore p x → is_no_later x y ≡ true → ComesBefore p y
 before-first p x y h k = before_first p.0 p.1 (rank p.2) x.0 x.1 (rank x.2) y.0 y.1 (rank y.2) h k
 
@@ -42,15 +36,7 @@ comes_no_later x y h = first_before x.0 x.1 (rank x.2) y.0 y.1 (rank y.2) h
 
 pub first_none : (os : List Offence) → first_offence os ≡ None → os ≡ []
 first_none [] h = refl
-first_none (x ∷ os) h = absurd (by (first_offence os) h)
-  where
-    by : (rest : Option Offence) → earlier_of x rest ≡ None → ⊥
-    by None e = cc
-    by (Some y) e = chosen (is_no_later x y) e
-      where
-        chosen : (c : Bool) → cond c (Some x) (Some y) ≡ None → ⊥
-        chosen true e = cc
-        chosen false e = cc
+first_none (x ∷ os) h = search rules
 
 pub none-empty : (os : List Offence) → os ≡ [] → first_offence os ≡ None
 none-empty os h = ap first_offence h
@@ -58,15 +44,7 @@ none-empty os h = ap first_offence h
 -- the first error of a list (`first_offence`), if there is one, is in the list
 pub first-among : (os : List Offence) (o : Offence) → first_offence os ≡ Some o → Among o os
 first-among [] o h = cc
-first-among (x ∷ os) o h = by (first_offence os) refl h (first-among os)
-  where
-    by : (rest : Option Offence) → first_offence os ≡ rest → earlier_of x rest ≡ Some o → ((p : Offence) → first_offence os ≡ Some p → Among p os) → Among o (x ∷ os)
-    by None e h ih = inl (cc)
-    by (Some y) e h ih = chosen (one_of x y o (is_no_later x y) h)
-      where
-        chosen : ((is_no_later x y ≡ true) × (o ≡ x)) ⊎ ((is_no_later x y ≡ false) × (o ≡ y)) → Among o (x ∷ os)
-        chosen (inl k) = inl k.1
-        chosen (inr k) = inr (ih o (e ∙ ap Some (sym k.1)))
+first-among (x ∷ os) o h = search (rules, one_of, (first-among os))
 
 pub none-before : (os : List Offence) (o p : Offence) → first_offence os ≡ Some o → Among p os → ComesBefore p o → ⊥
 none-before [] o p h a b = a

@@ -1,6 +1,6 @@
--- The errors of rows of numbers. A rule for each number that combines several rules finds the same errors, each as often, as these rules find if they
--- are applied to the rows one after another.
-use Rattle.std.proofs.Common.{◌≡◌, ℕ, ◌+◌, Bool, List, [], ◌∷◌, ◌++◌, map, length, drop, refl, arith, Option, Some, None}
+-- The errors of rows of numbers. Several rules can be combined into one rule that is applied to each number in turn. The combined rule finds the
+-- same errors, with the same multiplicities, as the single rules find if each of them is applied to all rows.
+use Rattle.std.proofs.Common.{◌≡◌, ℕ, ◌+◌, Bool, List, [], ◌∷◌, ◌++◌, map, length, drop, refl, arith, Option, Some, None, rules}
 use Rattle.sym_model.specs.Partition.{part}
 use Rattle.sym_model.specs.ExpressionOffence.{OffenceKind, range, shape}
 use Rattle.sym_model.specs.CommandOffence.{Offence, Rule, PlacedRow, when, first_offence, offences_after, offences_by, entry_rule, row_offences, count_offences, length_offences, order_offences, standard_offences, empty_row_offences}
@@ -20,17 +20,10 @@ kinds_of_both : (f : Weight) (k : ℕ) (xs ys : List OffenceKind)
 kinds_of_both f k [] ys = omega arith
 kinds_of_both f k (x ∷ xs) ys = let e = kinds_of_both f k xs ys in omega (arith, e)
 
--- the sum of f over the errors found by the rules r and s together is the sum of f over those found by r plus the sum of f over those found by s
 both_rules : (f : Weight) (r s : Rule) (b : List ℕ) (k : ℕ) (ns : List ℕ)
     → tally f (offences_after (λ before a. r before a ++ s before a) b k ns) ≡ tally f (offences_after r b k ns) + tally f (offences_after s b k ns)
 both_rules f r s b k [] = refl
-both_rules f r s b k (a ∷ ns) =
-    let kinds = kinds_of_both f k (r b a) (s b a) in
-    let x = tally_append f (map (of_kind k) (r b a ++ s b a)) (offences_after (λ before a. r before a ++ s before a) (a ∷ b) (k + 1) ns) in
-    let y = tally_append f (map (of_kind k) (r b a)) (offences_after r (a ∷ b) (k + 1) ns) in
-    let z = tally_append f (map (of_kind k) (s b a)) (offences_after s (a ∷ b) (k + 1) ns) in
-    let rest = both_rules f r s (a ∷ b) (k + 1) ns in
-    omega (arith, kinds, x, y, z, rest)
+both_rules f r s b k (a ∷ ns) = search (rules, kinds_of_both, tally_append, (both_rules f r s (a ∷ b) (k + 1) ns))
 
 no_rule : (f : Weight) (b : List ℕ) (k : ℕ) (ns : List ℕ) → tally f (offences_after (λ before a. []) b k ns) ≡ 0
 no_rule f b k [] = refl
@@ -54,8 +47,6 @@ cell_tally f count most test k ns =
     let y = both_rules f (much count) (λ before a. long most before a ++ wrong test before a) [] k ns in
     let z = both_rules f (long most) (wrong test) [] k ns in
     omega (arith, x, y, z)
-
--- ---- sums of f over the errors of the rows of an insertion tableau
 
 abbrev ordered : ℕ → List ℕ → ℕ → Rule
 ordered c upper d = wrong (is_disordered c upper d)
@@ -102,8 +93,6 @@ inserted_first [] = refl
 inserted_first (row ∷ rows) =
     first_alike (insertion_offences (row ∷ rows)) (inserted 0 None [] (row ∷ rows) ++ empty_row_offences (row ∷ rows)) (inserted_alike row rows)
 
--- ---- sums of f over the errors of the rows of a recording tableau
-
 recorded_tally : (f : Weight) (cells count : ℕ) (earlier upper : List ℕ) (rows : List PlacedRow)
     → tally f (recorded cells count earlier upper rows)
     ≡ tally f (row_offences entry_rule rows) + (tally f (count_offences count rows) + tally f (standard_offences cells earlier upper rows))
@@ -123,15 +112,7 @@ recorded_tally f cells count earlier upper (row ∷ rows) =
 
 pub recorded_first : (cells : ℕ) (rows : List PlacedRow)
     → first_offence (filled_offences rows ++ standard_offences cells [] [] rows) ≡ first_offence (recorded cells 0 [] [] rows)
-recorded_first cells rows =
-    first_alike (filled_offences rows ++ standard_offences cells [] [] rows) (recorded cells 0 [] [] rows)
-    (λ f.
-    let p = tally_append f (filled_offences rows) (standard_offences cells [] [] rows) in
-    let q = tally_append f (row_offences entry_rule rows) (count_offences 0 rows) in
-    let r = recorded_tally f cells 0 [] [] rows in
-    omega (arith, p, q, r))
-
--- ---- sums of f over the errors of the rows of a skew tableau
+recorded_first cells rows = search (rules, first_alike, tally_append, recorded_tally)
 
 skewed_tally : (f : Weight) (c : ℕ) (upper inner : List ℕ) (rows : List PlacedRow)
     → tally f (skewed c upper inner rows) ≡ tally f (row_offences entry_rule rows) + tally f (order_offences c upper inner rows)
@@ -150,9 +131,4 @@ skewed_tally f c upper inner (row ∷ rows) =
 
 pub skewed_first : (inner : List ℕ) (rows : List PlacedRow)
     → first_offence (row_offences entry_rule rows ++ order_offences 0 [] inner rows) ≡ first_offence (skewed 0 [] inner rows)
-skewed_first inner rows =
-    first_alike (row_offences entry_rule rows ++ order_offences 0 [] inner rows) (skewed 0 [] inner rows)
-    (λ f.
-    let p = tally_append f (row_offences entry_rule rows) (order_offences 0 [] inner rows) in
-    let r = skewed_tally f 0 [] inner rows in
-    omega (arith, p, r))
+skewed_first inner rows = search (rules, first_alike, tally_append, skewed_tally)

@@ -1,11 +1,11 @@
 -- The place of the error in words that must be a tableau with rows of given lengths, found word by word.
-use Rattle.std.proofs.Common.{◌≡◌, ℕ, zero, suc, ◌+◌, ◌==◌, min, Bool, true, false, ◌&&◌, ◌||◌, cond, List, [], ◌∷◌, ◌++◌, map, length, refl, sym, ap, ◌∙◌, arith, Option, Some, None}
+use Rattle.std.proofs.Common.{◌≡◌, ℕ, zero, suc, ◌+◌, ◌==◌, min, Bool, true, false, ◌&&◌, ◌||◌, cond, List, [], ◌∷◌, ◌++◌, map, length, refl, sym, ap, ◌∙◌, arith, Option, Some, None, rules}
 use Rattle.std.specs.Prelude.{codes}
 use Rattle.std.proofs.lemmas.Bool.{eqb-true, eqb-false}
 use Rattle.sym_model.specs.Polynomial.{same}
 use Rattle.sym_model.proofs.Exponents.{same_true}
 use Rattle.sym_model.specs.ExpressionOffence.{shape}
-use Rattle.sym_model.specs.Form.{Form, empty, word, sequence, number, EachOf, is_number_word, is_skippable, derivatives, one_more, taken, has_skippable, after_words, are_words_of}
+use Rattle.sym_model.specs.Form.{Form, empty, word, sequence, number, EachOf, is_number_word, is_skippable, derivatives, one_more, taken, has_skippable, after_words}
 use Rattle.sym_model.specs.CommandOffence.{Offence}
 use Rattle.sym_model.specs.WordForms.{the, row_of, tableau_of, shape_offences}
 use Rattle.word_laws.specs.WrittenRows.{row_text, further_text, rows_text, left_behind, left_at}
@@ -33,11 +33,7 @@ offence_at k None = []
 offence_at k (Some n) = (k + n, 0, shape) ∷ []
 
 shape_found : (k : ℕ) (lengths : List ℕ) (words : Words) → shape_offences k lengths words ≡ offence_at k (found (tableau_of lengths) words)
-shape_found k lengths words = by (are_words_of never (tableau_of lengths) words) (taken never (tableau_of lengths ∷ []) words)
-  where
-    by : (b : Bool) (n : ℕ) → cond b [] ((k + n, 0, shape) ∷ []) ≡ offence_at k (left_if b n)
-    by true n = refl
-    by false n = refl
+shape_found k lengths words = search rules
 
 shift_offence : (k d : ℕ) (x : Option ℕ) → offence_at k (shift d x) ≡ offence_at (k + d) x
 shift_offence k d None = refl
@@ -60,12 +56,7 @@ going_found h g [] e = ap (λ b. left_if (b || false) 0) e
 going_found h g (text ∷ rest) e = ap (λ ds. found_by ds rest) e
 
 step_found : (h g : Form) (text : List ℕ) (rest : Words) → derivatives never h text ≡ g ∷ [] → found h (text ∷ rest) ≡ shift 1 (found g rest)
-step_found h g text rest e =
-    ap (λ ds. found_by ds rest) e ∙ by (has_skippable (after_words never (g ∷ []) rest)) (taken never (g ∷ []) rest)
-  where
-    by : (b : Bool) (n : ℕ) → left_if b (n + 1) ≡ shift 1 (left_if b n)
-    by true n = refl
-    by false n = let e : n + 1 ≡ 1 + n = omega arith in ap Some e
+step_found h g text rest e = search rules
 
 nothing_left : (words : Words) → after_words never [] words ≡ []
 nothing_left [] = refl
@@ -75,7 +66,7 @@ stop_found : (h : Form) (text : List ℕ) (rest : Words) → derivatives never h
 stop_found h text rest e =
     ap (λ ds. found_by ds rest) e ∙ ap (λ fs. left_if (has_skippable fs) 0) (nothing_left rest)
 
--- ---- the form of a row and of further rows after it
+-- ---- `then lengths f`: the form f, followed by the rows of a tableau with the given lengths, each after a `/`
 
 abbrev then : List ℕ → Form → Form
 then [] f = f
@@ -88,18 +79,12 @@ tableau_then n (m ∷ lengths) = refl
 then_one : (lengths : List ℕ) (f h : Form) (text : List ℕ) → is_skippable f ≡ false → derivatives never f text ≡ h ∷ []
     → derivatives never (then lengths f) text ≡ then lengths h ∷ []
 then_one [] f h text s e = e
-then_one (m ∷ lengths) f h text s e =
-    let g = sequence (the (codes "/")) (tableau_of (m ∷ lengths)) in
-    ap (λ hs. map (λ h. sequence h g) hs ++ cond (is_skippable f) (derivatives never g text) []) e
-    ∙ ap (λ b. sequence h g ∷ cond b (derivatives never g text) []) s
+then_one (m ∷ lengths) f h text s e = search rules
 
 then_none : (lengths : List ℕ) (f : Form) (text : List ℕ) → is_skippable f ≡ false → derivatives never f text ≡ []
     → derivatives never (then lengths f) text ≡ []
 then_none [] f text s e = e
-then_none (m ∷ lengths) f text s e =
-    let g = sequence (the (codes "/")) (tableau_of (m ∷ lengths)) in
-    ap (λ hs. map (λ h. sequence h g) hs ++ cond (is_skippable f) (derivatives never g text) []) e
-    ∙ ap (λ b. cond b (derivatives never g text) []) s
+then_none (m ∷ lengths) f text s e = search rules
 
 then_going : (lengths : List ℕ) (f : Form) (words : Words) → Going (then lengths (sequence empty f)) (then lengths f) words
 then_going [] f [] = refl
@@ -142,13 +127,7 @@ row_fits lengths (suc zero) (w ∷ []) more a e =
 row_fits lengths (suc (suc n)) (w ∷ []) more a e = absurd (omega (arith, e))
 row_fits lengths (suc zero) (w ∷ v ∷ row) more a e = absurd (omega (arith, e))
 row_fits lengths (suc (suc n)) (w ∷ v ∷ row) more a e =
-    let f = row_of (suc n) in
-    step_found (then lengths (row_of (suc (suc n)))) (then lengths (sequence empty f)) w (v ∷ (row ++ more))
-    (then_one lengths (row_of (suc (suc n))) (sequence empty f) w refl (row_more n w a.0))
-    ∙ ap (shift 1)
-    (going_found (then lengths (sequence empty f)) (then lengths f) (v ∷ (row ++ more)) (then_going lengths f (v ∷ (row ++ more)))
-    ∙ row_fits lengths (suc n) (v ∷ row) more a.1 (omega (arith, e)))
-    ∙ shift_more 1 (length (v ∷ row)) (length (w ∷ v ∷ row)) (found (then lengths empty) more) (omega arith)
+    search (rules, step_found, then_one, row_more, going_found, then_going, shift_more, (row_fits lengths (suc n) (v ∷ row) more a.1))
 
 -- if a row must have at least one more number, but a `/` or no word follows, the error is at this place
 further_stops : (lengths : List ℕ) (n : ℕ) (rows : List Words) → found (then lengths (row_of (suc n))) (further_text rows) ≡ Some 0
@@ -156,9 +135,7 @@ further_stops lengths n [] =
     ap (λ b. left_if (b || false) 0) (no_skip lengths (row_of (suc n)) (row_no_skip (suc n)))
 further_stops lengths zero (r ∷ rows) =
     stop_found (then lengths (row_of 1)) (codes "/") (row_text r ++ further_text rows) (then_none lengths (row_of 1) (codes "/") refl refl)
-further_stops lengths (suc n) (r ∷ rows) =
-    stop_found (then lengths (row_of (suc (suc n)))) (codes "/") (row_text r ++ further_text rows)
-    (then_none lengths (row_of (suc (suc n))) (codes "/") refl refl)
+further_stops lengths (suc n) (r ∷ rows) = search (rules, stop_found, then_none)
 
 empty_stops : (lengths : List ℕ) (v : List ℕ) → IsNumber v → derivatives never (then lengths empty) v ≡ []
 empty_stops [] v h = refl
@@ -168,17 +145,9 @@ empty_stops (m ∷ lengths) v h =
 row_misses : (lengths : List ℕ) (n : ℕ) (row : Words) (rows : List Words) (m : ℕ) → EachOf IsNumber row → (length row ≡ n → ⊥) → m ≡ min n (length row)
     → found (then lengths (row_of n)) (row_text row ++ further_text rows) ≡ Some m
 row_misses lengths zero [] rows m a e k = absurd (e refl)
-row_misses lengths zero (w ∷ row) rows m a e k =
-    stop_found (then lengths (row_of 0)) w (row ++ further_text rows)
-    (then_none lengths (row_of 0) w refl (ap (λ b. cond b (empty ∷ []) []) (not_text (codes ".") w refl a.0)))
-    ∙ (let z : 0 ≡ m = omega (arith, k) in ap Some z)
-row_misses lengths (suc zero) [] rows m a e k =
-    stop_found (then lengths (row_of 1)) (codes ".") (further_text rows) (then_none lengths (row_of 1) (codes ".") refl refl)
-    ∙ (let z : 0 ≡ m = omega (arith, k) in ap Some z)
-row_misses lengths (suc (suc n)) [] rows m a e k =
-    stop_found (then lengths (row_of (suc (suc n)))) (codes ".") (further_text rows)
-    (then_none lengths (row_of (suc (suc n))) (codes ".") refl refl)
-    ∙ (let z : 0 ≡ m = omega (arith, k) in ap Some z)
+row_misses lengths zero (w ∷ row) rows m a e k = search (rules, stop_found, then_none, not_text)
+row_misses lengths (suc zero) [] rows m a e k = search (rules, stop_found, then_none)
+row_misses lengths (suc (suc n)) [] rows m a e k = search (rules, stop_found, then_none)
 row_misses lengths (suc zero) (w ∷ []) rows m a e k = absurd (e refl)
 row_misses lengths (suc zero) (w ∷ v ∷ row) rows m a e k =
     step_found (then lengths (row_of 1)) (then lengths empty) w (v ∷ (row ++ further_text rows))
@@ -205,7 +174,6 @@ row_misses lengths (suc (suc n)) (w ∷ v ∷ row) rows m a e k =
 
 -- ---- the place of the error in the words of all rows
 
--- if the last of the required rows is correct and ends before word e, there is an error, at e, if and only if further rows follow
 no_rows_asked : (e : ℕ) (rows : List Words) (later : List Offence)
     → offence_at e (found (then [] empty) (further_text rows)) ≡ left_behind e [] rows later
 no_rows_asked e [] later = refl
@@ -223,29 +191,12 @@ row_left : (k n : ℕ) (lengths : List ℕ) (row : Words) (rows : List Words) (b
     → offence_at (k + length (row_text row)) (found (then lengths empty) (further_text rows)) ≡ behind
     → offence_at k (found (tableau_of (n ∷ lengths)) (rows_text (row ∷ rows)))
     ≡ cond (length row == n) behind ((k + min n (length row), 0, shape) ∷ [])
-row_left k n lengths row rows behind a h =
-    ap (λ f. offence_at k (found f (row_text row ++ further_text rows))) (tableau_then n lengths) ∙ by (length row == n) refl
-  where
-    by : (b : Bool) → (length row == n) ≡ b
-        → offence_at k (found (then lengths (row_of n)) (row_text row ++ further_text rows))
-        ≡ cond (length row == n) behind ((k + min n (length row), 0, shape) ∷ [])
-    by true e =
-        ap (offence_at k) (row_fits lengths n row (further_text rows) a (eqb-true (length row) n e))
-        ∙ shift_offence k (length (row_text row)) (found (then lengths empty) (further_text rows))
-        ∙ h
-        ∙ sym (ap (λ b. cond b behind ((k + min n (length row), 0, shape) ∷ [])) e)
-    by false e =
-        ap (offence_at k) (row_misses lengths n row rows (min n (length row)) a (eqb-false (length row) n e) refl)
-        ∙ sym (ap (λ b. cond b behind ((k + min n (length row), 0, shape) ∷ [])) e)
+row_left k n lengths row rows behind a h = search (rules, tableau_then, row_fits, eqb-true, shift_offence, row_misses, eqb-false)
 
 left_found : (k n : ℕ) (lengths : List ℕ) (row : Words) (rows : List Words) → EachOf (EachOf IsNumber) (row ∷ rows)
     → offence_at k (found (tableau_of (n ∷ lengths)) (rows_text (row ∷ rows))) ≡ left_at k (n ∷ lengths) (row ∷ rows)
-left_found k n [] row rows a =
-    row_left k n [] row rows (left_behind (k + length (row_text row)) [] rows (left_at (k + length (row_text row) + 1) [] rows)) a.0
-    (no_rows_asked (k + length (row_text row)) rows (left_at (k + length (row_text row) + 1) [] rows))
-left_found k n (m ∷ ls) row [] a =
-    row_left k n (m ∷ ls) row [] (left_behind (k + length (row_text row)) (m ∷ ls) [] (left_at (k + length (row_text row) + 1) (m ∷ ls) [])) a.0
-    (no_rows_there (k + length (row_text row)) m ls (left_at (k + length (row_text row) + 1) (m ∷ ls) []))
+left_found k n [] row rows a = search (rules, row_left, no_rows_asked)
+left_found k n (m ∷ ls) row [] a = search (rules, row_left, no_rows_there)
 left_found k n (m ∷ ls) row (r ∷ rs) a =
     let ih = left_found (k + length (row_text row) + 1) m ls r rs a.1 in
     row_left k n (m ∷ ls) row (r ∷ rs)

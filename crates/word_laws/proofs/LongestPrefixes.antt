@@ -1,5 +1,5 @@
 -- `taken` is the length of the longest prefix of a list of words that is also the beginning of words of one of the forms.
-use Rattle.std.proofs.Common.{◌≡◌, ℕ, zero, suc, ◌+◌, ◌<◌, ◌≤◌, Bool, true, false, cond, List, [], ◌∷◌, ◌++◌, map, length, take, refl, sym, ap, ◌∙◌, subst, arith, ◌⊎◌, inl, inr}
+use Rattle.std.proofs.Common.{◌≡◌, ℕ, zero, suc, ◌+◌, ◌<◌, ◌≤◌, Bool, true, false, cond, List, [], ◌∷◌, ◌++◌, map, length, take, refl, sym, ap, ◌∙◌, subst, arith, ◌⊎◌, inl, inr, rules}
 use Rattle.std.proofs.lemmas.Bool.{and_parts, and_from, or_cases, or_left, or_right}
 use Rattle.std.proofs.Math.Numerals.{suc-eq-add-one}
 use Rattle.sym_model.specs.Sum.{Among}
@@ -9,8 +9,6 @@ use Rattle.sym_model.specs.Form.{Form, empty, word, sequence, either, many, word
 use Rattle.word_laws.proofs.Classes.{some_word}
 use Rattle.word_laws.proofs.Derivatives.{has_sequence, has_left, has_none, skipped, skippable, derivative_sound, derivative_complete}
 use Rattle.word_laws.specs.Words.{Words}
-
--- ---- if the test `can_be` passes for a form, some words are of this form
 
 pub some_words : (f : Form) → can_be f ≡ true → (ws : Words) × Has f ws
 some_words empty h = ([], record { written = tt; allowed = tt; spelled = refl })
@@ -99,7 +97,6 @@ after_can_be reads forms text c =
     let b = Among_from_each (λ f. derivatives reads f text) h forms m in
     derivative_can_be reads b.0 h text (each_in (λ f. can_be f ≡ true) b.0 forms c b.1) b.2)
 
--- if `text` followed by ws is of one of the forms, ws is of one of their derivatives by `text`
 pub has_after : (reads : List ℕ → Bool) → TellsExpressions reads → (forms : List Form) (text : List ℕ) (ws : Words)
     → HasOne forms (text ∷ ws) → HasOne (after_word reads forms text) ws
 has_after reads tells forms text ws h =
@@ -130,9 +127,7 @@ begins_nothing (f ∷ forms) c n = inl (some_words f c.0)
 
 more_than_none : (reads : List ℕ → Bool) → TellsExpressions reads → (forms : List Form) (text : List ℕ) (ws : Words)
     → after_word reads forms text ≡ [] → BeginsOne forms (text ∷ ws) → ⊥
-more_than_none reads tells forms text ws e h =
-    let b = begins_has forms (text ∷ ws) h in
-    subst (λ fs. HasOne fs (ws ++ b.0)) e (has_after reads tells forms text (ws ++ b.0) b.1)
+more_than_none reads tells forms text ws e h = search (rules, begins_has, has_after)
 
 -- if there are forms and each allows some words, `taken` is the length of the longest prefix of ws that is also the beginning of words of one of the
 -- forms
@@ -177,15 +172,11 @@ taken_longest reads tells forms c n (text ∷ ws) =
             (has_begins (after_word reads forms text) (take j ws) p.0 (has_after reads tells forms text (take j ws ++ p.0) p.1)) in
             omega arith
 
--- ---- words are of one of the forms if and only if one of the derivatives of the forms by these words is skippable
+-- ---- words are of one of the forms if and only if one of the derivatives of the forms by these words allows the empty list (`has_skippable`)
 
 skippable_some : (forms : List Form) → has_skippable forms ≡ true → HasOne forms []
 skippable_some [] h = cc
-skippable_some (f ∷ forms) h = by (or_cases (is_skippable f) (has_skippable forms) h) (skippable_some forms)
-  where
-    by : (is_skippable f ≡ true) ⊎ (has_skippable forms ≡ true) → (has_skippable forms ≡ true → HasOne forms []) → HasOne (f ∷ forms) []
-    by (inl e) r = inl (skipped f e)
-    by (inr e) r = inr (r e)
+skippable_some (f ∷ forms) h = search (rules, or_cases, skipped, (skippable_some forms))
 
 some_skippable : (forms : List Form) → HasOne forms [] → has_skippable forms ≡ true
 some_skippable [] h = absurd h

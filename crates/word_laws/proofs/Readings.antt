@@ -1,5 +1,5 @@
--- Words of an unambiguous form denote one value of the form.
-use Rattle.std.proofs.Common.{◌≡◌, ℕ, Bool, true, false, not, ◌&&◌, cond, List, [], ◌∷◌, ◌++◌, append_assoc, refl, sym, ap, ◌∙◌, subst, inl, inr, flat_map}
+-- If a form, a pattern of words, is unambiguous, then a list of words denotes at most one value of the form.
+use Rattle.std.proofs.Common.{◌≡◌, ℕ, Bool, true, false, not, ◌&&◌, cond, List, [], ◌∷◌, ◌++◌, append_assoc, refl, sym, ap, ◌∙◌, subst, inl, inr, flat_map, rules}
 use Rattle.std.specs.Prelude.{codes}
 use Rattle.std.proofs.lemmas.Bool.{and_parts, and_from}
 use Rattle.sym_model.specs.Sum.{Among}
@@ -23,7 +23,6 @@ not_both : (b : Bool) → not b ≡ true → b ≡ true → ⊥
 not_both true h k = cc
 not_both false h k = cc
 
--- if the test `is_apart` passes for the classes c and d, no word is of both classes
 apart_sound : (c d : Class) → is_apart c d ≡ true → (x : WrittenWord c) (y : WrittenWord d) → MayBe c x → MayBe d y
     → word_of c x ≡ word_of d y → ⊥
 apart_sound (exact a) (exact b) h x y m n e = not_both (same a b) h (same_from a b e)
@@ -66,27 +65,13 @@ pub record OfOne (cs : List Class) (text : List ℕ) : Type 0 where
   pub spelled : text ≡ word_of class written
 
 pub never_both : (cs ds : List Class) (text : List ℕ) → are_apart cs ds ≡ true → OfOne cs text → OfOne ds text → ⊥
-never_both cs ds text h o p =
-    apart_sound o.class p.class (apart_each o.class p.class cs ds h o.among p.among) o.written p.written o.allowed p.allowed
-    (sym o.spelled ∙ p.spelled)
+never_both cs ds text h o p = search (rules, apart_sound, apart_each)
 
 pub of_left : (cs ds : List Class) (text : List ℕ) → OfOne cs text → OfOne (cs ++ ds) text
-of_left cs ds text o = record {
-  class = o.class;
-  among = Among-append_left o.class cs ds o.among;
-  written = o.written;
-  allowed = o.allowed;
-  spelled = o.spelled;
-}
+of_left cs ds text o = search (rules, Among-append_left)
 
 pub of_right : (cs ds : List Class) (text : List ℕ) → OfOne ds text → OfOne (cs ++ ds) text
-of_right cs ds text o = record {
-  class = o.class;
-  among = Among-append_right o.class cs ds o.among;
-  written = o.written;
-  allowed = o.allowed;
-  spelled = o.spelled;
-}
+of_right cs ds text o = search (rules, Among-append_right)
 
 pub of_cond : (b : Bool) (cs : List Class) (text : List ℕ) → b ≡ true → OfOne cs text → OfOne (cond b cs []) text
 of_cond true cs text h o = o
@@ -114,7 +99,7 @@ pub view : (ws : Words) → View ws
 view [] = none refl
 view (text ∷ ws) = some text ws refl
 
--- the first of words of the form f is of one of the classes `firsts f`
+-- the first word of a list of words of the form f is of one of the classes `firsts f`
 pub first_word : (f : Form) (x : Written f) → May f x → (text : List ℕ) (ws : Words) → words_of f x ≡ text ∷ ws → OfOne (firsts f) text
 first_word empty x a text ws h = cc
 first_word (word c) x a text ws h = record { class = c; among = inl refl; written = x; allowed = a; spelled = cc }
@@ -147,8 +132,8 @@ first_word (many f) xs a text ws h = of_many f (first_word f) xs a text ws h
             let k : t ∷ (rest ++ flat_map (words_of f) xs) ≡ text ∷ ws = subst (λ us. us ++ flat_map (words_of f) xs ≡ text ∷ ws) e h in
             let n : t ≡ text = cc in subst (OfOne (firsts f)) n (l x a.0 t rest e)
 
--- if the classes cs have no word in common with the first words of f (`are_apart`), and, if f allows the empty list, r does not begin with a word of
--- these classes, then words of f followed by r do not begin with a word of these classes
+-- let no word of the classes cs be a first word of f (`are_apart`). If f allows the empty list, let r not begin with a word of these classes. Then
+-- words of f followed by r do not begin with a word of these classes
 pub unlike_front : (cs : List Class) (f : Form) (x : Written f) → May f x → (r : Words) → are_apart cs (firsts f) ≡ true
     → (is_skippable f ≡ true → Unlike cs r) → Unlike cs (words_of f x ++ r)
 unlike_front cs f x a r h u = by (view (words_of f x))
@@ -169,11 +154,9 @@ basis_of-letter completes = refl
 basis_of-letter power_sums = refl
 basis_of-letter schurs = refl
 
--- if two bases have the same letter, they are equal
 pub letter_once : (b c : Basis) → letter b ≡ letter c → b ≡ c
 letter_once b c h = sym (basis_of-letter b) ∙ ap basis_of h ∙ basis_of-letter c
 
--- if two values denote the same word of a class, they are equal
 one_word : OnePhrase → (c : Class) (x y : WrittenWord c) → MayBe c x → MayBe c y → word_of c x ≡ word_of c y → x ≡ y
 one_word one (exact w) x y a b h = refl
 one_word one number x y a b h = h
@@ -181,10 +164,8 @@ one_word one (target bases) x y a b h = letter_once x y h
 one_word one formula x y a b h =
     one (word_of formula x) x y (record { allowed = a; spelled = refl }) (record { allowed = b; spelled = h })
 
--- ---- the one value that words of an unambiguous form denote
-
--- if a list of words consists of words of the form f and then words that do not begin with a word that can continue words of f, the list determines
--- the value of f and the words after those of f
+-- a list of words can be cut in only one way into words of the form f and further words, if the further words do not begin with a word that can
+-- continue words of f; and the words of f denote only one value of f
 abbrev pub ReadsOnce : Form → Type 0
 ReadsOnce f =
     (x y : Written f) → May f x → May f y → (r s : Words) → words_of f x ++ r ≡ words_of f y ++ s
@@ -213,8 +194,8 @@ sequence_once f g l k d x y a b r s h u v =
     same_pair : (p q : Written f) (m n : Written g) → p ≡ q → m ≡ n → ◌≡◌ {A = Written f × Written g} (p, m) (q, n)
     same_pair p q m n e k = ap (λ (z : Written f). (z, m)) e ∙ ap (λ (z : Written g). (q, z)) k
 
--- let f and g have no first word in common and not both allow the empty list; if f allows it, let r not begin with a first word of g; if g allows it,
--- let s not begin with a first word of f: then words of f followed by r are not words of g followed by s
+-- let f and g have no first word in common, and not both allow the empty list. If f allows the empty list, let r not begin with a first word of g; if
+-- g allows the empty list, let s not begin with a first word of f. Then words of f followed by r are not words of g followed by s
 pub told_apart : (f g : Form) (x : Written f) (y : Written g) → May f x → May g y → (r s : Words)
     → words_of f x ++ r ≡ words_of g y ++ s → are_apart (firsts f) (firsts g) ≡ true → not (is_skippable f && is_skippable g) ≡ true
     → (is_skippable f ≡ true → Unlike (firsts g) r) → (is_skippable g ≡ true → Unlike (firsts f) s) → ⊥
@@ -241,9 +222,6 @@ either_once : (f g : Form) → ReadsOnce f → ReadsOnce g → are_apart (firsts
     → not (is_skippable f && is_skippable g) ≡ true → ReadsOnce (either f g)
 either_once f g l k d n = once
   where
-    all : List Class
-    all = continuing f ++ (continuing g ++ (cond (is_skippable f) (firsts g) [] ++ cond (is_skippable g) (firsts f) []))
-
     into_g : is_skippable f ≡ true → (ws : Words) → Unlike (continuing (either f g)) ws → Unlike (firsts g) ws
     into_g e ws w =
         unlike (firsts g) (continuing (either f g)) ws
@@ -292,7 +270,6 @@ many_once f l n d = once
         subst (Unlike (continuing f)) (sym (append_assoc (words_of f x) (flat_map (words_of f) xs) r))
         (unlike_front (continuing f) f x a.0 (flat_map (words_of f) xs ++ r) d (λ e. absurd (never e)))
 
-    -- if r does not begin with a first word of f, it does not begin with one or more lists of words of f
     not_more : (x : Written f) (xs : List (Written f)) → May f x → (r s : Words) → Unlike (firsts f) r
         → r ≡ (words_of f x ++ flat_map (words_of f) xs) ++ s → ⊥
     not_more x xs a r s u h = by (view (words_of f x))

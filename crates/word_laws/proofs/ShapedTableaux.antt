@@ -1,5 +1,5 @@
 -- The words of a tableau with rows of given lengths, and the errors of shape of other words.
-use Rattle.std.proofs.Common.{◌≡◌, ℕ, zero, suc, ◌+◌, Bool, true, false, ◌&&◌, cond, List, [], ◌∷◌, ◌++◌, map, length, take, refl, sym, ap, ◌∙◌, subst, arith, ◌⊎◌, inl, inr, ◌↔◌, flat_map}
+use Rattle.std.proofs.Common.{◌≡◌, ℕ, zero, suc, ◌+◌, Bool, true, false, ◌&&◌, cond, List, [], ◌∷◌, ◌++◌, map, length, take, refl, sym, ap, ◌∙◌, subst, arith, ◌⊎◌, inl, inr, ◌↔◌, flat_map, rules}
 use Rattle.std.specs.Prelude.{codes}
 use Rattle.std.proofs.lemmas.List.{append-nil}
 use Rattle.std.proofs.lemmas.Bool.{and_parts, and_from}
@@ -7,7 +7,7 @@ use Rattle.sym_model.specs.Sum.{Among}
 use Rattle.sym_model.proofs.Sums.{Among_from_append, Among_from_map, Among_from_each}
 use Rattle.sym_model.specs.LongestPrefix.{IsLongestPrefix}
 use Rattle.sym_model.specs.ExpressionOffence.{shape}
-use Rattle.sym_model.specs.Form.{Class, exact, number, target, formula, Form, empty, word, sequence, either, many, Written, words_of, May, SomeOf, Has, Begins, fits, is_skippable, derivatives, after_word, one_more, taken, has_skippable, after_words, are_words_of, can_be}
+use Rattle.sym_model.specs.Form.{Class, exact, number, target, formula, Form, empty, word, sequence, either, many, Written, words_of, May, SomeOf, Has, Begins, fits, is_skippable, derivatives, after_word, taken, has_skippable, after_words, are_words_of, can_be}
 use Rattle.sym_model.specs.CommandOffence.{Offence, entries}
 use Rattle.sym_model.specs.WordForms.{row_words, tableau_words, row_entries, placed, tableau_rows, row_of, tableau_of, shape_offences}
 use Rattle.expression_laws.proofs.PhraseRuns.{one_phrase}
@@ -90,9 +90,7 @@ Plain forms = (f : Form) → Among f forms → is_plain f ≡ true
 
 same_after : (r s : Reads) (forms : List Form) (text : List ℕ) → Plain forms → after_word r forms text ≡ after_word s forms text
 same_after r s [] text p = refl
-same_after r s (f ∷ forms) text p =
-    ap (λ hs. hs ++ flat_map (λ f. derivatives r f text) forms) (same_derivatives r s f text (p f (inl refl)))
-    ∙ ap (λ hs. derivatives s f text ++ hs) (same_after r s forms text (λ g m. p g (inr m)))
+same_after r s (f ∷ forms) text p = search (rules, same_derivatives, (same_after r s forms text))
 
 plain_after : (r : Reads) (forms : List Form) (text : List ℕ) → Plain forms → Plain (after_word r forms text)
 plain_after r forms text p h m =
@@ -101,16 +99,12 @@ plain_after r forms text p h m =
 same_taken : (r s : Reads) (forms : List Form) (words : Words) → Plain forms → taken r forms words ≡ taken s forms words
 same_taken r s forms [] p = refl
 same_taken r s forms (text ∷ words) p =
-    ap (one_more (after_word r forms text)) (same_taken r s (after_word r forms text) words (plain_after r forms text p))
-    ∙ ap (λ fs. one_more fs (taken s fs words)) (same_after r s forms text p)
+    search (rules, plain_after, same_after, (same_taken r s (after_word r forms text) words (plain_after r forms text p)))
 
 same_left : (r s : Reads) (forms : List Form) (words : Words) → Plain forms → after_words r forms words ≡ after_words s forms words
 same_left r s forms [] p = refl
 same_left r s forms (text ∷ words) p =
-    same_left r s (after_word r forms text) words (plain_after r forms text p)
-    ∙ ap (λ fs. after_words s fs words) (same_after r s forms text p)
-
--- ---- the longest prefix of words that is also the beginning of a tableau with rows of given lengths, and the error of the words
+    search (rules, plain_after, same_after, (same_left r s (after_word r forms text) words (plain_after r forms text p)))
 
 plain_row : (n : ℕ) → is_plain (row_of n) ≡ true
 plain_row zero = refl
@@ -177,10 +171,7 @@ no_offence false o h = cc
 
 -- there is no error of shape if and only if the words are a tableau with rows of these lengths
 pub shape_none : (k : ℕ) (lengths : List ℕ) (words : Words) → (shape_offences k lengths words ≡ []) ↔ Has (tableau_of lengths) words
-shape_none k lengths words = (
-  λ h. has_sound lengths words (no_offence (are_words_of never (tableau_of lengths) words) (k + taken never (tableau_of lengths ∷ []) words, 0, shape) h),
-  λ h. ap (λ b. cond b [] ((k + taken never (tableau_of lengths ∷ []) words, 0, shape) ∷ [])) (has_complete lengths words h),
-)
+shape_none k lengths words = search (rules, has_sound, no_offence, has_complete)
 
 the_one : (b : Bool) (o p : Offence) → Among o (cond b [] (p ∷ [])) → o ≡ p
 the_one true o p m = absurd m
@@ -190,11 +181,7 @@ the_one false o p (inr m) = absurd m
 -- an error of shape is at the word after the longest prefix of the words that is also the beginning of a tableau with rows of these lengths
 pub shape_place : (k : ℕ) (lengths : List ℕ) (words : Words) (o : Offence) → Among o (shape_offences k lengths words)
     → (n : ℕ) × (o ≡ (k + n, 0, shape)) × IsLongestPrefix (Begins (tableau_of lengths)) words n
-shape_place k lengths words o m = (
-  taken never (tableau_of lengths ∷ []) words,
-  the_one (are_words_of never (tableau_of lengths) words) o (k + taken never (tableau_of lengths ∷ []) words, 0, shape) m,
-  shape_longest lengths words,
-)
+shape_place k lengths words o m = search (rules, the_one, shape_longest)
 
 -- ---- the lengths of the rows of a tableau
 
@@ -212,7 +199,6 @@ placed_lengths : (k : ℕ) (rs : List Row) → map length (entries (placed k rs)
 placed_lengths k [] = refl
 placed_lengths k (r ∷ rs) = ap (λ ns. row_length r ∷ ns) (placed_lengths (k + length (words_of row_words r) + 1) rs)
 
--- the words of a row that begins with a number are of the form of a row of the length of this row
 row_to : (w : List ℕ) (ws : Words) → May row_words (inr (w, ws)) → Has (row_of (row_length (inr (w, ws)))) (w ∷ ws)
 row_to w [] a = record { written = w; allowed = a.0; spelled = refl }
 row_to w (v ∷ ws) a =

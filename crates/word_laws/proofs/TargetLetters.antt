@@ -7,7 +7,6 @@ use Rattle.sym_model.specs.Grammar.{entries_of, line_entries}
 use Rattle.word_laws.specs.OneReading.{are_unambiguous}
 use Rattle.word_laws.specs.Reading.{forms_of}
 
--- the word `-m` is not the letter of a basis
 no_letter : (bases : List Basis) → is_letter_of bases (codes "-m") ≡ false
 no_letter [] = refl
 no_letter (monomials ∷ bases) = no_letter bases

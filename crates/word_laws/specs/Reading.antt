@@ -1,5 +1,5 @@
--- The place of the first error of syntax. The word at which it is results from reading the words from the left; if an expression is expected there,
--- the byte results from reading the bytes of this word from the left.
+-- The place of the first error of syntax: a word, and a byte of this word. The word is found by reading the words from the left; if an expression is
+-- expected there, the byte is found by reading the bytes of this word from the left.
 use Rattle.std.specs.Prelude.{ℕ, ◌+◌, nat_lt, Bool, ◌&&◌, cond, List, [], ◌∷◌, map, length, take}
 use Rattle.std.specs.Prelude.{Option, Some, None, is_some, slice_index_or}
 use Rattle.sym_model.specs.Phrase.{Phrase}

@@ -1,4 +1,5 @@
--- Tableaux as typed, row by row: the number words of each row.
+-- Tableaux as typed, row by row: the number words (words of decimal digits) of each row. The word `.` is typed for a row without numbers, and `/`
+-- between two rows.
 use Rattle.std.specs.Prelude.{ℕ, ◌+◌, ◌==◌, cond, min, List, [], ◌∷◌, ◌++◌, length, codes}
 use Rattle.std.proofs.Common.{inl, inr}
 use Rattle.sym_model.specs.ExpressionOffence.{shape}
@@ -40,18 +41,18 @@ abbrev pub rows_at : ℕ → List (List (List ℕ)) → List PlacedRow
 rows_at k [] = []
 rows_at k (row ∷ rows) = (k, numbers row) ∷ rows_at (k + length (row_text row) + 1) rows
 
--- the errors after a row that ends just before word k, if the following rows must have the lengths of the second list: one error at word k if one of
--- the two lists, of rows and of lengths, is empty and the other is not; no error if both are empty; otherwise `later`, which are the errors of the
--- following rows
+-- `left_behind k lengths rows later`: the errors after a row that ends just before word k, if the rows after it are `rows` and must have the lengths
+-- `lengths`. If `lengths` and `rows` are both empty, there is no error. If only one of them is empty, there is one error, at word k. Otherwise the
+-- errors are `later`, those of `rows`
 abbrev pub left_behind : ℕ → List ℕ → List (List (List ℕ)) → List Offence → List Offence
 left_behind k [] [] later = []
 left_behind k [] (row ∷ rows) later = (k, 0, shape) ∷ []
 left_behind k (n ∷ lengths) [] later = (k, 0, shape) ∷ []
 left_behind k (n ∷ lengths) (row ∷ rows) later = later
 
--- if neither list is empty: the error of rows that begin at word k and must have the given lengths. If some row has a wrong length, the error is in
--- the first such row, at its entry with the index min(n, its length), with n the length that it must have. If no row has a wrong length but the
--- number of rows is wrong, the error is after the last row for which a length is given.
+-- `left_at k lengths rows`, for lists that are not empty: the error of rows that begin at word k and must have these lengths. If a row has a wrong
+-- length, the error is in the first such row: at its entry with the index min(its length, the length that it must have). If only the number of rows
+-- is wrong, the error is after the last row for which a length is given
 abbrev pub left_at : ℕ → List ℕ → List (List (List ℕ)) → List Offence
 left_at k [] rows = []
 left_at k (n ∷ lengths) [] = []

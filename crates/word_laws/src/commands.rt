@@ -21,13 +21,13 @@ ghost use Rattle.sym_model.specs.SyntaxPlace.{IsSyntaxPlace};
 ghost use Rattle.word_laws.specs.OneReading.{are_unambiguous};
 ghost use Rattle.word_laws.specs.Reading.{bytes_taken, forms_of, syntax_place};
 
-/// Let one or more forms (`Form`, a pattern of words) be given, each of which some list of words
-/// has, and let `reads` test whether a word is an expression. For a list of words, `taken` is the
+/// Let one or more forms (`Form`, a pattern of words) be given, let each of them allow some list of
+/// words, and let `reads` test whether a word is an expression. For a list of words, `taken` is the
 /// greatest k such that some list of words of one of the forms begins with the first k of the given
 /// words. For a text, `bytes_taken` is the greatest k such that some expression begins with the
 /// first k bytes of the text. If `syntax_place` gives a place, the words spell no command, and this
-/// is the one place of their first error of syntax (`IsSyntaxPlace`); if it gives none, the words
-/// spell a command.
+/// place is the one place of their first error of syntax (`IsSyntaxPlace`); if it gives none, the
+/// words spell a command.
 pub fn syntax_place_law()
     ensures longest_prefix { (reads : List ℕ → Bool) → TellsExpressions reads → (forms : List Form)
         → EachOf (λ f. can_be f ≡ true) forms → 0 < length forms → (words : List (List ℕ))

@@ -1,5 +1,5 @@
 -- Strips, rim hooks and removals of rim hooks for given shapes, such as (2,1), by tests of their rows; used for worked examples.
-use Rattle.std.proofs.Common.{◌≡◌, ℕ, zero, suc, ◌+◌, ◌-◌, ◌<◌, ◌≤◌, ◌⊎◌, inl, inr, List, [], ◌∷◌, length, sym, ◌∙◌, subst, arith}
+use Rattle.std.proofs.Common.{◌≡◌, ℕ, zero, suc, ◌+◌, ◌-◌, ◌<◌, ◌≤◌, inl, inr, List, [], ◌∷◌, length, sym, ◌∙◌, arith, rules}
 use Rattle.std.proofs.lemmas.Bool.{cases_eq, cases_lt}
 use Rattle.sym_model.specs.Partition.{Falls, ArePositive, size, part, Holds}
 use Rattle.sym_model.specs.Strip.{IsHorizontalStrip, IsVerticalStrip, IsRimHook}
@@ -11,7 +11,6 @@ use Rattle.strip_laws.proofs.Strips.{horizontal_from_rows, vertical_from_rows}
 use Rattle.strip_laws.proofs.RimHooks.{hook_from_rows, crosses}
 use Rattle.std.proofs.lemmas.List.{get_or_past}
 
--- if i is greater than the number of parts, part i is 0
 part_past : (parts : List ℕ) (i : ℕ) → length parts < i → part parts i ≡ 0
 part_past parts i h = get_or_past parts (i - 1) 0 (omega arith)
 
@@ -22,11 +21,7 @@ EachRow P a (suc k) = P (a + 1) × EachRow P (a + 1) k
 
 each_row : (P : ℕ → Type 0) (a k i : ℕ) → EachRow P a k → a < i → i ≤ a + k → P i
 each_row P a zero i h l m = absurd (omega arith)
-each_row P a (suc k) i h l m = by (cases_eq (a + 1) i) (each_row P (a + 1) k i h.1)
-  where
-    by : (a + 1 ≡ i) ⊎ (a + 1 ≡ i → ⊥) → (a + 1 < i → i ≤ a + 1 + k → P i) → P i
-    by (inl e) later = subst P e h.0
-    by (inr n) later = later (omega (arith, n)) (omega arith)
+each_row P a (suc k) i h l m = search (rules, cases_eq, (each_row P (a + 1) k i h.1))
 
 pub horizontal_closed : (outer inner : List ℕ) → Falls outer → Holds outer inner → length inner ≤ length outer
     → EachRow (λ i. part outer (i + 1) ≤ part inner i) 0 (length outer) → IsHorizontalStrip outer inner
@@ -89,19 +84,11 @@ removal_closed n shape left first last h f p e = record { partition = record { f
 -- if each of the first two rows of a shape has at least two cells, the shape is not a rim hook, since it has a 2 by 2
 -- square
 pub no_hook : (shape : List ℕ) → 2 ≤ part shape 1 → 2 ≤ part shape 2 → IsRimHook shape [] → ⊥
-no_hook shape a b h =
-    h.thin 1 1
-    (cell shape [] 1 1 (omega arith) (omega arith) (omega arith))
-    (cell shape [] 1 2 (omega arith) (omega arith) a)
-    (cell shape [] 2 1 (omega arith) (omega arith) (omega arith))
-    (cell shape [] 2 2 (omega arith) (omega arith) b)
+no_hook shape a b h = search rules
 
 -- if each of the first two rows of a shape of n cells has at least two cells, no rim hook of n cells can be removed
 pub no_removal_of_all : (n : ℕ) (shape : List ℕ) → size shape ≡ n → 2 ≤ part shape 1 → 2 ≤ part shape 2 → HasNoRemoval n shape
-no_removal_of_all n shape e a b left r =
-    let c = r.cells in
-    let d = no_part left r.partition.positive (omega arith) in
-    no_hook shape a b (subst (IsRimHook shape) d r.hook)
+no_removal_of_all n shape e a b left r = search (rules, no_part, no_hook)
 
 pub no_removal_from_less : (n : ℕ) (shape : List ℕ) → size shape < n → HasNoRemoval n shape
 no_removal_from_less n shape h left r = let c = r.cells in omega arith

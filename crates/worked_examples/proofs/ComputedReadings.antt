@@ -27,14 +27,15 @@ word_readings number text = cond (is_number_word text) (text ∷ []) []
 word_readings (target bases) text = filter (λ b. same (letter b) text) bases
 word_readings formula text = of_option (found phrases (run phrases text start))
 
--- the lists of at most n values that are read one after another by `read` at the front of the words, each with the words that remain
+-- the ways to read at most n values with `read`, one after another, from the front of the words; each way is the list of these values, with the words
+-- that remain
 abbrev pub more_readings : {A : Type 0} → (Words → List (A × Words)) → ℕ → Words → List (List A × Words)
 more_readings read zero words = ([], words) ∷ []
 more_readings {A} read (suc n) words =
     ([], words)
     ∷ flat_map (λ (p : A × Words). map (λ (q : List A × Words). (p.0 ∷ q.0, q.1)) (more_readings read n p.1)) (read words)
 
--- the values of the form f that some words at the front of the list spell, each with the words that remain
+-- the ways to read a value of the form f from the front of the words; each way is the value, with the words that remain
 abbrev pub readings : (f : Form) → Words → List (Written f × Words)
 readings empty words = (tt, words) ∷ []
 readings (word c) [] = []

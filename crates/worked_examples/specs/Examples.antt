@@ -9,7 +9,7 @@ use Rattle.sym_model.specs.Grammar.{entries_of, all_bases}
 use Rattle.sym_model.specs.SyntaxPlace.{IsSyntaxPlace}
 use Rattle.sym_model.specs.BatchLine.{words_of_line}
 
--- the entries of all commands, with all target bases
+-- all commands of the calculator, with all bases allowed as target bases
 abbrev pub all_commands : List Entry
 all_commands = entries_of all_bases
 

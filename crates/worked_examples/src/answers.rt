@@ -21,7 +21,8 @@ ghost use Rattle.sym_model.specs.Ending.{done, some_refused, range as out_of_ran
 ghost use Rattle.sym_model.specs.Outcome.{Answers, ending_of};
 ghost use Rattle.sym_model.specs.BatchOutcome.{batch_text, batch_ending, RunsInput};
 
-/// Classical products, their reductions, and the weights of lists and of pairs of permutations.
+/// Classical products (products of Schur polynomials in a number of variables), their reductions to
+/// quantum and fusion products, and the weights of lists and of pairs of permutations.
 pub fn target_examples_law()
     // s_(2,1)^2 in two variables: s_(4,2) + s_(3,3)
     ensures classical { classical_product 2 ((2 ∷ 1 ∷ []) ∷ (2 ∷ 1 ∷ []) ∷ [])
@@ -66,7 +67,8 @@ pub fn target_examples_law()
     // the list with the coefficient 1/0 at (1) represents no polynomial, not even the polynomial 0
     ensures denominator_zero { Represents (λ parts. schur parts 1)
         ((1 ∷ [], (pos 1, 0)) ∷ []) nothing 1 → ⊥ }
-    // 2·4 = 8: (1,3,2) has one inversion and three letters, and S_(1,3,2) = x_1 + x_2
+    // the weight S_w(1, .., 1)·(n + l)^l = 2·4 of the pair w, w with w = (1,3,2): S_w is x_1 + x_2,
+    // w has l = 1 inversion and n = 3 letters
     ensures pair_weight { pair_weight (1 ∷ 3 ∷ 2 ∷ []) (1 ∷ 3 ∷ 2 ∷ []) ≡ 8 }
     ensures pair_with_identity { pair_weight (2 ∷ 3 ∷ 1 ∷ []) (1 ∷ []) ≡ 1 }
     ensures weight_of_fractions { list_weight {Label = List ℕ}

@@ -1,5 +1,6 @@
-//! Worked examples of the blocks of each kind,
-//! of the orders of their lines and of the limits of their labels.
+//! Worked examples of blocks. A block is the text of a list of terms, with one line for each term:
+//! a coefficient and a label. The kind of a block says what its labels are, such as pairs of
+//! partitions or permutations. There are also examples of the orders and the limits of the labels.
 
 ghost use Rattle.std.specs.Prelude.{◌≡◌, ◌^◌, ◌-◌, ◌++◌, true, false, pos, negsuc, [], ◌∷◌, codes};
 ghost use Rattle.std.specs.Prelude.{Some, None};

@@ -1,12 +1,13 @@
-//! Worked examples of one-line forms, and of texts that are no such forms.
+//! Worked examples of one-line forms, such as s[4,2]+2*s[3,2,1] for a list of two terms, and of
+//! texts that are no such forms.
 
 ghost use Rattle.std.specs.Prelude.{◌≡◌, pos, negsuc, [], ◌∷◌, codes, Some, None};
 ghost use Rattle.sym_model.specs.Expansion.{monomials, elementaries, completes, power_sums, schurs};
 ghost use Rattle.sym_model.specs.Kind.{label_rules, expansion, product};
 ghost use Rattle.sym_model.specs.OneLine.{one_line, read_one_line};
 
-/// One-line forms in each basis, the lists that they read back as, and texts that are no such
-/// forms.
+/// One-line forms in each basis, the lists obtained by reading such forms, and texts that are no
+/// one-line forms.
 pub fn line_examples_law()
     // the square of s_(2,1), on one line
     ensures square { one_line schurs

@@ -49,9 +49,9 @@ pub fn permutation_examples_law()
     ensures three_more { covers_down 3 (1 ∷ 2 ∷ 4 ∷ 3 ∷ []) ≡ (1 ∷ 4 ∷ 2 ∷ 3 ∷ []) ∷ [] }
 {}
 
-/// Divided differences at i of monomials whose exponent i is greater than, less than or equal to
-/// the next one, and of a number; also single variables and one monomial, written in a given number
-/// of variables.
+/// ∂_i of monomials in which the exponent of x_i is greater than, less than or equal to the
+/// exponent of x_(i+1), and ∂_1 of the number 1; also single variables and a monomial, written in a
+/// given number of variables.
 pub fn divided_difference_examples_law()
     // (x^3 y - x y^3)/(x - y) = x y^2 + x^2 y
     ensures falling { divided_difference 1 (x_to (3 ∷ 1 ∷ []))
@@ -68,7 +68,7 @@ pub fn divided_difference_examples_law()
     ensures last_zero { x_to_in (2 ∷ 0 ∷ []) 1 ≡ ((2 ∷ []), pos 1) ∷ [] }
 {}
 
-/// All Schubert polynomials of four letters.
+/// The Schubert polynomials of all permutations of four letters.
 pub fn schubert_examples_law()
     ensures s1234 { schubert (1 ∷ 2 ∷ 3 ∷ 4 ∷ []) ≡ ((0 ∷ 0 ∷ 0 ∷ 0 ∷ []), pos 1) ∷ [] }
     ensures s1243 { schubert (1 ∷ 2 ∷ 4 ∷ 3 ∷ [])
@@ -112,8 +112,8 @@ pub fn schubert_examples_law()
     ensures s4321 { schubert (4 ∷ 3 ∷ 2 ∷ 1 ∷ []) ≡ ((3 ∷ 2 ∷ 1 ∷ 0 ∷ []), pos 1) ∷ [] }
 {}
 
-/// Schubert polynomials of five letters, of one letter and of none, and their restrictions to other
-/// numbers of variables.
+/// Schubert polynomials of permutations of five letters, of one letter and of no letter, and their
+/// restrictions to other numbers of variables.
 pub fn schubert_more_examples_law()
     ensures s14352 { schubert (1 ∷ 4 ∷ 3 ∷ 5 ∷ 2 ∷ [])
         ≡ ((0 ∷ 2 ∷ 1 ∷ 1 ∷ 0 ∷ []), pos 1) ∷ ((1 ∷ 1 ∷ 1 ∷ 1 ∷ 0 ∷ []), pos 1)

@@ -1,5 +1,5 @@
-//! Worked examples of polynomials, orders and printed blocks, with values worked out by hand or
-//! taken from other sources.
+//! Worked examples of polynomials, of orders, and of blocks (the texts of lists of terms, one line
+//! for each term), with values worked out by hand or taken from other sources.
 
 ghost use Rattle.std.specs.Prelude.{◌≡◌, ◌^◌, ◌-◌, true, false, pos, negsuc, [], ◌∷◌, map, codes};
 ghost use Rattle.std.specs.declared.cmp.Ordering.TheVariants.{Less, Equal, Greater};
@@ -13,9 +13,9 @@ ghost use Rattle.sym_model.specs.Canonical.{gcd, is_label, fits_128_bits};
 ghost use Rattle.sym_model.specs.PrintedBlock.{block, read, decimal_value};
 
 /// The polynomials of the bases in few variables, multiplied out by hand. m_λ is 0 if there are
-/// fewer variables than parts, and e_λ if there are fewer than the greatest part; every basis has 1
-/// for the empty partition. The clause `schur` is a Kostka number, the coefficient of `x_1^2 x_2^2
-/// x_3 x_4` in `s_(3,2,1)`.
+/// fewer variables than parts, and e_λ is 0 if there are fewer variables than the greatest part;
+/// every basis has 1 for the empty partition. The clause `schur` is a Kostka number, the
+/// coefficient of `x_1^2 x_2^2 x_3 x_4` in `s_(3,2,1)`.
 pub fn worked_examples_law()
     // m_(2,1) in three variables: x^2 y + x^2 z + x y^2 + x z^2 + y^2 z + y z^2
     ensures monomial_three { monomial (2 ∷ 1 ∷ []) 3
@@ -82,8 +82,8 @@ pub fn order_examples_law()
     ensures past_the_greatest { fits_128_bits (pos (2 ^ 127)) ≡ false }
 {}
 
-/// Blocks, and texts that are no blocks. The first is the output of `expand m p[2,1]`, since
-/// `p_(2,1)` is `m_(3) + m_(2,1)`; the second is `s_(2,1)` in power sums.
+/// Blocks, texts that are no blocks, and a number with leading zeros. The first block is the output
+/// of `expand m p[2,1]`, since `p_(2,1)` is `m_(3) + m_(2,1)`; the second is `s_(2,1)` in power sums.
 pub fn block_examples_law()
     ensures whole { block (((3 ∷ []), (pos 1, 1)) ∷ ((2 ∷ 1 ∷ []), (pos 1, 1)) ∷ [])
         ≡ codes "1  (3)\n1  (2,1)\n" }

@@ -15,7 +15,8 @@ ghost use Rattle.sym_model.specs.BatchLine.{words_of_line};
 ghost use Rattle.worked_examples.specs.Examples.{all_commands, Says, Offends, GoesWrong, repeated};
 ghost use Rattle.worked_examples.specs.Examples.{zeros_of};
 
-/// Words that are no command, and the places where they first fail.
+/// Words that are no command, each with the place of its first error of syntax: a word and a byte
+/// in it, both counted from 0.
 pub fn words_that_go_wrong_law()
     ensures no_words { GoesWrong (codes "") 0 0 }
     ensures number_for_minus { GoesWrong (codes "mult 1 -1") 2 0 }

@@ -7,7 +7,6 @@ use Rattle.calc.proofs.HandedOn.{handed_on}
 use Rattle.calc.proofs.run_over.Given.{Over}
 use Rattle.calc.proofs.run_over.Goals as goal
 
--- The clause `leaves` of `run` for a status that is equal to the one that was returned.
 left_by : (g : Over) (c : goal.After-run g) (answer : Status) → c.run.result ≡ answer
     → Leaves (outlet_seen g.W.Write.contents c.args.sink.now)
     (outlet_seen g.W.Write.contents c.run.new.sink)

@@ -16,8 +16,8 @@ use Rattle.sym_model.proofs.Integers.{product_cancel}
 pub unsigned_abs-scaled : (d : ℕ) (r : Fraction) → unsigned_abs (scaled d r) ≡ magnitude d r
 unsigned_abs-scaled d r = unsigned_abs-mul r.0 (pos (d / r.1))
 
--- if r is in lowest terms and d > 0 is a multiple of its denominator, r equals (d·r)/d (`Stands`), with the integer
--- d·r
+-- if r is in lowest terms and d > 0 is a multiple of its denominator, then d·r is an integer and r equals (d·r)/d
+-- (`Stands`)
 pub Stands-scaled : (d : ℕ) (r : Fraction) → InLowestTerms r → 0 < d → r.1 ∣ d
     → Stands r (scaled d r) d
 Stands-scaled d r l some h = record {

@@ -11,7 +11,7 @@ use native.Mathlib.Nat.{pos_of_dvd_of_pos, one-dvd, mod-lt, one-mul, add-mul, mu
 use Rattle.sym_model.proofs.GreatestCommonDivisors.{gcd-only, IsGcd-gcd}
 use Rattle.coeff_rings.specs.Fractions.{greatest_common_divisor}
 
--- if a = q·b + r, each greatest common divisor of b and r is one of a and b
+-- if a = q·b + r, a greatest common divisor of b and r is also a greatest common divisor of a and b
 euclid_step : (a b q r g : ℕ) → a ≡ q * b + r → IsGcd b r g → IsGcd a b g
 euclid_step a b q r g e h =
     let divides = λ (d : ℕ) (s : d ∣ b). dvd-mul_left_of_dvd d s q in (

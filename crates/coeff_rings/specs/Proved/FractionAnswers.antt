@@ -229,8 +229,9 @@ FourNumbersFit-from a b total t =
       den = ltb-true (common_denominator a b) (2 ^ 127) last.1;
     }
 
--- if a and b have room for a sum (`HasRoomForSum`), the absolute values of their numerators over the least common
--- denominator add up to less than 2^127, and that denominator is below 2^127
+-- if d and |a|·d + |b|·d are below 2^127 for a common denominator d of a and b (`HasRoomForSum`), then the absolute values
+-- of the numerators of a and b over their least common denominator add up to less than 2^127, and this denominator is
+-- below 2^127
 numbers_with_room : (d : ℕ) (a b : Fraction) → InLowestTerms a → InLowestTerms b
     → HasRoomForSum d a b
     → (unsigned_abs (numerator_over_common a b) + unsigned_abs (numerator_over_common b a)
@@ -408,7 +409,8 @@ lowest_terms_le n d some =
       div-le_self d g,
     )
 
--- if a and b have room for a product (`HasRoomForProduct`), the checked product of a and b has a result
+-- if d·e and |a|·d·|b|·e are below 2^127 for multiples d of the denominator of a and e of the denominator of b
+-- (`HasRoomForProduct`), then the checked product of a and b has a result
 product_fits : (d e : ℕ) (a b : Fraction) → HasRoomForProduct d e a b
     → IsSome (checked_fraction_product a b)
 product_fits d e a b r =

@@ -1,4 +1,5 @@
--- Fractions in lowest terms satisfy the laws of a field, and so do the values of each type of scalars.
+-- Fractions in lowest terms satisfy the laws of a field. Each value of a scalar type (the type of the coefficients) denotes a fraction; if these
+-- fractions are in lowest terms, they satisfy the same laws.
 use Rattle.std.proofs.Common.{◌≡◌, ◌≢◌, ℕ, zero, suc, ◌*◌, ◌<◌, sym, refl, ap, ◌∙◌, arith, ℤ, pos}
 use Rattle.std.proofs.Common.{negsuc, ◌+ℤ◌, ◌*ℤ◌, neg_ℤ, unsigned_abs}
 use Rattle.std.specs.Int.{IsGcd}

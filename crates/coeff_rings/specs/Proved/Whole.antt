@@ -1,4 +1,5 @@
--- Integers as fractions, and the laws of `Int` and `Count`.
+-- Integers as fractions, and the laws of two types of scalars: `Int`, the integers of 128 bits with a sign, and `Count`,
+-- the natural numbers below 2^128.
 use Rattle.std.proofs.Common.{◌≡◌, ℕ, ◌+◌, ◌*◌, ◌<◌, ◌≤◌, ◌^◌, sym, refl, ap, ◌∙◌, subst, arith, ℤ}
 use Rattle.std.proofs.Common.{pos, negsuc, ◌+ℤ◌, ◌-ℤ◌, ◌*ℤ◌, neg_ℤ, unsigned_abs, Bool, true, false}
 use Rattle.std.proofs.Common.{FitsSigned, Option, Some, IsSome, IfSome, nat_lt}
@@ -46,7 +47,7 @@ whole_fitted z = fitted (fits_128_bits z) z
 pub count_fitted : (n s : ℕ) → checked_u128 n ≡ Some s → s ≡ n
 count_fitted n = fitted (nat_lt n (2 ^ 128)) n
 
--- ---- integers and natural numbers that fit in 128 bits, and their checked values
+-- ---- integers that fit in 128 bits with a sign, natural numbers below 2^128, and the functions that test this
 
 pub fits_from_test : (z : ℤ) → fits_128_bits z ≡ true → FitsSigned w128 z
 fits_from_test (pos n) t = let small : n < 2 ^ 127 = ltb-true n (2 ^ 127) t in omega (arith, ints)
@@ -201,7 +202,7 @@ sum_answers_u128 a b f g = record {
 pub sum_laws_u128 : SumLaws (λ n. n < 2 ^ 128) whole_count
 sum_laws_u128 = sum_laws (λ n. n < 2 ^ 128) whole_count (λ a _. InLowestTerms-whole (pos a))
 
--- ---- if an operation of `Int` or `Count` returns the checked number, its result satisfies `AnswersSum`, ..
+-- ---- the results of the checked operations of `Int` and `Count`
 
 pub sum_answers_i128-from : (a b : ℤ) (answer : Option ℤ) → FitsSigned w128 a → FitsSigned w128 b
     → answer ≡ checked_i128 (a +ℤ b) → AnswersSum whole a b answer

@@ -1,6 +1,6 @@
 use Rattle.std.proofs.lemmas.List.{take_rest}
 use Rattle.std.specs.Prelude.{drop}
-use Rattle.std.proofs.Common.{[], ◌≡◌, ◌+◌, ◌-◌, take, ◌*◌, ◌^◌, ◌≤◌, length, sym, ap, ◌∙◌, subst, Err, arith, ℕ}
+use Rattle.std.proofs.Common.{[], ◌≡◌, ◌+◌, ◌-◌, take, ◌*◌, ◌^◌, ◌≤◌, length, sym, ap, ◌∙◌, subst, Err, arith, ℕ, rules}
 use Rattle.sym_model.specs.Weight.{growth}
 use Rattle.sparse_polys.specs.Labels.{same_pair}
 use Rattle.sparse_polys.specs.LabelSizes.{AreWithin}
@@ -29,9 +29,7 @@ in_augmented-requires-clause-factor c =
     factorial-below c.factorial.result c.args.size c.factorial.ensures (omega (arith, c.requires.low))
 
 pub returns-in_err-powers : goal.returns-in_err-powers
-returns-in_err-powers c =
-    failed (basis_in c.args.family) c.args.size c.args.list.now _ _ c.from_residual.ensures.0
-    c.from_residual.ensures.1 (λ large. absurd (c.in_err-powers.ensures.small (ap Err large)))
+returns-in_err-powers c = search (rules, failed)
 
 pub returns-in_err-start : goal.returns-in_err-start
 returns-in_err-start c =
@@ -62,10 +60,7 @@ converted-requires-clause-factors c =
     (sym c.deref.ensures.value) c.in_ok-powers.ensures.ok))
 
 pub converted-requires-clause-few : goal.converted-requires-clause-few
-converted-requires-clause-few c =
-    let l : length c.deref.result.now ≡ c.args.size + 1 =
-    omega (arith, ap length c.deref.ensures.value, c.in_ok-powers.ensures.length) in
-    omega (arith, c.requires.low, behind-first c.deref.result.now c.args.size l)
+converted-requires-clause-few c = search (rules, behind-first)
 
 pub converted-requires-clause-ready : goal.converted-requires-clause-ready
 converted-requires-clause-ready c =

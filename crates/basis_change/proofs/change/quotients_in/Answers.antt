@@ -1,4 +1,4 @@
-use Rattle.std.proofs.Common.{ap, Err}
+use Rattle.std.proofs.Common.{ap, Err, rules}
 use Rattle.linear_combinations.proofs.Steps.{error_is, if_answered}
 use Rattle.basis_change.proofs.change.quotients_in.Goals as goal
 
@@ -7,15 +7,7 @@ returns-in_err-answer-clause-large c err =
     c.in_err-answer.ensures.large (ap Err (error_is _ _ _ c.from_residual.ensures.1 err))
 
 pub returns-clause-value : goal.returns-clause-value
-returns-clause-value c =
-    if_answered c.divided.result c.divided.ensures.value
-    (λ answer quotients. record {
-      whole = c.in_ok-answer.answer;
-      value = c.in_ok-answer.ensures.value;
-      few = c.in_ok-answer.ensures.few;
-      within = c.in_ok-answer.ensures.within;
-      quotients = quotients;
-    })
+returns-clause-value c = search (rules, if_answered)
 
 pub returns-clause-large : goal.returns-clause-large
 returns-clause-large c err = absurd (c.divided.ensures.small err)

@@ -1,4 +1,4 @@
-use Rattle.std.proofs.Common.{◌≡◌, ◌*◌, ◌^◌, ◌<◌, ap, ◌∙◌, subst, Err, arith, mul-pos}
+use Rattle.std.proofs.Common.{◌≡◌, ◌*◌, ◌^◌, ◌<◌, ap, ◌∙◌, subst, Err, arith, mul-pos, rules}
 use Rattle.std.proofs.lemmas.Nat.{mul-le}
 use Rattle.sym_model.specs.Weight.{factorial, growth}
 use Rattle.monomial_laws.proofs.Growths.{factorial-positive}
@@ -17,10 +17,7 @@ use Rattle.basis_change.proofs.Ends.{expansion-by}
 use Rattle.basis_change.proofs.change.to_basis.Goals as goal
 
 pub clearing_factor-requires : goal.clearing_factor-requires
-clearing_factor-requires c =
-    let l = c.greatest_size-size.ensures.least _ c.requires.sizes in
-    let m = limit-most (basis_of c.args.target) in
-    omega arith
+clearing_factor-requires c = search (rules, limit-most)
 
 pub returns-in_err-den-clause-large : goal.returns-in_err-den-clause-large
 returns-in_err-den-clause-large c err d w =
@@ -32,12 +29,7 @@ returns-in_err-den-clause-large c err d w =
     in let e = ap (λ q. c.args.bound.den * q) c.clearing_factor.ensures in omega arith))
 
 pub whole_terms-requires : goal.whole_terms-requires
-whole_terms-requires c =
-    let p = factor-positive (basis_of c.args.target) c.greatest_size-size.result in
-    let m = mul-le c.args.bound.den 1 c.args.bound.den (clearing_factor (basis_of c.args.target)
-    c.greatest_size-size.result) (omega arith) p in
-    let e = ap (λ q. c.args.bound.den * q) c.clearing_factor.ensures in
-    omega (arith, c.in_ok-den.ensures.0)
+whole_terms-requires c = search (rules, factor-positive, mul-le)
 
 pub returns-in_err-terms-clause-large : goal.returns-in_err-terms-clause-large
 returns-in_err-terms-clause-large c err d w =
@@ -55,11 +47,7 @@ quotients_in-requires-clause-sizes c =
     c.greatest_size-size.result c.greatest_size-size.ensures.within
 
 pub quotients_in-requires-clause-den : goal.quotients_in-requires-clause-den
-quotients_in-requires-clause-den c =
-    let p = mul-pos c.requires.positive.1
-    (factor-positive (basis_of c.args.target) c.greatest_size-size.result) in
-    let e = c.in_ok-den.ensures.1 ∙ ap (λ q. c.args.bound.den * q) c.clearing_factor.ensures in
-    (omega arith, omega (arith, c.in_ok-den.ensures.0))
+quotients_in-requires-clause-den c = search (rules, mul-pos, factor-positive)
 
 pub returns-clause-value : goal.returns-clause-value
 returns-clause-value c =

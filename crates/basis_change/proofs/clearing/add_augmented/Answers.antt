@@ -1,4 +1,4 @@
-use Rattle.std.proofs.Common.{◌<◌, ◌≤◌, ◌^◌, ◌/◌, ◌*ℤ◌, pos, nat_abs, ◌∙◌, [], ap, sym, subst}
+use Rattle.std.proofs.Common.{◌≤◌, ◌^◌, ◌/◌, ◌*ℤ◌, pos, nat_abs, ◌∙◌, [], ap, subst, rules}
 use Rattle.sparse_polys.specs.Labels.{same_pair}
 use Rattle.linear_combinations.proofs.Gains.{overflows_alone}
 use Rattle.basis_change_laws.specs.AugmentedMonomial.{multiplicity_factorials}
@@ -8,9 +8,7 @@ use Rattle.basis_change.proofs.MixedLabels.{label_laws}
 use Rattle.basis_change.proofs.clearing.add_augmented.Goals as goal
 
 pub nonzero_div-quotient : goal.nonzero_div-quotient
-nonzero_div-quotient c =
-    subst (λ n. 0 < n) (sym (c.multiplicity_factorials.ensures ∙ ap multiplicity_factorials
-    c.parts.ensures.value)) (multiplicities-positive c.args.label.now)
+nonzero_div-quotient c = search (rules, multiplicities-positive)
 
 pub returns-in_err-number-clause-large : goal.returns-in_err-number-clause-large
 returns-in_err-number-clause-large c err =

@@ -1,4 +1,4 @@
-use Rattle.std.proofs.Common.{◌≡◌, ◌++◌, ◌∷◌, [], ℕ, List, map, sym, ◌∙◌, ap, subst, append_assoc}
+use Rattle.std.proofs.Common.{◌≡◌, ◌++◌, ◌∷◌, [], ℕ, List, map, sym, ◌∙◌, ap, subst, append_assoc, rules}
 use Rattle.std.proofs.Common.{arith}
 use Rattle.std.specs.Map.Iter.{deref_pair}
 use Rattle.std.proofs.lemmas.List.{map-append}
@@ -68,13 +68,7 @@ loop-label-preserved c =
     }
 
 pub returns-clause-within : goal.returns-clause-within
-returns-clause-within c =
-    let is : map deref_pair c.loop-label.yielded ≡ c.args.list.now =
-    all_done (map deref_pair c.loop-label.yielded)
-    c.loop-label.label-iterator _ _ c.in-None.ensures.steps.0 c.loop-label.invariant.so_far
-    c.into_iter-label-iterator.ensures.into_iter_gives
-    ∙ c.iter-label-items.ensures.rest in
-    subst (λ es. AreWithin c.loop-label.greatest es) is c.loop-label.invariant.within
+returns-clause-within c = search (rules, all_done)
 
 pub returns-clause-table : goal.returns-clause-table
 returns-clause-table c = c.iter-label-items.ensures.combination

@@ -1,30 +1,22 @@
-use Rattle.std.proofs.Common.{◌≡◌, ◌++◌, ◌∷◌, [], ℕ, ℤ, List, map, refl, sym, ◌∙◌, ap, subst, Err}
+use Rattle.std.proofs.Common.{◌≡◌, ◌++◌, ◌∷◌, [], ℕ, ℤ, List, map, sym, ap, subst, Err, rules}
 use Rattle.std.specs.Map.Iter.{deref_pair}
 use Rattle.std.proofs.lemmas.List.{map-append}
 use Rattle.coeff_rings.specs.Fractions.{whole}
 use Rattle.sym_model.specs.WholeTerms.{WholeTerms}
-use Rattle.sym_model.specs.LabelLimits.{is_pair_label}
 use Rattle.sym_model.specs.Sum.{Among}
-use Rattle.linear_combinations.specs.Gains.{Gains}
 use Rattle.linear_combinations.proofs.Gains.{all_pairs, gains_none, next_among, pairs_gain}
 use Rattle.linear_combinations.proofs.Gains.{pairs_overflow, so_far_next}
 use Rattle.linear_combinations.proofs.Steps.{all_done, error_is, IsCombination-empty}
-use Rattle.basis_change.specs.AugmentedProducts.{MixedLabel, equal, IsMixedTable}
-use Rattle.basis_change.specs.Clearing.{augmented_number, augmented_terms}
+use Rattle.basis_change.specs.AugmentedProducts.{equal}
+use Rattle.basis_change.specs.Clearing.{augmented_terms}
 use Rattle.basis_change.proofs.clearing.in_augmented.Goals as goal
 
 augmented-append : (factor : ℕ) (xs ys : WholeTerms) → augmented_terms factor (xs ++ ys)
     ≡ augmented_terms factor xs ++ augmented_terms factor ys
-augmented-append factor xs ys = map-append (λ (t : List ℕ × ℤ). let term : MixedLabel × ℤ =
-    (([], t.0), augmented_number factor t.0 t.1) in term) xs ys
+augmented-append factor xs ys = search (rules, map-append)
 
 pub loop-label-init : goal.loop-label-init
-loop-label-init c = record {
-  gains = subst (Gains [] []) (sym c.new-sum.ensures) (gains_none []);
-  table = subst IsMixedTable (sym c.new-sum.ensures) (IsCombination-empty equal is_pair_label
-      whole);
-  so_far = refl;
-}
+loop-label-init c = search (rules, gains_none, IsCombination-empty)
 
 pub add_augmented-requires-clause-multiplicities : goal.add_augmented-requires-clause-multiplicities
 add_augmented-requires-clause-multiplicities c =
@@ -71,11 +63,4 @@ returns-in_err-add_augmented-clause-large c err =
     (c.in_err-add_augmented.ensures.large (ap Err (error_is _ _ _ c.from_residual.ensures.1 err)))
 
 pub returns-clause-gains : goal.returns-clause-gains
-returns-clause-gains c =
-    let is : map deref_pair c.loop-label.yielded ≡ c.args.list.now =
-    all_done (map deref_pair c.loop-label.yielded)
-    c.loop-label.label-iterator _ _ c.in-None.ensures.steps.0 c.loop-label.invariant.so_far
-    c.into_iter-label-iterator.ensures.into_iter_gives
-    ∙ c.iter-label-items.ensures.rest in
-    subst (λ (es : WholeTerms). Gains [] (augmented_terms c.args.factor es)
-    c.loop-label.sum) is c.loop-label.invariant.gains
+returns-clause-gains c = search (rules, all_done)

@@ -1,12 +1,10 @@
-use Rattle.std.proofs.Common.{◌≡◌, ◌++◌, ◌∷◌, [], ℕ, List, pos, map, refl, sym, ◌∙◌, ap}
+use Rattle.std.proofs.Common.{◌≡◌, ◌++◌, ◌∷◌, [], ℕ, List, pos, map, sym, ◌∙◌, ap, rules}
 use Rattle.std.proofs.Common.{subst, Err}
 use Rattle.std.specs.Map.Iter.{deref_pair}
 use Rattle.std.proofs.lemmas.List.{map-append}
-use Rattle.coeff_rings.specs.Fractions.{whole}
-use Rattle.sym_model.specs.Sum.{Among, Once}
+use Rattle.sym_model.specs.Sum.{Among}
 use Rattle.sym_model.specs.Expansion.{Fraction, Terms}
 use Rattle.sym_model.specs.Polynomial.{Same, coefficient}
-use Rattle.sym_model.specs.LabelLimits.{is_label}
 use Rattle.monomial_laws.specs.ExpressionTerms.{over}
 use Rattle.monomial_laws.proofs.DividedTerms.{labels_of, over-missing, over-append}
 use Rattle.linear_combinations.specs.Gains.{Gains}
@@ -14,27 +12,18 @@ use Rattle.linear_combinations.proofs.Found.{coefficient_found, gains_same}
 use Rattle.linear_combinations.proofs.Gains.{all_pairs, gains_none, next_among, pairs_gain}
 use Rattle.linear_combinations.proofs.Gains.{so_far_next}
 use Rattle.linear_combinations.proofs.Steps.{all_done, error_is, IsCombination-empty}
-use Rattle.sparse_polys.specs.Tables.{equal, IsFractionTable, IsWholeTable}
+use Rattle.sparse_polys.specs.Tables.{IsFractionTable}
 use Rattle.sparse_polys.proofs.PartitionTerms.{once_before}
 use Rattle.sparse_polys.proofs.WholeLists.{Once-keys, not_refused}
 use Rattle.basis_change.proofs.clearing.whole_terms.Goals as goal
 
--- if x is a term of a table and `done` are the terms before it, the label of x has the coefficient 0 in `den` times `done`
 missing : (den : ℕ) (all done rest : Terms (List ℕ)) (x : List ℕ × Fraction) → IsFractionTable all
     → done ++ x ∷ rest ≡ all → coefficient (over den done) x.0 ≡ pos 0
 missing den all done rest x is e =
-    over-missing den done x.0
-    (once_before (labels_of done) (labels_of rest) x.0
-    (subst (λ (ls : List (List ℕ)). Once ls)
-    (ap labels_of (sym e) ∙ map-append (λ (t : List ℕ × Fraction). t.0) done (x ∷ rest))
-    (Once-keys all is)))
+    search (rules, over-missing, once_before, labels_of, map-append, Once-keys)
 
 pub loop-label-init : goal.loop-label-init
-loop-label-init c = record {
-  gains = subst (Gains [] []) (sym c.new-terms.ensures) (gains_none []);
-  table = subst IsWholeTable (sym c.new-terms.ensures) (IsCombination-empty equal is_label whole);
-  so_far = refl;
-}
+loop-label-init c = search (rules, gains_none, IsCombination-empty)
 
 pub returns-in_default-clause-large : goal.returns-in_default-clause-large
 returns-in_default-clause-large c err =

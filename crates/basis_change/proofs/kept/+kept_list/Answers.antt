@@ -1,18 +1,17 @@
-use Rattle.std.proofs.Common.{◌+◌, ℕ, List, [], ◌∷◌, ◌++◌, ◌-◌, drop, get_or, sym, ap, refl}
+use Rattle.std.proofs.Common.{◌+◌, ℕ, List, [], ◌∷◌, ◌++◌, ◌-◌, drop, get_or, sym, ap, refl, rules}
 use Rattle.std.proofs.Common.{◌∙◌, subst, arith, Err, append-nil, true}
 use Rattle.std.specs.Prelude.{nat_eq}
 use Rattle.std.proofs.lemmas.List.{take_rest}
 use Rattle.std.proofs.lemmas.Option.{slice_get_within}
 use Rattle.coeff_rings.specs.Fractions.{whole}
 use Rattle.sym_model.specs.Bases.{has}
-use Rattle.sym_model.specs.Partition.{IsPartition, size}
+use Rattle.sym_model.specs.Partition.{size}
 use Rattle.sym_model.specs.RaisedPart.{without_one, distinct}
 use Rattle.sym_model.proofs.SortedParts.{rows_within_size, size-without_one, has-get_or}
 use Rattle.sym_model.proofs.SortedParts.{IsPartition-without_one}
 use Rattle.linear_combinations.specs.Gains.{Gains, Overflows, replaced}
 use Rattle.linear_combinations.proofs.Gains.{gains_none, pairs_gain, pairs_overflow}
 use Rattle.linear_combinations.proofs.Steps.{error_is, IsCombination-empty}
-use Rattle.family_lists.specs.KeptLists.{StandsAt}
 use Rattle.family_lists.proofs.KeptLists.{list-found, lists-kept}
 use Rattle.beta_sets.specs.BetaSets.{IsShapeTable}
 use Rattle.basis_change.specs.KeptLists.{IsKept}
@@ -25,14 +24,7 @@ use Rattle.basis_change.proofs.kept.+kept_list.Goals as goal
 use Rattle.sym_model.proofs.Lists.{no_items, some_items}
 
 pub from_valid_parts-requires : goal.from_valid_parts-requires
-from_valid_parts-requires t c =
-    let r = rows_within_size c.args.parts.now c.requires.partition.positive in
-    let l = c.requires.low in
-    record { partition = c.requires.partition; few = omega arith; small = omega arith }
-
-pub returns-in-Some-clause-place : goal.returns-in-Some-clause-place
-returns-in-Some-clause-place t c = subst (λ (x : List ℕ). StandsAt c.args.lists.now.entries x
-    c.in-Some.at) c.in_ok-label.ensures.ok c.in-Some.ensures.place
+from_valid_parts-requires t c = search (rules, rows_within_size)
 
 pub returns-then-is_empty-clause-kept : goal.returns-then-is_empty-clause-kept
 returns-then-is_empty-clause-kept t c =
@@ -57,28 +49,10 @@ loop-at-init t c = (
 
 pub kept_list-requires : goal.kept_list-requires
 kept_list-requires t c =
-    let parts = c.args.parts.now in
-    let a = get_or parts c.loop-at.at 0 in
-    let here = has-get_or parts c.loop-at.at c.loop-at-test.true in
-    let s = size-without_one a parts here in
-    let q = part-positive parts a c.requires.partition here in
-    let e = c.deref.ensures.value ∙ c.in_ok-rest.ensures in
-    let z = ap size e in
-    let l = c.requires.low in
-    let d = c.decreases in (
-      omega arith,
-      (
-        subst IsPartition (sym e) (IsPartition-without_one a parts c.requires.partition),
-        (
-          omega arith,
-          c.loop-at.invariant.1.kept,
-        ),
-      ),
-    )
+    search (rules, has-get_or, size-without_one, part-positive, IsPartition-without_one)
 
 pub list_at-requires : goal.list_at-requires
-list_at-requires t c = slice_get_within c.kept_list.new.lists.entries c.in_ok-place.place _
-    c.in_ok-place.ensures.place.1
+list_at-requires t c = search (rules, slice_get_within)
 
 pub add_by-requires : goal.add_by-requires
 add_by-requires t c u m =

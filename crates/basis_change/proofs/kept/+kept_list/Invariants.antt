@@ -12,8 +12,8 @@ use Rattle.basis_change.proofs.kept.+kept_list.Given as goal
 abbrev pub decreases-kept_list : goal.decreases-kept_list
 decreases-kept_list l = size l.parts.now
 
--- for each of the different parts a visited so far, `sum` has the results of adding rim hooks of a cells below the shapes of the list for `parts`
--- without one a
+-- for each of the different parts a visited so far, `sum` has the results of adding rim hooks of a cells below the partitions of the kept list of
+-- `parts` without one a: the list to which the arrangements of these other parts straighten
 abbrev pub invariant-loop-at : goal.invariant-loop-at
 invariant-loop-at l = (done : List (ℕ × WholeTermsOf ℕ)) × record {
   listed : parts_of done ++ distinct (drop l.at l.parts) ≡ distinct l.parts;

@@ -1,4 +1,4 @@
-use Rattle.std.proofs.Common.{refl, arith}
+use Rattle.std.proofs.Common.{refl, arith, rules}
 use Rattle.std.proofs.lemmas.Option.{slice_get_within}
 use Rattle.std.specs.Cmp.{nat_eq_equiv}
 use Rattle.sym_model.specs.Partition.{size}
@@ -12,8 +12,7 @@ use Rattle.basis_change.proofs.kept.add_straightened.Goals as goal
 use Rattle.std.proofs.lemmas.Result.{on_ok_weaker}
 
 pub list_at-requires : goal.list_at-requires
-list_at-requires c = slice_get_within c.kept_list.new.lists.entries c.in_ok-at.at _
-    c.in_ok-at.ensures.place.1
+list_at-requires c = search (rules, slice_get_within)
 
 pub add_by-requires : goal.add_by-requires
 add_by-requires c =

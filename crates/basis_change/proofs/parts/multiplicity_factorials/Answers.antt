@@ -1,4 +1,4 @@
-use Rattle.std.proofs.Common.{◌≡◌, ◌+◌, ◌*◌, ◌∙◌, drop, get_or, suc, ap, arith, ◌<◌, ◌^◌, rules}
+use Rattle.std.proofs.Common.{◌*◌, ◌∙◌, drop, get_or, suc, ap, ◌<◌, ◌^◌, rules}
 use Rattle.basis_change_laws.specs.AugmentedMonomial.{multiplicity_factorials}
 use Rattle.sym_model.specs.Schur.{times_in}
 use Rattle.family_lists.proofs.MultiplicityPlaces.{multiplicity-fits, multiplicity-next}
@@ -19,13 +19,4 @@ overflow_mul-product c =
     search (rules, h)
 
 pub loop-at-preserved : goal.loop-at-preserved
-loop-at-preserved c =
-    let parts = c.args.parts.now in
-    let at = c.loop-at.at in
-    let e = multiplicity-next c.loop-at.product c.from-product.result
-    (multiplicity_factorials parts) parts at c.loop-at-test.true c.loop-at.invariant
-    (c.from-product.ensures ∙ c.times_in.ensures ∙ ap (times_in (get_or parts at 0))
-    (take_rest parts at)) in
-    let s : at + 1 ≡ suc at = omega arith in
-    ap (λ k. (c.loop-at.product * c.from-product.result) * multiplicity_factorials (drop k parts)) s
-    ∙ e
+loop-at-preserved c = search (rules, multiplicity-next, take_rest)

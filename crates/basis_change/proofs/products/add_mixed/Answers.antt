@@ -1,15 +1,14 @@
-use Rattle.std.proofs.Common.{◌≡◌, ℕ, ℤ, List, [], ◌∷◌, ◌++◌, map, refl, sym, ap, subst, ◌∙◌}
+use Rattle.std.proofs.Common.{◌≡◌, ℕ, ℤ, List, [], ◌∷◌, ◌++◌, map, refl, sym, ap, subst, rules}
 use Rattle.std.specs.Prelude.{Err}
 use Rattle.std.specs.Map.Iter.{deref_pair}
 use Rattle.std.proofs.lemmas.List.{map-append}
 use Rattle.sym_model.specs.Sum.{Among}
 use Rattle.sym_model.specs.WholeTerms.{WholeTerms}
-use Rattle.linear_combinations.specs.Gains.{Gains, scaled}
+use Rattle.linear_combinations.specs.Gains.{scaled}
 use Rattle.linear_combinations.proofs.Gains.{all_pairs, gains_none, next_among, pairs_gain}
 use Rattle.linear_combinations.proofs.Gains.{pairs_overflow, so_far_next, scaled_append}
 use Rattle.linear_combinations.proofs.Steps.{all_done, error_is}
-use Rattle.basis_change_laws.specs.JoinedLists.{merged}
-use Rattle.basis_change.specs.AugmentedProducts.{Mixed, MixedLabel, equal, products}
+use Rattle.basis_change.specs.AugmentedProducts.{Mixed, equal, products}
 use Rattle.basis_change.proofs.products.add_mixed.Goals as goal
 
 abbrev added : ℤ → List ℕ → List ℕ → WholeTerms → Mixed
@@ -18,10 +17,7 @@ added c converted augmented factor = scaled c (products factor converted augment
 added-append : (c : ℤ) (converted augmented : List ℕ) (xs ys : WholeTerms) →
     added c converted augmented (xs ++ ys) ≡ added c converted augmented xs ++ added c converted
     augmented ys
-added-append c converted augmented xs ys =
-    ap (scaled c) (map-append (λ (t : List ℕ × ℤ). let term : MixedLabel × ℤ =
-    ((merged converted t.0, augmented), t.1) in term) xs ys)
-    ∙ scaled_append c (products xs converted augmented) (products ys converted augmented)
+added-append c converted augmented xs ys = search (rules, map-append, scaled_append)
 
 pub loop-label-init : goal.loop-label-init
 loop-label-init c = record { gains = gains_none c.args.sum.now; so_far = refl }
@@ -80,10 +76,4 @@ returns-in_err-add_mixed_term-clause-large c err =
     (c.in_err-add_mixed_term.ensures.large (ap Err (error_is _ _ _ c.from_residual.ensures.1 err)))
 
 pub returns-clause-gains : goal.returns-clause-gains
-returns-clause-gains c =
-    subst (λ l. Gains c.args.sum.now
-    (scaled c.args.c (products l c.args.converted.now c.args.augmented.now)) c.loop-label.sum)
-    (all_done (map deref_pair c.loop-label.yielded) c.loop-label.label-iterator _ _
-    c.in-None.ensures.steps.0 c.loop-label.invariant.so_far
-    (c.into_iter-label-iterator.ensures.into_iter_gives ∙ c.iter-label-items.ensures.rest))
-    c.loop-label.invariant.gains
+returns-clause-gains c = search (rules, all_done)

@@ -1,5 +1,4 @@
-use Rattle.std.proofs.Common.{◌*ℤ◌, ap, sym, subst, ◌∙◌}
-use Rattle.partitions.specs.Limits.{IsWithinLimits}
+use Rattle.std.proofs.Common.{◌*ℤ◌, rules}
 use Rattle.basis_change_laws.specs.JoinedLists.{merged}
 use Rattle.sparse_polys.specs.Labels.{same_pair}
 use Rattle.linear_combinations.proofs.Gains.{overflows_alone}
@@ -14,8 +13,4 @@ returns-in_err-product-clause-large c err =
     (c.args.c *ℤ c.args.have) c.in_err-product.ensures
 
 pub from_valid_parts-requires : goal.from_valid_parts-requires
-from_valid_parts-requires c =
-    subst (λ l. IsWithinLimits l) (sym (c.as_slice.ensures.value ∙ c.in_ok-put_merged.ensures
-    ∙ ap (merged c.args.converted.now) c.parts.ensures.value))
-    (limits-merged c.args.converted.now c.args.label.now c.requires.converted
-    c.parts.ensures.limits.partition c.requires.sizes)
+from_valid_parts-requires c = search (rules, limits-merged)

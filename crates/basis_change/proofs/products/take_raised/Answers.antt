@@ -1,5 +1,5 @@
-use Rattle.std.proofs.Common.{◌≡◌, ◌∷◌, [], ◌++◌, get_or, ℕ, List, ap, Err}
-use Rattle.std.proofs.Common.{refl, arith, ℤ, neg_ℤ, inr}
+use Rattle.std.proofs.Common.{◌≡◌, ◌∷◌, [], ◌++◌, get_or, ℕ, List, ap, Err, rules}
+use Rattle.std.proofs.Common.{refl, ℤ, neg_ℤ}
 use Rattle.sym_model.specs.RaisedPart.{raise}
 use Rattle.sym_model.proofs.SortedParts.{IsPartition-raise, size-raise, has-zero_or, has-get_or}
 use Rattle.linear_combinations.specs.Gains.{each_with}
@@ -22,18 +22,11 @@ taken-append z converted by augmented (b ∷ xs) ys = ap (λ (l : Mixed).
     ((converted, raise by b augmented), z) ∷ l) (taken-append z converted by augmented xs ys)
 
 pub take_one-requires-clause-small : goal.take_one-requires-clause-small
-take_one-requires-clause-small c =
-    let s = get_or-le-size c.args.augmented.now c.loop-part.part-index in
-    omega (arith, c.requires.small)
+take_one-requires-clause-small c = search (rules, get_or-le-size)
 
 pub take_one-requires-clause-limits : goal.take_one-requires-clause-limits
 take_one-requires-clause-limits c =
-    let aug = c.args.augmented.now in
-    let b = get_or aug c.loop-part.part-index 0 in
-    let s = size-raise c.args.by b aug c.requires.partition
-    (has-zero_or b aug (inr (has-get_or aug c.loop-part.part-index c.loop-part-test.true))) in
-    IsWithinLimits-low (raise c.args.by b aug)
-    (IsPartition-raise c.args.by b aug c.requires.partition) (omega (arith, c.requires.small))
+    search (rules, size-raise, has-zero_or, has-get_or, IsWithinLimits-low, IsPartition-raise)
 
 pub returns-in_err-take_one-clause-large : goal.returns-in_err-take_one-clause-large
 returns-in_err-take_one-clause-large c err =

@@ -1,4 +1,4 @@
-use Rattle.std.proofs.Common.{◌≡◌, ◌-◌, [], length, ap, ◌∙◌, sym, subst, Err, arith, suc}
+use Rattle.std.proofs.Common.{◌≡◌, ◌-◌, [], length, ap, ◌∙◌, sym, subst, Err, arith, suc, rules}
 use Rattle.linear_combinations.proofs.Steps.{error_is, if_answered}
 use Rattle.sparse_polys.proofs.WholeLists.{if_ok_both}
 use Rattle.linear_combinations.specs.Gains.{HaveLabels, Gains, replaced}
@@ -9,14 +9,10 @@ use Rattle.basis_change.proofs.Steps.{end-large}
 use Rattle.basis_change.proofs.rewriting.converted.Goals as goal
 
 pub step-requires : goal.step-requires
-step-requires c = convertible c.args.factors.now c.loop-rows.rows c.loop-rows.table
-    c.requires.factors c.requires.few c.loop-rows.invariant.ready
+step-requires c = search (rules, convertible)
 
 pub targets-requires : goal.targets-requires
-targets-requires c =
-    convertible c.args.factors.now 1 c.loop-rows.table c.requires.factors c.requires.few
-    (fewer (length c.args.factors.now) c.loop-rows.rows 1 c.loop-rows.table
-    (let h = c.loop-rows-test.false in omega arith) c.loop-rows.invariant.ready)
+targets-requires c = search (rules, convertible, fewer)
 
 pub returns-in_err-table-clause-large : goal.returns-in_err-table-clause-large
 returns-in_err-table-clause-large c = λ large.

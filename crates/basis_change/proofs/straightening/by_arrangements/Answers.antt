@@ -1,5 +1,4 @@
-use Rattle.std.proofs.Common.{ap, Err}
-use Rattle.sym_model.specs.Expansion.{schurs}
+use Rattle.std.proofs.Common.{rules}
 use Rattle.linear_combinations.proofs.Steps.{if_answered}
 use Rattle.beta_sets.specs.BetaSets.{shapes}
 use Rattle.beta_sets.proofs.SetNumbers.{rows_limits}
@@ -9,10 +8,7 @@ use Rattle.basis_change.proofs.StraightValues.{multiple-straightened, straighten
 use Rattle.basis_change.proofs.straightening.by_arrangements.Goals as goal
 
 pub returns-in_err-sum : goal.returns-in_err-sum
-returns-in_err-sum c =
-    failed schurs c.args.size c.args.list.now _ _ c.from_residual.ensures.0 c.from_residual.ensures.1
-    (λ large N b. large-straight N c.args.size c.args.list.now c.straightened.ensures.list c.requires.sizes b
-    (c.in_err-sum.ensures.large (ap Err large)))
+returns-in_err-sum c = search (rules, failed, large-straight)
 
 pub returns : goal.returns
 returns c = record {

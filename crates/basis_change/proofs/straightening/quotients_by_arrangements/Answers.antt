@@ -1,4 +1,4 @@
-use Rattle.std.proofs.Common.{ap, Err}
+use Rattle.std.proofs.Common.{rules}
 use Rattle.linear_combinations.proofs.Steps.{error_is, if_answered}
 use Rattle.beta_sets.specs.BetaSets.{shapes}
 use Rattle.basis_change.proofs.StraightBounds.{large-straight}
@@ -6,9 +6,7 @@ use Rattle.basis_change.proofs.StraightValues.{multiple-straightened}
 use Rattle.basis_change.proofs.straightening.quotients_by_arrangements.Goals as goal
 
 pub returns-in_err-sum-clause-large : goal.returns-in_err-sum-clause-large
-returns-in_err-sum-clause-large c err N b =
-    large-straight N c.args.size c.args.list.now c.straightened.ensures.list c.requires.sizes b
-    (c.in_err-sum.ensures.large (ap Err (error_is _ _ _ c.from_residual.ensures.1 err)))
+returns-in_err-sum-clause-large c err N b = search (rules, large-straight, error_is)
 
 pub returns-clause-value : goal.returns-clause-value
 returns-clause-value c =

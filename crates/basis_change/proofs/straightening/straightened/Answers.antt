@@ -1,31 +1,22 @@
-use Rattle.std.proofs.Common.{◌≡◌, ◌++◌, ◌∷◌, [], ℕ, ℤ, List, map, refl, sym, ◌∙◌, ap, subst, arith, Err, true}
-use Rattle.std.specs.Prelude.{nat_eq}
+use Rattle.std.proofs.Common.{◌≡◌, ◌++◌, ◌∷◌, [], ℕ, ℤ, List, map, sym, ap, subst, arith, Err, rules}
 use Rattle.std.specs.Map.Iter.{deref_pair}
 use Rattle.std.proofs.lemmas.List.{map-append, append-nil}
-use Rattle.coeff_rings.specs.Fractions.{whole}
 use Rattle.sym_model.specs.Partition.{size}
 use Rattle.sym_model.specs.Sum.{Among}
 use Rattle.sym_model.specs.WholeTerms.{WholeTerms}
-use Rattle.linear_combinations.specs.Gains.{Gains, Overflows, HaveLabels}
+use Rattle.linear_combinations.specs.Gains.{Gains, Overflows}
 use Rattle.linear_combinations.proofs.Gains.{all_pairs, gains_none, next_among, pairs_gain}
 use Rattle.linear_combinations.proofs.Gains.{pairs_overflow, so_far_next}
 use Rattle.linear_combinations.proofs.Steps.{all_done, error_is, IsCombination-empty}
 use Rattle.sparse_polys.specs.Tables.{equal}
-use Rattle.beta_sets.specs.BetaSets.{shapes, IsInRows, IsShapeTable}
+use Rattle.beta_sets.specs.BetaSets.{shapes}
 use Rattle.basis_change.specs.Arranging.{straight_terms}
 use Rattle.basis_change.specs.Straightening.{straightened_list}
-use Rattle.basis_change.specs.KeptLists.{AreKept}
 use Rattle.basis_change.proofs.StraightTerms.{straightened_list-append}
 use Rattle.basis_change.proofs.straightening.straightened.Goals as goal
 
 pub loop-label-init : goal.loop-label-init
-loop-label-init c = record {
-  kept = subst AreKept (sym c.new-lists.ensures.empty) (λ l m. absurd m);
-  gains = subst (λ l. Gains [] [] (shapes l)) (sym c.new-sum.ensures) (gains_none []);
-  table = subst IsShapeTable (sym c.new-sum.ensures) (IsCombination-empty nat_eq (λ s. true) whole);
-  within = subst (HaveLabels (IsInRows 20 20)) (sym c.new-sum.ensures) (λ t m. absurd m);
-  so_far = refl;
-}
+loop-label-init c = search (rules, gains_none, IsCombination-empty)
 
 pub add_straightened-requires-clause-low : goal.add_straightened-requires-clause-low
 add_straightened-requires-clause-low c =
@@ -101,11 +92,4 @@ returns-in_err-add_straightened-clause-large c err =
     equal rest c.args.list.now all here
 
 pub returns-clause-gains : goal.returns-clause-gains
-returns-clause-gains c =
-    let is : map deref_pair c.loop-label.yielded ≡ c.args.list.now =
-    all_done (map deref_pair c.loop-label.yielded)
-    c.loop-label.label-iterator _ _ c.in-None.ensures.steps.0 c.loop-label.invariant.so_far
-    c.into_iter-label-iterator.ensures.into_iter_gives
-    ∙ c.iter-label-items.ensures.rest in
-    subst (λ (es : WholeTerms). Gains [] (straightened_list c.args.size es) (shapes c.loop-label.sum))
-    is c.loop-label.invariant.gains
+returns-clause-gains c = search (rules, all_done)

@@ -1,9 +1,9 @@
-use Rattle.std.proofs.Common.{◌≡◌, [], ◌∷◌, map, refl, sym, ◌∙◌, ap, subst, arith}
+use Rattle.std.proofs.Common.{◌≡◌, [], map, sym, ◌∙◌, ap, subst, arith, rules}
 use Rattle.std.specs.List.{All}
 use Rattle.std.specs.Vec.Iter.{into_iter_items}
 use Rattle.std.proofs.lemmas.Grind.{common_steps}
 use Rattle.std.proofs.lemmas.List.Elements.{All-head, All-rest}
-use Rattle.basis_expand.specs.Postorder.{postorder, EndsWith, Evaluates}
+use Rattle.basis_expand.specs.Postorder.{postorder, Evaluates}
 use Rattle.expression_reading.specs.Trees.{tree_of}
 use Rattle.basis_expand.proofs.Evaluations.{All-postorder, evaluates-all, evaluates-next}
 use Rattle.basis_expand.proofs.Evaluations.{values-taken}
@@ -65,13 +65,6 @@ value_of-requires-clause-low g c =
     let low = c.requires.low in
     omega arith
 
-pub value_of-requires-clause-operands : goal.value_of-requires-clause-operands
-value_of-requires-clause-operands g c =
-    let steps = subst (λ nodes. Evaluates (λ n. g.T.Target.stands c.args.target.now (tree_of n))
-    c.args.tree.now nodes c.loop-node.values.items)
-    (ap (map (λ n. n.now)) c.in-Some.ensures.steps.0) c.loop-node.invariant.evaluates in
-    (steps.0, steps.1)
-
 pub returns-in_err-value : goal.returns-in_err-value
 returns-in_err-value g c =
     let e = c.args.tree.now in
@@ -87,15 +80,4 @@ returns-in_err-value g c =
     (g.met.T.Target.grows target (tree_of c.in-Some.node.now) (tree_of e) is.light)
 
 pub returns : goal.returns
-returns g c =
-    let e = c.args.tree.now in
-    let target = c.args.target.now in
-    let none : into_iter_items c.loop-node.node-iterator ≡ [] = grind (arith, common_steps) in
-    let end : EndsWith (λ n. g.T.Target.stands c.args.target.now (tree_of n)) (c.args.tree.now ∷ [])
-    [] c.loop-node.values.items =
-    subst (λ nodes. Evaluates (λ n. g.T.Target.stands c.args.target.now (tree_of n)) e nodes
-    c.loop-node.values.items) (ap (map (λ n. n.now)) none) c.loop-node.invariant.evaluates in
-    done (g.T.Target.stands target) (g.T.Target.heavy target) (tree_of e) c.take_operand.result
-    (values-taken (λ n. g.T.Target.stands c.args.target.now (tree_of n))
-    (e ∷ []) [] c.loop-node.values.items c.take_operand.new.values.items
-    (c.take_operand.result ∷ []) refl end c.take_operand.ensures).0
+returns g c = search (rules, common_steps, done, values-taken)

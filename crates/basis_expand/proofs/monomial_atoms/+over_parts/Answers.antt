@@ -1,4 +1,4 @@
-use Rattle.std.proofs.Common.{◌≡◌, ◌-◌, List, ℕ, length, get_or, take, drop, subst, ap, arith, Err}
+use Rattle.std.proofs.Common.{◌≡◌, ◌-◌, List, ℕ, length, get_or, take, drop, subst, ap, arith, Err, rules}
 use Rattle.std.proofs.Common.{◌+◌, ◌≤◌, ◌^◌}
 use Rattle.std.specs.Prelude.{IfOk}
 use Rattle.sym_model.specs.Partition.{size}
@@ -14,9 +14,7 @@ use Rattle.basis_expand.proofs.AtomLists.{list-none, large-later, IsBounded-prod
 use Rattle.basis_expand.proofs.monomial_atoms.+over_parts.Goals as goal
 
 pub returns-in_default-clause-value : goal.returns-in_default-clause-value
-returns-in_default-clause-value t c =
-    if_answered c.single.result c.single.ensures.value
-    (λ list e. list-none c.args.family c.args.parts.now list c.in_default.len_below e)
+returns-in_default-clause-value t c = search (rules, if_answered, list-none)
 
 pub returns-in_err-others-clause-large : goal.returns-in_err-others-clause-large
 returns-in_err-others-clause-large t c = λ large.
@@ -47,8 +45,4 @@ returns-clause-value t c =
     (c.times_factor.ensures.value rest c.in_ok-others.ensures.value)
 
 pub returns-clause-large : goal.returns-clause-large
-returns-clause-large t c = λ large.
-    let rest = take (length c.args.parts.now - 1) (drop 1 c.args.parts.now) in
-    subst (λ (p : List ℕ). 2 ^ 127 ≤ growth monomials (size p))
-    (split_first c.args.parts.now c.in-len1-up.len_at_least)
-    (c.times_factor.ensures.large large rest c.in_ok-others.ensures.value)
+returns-clause-large t c = search (rules, split_first)

@@ -1,7 +1,6 @@
-use Rattle.std.proofs.Common.{arith, subst, ap, List, ℕ, pos}
+use Rattle.std.proofs.Common.{subst, List, ℕ, pos, rules}
 use Rattle.coeff_rings.specs.Fractions.{whole}
 use Rattle.sym_model.specs.Expansion.{Fraction}
-use Rattle.sym_model.specs.Partition.{size}
 use Rattle.sparse_polys.proofs.Coefficients.{if_answered}
 use Rattle.basis_expand.specs.SchurLists.{IsOneTerm}
 use Rattle.basis_expand.proofs.OneTerms.{expansion_monomial, bounded_monomial, within_monomial}
@@ -14,13 +13,7 @@ to_basis-requires-clause-bounded c =
     c.in_ok-list.ensures)
 
 pub to_basis-requires-clause-sizes : goal.to_basis-requires-clause-sizes
-to_basis-requires-clause-sizes c t m =
-    let w = within_monomial c.parts.result.now c.in_ok-list.list
-    (subst (λ (x : Fraction). IsOneTerm c.parts.result.now x c.in_ok-list.list) c.one.ensures.value
-    c.in_ok-list.ensures) t m in
-    let s = ap size c.parts.ensures.value in
-    let low = c.requires in
-    omega arith
+to_basis-requires-clause-sizes c t m = search (rules, within_monomial)
 
 pub returns : goal.returns
 returns c =

@@ -1,4 +1,4 @@
-use Rattle.std.proofs.Common.{◌≡◌, [], ◌∷◌, ◌++◌, length, sym, ◌∙◌, ap, arith, pos, ◌*ℤ◌, refl}
+use Rattle.std.proofs.Common.{◌≡◌, [], ◌∷◌, ◌++◌, length, sym, ◌∙◌, ap, arith, pos, ◌*ℤ◌, refl, rules}
 use Rattle.std.proofs.Common.{append_assoc, append-nil, to_z-of_z}
 use Rattle.std.specs.Prelude.{FitsSigned}
 use Rattle.std.specs.Int.{w128}
@@ -20,10 +20,7 @@ use Rattle.basis_expand.proofs.SchurTables.{ComeTo-one}
 use Rattle.basis_expand.proofs.schur_products.add_pair.Goals as goal
 
 pub loop-shape-init : goal.loop-shape-init
-loop-shape-init c = record {
-  gains = λ q den cleared. Gains-none q c.args.sum.now cleared;
-  so_far = refl;
-}
+loop-shape-init c = search (rules, Gains-none)
 
 pub loop-shape-preserved : goal.loop-shape-preserved
 loop-shape-preserved c =

@@ -10,8 +10,8 @@ use Rattle.linear_combinations.specs.Cleared.{GainsCleared}
 use Rattle.basis_expand.specs.SchurLists.{ComeTo, row_at}
 use Rattle.basis_expand.proofs.schur_products.add_term_product.Given as goal
 
--- the products of c·s_left with the terms of `right` visited so far have been added to `sum`; these terms and those still to come are all terms of
--- `right`
+-- the products of c·s_left with the terms of `right` that the loop has visited have been added to `sum`; the visited terms, followed by the other
+-- terms, are all terms of `right`
 abbrev pub invariant-loop-other : goal.invariant-loop-other
 invariant-loop-other l = record {
   sums :

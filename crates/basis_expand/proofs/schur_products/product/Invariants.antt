@@ -8,8 +8,8 @@ use Rattle.basis_expand.specs.SchurLists.{ComeTo, products_at}
 use Rattle.linear_combinations.specs.Cleared.{IsCommonDenominator, GainsCleared}
 use Rattle.basis_expand.proofs.schur_products.product.Given as goal
 
--- the products of the terms of `left` visited so far with `right` have been added to `sum`; these terms and those still to come are all terms of
--- `left`
+-- the products of `right` with the terms of `left` that the loop has visited have been added to `sum`; the visited terms, followed by the other
+-- terms, are all terms of `left`
 abbrev pub invariant-loop-label : goal.invariant-loop-label
 invariant-loop-label l = record {
   sums :

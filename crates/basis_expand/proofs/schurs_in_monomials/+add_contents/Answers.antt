@@ -14,13 +14,6 @@ pub add_content-requires-clause-limits : goal.add_content-requires-clause-limits
 add_content-requires-clause-limits t c = subst IsWithinLimits (append-nil c.args.chosen.now)
     (c.requires.limits [] tt)
 
-pub loop-part-init : goal.loop-part-init
-loop-part-init t c = record {
-  counted = c.in_ok-add_content.ensures.counted c.args.left;
-  terms = c.in_ok-add_content.ensures.terms;
-  table = c.in_ok-add_content.ensures.table;
-}
-
 pub returns-in_err-next-clause-large : goal.returns-in_err-next-clause-large
 returns-in_err-next-clause-large t c = λ large start content leads.
     large-lead start content c.loop-part.part c.args.terms.now

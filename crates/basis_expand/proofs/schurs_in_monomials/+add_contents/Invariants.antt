@@ -6,7 +6,7 @@ use Rattle.basis_expand.proofs.schurs_in_monomials.+add_contents.Given as goal
 abbrev pub decreases-add_contents : goal.decreases-add_contents
 decreases-add_contents l = l.left
 
--- the contents whose next part is less than `part` have been added to `list`
+-- the labels that continue `chosen` with a next part less than `part` have been added to `list`, each with its coefficient
 abbrev pub invariant-loop-part : goal.invariant-loop-part
 invariant-loop-part l = record {
   counted : CountsContents l.terms l.chosen (l.part - 1) l.left l.fn.list l.list;

@@ -1,7 +1,6 @@
-use Rattle.std.proofs.Common.{[], ◌∷◌, ◌++◌, ap, subst}
+use Rattle.std.proofs.Common.{[], ◌∷◌, ◌++◌, subst, rules}
 use Rattle.std.specs.Cmp.Lexicographic.{nat_list_eq_equiv}
 use Rattle.sym_model.specs.Polynomial.{Same}
-use Rattle.sym_model.specs.Expansion.{Fraction}
 use Rattle.linear_combinations.specs.Labels.{same_partition}
 use Rattle.linear_combinations.proofs.Found.{gains_same}
 use Rattle.linear_combinations.proofs.Gains.{gains_term}
@@ -11,13 +10,7 @@ use Rattle.basis_expand.proofs.schurs_in_monomials.add_content.Goals as goal
 use Rattle.std.proofs.lemmas.Result.{on_ok_weaker}
 
 pub returns-then-is_zero-clause-counted : goal.returns-then-is_zero-clause-counted
-returns-then-is_zero-clause-counted c = λ left.
-    counts-end c.args.terms.now c.args.chosen.now c.in_ok-nothing.nothing left
-    c.coefficient-ways.result c.args.list.now c.args.list.now
-    c.coefficient-ways.ensures.combination c.in_ok-nothing.ensures.ok
-    c.coefficient-ways.ensures.value c.requires.fresh
-    (nothing-more c.args.chosen.now c.coefficient-ways.result c.args.list.now
-    (ap (λ (q : Fraction). q.0) (c.is_zero.ensures.zero.0 c.if-is_zero.true)))
+returns-then-is_zero-clause-counted c = search (rules, counts-end, nothing-more)
 
 pub returns-clause-counted : goal.returns-clause-counted
 returns-clause-counted c = λ left.
@@ -35,8 +28,4 @@ returns-clause-counted c = λ left.
     c.add_term.ensures.tables.before.combination c.add_term.ensures.tables.after.combination label ways more)))) c.add_term.ensures.ok
 
 pub returns-clause-small : goal.returns-clause-small
-returns-clause-small c = λ large.
-    not_refused _ c.coefficient-ways.result
-    (fresh-found c.args.chosen.now c.in_ok-label.label c.args.list.now
-    c.add_term.ensures.tables.before.combination c.in_ok-label.ensures.ok c.requires.fresh)
-    (c.add_term.ensures.large.0 large)
+returns-clause-small c = search (rules, not_refused, fresh-found)

@@ -1,21 +1,15 @@
-use Rattle.std.proofs.Common.{[], ◌∷◌, List, ℕ, pos, subst, ap, Err, arith, sym}
+use Rattle.std.proofs.Common.{[], ◌∷◌, List, ℕ, pos, subst, ap, Err, rules}
 use Rattle.sym_model.specs.Polynomial.{Same}
-use Rattle.sym_model.specs.LabelLimits.{is_label}
-use Rattle.coeff_rings.specs.Fractions.{whole}
 use Rattle.linear_combinations.proofs.Steps.{error_is, IsCombination-empty}
-use Rattle.sparse_polys.specs.Tables.{equal, IsWholeTable}
 use Rattle.basis_expand.proofs.StripTables.{leads-start, many-alone}
 use Rattle.basis_expand.proofs.ContentCounts.{limits-content, list-counted}
 use Rattle.basis_expand.proofs.schurs_in_monomials.schur.Goals as goal
 
 pub add_contents-requires-clause-limits : goal.add_contents-requires-clause-limits
-add_contents-requires-clause-limits c = λ rest content.
-    limits-content c.size-cells.result c.size-cells.result rest
-    (omega (arith, c.size-cells.ensures.value, c.requires)) content
+add_contents-requires-clause-limits c = search (rules, limits-content)
 
 pub add_contents-requires-clause-table : goal.add_contents-requires-clause-table
-add_contents-requires-clause-table c = subst IsWholeTable (sym c.new-list.ensures)
-    (IsCombination-empty equal is_label whole)
+add_contents-requires-clause-table c = search (rules, IsCombination-empty)
 
 pub returns-in_err-add_contents-clause-large : goal.returns-in_err-add_contents-clause-large
 returns-in_err-add_contents-clause-large c = λ large.

@@ -1,19 +1,14 @@
-use Rattle.std.proofs.Common.{[], ap, Err, subst, sym}
-use Rattle.sym_model.specs.LabelLimits.{is_label}
-use Rattle.coeff_rings.specs.Fractions.{whole}
+use Rattle.std.proofs.Common.{[], ap, Err, rules}
 use Rattle.linear_combinations.proofs.Steps.{error_is, IsCombination-empty}
-use Rattle.sparse_polys.specs.Tables.{equal, IsWholeTable}
 use Rattle.basis_expand.proofs.StripTables.{leads-start}
 use Rattle.basis_expand.proofs.ContentCounts.{limits-content, lists-counted}
 use Rattle.basis_expand.proofs.schurs_in_monomials.schurs_to_monomials.Goals as goal
 
 pub add_contents-requires-clause-limits : goal.add_contents-requires-clause-limits
-add_contents-requires-clause-limits c = λ rest content. limits-content c.args.cells c.args.cells
-    rest c.requires.low content
+add_contents-requires-clause-limits c = search (rules, limits-content)
 
 pub add_contents-requires-clause-table : goal.add_contents-requires-clause-table
-add_contents-requires-clause-table c = subst IsWholeTable (sym c.new-list.ensures)
-    (IsCombination-empty equal is_label whole)
+add_contents-requires-clause-table c = search (rules, IsCombination-empty)
 
 pub returns-in_err-add_contents-clause-large : goal.returns-in_err-add_contents-clause-large
 returns-in_err-add_contents-clause-large c = λ large.

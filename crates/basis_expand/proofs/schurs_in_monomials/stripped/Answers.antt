@@ -1,8 +1,7 @@
-use Rattle.std.proofs.Common.{[], subst, ap, Err}
-use Rattle.linear_combinations.specs.Gains.{Gains, Overflows}
+use Rattle.std.proofs.Common.{[], subst, rules}
+use Rattle.linear_combinations.specs.Gains.{Gains}
 use Rattle.linear_combinations.proofs.Found.{gains_same}
 use Rattle.linear_combinations.proofs.Steps.{error_is}
-use Rattle.sparse_polys.specs.Tables.{equal}
 use Rattle.basis_expand.specs.Strips.{strip_terms}
 use Rattle.basis_expand.proofs.schurs_in_monomials.stripped.Goals as goal
 
@@ -13,6 +12,4 @@ returns-clause-value c =
     c.new-list.ensures c.in_ok-add_by.ensures.gains)
 
 pub returns-in_err-add_by-clause-large : goal.returns-in_err-add_by-clause-large
-returns-in_err-add_by-clause-large c = λ large.
-    subst (λ old. Overflows equal old (strip_terms c.args.k c.args.terms.now)) c.new-list.ensures
-    (c.in_err-add_by.ensures.large (ap Err (error_is _ _ _ c.from_residual.ensures.1 large)))
+returns-in_err-add_by-clause-large c = search (rules, error_is)

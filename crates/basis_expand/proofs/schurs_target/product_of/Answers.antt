@@ -10,7 +10,6 @@ use Rattle.basis_expand.proofs.FamilyFactors.{factor_times}
 use Rattle.basis_expand.proofs.Expressions.{right_factor, left_factor}
 use Rattle.basis_expand.proofs.schurs_target.product_of.Goals as goal
 
--- the parts of an atom of degree at most 20 add up to at most 512
 small : (e : Tree) (basis : Basis) (label parts : List ℕ) → e ≡ atom basis label → degree e ≤ 20 →
     parts ≡ label → size parts ≤ 512
 small e basis label parts is low same =

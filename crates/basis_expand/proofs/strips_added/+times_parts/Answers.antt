@@ -1,4 +1,4 @@
-use Rattle.std.proofs.Common.{◌-◌, length, get_or, take, drop}
+use Rattle.std.proofs.Common.{◌-◌, length, get_or, take, drop, rules}
 use Rattle.sym_model.specs.Bases.{product_over}
 use Rattle.sparse_polys.specs.Families.{polynomial_of}
 use Rattle.sym_model.specs.Polynomial.{times}
@@ -8,8 +8,7 @@ use Rattle.basis_expand.proofs.FamilyFactors.{times-no_parts, times-more_parts}
 use Rattle.basis_expand.proofs.strips_added.+times_parts.Goals as goal
 
 pub returns-in_default : goal.returns-in_default
-returns-in_default t c = times-no_parts c.args.family c.args.parts.now c.args.list
-    c.in_default.len_below
+returns-in_default t c = search (rules, times-no_parts)
 
 pub returns : goal.returns
 returns t c =

@@ -1,4 +1,4 @@
-use Rattle.std.proofs.Common.{◌≡◌, [], ◌∷◌, ◌++◌, List, ℕ, map, true, sym, ◌∙◌, subst, refl}
+use Rattle.std.proofs.Common.{◌≡◌, [], ◌∷◌, ◌++◌, List, ℕ, map, true, sym, subst, refl, rules}
 use Rattle.std.specs.Map.Iter.{deref_pair}
 use Rattle.std.proofs.lemmas.List.{map-append}
 use Rattle.sym_model.specs.Expansion.{Terms}
@@ -50,11 +50,4 @@ returns-then-not-can_grow c =
     )
 
 pub returns : goal.returns
-returns c =
-    let all : map deref_pair c.loop-label.yielded ≡ c.args.list.now =
-    all_done (map deref_pair c.loop-label.yielded) c.loop-label.label-iterator _ _
-    c.in-None.ensures.steps.0 c.loop-label.invariant.so_far
-    c.into_iter-label-iterator.ensures.into_iter_gives ∙ c.iter-label-items.ensures.rest in (
-      (λ told. subst (λ (l : Terms (List ℕ)). HaveRoomForStrips c.args.k l) all c.loop-label.invariant.room),
-      (λ room. refl),
-    )
+returns c = search (rules, all_done)

@@ -3,7 +3,8 @@ use Rattle.std.specs.Map.Iter.{deref_pair}
 use Rattle.strip_rules.specs.Room.{HaveRoomForStrips}
 use Rattle.basis_expand.proofs.strips_added.has_room.Given as goal
 
--- the labels visited so far have room for k more cells and k more rows; these labels and those still to come are all labels of the list
+-- the labels that the loop has visited are within the limits with k more cells and k more rows; the visited labels, followed by the other labels,
+-- are all labels of the list
 abbrev pub invariant-loop-label : goal.invariant-loop-label
 invariant-loop-label l = record {
   room : HaveRoomForStrips l.k (map deref_pair l.yielded);

@@ -1,6 +1,6 @@
-use Rattle.std.proofs.Common.{◌≤◌, ◌++◌, ◌∷◌, [], ◌+◌, ◌-◌, ◌<◌, ◌^◌, ℕ, List, get_or, take, drop}
-use Rattle.std.proofs.Common.{length, subst, sym, ap, ◌∙◌, arith, rules, refl}
-use Rattle.sym_model.specs.Partition.{IsPartition, size}
+use Rattle.std.proofs.Common.{◌≤◌, ◌++◌, ◌∷◌, [], ◌+◌, ◌-◌, ℕ, List, get_or, take, drop, rules}
+use Rattle.std.proofs.Common.{length, subst, sym, ap, ◌∙◌, arith, rules}
+use Rattle.sym_model.specs.Partition.{IsPartition}
 use Rattle.sym_model.proofs.Parts.{split_first, size-append}
 use Rattle.schur_laws.proofs.KostkaNumbers.{partition_tail}
 use Rattle.basis_expand.specs.Strips.{AreRows}
@@ -9,32 +9,13 @@ use Rattle.basis_expand.proofs.StripLists.{strips-next, strips-all, row_off}
 use Rattle.basis_expand.proofs.strips_taken.+add_strips.Goals as goal
 
 pub from_valid_numbers-requires : goal.from_valid_numbers-requires
-from_valid_numbers-requires t c =
-    limits-rows c.deref.result.now
-    (rows-end c.args.above.now.items c.args.rows.now c.deref.result.now c.in_default.len_below
-    c.deref.ensures.value c.requires.rows)
+from_valid_numbers-requires t c = search (rules, limits-rows, rows-end)
 
 pub overflow_add-cells-end : goal.overflow_add-cells-end
-overflow_add-cells-end t c =
-    let cells = ap size (split_first c.args.rows.now c.in-len1-up.len_at_least) in
-    let all = size-append c.args.above.now.items c.args.rows.now in
-    let few = c.requires.rows.small in
-    let h : c.min-cells-end.result + 1 < 2 ^ 16 = omega (arith, c.min-cells-end.ensures) in
-    search (rules, h)
+overflow_add-cells-end t c = search (rules, split_first, size-append)
 
 pub loop-cells-init : goal.loop-cells-init
-loop-cells-init t c =
-    let row = get_or c.args.rows.now 0 0 in
-    let rest = take (length c.args.rows.now - 1) (drop 1 c.args.rows.now) in
-    let p = subst IsPartition (sym (split_first c.args.rows.now c.in-len1-up.len_at_least))
-    c.requires.shape in
-    record {
-      same = refl;
-      listed =
-          strips-none c.args.k row c.first_row-next.result c.saturating_sub-cells.result rest
-          c.args.above.now.items c.args.shapes.now.items
-          c.first_row-next.ensures c.saturating_sub-cells.ensures (partition_tail row rest p).0;
-    }
+loop-cells-init t c = search (rules, split_first, strips-none, partition_tail)
 
 pub add_strips-requires : goal.add_strips-requires
 add_strips-requires t c =

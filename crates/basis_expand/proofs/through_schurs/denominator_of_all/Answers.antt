@@ -1,4 +1,4 @@
-use Rattle.std.proofs.Common.{◌≡◌, ◌++◌, ◌∷◌, [], List, ℕ, map, sym, ◌∙◌, ap, subst, refl, arith}
+use Rattle.std.proofs.Common.{◌≡◌, ◌++◌, ◌∷◌, [], List, ℕ, map, sym, ◌∙◌, ap, subst, refl, arith, rules}
 use Rattle.std.specs.Map.Iter.{deref_pair}
 use Rattle.std.proofs.lemmas.List.{map-append}
 use Rattle.sym_model.specs.Expansion.{Terms}
@@ -38,12 +38,4 @@ loop-c-preserved c =
     }
 
 pub returns : goal.returns
-returns c =
-    let all : map deref_pair c.loop-c.yielded ≡ c.args.list.now =
-    all_done (map deref_pair c.loop-c.yielded) c.loop-c.c-iterator _ _ c.in-None.ensures.steps.0
-    c.loop-c.invariant.so_far c.into_iter-c-iterator.ensures.into_iter_gives
-    ∙ c.iter-c-items.ensures.rest in (
-      c.loop-c.invariant.low,
-      subst (λ (es : Terms (List ℕ)). IsCommonDenominator c.loop-c.den es)
-          all c.loop-c.invariant.common,
-    )
+returns c = search (rules, all_done)

@@ -3,7 +3,8 @@ use Rattle.std.specs.Map.Iter.{deref_pair}
 use Rattle.linear_combinations.specs.Cleared.{IsCommonDenominator}
 use Rattle.basis_expand.proofs.through_schurs.denominator_of_all.Given as goal
 
--- the number `den` is a common denominator of the terms visited so far; these terms and those still to come are all terms of the list
+-- the number `den` is a common denominator of the terms that the loop has visited; the visited terms, followed by the other terms, are all terms of
+-- the list
 abbrev pub invariant-loop-c : goal.invariant-loop-c
 invariant-loop-c l = record {
   low : l.den < 2 ^ 127;

@@ -1,6 +1,6 @@
 use Rattle.std.proofs.Common.{◌≡◌, ℕ, ◌<◌, get_or}
 use Rattle.block_reader.proofs.cutting.cut.Given as goal
 
--- none of the bytes visited so far is the separator
+-- no byte visited so far is the separator
 abbrev pub invariant-loop-at : goal.invariant-loop-at
 invariant-loop-at l = (k : ℕ) → k < l.at → get_or l.text k 0 ≡ l.separator → ⊥

@@ -1,4 +1,4 @@
--- The words of a line are read as those of the command of a line whose name is their first word.
+-- The words of a line of a batch are read as the words of the command whose name is their first word.
 use Rattle.std.proofs.Common.{map, Err, ap, subst, ◌≡◌, ◌∙◌, ◌⊎◌}
 use Rattle.std.specs.Prelude.{string_bytes, codes}
 use Rattle.calc_language.specs.BuiltCommands.{command_entries, batch_entries}

@@ -1,4 +1,4 @@
-use Rattle.std.proofs.Common.{◌≡◌, ◌+◌, map, length, drop, [], ◌∷◌, sym, ap, ◌∙◌, arith}
+use Rattle.std.proofs.Common.{◌≡◌, ◌+◌, map, length, drop, sym, ap, ◌∙◌, arith, rules}
 use Rattle.std.specs.Prelude.{string_bytes}
 use Rattle.std.proofs.lemmas.List.{length-map}
 use Rattle.sym_model.specs.CommandOffence.{first_offence}
@@ -9,33 +9,13 @@ use Rattle.calc_words.proofs.ReadingFacts.{no_more, some_more}
 use Rattle.calc_language.proofs.row_offences.empty_row.Goals as goal
 
 pub returns-then-rows-lt2 : goal.returns-then-rows-lt2
-returns-then-rows-lt2 c =
-    let ws = map (λ r. map string_bytes r.now) c.args.rows.now in
-    let l = length-map c.args.rows.now (λ r. map string_bytes r.now) in
-    sym (ap first_offence (one_row c.args.at ws (omega (arith, l, c.if-rows-lt2.true))))
+returns-then-rows-lt2 c = search (rules, length-map, one_row)
 
 pub loop-row-init : goal.loop-row-init
-loop-row-init c =
-    let ws = map (λ r. map string_bytes r.now) c.args.rows.now in
-    let l = length-map c.args.rows.now (λ r. map string_bytes r.now) in
-    (ap first_offence (two_rows c.args.at ws (omega (arith, l, c.if-rows-lt2.false))), c.requires)
+loop-row-init c = search (rules, length-map, two_rows)
 
 pub returns-then-is_empty : goal.returns-then-is_empty
-returns-then-is_empty c =
-    let rows = c.args.rows.now in
-    let i = c.loop-row.row-index in
-    let row = c.row-item.result.now in
-    let ws = map (λ r. map string_bytes r.now) rows in
-    let rest = drop (i + 1) ws in
-    let next = rows_next (λ r. map string_bytes r.now) rows i c.row-item.result c.loop-row-test.true
-    c.row-item.is in
-    let place = c.loop-row.place in
-    let none : map string_bytes row ≡ [] = no_more string_bytes row
-    (sym c.is_empty.ensures ∙ c.if-is_empty.true) in
-    sym
-    (c.loop-row.invariant.0
-    ∙ ap (λ ds. first_offence (empties (rows_at place ds))) (next ∙ ap (λ w. w ∷ rest) none)
-    ∙ empty_first place rest)
+returns-then-is_empty c = search (rules, rows_next, no_more, empties, empty_first)
 
 pub overflow_add-place-in-loop-row : goal.overflow_add-place-in-loop-row
 overflow_add-place-in-loop-row c =

@@ -1,16 +1,13 @@
-use Rattle.std.proofs.Common.{◌≡◌, ◌+◌, ◌-◌, map, length, take, drop, get_or, ◌∷◌, sym, ap, ◌∙◌}
-use Rattle.std.proofs.Common.{arith, Some, min, ◌==◌, not}
+use Rattle.std.proofs.Common.{◌≡◌, ◌+◌, ◌-◌, map, length, take, drop, get_or, ◌∷◌, sym, ap, ◌∙◌, rules}
+use Rattle.std.proofs.Common.{arith, min}
 use Rattle.std.specs.Prelude.{string_bytes}
 use Rattle.std.proofs.lemmas.List.{length-map}
 use Rattle.sym_model.specs.CommandOffence.{first_offence}
 use Rattle.word_laws.specs.WrittenRows.{row_text, left_at}
 use Rattle.calc_language.proofs.RowJudging.{rows_next, no_rows, room_next, row_width}
-use Rattle.std.specs.Bool.{then_some}
 use Rattle.std.proofs.lemmas.Bool.{eqb-true, eqb-false}
-use Rattle.sym_model.specs.ExpressionOffence.{shape}
 use Rattle.calc_language.proofs.RowJudging.{left_last, rows_left, left_misses, left_fewer, left_on}
 use Rattle.calc_language.proofs.RowJudging.{left_none}
-use Rattle.calc_language.specs.FoundOffences.{found_of}
 use Rattle.calc_language.proofs.row_offences.left_shape.Goals as goal
 use Rattle.sym_model.proofs.Parts.{split_first}
 
@@ -32,29 +29,7 @@ overflow_add-result c =
     omega (arith, room, long, l, least)
 
 pub returns-then-row-length : goal.returns-then-row-length
-returns-then-row-length c =
-    let rows = c.args.rows.now in
-    let i = c.loop-i.i in
-    let row = c.index-rows-i.result.now in
-    let ws = map (λ r. map string_bytes r.now) rows in
-    let rest = drop (i + 1) ws in
-    let next = rows_next (λ r. map string_bytes r.now) rows i c.index-rows-i.result
-    c.loop-i-test.true c.index-rows-i.is in
-    let place = c.loop-i.place in
-    let w = map string_bytes row in
-    let left = c.loop-i.left.now in
-    let n = get_or left 0 0 in
-    let later = take (length left - 1) (drop 1 left) in
-    let cut = sym (split_first left c.in-len1-up.len_at_least) in
-    let here = c.loop-i.invariant.0 ∙ ap (λ ds. first_offence (left_at place left ds)) next
-    ∙ ap (λ ls. first_offence (left_at place ls (w ∷ rest))) cut in
-    let l = length-map row string_bytes in
-    let least = c.min.ensures in
-    let other = c.if-row-length.true in
-    sym
-    (here ∙ left_misses place n later w rest (λ e. other (omega (arith, e, l)))
-    ∙ (let z : place + min n (length w) ≡ place + c.min.result = omega (arith, least, l) in
-    ap (λ p. Some (p, 0, shape)) z))
+returns-then-row-length c = search (rules, rows_next, split_first, length-map, left_misses)
 
 pub overflow_add-place : goal.overflow_add-place
 overflow_add-place c =
@@ -72,65 +47,11 @@ overflow_add-place c =
 
 pub returns-then-is_empty : goal.returns-then-is_empty
 returns-then-is_empty c =
-    let rows = c.args.rows.now in
-    let i = c.loop-i.i in
-    let row = c.index-rows-i.result.now in
-    let ws = map (λ r. map string_bytes r.now) rows in
-    let rest = drop (i + 1) ws in
-    let next = rows_next (λ r. map string_bytes r.now) rows i c.index-rows-i.result
-    c.loop-i-test.true c.index-rows-i.is in
-    let place = c.loop-i.place in
-    let w = map string_bytes row in
-    let left = c.loop-i.left.now in
-    let n = get_or left 0 0 in
-    let later = take (length left - 1) (drop 1 left) in
-    let cut = sym (split_first left c.in-len1-up.len_at_least) in
-    let here = c.loop-i.invariant.0 ∙ ap (λ ds. first_offence (left_at place left ds)) next
-    ∙ ap (λ ls. first_offence (left_at place ls (w ∷ rest))) cut in
-    let l = length-map row string_bytes in
-    let same = c.if-row-length.false in
-    let none = eqb-true (length later) 0 (sym c.is_empty.ensures ∙ c.if-is_empty.true) in
-    let more = rows_left (λ r. map string_bytes r.now) rows i in
-    let wide = c.width-place.ensures in
-    ap found_of c.then_some.ensures
-    ∙ sym
-    (here
-    ∙ left_last place n later w rest (i + 1 == length rows) (omega (arith, same, l)) none
-    (λ e. let z = eqb-true (i + 1) (length rows) e in omega (arith, z, more))
-    (λ e. let z = eqb-false (i + 1) (length rows) e in let y = c.loop-i-test.true in
-    omega (arith, z, more, y))
-    ∙ (let z : place + length (row_text w) ≡ place + c.width-place.result = omega (arith, wide) in
-    ap (λ p. found_of (then_some (not (i + 1 == length rows)) p)) z))
+    search (rules, rows_next, split_first, length-map, eqb-true, rows_left, left_last, eqb-false)
 
 pub returns-then-is_last_row : goal.returns-then-is_last_row
 returns-then-is_last_row c =
-    let rows = c.args.rows.now in
-    let i = c.loop-i.i in
-    let row = c.index-rows-i.result.now in
-    let ws = map (λ r. map string_bytes r.now) rows in
-    let rest = drop (i + 1) ws in
-    let next = rows_next (λ r. map string_bytes r.now) rows i c.index-rows-i.result
-    c.loop-i-test.true c.index-rows-i.is in
-    let place = c.loop-i.place in
-    let w = map string_bytes row in
-    let left = c.loop-i.left.now in
-    let n = get_or left 0 0 in
-    let later = take (length left - 1) (drop 1 left) in
-    let cut = sym (split_first left c.in-len1-up.len_at_least) in
-    let here = c.loop-i.invariant.0 ∙ ap (λ ds. first_offence (left_at place left ds)) next
-    ∙ ap (λ ls. first_offence (left_at place ls (w ∷ rest))) cut in
-    let l = length-map row string_bytes in
-    let same = c.if-row-length.false in
-    let some = eqb-false (length later) 0 (sym c.is_empty.ensures ∙ c.if-is_empty.false) in
-    let more = rows_left (λ r. map string_bytes r.now) rows i in
-    let wide = c.width-place.ensures in
-    let last = c.if-is_last_row.true in
-    sym
-    (here
-    ∙ left_fewer place n later w rest (omega (arith, same, l)) (omega (arith, some))
-    (omega (arith, last, more))
-    ∙ (let z : place + length (row_text w) ≡ place + c.width-place.result = omega (arith, wide) in
-    ap (λ p. Some (p, 0, shape)) z))
+    search (rules, rows_next, split_first, length-map, eqb-false, rows_left, left_fewer)
 
 pub overflow_add-place-in-loop-i : goal.overflow_add-place-in-loop-i
 overflow_add-place-in-loop-i c =
@@ -181,7 +102,4 @@ loop-i-preserved c =
     )
 
 pub returns : goal.returns
-returns c =
-    sym (c.loop-i.invariant.0 ∙ ap (λ ds. first_offence (left_at c.loop-i.place c.loop-i.left.now
-    ds)) (no_rows (λ r. map string_bytes r.now) c.args.rows.now c.loop-i.i c.loop-i-test.false)
-    ∙ left_none c.loop-i.place c.loop-i.left.now)
+returns c = search (rules, no_rows, left_none)

@@ -1,11 +1,10 @@
-use Rattle.std.proofs.Common.{map}
+use Rattle.std.proofs.Common.{map, rules}
 use Rattle.std.specs.Prelude.{string_bytes}
 use Rattle.calc_language.proofs.CutTableaux.{dot_row, number_row}
 use Rattle.calc_language.proofs.row_words.row_first.Goals as goal
 
 pub returns-in-Some-clause-is : goal.returns-in-Some-clause-is
-returns-in-Some-clause-is c = λ row rows n e. dot_row row (map string_bytes c.args.words.now)
-    (map string_bytes c.in-Some.rest.now) rows n e c.in-Some.ensures
+returns-in-Some-clause-is c = search (rules, dot_row)
 
 pub returns-in-None-clause-is : goal.returns-in-None-clause-is
 returns-in-None-clause-is c =

@@ -1,4 +1,4 @@
-use Rattle.std.proofs.Common.{map, sym, ap, ◌∙◌, Some}
+use Rattle.std.proofs.Common.{map, sym, ap, ◌∙◌, Some, rules}
 use Rattle.std.specs.Prelude.{string_bytes}
 use Rattle.sym_model.specs.CommandOffence.{rows_in}
 use Rattle.sym_model.specs.GoodTableau.{column_reading}
@@ -11,23 +11,7 @@ use Rattle.calc_language.proofs.tab.judge_last.Goals as goal
 use Rattle.sym_model.proofs.Lists.{some_items}
 
 pub returns-in-None : goal.returns-in-None
-returns-in-None c =
-    let outer = c.args.outer in
-    let inner = c.args.inner in
-    let rows = c.args.rows.now in
-    let limits = c.parts.ensures.limits in
-    let read = map (λ r. r.items) c.as_slice.result.now in
-    let is = ap (map (λ r. r.items)) c.as_slice.ensures.value ∙ c.rows_of_shape-filled.ensures
-    ∙ ap (rows_in c.parts.result.now) c.in_ok-read.ensures
-    ∙ ap (λ o. rows_in o (map (λ r. map at_most_entry (numbers (map string_bytes r.now))) rows))
-    c.parts.ensures.value in
-    let unlisted = rw c.in-None.is at c.in_ok-lattice_reading.ensures in
-    unlisted_last (λ r. map string_bytes r.now) c.args.at outer inner rows
-    c.offence.result (some_items rows (sym c.is_empty.ensures ∙ c.if-is_empty.false))
-    (sym (read_listed (λ r. map string_bytes r.now) outer inner rows read limits.partition.falls
-    limits.few is)
-    ∙ unlisted)
-    c.offence.ensures
+returns-in-None c = search (rules, unlisted_last, some_items, read_listed)
 
 pub returns-in-Some : goal.returns-in-Some
 returns-in-Some c =

@@ -1,7 +1,6 @@
-use Rattle.std.proofs.Common.{◌≡◌, ℕ, true, false, List, map, length, sym, ap, ap₂, ◌∙◌, Err}
+use Rattle.std.proofs.Common.{◌≡◌, ℕ, true, false, List, map, sym, ap, ap₂, ◌∙◌, Err, rules}
 use Rattle.sym_model.specs.GoodTableau.{column_reading}
 use Rattle.sym_model.specs.Partition.{cells}
-use Rattle.sym_model.specs.Schur.{row_lengths}
 use Rattle.strip_laws.proofs.Containment.{contains-tells}
 use Rattle.skew_shapes.specs.CellFillings.{filled_with, is_tableau}
 use Rattle.tableau_iter.proofs.EntryLimits.{filling_back}
@@ -13,19 +12,7 @@ clash : true ≡ false → ⊥
 clash h = cc
 
 pub unreachable-requires : goal.unreachable-requires
-unreachable-requires c =
-    let z = c.in_default.ensures.some.1 (contains-tells c.args.outer c.args.inner c.requires.holds)
-    in cc
-
-pub reading_of_rows-requires : goal.reading_of_rows-requires
-reading_of_rows-requires c =
-    let shape : ◌≡◌ {A = List ℕ × List ℕ} c.in-Some.shape (c.args.outer, c.args.inner) =
-    c.in-Some.ensures.value in
-    let o_is = c.parts.ensures.value ∙ c.outer.ensures.value ∙ ap (λ (s : List ℕ × List ℕ). s.0)
-    shape in
-    let i_is = c.parts-2.ensures.value ∙ c.inner.ensures.value ∙ ap (λ (s : List ℕ × List ℕ). s.1)
-    shape in
-    c.requires.cells ∙ sym (ap₂ row_lengths o_is i_is)
+unreachable-requires c = search (rules, contains-tells)
 
 pub returns-in-Ok : goal.returns-in-Ok
 returns-in-Ok c =
@@ -47,21 +34,7 @@ returns-in-Ok c =
     (filling_back o i rows c.requires.outside.falls c.requires.cells)
 
 pub unreachable-requires-in-Err-Length : goal.unreachable-requires-in-Err-Length
-unreachable-requires-in-Err-Length c =
-    let o = c.args.outer in
-    let i = c.args.inner in
-    let rows = map (λ r. r.items) c.args.rows.now in
-    let shape : ◌≡◌ {A = List ℕ × List ℕ} c.in-Some.shape (c.args.outer, c.args.inner) =
-    c.in-Some.ensures.value in
-    let o_is = c.parts.ensures.value ∙ c.outer.ensures.value ∙ ap (λ (s : List ℕ × List ℕ). s.0)
-    shape in
-    let i_is = c.parts-2.ensures.value ∙ c.inner.ensures.value ∙ ap (λ (s : List ℕ × List ℕ). s.1)
-    shape in
-    let letters = c.deref.ensures.value ∙ c.in_ok-letters.ensures
-    ∙ ap₂ (λ p q. column_reading p q rows) o_is i_is in
-    c.in-Err-Length.ensures.length.0 (ap Err c.in-Err-Length.field-0-is)
-    (ap length letters ∙ reading_count o i rows c.requires.outside.falls c.requires.cells
-    ∙ sym (ap (λ (s : List ℕ × List ℕ). length (cells s.0 s.1)) shape))
+unreachable-requires-in-Err-Length c = search (rules, reading_count)
 
 pub unreachable-requires-in-Err-Order : goal.unreachable-requires-in-Err-Order
 unreachable-requires-in-Err-Order c =

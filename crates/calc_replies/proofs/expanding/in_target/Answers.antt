@@ -11,7 +11,6 @@ use Rattle.expression_reading.specs.declared.expr.Expr.{Expr}
 use Rattle.expression_reading.specs.Trees.{basis_of, tree_of}
 use Rattle.calc_replies.proofs.expanding.in_target.Goals as goal
 
--- if the basis letters a and b are equal, an expansion in the basis of a is one in the basis of b
 expands : {a b : Letter} → a ≡ b → (t : Expr) (r : Result (Terms (List ℕ)) SumFault)
     → IfOk r (λ list. (n : ℕ) → IsExpansionOf (basis_of a) list n (cleared_value (tree_of t) n)
     (denominator (tree_of t)))

@@ -16,8 +16,6 @@ told : (r : Result Listed NoMemory) (a b : List (List ℕ)) → a ≡ b → IfOk
 told (Ok l) a b e h = h ∙ e
 told (Err f) a b e h = tt
 
--- if the skew shape outer/inner is within the limits and `start` is empty, the size of `start` and the number of cells of outer/inner add up to at
--- most 4,096
 room : (outer inner start : List ℕ) → IsSkew outer inner → start ≡ []
     → size start + length (cells outer inner) ≤ 4096
 room outer inner start s e = omega (arith, ap size e, length-cells outer inner s, s.outside.small)

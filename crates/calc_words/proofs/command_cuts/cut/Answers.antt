@@ -1,4 +1,4 @@
-use Rattle.std.proofs.Common.{◌-◌, ◌∷◌, length, map, drop, refl, sym, ap, ◌∙◌, arith}
+use Rattle.std.proofs.Common.{◌-◌, length, map, refl, sym, ap, arith, rules}
 use Rattle.std.specs.Prelude.{string_bytes, slice_index_or}
 use Rattle.std.proofs.lemmas.List.{length-map}
 use Rattle.calc_words.specs.Parts.{form_of}
@@ -6,9 +6,7 @@ use Rattle.calc_words.proofs.CutWords.{name_refused, parts_refused, left_within,
 use Rattle.calc_words.proofs.command_cuts.cut.Goals as goal
 
 pub returns-in_default-clause-wrong : goal.returns-in_default-clause-wrong
-returns-in_default-clause-wrong c =
-    λ e f. name_refused e c.args.name.now c.args.parts.now (map string_bytes c.args.words.now)
-    c.syntax.result f c.in_default.ensures c.syntax.ensures
+returns-in_default-clause-wrong c = search (rules, name_refused)
 
 pub returns-then-at-words-clause-wrong : goal.returns-then-at-words-clause-wrong
 returns-then-at-words-clause-wrong c =
@@ -24,16 +22,7 @@ returns-then-at-words-clause-wrong c =
     (omega (arith, l, c.if-at-words.true)) c.syntax-then-at-words.ensures
 
 pub returns-else-at-words-clause-cut : goal.returns-else-at-words-clause-cut
-returns-else-at-words-clause-cut c =
-    let words = map string_bytes c.args.words.now in
-    let l = length-map c.args.words.now string_bytes in
-    let at = slice_index_or c.in-Ok.places (length c.args.parts.now) 0 in
-    record {
-      named = c.in-Some.ensures ∙ ap (λ us. c.args.name.now ∷ us)
-          (sym (ap (drop 1) c.in-Some.ensures));
-      parts = cut_done c.args.parts.now (length c.args.parts.now) at c.in-Ok.places words
-          c.in-Ok.ensures.cut (omega arith) (omega (arith, l, c.if-at-words.false));
-    }
+returns-else-at-words-clause-cut c = search (rules, length-map, cut_done)
 
 pub returns-in-Err-clause-wrong : goal.returns-in-Err-clause-wrong
 returns-in-Err-clause-wrong c =

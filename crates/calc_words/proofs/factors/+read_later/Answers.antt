@@ -1,13 +1,11 @@
-use Rattle.std.proofs.Common.{◌≡◌, ℕ, ◌+◌, ◌++◌, List, map, length, length-append, refl, sym, ap}
-use Rattle.std.proofs.Common.{subst, arith, None}
+use Rattle.std.proofs.Common.{◌≡◌, ℕ, ◌+◌, ◌++◌, List, map, length, length-append, refl, sym, ap, rules}
+use Rattle.std.proofs.Common.{subst, None}
 use Rattle.std.specs.Prelude.{string_bytes}
 use Rattle.std.proofs.lemmas.List.{append-nil, length-map}
 use Rattle.std.proofs.lemmas.Result.{err_from_is_err_and}
 use Rattle.sym_model.specs.CommandOffence.{first_offence, factor_offences}
-use Rattle.sym_model.specs.Form.{EachOf}
 use Rattle.sym_model.specs.WordForms.{numbers, partition}
 use Rattle.calc_words.specs.Reading.{IsJudged, IsFirst}
-use Rattle.calc_words.specs.WrittenLimits.{IsWritten}
 use Rattle.calc_words.proofs.FactorCuts.{next_cut, nothing_behind}
 use Rattle.calc_words.proofs.FactorJudging.{next_faulty, next_fine}
 use Rattle.calc_words.proofs.FactorLimits.{next_written}
@@ -24,28 +22,7 @@ returns-in_default t c =
     (sym (append-nil factors), refl)
 
 pub read_later-requires : goal.read_later-requires
-read_later-requires t c =
-    let words = c.args.words.now in
-    let later = c.in-Some.later.now in
-    let list = c.list_first.result.0.now in
-    let rest = c.list_first.result.1.now in
-    let w = length-map words string_bytes in
-    let l = length-map later string_bytes in
-    let m = length-map list string_bytes in
-    let r = length-map rest string_bytes in
-    let a = ap length c.in-Some.ensures in
-    let b = ap length c.list_first.ensures.parts in
-    let s = length-append (map string_bytes list) (map string_bytes rest) in
-    let d = c.decreases in
-    let p = c.requires.place in (
-      omega arith,
-      (
-        omega (arith, w, l, m, r, a, b, s, p),
-        subst (EachOf IsWritten) (sym c.in_ok-factors.ensures.0)
-            (next_written c.args.factors (length c.args.factors) c.args.at (map string_bytes list)
-            c.requires.written c.in_ok-factors.ensures.1),
-      ),
-    )
+read_later-requires t c = search (rules, length-map, length-append, next_written)
 
 pub returns-in_err-factors : goal.returns-in_err-factors
 returns-in_err-factors t c =

@@ -1,53 +1,28 @@
-use Rattle.std.proofs.Common.{◌≡◌, ℕ, ◌+◌, ◌++◌, List, [], ◌∷◌, map, length, length-append, sym, ap}
+use Rattle.std.proofs.Common.{◌≡◌, ℕ, ◌+◌, ◌++◌, List, [], ◌∷◌, map, length, length-append, sym, ap, rules}
 use Rattle.std.proofs.Common.{◌∙◌, subst, arith}
 use Rattle.std.specs.Prelude.{string_bytes}
 use Rattle.std.proofs.lemmas.List.{length-map}
 use Rattle.sym_model.specs.CommandOffence.{first_offence, factor_offences}
-use Rattle.sym_model.specs.Form.{EachOf}
 use Rattle.sym_model.specs.Grammar.{two_partitions}
 use Rattle.sym_model.specs.WordForms.{numbers, partition}
 use Rattle.std.proofs.lemmas.Result.{err_from_is_err_and}
 use Rattle.calc_words.specs.Reading.{IsJudged, IsFirst}
-use Rattle.calc_words.specs.WrittenLimits.{IsWritten}
 use Rattle.calc_words.proofs.WrittenLists.{two_written}
 use Rattle.calc_words.proofs.FactorCuts.{run_cut}
 use Rattle.calc_words.proofs.FactorJudging.{two_faulty, two_fine}
 use Rattle.calc_words.proofs.factors.read_factors.Goals as goal
 
 pub paired-requires-clause-left : goal.paired-requires-clause-left
-paired-requires-clause-left c =
-    let w = two_written c.args.at (map string_bytes c.args.first.now)
-    (map string_bytes c.list_first.result.0.now) c.in_ok-first.ensures.1 in
-    subst IsWritten (sym (ap (λ p. p.0) c.in_ok-first.ensures.0)) w.0
+paired-requires-clause-left c = search (rules, two_written)
 
 pub paired-requires-clause-right : goal.paired-requires-clause-right
-paired-requires-clause-right c =
-    let w = two_written c.args.at (map string_bytes c.args.first.now)
-    (map string_bytes c.list_first.result.0.now) c.in_ok-first.ensures.1 in
-    subst IsWritten (sym (ap (λ p. p.1) c.in_ok-first.ensures.0)) w.1
+paired-requires-clause-right c = search (rules, two_written)
 
 pub read_later-requires-clause-place : goal.read_later-requires-clause-place
-read_later-requires-clause-place c =
-    let later = c.args.later.now in
-    let second = c.list_first.result.0.now in
-    let rest = c.list_first.result.1.now in
-    let l = length-map later string_bytes in
-    let m = length-map second string_bytes in
-    let r = length-map rest string_bytes in
-    let b = ap length c.list_first.ensures.parts in
-    let s = length-append (map string_bytes second) (map string_bytes rest) in
-    let p = c.requires in
-    omega (arith, l, m, r, b, s, p)
+read_later-requires-clause-place c = search (rules, length-map, length-append)
 
 pub read_later-requires-clause-written : goal.read_later-requires-clause-written
-read_later-requires-clause-written c =
-    let w = two_written c.args.at (map string_bytes c.args.first.now)
-    (map string_bytes c.list_first.result.0.now) c.in_ok-first.ensures.1 in
-    let both : EachOf IsWritten (c.in_ok-first.first ∷ c.in_ok-first.second ∷ []) = (
-      subst IsWritten (sym (ap (λ p. p.0) c.in_ok-first.ensures.0)) w.0,
-      (subst IsWritten (sym (ap (λ p. p.1) c.in_ok-first.ensures.0)) w.1, tt),
-    ) in
-    subst (EachOf IsWritten) (sym c.in_ok-factors.ensures.0) both
+read_later-requires-clause-written c = search (rules, two_written)
 
 pub returns-in_err-first : goal.returns-in_err-first
 returns-in_err-first c =

@@ -1,4 +1,4 @@
-use Rattle.std.proofs.Common.{map, sym, ap, ◌∙◌, arith}
+use Rattle.std.proofs.Common.{map, sym, ap, ◌∙◌, arith, rules}
 use Rattle.std.specs.Prelude.{string_bytes}
 use Rattle.sym_model.specs.PrintedBlock.{decimal_value}
 use Rattle.sym_model.specs.WordForms.{numbers}
@@ -33,14 +33,4 @@ returns-then-is_past c =
     c.offence-then-is_past.ensures
 
 pub loop-i-preserved : goal.loop-i-preserved
-loop-i-preserved c =
-    let ws = c.args.words.now in
-    let ns = numbers (map string_bytes ws) in
-    let i = c.loop-i.i in
-    let x = counted string_bytes decimal_value ws in
-    let e = number_at string_bytes decimal_value ws i c.index-words-i.result c.loop-i-test.true
-    c.index-words-i.is in
-    word_goes_on c.args.at ns i _ c.in-Some.value c.loop-i.letters
-    c.loop-i.invariant (omega (arith, x)) (e ∙ ap decimal_value (sym c.as_bytes.ensures.value))
-    (sym c.in-Some.is ∙ c.value_of.ensures)
-    (sym c.is_past.ensures ∙ c.if-is_past.false)
+loop-i-preserved c = search (rules, counted, number_at, word_goes_on)

@@ -1,11 +1,10 @@
-use Rattle.std.proofs.Common.{◌≡◌, ℕ, suc, ◌+◌, ◌==◌, ◌<◌, Bool, true, false, not, ◌&&◌, List, []}
+use Rattle.std.proofs.Common.{◌≡◌, ℕ, suc, ◌+◌, ◌==◌, ◌<◌, Bool, true, false, not, ◌&&◌, List, [], rules}
 use Rattle.std.proofs.Common.{◌∷◌, length, drop, get_or, drop-cons, add-one, refl, sym, ap, ◌∙◌}
 use Rattle.std.proofs.Math.Dec.{eqb-suc-zero}
 use Rattle.std.proofs.Math.ListN.{drop_of_length-le}
 use Rattle.sym_model.specs.Form.{is_digit, are_digits, is_number_word}
 use Rattle.calc_words.proofs.numbers.is_number.Goals as goal
 
--- let b say whether byte i of w is a digit: all bytes from place i on are digits if and only if b is true and all bytes after place i are digits
 digits_from : (w : List ℕ) (i : ℕ) (b : Bool) → i < length w → is_digit (get_or w i 0) ≡ b →
     are_digits (drop i w) ≡ (b && are_digits (drop (i + 1) w))
 digits_from w i b h e = rw (add-one, drop-cons w i 0) (ap (λ x. x && are_digits (drop (suc i) w)) e)
@@ -32,7 +31,4 @@ returns-then-not-is_digit_byte c =
     (sym c.is_digit_byte.ensures ∙ c.if-not-is_digit_byte.true))
 
 pub returns : goal.returns
-returns c =
-    ap not c.is_empty.ensures
-    ∙ a_number c.args.word.now (c.loop-byte.invariant ∙ ap are_digits
-    (drop_of_length-le c.args.word.now c.loop-byte-test.false))
+returns c = search (rules, a_number, drop_of_length-le)

@@ -1,8 +1,6 @@
-use Rattle.std.proofs.Common.{map}
-use Rattle.std.specs.Prelude.{string_bytes}
+use Rattle.std.proofs.Common.{rules}
 use Rattle.calc_words.proofs.PartValues.{shape_judged}
 use Rattle.calc_words.proofs.part_values.shape_of.Goals as goal
 
 pub returns : goal.returns
-returns c = λ k x e. shape_judged c.args.at k (map string_bytes c.args.words.now) x
-    c.read_partition.result e.0 e.1 c.read_partition.ensures
+returns c = search (rules, shape_judged)

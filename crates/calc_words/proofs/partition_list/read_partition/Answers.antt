@@ -1,4 +1,4 @@
-use Rattle.std.proofs.Common.{◌<◌, ◌≤◌, length, map, take, sym, ap, ◌∙◌, subst, arith}
+use Rattle.std.proofs.Common.{◌<◌, ◌≤◌, length, map, take, sym, ap, ◌∙◌, subst, arith, rules}
 use Rattle.std.specs.Prelude.{string_bytes}
 use Rattle.sym_model.specs.PrintedBlock.{decimal_value}
 use Rattle.sym_model.specs.WordForms.{numbers}
@@ -38,18 +38,7 @@ returns-in-Some-part_offence c =
     c.offence-in-Some-part_offence.result c.offence-in-Some-part_offence.ensures
 
 pub loop-count-preserved : goal.loop-count-preserved
-loop-count-preserved c =
-    let ws = c.args.words.now in
-    let ns = numbers (map string_bytes ws) in
-    let e = number_at string_bytes decimal_value ws c.loop-count.count c.index-words-count.result
-    c.loop-count-test.true c.index-words-count.is in
-    let h : c.loop-count.count < length ns = let x = counted string_bytes decimal_value ws in
-    omega (arith, x) in
-    goes_on c.args.at ns c.loop-count.count c.loop-count.cells _ c.in-Some.value c.loop-count.last
-    c.loop-count.parts
-    c.loop-count.invariant h (e ∙ ap decimal_value (sym c.as_bytes.ensures.value))
-    (sym c.in-Some.is ∙ c.value_of.ensures)
-    (sym c.part_offence.ensures ∙ c.in_default-part_offence.is)
+loop-count-preserved c = search (rules, number_at, counted, goes_on)
 
 pub partition_of-requires : goal.partition_of-requires
 partition_of-requires c =

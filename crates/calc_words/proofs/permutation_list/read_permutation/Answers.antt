@@ -1,4 +1,4 @@
-use Rattle.std.proofs.Common.{◌<◌, ◌≤◌, length, map, take, sym, ap, ◌∙◌, subst, arith}
+use Rattle.std.proofs.Common.{◌<◌, ◌≤◌, length, map, take, sym, ap, ◌∙◌, subst, arith, rules}
 use Rattle.std.specs.Prelude.{string_bytes}
 use Rattle.sym_model.specs.PrintedBlock.{decimal_value}
 use Rattle.sym_model.specs.WordForms.{numbers}
@@ -40,19 +40,7 @@ returns-in-Some-letter_offence c =
     c.offence-in-Some-letter_offence.result c.offence-in-Some-letter_offence.ensures
 
 pub loop-i-preserved : goal.loop-i-preserved
-loop-i-preserved c =
-    let ws = c.args.words.now in
-    let ns = numbers (map string_bytes ws) in
-    let i = c.loop-i.i in
-    let x = counted string_bytes decimal_value ws in
-    let e = number_at string_bytes decimal_value ws i c.index-words-i.result c.loop-i-test.true
-    c.index-words-i.is in
-    let h : i < length ns = omega (arith, x) in
-    letter_goes_on c.args.most c.args.at ns i _ c.in-Some.value c.loop-i.letters c.requires.most
-    c.loop-i.invariant h (e ∙ ap decimal_value (sym c.as_bytes.ensures.value))
-    (sym c.in-Some.is ∙ c.value_of.ensures)
-    (ap (λ n. letter_kind c.args.most n (take i c.loop-i.letters) c.in-Some.value) x
-    ∙ sym c.letter_offence.ensures ∙ c.in_default-letter_offence.is)
+loop-i-preserved c = search (rules, counted, number_at, letter_goes_on)
 
 pub permutation_of-requires : goal.permutation_of-requires
 permutation_of-requires c =

@@ -1,14 +1,11 @@
-use Rattle.std.proofs.Common.{◌+◌, length, map, refl}
+use Rattle.std.proofs.Common.{◌+◌, length, map, refl, rules}
 use Rattle.std.specs.Prelude.{string_bytes}
 use Rattle.std.proofs.lemmas.Result.{err_from_is_err_and}
 use Rattle.calc_words.proofs.Commands.{first_faulty, second_faulty, both_fine, second_place}
 use Rattle.calc_words.proofs.two_shapes.read_two.Goals as goal
 
 pub returns-in_err-first : goal.returns-in_err-first
-returns-in_err-first c =
-    let p = err_from_is_err_and c.from_residual.result c.from_residual.ensures.1 in
-    rw (p.1, p.2) (first_faulty c.args.at (map string_bytes c.args.first.now)
-    (map string_bytes c.args.second.now) _ c.in_err-first.ensures)
+returns-in_err-first c = search (rules, err_from_is_err_and, first_faulty)
 
 pub returns-in_err-second : goal.returns-in_err-second
 returns-in_err-second c =

@@ -1,6 +1,5 @@
-use Rattle.std.proofs.Common.{[], ◌∷◌, map}
+use Rattle.std.proofs.Common.{[], ◌∷◌, map, rules}
 use Rattle.std.specs.Prelude.{string_bytes, codes}
-use Rattle.sym_model.specs.WordForms.{row_words}
 use Rattle.word_laws.proofs.CutRows.{dot_taken, row_taken, row_wrong}
 use Rattle.calc_words.proofs.CutWords.{counted}
 use Rattle.calc_words.proofs.word_parts.behind_row.Goals as goal
@@ -13,10 +12,7 @@ returns-in-Some-clause-ok c = (
 )
 
 pub returns-in_default-first_number-clause-wrong : goal.returns-in_default-first_number-clause-wrong
-returns-in_default-first_number-clause-wrong c =
-    counted string_bytes row_words c.args.words.now
-    (row_wrong (map string_bytes c.args.words.now) c.in_default.ensures
-    c.in_default-first_number.ensures)
+returns-in_default-first_number-clause-wrong c = search (rules, counted, row_wrong)
 
 pub returns-clause-ok : goal.returns-clause-ok
 returns-clause-ok c =

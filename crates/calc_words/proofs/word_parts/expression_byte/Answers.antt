@@ -1,17 +1,12 @@
-use Rattle.std.proofs.Common.{map, refl, ap, ◌∙◌, subst, sym, inl, inr}
+use Rattle.std.proofs.Common.{map, ap, ◌∙◌, subst, sym, inr, rules}
 use Rattle.std.specs.Prelude.{string_bytes}
 use Rattle.word_laws.proofs.Cuts.{expression_byte}
-use Rattle.word_laws.proofs.CutParts.{IsExpressionText}
 use Rattle.expression_reading.specs.Reading.{IsWrongByte}
 use Rattle.calc_words.proofs.CutWords.{empty_map, first_text}
 use Rattle.calc_words.proofs.word_parts.expression_byte.Goals as goal
 
 pub returns-in_default : goal.returns-in_default
-returns-in_default c =
-    λ left w.
-    let e = empty_map string_bytes c.args.words.now c.in_default.ensures.cases in
-    expression_byte (map string_bytes c.args.words.now) left 0 w (λ t rest k. let z = sym e ∙ k in
-    cc) (λ k. refl)
+returns-in_default c = search (rules, empty_map, expression_byte)
 
 pub returns-in-Some-wrong_byte : goal.returns-in-Some-wrong_byte
 returns-in-Some-wrong_byte c =
@@ -24,9 +19,4 @@ returns-in-Some-wrong_byte c =
     (λ k. let z = sym first ∙ k in cc)
 
 pub returns-in-None : goal.returns-in-None
-returns-in-None c =
-    let first = ap (map string_bytes) c.in-Some.ensures.cases.0 in
-    let p = subst IsExpressionText c.as_bytes.ensures.value c.in-None.ensures in
-    λ left w.
-    expression_byte (map string_bytes c.args.words.now) left 0 w
-    (λ t rest k. inl (subst IsExpressionText (first_text _ _ _ _ (sym first ∙ k)) p)) (λ k. refl)
+returns-in-None c = search (rules, expression_byte, first_text)

@@ -1,13 +1,11 @@
-use Rattle.std.proofs.Common.{[], ◌∷◌, map, refl, arith}
+use Rattle.std.proofs.Common.{◌∷◌, map, arith, rules}
 use Rattle.std.specs.Prelude.{string_bytes, codes}
 use Rattle.std.proofs.lemmas.Result.{err_from_is_err_and}
 use Rattle.word_laws.proofs.CutRows.{from_absent, from_taken, from_stops}
 use Rattle.calc_words.proofs.word_parts.maybe_from.Goals as goal
 
 pub returns-in_default-clause-ok : goal.returns-in_default-clause-ok
-returns-in_default-clause-ok c =
-    let words = map string_bytes c.args.words.now in
-    ([], words, from_absent words c.in_default.ensures, refl)
+returns-in_default-clause-ok c = search (rules, from_absent)
 
 pub returns-in_err-rows-clause-wrong : goal.returns-in_err-rows-clause-wrong
 returns-in_err-rows-clause-wrong c =

@@ -1,4 +1,4 @@
-use Rattle.std.proofs.Common.{[], ◌∷◌, map, refl, ap, ◌∙◌, subst}
+use Rattle.std.proofs.Common.{[], ◌∷◌, map, refl, ap, ◌∙◌, subst, rules}
 use Rattle.std.specs.Prelude.{string_bytes, codes}
 use Rattle.std.proofs.lemmas.List.{length-map}
 use Rattle.sym_model.specs.WordForms.{optional, rows_words}
@@ -7,13 +7,7 @@ use Rattle.calc_words.specs.Cutting.{StopsIn}
 use Rattle.calc_words.proofs.word_parts.maybe_rows.Goals as goal
 
 pub returns-in_default-clause-ok : goal.returns-in_default-clause-ok
-returns-in_default-clause-ok c = (
-  [],
-  _,
-  maybe_rows_absent (map string_bytes c.args.words.now)
-      c.in_default.ensures,
-  refl,
-)
+returns-in_default-clause-ok c = search (rules, maybe_rows_absent)
 
 pub returns-in-Some-first_number-clause-ok : goal.returns-in-Some-first_number-clause-ok
 returns-in-Some-first_number-clause-ok c =

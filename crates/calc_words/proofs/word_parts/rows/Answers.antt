@@ -1,4 +1,4 @@
-use Rattle.std.proofs.Common.{[], ◌∷◌, map, refl, ap, ◌∙◌, subst}
+use Rattle.std.proofs.Common.{[], ◌∷◌, map, refl, ap, ◌∙◌, subst, rules}
 use Rattle.std.specs.Prelude.{string_bytes, codes}
 use Rattle.std.proofs.lemmas.List.{length-map}
 use Rattle.sym_model.specs.WordForms.{rows_words}
@@ -8,8 +8,7 @@ use Rattle.calc_words.proofs.CutWords.{counted}
 use Rattle.calc_words.proofs.word_parts.rows.Goals as goal
 
 pub returns-in_default-clause-wrong : goal.returns-in_default-clause-wrong
-returns-in_default-clause-wrong c = counted string_bytes rows_words c.args.words.now
-    (rows_absent (map string_bytes c.args.words.now) c.in_default.ensures)
+returns-in_default-clause-wrong c = search (rules, counted, rows_absent)
 
 pub returns-in-Some-first_number-clause-ok : goal.returns-in-Some-first_number-clause-ok
 returns-in-Some-first_number-clause-ok c =

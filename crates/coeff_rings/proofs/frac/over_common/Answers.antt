@@ -45,8 +45,6 @@ returns-then-den-clause-common c =
     c.common_divisor-divisor.ensures.greatest in
     rw (← c.a.view_is, ← c.b.view_is) (λ h. omega (arith, h.den, is, c.in_ok-den.ensures))
 
--- two results of `over_common` are equal if they have equal left numerators, equal right numerators, equal
--- denominators and equal divisors
 same_common : (l r m s : ℤ) (d e g h : ℕ) → l ≡ m → r ≡ s → d ≡ e → g ≡ h
     → ◌≡◌ {A = Common} (record { left = l; right = r; den = d; divisor = g })
     (record { left = m; right = s; den = e; divisor = h })

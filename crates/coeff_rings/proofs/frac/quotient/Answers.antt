@@ -10,7 +10,6 @@ use Rattle.coeff_rings.proofs.FractionSteps.{IsFraction-coprime, checked_fractio
 use Rattle.coeff_rings.proofs.Sizes.{lowest_terms-sizes, signed_self}
 use Rattle.coeff_rings.proofs.frac.quotient.Goals as goal
 
--- in the function `quotient`: if `divisor` is 1, num and den are coprime
 coprime : (c : goal.Then-divisor-eq1) → IsGcd (unsigned_abs c.args.num) c.args.den 1
 coprime c = coprime_from (unsigned_abs c.args.num) c.args.den
     (λ d p q. subst (λ (n : ℕ). d ∣ n) c.if-divisor-eq1.true (c.requires.common d p q))
@@ -28,7 +27,6 @@ returns-then-divisor-eq1 c =
 pub common_divisor-shared-requires : goal.common_divisor-shared-requires
 common_divisor-shared-requires c = pos_of_dvd_of_pos c.requires.factor c.requires.positive
 
--- in the function `quotient`: the greatest common divisor of num and `divisor` is that of num and den
 shared : (c : goal.After-common_divisor-shared) → IsGcd c.unsigned_abs-size.result c.args.den
     c.common_divisor-shared.result
 shared c =

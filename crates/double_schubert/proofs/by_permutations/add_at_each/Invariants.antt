@@ -1,4 +1,5 @@
--- The image of `poly` under the rule has been added at the permutations visited so far.
+-- Loop invariant: for each permutation visited so far, the image of `poly` under `rule` has been added to the polynomial in y that `sum` has for
+-- this permutation.
 use Rattle.std.proofs.Common.{take}
 use Rattle.linear_combinations.specs.Gains.{replaced}
 use Rattle.transition_walk.specs.Waiting.{Joins, each_waits}

@@ -1,4 +1,5 @@
--- For each term f_w·S_w visited so far, (x_r - y_c)·f_w·S_w has been added; the terms visited so far, followed by those still to come, are all terms.
+-- Loop invariant: for each term f_w·S_w visited so far, (x_r - y_c)·f_w·S_w has been added; the terms visited so far, followed by those still to
+-- come, are all terms.
 use Rattle.std.proofs.Common.{◌≡◌, List, ℕ, [], ◌++◌, flat_map}
 use Rattle.std.specs.Vec.Iter.{into_iter_items}
 use Rattle.sym_model.specs.Permutation.{IsOneLine}

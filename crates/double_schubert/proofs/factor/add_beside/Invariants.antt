@@ -3,6 +3,6 @@ use Rattle.linear_combinations.specs.Gains.{Gains}
 use Rattle.double_schubert.specs.Shifts.{each_beside}
 use Rattle.double_schubert.proofs.factor.add_beside.Given as goal
 
--- k has been added at the labels of the permutations visited so far
+-- k has been added at the label (v, y) for each permutation v visited so far
 abbrev pub invariant-loop-perm : goal.invariant-loop-perm
 invariant-loop-perm l = Gains l.fn.sum (each_beside l.k l.y (take l.perm-index l.perms)) l.sum

@@ -105,7 +105,6 @@ loop-r-smaller c =
     let f = c.in-Some.ensures.fewer in
     omega arith
 
--- if the permutation `rest` that is left is the identity, the double Schubert polynomial of w is the product of the factors found
 whole : (n : ℕ) (w rest : List ℕ) (factors : List (ℕ × ℕ)) → rest ≡ 1 ∷ [] → Same (double_schubert_in w n) (product_with n factors (double_schubert_in rest n))
     → Same (double_schubert_in w n) (product_in n factors)
 whole n w rest factors is h =

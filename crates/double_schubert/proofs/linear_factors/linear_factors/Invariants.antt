@@ -1,4 +1,5 @@
--- The double Schubert polynomial of w is the product of the factors found so far and the double Schubert polynomial of the permutation that is left.
+-- Loop invariant: the double Schubert polynomial of w is the product of the factors found so far and the double Schubert polynomial of the
+-- permutation that is left.
 use Rattle.std.proofs.Common.{◌≡◌, ℕ, ◌+◌, ◌≤◌, length}
 use Rattle.sym_model.specs.DoubleSchubert.{double_schubert_in}
 use Rattle.sym_model.specs.PlaceOrders.{inversions}

@@ -1,5 +1,5 @@
--- The terms of the permutations visited so far have been written; these permutations, followed by those still to come, are all permutations of the
--- sum.
+-- Loop invariant: the terms of each permutation visited so far have been appended to the result. The permutations visited so far, followed by those
+-- still to come, are the labels of the sum that is given.
 use Rattle.std.proofs.Common.{◌≡◌, ℕ, List, ◌++◌, ℤ}
 use Rattle.std.specs.Vec.Iter.{into_iter_items}
 use Rattle.linear_combinations.specs.Gains.{over}

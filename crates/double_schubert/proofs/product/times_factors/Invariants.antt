@@ -1,5 +1,5 @@
--- The sum times the factors still to come is the whole product; the bounds of the sum on letters, degrees and coefficients increase with each factor
--- visited.
+-- Loop invariant: the sum times the factors still to come is the whole product; the bounds of the sum on letters, degrees and coefficients increase
+-- with each factor visited.
 use Rattle.std.proofs.Common.{◌≡◌, ℕ, ◌+◌, ◌^◌, ◌≤◌, List, ◌++◌, length, ℤ, replicate}
 use Rattle.std.specs.Vec.Iter.{into_iter_items}
 use Rattle.sym_model.specs.DoubleSchubert.{shifted_in}

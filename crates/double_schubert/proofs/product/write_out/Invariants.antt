@@ -1,4 +1,4 @@
--- The terms visited so far have been appended; these terms, followed by those still to come, are all terms of the polynomial in y.
+-- Loop invariant: the terms visited so far have been appended; these terms, followed by those still to come, are all terms of the polynomial in y.
 use Rattle.std.proofs.Common.{◌≡◌, ℕ, List, ◌++◌, ℤ, ◌+ℤ◌}
 use Rattle.std.specs.Vec.Iter.{into_iter_items}
 use Rattle.linear_combinations.specs.Gains.{over}

@@ -15,8 +15,8 @@ decreases-list_of l = 2 * length l.shape.now
 abbrev pub decreases-index_of : goal.decreases-index_of
 decreases-index_of l = 2 * length l.shape + 1
 
--- `sum` is d! times the sum of the summands of the special rim hooks visited so far, with d the size of the shape; the absolute values of its
--- coefficients add up to at most `peeled d` times the number of these hooks
+-- `sum` is d! times the sum of the summands of the special rim hooks that the loop has visited, with d the size of the shape; the absolute values
+-- of its coefficients add up to at most `peeled d` times the number of these hooks
 abbrev pub invariant-list_of-loop-row : goal.invariant-list_of-loop-row
 invariant-list_of-loop-row l = record {
   stands :

@@ -5,7 +5,7 @@ use Rattle.sym_model.specs.PrintedBlock.{lines_by}
 use Rattle.sparse_polys.specs.Combination.{terms_of}
 use Rattle.expansion_printer.proofs.block.put_terms.Given as goal
 
--- the lines of the terms visited so far are in the sink or, unless a write failed, in the buffer
+-- unless a write failed, the lines of the terms visited so far have been written to the sink, except for a last part, which is in the buffer
 abbrev pub invariant-loop-label : goal.invariant-loop-label
 invariant-loop-label g l = record {
   goes : Gathers l.fn.text (g.K.Sink.seen l.fn.sink) l.text (g.K.Sink.seen l.sink)

@@ -6,7 +6,7 @@ use Rattle.sparse_polys.specs.Combination.{terms_of}
 use Rattle.expansion_printer.specs.SignedTerms.{signed_terms, is_empty}
 use Rattle.expansion_printer.proofs.line.put_line.Given as goal
 
--- the texts of the terms visited so far are in the sink or, unless a write failed, in the buffer
+-- unless a write failed, the texts of the terms visited so far have been written to the sink, except for a last part, which is in the buffer
 abbrev pub invariant-loop-label : goal.invariant-loop-label
 invariant-loop-label g l = record {
   goes : Gathers l.fn.text (g.K.Sink.seen l.fn.sink) l.text (g.K.Sink.seen l.sink)

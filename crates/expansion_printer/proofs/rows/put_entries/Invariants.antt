@@ -5,7 +5,7 @@ use Rattle.sym_model.specs.Partition.{after}
 use Rattle.sym_model.specs.TableauText.{separated}
 use Rattle.expansion_printer.proofs.rows.put_entries.Given as goal
 
--- the texts of the entries visited so far are in the sink or, unless a write failed, in the buffer
+-- unless a write failed, the texts of the entries visited so far have been written to the sink, except for a last part, which is in the buffer
 abbrev pub invariant-loop-column : goal.invariant-loop-column
 invariant-loop-column g l =
     Gathers l.fn.text (g.K.Sink.seen l.fn.sink) l.text (g.K.Sink.seen l.sink)

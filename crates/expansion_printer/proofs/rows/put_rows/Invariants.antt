@@ -6,7 +6,7 @@ use Rattle.sym_model.specs.TableauText.{separated, row_text}
 use Rattle.skew_shapes.specs.Rows.{row_by}
 use Rattle.expansion_printer.proofs.rows.put_rows.Given as goal
 
--- the texts of the rows visited so far are in the sink or, unless a write failed, in the buffer
+-- unless a write failed, the texts of the rows visited so far have been written to the sink, except for a last part, which is in the buffer
 abbrev pub invariant-loop-at : goal.invariant-loop-at
 invariant-loop-at g l =
     Gathers l.fn.text (g.K.Sink.seen l.fn.sink) l.text (g.K.Sink.seen l.sink)

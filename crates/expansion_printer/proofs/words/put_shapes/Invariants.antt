@@ -5,7 +5,7 @@ use Rattle.sym_model.specs.NumberText.{label_text}
 use Rattle.sym_model.specs.TableauText.{separated}
 use Rattle.expansion_printer.proofs.words.put_shapes.Given as goal
 
--- the labels of the shapes visited so far are in the sink or, unless a write failed, in the buffer
+-- unless a write failed, the labels of the shapes visited so far have been written to the sink, except for a last part, which is in the buffer
 abbrev pub invariant-loop-at : goal.invariant-loop-at
 invariant-loop-at g l =
     Gathers l.fn.text (g.K.Sink.seen l.fn.sink) l.text (g.K.Sink.seen l.sink)

@@ -1,4 +1,5 @@
--- The clauses of `grammar_law`: a word spells at most one phrase and at most one expression.
+-- The clauses of `grammar_law`: a word spells at most one phrase (a syntax tree with the digits and parentheses of the word) and at most one
+-- expression (`Tree`).
 use Rattle.std.proofs.Common.{◌≡◌, ℕ, List, sym, ap, ◌∙◌}
 use Rattle.sym_model.specs.Expression.{Tree}
 use Rattle.sym_model.specs.Phrase.{tree, SpellsTree}

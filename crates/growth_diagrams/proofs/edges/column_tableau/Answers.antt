@@ -40,7 +40,6 @@ loop-at-preserved c =
     (c.shape_at-in-loop-at.ensures.shape ∙ ap (λ n. growth_shape w c.loop-at.at n) side)
     (c.from.ensures ∙ c.first_longer-row.ensures.row) c.in_ok-push_at.ensures
 
--- the rows made by the loop are those of the recording tableau of the permutation of the grid
 read : (c : goal.After-deref) → rows_in c.deref.result.now ≡ (insertion_pair c.args.grid.now).1
 read c =
     ap rows_in c.deref.ensures.value

@@ -9,7 +9,6 @@ use Rattle.linear_combinations.proofs.Tables.{is_term-found}
 use Rattle.linear_combinations.proofs.Inserted.{inserted_at, restored, Settled, settled, some_of}
 use Rattle.linear_combinations.proofs.lin.add_to.Goals as goal
 
--- if the label is new in the table, the entries after the call are a table whose coefficient of the label is greater by `c` (`Settled`)
 new_label : (g : _) (c : goal.After-set_at g) → Settled g.met.L.Eq.laws g.met.L.Label.same_label
     g.L.Label.is_label g.R.Scalar.zero g.R.Scalar.value g.R.Scalar.is_held g.R.Scalar.sum
     g.met.R.Scalar.zero_value.0 g.met.R.Scalar.zero_value.1 g.met.R.Scalar.same_value
@@ -66,7 +65,6 @@ returns-in_default-add-clause-table g c =
     subst (IsTable g.L.PartialEq.eq g.L.Label.is_label g.R.Scalar.zero g.R.Scalar.value
     g.R.Scalar.is_held) (sym (returns-in_default-add-clause-err g c)) c.requires
 
--- if the label was in the table, the entries after the call are a table whose coefficient of the label is greater by `c` (`Settled`)
 label_there : (g : _) (c : goal.After-set_at-2 g) → Settled g.met.L.Eq.laws g.met.L.Label.same_label
     g.L.Label.is_label g.R.Scalar.zero g.R.Scalar.value g.R.Scalar.is_held g.R.Scalar.sum
     g.met.R.Scalar.zero_value.0 g.met.R.Scalar.zero_value.1 g.met.R.Scalar.same_value

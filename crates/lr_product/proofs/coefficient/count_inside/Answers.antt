@@ -1,23 +1,12 @@
-use Rattle.std.proofs.Common.{◌≡◌, true, sym, subst, ap, ◌∙◌, arith, pos}
+use Rattle.std.proofs.Common.{true, sym, ap, ◌∙◌, pos}
 use Rattle.std.specs.Int.{w128}
 use Rattle.std.proofs.lemmas.Int.{to_z_pos}
-use Rattle.sym_model.specs.Schur.{contains}
 use Rattle.lr_product.proofs.Sums.{counted_shape, not_past}
 use Rattle.lr_product.proofs.coefficient.count_inside.Goals as goal
 
 pub returns-then-has_no_room-clause-value : goal.returns-then-has_no_room-clause-value
 returns-then-has_no_room-clause-value c =
     c.new.ensures ∙ ap pos (sym (c.has_no_room.ensures.none c.if-has_no_room.true))
-
-pub returns-then-has_no_room-clause-fits : goal.returns-then-has_no_room-clause-fits
-returns-then-has_no_room-clause-fits c =
-    let none = c.has_no_room.ensures.none c.if-has_no_room.true in
-    omega arith
-
-pub ways_by_columns-requires-clause-inside : goal.ways_by_columns-requires-clause-inside
-ways_by_columns-requires-clause-inside c =
-    let inside = (c.has_no_room.ensures.may c.if-has_no_room.false).inner_inside in
-    subst (λ i. contains c.args.outer.now i ≡ true) (sym c.parts.ensures.value) inside
 
 pub returns-then-count-ge-CAP-clause-large : goal.returns-then-count-ge-CAP-clause-large
 returns-then-count-ge-CAP-clause-large c =

@@ -1,4 +1,4 @@
-use Rattle.std.proofs.Common.{◌≡◌, ◌+◌, ◌*◌, [], length, sym, ap, ◌∙◌}
+use Rattle.std.proofs.Common.{◌≡◌, ◌+◌, ◌*◌, [], ap, ◌∙◌, rules}
 use Rattle.sym_model.specs.Polynomial.{resize}
 use Rattle.sym_model.proofs.Exponents.{length-resize}
 use Rattle.lr_product.specs.WeighedSum.{at_state, weighed}
@@ -8,9 +8,7 @@ use Rattle.lr_product.proofs.columns.add_start.Goals as goal
 use Rattle.std.proofs.lemmas.Result.{on_ok_weaker}
 
 pub add-requires-clause-width : goal.add-requires-clause-width
-add-requires-clause-width c =
-    ap length (c.deref.ensures.value ∙ c.in_ok-state.ensures) ∙ length-resize c.args.letters
-    c.args.start.now ∙ sym c.requires.width
+add-requires-clause-width c = search (rules, length-resize)
 
 pub returns-clause-adds : goal.returns-clause-adds
 returns-clause-adds c =

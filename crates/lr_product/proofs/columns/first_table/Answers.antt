@@ -1,4 +1,4 @@
-use Rattle.std.proofs.Common.{◌≡◌, ℕ, ◌+◌, ◌*◌, List, [], ◌∷◌, ◌++◌, length, ap, ◌∙◌, sym, arith}
+use Rattle.std.proofs.Common.{◌≡◌, ℕ, ◌+◌, ◌*◌, List, [], ◌∷◌, ◌++◌, ap, ◌∙◌, arith, rules}
 use Rattle.sym_model.specs.Polynomial.{resize}
 use Rattle.sym_model.proofs.Exponents.{length-resize}
 use Rattle.lr_product.specs.WeighedSum.{at_state, weighed}
@@ -7,9 +7,7 @@ use Rattle.lr_product.proofs.Rounds.{at_whole}
 use Rattle.lr_product.proofs.columns.first_table.Goals as goal
 
 pub push-requires : goal.push-requires
-push-requires c =
-    ap length (c.deref.ensures.value ∙ c.in_ok-state.ensures) ∙ length-resize c.args.letters
-    c.args.start.now ∙ sym c.from.ensures ∙ sym c.in_ok-states.ensures.width
+push-requires c = search (rules, length-resize)
 
 pub returns : goal.returns
 returns c f =

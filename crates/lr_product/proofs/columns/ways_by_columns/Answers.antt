@@ -1,4 +1,4 @@
-use Rattle.std.proofs.Common.{◌-◌, refl, arith}
+use Rattle.std.proofs.Common.{◌-◌, refl, arith, rules}
 use Rattle.sym_model.specs.Partition.{size}
 use Rattle.tableau_laws.specs.ColumnFold.{column_lines}
 use Rattle.linear_combinations.proofs.Steps.{if_answered}
@@ -15,10 +15,7 @@ pub with_shape-requires-clause-fresh : goal.with_shape-requires-clause-fresh
 with_shape-requires-clause-fresh c = agree_zero _ _ (c.in_ok-starts.ensures begun) refl
 
 pub with_shape-requires-clause-reached : goal.with_shape-requires-clause-reached
-with_shape-requires-clause-reached c =
-    first_reached c.args.letters (4096 - size c.args.outer.now) c.args.start.now
-    c.in_ok-starts.starts.entries c.requires.start (omega (arith, c.requires.size))
-    c.in_ok-starts.ensures
+with_shape-requires-clause-reached c = search (rules, first_reached)
 
 pub returns-clause-ways : goal.returns-clause-ways
 returns-clause-ways c =

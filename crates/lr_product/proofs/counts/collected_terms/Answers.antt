@@ -1,4 +1,4 @@
-use Rattle.std.proofs.Common.{◌≡◌, ℕ, ◌+◌, pos, List, length, take, drop, subst, sym, ap, ◌∙◌}
+use Rattle.std.proofs.Common.{◌≡◌, ℕ, ◌+◌, pos, List, take, drop, subst, sym, ap, ◌∙◌, rules}
 use Rattle.std.proofs.Common.{arith}
 use Rattle.std.specs.Prelude.{Some, Err, slice_get}
 use Rattle.std.proofs.lemmas.List.{take_all}
@@ -32,12 +32,7 @@ loop-at-preserved-then-ways-eq0 c =
     }
 
 pub slice_bounds-sum-end : goal.slice_bounds-sum-end
-slice_bounds-sum-end c =
-    let n = c.args.letters in
-    let key = c.entry-ways.result.0.now in
-    let r = reached_here n c.args.table.entries c.loop-at.at key c.entry-ways.result.1
-    c.requires.reached c.entry-ways.ensures c.if-ways-eq0.false in
-    c.from.ensures ∙ sym (ap length (ap (λ k. take k key) c.from.ensures) ∙ r.long)
+slice_bounds-sum-end c = search (rules, reached_here)
 
 pub add_sum-requires : goal.add_sum-requires
 add_sum-requires c =

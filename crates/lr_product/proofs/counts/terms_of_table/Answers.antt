@@ -1,4 +1,4 @@
-use Rattle.std.proofs.Common.{sym, subst}
+use Rattle.std.proofs.Common.{sym, subst, rules}
 use Rattle.lr_product.specs.WeighedSum.{weighed, comes_to}
 use Rattle.lr_product.specs.Counts.{HasCounts}
 use Rattle.lr_product.proofs.Placed.{canonical_counts, canonical_small}
@@ -13,6 +13,4 @@ returns-in-Some-clause-counts c =
     c.in_ok-pairs.ensures.counts)
 
 pub returns-in-Some-clause-fits : goal.returns-in-Some-clause-fits
-returns-in-Some-clause-fits c =
-    canonical_small c.args.letters c.args.table.entries c.in_ok-pairs.pairs.items
-    c.in-Some.ensures.0 c.in_ok-pairs.ensures.small c.in_ok-pairs.ensures.counts
+returns-in-Some-clause-fits c = search (rules, canonical_small)

@@ -1,4 +1,4 @@
-use Rattle.std.proofs.Common.{◌≡◌, ℕ, ◌+◌, ◌-◌, ◌*◌, ◌<◌, ◌≤◌, ◌==◌, ◌||◌, true, cond}
+use Rattle.std.proofs.Common.{◌≡◌, ℕ, ◌+◌, ◌-◌, ◌*◌, ◌<◌, ◌≤◌, ◌==◌, ◌||◌, true, cond, rules}
 use Rattle.std.proofs.Common.{List, ◌++◌, length, take, drop, get_or, refl, sym, ap, ap₂, ◌∙◌}
 use Rattle.std.proofs.Common.{subst, arith}
 use Rattle.sym_model.specs.GoodTableau.{is_falling}
@@ -118,22 +118,7 @@ place_letters-extend-requires t c =
     )
 
 pub place_letters-take_back-requires : goal.place_letters-take_back-requires
-place_letters-take_back-requires t c =
-    let b = c.loop-letter.letter in
-    let kept = c.args.column.now.is_kept in
-    let state : c.extend.new.state.items ≡ raised b c.args.state.now.items ++ mark kept b =
-    c.in_ok-extend.ensures.same ∙ c.in_ok-len.ensures.state
-    ∙ ap (λ s. raised b s ++ mark kept b) c.loop-letter.invariant.same in
-    let long = length-placed b c.args.state.now.items (mark kept b) in
-    record {
-      within = subst (λ s. b ≤ length s) (sym state)
-          (omega (
-            arith,
-            c.requires.long,
-            c.end_of_letters-end.ensures.within,
-            c.loop-letter-test.true,
-          ));
-    }
+place_letters-take_back-requires t c = search (rules, length-placed)
 
 pub place_letters-loop-letter-preserved : goal.place_letters-loop-letter-preserved
 place_letters-loop-letter-preserved t c =
@@ -195,26 +180,10 @@ place_letters-loop-letter-preserved t c =
     }
 
 pub place_letters-returns-clause-adds : goal.place_letters-returns-clause-adds
-place_letters-returns-clause-adds t c f v =
-    let n = c.args.column.now.letters in
-    let s = c.args.state.now.items in
-    let kept = c.args.column.now.is_kept in
-    agree_end (weighed n f c.loop-letter.table.entries) _ c.args.column.now.ways
-    (λ x. extended kept n c.args.rest.now (drop 1 c.args.right.now) x f
-    (raised x s ++ mark kept x)) c.loop-letter.letter
-    c.end_of_letters-end.result (omega (arith, c.loop-letter-test.false))
-    (c.loop-letter.invariant.adds f v)
+place_letters-returns-clause-adds t c f v = search (rules, agree_end)
 
 pub place_letters-free_after-later-requires : goal.place_letters-free_after-later-requires
-place_letters-free_after-later-requires t c =
-    let b = c.loop-letter.letter in
-    let s = c.args.state.now.items in
-    let kept = c.args.column.now.is_kept in
-    let state : c.place.new.state.items ≡ raised b s ++ mark kept b = c.in_ok-len.ensures.state
-    ∙ ap (λ x. raised b x ++ mark kept b) c.loop-letter.invariant.same in
-    subst (λ x. length c.args.bound.now ≤ length x)
-    (sym (c.deref-in-loop-letter.ensures.value ∙ state))
-    (omega (arith, length-placed b s (mark kept b), c.requires.bound, c.requires.long))
+place_letters-free_after-later-requires t c = search (rules, length-placed)
 
 pub place_letters-next_letter-letter-requires-in-loop-letter-clause-length :
     goal.place_letters-next_letter-letter-requires-in-loop-letter-clause-length

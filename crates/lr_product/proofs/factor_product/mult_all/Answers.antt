@@ -1,4 +1,4 @@
-use Rattle.std.proofs.Common.{◌≡◌, ◌∙◌, ap, max, map}
+use Rattle.std.proofs.Common.{◌≡◌, ◌∙◌, ap, max, map, rules}
 use Rattle.std.specs.Option.{unwrap_or}
 use Rattle.sym_model.specs.Partition.{size, rows}
 use Rattle.linear_combinations.proofs.Steps.{if_answered}
@@ -9,14 +9,7 @@ use Rattle.lr_product.proofs.factor_product.mult_all.Goals as goal
 use Rattle.std.proofs.lemmas.Result.{on_ok_weaker}
 
 pub returns-then-has_longer-clause-meets : goal.returns-then-has_longer-clause-meets
-returns-then-has_longer-clause-meets c =
-    let e : c.unwrap_or-variables.result ≡ unwrap_or c.args.rows
-    (max (size (map rows c.args.factors.now)) 1) =
-    c.unwrap_or-variables.ensures ∙ ap (unwrap_or c.args.rows)
-    (c.max.ensures ∙ ap (λ n. max n 1) c.rows.ensures.value) in
-    if_answered c.no_terms.result c.no_terms.ensures.none
-    (λ terms none. nothing_meets c.args.rows c.unwrap_or-variables.result c.args.factors.now terms e
-    c.rows.ensures.limits.small.partitions (c.has_longer.ensures.0 c.if-has_longer.true) none)
+returns-then-has_longer-clause-meets c = search (rules, if_answered, nothing_meets)
 
 pub returns-then-has_longer-clause-fits : goal.returns-then-has_longer-clause-fits
 returns-then-has_longer-clause-fits c =
@@ -47,15 +40,7 @@ returns-clause-fits c =
     c.rows.ensures.limits e) c.product_in.ensures.small
 
 pub returns-then-has_longer-clause-classical : goal.returns-then-has_longer-clause-classical
-returns-then-has_longer-clause-classical c =
-    let e : c.unwrap_or-variables.result ≡ unwrap_or c.args.rows
-    (max (size (map rows c.args.factors.now)) 1) =
-    c.unwrap_or-variables.ensures ∙ ap (unwrap_or c.args.rows)
-    (c.max.ensures ∙ ap (λ n. max n 1) c.rows.ensures.value) in
-    if_answered c.no_terms.result c.no_terms.ensures.none
-    (λ terms none. nothing_classical c.args.rows c.unwrap_or-variables.result c.args.factors.now
-    terms e c.rows.ensures.limits.small.partitions
-    (c.has_longer.ensures.0 c.if-has_longer.true) none)
+returns-then-has_longer-clause-classical c = search (rules, if_answered, nothing_classical)
 
 pub returns-clause-classical : goal.returns-clause-classical
 returns-clause-classical c =

@@ -1,4 +1,4 @@
-use Rattle.std.proofs.Common.{ap, arith}
+use Rattle.std.proofs.Common.{ap, arith, rules}
 use Rattle.std.specs.Prelude.{Err}
 use Rattle.linear_combinations.proofs.Steps.{error_is}
 use Rattle.lr_product.proofs.GoodCounts.{classical_answer}
@@ -37,10 +37,7 @@ loop-at-init c =
     c.counts_in.ensures.factors.0 c.counts_in.ensures.factors.1 c.in_ok-product.ensures.fits)
 
 pub times_factor-requires-clause-factor : goal.times_factor-requires-clause-factor
-times_factor-requires-clause-factor c =
-    c.len-len.ensures.limits.small.partitions c.factor_at-in-loop-at.result.now
-    (among_at c.args.factors.now c.loop-at.at c.factor_at-in-loop-at.result.now
-    c.factor_at-in-loop-at.ensures)
+times_factor-requires-clause-factor c = search (rules, among_at)
 
 pub times_factor-requires-clause-terms : goal.times_factor-requires-clause-terms
 times_factor-requires-clause-terms c =

@@ -28,7 +28,3 @@ loop-letter-preserved c =
         by (inr l) =
             let e : letter ≡ b = omega arith in
             subst (λ x. ((x == 0) || can_rise_at bound (x - 1) numbers) ≡ false) e last
-
-pub returns-clause-skipped : goal.returns-clause-skipped
-returns-clause-skipped c = λ b low high.
-    c.loop-letter.invariant.tried b low (omega (arith, c.loop-letter-test.false))

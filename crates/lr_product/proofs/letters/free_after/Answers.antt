@@ -1,4 +1,4 @@
-use Rattle.std.proofs.Common.{◌≡◌, ◌||◌, true, false, nat_le, nat_lt, length, get_or, sym, ap, ◌∙◌, arith}
+use Rattle.std.proofs.Common.{◌≡◌, ◌||◌, true, false, nat_le, nat_lt, length, get_or, sym, ap, ◌∙◌, arith, rules}
 use Rattle.lr_product.proofs.FreeLetters.{free-unchanged, free-added}
 use Rattle.lr_product.proofs.letters.free_after.Goals as goal
 
@@ -9,8 +9,7 @@ returns-then-letter-eq0 c n above before after is long bound falls low marks =
 
 pub returns-then-letter-ge-MARKED : goal.returns-then-letter-ge-MARKED
 returns-then-letter-ge-MARKED c n above before after is long bound falls low marks =
-    free-unchanged n above c.args.letter c.args.bound.now before after c.args.numbers.now c.args.free is long falls low marks
-    (λ p m. absurd (omega (arith, c.if-letter-ge-MARKED.true)))
+    search (rules, free-unchanged)
 
 pub returns-then-is_allowed : goal.returns-then-is_allowed
 returns-then-is_allowed c n above before after is long bound falls low marks =

@@ -1,17 +1,10 @@
-use Rattle.std.proofs.Common.{◌<◌, refl, sym, subst, ◌∙◌, arith}
+use Rattle.std.proofs.Common.{◌<◌, arith, rules}
 use Rattle.std.proofs.lemmas.Nat.Bits.{bit_at-zero}
-use Rattle.lr_product.specs.MarksFree.{MarksFree}
 use Rattle.lr_product.proofs.FreeLetters.{marks-none, marks-next, clear-next, marks-narrowed}
 use Rattle.lr_product.proofs.letters.free_letters.Goals as goal
 
 pub loop-at-init : goal.loop-at-init
-loop-at-init c = record {
-  end = c.from-at-end.ensures ∙ c.min.ensures;
-  low = omega (arith, c.from-at.ensures);
-  marks = subst (λ x. MarksFree x c.args.above c.args.bound.now c.args.numbers.now 0)
-      (sym c.from-at.ensures) (marks-none c.args.above c.args.bound.now c.args.numbers.now);
-  clear = λ i l. bit_at-zero i;
-}
+loop-at-init c = search (rules, marks-none, bit_at-zero)
 
 pub loop-at-preserved : goal.loop-at-preserved
 loop-at-preserved c =
@@ -30,7 +23,4 @@ loop-at-preserved c =
     }
 
 pub returns : goal.returns
-returns c =
-    marks-narrowed c.loop-at.at c.args.letters c.args.above c.args.above c.args.bound.now
-    c.args.numbers.now c.args.numbers.now c.loop-at.free refl c.loop-at.invariant.marks
-    (λ i l k m. (l, omega (arith, c.loop-at-test.false, c.loop-at.invariant.end)))
+returns c = search (rules, marks-narrowed)

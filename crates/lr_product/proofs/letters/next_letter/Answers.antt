@@ -1,4 +1,4 @@
-use Rattle.std.proofs.Common.{◌-◌, inl, inr, true, arith}
+use Rattle.std.proofs.Common.{◌-◌, inl, inr, true, arith, rules}
 use Rattle.std.proofs.lemmas.Bool.{cases_lt}
 use Rattle.lr_product.proofs.FreeLetters.{skipped-letters, found-letter}
 use Rattle.lr_product.proofs.letters.next_letter.Goals as goal
@@ -16,15 +16,7 @@ returns-then-letter-gt-MARKED-clause-skipped c b low high =
     ]
 
 pub returns-clause-skipped : goal.returns-clause-skipped
-returns-clause-skipped c b low high =
-    skipped-letters c.args.from c.args.end c.args.free c.args.bound.now c.args.numbers.now
-    (omega (arith, c.if-from-eq0.false)) c.requires.free c.ranges.free.fits b low
-    (omega (arith, c.min.ensures)) (omega (arith, c.min.ensures))
-    (omega (arith, c.min.ensures, c.if-letter-gt-MARKED.false))
+returns-clause-skipped c b low high = search (rules, skipped-letters)
 
 pub returns-clause-room : goal.returns-clause-room
-returns-clause-room c h =
-    found-letter c.args.from c.args.end c.args.free c.args.bound.now c.args.numbers.now
-    (omega (arith, c.if-from-eq0.false)) c.requires.free c.ranges.free.fits c.min.result
-    (omega (arith, c.min.ensures)) h
-    (omega (arith, c.min.ensures, c.if-letter-gt-MARKED.false))
+returns-clause-room c h = search (rules, found-letter)

@@ -1,5 +1,5 @@
-use Rattle.std.proofs.Common.{Iter, ◌≡◌, ℕ, ◌≤◌, ◌⊎◌, inl, inr, ℤ, List, [], ◌∷◌, ◌++◌, map, refl}
-use Rattle.std.proofs.Common.{sym, ap, subst, ◌∙◌, arith}
+use Rattle.std.proofs.Common.{◌≡◌, ℕ, ◌≤◌, ◌⊎◌, inl, inr, ℤ, List, [], ◌∷◌, ◌++◌, map, refl, rules}
+use Rattle.std.proofs.Common.{sym, subst, arith}
 use Rattle.std.proofs.lemmas.List.{map-append}
 use Rattle.sym_model.specs.Sum.{Among}
 use Rattle.sym_model.specs.Partition.{rows}
@@ -50,10 +50,4 @@ loop-label-preserved c =
         by (inr (inl e)) = subst (λ (u : List ℕ × ℤ). rows u.0 ≤ new) (sym e) here
 
 pub returns-clause-most : goal.returns-clause-most
-returns-clause-most c =
-    subst (λ (l : List (List ℕ × ℤ)). (t : List ℕ × ℤ) → Among t l → rows t.0 ≤ c.loop-label.most)
-    (all_read (map (λ item. item.now) c.loop-label.yielded) c.loop-label.label-iterator.rest.now _
-    c.in-None.ensures.steps.0 (c.loop-label.invariant.so_far
-    ∙ (ap (λ (it : Iter (List ℕ × ℤ)). it.rest.now)
-    c.into_iter-label-iterator.ensures.into_iter_gives) ∙ c.iter-label-items.ensures.rest))
-    c.loop-label.invariant.most
+returns-clause-most c = search (rules, all_read)

@@ -1,5 +1,5 @@
-use Rattle.std.proofs.Common.{Iter, ◌≡◌, ◌≤◌, ℕ, ℤ, List, [], ◌∷◌, ◌++◌, ◌+◌, ◌*◌, nat_abs, map}
-use Rattle.std.proofs.Common.{refl, sym, ap, ap₂, subst, ◌∙◌, arith, to_z-of_z}
+use Rattle.std.proofs.Common.{Iter, ◌≡◌, ◌≤◌, ℕ, ℤ, List, [], ◌∷◌, ◌++◌, ◌+◌, ◌*◌, nat_abs, map, rules}
+use Rattle.std.proofs.Common.{sym, ap, ap₂, subst, ◌∙◌, arith, to_z-of_z}
 use Rattle.std.specs.Int.{w128}
 use Rattle.std.proofs.lemmas.List.{map-append}
 use Rattle.sym_model.specs.Sum.{Among}
@@ -15,11 +15,7 @@ use Rattle.lr_product.proofs.ManyStarts.{started-push}
 use Rattle.lr_product.proofs.next_factor.starts_of.Goals as goal
 
 pub loop-label-init : goal.loop-label-init
-loop-label-init c = record {
-  width = c.in_ok-table.ensures.width ∙ c.from.ensures;
-  counts = λ f. agree_same _ _ (ap (weighed c.args.letters f) c.in_ok-table.ensures.none);
-  so_far = refl;
-}
+loop-label-init c = search (rules, agree_same)
 
 pub add_start-requires-clause-rows : goal.add_start-requires-clause-rows
 add_start-requires-clause-rows c =

@@ -1,4 +1,4 @@
-use Rattle.std.proofs.Common.{◌≡◌, ◌≤◌, ◌-◌, ◌+◌, ℕ, ℤ, min, List, [], arith}
+use Rattle.std.proofs.Common.{◌≡◌, ◌≤◌, ◌-◌, ◌+◌, ℕ, ℤ, min, List, [], arith, rules}
 use Rattle.sym_model.specs.Sum.{Among}
 use Rattle.sym_model.specs.Partition.{rows, size}
 use Rattle.tableau_laws.specs.ColumnFold.{column_lines}
@@ -15,20 +15,11 @@ use Rattle.lr_product.proofs.RowRounds.{started-fresh}
 use Rattle.lr_product.specs.RowExtension.{begun}
 use Rattle.lr_product.proofs.next_factor.times_factor.Goals as goal
 
--- let each label have at most m rows and satisfy `MayMeet` for k and `next`, and let n = min(k, m + rows of next): then each label has at most n
--- rows, and n is at least min(k, rows of the label plus rows of next)
 enough : (n k : ℕ) (m : ℕ) (next : List ℕ) (product : List (List ℕ × ℤ)) → n ≡ min k (m + rows next)
     → AllMayMeet k next product
     → ((t : List ℕ × ℤ) → Among t product → rows t.0 ≤ m) → (t : List ℕ × ℤ) → Among t product →
     (rows t.0 ≤ n) × (min k (rows t.0 + rows next) ≤ n)
-enough n k m next product is may most t a = let f = (may t a).few in let b = most t a in
-    (omega arith, omega arith)
-
-pub starts_of-requires-clause-rows : goal.starts_of-requires-clause-rows
-starts_of-requires-clause-rows c = λ t m.
-    let a = (c.requires.terms t m).few in
-    let b = c.most_rows.ensures.most t m in
-    omega (arith, c.min-letters.ensures)
+enough n k m next product is may most t a = search rules
 
 pub starts_of-requires-clause-counts : goal.starts_of-requires-clause-counts
 starts_of-requires-clause-counts c = λ t m. (c.requires.terms t m).positive
@@ -77,8 +68,7 @@ returns-clause-product c =
     c.terms_of_table.result c.terms_of_table.ensures.fits c.terms_of_table.ensures.counts
 
 pub returns-clause-table : goal.returns-clause-table
-returns-clause-table c = if_answered c.terms_of_table.result c.terms_of_table.ensures.counts
-    (λ terms l. l.table)
+returns-clause-table c = search (rules, if_answered)
 
 pub returns-clause-small : goal.returns-clause-small
 returns-clause-small c =

@@ -1,4 +1,4 @@
-use Rattle.std.proofs.Common.{◌≡◌, ◌+◌, ◌∙◌, ap, ap₂}
+use Rattle.std.proofs.Common.{◌≡◌, ◌+◌, ◌∙◌, ap, ap₂, rules}
 use Rattle.std.specs.Option.{unwrap_or}
 use Rattle.sym_model.specs.Partition.{rows}
 use Rattle.linear_combinations.proofs.Steps.{if_answered}
@@ -8,13 +8,7 @@ use Rattle.lr_product.proofs.product.mult.Goals as goal
 use Rattle.std.proofs.lemmas.Result.{on_ok_weaker}
 
 pub returns-clause-meets : goal.returns-clause-meets
-returns-clause-meets c =
-    let m : c.unwrap_or-variables.result ≡ unwrap_or c.args.rows
-    (rows c.args.left.now + rows c.args.right.now) = c.unwrap_or-variables.ensures
-    ∙ ap (unwrap_or c.args.rows) (ap₂ ◌+◌ c.rows.ensures.value c.rows-2.ensures.value) in
-    if_answered c.counts_in.result c.counts_in.ensures.counts
-    (λ terms l. mult_answers c.args.rows c.unwrap_or-variables.result c.args.left.now
-    c.args.right.now terms m c.counts_in.ensures.factors.0 c.counts_in.ensures.factors.1 l)
+returns-clause-meets c = search (rules, if_answered, mult_answers)
 
 pub returns-clause-counts : goal.returns-clause-counts
 returns-clause-counts c =
@@ -26,12 +20,7 @@ returns-clause-counts c =
     c.args.right.now terms m l)
 
 pub returns-clause-large : goal.returns-clause-large
-returns-clause-large c = λ e.
-    let m : c.unwrap_or-variables.result ≡ unwrap_or c.args.rows
-    (rows c.args.left.now + rows c.args.right.now) = c.unwrap_or-variables.ensures
-    ∙ ap (unwrap_or c.args.rows) (ap₂ ◌+◌ c.rows.ensures.value c.rows-2.ensures.value) in
-    mult_past c.args.rows c.unwrap_or-variables.result c.args.left.now c.args.right.now m
-    c.counts_in.ensures.factors.0 c.counts_in.ensures.factors.1 (c.counts_in.ensures.large e)
+returns-clause-large c = search (rules, mult_past)
 
 pub returns-clause-fits : goal.returns-clause-fits
 returns-clause-fits c =
@@ -42,18 +31,7 @@ returns-clause-fits c =
     c.counts_in.ensures.factors.0 c.counts_in.ensures.factors.1) c.counts_in.ensures.fits
 
 pub returns-clause-classical : goal.returns-clause-classical
-returns-clause-classical c =
-    let m : c.unwrap_or-variables.result ≡ unwrap_or c.args.rows
-    (rows c.args.left.now + rows c.args.right.now) = c.unwrap_or-variables.ensures
-    ∙ ap (unwrap_or c.args.rows) (ap₂ ◌+◌ c.rows.ensures.value c.rows-2.ensures.value) in
-    if_answered c.counts_in.result c.counts_in.ensures.counts
-    (λ terms l. classical_if c.args.rows c.unwrap_or-variables.result c.args.left.now
-    c.args.right.now terms m c.counts_in.ensures.factors.0 c.counts_in.ensures.factors.1 l)
+returns-clause-classical c = search (rules, if_answered, classical_if)
 
 pub returns-clause-heavy : goal.returns-clause-heavy
-returns-clause-heavy c = λ e.
-    let m : c.unwrap_or-variables.result ≡ unwrap_or c.args.rows
-    (rows c.args.left.now + rows c.args.right.now) = c.unwrap_or-variables.ensures
-    ∙ ap (unwrap_or c.args.rows) (ap₂ ◌+◌ c.rows.ensures.value c.rows-2.ensures.value) in
-    heavy_if c.args.rows c.unwrap_or-variables.result c.args.left.now c.args.right.now m
-    c.counts_in.ensures.factors.0 c.counts_in.ensures.factors.1 (c.counts_in.ensures.large e)
+returns-clause-heavy c = search (rules, heavy_if)

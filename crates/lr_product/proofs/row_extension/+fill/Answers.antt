@@ -1,4 +1,4 @@
-use Rattle.std.proofs.Common.{◌≡◌, ℕ, ◌+◌, ◌-◌, ◌*◌, ◌<◌, ◌≤◌, ◌==◌, suc, cond, max, min, nat_lt, true}
+use Rattle.std.proofs.Common.{◌≡◌, ℕ, ◌+◌, ◌-◌, ◌*◌, ◌<◌, ◌≤◌, ◌==◌, suc, cond, max, min, nat_lt, true, rules}
 use Rattle.std.proofs.Common.{List, ◌++◌, length, take, drop, get_or, sym, ap, ◌∙◌, subst}
 use Rattle.std.proofs.Common.{arith}
 use Rattle.sym_model.specs.GoodTableau.{is_falling}
@@ -90,20 +90,7 @@ fill-requires t c =
     )
 
 pub take_letters-requires : goal.take_letters-requires
-take_letters-requires t c =
-    let at = c.args.up_to - 1 in
-    let x = c.loop-left.left in
-    let k = c.args.placed in
-    let s = c.args.state.now.items in
-    let kept = c.args.row.now.is_kept in
-    let state : c.fill.new.state.items ≡ added at (k - x) s ++ mark kept x =
-    c.in_ok-fill.ensures.same ∙ c.in_ok-len.ensures.state
-    ∙ ap (λ v. added at (k - x) v ++ mark kept x) c.loop-left.invariant.same in
-    let long = length_put kept at (k - x) x s in
-    record {
-      within = subst (λ v. at < length v) (sym state)
-          (omega (arith, c.requires.long, c.requires.letters, c.if-up_to-eq0.false));
-    }
+take_letters-requires t c = search (rules, length_put)
 
 pub loop-left-preserved : goal.loop-left-preserved
 loop-left-preserved t c =

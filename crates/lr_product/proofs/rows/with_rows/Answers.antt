@@ -1,4 +1,4 @@
-use Rattle.std.proofs.Common.{◌≡◌, ◌+◌, ◌-◌, ◌<◌, nat_lt, length, drop, get_or, sym, ap, ap₂, ◌∙◌, arith}
+use Rattle.std.proofs.Common.{◌≡◌, ◌+◌, ◌-◌, ◌<◌, nat_lt, length, drop, get_or, sym, ap, ap₂, ◌∙◌, arith, rules}
 use Rattle.sym_model.specs.Partition.{size}
 use Rattle.lr_product.specs.WeighedSum.{weighed, unreached}
 use Rattle.lr_product.proofs.Reaching.{weighed-weaker}
@@ -100,6 +100,4 @@ returns-clause-ways c f v b =
     (c.loop-row.invariant.counts f v b)
 
 pub returns-clause-reached : goal.returns-clause-reached
-returns-clause-reached c =
-    weighed-weaker c.args.letters (4096 - size (drop c.loop-row.row c.args.outer.now)) 4096
-    c.loop-row.table.entries (omega arith) c.loop-row.invariant.reached
+returns-clause-reached c = search (rules, weighed-weaker)

@@ -1,4 +1,4 @@
-use Rattle.std.proofs.Common.{◌≡◌, ℕ, ◌^◌, ◌<◌, min, List, [], subst, ap, ◌∙◌}
+use Rattle.std.proofs.Common.{◌≡◌, min, [], subst, ap, ◌∙◌, rules}
 use Rattle.sym_model.specs.Partition.{rows}
 use Rattle.sym_model.specs.GoodTableau.{skew_count}
 use Rattle.linear_combinations.proofs.Steps.{if_answered}
@@ -21,16 +21,7 @@ returns-clause-counts c =
     s) terms) c.parts.ensures.value l))
 
 pub returns-clause-fits : goal.returns-clause-fits
-returns-clause-fits c =
-    let n : c.min-letters.result ≡ min c.args.variables (rows c.args.outer.now) =
-    c.min-letters.ensures ∙ ap (min c.args.variables) c.rows.ensures.value in
-    let same = same_skew c.min-letters.result c.args.variables c.args.outer.now c.args.inner.now n
-    c.rows.ensures.limits.partition c.parts.ensures.limits.partition c.requires.inside in
-    on_ok_weaker c.good_counts.result (λ f. fits_in c.min-letters.result c.args.variables
-    (good_count c.min-letters.result [] c.args.outer.now c.args.inner.now)
-    (skew_count c.args.outer.now c.args.inner.now) same
-    (subst (λ s. (parts : List ℕ) → good_count c.min-letters.result [] c.args.outer.now s parts < 2
-    ^ 127) c.parts.ensures.value f)) c.good_counts.ensures.fits
+returns-clause-fits c = search (rules, same_skew, on_ok_weaker, fits_in)
 
 pub returns-clause-large : goal.returns-clause-large
 returns-clause-large c = λ e.

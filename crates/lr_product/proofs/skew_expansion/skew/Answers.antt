@@ -1,4 +1,4 @@
-use Rattle.std.proofs.Common.{◌≡◌, true, subst, sym, ap, ◌∙◌}
+use Rattle.std.proofs.Common.{◌≡◌, true, subst, sym, ap, ◌∙◌, rules}
 use Rattle.std.specs.Option.{unwrap_or}
 use Rattle.sym_model.specs.Partition.{rows}
 use Rattle.sym_model.specs.WholeTerms.{as_fractions}
@@ -21,10 +21,7 @@ returns-then-not-contains-clause-meets c =
     c.args.inner.now outside))
 
 pub returns-then-not-contains-clause-counts : goal.returns-then-not-contains-clause-counts
-returns-then-not-contains-clause-counts c holds =
-    let no : c.contains.result ≡ true = c.contains.ensures.1
-    (contains-tells c.args.outer.now c.args.inner.now holds) in
-    absurd (cc)
+returns-then-not-contains-clause-counts c holds = search (rules, contains-tells)
 
 pub returns-then-not-contains-clause-fits : goal.returns-then-not-contains-clause-fits
 returns-then-not-contains-clause-fits c =
@@ -37,14 +34,7 @@ counts_in-requires-clause-inside c =
     contains-from c.args.outer.now c.args.inner.now (c.contains.ensures.0 (cc))
 
 pub returns-clause-meets : goal.returns-clause-meets
-returns-clause-meets c =
-    let m : c.unwrap_or-variables.result ≡ unwrap_or c.args.rows (rows c.args.outer.now) =
-    c.unwrap_or-variables.ensures ∙ ap (unwrap_or c.args.rows) c.rows.ensures.value in
-    let yes : c.contains.result ≡ true = cc in
-    let inside = contains-from c.args.outer.now c.args.inner.now (c.contains.ensures.0 yes) in
-    if_answered c.counts_in.result c.counts_in.ensures.counts
-    (λ terms l. skew_answers c.args.rows c.unwrap_or-variables.result c.args.outer.now
-    c.args.inner.now terms m c.counts_in.ensures.shape.0 c.counts_in.ensures.shape.1 inside l)
+returns-clause-meets c = search (rules, contains-from, if_answered, skew_answers)
 
 pub returns-clause-counts : goal.returns-clause-counts
 returns-clause-counts c holds =
@@ -55,13 +45,7 @@ returns-clause-counts c holds =
     c.args.inner.now terms m l)
 
 pub returns-clause-large : goal.returns-clause-large
-returns-clause-large c = λ e.
-    let m : c.unwrap_or-variables.result ≡ unwrap_or c.args.rows (rows c.args.outer.now) =
-    c.unwrap_or-variables.ensures ∙ ap (unwrap_or c.args.rows) c.rows.ensures.value in
-    let yes : c.contains.result ≡ true = cc in
-    let inside = contains-from c.args.outer.now c.args.inner.now (c.contains.ensures.0 yes) in
-    skew_past c.args.rows c.unwrap_or-variables.result c.args.outer.now c.args.inner.now m
-    c.counts_in.ensures.shape.0 c.counts_in.ensures.shape.1 inside (c.counts_in.ensures.large e)
+returns-clause-large c = search (rules, contains-from, skew_past)
 
 pub returns-clause-fits : goal.returns-clause-fits
 returns-clause-fits c =

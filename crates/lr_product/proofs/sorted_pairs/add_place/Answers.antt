@@ -1,45 +1,27 @@
-use Rattle.std.proofs.Common.{ℕ, List, length, take, sym, subst, ap, ◌∙◌, arith}
+use Rattle.std.proofs.Common.{ℕ, List, length, take, sym, subst, ap, ◌∙◌, arith, rules}
 use Rattle.std.specs.Int.{w128}
 use Rattle.std.proofs.lemmas.Int.{to_z_pos}
 use Rattle.sym_model.specs.Partition.{without_last_zeros}
 use Rattle.partitions.specs.Limits.{IsWithinLimits}
-use Rattle.lr_product.specs.WeighedSum.{comes_to}
 use Rattle.lr_product.proofs.CountedLists.{sum_within}
 use Rattle.lr_product.proofs.Placed.{none_at, some_at, nothing_counted, pushed_counts}
 use Rattle.lr_product.proofs.Placed.{pushed_small, reached_at}
 use Rattle.lr_product.proofs.sorted_pairs.add_place.Goals as goal
 
 pub returns-in_default-clause-adds : goal.returns-in_default-clause-adds
-returns-in_default-clause-adds c parts =
-    nothing_counted c.args.letters c.args.table.now.entries (comes_to parts) c.args.at _
-    (ap (λ (x : List ℕ × ℕ). x.1) (none_at c.args.table.now.entries c.args.at
-    (sym c.in_default.ensures)))
+returns-in_default-clause-adds c parts = search (rules, nothing_counted, none_at)
 
 pub returns-in_default-clause-refused : goal.returns-in_default-clause-refused
-returns-in_default-clause-refused c = λ l.
-    let e = ap (λ (x : List ℕ × ℕ). x.1) (none_at c.args.table.now.entries c.args.at
-    (sym c.in_default.ensures)) in
-    absurd (omega arith)
+returns-in_default-clause-refused c = search (rules, none_at)
 
 pub returns-then-ways-eq0-clause-adds : goal.returns-then-ways-eq0-clause-adds
-returns-then-ways-eq0-clause-adds c parts =
-    nothing_counted c.args.letters c.args.table.now.entries (comes_to parts) c.args.at _
-    (ap (λ (x : List ℕ × ℕ). x.1) (some_at c.args.table.now.entries c.args.at c.in-Some.state.now
-    c.in-Some.ways (sym c.in-Some.ensures)) ∙ c.if-ways-eq0.true)
+returns-then-ways-eq0-clause-adds c parts = search (rules, nothing_counted, some_at)
 
 pub returns-then-ways-eq0-clause-refused : goal.returns-then-ways-eq0-clause-refused
-returns-then-ways-eq0-clause-refused c = λ l.
-    let e = ap (λ (x : List ℕ × ℕ). x.1) (some_at c.args.table.now.entries c.args.at
-    c.in-Some.state.now c.in-Some.ways (sym c.in-Some.ensures)) in
-    let z = c.if-ways-eq0.true in
-    absurd (omega arith)
+returns-then-ways-eq0-clause-refused c = search (rules, some_at)
 
 pub returns-then-ways-ge-CAP-clause-large : goal.returns-then-ways-ge-CAP-clause-large
-returns-then-ways-ge-CAP-clause-large c = λ h.
-    let e = ap (λ (x : List ℕ × ℕ). x.1) (some_at c.args.table.now.entries c.args.at
-    c.in-Some.state.now c.in-Some.ways (sym c.in-Some.ensures)) in
-    let l = c.if-ways-ge-CAP.true in
-    omega arith
+returns-then-ways-ge-CAP-clause-large c = search (rules, some_at)
 
 pub slice_bounds-from_valid_numbers-end : goal.slice_bounds-from_valid_numbers-end
 slice_bounds-from_valid_numbers-end c =
@@ -58,27 +40,13 @@ from_valid_numbers-requires c =
     (sym (ap (λ k. take k key) c.from.ensures)) (sum_within n (take n key) c.requires.letters r)
 
 pub returns-in_err-label-clause-refused : goal.returns-in_err-label-clause-refused
-returns-in_err-label-clause-refused c = λ l.
-    let e = ap (λ (x : List ℕ × ℕ). x.1) (some_at c.args.table.now.entries c.args.at
-    c.in-Some.state.now c.in-Some.ways (sym c.in-Some.ensures)) in
-    let s = c.if-ways-ge-CAP.false in
-    absurd (omega arith)
+returns-in_err-label-clause-refused c = search (rules, some_at)
 
 pub returns-in_err-push-clause-refused : goal.returns-in_err-push-clause-refused
-returns-in_err-push-clause-refused c = λ l.
-    let e = ap (λ (x : List ℕ × ℕ). x.1) (some_at c.args.table.now.entries c.args.at
-    c.in-Some.state.now c.in-Some.ways (sym c.in-Some.ensures)) in
-    let s = c.if-ways-ge-CAP.false in
-    absurd (omega arith)
+returns-in_err-push-clause-refused c = search (rules, some_at)
 
 pub returns-clause-adds : goal.returns-clause-adds
-returns-clause-adds c parts =
-    let key = c.in-Some.state.now in
-    pushed_counts c.args.letters c.args.table.now.entries c.args.at key c.in-Some.ways
-    c.args.pairs.now.items c.push.new.self.items c.in_ok-label.label c.new.result parts
-    (sym c.in-Some.ensures) c.in_ok-push.ensures.items
-    (c.in_ok-label.ensures.ok ∙ ap without_last_zeros (ap (λ k. take k key) c.from.ensures))
-    (c.new.ensures ∙ to_z_pos w128 c.in-Some.ways c.if-ways-ge-CAP.false)
+returns-clause-adds c parts = search (rules, pushed_counts, to_z_pos)
 
 pub returns-clause-small : goal.returns-clause-small
 returns-clause-small c =
@@ -87,8 +55,4 @@ returns-clause-small c =
     (c.new.ensures ∙ to_z_pos w128 c.in-Some.ways c.if-ways-ge-CAP.false) c.if-ways-ge-CAP.false
 
 pub returns-clause-refused : goal.returns-clause-refused
-returns-clause-refused c = λ l.
-    let e = ap (λ (x : List ℕ × ℕ). x.1) (some_at c.args.table.now.entries c.args.at
-    c.in-Some.state.now c.in-Some.ways (sym c.in-Some.ensures)) in
-    let s = c.if-ways-ge-CAP.false in
-    absurd (omega arith)
+returns-clause-refused c = search (rules, some_at)

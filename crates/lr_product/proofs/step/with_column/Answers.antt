@@ -81,9 +81,3 @@ returns-clause-counts c f v =
     (weighed n g c.args.table.now.entries)
     (weighed-past n g c.args.table.now.entries c.loop-at.at
     (omega (arith, c.loop-at.invariant.end))) (c.loop-at.invariant.counts f v))
-
-pub returns-clause-reached : goal.returns-clause-reached
-returns-clause-reached c m z =
-    ap (λ (t : StateCounts). weighed c.args.letters (unreached c.args.letters
-    (m + length c.args.line.now)) t.entries) c.into_states.ensures ∙ c.loop-at.invariant.reached
-    m z

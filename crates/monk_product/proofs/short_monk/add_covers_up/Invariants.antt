@@ -1,4 +1,5 @@
--- So far c has been added at the covers of `w` that exchange `place` with a later place before `other`, counted from 0.
+-- So far, c has been added to the coefficients of the covers of `w` that exchange the letter at `place` with the letter at a later place before
+-- `other`. Places are counted from 0.
 use Rattle.std.proofs.Common.{◌+◌, ◌-◌}
 use Rattle.sym_model.specs.Permutation.{times_swap}
 use Rattle.linear_combinations.specs.Gains.{Gains, each_with}

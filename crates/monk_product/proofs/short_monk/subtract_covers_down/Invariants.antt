@@ -1,4 +1,5 @@
--- So far c has been subtracted at the covers of `w` that exchange `place` with a place before `other`, counted from 0.
+-- So far, c has been subtracted from the coefficients of the covers of `w` that exchange the letter at `place` with the letter at a place before
+-- `other`. Places are counted from 0.
 use Rattle.std.proofs.Common.{◌+◌}
 use Rattle.std.specs.Prelude.{neg_ℤ}
 use Rattle.sym_model.specs.Permutation.{times_swap}

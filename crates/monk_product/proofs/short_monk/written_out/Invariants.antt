@@ -1,4 +1,5 @@
--- `pairs` has the terms visited so far, in converted form; the terms visited so far, followed by the remaining ones, are all terms.
+-- `pairs` has the terms visited so far, with their permutations converted to the type `Perm`. These terms, followed by the remaining ones, are all
+-- terms.
 use Rattle.std.proofs.Common.{◌≡◌, ◌++◌, map}
 use Rattle.monk_product.proofs.short_monk.written_out.Given as goal
 

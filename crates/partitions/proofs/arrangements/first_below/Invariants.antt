@@ -1,4 +1,4 @@
--- None of the numbers from `start` up to the place before `at` is below the bound.
+-- Each number from the index `start` to the index before `at` is at least `bound`.
 use Rattle.std.proofs.Common.{ℕ, ◌-◌, ◌<◌, ◌≤◌, length, get_or}
 use Rattle.partitions.proofs.arrangements.first_below.Given as goal
 

@@ -8,8 +8,6 @@ use Rattle.partitions.proofs.Steps.{all_written}
 use Rattle.partitions.proofs.LoweredParts.{lowered_kept, lowered_dropped, length-lowered}
 use Rattle.partitions.proofs.corners.lower_last.Goals as goal
 
--- let `given` be `parts`, and `new` be `given` with the number at `place` lowered by 1: writing the numbers of `new` over those of `parts` gives
--- `parts` with this number lowered by 1
 written :
     (parts given new : List ℕ) (place : ℕ) → given ≡ parts → new ≡ lowered_at (place + 1) given
     → refill (length parts) parts new ≡ lowered_at (suc place) parts

@@ -1,4 +1,4 @@
--- The list has the given letters, followed by fixed letters up to the current place.
+-- The list has the given letters, followed by fixed letters up to the current place; a letter is fixed if it is equal to its place, counted from 1.
 use Rattle.std.proofs.Common.{◌≡◌, ◌-◌, ◌≤◌, ◌++◌, length}
 use Rattle.sym_model.specs.Partition.{after}
 use Rattle.perm_codes.proofs.letters.add_fixed.Given as goal

@@ -1,4 +1,5 @@
--- The first `len` letters and all letters are the same list once the fixed letters at the end are removed.
+-- The first `len` letters and all letters are the same list once the fixed letters at the end are removed; a letter is fixed if it is equal to its
+-- place, counted from 1.
 use Rattle.std.proofs.Common.{◌≡◌, ◌≤◌, length, take}
 use Rattle.sym_model.specs.Permutation.{kept}
 use Rattle.perm_codes.proofs.letters.count_kept.Given as goal

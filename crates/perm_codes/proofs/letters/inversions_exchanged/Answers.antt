@@ -12,8 +12,6 @@ overflow_add-result c =
     let count = c.requires.count in
     omega arith
 
--- if the first of the two exchanged letters is smaller, the number of inversions after the exchange is `count` + 1 + 2·(the number of letters between
--- them in place and value)
 more : (c : goal.After-count_between) → c.args.count + 1 + 2 * c.count_between.result ≡ inversions
     (swap c.args.letters.now c.args.first c.args.second)
 more c =
@@ -42,8 +40,6 @@ overflow_sub-result c =
     c.requires.inside c.requires.permutation.one_line.once c.if-left-right.false in
     omega arith
 
--- if the first of the two exchanged letters is greater, `count` is 1 more than the number of inversions after the exchange plus 2·(the number of
--- letters between them in place and value)
 fewer : (c : goal.After-count_between-else-left-right) → c.args.count ≡ inversions
     (swap c.args.letters.now c.args.first c.args.second) + 1 + 2
     * c.count_between-else-left-right.result

@@ -1,4 +1,4 @@
--- The list has the letters visited so far, and there is room in it for the other letters.
+-- The list has the letters visited so far, and its capacity suffices for the remaining letters.
 use Rattle.std.proofs.Common.{◌≡◌, ◌-◌, length, take}
 use Rattle.smallvec.specs.SmallVec.{HasRoomFor}
 use Rattle.perm_codes.proofs.letters.narrow.Given as goal

@@ -11,7 +11,6 @@ use Rattle.plethysm.proofs.FactorLists.{list-dilated, list-none, list-more, with
 use Rattle.plethysm.proofs.FactorLists.{within-dilated, large-factor, large-later}
 use Rattle.plethysm.proofs.factors.+over_parts.Goals as goal
 
--- if all parts are positive, so are the first part and the parts after it
 split_positive : (parts : List ℕ) → 1 ≤ length parts → ArePositive parts → (0 < get_or parts 0 0)
     × ArePositive (take (length parts - 1) (drop 1 parts))
 split_positive parts h p = subst ArePositive (sym (split_first parts h)) p

@@ -5,8 +5,8 @@ use Rattle.sparse_polys.proofs.WholeLists.{Finds}
 use Rattle.plethysm_laws.specs.PowerSumPlethysm.{dilated}
 use Rattle.plethysm.proofs.factors.dilated.Given as goal
 
--- the table has the terms visited so far with every part of the label multiplied by k, and these terms followed by those still to come are all terms
--- of the list
+-- `list` has the terms that arise from the visited ones by multiplying every part of the label by k. The visited terms, followed by those still to
+-- come, are all terms of the given list
 abbrev pub invariant-loop-label : goal.invariant-loop-label
 invariant-loop-label l = record {
   finds : Finds l.list (dilated l.k (map deref_pair l.yielded));

@@ -5,7 +5,8 @@ use Rattle.sparse_polys.specs.Tables.{IsWholeTable}
 use Rattle.sparse_polys.proofs.WholeLists.{Finds}
 use Rattle.plethysm.proofs.inner.numerators.Given as goal
 
--- the table has the numerators of the terms visited so far, and these terms followed by those still to come are all terms of the list
+-- `whole` has the visited terms with their numerators as coefficients. The visited terms, followed by those still to come, are all terms of the given
+-- list
 abbrev pub invariant-loop-label : goal.invariant-loop-label
 invariant-loop-label l = record {
   finds : Finds l.whole (numerators (map deref_pair l.yielded));

@@ -6,7 +6,8 @@ use Rattle.plethysm.proofs.NumeratorLists.{mapped}
 use Rattle.plethysm.proofs.QuotientLists.{divided_by}
 use Rattle.plethysm.proofs.quotients.quotients.Given as goal
 
--- the table has the quotients of the terms visited so far, and these terms followed by those still to come are all terms of the list
+-- `quotients` has the visited terms with their coefficients divided by k. The visited terms, followed by those still to come, are all terms of the
+-- given list
 abbrev pub invariant-loop-label : goal.invariant-loop-label
 invariant-loop-label l = record {
   finds : Finds l.quotients (mapped (divided_by l.k) (map deref_pair l.yielded));

@@ -1,17 +1,14 @@
-use Rattle.std.proofs.Common.{refl}
-use Rattle.sym_model.specs.Plethysm.{repeated_monomials}
+use Rattle.std.proofs.Common.{refl, rules}
 use Rattle.plethysm_laws.proofs.RepeatedMonomials.{repeated-sum, repeated-places}
 use Rattle.plethysm_laws.proofs.Substitutions.{substitute-power_sum}
 use Rattle.plethysm_laws.proofs.Paths.{substitute-combined}
 use Rattle.plethysm_laws.proofs.path.power_sum_path_law.Goals as goal
 
 pub returns-clause-power_sum : goal.returns-clause-power_sum
-returns-clause-power_sum c = λ parts d n g p h. substitute-power_sum parts n
-    (repeated_monomials d n g) g p (repeated-places d n g) (repeated-sum d n g h)
+returns-clause-power_sum c = search (rules, substitute-power_sum, repeated-places, repeated-sum)
 
 pub returns-clause-list : goal.returns-clause-list
-returns-clause-list c = λ terms d n g p h. substitute-combined n (repeated_monomials d n g) g terms
-    p (repeated-places d n g) (repeated-sum d n g h)
+returns-clause-list c = search (rules, substitute-combined, repeated-places, repeated-sum)
 
 pub returns-clause-square : goal.returns-clause-square
 returns-clause-square c = refl

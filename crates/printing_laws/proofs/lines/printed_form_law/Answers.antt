@@ -1,10 +1,9 @@
-use Rattle.std.proofs.Common.{sym}
+use Rattle.std.proofs.Common.{sym, rules}
 use Rattle.printing_laws.proofs.PrintedForms.{read_in-text, read_in-tells}
 use Rattle.printing_laws.proofs.lines.printed_form_law.Goals as goal
 
 pub returns-clause-reads : goal.returns-clause-reads
-returns-clause-reads c form kind terms canonical printable = read_in-text form kind terms canonical
-    printable
+returns-clause-reads c form kind terms canonical printable = search (rules, read_in-text)
 
 pub returns-clause-is_text : goal.returns-clause-is_text
 returns-clause-is_text c form kind text terms reads =

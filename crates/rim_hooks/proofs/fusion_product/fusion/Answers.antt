@@ -1,21 +1,11 @@
-use Rattle.std.proofs.Common.{◌+◌, sym, subst, arith}
-use Rattle.sym_model.specs.ReductionSteps.{IsReflectedInSteps}
-use Rattle.sym_model.specs.WholeTerms.{as_fractions}
-use Rattle.sym_model.specs.Reductions.{IsAlcoveReductionOf}
-use Rattle.sym_model.specs.Products.{classical_product}
+use Rattle.std.proofs.Common.{rules}
 use Rattle.linear_combinations.proofs.Steps.{if_answered}
 use Rattle.product_laws.proofs.FusionSteps.{fusion_steps_answer}
 use Rattle.rim_hooks.proofs.FusionSteps.{fusion_none}
 use Rattle.rim_hooks.proofs.fusion_product.fusion.Goals as goal
 
 pub returns-then-has_long-clause-steps : goal.returns-then-has_long-clause-steps
-returns-then-has_long-clause-steps c =
-    let l = c.has_long.ensures.limits in
-    if_answered c.no_terms.result c.no_terms.ensures.none
-    (λ terms none. subst (IsReflectedInSteps c.args.rows (c.args.rows + c.args.level)
-    c.args.factors.now) (sym none)
-    (fusion_none c.args.rows (c.args.rows + c.args.level) c.args.factors.now l.least
-    l.small.partitions (c.has_long.ensures.long c.if-has_long.true)))
+returns-then-has_long-clause-steps c = search (rules, if_answered, fusion_none)
 
 pub product_in_steps-requires-clause-few : goal.product_in_steps-requires-clause-few
 product_in_steps-requires-clause-few c = c.has_long.ensures.few c.if-has_long.false
@@ -24,23 +14,10 @@ pub returns-clause-steps : goal.returns-clause-steps
 returns-clause-steps c = c.product_in_steps.ensures.steps
 
 pub returns-clause-meets : goal.returns-clause-meets
-returns-clause-meets c =
-    let some = c.requires.variables.0 in
-    let l = c.has_long.ensures.limits in
-    if_answered c.product_in_steps.result c.product_in_steps.ensures.steps
-    (λ terms led. fusion_steps_answer c.args.rows c.args.level c.args.factors.now terms
-    (omega arith) l.least l.small.partitions led)
+returns-clause-meets c = search (rules, if_answered, fusion_steps_answer)
 
 pub returns-clause-large : goal.returns-clause-large
 returns-clause-large c err = c.product_in_steps.ensures.large err
 
 pub returns-then-has_long-clause-meets : goal.returns-then-has_long-clause-meets
-returns-then-has_long-clause-meets c =
-    let some = c.requires.variables.0 in
-    let l = c.has_long.ensures.limits in
-    if_answered c.no_terms.result c.no_terms.ensures.none
-    (λ terms none. subst (λ ts. IsAlcoveReductionOf c.args.rows (c.args.rows + c.args.level) (classical_product c.args.rows c.args.factors.now) (as_fractions ts)) (sym none)
-    (fusion_steps_answer c.args.rows c.args.level c.args.factors.now _ (omega arith)
-    l.least l.small.partitions
-    (fusion_none c.args.rows (c.args.rows + c.args.level) c.args.factors.now l.least
-    l.small.partitions (c.has_long.ensures.long c.if-has_long.true))))
+returns-then-has_long-clause-meets c = search (rules, if_answered, fusion_steps_answer, fusion_none)

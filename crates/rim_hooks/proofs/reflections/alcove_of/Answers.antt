@@ -1,6 +1,5 @@
-use Rattle.std.proofs.Common.{sym, ◌∙◌, ap, subst, arith, to_z, of_z, w8, map}
-use Rattle.sym_model.specs.BetaList.{has_equal_entries}
-use Rattle.beta_list_laws.specs.AlcoveEnd.{remainders, up}
+use Rattle.std.proofs.Common.{sym, ◌∙◌, ap, subst, arith, to_z, of_z, w8, map, rules}
+use Rattle.beta_list_laws.specs.AlcoveEnd.{up}
 use Rattle.rim_hooks.specs.Sorting.{Sorts}
 use Rattle.rim_hooks.proofs.CoreFacts.{kept_sign}
 use Rattle.rim_hooks.proofs.AlcoveFacts.{entries_few, alcove_equal, holds_window, window_small}
@@ -8,19 +7,10 @@ use Rattle.rim_hooks.proofs.AlcoveFacts.{alcove_few, alcove_limits, alcove_some,
 use Rattle.rim_hooks.proofs.reflections.alcove_of.Goals as goal
 
 pub window_start-requires-clause-few : goal.window_start-requires-clause-few
-window_start-requires-clause-few c =
-    let a = c.requires.cells.0 in
-    let b = c.requires.cells.1 in
-    entries_few c.args.k c.args.shape.now c.as_slice.result.now c.requires.rows.1 (omega arith)
-    (c.as_slice.ensures ∙ c.in_ok-entries.ensures.value)
+window_start-requires-clause-few c = search (rules, entries_few)
 
 pub returns-in_default-clause-value : goal.returns-in_default-clause-value
-returns-in_default-clause-value c =
-    let a = c.requires.cells.0 in
-    alcove_equal c.args.k c.args.n c.args.shape.now c.as_slice.result.now (omega arith)
-    c.requires.rows.0 c.in_ok-entries.ensures.limits
-    (c.as_slice.ensures ∙ c.in_ok-entries.ensures.value)
-    c.in_default.ensures
+returns-in_default-clause-value c = search (rules, alcove_equal)
 
 pub raised_entries-requires : goal.raised_entries-requires
 raised_entries-requires c =
@@ -59,11 +49,6 @@ from_beta-requires-clause-limits c =
     alcove_limits c.args.k c.args.n c.in-Some.start c.args.shape.now c.as_slice.result.now
     c.as_slice-3.result.now c.in_ok-sorted.sorted.is_odd (omega arith) (omega arith)
     c.requires.rows.0 c.in_ok-entries.ensures.limits w
-
-pub returns-in_default-clause-remainders : goal.returns-in_default-clause-remainders
-returns-in_default-clause-remainders c =
-    ap (λ b. has_equal_entries (remainders c.args.n b))
-    (sym (c.as_slice.ensures ∙ c.in_ok-entries.ensures.value)) ∙ c.in_default.ensures
 
 pub returns-clause-value : goal.returns-clause-value
 returns-clause-value c =

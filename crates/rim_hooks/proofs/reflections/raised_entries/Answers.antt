@@ -1,10 +1,9 @@
-use Rattle.std.proofs.Common.{refl, arith}
+use Rattle.std.proofs.Common.{rules}
 use Rattle.rim_hooks.proofs.AlcoveFacts.{raised_start, raised_step, raised_end}
 use Rattle.rim_hooks.proofs.reflections.raised_entries.Goals as goal
 
 pub loop-at-init : goal.loop-at-init
-loop-at-init c = raised_start c.args.n c.args.start c.args.entries.now c.new-sorted.result _ refl
-    c.new-sorted.ensures
+loop-at-init c = search (rules, raised_start)
 
 pub loop-at-preserved : goal.loop-at-preserved
 loop-at-preserved c =
@@ -14,5 +13,4 @@ loop-at-preserved c =
     c.loop-at.invariant
 
 pub returns : goal.returns
-returns c = raised_end c.args.n c.args.start c.args.entries.now c.loop-at.sorted c.loop-at.at
-    (let h = c.loop-at-test.false in omega arith) c.loop-at.invariant
+returns c = search (rules, raised_end)

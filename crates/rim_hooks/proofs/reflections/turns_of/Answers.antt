@@ -1,12 +1,11 @@
-use Rattle.std.proofs.Common.{◌+◌, ◌-◌, get_or, refl, sym, arith, subst, set, drop}
+use Rattle.std.proofs.Common.{◌+◌, ◌-◌, get_or, sym, arith, subst, set, drop, rules}
 use Rattle.rim_hooks.specs.Turns.{AreTurned}
 use Rattle.rim_hooks.proofs.AlcoveFacts.{turned_start, turned_step, turned_equal, turned_end}
 use Rattle.rim_hooks.proofs.AlcoveFacts.{turned_bound}
 use Rattle.rim_hooks.proofs.reflections.turns_of.Goals as goal
 
 pub loop-at-init : goal.loop-at-init
-loop-at-init c = turned_start c.args.n c.args.entries.now c.no_counts-counts.result _
-    c.requires.cells.1 refl c.no_counts-counts.ensures
+loop-at-init c = search (rules, turned_start)
 
 pub returns-then-counts-place-gt0 : goal.returns-then-counts-place-gt0
 returns-then-counts-place-gt0 c =
@@ -16,13 +15,7 @@ returns-then-counts-place-gt0 c =
     c.if-counts-place-gt0.true c.loop-at.invariant
 
 pub overflow_add-turns : goal.overflow_add-turns
-overflow_add-turns c =
-    let f = c.type_inv.entries (c.loop-at.at - 1) in
-    let b = turned_bound c.args.n c.args.entries.now c.loop-at.counts c.loop-at.at c.loop-at.turns
-    (get_or c.args.entries.now (c.loop-at.at - 1) 0) c.requires.few (omega (arith, f))
-    c.loop-at.invariant in
-    let e = c.from-turns.ensures in
-    omega (arith, b, e)
+overflow_add-turns c = search (rules, turned_bound)
 
 pub loop-at-preserved : goal.loop-at-preserved
 loop-at-preserved c =

@@ -1,4 +1,4 @@
-use Rattle.std.proofs.Common.{◌+◌, ◌*◌, ◌-◌, ◌/◌, ◌%◌, length, get_or, sym, ◌∙◌, ap, subst, arith}
+use Rattle.std.proofs.Common.{◌+◌, ◌*◌, ◌-◌, ◌/◌, ◌%◌, length, get_or, sym, ◌∙◌, ap, subst, arith, rules}
 use Rattle.rim_hooks.proofs.AlcoveFacts.{Window, window_init, window_once, window_step, window_low}
 use Rattle.rim_hooks.proofs.AlcoveFacts.{size_fits}
 use Rattle.rim_hooks.proofs.reflections.window_start.Goals as goal
@@ -13,14 +13,7 @@ loop-left-init c =
     c.in_ok-counts.field-0.turns (omega arith) c.requires.few.0 c.in_ok-counts.ensures)
 
 pub overflow_sub-left : goal.overflow_sub-left
-overflow_sub-left c =
-    let h = c.requires.cells.0 in
-    let o = window_once c.args.n c.args.entries.now c.in_ok-counts.field-0.counts
-    c.in_ok-counts.field-0.turns c.loop-left.start (omega arith) c.in_ok-counts.ensures in
-    let e = c.from-left.ensures ∙ ap (λ m. get_or c.in_ok-counts.field-0.counts
-    (c.loop-left.start % m) 0) c.from-modulus.ensures in
-    let p = c.loop-left-test.true in
-    omega (arith, o, e, p)
+overflow_sub-left c = search (rules, window_once)
 
 pub overflow_add-start : goal.overflow_add-start
 overflow_add-start c =

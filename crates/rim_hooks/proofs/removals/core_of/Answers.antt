@@ -1,4 +1,4 @@
-use Rattle.std.proofs.Common.{◌≡◌, ◌+◌, ◌-◌, ◌*◌, ◌/◌, sym, ◌∙◌, ap, ap₂, arith, to_z, of_z, w8}
+use Rattle.std.proofs.Common.{◌≡◌, ◌+◌, ◌-◌, ◌*◌, ◌/◌, sym, ◌∙◌, ap, ap₂, arith, to_z, of_z, w8, rules}
 use Rattle.std.proofs.Common.{Some, None, ℕ}
 use Rattle.sym_model.specs.Partition.{size}
 use Rattle.sym_model.specs.PlaceOrders.{minus_one_to}
@@ -8,9 +8,7 @@ use Rattle.rim_hooks.proofs.CoreFacts.{core_smaller, core_none, core_some, core_
 use Rattle.rim_hooks.proofs.removals.core_of.Goals as goal
 
 pub lowest_entries-requires-clause-strict : goal.lowest_entries-requires-clause-strict
-lowest_entries-requires-clause-strict c =
-    entries_strict c.args.k c.args.shape.now c.as_slice.result.now c.size-cells.ensures.limits
-    (c.as_slice.ensures ∙ c.in_ok-entries.ensures.value)
+lowest_entries-requires-clause-strict c = search (rules, entries_strict)
 
 pub from_beta-requires-clause-few : goal.from_beta-requires-clause-few
 from_beta-requires-clause-few c =
@@ -130,19 +128,7 @@ returns-clause-only c =
     c.size-cells.ensures.limits some
 
 pub returns-then-from-clause-remainders : goal.returns-then-from-clause-remainders
-returns-then-from-clause-remainders c =
-    let w = holds c.args.k c.args.n c.args.shape.now c.as_slice.result.now c.as_slice-2.result.now
-    c.in_ok-lowest.lowest (c.as_slice.ensures ∙ c.in_ok-entries.ensures.value)
-    c.in_ok-lowest.ensures c.as_slice-2.ensures in
-    let a = c.requires.cells.0 in
-    let p = c.part.ensures.value in
-    let x = c.from.ensures in
-    let y = c.from-2.ensures in
-    let z = c.from-3.ensures in
-    let t = c.if-from.true in
-    let none = core_none c.args.k c.args.n c.args.shape.now c.as_slice-2.result.now c.in_ok-end.end
-    c.in_ok-lowest.lowest.is_odd w c.in_ok-end.ensures.value (omega arith) in
-    sym none
+returns-then-from-clause-remainders c = search (rules, holds, core_none)
 
 pub returns-clause-remainders : goal.returns-clause-remainders
 returns-clause-remainders c =

@@ -1,4 +1,4 @@
-use Rattle.std.proofs.Common.{Iter, ◌≡◌, ℕ, List, [], ◌∷◌, ◌++◌, map, refl, sym, ap, subst, ℤ, ◌∙◌}
+use Rattle.std.proofs.Common.{Iter, ◌≡◌, ℕ, List, [], ◌∷◌, ◌++◌, map, sym, ap, subst, ℤ, rules}
 use Rattle.std.specs.Prelude.{Err}
 use Rattle.std.proofs.lemmas.List.{map-append}
 use Rattle.sym_model.specs.Sum.{Among}
@@ -12,22 +12,10 @@ use Rattle.rim_hooks.proofs.ReducedProducts.{label_small, reductions_append}
 use Rattle.rim_hooks.proofs.steps.add_reductions.Goals as goal
 
 pub loop-shape-init : goal.loop-shape-init
-loop-shape-init g c = record {
-  gains = gains_none c.args.sums.now;
-  table = c.requires.table;
-  so_far = refl;
-}
+loop-shape-init g c = search (rules, gains_none)
 
 pub add_reduced-requires-clause-rows : goal.add_reduced-requires-clause-rows
-add_reduced-requires-clause-rows g c =
-    let done = map (λ item. item.now) c.loop-shape.yielded in
-    let p : List ℕ × ℤ = c.in-Some.field-0.now in
-    let rest = c.next.new.self.rest.now in
-    let all = all_pairs done rest c.loop-shape.shape-iterator.rest.now _ _ c.args.terms.now p
-    c.in-Some.ensures.steps c.loop-shape.invariant.so_far
-    (ap (λ (it : Iter (List ℕ × ℤ)). it.rest.now)
-    c.into_iter-shape-iterator.ensures.into_iter_gives) c.iter-shape-items.ensures.rest in
-    c.requires.rows p (subst (λ l. Among p l) all (next_among done p rest))
+add_reduced-requires-clause-rows g c = search (rules, all_pairs, next_among)
 
 pub add_reduced-requires-clause-size : goal.add_reduced-requires-clause-size
 add_reduced-requires-clause-size g c =
@@ -79,12 +67,4 @@ returns-in_err-add_reduced-clause-large g c err =
     (ap Err (error_is _ _ _ c.from_residual.ensures.1 err))))
 
 pub returns-clause-gains : goal.returns-clause-gains
-returns-clause-gains g c =
-    subst (λ l. Gains c.args.sums.now
-    (scaled c.args.c (replaced (g.R.Reduction.reduced c.args.rule.now c.args.label.now) l))
-    c.loop-shape.sums)
-    (all_read (map (λ item. item.now) c.loop-shape.yielded) c.loop-shape.shape-iterator.rest.now _
-    c.in-None.ensures.steps.0 (c.loop-shape.invariant.so_far
-    ∙ (ap (λ (it : Iter (List ℕ × ℤ)). it.rest.now)
-    c.into_iter-shape-iterator.ensures.into_iter_gives) ∙ c.iter-shape-items.ensures.rest))
-    c.loop-shape.invariant.gains
+returns-clause-gains g c = search (rules, all_read)

@@ -4,7 +4,7 @@ use Rattle.linear_combinations.specs.Entries.{IsCombination}
 use Rattle.linear_combinations.specs.Gains.{Gains, replaced, scaled}
 use Rattle.rim_hooks.proofs.steps.add_reductions.Given as goal
 
--- `sums` is the table before the loop plus c times the reductions of the terms visited so far
+-- `sums` is its value before the loop plus c times the reductions of the terms visited so far
 abbrev pub invariant-loop-shape : goal.invariant-loop-shape
 invariant-loop-shape g l = record {
   gains : Gains l.fn.sums (scaled l.c (replaced (g.R.Reduction.reduced l.rule l.label) (map (λ item. item.now) l.yielded))) l.sums;

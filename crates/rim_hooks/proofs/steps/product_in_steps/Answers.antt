@@ -1,12 +1,10 @@
-use Rattle.std.proofs.Common.{◌+◌, ◌*◌, ◌^◌, ◌≤◌, [], ◌∷◌, drop, refl, sym, ap, ◌∙◌, subst, inl}
+use Rattle.std.proofs.Common.{◌+◌, ◌*◌, ◌^◌, ◌≤◌, [], ◌∷◌, drop, refl, sym, ap, ◌∙◌, subst, inl, rules}
 use Rattle.std.proofs.Common.{inr, arith, pos}
 use Rattle.std.specs.Prelude.{Err, nat_abs}
 use Rattle.std.proofs.lemmas.List.{drop_all}
-use Rattle.coeff_rings.specs.Fractions.{whole}
 use Rattle.partitions.specs.FactorList.{cells_of}
 use Rattle.sym_model.specs.Partition.{rows, size}
 use Rattle.sym_model.specs.ReductionSteps.{LeadsTo, StepsLead, classical_weight, step_weight}
-use Rattle.linear_combinations.specs.Entries.{IsCombination}
 use Rattle.linear_combinations.specs.Gains.{Gains, scaled}
 use Rattle.linear_combinations.proofs.Masses.{over_same}
 use Rattle.linear_combinations.proofs.Steps.{error_is, IsCombination-empty}
@@ -43,9 +41,7 @@ add_reduced_product-requires-clause-nonzero g c =
     let e = ap nat_abs c.one.ensures.one in omega arith
 
 pub add_reduced_product-requires-clause-table : goal.add_reduced_product-requires-clause-table
-add_reduced_product-requires-clause-table g c =
-    subst (IsCombination g.L.PartialEq.eq g.L.Label.is_label whole) (sym c.new-terms.ensures)
-    (IsCombination-empty g.L.PartialEq.eq g.L.Label.is_label whole)
+add_reduced_product-requires-clause-table g c = search (rules, IsCombination-empty)
 
 pub returns-in_err-add_reduced_product-clause-large
     : goal.returns-in_err-add_reduced_product-clause-large
@@ -139,9 +135,7 @@ times_factor-requires-clause-room g c t m =
     (r.0, omega arith)
 
 pub times_factor-requires-clause-few : goal.times_factor-requires-clause-few
-times_factor-requires-clause-few g c =
-    few_at (g.R.Reduction.variables c.args.rule.now) c.args.factors.now c.loop-at.at
-    c.factor_at-in-loop-at.result.now c.factor_at-in-loop-at.ensures c.requires.few
+times_factor-requires-clause-few g c = search (rules, few_at)
 
 pub returns-in_err-next-clause-large : goal.returns-in_err-next-clause-large
 returns-in_err-next-clause-large g c err =

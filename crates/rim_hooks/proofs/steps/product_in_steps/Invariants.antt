@@ -8,7 +8,8 @@ use Rattle.rim_hooks.specs.HeavySteps.{HasHeavyStep}
 use Rattle.rim_hooks.specs.Reductions.{HaveRoom, IsHeavyFrom}
 use Rattle.rim_hooks.proofs.steps.product_in_steps.Given as goal
 
--- `terms` results from the steps through the factors before the index `at`, and its labels have room for the cells of the other factors
+-- `terms` results from the steps through the factors before the index `at`; the number of cells of each of its labels, plus the number of cells of
+-- the other factors, is at most 4096 (`HaveRoom`)
 abbrev pub invariant-loop-at : goal.invariant-loop-at
 invariant-loop-at g l = record {
   table : IsCombination g.L.PartialEq.eq g.L.Label.is_label whole l.terms;

@@ -1,10 +1,8 @@
-use Rattle.std.proofs.Common.{◌≡◌, [], ◌∷◌, ◌++◌, append-nil, map, refl, sym, ap, subst, ◌∙◌}
+use Rattle.std.proofs.Common.{◌≡◌, [], ◌∷◌, ◌++◌, append-nil, map, sym, ap, subst, rules}
 use Rattle.std.specs.Prelude.{Err}
 use Rattle.std.specs.Map.Iter.{deref_pair}
 use Rattle.std.proofs.lemmas.List.{map-append}
-use Rattle.coeff_rings.specs.Fractions.{whole}
 use Rattle.sym_model.specs.Sum.{Among}
-use Rattle.linear_combinations.specs.Entries.{IsCombination}
 use Rattle.linear_combinations.specs.Gains.{Gains, scaled}
 use Rattle.linear_combinations.proofs.Gains.{gains_none, pairs_gain, all_pairs, so_far_next}
 use Rattle.linear_combinations.proofs.Gains.{next_among, replaced_append}
@@ -14,12 +12,7 @@ use Rattle.rim_hooks.proofs.ReducedProducts.{counted, heavy_step}
 use Rattle.rim_hooks.proofs.steps.times_factor.Goals as goal
 
 pub loop-label-init : goal.loop-label-init
-loop-label-init g c = record {
-  gains = subst (Gains [] []) (sym c.new-sums.ensures) (gains_none []);
-  table = subst (IsCombination g.L.PartialEq.eq g.L.Label.is_label whole) (sym c.new-sums.ensures)
-      (IsCombination-empty g.L.PartialEq.eq g.L.Label.is_label whole);
-  so_far = refl;
-}
+loop-label-init g c = search (rules, gains_none, IsCombination-empty)
 
 pub add_reduced_product-requires-clause-cells : goal.add_reduced_product-requires-clause-cells
 add_reduced_product-requires-clause-cells g c =
@@ -92,10 +85,4 @@ returns-in_err-add_reduced_product-clause-large g c err =
     (ap Err (error_is _ _ _ c.from_residual.ensures.1 err)))
 
 pub returns-clause-gains : goal.returns-clause-gains
-returns-clause-gains g c =
-    subst (λ l. Gains [] (multiplied (g.R.Reduction.variables c.args.rule.now) g.R.Reduction.shape
-    (g.R.Reduction.reduced c.args.rule.now) c.args.factor.now l) c.loop-label.sums)
-    (all_done (map deref_pair c.loop-label.yielded) c.loop-label.label-iterator _ _
-    c.in-None.ensures.steps.0 c.loop-label.invariant.so_far
-    (c.into_iter-label-iterator.ensures.into_iter_gives ∙ c.iter-label-items.ensures.rest))
-    c.loop-label.invariant.gains
+returns-clause-gains g c = search (rules, all_done)

@@ -1,4 +1,4 @@
-use Rattle.schubert_laws.proofs.DifferencesFromOne.{divided_respects, divided-plus, divided-scale}
+use Rattle.schubert_laws.proofs.DifferencesFromOne.{divided_respects, divided-scale}
 use Rattle.schubert_laws.proofs.DifferencesFromOne.{divided_square, divided_commute, divided_braid}
 use Rattle.schubert_laws.proofs.DifferencesFromOne.{In_divided, divided-times, divided_quotient}
 use Rattle.schubert_laws.proofs.difference_laws.divided_difference_law.Goals as goal
@@ -11,9 +11,6 @@ returns-clause-quotient c = divided_quotient
 
 pub returns-clause-respects : goal.returns-clause-respects
 returns-clause-respects c = divided_respects
-
-pub returns-clause-plus : goal.returns-clause-plus
-returns-clause-plus c = divided-plus
 
 pub returns-clause-scale : goal.returns-clause-scale
 returns-clause-scale c = divided-scale

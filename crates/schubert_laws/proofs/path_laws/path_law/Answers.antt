@@ -1,11 +1,8 @@
 use Rattle.schubert_laws.proofs.Paths.{over_step, any_descent}
 use Rattle.schubert_laws.proofs.Dominant.{dominant}
 use Rattle.schubert_laws.proofs.FixedLetters.{In_schubert}
-use Rattle.schubert_laws.proofs.PathsFromOne.{top, descent_from_one, fixed_letter, fixed_letter_in}
+use Rattle.schubert_laws.proofs.PathsFromOne.{descent_from_one, fixed_letter, fixed_letter_in}
 use Rattle.schubert_laws.proofs.path_laws.path_law.Goals as goal
-
-pub returns-clause-top : goal.returns-clause-top
-returns-clause-top c = top
 
 pub returns-clause-step : goal.returns-clause-step
 returns-clause-step c = over_step

@@ -1,23 +1,13 @@
-use Rattle.std.proofs.Common.{◌+◌, ◌++◌, List, ℕ, sym, ap, ◌∙◌, arith}
+use Rattle.std.proofs.Common.{◌+◌, ◌++◌, List, ℕ, sym, ap, ◌∙◌, arith, rules}
 use Rattle.skew_shapes.specs.AddedHooks.{hooks_ending_after}
 use Rattle.skew_shapes.proofs.AddedShapes.{begins_next, ending_next, ending_none, ending_one}
 use Rattle.skew_shapes.proofs.hooks_added.find_next.Goals as goal
 
 pub first_passed-hook-requires-clause-begins : goal.first_passed-hook-requires-clause-begins
-first_passed-hook-requires-clause-begins c =
-    begins_next c.args.k c.args.inner.now c.loop-hook.hook.first c.loop-hook.hook.last
-    c.requires.falls c.loop-hook.invariant.0
+first_passed-hook-requires-clause-begins c = search (rules, begins_next)
 
 pub returns-then-can_be_added-clause-found : goal.returns-then-can_be_added-clause-found
-returns-then-can_be_added-clause-found c =
-    c.loop-hook.invariant.2 ∙ ending_next c.args.k c.args.inner.now c.loop-hook.hook.last
-    (omega arith)
-    ∙ ap (λ (l : List (List ℕ)). l ++ hooks_ending_after c.args.k c.args.inner.now
-    (c.loop-hook.hook.last + 1))
-    (ending_one c.args.k c.args.inner.now c.first_passed-hook.result (c.loop-hook.hook.last + 1)
-    c.requires.falls c.first_passed-hook.ensures.begins.counts
-    c.first_passed-hook.ensures.within
-    (sym c.can_be_added.ensures ∙ c.if-can_be_added.true))
+returns-then-can_be_added-clause-found c = search (rules, ending_next, ending_one)
 
 pub loop-hook-preserved : goal.loop-hook-preserved
 loop-hook-preserved c = (

@@ -1,4 +1,4 @@
-use Rattle.std.proofs.Common.{◌≡◌, ◌+◌, ◌-◌, ◌≤◌, ◌++◌, [], ◌∷◌, List, ℕ, get_or, take, drop}
+use Rattle.std.proofs.Common.{◌≡◌, ◌+◌, ◌-◌, ◌≤◌, ◌++◌, [], ◌∷◌, List, ℕ, get_or, take, drop, rules}
 use Rattle.std.proofs.Common.{length, map, subst, sym, ap, ◌∙◌, arith, append_assoc, append-nil}
 use Rattle.std.proofs.Common.{refl, flat_map}
 use Rattle.std.proofs.lemmas.List.{take_at}
@@ -12,8 +12,7 @@ use Rattle.skew_shapes.proofs.horizontal_strips.+add_strips.Goals as goal
 
 falls_rows : (a b : ℕ) (below inner : List ℕ) → b ∷ below ≡ inner → Falls (a ∷ inner) →
     (b ≤ a) × Falls (b ∷ below)
-falls_rows a b below inner e f = let g : Falls (a ∷ b ∷ below) = subst (λ l. Falls (a ∷ l))
-    (sym e) f in g
+falls_rows a b below inner e f = search rules
 
 pub loop-shorter-init : goal.loop-shorter-init
 loop-shorter-init t c = record { same = refl; listed = sym (append-nil c.args.shapes.now.items) }

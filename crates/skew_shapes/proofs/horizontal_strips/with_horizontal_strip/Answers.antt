@@ -1,26 +1,14 @@
-use Rattle.std.proofs.Common.{◌≡◌, ◌+◌, ◌++◌, ◌∷◌, List, ℕ, map, subst, sym, ap₂, ◌∙◌}
-use Rattle.sym_model.specs.Partition.{part, Falls}
-use Rattle.sym_model.specs.Sum.{Among}
-use Rattle.partitions.specs.Limits.{IsWithinLimits}
+use Rattle.std.proofs.Common.{◌≡◌, ◌+◌, ◌++◌, List, ℕ, map, subst, sym, ap₂, ◌∙◌, rules}
+use Rattle.sym_model.specs.Partition.{part}
 use Rattle.skew_shapes.specs.HorizontalStrips.{strips_on, AreHorizontalStrips}
 use Rattle.skew_shapes.proofs.StripLists.{grown_limits, most_falls, horizontal_strips, map_rest}
 use Rattle.skew_shapes.proofs.horizontal_strips.with_horizontal_strip.Goals as goal
 
 pub add_strips-requires-clause-falls : goal.add_strips-requires-clause-falls
-add_strips-requires-clause-falls c =
-    subst (λ n. Falls ((n + c.args.k) ∷ c.parts.result.now)) (sym c.part.ensures.value)
-    (subst (λ l. Falls ((part c.args.inner.now 1 + c.args.k) ∷ l)) (sym c.parts.ensures.value)
-    (most_falls c.args.inner.now c.args.k c.parts.ensures.limits.partition))
+add_strips-requires-clause-falls c = search (rules, most_falls)
 
 pub add_strips-requires-clause-limits : goal.add_strips-requires-clause-limits
-add_strips-requires-clause-limits c rest m =
-    subst (λ (above : List ℕ). IsWithinLimits (above ++ rest)) (sym c.in_ok-above.ensures.items)
-    (grown_limits c.args.inner.now c.args.k c.parts.ensures.limits.partition c.requires.cells
-    c.requires.rows rest
-    (subst (λ n. Among rest (strips_on (n + c.args.k) c.args.k c.args.inner.now))
-    c.part.ensures.value
-    (subst (λ l. Among rest (strips_on (c.part.result + c.args.k) c.args.k l)) c.parts.ensures.value
-    m)))
+add_strips-requires-clause-limits c rest m = search (rules, grown_limits)
 
 pub returns : goal.returns
 returns c =

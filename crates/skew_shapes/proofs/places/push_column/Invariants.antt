@@ -1,4 +1,4 @@
--- Loop invariant: the numbers of the cells of this column in the rows visited so far have been appended.
+-- Loop invariant: the numbers of the cells of column `column` in the rows visited so far have been appended.
 use Rattle.std.proofs.Common.{◌≡◌, ℕ, ◌++◌, map}
 use Rattle.skew_shapes.specs.Rows.{number_in, cells_above}
 use Rattle.skew_shapes.proofs.places.push_column.Given as goal

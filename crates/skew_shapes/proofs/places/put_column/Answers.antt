@@ -1,4 +1,4 @@
-use Rattle.std.proofs.Common.{◌≡◌, ℕ, true, false, ◌+◌, ◌-◌, ◌≤◌, ◌++◌, List, [], ◌∷◌, length, drop}
+use Rattle.std.proofs.Common.{◌≡◌, ℕ, true, false, ◌+◌, ◌-◌, ◌≤◌, ◌++◌, List, [], ◌∷◌, length, drop, rules}
 use Rattle.std.proofs.Common.{get_or, ap, sym, subst, ◌∙◌, arith, refl, Some, None}
 use Rattle.std.specs.List.{slice_get}
 use Rattle.std.proofs.Math.ListN.{set}
@@ -10,23 +10,11 @@ use Rattle.skew_shapes.proofs.CellReadings.{letters-passed, right-more}
 use Rattle.skew_shapes.proofs.places.put_column.Goals as goal
 use Rattle.std.proofs.lemmas.Option.{get_or_from_slice_get}
 
--- if row k + 1 has a cell in column j, the list of the cells right of column j and of the cells of column j in the first k + 1 rows has one cell more
--- than the list for the first k rows
 more_done :
     (outer inner : List ℕ) (j k : ℕ) → reaches outer inner j (k + 1) ≡ true
     → length (cells_right_of outer inner j ++ cells_above outer inner j (k + 1))
     ≡ length (cells_right_of outer inner j ++ cells_above outer inner j k) + 1
-more_done outer inner j k r =
-    let right = cells_right_of outer inner j in
-    let above = cells_above outer inner j k in
-    ap (λ l. length (right ++ l)) (above-reached outer inner j k r)
-    ∙ omega (
-      arith,
-      length-append right (above ++ (k + 1, j) ∷ []),
-      length-append above
-          ((k + 1, j) ∷ []),
-      length-append right above,
-    )
+more_done outer inner j k r = search (rules, above-reached, length-append)
 
 first_letter : (w : List ℕ) (n x : ℕ) → slice_get (drop n w) 0 ≡ Some x → x ≡ get_or w n 0
 first_letter w n x e =
@@ -46,22 +34,7 @@ drop_past w n m h l =
     ∙ sym (nil_from_length (drop m w) (omega (arith, length-drop m w)))
 
 pub loop-row-preserved-then-not-has_cell : goal.loop-row-preserved-then-not-has_cell
-loop-row-preserved-then-not-has_cell c =
-    let outer = c.args.outer.now in
-    let inner = c.args.inner.now in
-    let passes : reaches c.args.outer.now c.args.inner.now c.args.column (c.loop-row.row + 1)
-    ≡ false =
-    sym c.has_cell.ensures ∙ c.if-not-has_cell.true in
-    record {
-      rest =
-          c.loop-row.invariant.rest
-          ∙ ap (λ l. drop (length (cells_right_of outer inner c.args.column ++ l)) c.args.word.now)
-          (sym (above-passed outer inner c.args.column c.loop-row.row passes));
-      letters =
-          letters-passed c.args.starts.now c.loop-row.numbers outer inner c.args.word.now
-          c.args.column c.loop-row.row passes
-          c.loop-row.invariant.letters;
-    }
+loop-row-preserved-then-not-has_cell c = search (rules, above-passed, letters-passed)
 
 pub loop-row-preserved-in_default : goal.loop-row-preserved-in_default
 loop-row-preserved-in_default c =
@@ -118,27 +91,14 @@ loop-row-preserved c =
           (sym c.place.ensures) put;
     }
 
--- if k is the number of rows of outer, the cells right of column j, followed by those of column j in the first k rows, are the cells right of column
--- j - 1
 all_rows :
     (outer inner : List ℕ) (j k : ℕ) → 1 ≤ j → j ≤ columns outer → k ≡ length outer
     → cells_right_of outer inner j ++ cells_above outer inner j k ≡ cells_right_of outer inner
     (j - 1)
-all_rows outer inner j k h l e =
-    ap (λ n. cells_right_of outer inner j ++ cells_above outer inner j n) e
-    ∙ sym (right-more outer inner j h l)
+all_rows outer inner j k h l e = search (rules, right-more)
 
 pub returns-clause-rest : goal.returns-clause-rest
-returns-clause-rest c =
-    c.loop-row.invariant.rest
-    ∙ ap (λ l. drop (length l) c.args.word.now)
-    (all_rows c.args.outer.now c.args.inner.now c.args.column c.loop-row.row c.requires.column.0
-    c.requires.column.1 (omega arith))
+returns-clause-rest c = search (rules, all_rows)
 
 pub returns-clause-letters : goal.returns-clause-letters
-returns-clause-letters c =
-    subst (λ l. HoldsLetters c.args.starts.now c.loop-row.numbers c.args.outer.now c.args.inner.now
-    l c.args.word.now)
-    (all_rows c.args.outer.now c.args.inner.now c.args.column c.loop-row.row c.requires.column.0
-    c.requires.column.1 (omega arith))
-    c.loop-row.invariant.letters
+returns-clause-letters c = search (rules, all_rows)

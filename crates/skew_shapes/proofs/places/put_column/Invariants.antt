@@ -1,4 +1,5 @@
--- Loop invariant: the letters of the word are in the cells of the columns right of this one, and of this column in the rows visited so far.
+-- Loop invariant: the letters of the word are in the cells of the columns right of column `column`, and in the cells of this column in the rows
+-- visited so far.
 use Rattle.std.proofs.Common.{◌≡◌, ◌++◌, length, drop}
 use Rattle.skew_shapes.specs.Rows.{HoldsLetters, cells_above, cells_right_of}
 use Rattle.skew_shapes.proofs.places.put_column.Given as goal

@@ -1,4 +1,4 @@
-use Rattle.std.proofs.Common.{◌≡◌, [], ◌∷◌, ◌++◌, length, take, get_or, ap, ◌∙◌, inl, inr, arith}
+use Rattle.std.proofs.Common.{◌≡◌, [], ◌∷◌, ◌++◌, length, take, get_or, ap, ◌∙◌, inl, inr, arith, rules}
 use Rattle.std.proofs.Common.{length-append}
 use Rattle.std.proofs.lemmas.Bool.{cases_lt}
 use Rattle.std.proofs.Math.Seq.{get_or-append_seam}
@@ -9,13 +9,7 @@ use Rattle.skew_shapes.proofs.KeptRows.{places-from, size-take-within}
 use Rattle.skew_shapes.proofs.places.row_starts.Goals as goal
 
 pub overflow_add-start : goal.overflow_add-start
-overflow_add-start c =
-    omega (
-      arith,
-      size-take-within c.args.lengths.now c.loop-length.length-index (omega arith),
-      c.loop-length.invariant.sum,
-      c.requires,
-    )
+overflow_add-start c = search (rules, size-take-within)
 
 pub loop-length-preserved : goal.loop-length-preserved
 loop-length-preserved c =

@@ -1,7 +1,6 @@
-use Rattle.std.proofs.Common.{◌≡◌, ℕ, ◌==◌, ◌+◌, List, length, ap, sym, subst, ◌∙◌, arith}
+use Rattle.std.proofs.Common.{◌≡◌, ℕ, ◌==◌, ◌+◌, List, length, ap, sym, subst, ◌∙◌, arith, rules}
 use Rattle.std.proofs.lemmas.Bool.{eq-eqb, ne_eqb}
-use Rattle.sym_model.specs.Partition.{size, after}
-use Rattle.sym_model.specs.GoodTableau.{every}
+use Rattle.sym_model.specs.Partition.{size}
 use Rattle.sym_model.specs.Schur.{letters_of, times_in}
 use Rattle.skew_shapes.proofs.RowOrder.{every_after-more, every_after-fails}
 use Rattle.skew_shapes.proofs.StandardNumbers.{straight-letters}
@@ -23,21 +22,7 @@ returns-then-times-ne1 c =
     c.if-times-ne1.true))
 
 pub loop-number-preserved : goal.loop-number-preserved
-loop-number-preserved c =
-    let test = λ (k : ℕ). times_in k (letters_of c.args.t.now.rows) == 1 in
-    let place : 0 + c.loop-number.number + 1 ≡ c.loop-number.number + 1 = omega arith in
-    every_after-more test 0 c.loop-number.number c.loop-number.invariant
-    (ap test place ∙ ap (λ n. n == 1) (sym c.times.ensures) ∙ eq-eqb c.times.result 1
-    c.if-times-ne1.false)
+loop-number-preserved c = search (rules, every_after-more, eq-eqb)
 
 pub returns : goal.returns
-returns c =
-    let t = c.args.t.now in
-    let test = λ (k : ℕ). times_in k (letters_of c.args.t.now.rows) == 1 in
-    let all = straight-letters t c.shape.ensures.tableau c.requires in
-    let cells : c.cells-number-end.result + size c.args.t.now.inner ≡ size c.args.t.now.outer =
-    subst (λ (s : List ℕ × List ℕ). c.cells-number-end.result + size s.1 ≡ size s.0)
-    c.shape.ensures.value c.cells-number-end.ensures.sizes in
-    let whole : c.loop-number.number ≡ length (letters_of c.args.t.now.rows) =
-    omega (arith, ap size c.requires) in
-    sym (ap (λ n. every test (after 0 n)) (sym whole) ∙ c.loop-number.invariant)
+returns c = search (rules, straight-letters)

@@ -1,4 +1,4 @@
-use Rattle.std.proofs.Common.{◌≡◌, ◌+◌, ◌-◌, ◌≤◌, ◌++◌, [], ◌∷◌, List, ℕ, get_or, take, drop}
+use Rattle.std.proofs.Common.{◌≡◌, ◌+◌, ◌-◌, ◌≤◌, ◌++◌, [], ◌∷◌, List, ℕ, get_or, take, drop, rules}
 use Rattle.std.proofs.Common.{length, map, subst, sym, ap, ◌∙◌, arith, append_assoc, append-nil}
 use Rattle.std.proofs.Common.{refl, flat_map}
 use Rattle.std.proofs.lemmas.List.{take_at}
@@ -14,8 +14,7 @@ use Rattle.skew_shapes.proofs.vertical_strips.+add_strips.Goals as goal
 
 falls_rows : (a b c : ℕ) (below inner : List ℕ) → b ∷ below ≡ inner → Falls (a ∷ inner) → b ≤ c →
     (b ≤ a) × Falls (c ∷ below)
-falls_rows a b c below inner e f l = let g : Falls (a ∷ b ∷ below) = subst (λ l. Falls (a ∷ l))
-    (sym e) f in (g.0, falls_more b c below l g.1)
+falls_rows a b c below inner e f l = search (rules, falls_more)
 
 pub loop-shorter-init : goal.loop-shorter-init
 loop-shorter-init t c = record { same = refl; listed = sym (append-nil c.args.shapes.now.items) }

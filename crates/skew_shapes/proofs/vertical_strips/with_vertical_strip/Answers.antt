@@ -1,25 +1,15 @@
-use Rattle.std.proofs.Common.{◌≡◌, ◌+◌, ◌++◌, ◌∷◌, List, ℕ, map, subst, sym, ap₂, ◌∙◌}
-use Rattle.sym_model.specs.Partition.{part, Falls}
-use Rattle.sym_model.specs.Sum.{Among}
-use Rattle.partitions.specs.Limits.{IsWithinLimits}
+use Rattle.std.proofs.Common.{◌≡◌, ◌+◌, ◌++◌, List, ℕ, map, subst, sym, ap₂, ◌∙◌, rules}
+use Rattle.sym_model.specs.Partition.{part}
 use Rattle.skew_shapes.proofs.StripLists.{map_rest}
 use Rattle.skew_shapes.specs.VerticalStrips.{vertical_on, AreVerticalStrips}
 use Rattle.skew_shapes.proofs.ShapeLists.{widened_limits, first_falls, vertical_strips}
 use Rattle.skew_shapes.proofs.vertical_strips.with_vertical_strip.Goals as goal
 
 pub add_strips-requires-clause-falls : goal.add_strips-requires-clause-falls
-add_strips-requires-clause-falls c =
-    subst (λ n. Falls ((n + 1) ∷ c.parts.result.now)) (sym c.part.ensures.value)
-    (subst (λ l. Falls ((part c.args.inner.now 1 + 1) ∷ l)) (sym c.parts.ensures.value)
-    (first_falls c.args.inner.now c.parts.ensures.limits.partition))
+add_strips-requires-clause-falls c = search (rules, first_falls)
 
 pub add_strips-requires-clause-limits : goal.add_strips-requires-clause-limits
-add_strips-requires-clause-limits c rest m =
-    subst (λ (above : List ℕ). IsWithinLimits (above ++ rest)) (sym c.in_ok-above.ensures.items)
-    (widened_limits c.args.inner.now c.args.k c.parts.ensures.limits.partition c.requires.cells
-    c.requires.rows rest
-    (subst (λ n. Among rest (vertical_on (n + 1) c.args.k c.args.inner.now)) c.part.ensures.value
-    (subst (λ l. Among rest (vertical_on (c.part.result + 1) c.args.k l)) c.parts.ensures.value m)))
+add_strips-requires-clause-limits c rest m = search (rules, widened_limits)
 
 pub returns : goal.returns
 returns c =

@@ -1,7 +1,7 @@
-use Rattle.std.proofs.Common.{◌+◌, List, subst}
+use Rattle.std.proofs.Common.{◌+◌, List, subst, rules}
 use Rattle.sym_model.specs.Partition.{size}
 use Rattle.sparse_polys.specs.declared.search.Counted.{Counted}
-use Rattle.sparse_polys.specs.MonomialProducts.{AreSmall, HasLarge}
+use Rattle.sparse_polys.specs.MonomialProducts.{HasLarge}
 use Rattle.sparse_polys.proofs.ExactCounts.{large_ways, exact_counts}
 use Rattle.sparse_polys.proofs.counts.exact_product.Goals as goal
 
@@ -14,9 +14,4 @@ returns-then-too_large-clause-large c e =
     (c.too_large.ensures.large c.if-too_large.true))
 
 pub returns-clause-counts : goal.returns-clause-counts
-returns-clause-counts c ν p =
-    exact_counts c.args.left.now c.args.right.now c.in_ok-terms.terms.items ν
-    c.in_ok-terms.ensures.each
-    (subst (λ (l : List Counted). AreSmall l) c.as_slice.ensures.value
-    (c.too_large.ensures.small c.if-too_large.false))
-    (c.in_ok-terms.ensures.counts ν p)
+returns-clause-counts c ν p = search (rules, exact_counts)

@@ -1,20 +1,16 @@
-use Rattle.std.proofs.Common.{◌≡◌, ℕ, ◌+◌, ◌*◌, ◌^◌, ◌<◌, ◌≤◌, List, take, drop, suc, ◌∙◌, ap}
-use Rattle.std.proofs.Common.{subst, arith, ◌*ℤ◌, sym}
+use Rattle.std.proofs.Common.{◌+◌, ◌*◌, take, drop, suc, ◌∙◌, ap, rules}
+use Rattle.std.proofs.Common.{subst, ◌*ℤ◌}
 use Rattle.std.specs.Prelude.{Err}
 use Rattle.std.proofs.lemmas.List.{take_all}
 use Rattle.std.specs.Prelude.{nat_eq}
 use Rattle.std.specs.Cmp.Lexicographic.{pointwise}
 use Rattle.sym_model.specs.Canonical.{is_label}
-use Rattle.sym_model.specs.Partition.{IsPartition, size}
 use Rattle.sym_model.proofs.SortedParts.{rows_within_size}
 use Rattle.coeff_rings.specs.Fractions.{scaled}
 use Rattle.linear_combinations.specs.Gains.{scaled as multiple}
 use Rattle.sparse_polys.proofs.Steps.{error_is}
-use Rattle.monomial_laws.specs.MonomialProduct.{arrangements}
 use Rattle.sparse_polys.specs.Combination.{terms_of}
-use Rattle.sparse_polys.specs.declared.search.Counted.{Counted}
-use Rattle.sparse_polys.specs.Search.{AreCounted}
-use Rattle.sparse_polys.specs.MonomialProducts.{product_terms, AreSmall}
+use Rattle.sparse_polys.specs.MonomialProducts.{product_terms}
 use Rattle.linear_combinations.specs.Cleared.{GainsCleared, OverflowsCleared}
 use Rattle.sparse_polys.proofs.Accumulating.{Overflows-many}
 use Rattle.linear_combinations.proofs.Cleared.{Gains-none, Gains-next, Overflows-next}
@@ -25,60 +21,16 @@ use Rattle.sym_model.proofs.Lists.{take-read, split-read}
 use Rattle.sparse_polys.proofs.expansion_products.add_pair.Goals as goal
 use Rattle.sym_model.proofs.Sums.{Among-get_or}
 
-pub exact_product-requires : goal.exact_product-requires
-exact_product-requires g c =
-    let a = ap size c.parts.ensures.value in
-    let b = ap size c.parts-2.ensures.value in
-    record {
-      left = subst (λ l. IsPartition l) (sym c.parts.ensures.value)
-          c.parts.ensures.limits.partition;
-      right = subst (λ l. IsPartition l) (sym c.parts-2.ensures.value)
-          c.parts-2.ensures.limits.partition;
-      sizes = omega (arith, c.requires.sizes);
-    }
-
 pub returns-in_err-terms-clause-large : goal.returns-in_err-terms-clause-large
 returns-in_err-terms-clause-large g c err d e h small a b cleared =
-    Overflows-many d e (g.R.Scalar.value c.args.left) (g.R.Scalar.value c.args.right)
-    (terms_of g.R.Scalar.value c.args.sum.now)
-    c.args.label.now c.args.other.now a b
-    (subst (λ l. (ν : List ℕ) × IsPartition ν × (2 ^ 127 ≤ arrangements l c.args.other.now ν))
-    c.parts.ensures.value
-    (subst (λ l. (ν : List ℕ) × IsPartition ν × (2 ^ 127 ≤ arrangements c.parts.result.now l ν))
-    c.parts-2.ensures.value
-    (c.in_err-terms.ensures.large (ap Err (error_is _ _ _ c.from_residual.ensures.1 err)))))
+    search (rules, Overflows-many, error_is)
 
 pub loop-term-init : goal.loop-term-init
 loop-term-init g c d e h cleared =
     Gains-none (d * e) (terms_of g.R.Scalar.value c.args.sum.now) cleared
 
 pub add_count-requires : goal.add_count-requires
-add_count-requires g c =
-    let t = c.term-item.result in
-    let m = Among-get_or c.as_slice-entries.result.now c.loop-term.term-index t c.loop-term-test.true c.term-item.is in
-    let p =
-    all_among (λ (u : Counted). IsPartition u.parts.items
-    × (size u.parts.items ≡ size c.parts.result.now + size c.parts-2.result.now))
-    c.as_slice-entries.result.now t
-    (subst (λ (l : List Counted). AreCounted (size c.parts.result.now + size c.parts-2.result.now)
-    l) (sym c.as_slice-entries.ensures.value) c.in_ok-terms.ensures.labels) m in
-    let s =
-    all_among (λ (u : Counted). u.count < 2 ^ 127) c.as_slice-entries.result.now t
-    (subst (λ (l : List Counted). AreSmall l) (sym c.as_slice-entries.ensures.value)
-    c.in_ok-terms.ensures.small) m in
-    let a = ap size c.parts.ensures.value in
-    let b = ap size c.parts-2.ensures.value in
-    let r = rows_within_size t.parts.items p.0.positive in
-    let q = p.1 in
-    record {
-      limits = record {
-        partition = p.0;
-        few = omega (arith, c.requires.sizes);
-        small =
-            omega (arith, c.requires.sizes);
-      };
-      small = s;
-    }
+add_count-requires g c = search (rules, Among-get_or, all_among, rows_within_size)
 
 pub loop-term-preserved : goal.loop-term-preserved
 loop-term-preserved g c d e h cleared =

@@ -1,4 +1,4 @@
--- All numbers from the index `len` on are zeros.
+-- The invariant of the loop: all numbers from the index `len` on are zeros.
 use Rattle.std.proofs.Common.{◌≡◌, ◌≤◌, length, take}
 use Rattle.sym_model.specs.Partition.{without_last_zeros}
 use Rattle.sparse_polys.proofs.monomial.numbers_before_zeros.Given as goal

@@ -1,8 +1,6 @@
-use Rattle.std.proofs.Common.{◌≡◌, ℕ, zero, suc, ◌+◌, ◌<◌, List, [], ◌∷◌, ◌++◌, length, get_or, set}
+use Rattle.std.proofs.Common.{◌≡◌, ℕ, zero, suc, ◌+◌, [], ◌∷◌, ◌++◌, length, rules}
 use Rattle.std.proofs.Common.{refl, ap, ◌∙◌, inr, arith, append_assoc}
-use Rattle.sym_model.specs.Partition.{size}
 use Rattle.sym_model.proofs.Parts.{get_or-le-size}
-use Rattle.sparse_polys.specs.Raised.{raised}
 use Rattle.sparse_polys.proofs.Raising.{set-raised, refilled}
 use Rattle.std.proofs.lemmas.List.{length-set, length-append}
 use Rattle.sym_model.specs.Polynomial.{no_exponents}
@@ -31,25 +29,7 @@ loop-exponents-preserved c =
     )
 
 pub add_one-requires-clause-small : goal.add_one-requires-clause-small
-add_one-requires-clause-small c =
-    let inv = c.loop-exponents.invariant in
-    let items = c.loop-exponents.exponents.items in
-    let small = get_or-le-size items c.args.at in
-    let same : size items ≡ size c.args.exponents.now.items = ap size inv.1 ∙ size-padded c.args.exponents.now.items inv.0 in
-    let e : get_or c.as_mut_slice.result.now c.args.at 0 ≡ get_or items c.args.at 0 =
-    ap (λ x. get_or x c.args.at 0) c.as_mut_slice.ensures.value in
-    omega arith
+add_one-requires-clause-small c = search (rules, get_or-le-size, size-padded)
 
 pub returns : goal.returns
-returns c =
-    let inv = c.loop-exponents.invariant in
-    let items = c.loop-exponents.exponents.items in
-    let within : c.args.at < length items = omega arith in
-    let value = c.as_mut_slice.ensures.value in
-    let new : c.add_one.new.numbers ≡ raised (c.args.at + 1) c.args.exponents.now.items =
-    c.add_one.ensures ∙ ap (λ (x : List ℕ). set x c.args.at (get_or x c.args.at 0 + 1)) value
-    ∙ set-raised inv.0 c.args.at c.args.exponents.now.items items inv.1 inv.2 within in
-    let same : length c.add_one.new.numbers ≡ length items =
-    ap length c.add_one.ensures ∙ length-set c.as_mut_slice.result.now c.args.at
-    (get_or c.as_mut_slice.result.now c.args.at 0 + 1) ∙ ap length value in
-    refilled items c.add_one.new.numbers same ∙ new
+returns c = search (rules, set-raised, length-set, refilled)

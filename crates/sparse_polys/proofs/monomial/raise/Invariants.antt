@@ -1,4 +1,4 @@
--- The exponents are the old ones with zeros appended.
+-- The invariant of the loop: the exponents are the old ones with zeros appended.
 use Rattle.std.proofs.Common.{◌≡◌, ℕ, ◌+◌, ◌-◌, ◌≤◌, ◌++◌, ◌⊎◌, length}
 use Rattle.std.specs.Prelude.{replicate}
 use Rattle.sparse_polys.proofs.monomial.raise.Given as goal

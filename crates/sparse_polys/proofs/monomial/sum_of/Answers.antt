@@ -1,10 +1,6 @@
-use Rattle.std.proofs.Common.{arith}
+use Rattle.std.proofs.Common.{rules}
 use Rattle.partitions.proofs.Parts.{size-take_more}
 use Rattle.sparse_polys.proofs.monomial.sum_of.Goals as goal
 
 pub loop-number-preserved : goal.loop-number-preserved
-loop-number-preserved c =
-    let i = c.loop-number.number-index in
-    let more = size-take_more c.args.numbers.now i (omega arith) in
-    let small = c.type_inv.numbers i in
-    (omega arith, omega arith)
+loop-number-preserved c = search (rules, size-take_more)

@@ -1,4 +1,4 @@
--- `sum` is the sum of the numbers visited so far, and is at most 65535 times the number of them.
+-- The invariant of the loop: `sum` is the sum of the numbers visited so far, and is at most 65535 times the number of them.
 use Rattle.std.proofs.Common.{◌≡◌, ◌≤◌, ◌*◌, take}
 use Rattle.sym_model.specs.Partition.{size}
 use Rattle.sparse_polys.proofs.monomial.sum_of.Given as goal

@@ -1,7 +1,6 @@
-use Rattle.std.proofs.Common.{refl, ap, ◌∙◌}
+use Rattle.std.proofs.Common.{refl, ap, ◌∙◌, rules}
 use Rattle.std.specs.Prelude.{Err, nat_eq}
 use Rattle.std.specs.Cmp.Lexicographic.{pointwise}
-use Rattle.sym_model.specs.LabelLimits.{is_monomial_label}
 use Rattle.linear_combinations.specs.Entries.{coefficient}
 use Rattle.sparse_polys.proofs.Steps.{fits-zero_left}
 use Rattle.sparse_polys.proofs.ValueLists.{coefficient_values, combination_values, more_values}
@@ -25,21 +24,13 @@ returns-in-Ok-clause-more g c =
     c.add_term.new.self c.in-Ok.ensures.ok
 
 pub returns-in-Ok-clause-was : goal.returns-in-Ok-clause-was
-returns-in-Ok-clause-was g c =
-    combination_values g.R.Scalar.value (pointwise nat_eq) is_monomial_label
-    c.args.sum.now c.add_term.ensures.tables.before.combination
+returns-in-Ok-clause-was g c = search (rules, combination_values)
 
 pub returns-in-Ok-clause-combination : goal.returns-in-Ok-clause-combination
-returns-in-Ok-clause-combination g c =
-    combination_values g.R.Scalar.value (pointwise nat_eq) is_monomial_label
-    c.add_term.new.self c.add_term.ensures.tables.after.combination
+returns-in-Ok-clause-combination g c = search (rules, combination_values)
 
 pub returns-in-Err-NoMemory-clause-was : goal.returns-in-Err-NoMemory-clause-was
-returns-in-Err-NoMemory-clause-was g c =
-    combination_values g.R.Scalar.value (pointwise nat_eq) is_monomial_label
-    c.args.sum.now c.add_term.ensures.tables.before.combination
+returns-in-Err-NoMemory-clause-was g c = search (rules, combination_values)
 
 pub returns-in-Err-NoMemory-clause-combination : goal.returns-in-Err-NoMemory-clause-combination
-returns-in-Err-NoMemory-clause-combination g c =
-    combination_values g.R.Scalar.value (pointwise nat_eq) is_monomial_label
-    c.add_term.new.self c.add_term.ensures.tables.after.combination
+returns-in-Err-NoMemory-clause-combination g c = search (rules, combination_values)

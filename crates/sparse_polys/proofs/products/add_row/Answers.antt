@@ -1,10 +1,9 @@
-use Rattle.std.proofs.Common.{◌≡◌, ℕ, ◌*◌, [], ◌∷◌, ◌++◌, List, map, sym, ◌∙◌, ap, subst, refl}
+use Rattle.std.proofs.Common.{◌≡◌, ◌*◌, [], ◌∷◌, ◌++◌, map, sym, ap, subst, refl, rules}
 use Rattle.std.specs.Prelude.{Err}
 use Rattle.std.specs.Map.Iter.{deref_pair}
 use Rattle.std.proofs.lemmas.List.{map-append}
 use Rattle.std.specs.Prelude.{nat_eq}
 use Rattle.std.specs.Cmp.Lexicographic.{pointwise}
-use Rattle.sym_model.specs.Expansion.{Terms}
 use Rattle.sym_model.specs.LabelLimits.{is_monomial_label}
 use Rattle.sym_model.specs.Polynomial.{Term, times}
 use Rattle.monomial_laws.specs.ExpressionTerms.{over}
@@ -18,11 +17,7 @@ use Rattle.sparse_polys.proofs.ListSteps.{row_pieces, list_whole, list_among, so
 use Rattle.sparse_polys.proofs.products.add_row.Goals as goal
 
 pub loop-monomial-init : goal.loop-monomial-init
-loop-monomial-init g c = record {
-  gains = λ d e den common cleared. Gains-none
-      (d * e) (terms_of g.R.Scalar.value c.args.sum.now) cleared;
-  so_far = refl;
-}
+loop-monomial-init g c = search (rules, Gains-none)
 
 pub add_product-requires : goal.add_product-requires
 add_product-requires g c =
@@ -100,17 +95,4 @@ returns-in_err-add_product-clause-large g c err d e den common small cleared =
     (den, denominator_among common (k, value v) here) small before.cleared))
 
 pub returns-clause-ok : goal.returns-clause-ok
-returns-clause-ok g c d e den common cleared =
-    let value = g.R.Scalar.value in
-    let done = map deref_pair c.loop-monomial.yielded in
-    let is : terms_of value done ≡ (terms_of value c.args.right.now) =
-    ap (terms_of value)
-    (all_done done c.loop-monomial.monomial-iterator _ _ c.in-None.ensures.steps.0
-    c.loop-monomial.invariant.so_far c.into_iter-monomial-iterator.ensures.into_iter_gives)
-    ∙ (ap (terms_of value) c.iter-monomial-items.ensures.rest) in
-    subst (λ (l : Terms (List ℕ)). GainsCleared (pointwise nat_eq) is_monomial_label (d * e)
-    (terms_of value c.args.sum.now)
-    (times ((c.args.left.now, scaled d (value c.args.a)) ∷ []) (over e l))
-    (terms_of value c.loop-monomial.sum))
-    is
-    (c.loop-monomial.invariant.gains d e den common cleared)
+returns-clause-ok g c d e den common cleared = search (rules, all_done)

@@ -1,11 +1,10 @@
-use Rattle.std.proofs.Common.{◌≡◌, ◌+◌, ◌-◌, ◌∷◌, ◌++◌, [], List, cond, length, min, ap, ◌∙◌, sym}
+use Rattle.std.proofs.Common.{◌≡◌, ◌+◌, ◌-◌, ◌∷◌, ◌++◌, [], List, min, ap, ◌∙◌, sym, rules}
 use Rattle.std.proofs.Common.{subst, arith, eqb-true}
-use Rattle.sym_model.specs.Polynomial.{same}
 use Rattle.sym_model.specs.Partition.{IsPartition, size}
 use Rattle.sparse_polys.specs.declared.states.State.{State}
 use Rattle.sparse_polys.specs.declared.search.Counted.{Counted}
-use Rattle.sparse_polys.specs.Ways.{capped, ways, AreStates}
-use Rattle.sparse_polys.specs.Search.{count_at, found, AreCounted, IsChosen, Counts, HaveCounts}
+use Rattle.sparse_polys.specs.Ways.{ways, AreStates}
+use Rattle.sparse_polys.specs.Search.{found, AreCounted, IsChosen, Counts, HaveCounts}
 use Rattle.sparse_polys.proofs.SearchWays.{found-nothing, found-none, found-end, found-step}
 use Rattle.sparse_polys.proofs.SearchWays.{found-min, count_at-append, counted-more}
 use Rattle.sparse_polys.proofs.SearchWays.{IsPartition-chosen, IsChosen-more, size-chosen}
@@ -14,27 +13,10 @@ use Rattle.sparse_polys.proofs.search.+extend.Goals as goal
 use Rattle.std.proofs.lemmas.List.{nil_from_length}
 
 pub returns-then-is_empty-clause-found : goal.returns-then-is_empty-clause-found
-returns-then-is_empty-clause-found t c ν =
-    let none : c.args.states.now ≡ [] = nil_from_length c.args.states.now (eqb-true (length c.args.states.now) 0 (sym c.if-is_empty.ensures)) in
-    let z = ap (λ (l : List State). found c.args.chosen.now c.args.largest l ν) none ∙ found-nothing
-    c.args.chosen.now c.args.largest ν in
-    omega arith
+returns-then-is_empty-clause-found t c ν = search (rules, nil_from_length, eqb-true, found-nothing)
 
 pub returns-then-left-eq0-clause-found : goal.returns-then-left-eq0-clause-found
-returns-then-left-eq0-clause-found t c ν =
-    let prefix = c.args.chosen.now in
-    let entry : Counted = record { parts = c.in_ok-parts.parts; count = c.ways_to_end-count.result }
-    in
-    let copied : c.in_ok-parts.parts.items ≡ prefix = c.in_ok-parts.ensures in
-    let e = found-end prefix c.args.largest c.args.states.now ν
-    (subst (λ k. AreStates k c.args.states.now) c.if-left-eq0.true c.requires.states) in
-    let one : count_at (entry ∷ []) ν ≡ cond (same prefix ν) (capped (ways c.args.states.now [])) 0
-    + 0 =
-    ap (λ l. cond (same l ν) c.ways_to_end-count.result 0 + 0) copied
-    ∙ ap (λ k. cond (same prefix ν) k 0 + 0) c.ways_to_end-count.ensures in
-    let a = ap (λ (l : List Counted). count_at l ν) c.in_ok-push.ensures.items ∙ count_at-append
-    c.args.out.now.items (entry ∷ []) ν in
-    omega arith
+returns-then-left-eq0-clause-found t c ν = search (rules, found-end, count_at-append)
 
 pub returns-then-left-eq0-clause-counted : goal.returns-then-left-eq0-clause-counted
 returns-then-left-eq0-clause-counted t c total sizes chosen counted =

@@ -1,4 +1,4 @@
--- No state visited so far has the remaining parts `left` and `right`.
+-- The invariant of the loop: no state visited so far has the remaining parts `left` and `right`.
 use Rattle.std.proofs.Common.{map, take}
 use Rattle.sym_model.specs.Sum.{Among}
 use Rattle.sparse_polys.specs.Ways.{labels_left}

@@ -1,4 +1,4 @@
-use Rattle.std.proofs.Common.{◌≤◌, ℕ, List, [], ◌∷◌, ap, arith, inl, inr, to_z-of_z, ℤ}
+use Rattle.std.proofs.Common.{◌≤◌, ℕ, List, [], ◌∷◌, ap, arith, inl, inr, to_z-of_z, ℤ, rules}
 use Rattle.sym_model.specs.Sum.{Among}
 use Rattle.sym_model.specs.Partition.{size}
 use Rattle.sym_model.specs.Polynomial.{Same}
@@ -7,12 +7,7 @@ use Rattle.sparse_polys.proofs.whole.single.Goals as goal
 use Rattle.sparse_polys.proofs.whole.single.Goals.{In_ok-add_term}
 
 is_single : (c : In_ok-add_term) → Same c.add_term.new.self ((c.args.parts.now, c.args.c) ∷ [])
-is_single c =
-    Same-single c.add_term.new.self c.args.parts.now c.args.c c.in_ok-add_term.ensures.tables.after.combination
-    (more_as c.new-list.result [] c.add_term.new.self c.in_ok-from_valid_parts.field-0
-    c.args.parts.now c.new.result c.args.c
-    c.new-list.ensures c.in_ok-from_valid_parts.ensures.ok
-    (rw (to_z-of_z c.ranges.c) at c.new.ensures) c.in_ok-add_term.ensures.ok)
+is_single c = search (rules, Same-single, more_as, to_z-of_z)
 
 pub returns-clause-value : goal.returns-clause-value
 returns-clause-value c = is_single c

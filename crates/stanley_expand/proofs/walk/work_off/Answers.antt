@@ -19,7 +19,6 @@ pub add_shape-requires-clause-limits : goal.add_shape-requires-clause-limits
 add_shape-requires-clause-limits c = shape_limits c.args.rows c.args.perm.now c.requires.few
     c.requires.waiting.rising
 
--- if the transition rule has no places (r, s) for the permutation, or r is at most m = `rows`, there is no descent after place m
 small : (c : goal.After-add_shape) → last_descent_place c.args.perm.now ≤ c.args.rows
 small c = elim c.match-transition_places.branch [
   | in-Some+else-r-rows w ↦ let h = w.if-r-rows.false in let d = ap (λ t. unwrap_or t 0)

@@ -1,3 +1,4 @@
+use Rattle.std.proofs.Common.{rules}
 use Rattle.sym_model.proofs.Signs.{even_sign}
 use Rattle.coeff_rings.proofs.CheckedResults.{negated_number}
 use Rattle.strip_rules.proofs.bead_hooks.turned.Goals as goal
@@ -6,5 +7,4 @@ pub returns-then-times-eq0 : goal.returns-then-times-eq0
 returns-then-times-eq0 c = even_sign c.args.times c.args.c c.if-times-eq0.true
 
 pub returns-else-times-eq0 : goal.returns-else-times-eq0
-returns-else-times-eq0 c = negated_number c.args.times c.args.c c.neg.result c.neg.ensures.negation
-    c.if-times-eq0.false
+returns-else-times-eq0 c = search (rules, negated_number)

@@ -1,6 +1,5 @@
-use Rattle.std.proofs.Common.{◌≡◌, ◌-◌, ◌^◌, ◌<◌, ◌++◌, ◌∷◌, [], ℕ, List, sym, ap, ap₂, ◌∙◌, subst, arith, Err, append_assoc, append-nil}
-use Rattle.std.specs.Prelude.{nat_eq}
-use Rattle.linear_combinations.specs.Gains.{Gains, Overflows, scaled}
+use Rattle.std.proofs.Common.{◌≡◌, ◌-◌, ◌^◌, ◌<◌, ◌++◌, ◌∷◌, [], ℕ, List, sym, ap, ap₂, ◌∙◌, subst, arith, append_assoc, append-nil, rules}
+use Rattle.linear_combinations.specs.Gains.{Gains, scaled}
 use Rattle.linear_combinations.proofs.Gains.{gains_none}
 use Rattle.linear_combinations.proofs.Steps.{error_is}
 use Rattle.beta_sets.specs.BetaSets.{numbers}
@@ -11,30 +10,19 @@ use Rattle.strip_rules.proofs.bead_strips.+add_cells.Goals as goal
 use Rattle.std.proofs.lemmas.Result.{on_ok_weaker}
 
 pub returns-then-left-eq0-clause-gains : goal.returns-then-left-eq0-clause-gains
-returns-then-left-eq0-clause-gains t c =
-    on_ok_weaker c.add_owned.result (subst (λ l. Gains c.args.sum.now l c.add_owned.new.self)
-    (cells_none c.args.strip c.args.left c.args.bound c.args.set c.args.c c.if-left-eq0.true)) c.add_owned.ensures.gains
+returns-then-left-eq0-clause-gains t c = search (rules, on_ok_weaker, cells_none)
 
 pub returns-then-left-eq0-clause-large : goal.returns-then-left-eq0-clause-large
-returns-then-left-eq0-clause-large t c err =
-    subst (Overflows nat_eq c.args.sum.now)
-    (cells_none c.args.strip c.args.left c.args.bound c.args.set c.args.c c.if-left-eq0.true)
-    (c.add_owned.ensures.large err)
+returns-then-left-eq0-clause-large t c err = search (rules, cells_none)
 
 pub loop-place-init : goal.loop-place-init
 loop-place-init t c = ([], record { all = c.next_places-places.ensures; gains = gains_none c.args.sum.now })
 
 pub next_bound-next-requires : goal.next_bound-next-requires
-next_bound-next-requires t c =
-    let l = (bead_low c.args.strip c.args.bound c.args.left c.args.set c.loop-place.places c.in-Some.place c.loop-place.invariant.0
-    c.requires.few c.requires.low c.in-Some.ensures c.loop-place.invariant.1.all).0 in
-    omega arith
+next_bound-next-requires t c = search (rules, bead_low)
 
 pub raised_at-requires-clause-room : goal.raised_at-requires-clause-room
-raised_at-requires-clause-room t c =
-    word_room c.args.left c.args.set c.in-Some.place c.requires.few c.requires.low
-    (bead_low c.args.strip c.args.bound c.args.left c.args.set c.loop-place.places c.in-Some.place c.loop-place.invariant.0
-    c.requires.few c.requires.low c.in-Some.ensures c.loop-place.invariant.1.all).1
+raised_at-requires-clause-room t c = search (rules, word_room, bead_low)
 
 pub add_cells-requires : goal.add_cells-requires
 add_cells-requires t c =
@@ -76,21 +64,7 @@ loop-place-preserved t c =
     )
 
 pub returns-in_err-add_cells-clause-large : goal.returns-in_err-add_cells-clause-large
-returns-in_err-add_cells-clause-large t c err =
-    let b = c.in-Some.place in
-    let passed = c.loop-place.invariant.0 in
-    let inv = c.loop-place.invariant.1 in
-    let split : b ∷ numbers c.without-places.result ≡ numbers c.loop-place.places =
-    ap (λ s. b ∷ numbers s) c.without-places.ensures ∙ sym c.in-Some.ensures.numbers in
-    overflows_next c.args.strip c.args.left c.args.bound c.args.set b c.args.c passed (numbers c.without-places.result) c.args.sum.now c.loop-place.sum inv.gains
-    c.if-left-eq0.false (ap (λ (l : List ℕ). passed ++ l) split ∙ inv.all)
-    (subst (λ l. Overflows nat_eq c.loop-place.sum (scaled c.args.c (ones l)))
-    (ap₂ (λ n s. with_cells c.args.strip (c.args.left - 1) n s) c.next_bound-next.ensures c.raised_at.ensures)
-    (c.in_err-add_cells.ensures.large (ap Err (error_is _ _ _ c.from_residual.ensures.1 err))))
+returns-in_err-add_cells-clause-large t c err = search (rules, overflows_next, ones, error_is)
 
 pub returns-clause-gains : goal.returns-clause-gains
-returns-clause-gains t c =
-    let passed = c.loop-place.invariant.0 in
-    let inv = c.loop-place.invariant.1 in
-    gains_all c.args.strip c.args.left c.args.bound c.args.set c.args.c passed c.args.sum.now c.loop-place.sum c.if-left-eq0.false
-    (sym (append-nil passed) ∙ ap (λ (l : List ℕ). passed ++ l) (sym (ap numbers c.in_default.ensures ∙ numbers-none)) ∙ inv.all) inv.gains
+returns-clause-gains t c = search (rules, gains_all, append-nil, numbers-none)

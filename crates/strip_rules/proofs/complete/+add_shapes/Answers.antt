@@ -1,4 +1,4 @@
-use Rattle.std.proofs.Common.{ℕ, List, [], ◌∷◌, ◌+◌, ◌-◌, ◌≤◌, ◌++◌, max, length, drop, take, refl}
+use Rattle.std.proofs.Common.{ℕ, List, [], ◌∷◌, ◌+◌, ◌-◌, ◌≤◌, ◌++◌, length, drop, take, rules}
 use Rattle.std.proofs.Common.{sym, ap, ◌∙◌, subst, arith}
 use Rattle.std.proofs.lemmas.List.{take_at}
 use Rattle.sym_model.specs.Partition.{IsPartition, Falls, part, size}
@@ -12,23 +12,10 @@ use Rattle.sym_model.proofs.SortedParts.{Falls_first, Falls_below, IsPartition_b
 use Rattle.std.proofs.lemmas.Result.{on_ok_weaker}
 
 pub returns-then-left-eq0-clause-shapes : goal.returns-then-left-eq0-clause-shapes
-returns-then-left-eq0-clause-shapes t c =
-    on_ok_weaker c.add_shape.result (λ e. subst (λ (k : ℕ). HasAdded (AddsBelow c.args.most k c.args.inner.now)
-    c.args.above.now.items c.args.shapes.now.items c.add_shape.new.shapes.items)
-    (sym c.if-left-eq0.true)
-    (added-none c.args.most c.args.inner.now c.args.above.now.items c.args.shapes.now.items
-    c.add_shape.new.shapes.items c.requires.inner c.requires.falls e)) c.add_shape.ensures.shapes
+returns-then-left-eq0-clause-shapes t c = search (rules, on_ok_weaker, added-none)
 
 pub loop-row-init : goal.loop-row-init
-loop-row-init t c =
-    let some = c.if-left-eq0.false in
-    record {
-      same = refl;
-      added =
-          rows-none c.args.most c.args.left c.args.inner.now c.args.above.now.items c.max-row.result
-          c.args.shapes.now.items (omega arith)
-          (c.max-row.ensures ∙ ap (λ (n : ℕ). max n 1) c.first_and_below-first.ensures.first);
-    }
+loop-row-init t c = search (rules, rows-none)
 
 pub add_shapes-requires : goal.add_shapes-requires
 add_shapes-requires t c =

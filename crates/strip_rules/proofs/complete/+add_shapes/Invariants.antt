@@ -6,7 +6,7 @@ use Rattle.strip_rules.proofs.complete.+add_shapes.Given as goal
 abbrev pub decreases-add_shapes : goal.decreases-add_shapes
 decreases-add_shapes l = length l.inner.now + l.left
 
--- the partitions whose first row after `above` is shorter than `row` have been appended to `shapes`
+-- of the partitions to be listed, those in which the rows of `above` are followed by a row shorter than `row` have been appended to `shapes`
 abbrev pub invariant-loop-row : goal.invariant-loop-row
 invariant-loop-row l = record {
   same : l.above.items ≡ l.fn.above.items;

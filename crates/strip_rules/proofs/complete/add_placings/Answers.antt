@@ -1,8 +1,7 @@
-use Rattle.std.proofs.Common.{◌≡◌, ◌∷◌, [], List, ℕ, ℤ, pos, ◌*ℤ◌, refl, sym, ap}
-use Rattle.std.proofs.Common.{◌∙◌, subst, arith}
+use Rattle.std.proofs.Common.{◌≡◌, ◌∷◌, [], List, ℕ, ℤ, pos, ◌*ℤ◌, refl, ap, rules}
+use Rattle.std.proofs.Common.{subst, arith}
 use Rattle.std.specs.Prelude.{Err, nat_eq}
 use Rattle.std.specs.Cmp.Lexicographic.{pointwise, nat_list_eq_equiv}
-use Rattle.sym_model.specs.Partition.{Holds}
 use Rattle.sym_model.proofs.Sums.{Among-get_or}
 use Rattle.strip_rules.specs.StripProduct.{placings}
 use Rattle.linear_combinations.specs.Gains.{Gains, Overflows, scaled}
@@ -17,19 +16,13 @@ use Rattle.strip_rules.proofs.complete.add_placings.Goals as goal
 
 term : (μ ν inner shape : List ℕ) (c z : ℤ) → inner ≡ μ → shape ≡ ν →
     z ≡ c *ℤ pos (placings inner shape) → z ≡ c *ℤ pos (placings μ ν)
-term μ ν inner shape c z e f h = h ∙ ap (λ (l : List ℕ). c *ℤ pos (placings l shape)) e
-    ∙ ap (λ (l : List ℕ). c *ℤ pos (placings μ l)) f
+term μ ν inner shape c z e f h = search rules
 
 pub loop-shape-init : goal.loop-shape-init
 loop-shape-init c = gains_none c.args.sum.now
 
 pub times_placings-requires-clause-contained : goal.times_placings-requires-clause-contained
-times_placings-requires-clause-contained c =
-    let m = Among-get_or c.args.shapes.now c.loop-shape.shape-index c.shape-item.result
-    (omega arith) c.shape-item.is in
-    subst (λ (l : List ℕ). Holds l c.parts.result.now) (sym c.parts-in-loop-shape.ensures.value)
-    (subst (Holds c.shape-item.result) (sym c.parts.ensures.value)
-    (c.requires c.shape-item.result m))
+times_placings-requires-clause-contained c = search (rules, Among-get_or)
 
 pub returns-in_err-product-clause-large : goal.returns-in_err-product-clause-large
 returns-in_err-product-clause-large c = λ large.
@@ -76,7 +69,4 @@ loop-shape-preserved c =
     c.in_ok-add_at_label.ensures.gains)
 
 pub returns-clause-gains : goal.returns-clause-gains
-returns-clause-gains c =
-    subst (λ (l : List (List ℕ)). Gains c.args.sum.now
-    (scaled c.args.c (with_placings c.args.label.now l)) c.loop-shape.sum)
-    (take_all c.loop-shape.shape-index c.args.shapes.now (omega arith)) c.loop-shape.invariant
+returns-clause-gains c = search (rules, take_all)

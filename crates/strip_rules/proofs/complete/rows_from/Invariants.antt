@@ -1,4 +1,4 @@
--- The rows visited so far have a length of at least v.
+-- Loop invariant of the function `rows_from`, which counts the rows of length at least v: the rows visited so far have such a length.
 use Rattle.std.proofs.Common.{◌-◌, ◌≤◌, length}
 use Rattle.sym_model.specs.Conjugate.{count_from}
 use Rattle.strip_rules.proofs.complete.rows_from.Given as goal

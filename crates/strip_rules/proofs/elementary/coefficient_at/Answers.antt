@@ -1,4 +1,4 @@
-use Rattle.std.proofs.Common.{◌≡◌, ℕ, suc, ◌+◌, ◌<◌, List, length, get_or}
+use Rattle.std.proofs.Common.{◌≡◌, ℕ, suc, ◌+◌, ◌<◌, List, length, get_or, rules}
 use Rattle.std.proofs.Common.{sym, ◌∙◌, ap, ap₂, subst, arith}
 use Rattle.strip_rules.proofs.ColumnRows.{IsRow, IsCounted, so_far, counted-none}
 use Rattle.strip_rules.proofs.ColumnRows.{fraction, row_raised, row_kept, next_shorter, next_same}
@@ -81,10 +81,4 @@ returns-in_err-count c = λ k e.
     rw c.from_residual.ensures (omega (arith, large, r, a))
 
 pub returns : goal.returns
-returns c = λ k e.
-    let last : c.loop-at.at ≡ length c.args.outer.now =
-    omega (arith, ap length c.parts-rows.ensures.value) in
-    c.loop-at.invariant.count_is
-    ∙ ap (so_far c.args.inner.now c.args.outer.now) last
-    ∙ at_end c.args.inner.now c.args.outer.now c.parts-shorter.ensures.limits.partition
-    c.parts-rows.ensures.limits.partition c.requires k e
+returns c = search (rules, so_far, at_end)

@@ -1,4 +1,4 @@
-use Rattle.std.proofs.Common.{◌-◌, length, get_or, take, drop, ap, arith}
+use Rattle.std.proofs.Common.{◌-◌, length, get_or, take, drop, ap, arith, rules}
 use Rattle.std.proofs.Math.Nat.{pow-le-pow_right}
 use Rattle.sym_model.specs.Bases.{power_sum_of, product_over}
 use Rattle.sym_model.specs.Partition.{size}
@@ -17,14 +17,7 @@ with_hooks-requires-clause-within t c =
     room_left (size rest) k c.in_ok-others.others (omega arith) c.in_ok-others.ensures.value.within
 
 pub with_hooks-requires-clause-mass : goal.with_hooks-requires-clause-mass
-with_hooks-requires-clause-mass t c =
-    let k = get_or c.args.parts.now 0 0 in
-    let rest = take (length c.args.parts.now - 1) (drop 1 c.args.parts.now) in
-    let s = ap size (split_first c.args.parts.now c.in-len1-up.len_at_least) in
-    let low = c.requires.low in
-    let few = c.in_ok-others.ensures.value.few in
-    let p = pow-le-pow_right {n = 20} (omega arith) {i = size rest} {j = 20 - k} (omega arith) in
-    omega arith
+with_hooks-requires-clause-mass t c = search (rules, split_first, pow-le-pow_right)
 
 pub returns-clause-value : goal.returns-clause-value
 returns-clause-value t c =

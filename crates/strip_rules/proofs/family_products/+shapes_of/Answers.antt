@@ -1,4 +1,4 @@
-use Rattle.std.proofs.Common.{◌-◌, length, get_or, take, arith}
+use Rattle.std.proofs.Common.{◌-◌, length, get_or, take, arith, rules}
 use Rattle.std.proofs.lemmas.List.{length-take-le}
 use Rattle.std.proofs.Math.Nat.{pow-le-pow_right}
 use Rattle.sym_model.specs.Bases.{product_over}
@@ -9,19 +9,10 @@ use Rattle.strip_rules.proofs.BeadSums.{room_left, more_parts, split_last, parts
 use Rattle.strip_rules.proofs.family_products.+shapes_of.Goals as goal
 
 pub shapes_of-requires : goal.shapes_of-requires
-shapes_of-requires t c =
-    let s = parts_sum c.args.parts.now c.in-len1-up.len_at_least in
-    let l = length-take-le (length c.args.parts.now - 1) c.args.parts.now (omega arith) in
-    let d = c.decreases in
-    let n = c.in-len1-up.len_at_least in
-    let low = c.requires in
-    (omega arith, omega arith)
+shapes_of-requires t c = search (rules, parts_sum, length-take-le)
 
 pub with_strips-requires-clause-few : goal.with_strips-requires-clause-few
-with_strips-requires-clause-few t c =
-    let s = parts_sum c.args.parts.now c.in-len1-up.len_at_least in
-    let low = c.requires in
-    omega arith
+with_strips-requires-clause-few t c = search (rules, parts_sum)
 
 pub with_strips-requires-clause-within : goal.with_strips-requires-clause-within
 with_strips-requires-clause-within t c =
@@ -31,13 +22,7 @@ with_strips-requires-clause-within t c =
     room_left (size (take n c.args.parts.now)) (get_or c.args.parts.now n 0) c.in_ok-others.others (omega arith) c.in_ok-others.ensures.value.within
 
 pub with_strips-requires-clause-mass : goal.with_strips-requires-clause-mass
-with_strips-requires-clause-mass t c =
-    let n = length c.args.parts.now - 1 in
-    let s = parts_sum c.args.parts.now c.in-len1-up.len_at_least in
-    let low = c.requires in
-    let few = c.in_ok-others.ensures.value.few in
-    let p = pow-le-pow_right {n = 20} (omega arith) {i = size (take n c.args.parts.now)} {j = 20 - get_or c.args.parts.now n 0} (omega arith) in
-    omega arith
+with_strips-requires-clause-mass t c = search (rules, parts_sum, pow-le-pow_right)
 
 pub returns-clause-value : goal.returns-clause-value
 returns-clause-value t c =

@@ -1,4 +1,4 @@
-use Rattle.std.proofs.Common.{List, ℕ, ap, subst, arith}
+use Rattle.std.proofs.Common.{List, ℕ, subst, rules}
 use Rattle.sym_model.specs.Bases.{power_sum_of, product_over}
 use Rattle.sym_model.specs.Expansion.{schurs, IsExpansionOf}
 use Rattle.sym_model.specs.Partition.{size}
@@ -7,11 +7,7 @@ use Rattle.strip_rules.proofs.BeadSums.{in_twenty, shapes_expansion}
 use Rattle.strip_rules.proofs.family_products.hooks_product.Goals as goal
 
 pub in_partitions-requires-clause-within : goal.in_partitions-requires-clause-within
-in_partitions-requires-clause-within c =
-    let s = ap size c.parts.ensures.value in
-    let low = c.requires in
-    in_twenty (size c.parts.result.now) c.in_ok-shapes.shapes (omega arith)
-    c.in_ok-shapes.ensures.value.within
+in_partitions-requires-clause-within c = search (rules, in_twenty)
 
 pub returns-clause-value : goal.returns-clause-value
 returns-clause-value c =

@@ -1,4 +1,4 @@
-use Rattle.std.proofs.Common.{◌≡◌, ℕ, ◌+◌, [], ◌∷◌, ◌++◌, List, map, sym, ◌∙◌, ap, subst, refl}
+use Rattle.std.proofs.Common.{◌≡◌, ℕ, ◌+◌, [], ◌∷◌, ◌++◌, List, map, sym, ◌∙◌, ap, subst, rules}
 use Rattle.std.specs.Prelude.{Err, nat_eq}
 use Rattle.std.specs.Cmp.Lexicographic.{pointwise}
 use Rattle.std.specs.Map.Iter.{deref_pair}
@@ -24,17 +24,7 @@ use Rattle.strip_rules.proofs.ListProducts.{values_within, entry_term, pair_here
 use Rattle.strip_rules.proofs.products.times_family.Goals as goal
 
 pub loop-label-init : goal.loop-label-init
-loop-label-init g c =
-    let value = g.R.Scalar.value in
-    let f = polynomial_of c.args.family c.args.k in
-    record {
-      sums =
-          λ q common.
-          subst (λ l. AddsList f c.args.k q (terms_of value c.args.list.now) [] (terms_of value l))
-          (sym c.new-sum.ensures)
-          (AddsList-none f c.args.k q (terms_of value c.args.list.now));
-      so_far = refl;
-    }
+loop-label-init g c = search (rules, AddsList-none)
 
 pub add_strips-requires-clause-partition : goal.add_strips-requires-clause-partition
 add_strips-requires-clause-partition g c =

@@ -17,10 +17,7 @@ use Rattle.strip_rules.proofs.shapes.add_shapes.Goals as goal
 use Rattle.sparse_polys.proofs.PartitionTerms.{listed_next}
 
 pub loop-shape-init : goal.loop-shape-init
-loop-shape-init g c = record {
-  so_far = search rules;
-  adds = λ q d cleared. Gains-none q (terms_of g.R.Scalar.value c.args.sum.now) cleared;
-}
+loop-shape-init g c = search (rules, Gains-none)
 
 pub loop-shape-preserved : goal.loop-shape-preserved
 loop-shape-preserved g c =

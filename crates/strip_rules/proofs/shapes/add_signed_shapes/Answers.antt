@@ -1,14 +1,12 @@
-use Rattle.std.proofs.Common.{ℕ, List, [], ◌∷◌, ◌++◌, ◌-◌, ◌∙◌, subst, ap, refl, Err, ℤ, arith}
+use Rattle.std.proofs.Common.{ℕ, List, [], ◌∷◌, ◌++◌, ◌-◌, ◌∙◌, subst, ap, refl, Err, ℤ, rules}
 use Rattle.std.specs.Prelude.{nat_eq}
 use Rattle.std.specs.Cmp.Lexicographic.{pointwise}
-use Rattle.sym_model.specs.Canonical.{is_label}
 use Rattle.sym_model.specs.PlaceOrders.{minus_one_to}
 use Rattle.sym_model.specs.Strip.{height}
 use Rattle.linear_combinations.specs.Entries.{coefficient, HasMoreAt, IsRefused}
 use Rattle.linear_combinations.proofs.Steps.{error_is, all_done}
 use Rattle.sparse_polys.specs.Combination.{terms_of}
 use Rattle.linear_combinations.proofs.Cleared.{Gains-none}
-use Rattle.linear_combinations.specs.Cleared.{GainsMultiple}
 use Rattle.strip_rules.specs.Adding.{IsSigned}
 use Rattle.strip_rules.proofs.ShapeLists.{among_next}
 use Rattle.strip_rules.proofs.Signs.{height_here}
@@ -16,7 +14,6 @@ use Rattle.strip_rules.proofs.TermsAdded.{Gains-shape, Overflows-shape, Gains-si
 use Rattle.strip_rules.proofs.TermsAdded.{Overflows-signed}
 use Rattle.strip_rules.proofs.TermsAdded.{Overflows-size}
 use Rattle.sym_model.proofs.Integers.{sign_size}
-use Rattle.linear_combinations.specs.Gains.{each_by}
 use Rattle.strip_rules.proofs.shapes.add_signed_shapes.Goals as goal
 use Rattle.sparse_polys.proofs.PartitionTerms.{listed_on, listed_next}
 
@@ -31,21 +28,10 @@ loop-alloc-init g c = (
 )
 
 pub from_valid_parts-requires : goal.from_valid_parts-requires
-from_valid_parts-requires g c =
-    let inv = c.loop-alloc.invariant in
-    let label = c.current.result.now in
-    c.requires.limits label
-    (among_next inv.0 _ _ label (listed_on inv.0 _ _ _ _ label inv.1.so_far c.advance.ensures.next c.current.ensures))
+from_valid_parts-requires g c = search (rules, among_next, listed_on)
 
 pub signed-requires-clause-height : goal.signed-requires-clause-height
-signed-requires-clause-height g c =
-    let inv = c.loop-alloc.invariant in
-    let label = c.current.result.now in
-    let on = listed_on inv.0 _ _ _ _ label inv.1.so_far c.advance.ensures.next c.current.ensures in
-    let high = height_here _ _ c.args.hooks.now.base label c.height.result c.height.ensures
-    c.current.ensures (c.advance.ensures.base ∙ inv.1.base) in
-    let some = c.requires.heights label (among_next inv.0 _ _ label on) in
-    omega arith
+signed-requires-clause-height g c = search (rules, listed_on, height_here, among_next)
 
 pub loop-alloc-preserved : goal.loop-alloc-preserved
 loop-alloc-preserved g c =
@@ -122,10 +108,4 @@ returns-in_err-signed-clause-large g c large =
     c.in_err-signed.ensures.large)
 
 pub returns-clause-ok : goal.returns-clause-ok
-returns-clause-ok g c =
-    let value = g.R.Scalar.value in
-    let inv = c.loop-alloc.invariant in
-    subst (λ l. GainsMultiple (pointwise nat_eq) is_label (value c.args.c)
-    (each_by (λ ν. minus_one_to (height ν c.args.hooks.now.base - 1)) l)
-    (terms_of value c.args.sum.now) (terms_of value c.loop-alloc.sum))
-    (all_done inv.0 _ _ _ c.loop-alloc-test.ensures.ended inv.1.so_far refl) inv.1.adds
+returns-clause-ok g c = search (rules, all_done)

@@ -1,4 +1,4 @@
-use Rattle.std.proofs.Common.{refl}
+use Rattle.std.proofs.Common.{refl, rules}
 use Rattle.sym_model.specs.PartitionList.{partitions_within}
 use Rattle.sym_model.proofs.PartitionLists.{partitions_of-tells, Among-partitions_of}
 use Rattle.sym_model.proofs.PartitionLists.{FallsLexicographically-partitions_within}
@@ -6,11 +6,7 @@ use Rattle.sym_model.proofs.PartitionLists.{Once-FallsLexicographically}
 use Rattle.sym_model.proofs.partition_lists.partitions_of_law.Goals as goal
 
 pub returns-clause-exactly : goal.returns-clause-exactly
-returns-clause-exactly c = λ d parts. (
-  partitions_of-tells d parts,
-  λ h. Among-partitions_of d parts
-      h.0 h.1,
-)
+returns-clause-exactly c = search (rules, partitions_of-tells, Among-partitions_of)
 
 pub returns-clause-once : goal.returns-clause-once
 returns-clause-once c = λ d. Once-FallsLexicographically _ (FallsLexicographically-partitions_within

@@ -1,5 +1,5 @@
 use Rattle.sym_model.proofs.Polynomials.{plus_respects, times_respects, scale_respects}
-use Rattle.sym_model.proofs.Polynomials.{restrict_respects, In_one, In_plus, In_times, In_negate}
+use Rattle.sym_model.proofs.Polynomials.{restrict_respects, In_plus, In_times, In_negate}
 use Rattle.sym_model.proofs.PolynomialLaws.{plus_comm, plus-negate, times_comm, times_assoc}
 use Rattle.sym_model.proofs.PolynomialLaws.{one-times, times-plus, scale-times, restrict-times}
 use Rattle.sym_model.proofs.PolynomialLaws.{restrict-one}
@@ -43,9 +43,6 @@ returns-clause-restrict_times c = restrict-times
 
 pub returns-clause-restrict_one : goal.returns-clause-restrict_one
 returns-clause-restrict_one c = restrict-one
-
-pub returns-clause-one_in : goal.returns-clause-one_in
-returns-clause-one_in c = In_one
 
 pub returns-clause-plus_in : goal.returns-clause-plus_in
 returns-clause-plus_in c = In_plus

@@ -1,4 +1,4 @@
--- Loop invariant: the sums written so far are the parts of the start, and the others are zeros.
+-- Loop invariant: the numbers written so far are the parts of the partition `start`, followed by zeros.
 use Rattle.std.proofs.Common.{◌≡◌, ℕ, ◌<◌, length, get_or}
 use Rattle.tableau_iter.proofs.board.start_sums.Given as goal
 

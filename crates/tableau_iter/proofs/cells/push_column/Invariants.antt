@@ -1,4 +1,5 @@
--- Loop invariant: the row numbers, or the column numbers, of the cells of this column in the rows visited so far have been appended.
+-- Loop invariant: for each row visited so far that has a cell in the given column, one number has been appended: the number of the row, or that of
+-- the column if column numbers are wanted.
 use Rattle.std.proofs.Common.{◌≡◌, ℕ, ◌++◌, cond, map}
 use Rattle.skew_shapes.specs.Rows.{cells_above}
 use Rattle.tableau_iter.proofs.cells.push_column.Given as goal

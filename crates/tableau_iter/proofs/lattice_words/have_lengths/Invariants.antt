@@ -1,4 +1,4 @@
--- Loop invariant: the rows visited so far have the lengths of those rows of outer/inner.
+-- Loop invariant: each row visited so far has the length of the row of outer/inner with the same index.
 use Rattle.std.proofs.Common.{◌≡◌, ℕ, ◌-◌, ◌<◌, map, length, get_or}
 use Rattle.tableau_iter.proofs.lattice_words.have_lengths.Given as goal
 

@@ -1,5 +1,4 @@
--- Loop invariant: for each index visited so far, the cell above that at this index is the cell at the index before it; `count` is the number of
--- indices visited.
+-- Loop invariant: the cell at each index visited so far is directly below the cell at the index before; `count` is the number of indices visited.
 use Rattle.std.proofs.Common.{◌≡◌, ◌+◌}
 use Rattle.tableau_iter.specs.Fits.{IsRun}
 use Rattle.tableau_iter.proofs.near.cells_below.Given as goal

@@ -1,4 +1,4 @@
--- Loop invariant: no index tried so far has the cell that is `down` rows above and `left` columns right of that at `place`.
+-- Loop invariant: no index tried so far has the cell that is `down` rows above and `left` columns right of the cell at `place`.
 use Rattle.std.proofs.Common.{◌≡◌, ℕ, ◌+◌, ◌<◌, ◌≤◌, ◌==◌, ◌&&◌, false, get_or}
 use Rattle.tableau_iter.proofs.near.earlier_place.Given as goal
 

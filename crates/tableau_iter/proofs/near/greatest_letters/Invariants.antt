@@ -1,4 +1,5 @@
--- Loop invariant: the list has the greatest letters (`IsGreatest`) for the indices visited so far.
+-- Loop invariant: for each index visited so far, the list has a bound for the letter at this index (`IsGreatest`): the greatest letter, decreased by
+-- a number of cells directly below in the same column.
 use Rattle.std.proofs.Common.{◌≡◌, ℕ, ◌<◌, length, get_or}
 use Rattle.tableau_iter.specs.Fits.{IsGreatest}
 use Rattle.tableau_iter.proofs.near.greatest_letters.Given as goal

@@ -1,4 +1,4 @@
--- Loop invariant: the numbers of the cells of this column in the rows visited so far have been appended.
+-- Loop invariant: for each row visited so far with a cell in the given column, the number in this cell has been appended.
 use Rattle.std.proofs.Common.{◌≡◌, ℕ, ◌++◌, map}
 use Rattle.skew_shapes.specs.Rows.{cells_above}
 use Rattle.tableau_iter.specs.ReadRows.{letter_in_rows}

@@ -1,4 +1,4 @@
--- Loop invariant: the numbers of the cells in the columns right of the current one have been appended.
+-- Loop invariant: the numbers in the cells of the columns right of the current one have been appended.
 use Rattle.std.proofs.Common.{◌≡◌, ◌≤◌, ℕ, ◌++◌, map}
 use Rattle.sym_model.specs.Partition.{columns}
 use Rattle.skew_shapes.specs.Rows.{cells_right_of}

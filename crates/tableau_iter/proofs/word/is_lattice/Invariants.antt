@@ -1,4 +1,4 @@
--- Loop invariant: each letter before the current index may follow the letters before it, and `counts` is the content of these letters.
+-- Loop invariant: the letters before the current index are a lattice word, and `counts` is the content of these letters.
 use Rattle.std.proofs.Common.{◌≡◌, true, [], take}
 use Rattle.sym_model.specs.Schur.{content}
 use Rattle.tableau_iter.specs.Fits.{all_fit}

@@ -6,7 +6,8 @@ use Rattle.transition_walk.specs.Todo.{load}
 use Rattle.transition_walk.proofs.UnderWay.{IsUnderWay}
 use Rattle.transition_walk.proofs.product.product_of.Given as goal
 
--- `sum` is a table, and the products for `sum` and the waiting lists `todo` add up to the product for w and `label` (`IsUnderWay`)
+-- `sum` is a linear combination with coefficients of 128 bits (`IsTable`). The product of S_w and the polynomial of `label` is the sum of the
+-- products for the terms of `sum` and of `todo`, the list of the permutations that the transition rule has not yet replaced (`IsUnderWay`)
 abbrev pub invariant-loop-waiting : goal.invariant-loop-waiting
 invariant-loop-waiting g l = record {
   under_way : IsUnderWay g.F.Factor.product (λ r v. g.F.Rule.image (g.F.Factor.made r v)) g.F.Factor.extent g.F.Factor.most l.w l.label l.todo.items l.sum;

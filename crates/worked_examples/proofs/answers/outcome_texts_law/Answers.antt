@@ -74,16 +74,6 @@ pub returns-clause-empty_batch : goal.returns-clause-empty_batch
 unfolding digits
 returns-clause-empty_batch c = record { blocks = []; are_blocks = tt; joined = refl; ends = refl }
 
-pub returns-clause-only_passed_over : goal.returns-clause-only_passed_over
-unfolding digits
-returns-clause-only_passed_over c = record {
-  blocks = [];
-  are_blocks = tt;
-  joined = refl;
-  ends =
-      refl;
-}
-
 pub returns-clause-long_line : goal.returns-clause-long_line
 unfolding digits
 returns-clause-long_line c = record {

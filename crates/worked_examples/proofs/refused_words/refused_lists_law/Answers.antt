@@ -1,10 +1,9 @@
 -- Proofs of the examples of `refused_lists_law`, each of which is computed.
-use Rattle.std.proofs.Common.{true, false, [], ◌∷◌, ◌++◌, refl, Some, None}
-use Rattle.std.specs.Prelude.{codes, replicate}
+use Rattle.std.proofs.Common.{false, [], ◌∷◌, refl, None, rules}
+use Rattle.std.specs.Prelude.{codes}
 use Rattle.sym_model.specs.ExpressionOffence.{literal, range, shape}
-use Rattle.sym_model.specs.Command.{mult, skew, coprod, quantum, schubert, schubmult, rsk, work}
-use Rattle.sym_model.specs.Command.{dschubmult, stanley}
-use Rattle.worked_examples.specs.Examples.{repeated}
+use Rattle.sym_model.specs.Command.{mult, work}
+use Rattle.sym_model.specs.Command.{stanley}
 use Rattle.worked_examples.proofs.ComputedExamples.{said, offended}
 use Rattle.worked_examples.proofs.refused_words.refused_lists_law.Goals as goal
 
@@ -12,8 +11,7 @@ pub returns-clause-rows_65 : goal.returns-clause-rows_65
 returns-clause-rows_65 c = offended (codes "mult -r 65 1 - 1") (2, 0, range) refl
 
 pub returns-clause-rows_64 : goal.returns-clause-rows_64
-returns-clause-rows_64 c = said (codes "mult -r 64 1 - 1")
-    (mult (Some 64) false ((1 ∷ []) ∷ (1 ∷ []) ∷ [])) refl
+returns-clause-rows_64 c = search (rules, said)
 
 pub returns-clause-rows_0 : goal.returns-clause-rows_0
 returns-clause-rows_0 c = offended (codes "quantum 0 2 1 - 1") (1, 0, range) refl
@@ -25,19 +23,16 @@ pub returns-clause-cells_513 : goal.returns-clause-cells_513
 returns-clause-cells_513 c = offended (codes "mult 513 - 1") (1, 0, range) refl
 
 pub returns-clause-cells_512 : goal.returns-clause-cells_512
-returns-clause-cells_512 c = said (codes "mult 512 - 1")
-    (mult None false ((512 ∷ []) ∷ (1 ∷ []) ∷ [])) refl
+returns-clause-cells_512 c = search (rules, said)
 
 pub returns-clause-sum_513 : goal.returns-clause-sum_513
 returns-clause-sum_513 c = offended (codes "coprod 300 212 1 1") (3, 0, range) refl
 
 pub returns-clause-numbers_65 : goal.returns-clause-numbers_65
-returns-clause-numbers_65 c = offended (codes "coprod " ++ repeated 65 (codes "1")) (65, 0, range)
-    refl
+returns-clause-numbers_65 c = search (rules, offended)
 
 pub returns-clause-numbers_64 : goal.returns-clause-numbers_64
-returns-clause-numbers_64 c = said (codes "coprod " ++ repeated 64 (codes "1"))
-    (coprod (replicate 64 1)) refl
+returns-clause-numbers_64 c = search (rules, said)
 
 pub returns-clause-rises : goal.returns-clause-rises
 returns-clause-rises c = offended (codes "mult 1 2 - 1") (2, 0, shape) refl
@@ -49,8 +44,7 @@ pub returns-clause-zeros : goal.returns-clause-zeros
 returns-clause-zeros c = said (codes "mult 0 0 - 1") (mult None false ([] ∷ (1 ∷ []) ∷ [])) refl
 
 pub returns-clause-two_hundred_zeros : goal.returns-clause-two_hundred_zeros
-returns-clause-two_hundred_zeros c = said (codes "mult " ++ (replicate 200 48 ++ codes "1 - 1"))
-    (mult None false ((1 ∷ []) ∷ (1 ∷ []) ∷ [])) refl
+returns-clause-two_hundred_zeros c = search (rules, said)
 
 pub returns-clause-wide_number : goal.returns-clause-wide_number
 returns-clause-wide_number c =
@@ -74,12 +68,10 @@ returns-clause-seventeen_letters c =
     offended (codes "schubert 1 2 3 4 5 6 7 8 9 10 11 12 13 14 15 16 17") (17, 0, range) refl
 
 pub returns-clause-sixteen_letters : goal.returns-clause-sixteen_letters
-returns-clause-sixteen_letters c = said (codes "schubert 2 1 3 4 5 6 7 8 9 10 11 12 13 14 15 16")
-    (schubert (2 ∷ 1 ∷ [])) refl
+returns-clause-sixteen_letters c = search (rules, said)
 
 pub returns-clause-identity : goal.returns-clause-identity
-returns-clause-identity c = said (codes "schubmult 1 2 - 1 3 2")
-    (schubmult (1 ∷ []) (1 ∷ 3 ∷ 2 ∷ [])) refl
+returns-clause-identity c = search (rules, said)
 
 pub returns-clause-letter_0 : goal.returns-clause-letter_0
 returns-clause-letter_0 c = offended (codes "rsk 0") (1, 0, range) refl
@@ -88,12 +80,10 @@ pub returns-clause-letter_65536 : goal.returns-clause-letter_65536
 returns-clause-letter_65536 c = offended (codes "rsk 65535 65536") (2, 0, range) refl
 
 pub returns-clause-letters_257 : goal.returns-clause-letters_257
-returns-clause-letters_257 c = offended (codes "rsk " ++ repeated 257 (codes "1")) (257, 0, range)
-    refl
+returns-clause-letters_257 c = search (rules, offended)
 
 pub returns-clause-letters_256 : goal.returns-clause-letters_256
-returns-clause-letters_256 c = said (codes "rsk " ++ repeated 256 (codes "1"))
-    (rsk (replicate 256 1)) refl
+returns-clause-letters_256 c = search (rules, said)
 
 pub returns-clause-no_lines : goal.returns-clause-no_lines
 returns-clause-no_lines c = offended (codes "work 0 0") (1, 0, range) refl
@@ -105,48 +95,38 @@ pub returns-clause-seed : goal.returns-clause-seed
 returns-clause-seed c = offended (codes "work 10000 65537") (2, 0, range) refl
 
 pub returns-clause-nine_factors : goal.returns-clause-nine_factors
-returns-clause-nine_factors c = offended (codes "mult 1 - 1 - 1 - 1 - 1 - 1 - 1 - 1 - 1")
-    (16, 0, range) refl
+returns-clause-nine_factors c = search (rules, offended)
 
 pub returns-clause-nine_factors_on_one_line : goal.returns-clause-nine_factors_on_one_line
 returns-clause-nine_factors_on_one_line c =
     offended (codes "mult -r 2 -m 1 - 1 - 1 - 1 - 1 - 1 - 1 - 1 - 1") (19, 0, range) refl
 
 pub returns-clause-nine_reduced : goal.returns-clause-nine_reduced
-returns-clause-nine_reduced c = offended (codes "fusion 1 1 1 - 1 - 1 - 1 - 1 - 1 - 1 - 1 - 1")
-    (18, 0, range) refl
+returns-clause-nine_reduced c = search (rules, offended)
 
 pub returns-clause-earlier_than_nine : goal.returns-clause-earlier_than_nine
-returns-clause-earlier_than_nine c = offended (codes "mult 1 2 - 1 - 1 - 1 - 1 - 1 - 1 - 1 - 1")
-    (2, 0, shape) refl
+returns-clause-earlier_than_nine c = search (rules, offended)
 
 pub returns-clause-eight_factors : goal.returns-clause-eight_factors
-returns-clause-eight_factors c = said (codes "mult 1 - 1 - 1 - 1 - 1 - 1 - 1 - 1")
-    (mult None false ((1 ∷ []) ∷ (1 ∷ []) ∷ (1 ∷ []) ∷ (1 ∷ []) ∷ (1 ∷ []) ∷ (1 ∷ []) ∷ (1 ∷ []) ∷
-    (1 ∷ []) ∷ [])) refl
+returns-clause-eight_factors c = search (rules, said)
 
 pub returns-clause-empty_factors : goal.returns-clause-empty_factors
-returns-clause-empty_factors c = said (codes "mult -r 2 -m - - 1")
-    (mult (Some 2) true ([] ∷ [] ∷ (1 ∷ []) ∷ [])) refl
+returns-clause-empty_factors c = search (rules, said)
 
 pub returns-clause-three_reduced : goal.returns-clause-three_reduced
-returns-clause-three_reduced c = said (codes "quantum 2 3 1 - 2 - 1 1")
-    (quantum 2 3 ((1 ∷ []) ∷ (2 ∷ []) ∷ (1 ∷ 1 ∷ []) ∷ [])) refl
+returns-clause-three_reduced c = search (rules, said)
 
 pub returns-clause-skew_on_one_line : goal.returns-clause-skew_on_one_line
-returns-clause-skew_on_one_line c = said (codes "skew -m 2 1 / 1") (skew None true (2 ∷ 1 ∷ [])
-    (1 ∷ [])) refl
+returns-clause-skew_on_one_line c = search (rules, said)
 
 pub returns-clause-letter_9 : goal.returns-clause-letter_9
 returns-clause-letter_9 c = offended (codes "dschubmult 9 - 1") (1, 0, range) refl
 
 pub returns-clause-nine_letters : goal.returns-clause-nine_letters
-returns-clause-nine_letters c = offended (codes "dschubmult 1 - 2 1 3 4 5 6 7 8 9") (11, 0, range)
-    refl
+returns-clause-nine_letters c = search (rules, offended)
 
 pub returns-clause-eight_letters : goal.returns-clause-eight_letters
-returns-clause-eight_letters c = said (codes "dschubmult 1 - 2 1 3 4 5 6 7 8")
-    (dschubmult (1 ∷ []) (2 ∷ 1 ∷ [])) refl
+returns-clause-eight_letters c = search (rules, said)
 
 pub returns-clause-variables_65 : goal.returns-clause-variables_65
 returns-clause-variables_65 c = offended (codes "stanley -r 65 2 1") (2, 0, range) refl

@@ -1,10 +1,7 @@
 -- Proofs of the examples of `refused_plethysms_law`, each of which is computed.
-use Rattle.std.proofs.Common.{[], ◌∷◌, refl}
+use Rattle.std.proofs.Common.{refl, rules}
 use Rattle.std.specs.Prelude.{codes}
-use Rattle.sym_model.specs.Expansion.{elementaries, completes, power_sums, schurs}
-use Rattle.sym_model.specs.Expression.{number, fraction, atom, negation}
 use Rattle.sym_model.specs.ExpressionOffence.{range, shape}
-use Rattle.sym_model.specs.Command.{plethysm}
 use Rattle.worked_examples.proofs.ComputedExamples.{said, offended}
 use Rattle.worked_examples.proofs.refused_words.refused_plethysms_law.Goals as goal
 
@@ -15,8 +12,7 @@ pub returns-clause-fraction_inside : goal.returns-clause-fraction_inside
 returns-clause-fraction_inside c = offended (codes "plethysm s h[2] 3*1/2") (3, 2, shape) refl
 
 pub returns-clause-fraction_outside : goal.returns-clause-fraction_outside
-returns-clause-fraction_outside c = said (codes "plethysm s -1/2 1")
-    (plethysm schurs (negation (fraction 1 2)) (number 1)) refl
+returns-clause-fraction_outside c = search (rules, said)
 
 pub returns-clause-degree_11 : goal.returns-clause-degree_11
 returns-clause-degree_11 c = offended (codes "plethysm s h[11] 1-1") (2, 5, range) refl
@@ -28,5 +24,4 @@ pub returns-clause-product_12 : goal.returns-clause-product_12
 returns-clause-product_12 c = offended (codes "plethysm s h[4] h[3]") (3, 4, range) refl
 
 pub returns-clause-product_10 : goal.returns-clause-product_10
-returns-clause-product_10 c = said (codes "plethysm p h[5] e[2]")
-    (plethysm power_sums (atom completes (5 ∷ [])) (atom elementaries (2 ∷ []))) refl
+returns-clause-product_10 c = search (rules, said)

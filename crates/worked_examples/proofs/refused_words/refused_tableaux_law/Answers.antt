@@ -1,8 +1,8 @@
 -- Proofs of the examples of `refused_tableaux_law`, each of which is computed.
-use Rattle.std.proofs.Common.{[], ◌∷◌, ◌++◌, refl, Some, None}
+use Rattle.std.proofs.Common.{[], ◌∷◌, ◌++◌, refl, rules}
 use Rattle.std.specs.Prelude.{codes}
-use Rattle.sym_model.specs.ExpressionOffence.{literal, range, shape}
-use Rattle.sym_model.specs.Command.{tab, unrsk, rect}
+use Rattle.sym_model.specs.ExpressionOffence.{range, shape}
+use Rattle.sym_model.specs.Command.{unrsk, rect}
 use Rattle.worked_examples.specs.Examples.{repeated}
 use Rattle.worked_examples.proofs.ComputedExamples.{said, offended}
 use Rattle.worked_examples.proofs.refused_words.refused_tableaux_law.Goals as goal
@@ -17,8 +17,7 @@ pub returns-clause-no_rows : goal.returns-clause-no_rows
 returns-clause-no_rows c = said (codes "rect / - .") (rect [] [] []) refl
 
 pub returns-clause-rectified : goal.returns-clause-rectified
-returns-clause-rectified c = said (codes "rect 2 2 / 1 - 1 / 1 2") (rect (2 ∷ 2 ∷ []) (1 ∷ [])
-    ((1 ∷ []) ∷ (1 ∷ 2 ∷ []) ∷ [])) refl
+returns-clause-rectified c = search (rules, said)
 
 pub returns-clause-row_too_long : goal.returns-clause-row_too_long
 returns-clause-row_too_long c = offended (codes "rect 2 2 / 1 - 1 1 / 1 2") (7, 0, shape) refl
@@ -36,8 +35,7 @@ pub returns-clause-shapes_differ : goal.returns-clause-shapes_differ
 returns-clause-shapes_differ c = offended (codes "unrsk 1 2 / 3 - 1 2") (8, 0, shape) refl
 
 pub returns-clause-pair : goal.returns-clause-pair
-returns-clause-pair c = said (codes "unrsk 1 2 / 3 - 1 3 / 2") (unrsk ((1 ∷ 2 ∷ []) ∷ (3 ∷ []) ∷ [])
-    ((1 ∷ 3 ∷ []) ∷ (2 ∷ []) ∷ [])) refl
+returns-clause-pair c = search (rules, said)
 
 pub returns-clause-empty_pair : goal.returns-clause-empty_pair
 returns-clause-empty_pair c = said (codes "unrsk . - .") (unrsk [] []) refl
@@ -55,16 +53,13 @@ pub returns-clause-past_the_cells : goal.returns-clause-past_the_cells
 returns-clause-past_the_cells c = offended (codes "unrsk 1 2 - 1 3") (5, 0, shape) refl
 
 pub returns-clause-not_in_the_list : goal.returns-clause-not_in_the_list
-returns-clause-not_in_the_list c = offended (codes "tab 3 2 1 / 2 1 -from 1 / 2 / 2") (7, 0, shape)
-    refl
+returns-clause-not_in_the_list c = search (rules, offended)
 
 pub returns-clause-in_the_list : goal.returns-clause-in_the_list
-returns-clause-in_the_list c = said (codes "tab 3 2 1 / 2 1 -from 1 / 1 / 2")
-    (tab (3 ∷ 2 ∷ 1 ∷ []) (2 ∷ 1 ∷ []) (Some (1 ∷ 1 ∷ 2 ∷ []))) refl
+returns-clause-in_the_list c = search (rules, said)
 
 pub returns-clause-from_the_start : goal.returns-clause-from_the_start
-returns-clause-from_the_start c = said (codes "tab 3 2 1 / 2 1")
-    (tab (3 ∷ 2 ∷ 1 ∷ []) (2 ∷ 1 ∷ []) None) refl
+returns-clause-from_the_start c = search (rules, said)
 
 pub returns-clause-entry_65536 : goal.returns-clause-entry_65536
 returns-clause-entry_65536 c = offended (codes "rect 1 / - 65536") (4, 0, range) refl
@@ -78,5 +73,4 @@ returns-clause-numbers_257_in_rows c =
     offended (codes "unrsk " ++ (repeated 256 (codes "1") ++ codes "/ 2 - 1")) (258, 0, range) refl
 
 pub returns-clause-wide_entry : goal.returns-clause-wide_entry
-returns-clause-wide_entry c = offended (codes "rect 1 / - 170141183460469231731687303715884105728")
-    (4, 0, literal) refl
+returns-clause-wide_entry c = search (rules, offended)

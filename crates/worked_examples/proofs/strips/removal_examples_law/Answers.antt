@@ -1,4 +1,4 @@
-use Rattle.std.proofs.Common.{[], ◌∷◌, Some, refl, arith, pos}
+use Rattle.std.proofs.Common.{[], ◌∷◌, Some, refl, arith, pos, rules}
 use Rattle.std.proofs.lemmas.Int.{ints}
 use Rattle.sym_model.specs.PartitionList.{partitions_within}
 use Rattle.sym_model.specs.RimHookReduction.{IsRemoval}
@@ -20,23 +20,10 @@ all_of_three_one =
     }) tt tt refl
 
 pub returns-clause-one_hook : goal.returns-clause-one_hook
-returns-clause-one_hook c = (
-  omega arith,
-  [],
-  pos 1,
-  all_of_three_one,
-  (omega arith, no_removal_from_less 4 [] (omega arith), refl, refl),
-  refl,
-)
+returns-clause-one_hook c = search (rules, all_of_three_one, no_removal_from_less)
 
 pub returns-clause-stays : goal.returns-clause-stays
-returns-clause-stays c = (
-  omega arith,
-  no_removal_of_all 4 (2 ∷ 2 ∷ []) refl (omega arith)
-      (omega arith),
-  refl,
-  refl,
-)
+returns-clause-stays c = search (rules, no_removal_of_all)
 
 pub returns-clause-two_hooks : goal.returns-clause-two_hooks
 returns-clause-two_hooks c = (

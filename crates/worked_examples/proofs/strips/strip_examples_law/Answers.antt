@@ -1,25 +1,14 @@
-use Rattle.std.proofs.Common.{[], ◌∷◌, refl, arith}
+use Rattle.std.proofs.Common.{[], ◌∷◌, refl, arith, rules}
 use Rattle.strip_laws.proofs.Strips.{horizontal_rows, vertical_rows}
 use Rattle.worked_examples.proofs.ClosedShapes.{horizontal_closed, vertical_closed, holds_closed}
 use Rattle.worked_examples.proofs.ClosedShapes.{hook_closed, no_hook, not_connected}
 use Rattle.worked_examples.proofs.strips.strip_examples_law.Goals as goal
 
 pub returns-clause-row_of_two : goal.returns-clause-row_of_two
-returns-clause-row_of_two c =
-    horizontal_closed (4 ∷ 1 ∷ []) (2 ∷ 1 ∷ []) (omega arith, tt)
-    (holds_closed (4 ∷ 1 ∷ []) (2 ∷ 1 ∷ []) (omega arith) (omega arith, (omega arith, tt)))
-    (omega arith)
-    (omega arith, (omega arith, tt))
+returns-clause-row_of_two c = search (rules, horizontal_closed, holds_closed)
 
 pub returns-clause-three_rows : goal.returns-clause-three_rows
-returns-clause-three_rows c =
-    horizontal_closed (3 ∷ 1 ∷ 1 ∷ []) (2 ∷ 1 ∷ []) (omega arith, (omega arith, tt))
-    (holds_closed (3 ∷ 1 ∷ 1 ∷ []) (2 ∷ 1 ∷ []) (omega arith) (
-      omega arith,
-      (omega arith, (omega arith, tt)),
-    ))
-    (omega arith)
-    (omega arith, (omega arith, (omega arith, tt)))
+returns-clause-three_rows c = search (rules, horizontal_closed, holds_closed)
 
 pub returns-clause-not_horizontal : goal.returns-clause-not_horizontal
 returns-clause-not_horizontal c s =
@@ -28,13 +17,7 @@ returns-clause-not_horizontal c s =
     omega (arith, h)
 
 pub returns-clause-column_of_two : goal.returns-clause-column_of_two
-returns-clause-column_of_two c =
-    vertical_closed (2 ∷ 1 ∷ 1 ∷ 1 ∷ []) (2 ∷ 1 ∷ [])
-    (holds_closed (2 ∷ 1 ∷ 1 ∷ 1 ∷ []) (2 ∷ 1 ∷ []) (omega arith) (
-      omega arith,
-      (omega arith, (omega arith, (omega arith, tt))),
-    ))
-    (omega arith, (omega arith, (omega arith, (omega arith, tt))))
+returns-clause-column_of_two c = search (rules, vertical_closed, holds_closed)
 
 pub returns-clause-not_vertical : goal.returns-clause-not_vertical
 returns-clause-not_vertical c s = let h = vertical_rows (4 ∷ 1 ∷ []) (2 ∷ 1 ∷ []) s 1 (omega arith)
@@ -84,7 +67,3 @@ returns-clause-square c = no_hook (2 ∷ 2 ∷ []) (omega arith) (omega arith)
 
 pub returns-clause-apart : goal.returns-clause-apart
 returns-clause-apart c = not_connected
-
-pub returns-clause-no_cell : goal.returns-clause-no_cell
-returns-clause-no_cell c h = let a = h.nonempty.2.outside in let b = h.nonempty.2.within in
-    omega (arith, a, b)

@@ -1,6 +1,5 @@
-use Rattle.std.proofs.Common.{◌≡◌, ◌+◌, ◌-◌, ◌<◌, ◌^◌, ◌*◌, ◌++◌, [], refl, ap, ◌∙◌, sym}
+use Rattle.std.proofs.Common.{◌≡◌, ◌+◌, ◌-◌, ◌<◌, ◌^◌, ◌*◌, ◌++◌, refl, ap, ◌∙◌, sym, rules}
 use Rattle.std.proofs.Common.{subst, arith, append_assoc, Err}
-use Rattle.linear_combinations.specs.Gains.{Gains, scaled}
 use Rattle.linear_combinations.proofs.Gains.{gains_none}
 use Rattle.linear_combinations.proofs.Steps.{error_is}
 use Rattle.basis_change.specs.RimHooks.{hook, hooks, hooks_below}
@@ -10,24 +9,10 @@ use Rattle.basis_change.proofs.hooks.HooksBelowRuleBetaSetBetaSet.add_image.Goal
 use Rattle.sym_model.proofs.Numbers.{pow_next}
 
 pub loop-init : goal.loop-init
-loop-init c =
-    let a = c.args.self.now.cells in
-    let set = c.args.label.now in
-    let all : a - 0 ≡ a = omega arith in
-    let none : 20 - a + 1 ≡ 20 - a + 1 + 0 = omega arith in (
-      [],
-      record {
-        all = ap (λ n. hooks a n set) all;
-        gains = gains_none c.args.sum.now;
-        low = subst (λ n. set < 2 ^ n) none c.requires.1.low;
-      },
-    )
+loop-init c = search (rules, gains_none)
 
 pub add_hook-requires-clause-low : goal.add_hook-requires-clause-low
-add_hook-requires-clause-low c =
-    let few = c.requires.0 in
-    below_power c.loop.beta (20 - c.args.self.now.cells + 1 + c.loop.counter) 63
-    c.loop.invariant.1.low (omega (arith, c.loop-test.true))
+add_hook-requires-clause-low c = search (rules, below_power)
 
 pub loop-preserved : goal.loop-preserved
 loop-preserved c =
@@ -70,10 +55,4 @@ returns-in_err-add_hook-clause-large c err =
     (c.in_err-add_hook.ensures.large (ap Err (error_is _ _ _ c.from_residual.ensures.1 err)))
 
 pub returns-clause-gains : goal.returns-clause-gains
-returns-clause-gains c =
-    let a = c.args.self.now.cells in
-    let inv = c.loop.invariant.1 in
-    let e : a - c.loop.counter ≡ 0 = omega (arith, c.loop-test.false) in
-    subst (λ l. Gains c.args.sum.now (scaled c.args.c l) c.loop.sum)
-    (hooks-end a (a - c.loop.counter) c.loop.beta c.loop.invariant.0
-    (hooks_below a c.args.label.now) e inv.all) inv.gains
+returns-clause-gains c = search (rules, hooks-end)

@@ -1,4 +1,4 @@
-use Rattle.std.proofs.Common.{◌+◌, ◌-◌, ◌<◌, ◌≤◌, length, get_or, ap, Err, refl, sym, ◌∙◌, subst}
+use Rattle.std.proofs.Common.{◌+◌, ◌-◌, ◌<◌, ◌≤◌, length, get_or, ap, Err, refl, sym, ◌∙◌, subst, rules}
 use Rattle.std.proofs.Common.{arith, neg_ℤ}
 use Rattle.sym_model.specs.Partition.{size}
 use Rattle.sym_model.specs.WholeTerms.{WholeTerms}
@@ -17,24 +17,10 @@ use Rattle.basis_change.proofs.rewriting.LastPartRulePairPair.add_image.Goals as
 use Rattle.std.proofs.lemmas.Result.{on_ok_weaker}
 
 pub overflow_sub-factor : goal.overflow_sub-factor
-overflow_sub-factor c =
-    let p = ended c.in-Some.last.now c.in-Some.rest.now c.label.inside.second
-    (sym c.parts.ensures.value ∙ c.in-Some.ensures.cases.0) c.parts.ensures.limits.partition in
-    let positive = p.positive in
-    let from = c.from.ensures in
-    omega arith
+overflow_sub-factor c = search (rules, ended)
 
 pub bounds-self-from : goal.bounds-self-from
-bounds-self-from c =
-    let p = ended c.in-Some.last.now c.in-Some.rest.now c.label.inside.second
-    (sym c.parts.ensures.value ∙ c.in-Some.ensures.cases.0) c.parts.ensures.limits.partition in
-    let r = subst (IsReady (length c.args.self.now.factors.now) c.args.self.now.rows)
-    (sym c.label.view_is) c.requires.ready in
-    let low = r.low in
-    let cells = p.cells in
-    let positive = p.positive in
-    let from = c.from.ensures in
-    omega arith
+bounds-self-from c = search (rules, ended)
 
 pub add_mixed-requires-clause-sizes : goal.add_mixed-requires-clause-sizes
 add_mixed-requires-clause-sizes c =
@@ -59,38 +45,16 @@ add_mixed-requires-clause-sizes c =
     (λ t m. let k = (small.low t m).low in omega arith)
 
 pub add_mixed-requires-clause-augmented : goal.add_mixed-requires-clause-augmented
-add_mixed-requires-clause-augmented c =
-    let p = ended c.in-Some.last.now c.in-Some.rest.now c.label.inside.second
-    (sym c.parts.ensures.value ∙ c.in-Some.ensures.cases.0) c.parts.ensures.limits.partition in
-    let r = subst (IsReady (length c.args.self.now.factors.now) c.args.self.now.rows)
-    (sym c.label.view_is) c.requires.ready in
-    let low = r.low in
-    let cells = p.cells in
-    let lists = c.requires.lists in
-    IsWithinLimits-low c.in-Some.rest.now p.before (omega arith)
+add_mixed-requires-clause-augmented c = search (rules, ended, IsWithinLimits-low)
 
 pub take_raised-requires-clause-by : goal.take_raised-requires-clause-by
-take_raised-requires-clause-by c =
-    let p = ended c.in-Some.last.now c.in-Some.rest.now c.label.inside.second
-    (sym c.parts.ensures.value ∙ c.in-Some.ensures.cases.0) c.parts.ensures.limits.partition in
-    p.positive
+take_raised-requires-clause-by c = search (rules, ended)
 
 pub take_raised-requires-clause-partition : goal.take_raised-requires-clause-partition
-take_raised-requires-clause-partition c =
-    let p = ended c.in-Some.last.now c.in-Some.rest.now c.label.inside.second
-    (sym c.parts.ensures.value ∙ c.in-Some.ensures.cases.0) c.parts.ensures.limits.partition in
-    p.before
+take_raised-requires-clause-partition c = search (rules, ended)
 
 pub take_raised-requires-clause-small : goal.take_raised-requires-clause-small
-take_raised-requires-clause-small c =
-    let p = ended c.in-Some.last.now c.in-Some.rest.now c.label.inside.second
-    (sym c.parts.ensures.value ∙ c.in-Some.ensures.cases.0) c.parts.ensures.limits.partition in
-    let r = subst (IsReady (length c.args.self.now.factors.now) c.args.self.now.rows)
-    (sym c.label.view_is) c.requires.ready in
-    let low = r.low in
-    let cells = p.cells in
-    let lists = c.requires.lists in
-    omega arith
+take_raised-requires-clause-small c = search (rules, ended)
 
 pub returns-in_err-add_mixed-clause-large : goal.returns-in_err-add_mixed-clause-large
 returns-in_err-add_mixed-clause-large c err =

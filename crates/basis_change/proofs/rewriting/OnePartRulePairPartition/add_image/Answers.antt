@@ -1,7 +1,7 @@
-use Rattle.std.proofs.Common.{◌≡◌, ◌-◌, ◌<◌, ◌+◌, ℕ, List, [], ◌∷◌, length, get_or, refl, sym, ap}
+use Rattle.std.proofs.Common.{◌≡◌, ◌-◌, ◌<◌, ◌+◌, ℕ, List, [], ◌∷◌, length, get_or, refl, sym, ap, rules}
 use Rattle.std.proofs.Common.{subst, ◌∙◌, arith}
 use Rattle.std.specs.Prelude.{Some, slice_get}
-use Rattle.sym_model.specs.Partition.{IsPartition, size}
+use Rattle.sym_model.specs.Partition.{size}
 use Rattle.sym_model.specs.WholeTerms.{WholeTerms}
 use Rattle.linear_combinations.specs.Gains.{Gains, Overflows, scaled}
 use Rattle.sparse_polys.specs.LabelSizes.{AreWithin}
@@ -20,15 +20,9 @@ first_part : (parts : List ℕ) (a : ℕ) → Some a ≡ slice_get parts 0 →
 first_part [] a e = cc
 first_part (b ∷ parts) a e = (parts, ap (λ x. x ∷ parts) (let h : b ≡ a = cc in h))
 
--- if a label satisfies `IsReady d 1` and its augmented monomial has the first part a, then a is positive, and a plus the size of the first partition
--- of the label is at most d
 has-list : (d : ℕ) (label : MixedLabel) (a : ℕ) (rest : List ℕ) → IsReady d 1 label →
     label.1 ≡ a ∷ rest → (0 < a) × (size label.0 + a < d + 1)
-has-list d label a rest r e =
-    let p = subst IsPartition e r.augmented in
-    let s = ap size e in
-    let low = r.low in
-    (p.positive.0, omega arith)
+has-list d label a rest r e = search rules
 
 pub add_row-requires : goal.add_row-requires
 add_row-requires c =

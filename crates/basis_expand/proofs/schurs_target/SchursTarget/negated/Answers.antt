@@ -1,4 +1,4 @@
-use Rattle.std.proofs.Common.{subst, sym, ◌∙◌}
+use Rattle.std.proofs.Common.{subst, sym, ◌∙◌, rules}
 use Rattle.std.specs.Prelude.{nat_eq}
 use Rattle.std.specs.Cmp.Lexicographic.{pointwise}
 use Rattle.sym_model.specs.Expansion.{Fraction}
@@ -13,12 +13,10 @@ pub list_of-requires : goal.list_of-requires
 list_of-requires c = let t = c.requires.1 in (c.requires.0, c.requires.2, t.low)
 
 pub returns-in_err-terms : goal.returns-in_err-terms
-returns-in_err-terms c e t h = failed IsOperand MayBeRefused (negation e) _ _
-    c.from_residual.ensures.0 c.from_residual.ensures.1 (λ large. tt)
+returns-in_err-terms c e t h = search (rules, failed)
 
 pub returns-in_err-list : goal.returns-in_err-list
-returns-in_err-list c e t h = failed IsOperand MayBeRefused (negation e) _ _
-    c.from_residual-in_err-list.ensures.0 c.from_residual-in_err-list.ensures.1 (λ large. tt)
+returns-in_err-list c e t h = search (rules, failed)
 
 pub returns : goal.returns
 returns c e t h =

@@ -1,4 +1,4 @@
-use Rattle.std.proofs.Common.{subst, to_z-of_z}
+use Rattle.std.proofs.Common.{subst, to_z-of_z, rules}
 use Rattle.std.specs.Prelude.{nat_abs}
 use Rattle.sym_model.specs.Expression.{fraction}
 use Rattle.basis_expand.proofs.Making.{done, failed}
@@ -7,12 +7,10 @@ use Rattle.basis_expand.specs.SchurLists.{StandsFor}
 use Rattle.basis_expand.proofs.schurs_target.SchursTarget.quotient.Goals as goal
 
 pub returns-in_err-list-clause-number : goal.returns-in_err-list-clause-number
-returns-in_err-list-clause-number c one = failed IsOperand MayBeRefused _ _ _
-    c.from_residual.ensures.0 c.from_residual.ensures.1 (λ large. tt)
+returns-in_err-list-clause-number c one = search (rules, failed)
 
 pub returns-in_err-list-clause-fraction : goal.returns-in_err-list-clause-fraction
-returns-in_err-list-clause-fraction c = failed IsOperand MayBeRefused _ _ _ c.from_residual.ensures.0
-    c.from_residual.ensures.1 (λ large. tt)
+returns-in_err-list-clause-fraction c = search (rules, failed)
 
 pub returns-clause-number : goal.returns-clause-number
 returns-clause-number c one =

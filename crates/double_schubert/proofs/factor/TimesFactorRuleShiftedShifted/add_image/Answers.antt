@@ -15,7 +15,6 @@ use Rattle.double_schubert.proofs.FactorGains.{overflow_negative}
 use Rattle.double_schubert.proofs.factor.TimesFactorRuleShiftedShifted.add_image.Goals as goal
 use Rattle.std.proofs.lemmas.Result.{on_ok_weaker}
 
--- the four lists that are added are together k times the terms of the product of x_r - y_c and the term y^e·S_p with the label (p, e)
 parts : (k minus : ℤ) (r c letter_is : ℕ) (p e : List ℕ) (label : List ℕ × List ℕ)
     (up down : List (List ℕ)) (more less : List ℕ) → (p, e) ≡ label → minus ≡ neg_ℤ k → letter_is
     ≡ letter p r

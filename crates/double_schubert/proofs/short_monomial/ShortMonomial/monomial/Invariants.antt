@@ -1,4 +1,4 @@
--- The first `at` exponents of the buffer are the first `at` exponents of the monomial.
+-- Loop invariant: the first `at` exponents of the buffer are the first `at` exponents of the monomial.
 use Rattle.std.proofs.Common.{◌≡◌, length, take}
 use Rattle.double_schubert.proofs.short_monomial.ShortMonomial.monomial.Given as goal
 

@@ -24,7 +24,6 @@ returns-in_err-c-clause-large c err =
     c.len.ensures.combination
     (λ e. c.if-len-eq0.false (c.len.ensures.len ∙ e)) c.in_err-c.ensures
 
--- for a label k, and z = x·c: the product of the term z·k and the list V (`row k z V`) is x times the product of the term c·k and V
 image : (k : List ℕ) (x c z : ℤ) (V : WholeTerms) → z ≡ x *ℤ c → row k z V ≡ scaled x (row k c V)
 image k x c z V e = ap (λ y. row k y V) e ∙ row-gained k x c V
 

@@ -3,7 +3,8 @@ use Rattle.std.specs.Map.Iter.{deref_pair}
 use Rattle.linear_combinations.specs.Entries.{coefficient, IsCombination, IsSumOf, IsRefused}
 use Rattle.linear_combinations.proofs.lin.Lin.add_all.Given as goal
 
--- the list is the sum of the map at the start and the pairs visited so far, and the checked addition of these two fails at no label
+-- the map is the map at the start plus the pairs visited so far. For each label, the checked addition of its coefficient in the map at the start and
+-- its coefficient in the visited pairs has a result
 abbrev pub invariant-loop-label : goal.invariant-loop-label
 invariant-loop-label g l = record {
   was : IsCombination g.L.PartialEq.eq g.L.Label.is_label g.R.Scalar.value l.fn.self;

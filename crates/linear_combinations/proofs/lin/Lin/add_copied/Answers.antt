@@ -6,7 +6,6 @@ use Rattle.linear_combinations.specs.Entries.{coefficient, HasMoreAt, IsTable}
 use Rattle.linear_combinations.proofs.Inserted.{Settled, some_of, in_place}
 use Rattle.linear_combinations.proofs.lin.Lin.add_copied.Goals as goal
 
--- if the label was in the table, the entries after the call are a table whose coefficient of the label is greater by `c` (`Settled`)
 label_there : (g : _) (c : goal.After-set_at g) → Settled g.met.L.Eq.laws g.met.L.Label.same_label
     g.L.Label.is_label g.R.Scalar.zero g.R.Scalar.value g.R.Scalar.is_held g.R.Scalar.sum
     g.met.R.Scalar.zero_value.0 g.met.R.Scalar.zero_value.1 g.met.R.Scalar.same_value

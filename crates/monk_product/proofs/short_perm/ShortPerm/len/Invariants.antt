@@ -1,4 +1,5 @@
--- Removing the fixed letters at the end of the first `len` letters gives the same list as removing them at the end of all 32 letters.
+-- Removing the fixed letters at the end of the first `len` letters gives the same list as removing those at the end of all 32 letters. A letter is
+-- *fixed* if it is equal to its place.
 use Rattle.std.proofs.Common.{◌≡◌, ◌≤◌, take}
 use Rattle.sym_model.specs.Permutation.{kept}
 use Rattle.monk_product.proofs.short_perm.ShortPerm.len.Given as goal

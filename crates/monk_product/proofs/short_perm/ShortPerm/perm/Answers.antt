@@ -6,8 +6,6 @@ use Rattle.monk_product.specs.ShortPerms.{IsFilled}
 use Rattle.monk_product.proofs.ShortPerms.{few_kept, limits_of, shown}
 use Rattle.monk_product.proofs.short_perm.ShortPerm.perm.Goals as goal
 
--- if v consists of the first 32 letters of u, and w is u without the fixed letters at the end, then the first `len` letters of v are w, with `len`
--- the length of w
 read : (u v w : List ℕ) (n at len : ℕ) → IsFilled u n → kept u ≡ w → length v ≡ 32 → 32 ≤ at
     → take at v ≡ take at u → len ≡ length w → take len v ≡ w
 read u v w n at len f e m h s l =

@@ -46,8 +46,6 @@ returns-in_err-with_cells-clause-rising c =
       λ h. absurd (Falls-rises left at falls h.1),
     )
 
--- if a list of numbers, after the zeros at its end are removed, is weakly decreasing, has at most 512 numbers, and has a sum of at most 4096, then it
--- is a partition with at most 512 rows and 4096 cells
 within : (given left : List ℕ) (sum : ℕ) → left ≡ without_last_zeros given → Falls left →
     length left ≤ 512 → sum ≡ size left → sum ≤ 4096 → IsWithinLimits (without_last_zeros given)
 within given left sum is falls few sum_is small = record {

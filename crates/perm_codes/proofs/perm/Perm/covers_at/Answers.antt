@@ -11,7 +11,6 @@ use Rattle.perm_codes.proofs.WithinLimits.{length-with_fixed, short_fixed}
 use Rattle.perm_codes.proofs.perm.Perm.covers_at.Goals as goal
 use Rattle.sym_model.proofs.Numbers.{one_before}
 
--- `slice` is w with fixed letters added up to the place 1 + max(r, the number of letters of w)
 letters_are :
     (slice list letters w : List ℕ) (last greater len r : ℕ) → slice ≡ list → list ≡ with_fixed last
     letters → letters ≡ w

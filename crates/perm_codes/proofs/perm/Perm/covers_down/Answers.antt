@@ -10,7 +10,6 @@ use Rattle.perm_codes.proofs.WithinLimits.{length-with_fixed, short_fixed}
 use Rattle.perm_codes.proofs.perm.Perm.covers_down.Goals as goal
 use Rattle.sym_model.proofs.Numbers.{one_before}
 
--- `slice` is w with fixed letters added up to the place r
 letters_are : (slice list letters w : List ℕ) (last r : ℕ) → slice ≡ list → list ≡ with_fixed last
     letters → letters ≡ w
     → last ≡ r → slice ≡ with_fixed r w

@@ -6,7 +6,6 @@ use Rattle.perm_codes.proofs.CoverSteps.{same_inversions}
 use Rattle.perm_codes.proofs.WithinLimits.{length-with_fixed, short_fixed}
 use Rattle.perm_codes.proofs.perm.Perm.times_swap.Goals as goal
 
--- `list` is w with fixed letters added up to the place j
 letters_are : (list letters w : List ℕ) (last j : ℕ) → list ≡ with_fixed last letters → letters ≡ w
     → last ≡ j → list ≡ with_fixed j w
 letters_are list letters w last j a b e = a ∙ ap₂ with_fixed e b

@@ -11,7 +11,6 @@ use Rattle.schubert_transition.specs.Acted.{raised_terms}
 use Rattle.schubert_transition.proofs.polynomial.TimesVarRuleMonomialMonomial.add_image.Goals as goal
 use Rattle.std.proofs.lemmas.Result.{on_ok_weaker}
 
--- the list whose only term is the monomial x_r·x^e with the coefficient k is k times the list `raised_terms r e`
 one_term : (r : ℕ) (e x : List ℕ) (k : ℤ) → x ≡ raised r e → (x, k) ∷ [] ≡ scaled k
     (raised_terms r e)
 one_term r e x k is = ap (λ y. (y, k) ∷ []) is ∙ ap (λ z. (raised r e, z) ∷ [])

@@ -1,4 +1,4 @@
-use Rattle.std.proofs.Common.{◌≡◌, ℕ, List, [], length, refl, ap, ap₂, sym, subst, ◌∙◌, arith}
+use Rattle.std.proofs.Common.{◌≡◌, ℕ, List, [], length, refl, ap, ap₂, sym, subst, ◌∙◌, arith, rules}
 use Rattle.std.proofs.Math.ListN.{set}
 use Rattle.std.proofs.lemmas.List.{length-set}
 use Rattle.sym_model.specs.Partition.{IsCell, part, without_last_zeros}
@@ -11,17 +11,11 @@ use Rattle.skew_shapes.proofs.KeptRows.{IsSkew-inner_lowered, filling_in-added, 
 use Rattle.skew_shapes.proofs.KeptRows.{row_within}
 use Rattle.skew_shapes.proofs.filled.Filled.add_inner_cell.Goals as goal
 
--- if the last cell of row `row` of the inner partition is a corner of the inner partition (`HasInnerCorner`), it is a cell of the outer partition
 corner_cell :
     (shape : List ℕ × List ℕ) (starts numbers : List ℕ) (row : ℕ) → IsKept shape starts numbers →
     HasInnerCorner row shape.1
     → IsCell shape.0 [] row (part shape.1 row)
-corner_cell shape starts numbers row kept corner =
-    record {
-      row_counts = corner.0;
-      outside = omega (arith, corner.1);
-      within = contains-tells shape.0 shape.1 kept.skew.holds row;
-    }
+corner_cell shape starts numbers row kept corner = search (rules, contains-tells)
 
 pub place-place-requires-clause-row : goal.place-place-requires-clause-row
 place-place-requires-clause-row c =

@@ -1,4 +1,4 @@
-use Rattle.std.proofs.Common.{◌≡◌, ℕ, ◌++◌, [], List, map, sym, ap, ap₂, ◌∙◌, subst}
+use Rattle.std.proofs.Common.{◌≡◌, ℕ, ◌++◌, [], List, map, sym, ap, ◌∙◌, subst, rules}
 use Rattle.std.specs.Result.{IfOk}
 use Rattle.sym_model.specs.GoodTableau.{column_reading}
 use Rattle.sym_model.specs.Tableau.{SkewFilling}
@@ -25,10 +25,7 @@ moved :
     → letters ≡ map (λ (c : ℕ × ℕ). number_in starts' numbers' c.0 c.1)
     (reading_cells outer' inner')
 moved letters given starts starts' numbers numbers' outer outer' inner inner' put none s n o i =
-    put ∙ ap (λ l. l ++ map (λ (c : ℕ × ℕ). number_in starts numbers c.0 c.1)
-    (reading_cells outer inner)) none
-    ∙ ap₂ (λ a b. map (λ (c : ℕ × ℕ). number_in a b c.0 c.1) (reading_cells outer inner)) s n
-    ∙ ap₂ (λ a b. map (λ (c : ℕ × ℕ). number_in starts' numbers' c.0 c.1) (reading_cells a b)) o i
+    search rules
 
 pub returns : goal.returns
 returns c =

@@ -1,10 +1,9 @@
-use Rattle.std.proofs.Common.{ℕ, ◌<◌, ◌-◌, List, length, refl, ap, sym, subst, ◌∙◌, arith}
+use Rattle.std.proofs.Common.{ℕ, ◌<◌, ◌-◌, List, length, refl, sym, subst, rules}
 use Rattle.sym_model.specs.Partition.{part}
 use Rattle.sym_model.specs.Slide.{HasInnerCorner}
 use Rattle.sym_model.specs.Tableau.{SkewFilling}
 use Rattle.sym_model.proofs.Parts.{positive_within}
-use Rattle.skew_shapes.specs.CellFillings.{without_outer_cell}
-use Rattle.skew_shapes.specs.Rows.{IsKept, filling_in}
+use Rattle.skew_shapes.specs.Rows.{IsKept}
 use Rattle.skew_shapes.proofs.KeptRows.{HasPlaces-lowered, IsSkew-outer_lowered, filling_in-dropped}
 use Rattle.skew_shapes.proofs.filled.Filled.drop_outer_cell.Goals as goal
 
@@ -26,13 +25,4 @@ invariant_of-self c =
     subst (λ (s : List ℕ × List ℕ). IsKept s starts numbers) (sym c.remove_outer_corner.ensures) now
 
 pub returns : goal.returns
-returns c =
-    let shape = c.self.inside.shape in
-    let starts = c.self.inside.starts.items in
-    let numbers = c.self.inside.numbers.items in
-    let corner = subst (λ (t : SkewFilling). HasInnerCorner c.args.row t.outer) (sym c.self.view_is)
-    c.requires.corner in
-    let within = positive_within shape.0 (c.args.row - 1) (omega (arith, corner.1)) in
-    ap (λ (s : List ℕ × List ℕ). filling_in s starts numbers) c.remove_outer_corner.ensures
-    ∙ filling_in-dropped shape starts numbers c.args.row corner.0 (omega (arith, corner.0))
-    ∙ ap (λ (t : SkewFilling). without_outer_cell t c.args.row) c.self.view_is
+returns c = search (rules, positive_within, filling_in-dropped)

@@ -1,26 +1,13 @@
-use Rattle.std.proofs.Common.{◌≡◌, length, sym, ap, ◌∙◌, subst, arith}
+use Rattle.std.proofs.Common.{◌≡◌, length, ap, ◌∙◌, arith, rules}
 use Rattle.sym_model.specs.Tableau.{SkewFilling}
 use Rattle.partitions.proofs.Steps.{all_written}
 use Rattle.skew_shapes.specs.CellFillings.{filled_with}
-use Rattle.skew_shapes.specs.Rows.{IsKept, HasPlaces, filling_in}
+use Rattle.skew_shapes.specs.Rows.{filling_in}
 use Rattle.skew_shapes.proofs.FilledReadings.{filled, moved}
 use Rattle.skew_shapes.proofs.filled.Filled.fill.Goals as goal
 
 pub invariant_of-self : goal.invariant_of-self
-invariant_of-self c =
-    let shape = c.self.inside.shape in
-    let starts = c.self.inside.starts.items in
-    let numbers = c.replace_columns.new.numbers in
-    let whole : length c.replace_columns.new.numbers ≡ c.self.inside.numbers.len =
-    omega (arith, c.deref_mut.ensures.len) in
-    let written = all_written c.self.inside.numbers.len numbers c.self.inside.numbers.items whole in
-    let long : length c.self.inside.numbers.items ≡ length c.replace_columns.new.numbers =
-    omega (arith, ap length c.deref_mut.ensures.value) in
-    subst (IsKept shape starts) (sym written)
-    (record {
-      skew = c.self.invariant.skew;
-      places = subst (HasPlaces starts shape.0) long c.self.invariant.places;
-    })
+invariant_of-self c = search (rules, all_written)
 
 pub returns : goal.returns
 returns c =

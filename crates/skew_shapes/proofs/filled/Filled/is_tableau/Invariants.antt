@@ -1,4 +1,5 @@
--- Loop invariant: all rows before the current one pass the test `row_passes`.
+-- Loop invariant: in each row before the current one, the letters are positive and weakly increasing, and smaller than the letters directly below
+-- them (`row_passes`).
 use Rattle.std.proofs.Common.{◌≡◌, true}
 use Rattle.sym_model.specs.Partition.{after}
 use Rattle.sym_model.specs.GoodTableau.{every}

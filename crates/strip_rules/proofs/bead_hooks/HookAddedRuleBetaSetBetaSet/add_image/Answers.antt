@@ -1,10 +1,8 @@
-use Rattle.std.proofs.Common.{◌≡◌, ◌++◌, ◌∷◌, [], ℕ, List, map, sym, ap, ◌∙◌, subst, Err, append_assoc, append-nil}
-use Rattle.linear_combinations.specs.Gains.{Gains, scaled}
+use Rattle.std.proofs.Common.{◌≡◌, ◌++◌, ◌∷◌, [], ℕ, List, sym, ap, ◌∙◌, append_assoc, append-nil, rules}
 use Rattle.linear_combinations.proofs.Gains.{gains_none}
 use Rattle.linear_combinations.proofs.Steps.{error_is}
-use Rattle.beta_sets.specs.BetaSets.{numbers, free}
+use Rattle.beta_sets.specs.BetaSets.{numbers}
 use Rattle.beta_sets.proofs.GreatestPlaces.{numbers-none}
-use Rattle.strip_rules.specs.HookMoves.{hook_from}
 use Rattle.strip_rules.proofs.HookMoves.{free_low, hooks_next, hooks_overflow}
 use Rattle.strip_rules.proofs.bead_hooks.HookAddedRuleBetaSetBetaSet.add_image.Goals as goal
 
@@ -35,20 +33,7 @@ loop-place-preserved c =
     )
 
 pub returns-in_err-add_hook-clause-large : goal.returns-in_err-add_hook-clause-large
-returns-in_err-add_hook-clause-large c err =
-    let b = c.in-Some.place in
-    let passed = c.loop-place.invariant.0 in
-    let inv = c.loop-place.invariant.1 in
-    let split : b ∷ numbers c.without-places.result ≡ numbers c.loop-place.places =
-    ap (λ s. b ∷ numbers s) c.without-places.ensures ∙ sym c.in-Some.ensures.numbers in
-    hooks_overflow c.args.self.now.cells c.args.label.now b c.args.c passed (numbers c.without-places.result) c.args.sum.now c.loop-place.sum inv.gains
-    (ap (λ (l : List ℕ). passed ++ l) split ∙ inv.all)
-    (c.in_err-add_hook.ensures.large (ap Err (error_is _ _ _ c.from_residual.ensures.1 err)))
+returns-in_err-add_hook-clause-large c err = search (rules, hooks_overflow, error_is)
 
 pub returns-clause-gains : goal.returns-clause-gains
-returns-clause-gains c =
-    let passed = c.loop-place.invariant.0 in
-    let inv = c.loop-place.invariant.1 in
-    let all : passed ≡ free c.args.self.now.cells (numbers c.args.label.now) =
-    sym (append-nil passed) ∙ ap (λ (l : List ℕ). passed ++ l) (sym (ap numbers c.in_default.ensures ∙ numbers-none)) ∙ inv.all in
-    subst (λ (l : List ℕ). Gains c.args.sum.now (scaled c.args.c (map (hook_from c.args.self.now.cells c.args.label.now) l)) c.loop-place.sum) all inv.gains
+returns-clause-gains c = search (rules, append-nil, numbers-none)

@@ -1,1 +1,0 @@
--- A part of a partition is at most the size of the partition.
